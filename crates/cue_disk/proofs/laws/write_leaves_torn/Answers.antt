@@ -1,0 +1,5 @@
+use Rattle.cue_disk.proofs.Crash.{image_torn}
+use Rattle.cue_disk.proofs.laws.write_leaves_torn.Goals as goal
+
+pub returns : goal.returns
+returns c = image_torn

@@ -1,0 +1,34 @@
+-- What a write and a sync leave of what a memory disk holds, as they were planned to end.
+use Rattle.std.specs.Prelude.{◌≤◌, ◌+◌, ◌/◌, ℕ, nat_le, nat_lt, Bool, true, false, ◌&&◌, ◌||◌, List, [], length, take}
+use Rattle.cue_disk.specs.Disk.{Contents, overwritten}
+use Rattle.cue_disk.specs.declared.plan.Fate.{Fate}
+use Rattle.cue_disk.specs.declared.plan.Fate.TheVariants.{Succeeds, Fails, Stopped}
+
+-- These bytes, all of them stable: what lies past them counts as touched.
+abbrev pub settled : List ℕ → Contents
+settled bytes = record { bytes = bytes; synced = length bytes; touched = λ i. nat_le (length bytes) i }
+
+-- A write of so many bytes at this offset touches all of them, and stores those that it got to.
+abbrev pub after_write : Contents → ℕ → ℕ → List ℕ → Contents
+after_write now at asked stored = record {
+  bytes = overwritten now.bytes at stored;
+  synced = now.synced;
+  touched = λ i. now.touched i || (nat_le at i && nat_lt i (at + asked));
+}
+
+-- the bytes that a write gets to: all, the first half rounded down where it is to fail, none where the disk has stopped
+abbrev pub part_stored : Fate → List ℕ → List ℕ
+part_stored Succeeds bytes = bytes
+part_stored Fails bytes = take (length bytes / 2) bytes
+part_stored Stopped bytes = []
+
+-- What a write leaves: a stopped disk, and one that found no memory, is as it was.
+abbrev pub written_as : Fate → Bool → ℕ → List ℕ → Contents → Contents
+written_as Stopped lacked at bytes now = now
+written_as fate true at bytes now = now
+written_as fate false at bytes now = after_write now at (length bytes) (part_stored fate bytes)
+
+-- What a sync leaves: one that fails makes nothing stable.
+abbrev pub synced_as : Fate → Bool → Contents → Contents
+synced_as Succeeds false now = settled now.bytes
+synced_as fate lacked now = now

@@ -1,0 +1,7 @@
+pub mod Crash
+pub mod Disk
+pub mod Effect
+pub mod Medium
+pub mod MediumLaws
+pub mod Memory
+pub mod Plan

@@ -1,0 +1,17 @@
+//! Disks under a crash at any moment.
+//!
+//! `Disk` says what a read gives, what a crash may leave at each moment, and that failures are counted. `MemDisk` is a
+//! disk in memory that keeps exactly to that: it can be told which of its calls fail, and shows each image that a crash
+//! may leave. What the words of the contracts mean stands in `specs/Disk.antt`.
+#![tactic(auto)]
+
+mod disk;
+pub mod laws;
+mod medium;
+mod memory;
+mod plan;
+#[cfg(test)]
+mod tests;
+
+pub use disk::{Disk, DiskFault};
+pub use memory::MemDisk;

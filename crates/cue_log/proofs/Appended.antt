@@ -1,0 +1,73 @@
+-- The four device calls of an append, one after another: what a crash leaves at any moment of them.
+use Rattle.std.proofs.Common.{◌≡◌, inl, ℕ, ◌+◌, ◌≤◌, List, [], ◌∷◌, length, refl, sym, ◌∙◌, ap, subst, arith, length-append}
+use Rattle.cue_disk.specs.Disk.{Contents, IsImage, IsStable, Writes, overwritten, LeavesOnly, Elapses, Torn}
+use Rattle.cue_disk.proofs.Crash.{image_stable, image_torn}
+use Rattle.cue_disk.proofs.Moments.{started, goes_on}
+use Rattle.cue_log.specs.declared.area.TheConstants.{AREA_LIMIT}
+use Rattle.cue_log.specs.Area.{Area, IsArea, area_text, with_payload, framed}
+use Rattle.cue_log.specs.Record.{IsFramed, payload_in}
+use Rattle.cue_log.specs.Reading.{area_in}
+use Rattle.cue_log.specs.Log.{IsSettled, IsEither}
+use Rattle.cue_log.proofs.Texts.{area_text-push, length-framed}
+use Rattle.cue_log.proofs.Complete.{area_in_is}
+use Rattle.cue_log.proofs.Settled.{settled_reads}
+use Rattle.cue_log.proofs.Committed.{behind_gate, body_torn, gate_torn, gate_written, length-behind_gate}
+
+module _ {D : Type 0} (moment : D → ℕ) (held : D → Contents) (held_at : D → ℕ → Contents) (stored : List ℕ) (end : ℕ) (d0 : D) (settled : IsSettled (held d0) end) (frame : IsFramed stored) (room : end + 1 + length stored ≤ AREA_LIMIT) (now : held_at d0 (moment d0) ≡ held d0) where
+  abbrev pub area : Area
+  area = area_in (held d0).bytes
+
+  abbrev pub Either : List ℕ → Type 0
+  Either = IsEither area (with_payload area (payload_in stored))
+
+  module _ (d1 : D) (writes : Writes (end + 1) (length stored) (held d0) (held d1)) (time : Elapses (moment d0) (moment d1) (held_at d0) (held_at d1) (held d1)) where
+    body_image : (image : List ℕ) → IsImage (held d1) image → Either image
+    body_image image left =
+        inl (body_torn area (held d0).bytes stored end settled.is frame settled.same_end room image
+        (image_torn (end + 1) (length stored) (held d0) (held d1) image (omega (arith, settled.is.ends, settled.same_end)) settled.stable writes left))
+
+    -- the record behind the closed gate
+    pub body_leaves : LeavesOnly moment held_at d0 d1 Either
+    body_leaves =
+        goes_on moment held_at d0 d0 d1 Either (held d1)
+        (started moment held_at d0 (held d0) Either now (λ image left. inl (settled_reads (held d0) end settled image left))) time body_image
+
+    module _ (d2 : D) (fewer : (image : List ℕ) → IsImage (held d2) image → IsImage (held d1) image) (time2 : Elapses (moment d1) (moment d2) (held_at d1) (held_at d2) (held d2)) where
+      -- and synced
+      pub sync_leaves : LeavesOnly moment held_at d0 d2 Either
+      sync_leaves = goes_on moment held_at d0 d1 d2 Either (held d2) body_leaves time2 (λ image left. body_image image (fewer image left))
+
+      module _ (d3 : D) (written : (held d1).bytes ≡ overwritten (held d0).bytes (end + 1) stored) (same : (held d2).bytes ≡ (held d1).bytes) (stable : IsStable (held d2)) (writes3 : Writes end 1 (held d2) (held d3)) (time3 : Elapses (moment d2) (moment d3) (held_at d2) (held_at d3) (held d3)) where
+        gate_image : (image : List ℕ) → IsImage (held d3) image → Either image
+        gate_image image left =
+            let bytes : (held d2).bytes ≡ behind_gate area (held d0).bytes stored end settled.is frame settled.same_end room = same ∙ written in
+            gate_torn area (held d0).bytes stored end settled.is frame settled.same_end room image
+            (subst (λ (old : List ℕ). Torn end 1 old image) bytes
+            (image_torn end 1 (held d2) (held d3) image (omega (arith, ap length bytes, length-behind_gate area (held d0).bytes stored end settled.is frame settled.same_end room)) stable writes3 left))
+
+        -- the gate open
+        pub gate_leaves : LeavesOnly moment held_at d0 d3 Either
+        gate_leaves = goes_on moment held_at d0 d2 d3 Either (held d3) sync_leaves time3 gate_image
+
+        module _ (d4 : D) (fewer4 : (image : List ℕ) → IsImage (held d4) image → IsImage (held d3) image) (time4 : Elapses (moment d3) (moment d4) (held_at d3) (held_at d4) (held d4)) where
+          -- and synced
+          pub last_leaves : LeavesOnly moment held_at d0 d4 Either
+          last_leaves = goes_on moment held_at d0 d3 d4 Either (held d4) gate_leaves time4 (λ image left. gate_image image (fewer4 image left))
+
+          module _ (written3 : (held d3).bytes ≡ overwritten (held d2).bytes end (1 ∷ [])) (same4 : (held d4).bytes ≡ (held d3).bytes) where
+            appended : IsArea (with_payload area (payload_in stored)) (held d4).bytes
+            appended =
+                let bytes : (held d4).bytes ≡ overwritten (behind_gate area (held d0).bytes stored end settled.is frame settled.same_end room) end (1 ∷ []) =
+                same4 ∙ written3 ∙ ap (λ (l : List ℕ). overwritten l end (1 ∷ [])) (same ∙ written) in
+                subst (λ (l : List ℕ). IsArea (with_payload area (payload_in stored)) l) (sym bytes)
+                (gate_written area (held d0).bytes stored end settled.is frame settled.same_end room)
+
+            pub area_after : area_in (held d4).bytes ≡ with_payload area (payload_in stored)
+            area_after = area_in_is (with_payload area (payload_in stored)) (held d4).bytes appended
+
+            pub settled_after : IsStable (held d4) → IsSettled (held d4) (end + length stored)
+            settled_after stable4 = record {
+              is = subst (λ (a : Area). IsArea a (held d4).bytes) (sym area_after) appended;
+              stable = stable4;
+              same_end = omega (arith, settled.same_end, ap (λ (a : Area). length (area_text a)) area_after, ap length (area_text-push area (payload_in stored)), length-append (area_text area) (1 ∷ framed (payload_in stored)), length-framed (payload_in stored), frame.len);
+            }

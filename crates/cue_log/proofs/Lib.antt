@@ -1,0 +1,10 @@
+pub mod Texts
+pub mod Settled
+pub mod Complete
+pub mod Committed
+pub mod Appended
+pub mod Filled
+pub mod Closed
+pub mod Steps
+pub mod Sound
+pub mod Fetched

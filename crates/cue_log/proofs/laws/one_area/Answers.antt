@@ -1,0 +1,5 @@
+use Rattle.cue_log.proofs.Complete.{unique}
+use Rattle.cue_log.proofs.laws.one_area.Goals as goal
+
+pub returns : goal.returns
+returns c = unique

@@ -1,0 +1,5 @@
+use Rattle.cue_log.proofs.Complete.{complete}
+use Rattle.cue_log.proofs.laws.reader_finds_each.Goals as goal
+
+pub returns : goal.returns
+returns c = complete

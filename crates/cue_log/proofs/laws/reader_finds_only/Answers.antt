@@ -1,0 +1,5 @@
+use Rattle.cue_log.proofs.Sound.{sound}
+use Rattle.cue_log.proofs.laws.reader_finds_only.Goals as goal
+
+pub returns : goal.returns
+returns c = sound

@@ -1,0 +1,62 @@
+-- What the bytes of an area stand for.
+use Rattle.std.specs.Prelude.{◌≡◌, ◌≢◌, ◌<◌, ◌≤◌, ◌+◌, ◌^◌, ℕ, nat_le, Bool, true, ◌&&◌, List, [], ◌∷◌, ◌++◌, length, take, slice_index}
+use Rattle.std.specs.Int.{to_be_bytes, w32, w64}
+use Rattle.cue_log.specs.declared.area.TheConstants.{AREA_LIMIT, PAYLOAD_LIMIT}
+
+-- what an area has: a generation, a snapshot, and the payloads of the records behind it
+pub record Area : Type 0 where
+  pub generation : ℕ
+  pub snapshot : List ℕ
+  pub payloads : List (List ℕ)
+
+-- a number in four bytes, and in eight, the highest byte first
+unfoldable pub four_bytes : ℕ → List ℕ
+four_bytes n = to_be_bytes w32 n
+
+unfoldable pub eight_bytes : ℕ → List ℕ
+eight_bytes n = to_be_bytes w64 n
+
+-- a length, and so many bytes
+abbrev pub framed : List ℕ → List ℕ
+framed bytes = four_bytes (length bytes) ++ bytes
+
+-- records, each behind an open gate
+abbrev pub records_text : List (List ℕ) → List ℕ
+records_text [] = []
+records_text (payload ∷ payloads) = 1 ∷ framed payload ++ records_text payloads
+
+-- what stands behind the head gate, up to the records
+abbrev pub body_text : ℕ → List ℕ → List ℕ
+body_text generation snapshot = eight_bytes generation ++ framed snapshot
+
+-- an area up to the gate that is not open
+abbrev pub area_text : Area → List ℕ
+area_text area = 1 ∷ body_text area.generation area.snapshot ++ records_text area.payloads
+
+-- each is short enough for a record
+abbrev pub are_records : List (List ℕ) → Bool
+are_records [] = true
+are_records (payload ∷ payloads) = nat_le (length payload) PAYLOAD_LIMIT && are_records payloads
+
+-- The bytes read as this area: its text comes first and then a gate that is not open, within the largest area. What follows that gate is not read.
+pub record IsArea (area : Area) (bytes : List ℕ) : Type 0 where
+  pub text : take (length (area_text area)) bytes ≡ area_text area
+  pub ends : length (area_text area) < length bytes
+  pub closed : slice_index bytes (length (area_text area)) ≢ 1
+  pub fits : length (area_text area) < AREA_LIMIT
+  pub generation : area.generation < 2 ^ 64
+  pub records : are_records area.payloads ≡ true
+
+-- the bytes have no open head gate
+abbrev pub IsAbsent : List ℕ → Type 0
+IsAbsent [] = Unit {0}
+IsAbsent (gate ∷ []) = Unit {0}
+IsAbsent (gate ∷ byte ∷ bytes) = gate ≢ 1
+
+-- one record more
+abbrev pub with_payload : Area → List ℕ → Area
+with_payload area payload = record { generation = area.generation; snapshot = area.snapshot; payloads = area.payloads ++ payload ∷ [] }
+
+-- no record yet
+abbrev pub fresh : ℕ → List ℕ → Area
+fresh generation snapshot = record { generation = generation; snapshot = snapshot; payloads = [] }

@@ -1,0 +1,8 @@
+pub mod Area
+pub mod Reading
+pub mod Log
+pub mod Record
+pub mod Words
+pub mod Opened
+pub mod Parts
+pub mod Laws

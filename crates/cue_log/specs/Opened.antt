@@ -1,0 +1,19 @@
+-- What callers see of an area that was opened.
+use Rattle.std.specs.Prelude.{◌≡◌, ℕ, List, Result, Ok, Err}
+use Rattle.cue_log.specs.Area.{Area}
+use Rattle.cue_log.specs.Words.{disk_of, generation_of}
+use Rattle.cue_log.specs.declared.opening.Opened.{Opened}
+use Rattle.cue_log.specs.declared.opening.OpenFault.{OpenFault}
+
+-- what was read
+abbrev pub area_read : {D : Type 0} {disk : _} → Opened D disk → Area
+area_read opened = record { generation = generation_of opened.log; snapshot = opened.snapshot; payloads = opened.records }
+
+-- the disk that the log has
+abbrev pub opened_disk : {D : Type 0} {disk : _} → Opened D disk → D
+opened_disk opened = disk_of opened.log
+
+-- this fault is answered only where it is so
+abbrev pub FailsAs : {T D : Type 0} → OpenFault → Type 0 → Result T (OpenFault × D) → Type 0
+FailsAs fault reason (Ok made) = Unit {0}
+FailsAs fault reason (Err refused) = refused.0 ≡ fault → reason

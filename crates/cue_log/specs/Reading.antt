@@ -1,0 +1,67 @@
+-- Reading an area from the front.
+use Rattle.std.specs.Prelude.{◌<◌, ◌+◌, ◌-◌, ℕ, zero, suc, nat_lt, Bool, ◌||◌, ◌==◌, if◌then◌else◌, List, [], ◌∷◌, ◌++◌, length, take, drop, Option, Some, None}
+use Rattle.std.specs.Int.{from_be_bytes, w32, w64}
+use Rattle.cue_log.specs.declared.area.TheConstants.{AREA_LIMIT, PAYLOAD_LIMIT}
+use Rattle.std.specs.Option.{option_map}
+use Rattle.cue_log.specs.Area.{Area, records_text}
+
+-- the number in the first four bytes, and in the first eight
+unfoldable pub four_at : List ℕ → ℕ
+four_at bytes = from_be_bytes w32 (take 4 bytes)
+
+unfoldable pub eight_at : List ℕ → ℕ
+eight_at bytes = from_be_bytes w64 (take 8 bytes)
+
+-- a length of at most `most` and so many bytes, with what follows them
+unfoldable pub frame_at : ℕ → List ℕ → Option (List ℕ × List ℕ)
+frame_at most bytes =
+    if nat_lt (length bytes) 4 || (nat_lt most (four_at bytes) || nat_lt (length bytes) (4 + four_at bytes)) then None
+    else Some (take (four_at bytes) (drop 4 bytes), drop (4 + four_at bytes) bytes)
+
+-- the payloads up to a gate that is not open, of at most so many records
+abbrev pub in_front : List ℕ → Option (List (List ℕ)) → Option (List (List ℕ))
+in_front payload None = None
+in_front payload (Some payloads) = Some (payload ∷ payloads)
+
+abbrev pub payloads_after : (List ℕ → Option (List (List ℕ))) → Option (List ℕ × List ℕ) → Option (List (List ℕ))
+payloads_after rest_at None = None
+payloads_after rest_at (Some frame) = in_front frame.0 (rest_at frame.1)
+
+abbrev pub payloads_at : ℕ → List ℕ → Option (List (List ℕ))
+payloads_at zero bytes = None
+payloads_at (suc most) [] = None
+payloads_at (suc most) (gate ∷ bytes) = if gate == 1 then payloads_after (payloads_at most) (frame_at PAYLOAD_LIMIT bytes) else Some []
+
+-- these payloads, and then those
+abbrev pub behind : List (List ℕ) → Option (List (List ℕ)) → Option (List (List ℕ))
+behind front None = None
+behind front (Some payloads) = Some (front ++ payloads)
+
+abbrev pub area_of : ℕ → List ℕ → Option (List (List ℕ)) → Option Area
+area_of generation snapshot None = None
+area_of generation snapshot (Some payloads) = Some (record { generation = generation; snapshot = snapshot; payloads = payloads })
+
+abbrev pub area_after : ℕ → Option (List ℕ × List ℕ) → Option Area
+area_after generation None = None
+area_after generation (Some frame) = area_of generation frame.0 (payloads_at (length frame.1) frame.1)
+
+-- the area in bytes that are cut to the largest one
+abbrev pub area_at : List ℕ → Option Area
+area_at [] = None
+area_at (gate ∷ bytes) = if gate == 1 then (if nat_lt (length bytes) 8 then None else area_after (eight_at bytes) (frame_at AREA_LIMIT (drop 8 bytes))) else None
+
+-- The area that the bytes read as, where there is one.
+unfoldable pub read_area : List ℕ → Option Area
+read_area bytes = area_at (take AREA_LIMIT bytes)
+
+-- The same, with an empty one where there is none.
+abbrev pub or_empty : Option Area → Area
+or_empty None = record { generation = 0; snapshot = []; payloads = [] }
+or_empty (Some area) = area
+
+abbrev pub area_in : List ℕ → Area
+area_in bytes = or_empty (read_area bytes)
+
+-- how many bytes stand from the last gate on, where the records end
+abbrev pub bytes_behind : List ℕ → Option ℕ
+bytes_behind bytes = option_map (λ payloads. length bytes - length (records_text payloads)) (payloads_at (length bytes) bytes)

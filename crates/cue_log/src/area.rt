@@ -1,0 +1,42 @@
+// What an area is to the device: its limits, its gates, and how its head gate is closed.
+ghost use Rattle.std.specs.Prelude.{◌≡◌, ◌↔◌, OnOk};
+ghost use Rattle.cue_disk.specs.Disk.{LeavesOnly, CountsFailure};
+ghost use Rattle.cue_log.specs.Log.{IsOldOrAbsent, IsClosed, LeavesAbsent, closed_bytes};
+
+use cue_disk::{Disk, DiskFault};
+
+/// The longest text of an area, in bytes.
+pub const AREA_LIMIT: u64 = 4_194_304;
+
+/// The longest payload of a record, in bytes.
+pub const PAYLOAD_LIMIT: usize = 32_768;
+
+/// The byte of a gate that is open: what stands behind it counts.
+pub(crate) const OPEN: u8 = 1;
+
+/// The byte that closes a gate. Every byte but `OPEN` is a gate that is not open.
+pub(crate) const CLOSED: u8 = 0;
+
+/// Gives up the area of a disk, so that another can be formed there. An empty disk is left alone; on another the
+/// head gate is written only where it is open: behind a gate that is not open may stand a torn body, and a stop
+/// within such a write could open it.
+pub fn close<D: Disk>(disk: &mut D) -> Result<(), DiskFault>
+    // A stop at any moment leaves what one at entry might have left, or no area.
+    ensures any_moment { D.is_honest disk.old → LeavesOnly D.moment D.held_at disk.old disk.new (IsOldOrAbsent (D.held disk.old)) }
+    ensures absent { D.is_honest disk.old → OnOk result (LeavesAbsent (D.held disk.new)) }
+    ensures closed { D.is_honest disk.old → OnOk result (IsClosed (D.held disk.new)) }
+    ensures bytes { D.is_honest disk.old → OnOk result ((D.held disk.new).bytes ≡ closed_bytes (D.held disk.old).bytes) }
+    ensures count { CountsFailure result (D.failures disk.old) (D.failures disk.new) }
+    ensures honest { D.is_honest disk.new ↔ D.is_honest disk.old }
+{
+    if disk.len()? == 0 {
+        return Ok(());
+    }
+    let mut gate = [CLOSED];
+    disk.read_at(0, &mut gate)?;
+    if gate[0] != OPEN {
+        return disk.sync();
+    }
+    disk.write_at(0, &[CLOSED])?;
+    disk.sync()
+}

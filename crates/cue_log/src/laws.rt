@@ -1,0 +1,27 @@
+// What the definitions of an area give, over any bytes.
+ghost use Rattle.cue_log.specs.Laws.{OneArea, ReaderFindsEach, ReaderFindsOnly, AnyBytesAnswer, NoAreaIsAbsent};
+
+/// The same bytes read as one area at most.
+pub fn one_area()
+    ensures { OneArea }
+{}
+
+/// The reader finds the area wherever there is one.
+pub fn reader_finds_each()
+    ensures { ReaderFindsEach }
+{}
+
+/// What the reader finds in bytes is there.
+pub fn reader_finds_only()
+    ensures { ReaderFindsOnly }
+{}
+
+/// Any bytes at all are absent, or an area, or damaged.
+pub fn any_bytes_answer()
+    ensures { AnyBytesAnswer }
+{}
+
+/// An area is not absent.
+pub fn no_area_is_absent()
+    ensures { NoAreaIsAbsent }
+{}

@@ -1,0 +1,108 @@
+// How an area is read: first a sync, so that what is read stays, and then from the front to the last gate.
+use crate::fetching::read_area;
+use crate::log::Log;
+use crate::parts::{Records, Snapshot};
+use cue_disk::{Disk, DiskFault};
+use std::alloc::{AllocError, Global};
+use std::error::Error;
+use std::fmt;
+
+/// Why an area is not opened.
+#[derive(Clone, Copy, Debug, PartialEq, Eq)]
+pub enum OpenFault {
+    /// There is no area: the length is 0 or 1, or the head gate is not open.
+    Absent,
+    /// The head gate is open, and the bytes are no text of an area.
+    Damaged,
+    /// A device call failed.
+    Disk,
+    /// Out of memory.
+    Memory,
+}
+
+impl fmt::Display for OpenFault {
+    fn fmt<W: fmt::Write>(&self, f: &mut fmt::Formatter<W>) -> fmt::Result {
+        match self {
+            OpenFault::Absent => write!(f, "there is no area"),
+            OpenFault::Damaged => write!(f, "the area is damaged"),
+            OpenFault::Disk => write!(f, "the disk failed"),
+            OpenFault::Memory => write!(f, "out of memory"),
+        }
+    }
+}
+
+impl Error for OpenFault {}
+
+impl From<DiskFault> for OpenFault {
+    ghost use Rattle.std.specs.Prelude.{◌≡◌};
+    ghost use Rattle.cue_log.specs.declared.opening.OpenFault.TheVariants.{Disk};
+
+    ghost from_gives = { λ _ fault. fault ≡ Disk };
+
+    fn from(_: DiskFault) -> OpenFault {
+        OpenFault::Disk
+    }
+}
+
+impl From<AllocError> for OpenFault {
+    ghost use Rattle.std.specs.Prelude.{◌≡◌};
+    ghost use Rattle.cue_log.specs.declared.opening.OpenFault.TheVariants.{Memory};
+
+    ghost from_gives = { λ _ fault. fault ≡ Memory };
+
+    fn from(_: AllocError) -> OpenFault {
+        OpenFault::Memory
+    }
+}
+
+/// An area that was opened: the log, which goes on with it, and what it held.
+#[derive(Drop)]
+pub struct Opened<D: Disk> {
+    pub log: Log<D>,
+    pub snapshot: Snapshot,
+    pub records: Records,
+}
+
+impl<D: Disk> Log<D> {
+    ghost use Rattle.std.specs.Prelude.{◌≡◌, ◌≤◌, ◌↔◌, IfOk, length, false};
+    ghost use Rattle.cue_disk.specs.Disk.{LeavesOnly, IsImage, MoreFailures};
+    ghost use Rattle.cue_log.specs.Area.{IsArea, IsAbsent};
+    ghost use Rattle.cue_log.specs.Log.{IsDamaged, ReadsAs};
+    ghost use Rattle.cue_log.specs.Words.{disk_of, is_broken, count_of, area_of, disk_after};
+    ghost use Rattle.cue_log.specs.Opened.{area_read, opened_disk, FailsAs};
+
+    /// Opens the area of a disk, pending writes included: from Ok on whatever a stop leaves reads as what is answered. It
+    /// writes nothing, and takes memory in proportion to the area. A refusal hands the disk back.
+    pub fn open(alloc: Global, disk: D) -> Result<Opened<D>, (OpenFault, D)>
+        // What is answered stood on the disk, and stays.
+        ensures stood { D.is_honest disk → IfOk result (λ opened. IsArea (area_read opened) (D.held disk).bytes) }
+        ensures reads { D.is_honest disk → IfOk result (λ opened. ReadsAs (D.held (disk_of opened.log)) (area_read opened)) }
+        ensures area { D.is_honest disk → IfOk result (λ opened. area_of D.held opened.log ≡ area_read opened) }
+        ensures works { IfOk result (λ opened. is_broken opened.log ≡ false) }
+        ensures counted { IfOk result (λ opened. count_of opened.log ≡ length opened.records) }
+
+        // Each refusal has its reason.
+        ensures absent { D.is_honest disk → FailsAs OpenFault.Absent (IsAbsent (D.held disk).bytes) result }
+        ensures damaged { D.is_honest disk → FailsAs OpenFault.Damaged (IsDamaged (D.held disk).bytes) result }
+        ensures disk { FailsAs OpenFault.Disk (MoreFailures (D.failures disk) (D.failures (disk_after opened_disk result))) result }
+
+        // A stop at any moment leaves what one at entry might have left.
+        ensures any_moment { D.is_honest disk → LeavesOnly D.moment D.held_at disk (disk_after opened_disk result) (IsImage (D.held disk)) }
+        ensures bytes { D.is_honest disk → (D.held (disk_after opened_disk result)).bytes ≡ (D.held disk).bytes }
+        ensures failures { D.failures disk ≤ D.failures (disk_after opened_disk result) }
+        ensures honest { D.is_honest (disk_after opened_disk result) ↔ D.is_honest disk }
+    {
+        let mut disk = disk;
+        match read_area(alloc, &mut disk) {
+            Err(fault) => Err((fault, disk)),
+            Ok(parts) => {
+                let count = parts.records.len() as u64;
+                Ok(Opened {
+                    log: Log::settled(disk, parts.generation, parts.end, count),
+                    snapshot: Snapshot::from_vec(parts.snapshot),
+                    records: Records::from_vec(parts.records),
+                })
+            }
+        }
+    }
+}

@@ -1,0 +1,109 @@
+// A record: a payload that is kept as an area stores it, so that writing it takes no memory.
+ghost use Rattle.std.specs.Prelude.{◌≡◌, ◌<◌, ◌≤◌, ◌+◌, ◌↔◌, length, IfOk, IsErrOf};
+ghost use Rattle.cue_log.specs.Record.{IsFramed, payload_in};
+
+use crate::area::{CLOSED, PAYLOAD_LIMIT};
+use std::alloc::{AllocError, AllocFailed, Global};
+use std::fmt;
+use std::marker::Model;
+
+/// Why a payload is not made into a record.
+#[derive(Clone, Copy, Debug, PartialEq, Eq)]
+pub enum RecordFault {
+    /// The payload is longer than `PAYLOAD_LIMIT`.
+    TooLong,
+    /// Out of memory.
+    Memory,
+}
+
+impl fmt::Display for RecordFault {
+    fn fmt<W: fmt::Write>(&self, f: &mut fmt::Formatter<W>) -> fmt::Result {
+        match self {
+            RecordFault::TooLong => write!(f, "the payload is too long for a record"),
+            RecordFault::Memory => write!(f, "out of memory"),
+        }
+    }
+}
+
+impl std::error::Error for RecordFault {}
+
+impl From<AllocError> for RecordFault {
+    ghost use Rattle.cue_log.specs.declared.record.RecordFault.TheVariants.{Memory};
+    ghost use Rattle.std.specs.Prelude.{◌≡◌};
+
+    ghost from_gives = { λ _ fault. fault ≡ Memory };
+
+    fn from(_: AllocError) -> RecordFault {
+        RecordFault::Memory
+    }
+}
+
+/// A payload of at most `PAYLOAD_LIMIT` bytes, ready to be appended. Contracts see it as the list of its bytes.
+#[derive(Debug, Drop)]
+pub struct Record {
+    // length, payload, closed gate
+    bytes: Vec<u8>,
+}
+
+impl Model for Record {
+    ghost use Rattle.std.specs.Prelude.{List, ℕ};
+    ghost use Rattle.cue_log.specs.Record.{IsFramed, payload_in};
+
+    ghost Value = { List ℕ };
+
+    ghost view = { λ record_. payload_in record_.bytes.items };
+
+    ghost invariant = { λ record_. IsFramed record_.bytes.items };
+}
+
+impl Record {
+    /// Frames a payload, which takes memory once, so that appending it takes none.
+    pub fn of(alloc: Global, payload: &[u8]) -> Result<Record, RecordFault>
+        ensures ok { IfOk result (λ framed. framed ≡ payload.now) }
+        ensures too_long { IsErrOf result RecordFault.TooLong ↔ (PAYLOAD_LIMIT < length payload.now) }
+    {
+        if payload.len() > PAYLOAD_LIMIT {
+            return Err(RecordFault::TooLong);
+        }
+        Ok(Record::of_short(alloc, payload)?)
+    }
+
+    /// The same for a payload that is known not to be too long.
+    pub(crate) fn of_short(alloc: Global, payload: &[u8]) -> Result<Record, AllocError>
+        requires { length payload.now ≤ PAYLOAD_LIMIT }
+        ensures { IfOk result (λ framed. framed ≡ payload.now) }
+    {
+        let bytes = frame(alloc, payload)?;
+        Ok(Record { bytes })
+    }
+
+    /// The bytes that it was made of.
+    pub fn payload(&self) -> &[u8]
+        ensures payload { result.now ≡ self.now }
+        ensures short { length result.now ≤ PAYLOAD_LIMIT }
+    {
+        &self.bytes[4..self.bytes.len() - 1]
+    }
+
+    /// What an area stores of it behind its gate.
+    pub(crate) fn framed(&self) -> &[u8]
+        ensures framed { IsFramed result.now }
+        ensures payload { payload_in result.now ≡ self.now }
+    {
+        &self.bytes
+    }
+}
+
+// The bytes that an area stores of a payload: its length, itself, and a closed gate.
+#[tactic(auto, unfolding(crate::specs::Area::four_bytes))]
+fn frame(alloc: Global, payload: &[u8]) -> Result<Vec<u8>, AllocError>
+    requires { length payload.now ≤ PAYLOAD_LIMIT }
+    ensures framed { IfOk result (λ bytes. IsFramed bytes.items) }
+    ensures payload { IfOk result (λ bytes. payload_in bytes.items ≡ payload.now) }
+{
+    let mut bytes = Vec::with_capacity(alloc, 5 + payload.len())?;
+    bytes.extend_from_slice(&(payload.len() as u32).to_be_bytes())?;
+    bytes.extend_from_slice(payload)?;
+    bytes.push(CLOSED)?;
+    Ok(bytes)
+}

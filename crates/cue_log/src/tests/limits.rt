@@ -1,0 +1,43 @@
+// How much an area and a record take.
+use super::*;
+
+// A record of so many bytes.
+fn record_of(alloc: Global, len: usize) -> Result<Record, RecordFault> {
+    let bytes: Vec<u8> = vec![in alloc; 1; len]?;
+    Record::of(alloc, &bytes)
+}
+
+#[test]
+fn a_record_that_is_too_long(rt: HostRuntime) {
+    assert_eq!(rt;
+        record_of(rt.alloc(), 32_769).err(),
+        Some(RecordFault::TooLong)
+    );
+    assert_eq!(rt; record_of(rt.alloc(), 32_768).err(), None);
+}
+
+#[test]
+fn an_area_that_is_filled(rt: HostRuntime) -> Result<(), Fail> {
+    let alloc = rt.alloc();
+    let longest = record_of(alloc, 32_768)?;
+    let mut log = formed(MemDisk::new(alloc), 1, &SNAPSHOT)?;
+    for _ in 0..127 {
+        assert_eq!(rt; log.append(&longest), Ok(()));
+    }
+    assert_eq!(rt; log.append(&longest), Err(AppendFault::Full));
+    let too_long = record_of(alloc, 32_100)?;
+    assert!(rt; !log.has_room(&too_long));
+    assert_eq!(rt; log.append(&too_long), Err(AppendFault::Full));
+    assert_eq!(rt; log.count(), 127);
+    assert_eq!(rt; log.append(&record_of(alloc, 32_099)?), Ok(()));
+    assert_eq!(rt; log.append(&record_of(alloc, 0)?), Err(AppendFault::Full));
+
+    let disk = log.retire();
+    assert_eq!(rt; disk.bytes().len(), 4_194_304);
+    let area = opened(alloc, disk)?;
+    assert_eq!(rt;
+        (area.log.count(), area.records.as_slice().len()),
+        (128, 128)
+    );
+    Ok(())
+}

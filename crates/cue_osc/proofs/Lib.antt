@@ -1,0 +1,12 @@
+pub mod PlainLaws
+pub mod Loops
+pub mod Starts
+pub mod Fields
+pub mod Faults
+pub mod Parts
+pub mod Packets
+pub mod Room
+pub mod Written
+pub mod Datagrams
+pub mod Views
+pub mod Addresses

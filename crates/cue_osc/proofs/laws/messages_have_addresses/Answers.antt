@@ -1,0 +1,5 @@
+use Rattle.cue_osc.proofs.Addresses.{packet_addresses}
+use Rattle.cue_osc.proofs.laws.messages_have_addresses.Goals as goal
+
+pub returns : goal.returns
+returns c = λ bytes content h. packet_addresses 8 bytes content h.2

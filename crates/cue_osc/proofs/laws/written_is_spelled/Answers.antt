@@ -1,0 +1,5 @@
+use Rattle.cue_osc.proofs.Written.{text_spells}
+use Rattle.cue_osc.proofs.laws.written_is_spelled.Goals as goal
+
+pub returns : goal.returns
+returns c = text_spells

@@ -1,0 +1,38 @@
+-- What holds of every datagram and every packet.
+use Rattle.std.specs.Prelude.{◌≡◌, ◌↔◌, ℕ, ◌<◌, ◌≤◌, List, length, slice_index, Ok, Err}
+use Rattle.std.specs.List.{AllByRecursion}
+use Rattle.cue_osc.specs.declared.fault.Fault.TheVariants.{Memory}
+use Rattle.cue_osc.specs.Content.{Content}
+use Rattle.cue_osc.specs.Spelling.{Spells}
+use Rattle.cue_osc.specs.Reading.{datagram_at}
+use Rattle.cue_osc.specs.Plain.{IsPlain}
+use Rattle.cue_osc.specs.Walking.{leaves, HasAddress}
+use Rattle.cue_osc.specs.Writing.{text_of, IsInRange}
+
+-- each is a byte
+abbrev pub AreBytes : List ℕ → Type 0
+AreBytes bytes = (i : ℕ) → slice_index bytes i < 256
+
+-- reading from front to back finds exactly what the grammar says
+abbrev pub ReadingIsTheGrammar : Type 0
+ReadingIsTheGrammar = (bytes : List ℕ) (c : Content) → AreBytes bytes → (datagram_at bytes ≡ Ok c) ↔ Spells bytes c
+
+-- a datagram is one packet and no other
+abbrev pub OnePacket : Type 0
+OnePacket = (bytes : List ℕ) (c d : Content) → Spells bytes c → Spells bytes d → c ≡ d
+
+-- the spelling of a plain packet is a datagram of it
+abbrev pub WrittenIsSpelled : Type 0
+WrittenIsSpelled = (c : Content) → IsPlain 8 c → IsInRange c → length (text_of c) ≤ 4096 → Spells (text_of c) c
+
+-- and is read again as the same
+abbrev pub WrittenIsRead : Type 0
+WrittenIsRead = (c : Content) → IsPlain 8 c → IsInRange c → length (text_of c) ≤ 4096 → datagram_at (text_of c) ≡ Ok c
+
+-- each message of a datagram has an address
+abbrev pub MessagesHaveAddresses : Type 0
+MessagesHaveAddresses = (bytes : List ℕ) (c : Content) → Spells bytes c → AllByRecursion HasAddress (leaves c)
+
+-- no bytes are to blame where memory ran out
+abbrev pub MemoryIsNoFault : Type 0
+MemoryIsNoFault = (bytes : List ℕ) → datagram_at bytes ≡ Err Memory → ⊥

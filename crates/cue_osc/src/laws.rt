@@ -1,0 +1,34 @@
+//! Laws of every datagram and every packet, each the contract of a function that does nothing.
+
+ghost use Rattle.cue_osc.specs.Laws.{ReadingIsTheGrammar, OnePacket, WrittenIsSpelled, WrittenIsRead, MessagesHaveAddresses, MemoryIsNoFault};
+
+/// Reading from front to back finds a packet exactly where the grammar has one, and that one.
+pub fn reading_is_the_grammar()
+    ensures { ReadingIsTheGrammar }
+{}
+
+/// At most one packet belongs to the same bytes.
+pub fn one_packet()
+    ensures { OnePacket }
+{}
+
+/// What `write` gives of a plain packet is a datagram of that packet.
+pub fn written_is_spelled()
+    ensures { WrittenIsSpelled }
+{}
+
+/// What `write` gives of a plain packet is read as that packet.
+pub fn written_is_read()
+    ensures { WrittenIsRead }
+{}
+
+/// Each message of a datagram, also a discarded one, has an address: it begins with `/` and holds
+/// no null.
+pub fn messages_have_addresses()
+    ensures { MessagesHaveAddresses }
+{}
+
+/// Whatever bytes come, `Fault::Memory` is not what is wrong with them.
+pub fn memory_is_no_fault()
+    ensures { MemoryIsNoFault }
+{}

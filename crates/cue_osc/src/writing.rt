@@ -1,0 +1,80 @@
+//! Writing a packet: its one spelling, each message with its type tag string.
+
+ghost use Rattle.std.specs.Prelude.{◌≡◌, ◌<◌, ◌≤◌, ◌++◌, ◌↔◌, map, length, IfOk, OnOk, Ok};
+ghost use Rattle.cue_osc.specs.Content.{view, contents_of};
+ghost use Rattle.cue_osc.specs.Spelling.{Spells};
+ghost use Rattle.cue_osc.specs.Reading.{datagram_at};
+ghost use Rattle.cue_osc.specs.Plain.{IsPlain};
+ghost use Rattle.cue_osc.specs.Writing.{text_of, elements_text, IsInRange, AllInRange};
+
+mod fields;
+mod length;
+
+use crate::fault::WriteFault;
+use crate::packet::{BUNDLE_HEAD, MAX_LEN, Packet};
+use fields::put_message;
+use length::room_after;
+use std::alloc::{AllocError, Global};
+
+/// The bytes of a packet: its one spelling, each message with its type tag string, also an empty
+/// one. Call `plain` where the packet is not known to be writable. `TooLong` comes where the
+/// spelling has more than 4,096 bytes, before anything is allocated; else one allocation is made.
+pub fn write(alloc: Global, packet: &Packet<'_>) -> Result<Vec<u8>, WriteFault>
+    requires { IsPlain 8 (view packet.now) }
+    ensures written { IfOk result (λ v. v.items ≡ text_of (view packet.now)) }
+    // What was written is a datagram of this packet, and is read again as the same.
+    ensures spells { IfOk result (λ v. Spells v.items (view packet.now)) }
+    ensures again { IfOk result (λ v. datagram_at v.items ≡ Ok (view packet.now)) }
+    ensures too_long { (result ≡ Err WriteFault.TooLong) ↔ (4096 < length (text_of (view packet.now))) }
+{
+    let Some(left) = room_after(packet, MAX_LEN) else {
+        return Err(WriteFault::TooLong);
+    };
+    let mut out = Vec::with_capacity(alloc, MAX_LEN - left)?;
+    put(&mut out, packet)?;
+    Ok(out)
+}
+
+/// How long the spelling of a packet is that is no longer than a datagram.
+fn text_len(packet: &Packet<'_>) -> usize
+    requires { length (text_of (view packet.now)) ≤ 4096 }
+    ensures { result ≡ length (text_of (view packet.now)) }
+{
+    match room_after(packet, MAX_LEN) {
+        Some(left) => MAX_LEN - left,
+        None => 0,
+    }
+}
+
+/// A packet, behind what stands already.
+#[cycle(put)]
+fn put(out: &mut Vec<u8>, packet: &Packet<'_>) -> Result<(), AllocError>
+    requires { length (text_of (view packet.now)) ≤ 4096 }
+    ensures ok { OnOk result (out.new.items ≡ out.old.items ++ text_of (view packet.now)) }
+    ensures in_range { OnOk result (IsInRange (view packet.now)) }
+{
+    match packet {
+        Packet::Message(message) => put_message(out, message),
+        Packet::Discarded { .. } => Ok(()),
+        Packet::Bundle { tag, items } => {
+            out.extend_from_slice(&BUNDLE_HEAD)?;
+            out.extend_from_slice(&tag.to_be_bytes())?;
+            put_elements(out, items)
+        }
+    }
+}
+
+/// The elements of a bundle, each behind its size.
+#[cycle(put)]
+fn put_elements(out: &mut Vec<u8>, items: &[Packet<'_>]) -> Result<(), AllocError>
+    requires { length (elements_text (contents_of (map view items.now))) ≤ 4096 }
+    ensures ok { OnOk result (out.new.items ≡ out.old.items ++ elements_text (contents_of (map view items.now))) }
+    ensures in_range { OnOk result (AllInRange (contents_of (map view items.now))) }
+{
+    for item in items {
+        let size = text_len(item) as u32;
+        out.extend_from_slice(&size.to_be_bytes())?;
+        put(out, item)?;
+    }
+    Ok(())
+}

@@ -1,0 +1,6 @@
+pub mod CutLemmas
+pub mod MeaningLemmas
+pub mod PartsLemmas
+pub mod PatternLemmas
+pub mod PositionsLemmas
+pub mod SpellingLemmas

@@ -1,0 +1,7 @@
+pub mod Bytes
+pub mod Meaning
+pub mod Grammar
+pub mod Reading
+pub mod Matching
+pub mod Laws
+pub mod Steps

@@ -1,0 +1,76 @@
+-- Reading as a function on lists: the one pattern that bytes spell, or none.
+use Rattle.std.specs.Prelude.{ℕ, zero, suc, ◌+◌, Bool, ◌&&◌, ◌==◌, not, if◌then◌else◌, List, [], ◌∷◌, length, Option, None, Some, option_and_then}
+use Rattle.std.specs.Option.{option_map}
+use Rattle.std.specs.List.{list_all}
+use Rattle.cue_pattern.specs.declared.piece.Piece.{Piece}
+use Rattle.cue_pattern.specs.declared.piece.Piece.TheVariants.{One, Many, Listed, Unlisted, Among, Plain}
+use Rattle.cue_pattern.specs.Grammar.{ranges}
+use Rattle.cue_pattern.specs.Bytes.{asterisk, close_brace, close_bracket, comma, exclamation_mark, open_brace, open_bracket, question_mark, slash}
+
+-- one byte more at the front of the first text
+abbrev pub with_byte : ℕ → List (List ℕ) → List (List ℕ)
+with_byte b [] = (b ∷ []) ∷ []
+with_byte b (t ∷ ts) = (b ∷ t) ∷ ts
+
+-- the texts between the separators
+abbrev pub cut : ℕ → List ℕ → List (List ℕ)
+cut c [] = [] ∷ []
+cut c (b ∷ bs) = if b == c then [] ∷ cut c bs else with_byte b (cut c bs)
+
+-- the parts of an address or of a pattern, if it begins with a slash
+abbrev pub parts_of : List ℕ → Option (List (List ℕ))
+parts_of [] = None
+parts_of (b ∷ bs) = if b == slash then Some (cut slash bs) else None
+
+-- what stands before the first closing byte, if there is one
+abbrev pub enclosed : ℕ → List ℕ → Option (List ℕ)
+enclosed c [] = None
+enclosed c (b ∷ bs) = if b == c then Some [] else option_map (λ t. b ∷ t) (enclosed c bs)
+
+-- the piece that brackets make of what stands behind their exclamation mark; none where nothing does
+abbrev pub negated : List ℕ → Option Piece
+negated [] = None
+negated (b ∷ bs) = Some (Unlisted (ranges (b ∷ bs)))
+
+-- the piece that brackets make of what stands in them
+abbrev pub bracketed : List ℕ → Option Piece
+bracketed [] = None
+bracketed (b ∷ bs) = if b == exclamation_mark then negated bs else Some (Listed (ranges (b ∷ bs)))
+
+-- it may stand in braces
+abbrev pub is_braced : ℕ → Bool
+is_braced b = not (b == open_bracket) && (not (b == close_bracket) && (not (b == open_brace) && (not (b == close_brace) && (not (b == asterisk) && not (b == question_mark)))))
+
+-- the piece that braces make of what stands in them; none where a byte may not stand there
+abbrev pub braced : List ℕ → Option Piece
+braced inside = if list_all is_braced inside then Some (Among (cut comma inside)) else None
+
+-- the piece that is made of what is enclosed, and how many bytes behind its first are its own
+abbrev pub closed : (List ℕ → Option Piece) → Option (List ℕ) → Option (Piece × ℕ)
+closed piece None = None
+closed piece (Some inside) = option_map (λ p. (p, length inside + 1)) (piece inside)
+
+-- the piece that begins with this byte, and how many of the bytes behind it are its own
+unfoldable pub piece_at : ℕ → List ℕ → Option (Piece × ℕ)
+piece_at b bs =
+    if b == question_mark then Some (One, 0) else
+    if b == asterisk then Some (Many, 0) else
+    if b == open_bracket then closed bracketed (enclosed close_bracket bs) else
+    if b == open_brace then closed braced (enclosed close_brace bs) else
+    Some (Plain b, 0)
+
+-- the pieces of what is left of a text behind so many bytes
+unfoldable pub pieces_behind : ℕ → List ℕ → Option (List Piece)
+pieces_behind zero [] = Some []
+pieces_behind (suc n) [] = Some []
+pieces_behind (suc n) (b ∷ bs) = pieces_behind n bs
+pieces_behind zero (b ∷ bs) = option_and_then (λ (found : Piece × ℕ). option_map (λ ps. found.0 ∷ ps) (pieces_behind found.1 bs)) (piece_at b bs)
+
+-- the pieces of each part
+unfoldable pub pieces_of : List (List ℕ) → Option (List (List Piece))
+pieces_of [] = Some []
+pieces_of (t ∷ ts) = option_and_then (λ p. option_map (λ ps. p ∷ ps) (pieces_of ts)) (pieces_behind 0 t)
+
+-- the pattern that the bytes spell; none where they are no pattern
+unfoldable pub pattern_at : List ℕ → Option (List (List Piece))
+pattern_at bytes = option_and_then pieces_of (parts_of bytes)

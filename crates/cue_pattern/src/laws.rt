@@ -1,0 +1,14 @@
+//! What ties the functions that compute to what a pattern means and how it is written.
+
+ghost use Rattle.cue_pattern.specs.Laws.{ReadsTheGrammar, MatchesTheMeaning};
+
+/// Reading gives a pattern exactly where the bytes spell it: so no bytes spell two patterns, and
+/// bytes that spell none are exactly those that are refused.
+pub fn reads_the_grammar()
+    ensures { ReadsTheGrammar }
+{}
+
+/// The test answers true exactly for the addresses that the pattern denotes.
+pub fn matches_the_meaning()
+    ensures { MatchesTheMeaning }
+{}

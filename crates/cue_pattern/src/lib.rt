@@ -1,0 +1,21 @@
+//! OSC 1.0 address patterns: which addresses a pattern matches.
+#![tactic(auto)]
+
+mod cut;
+mod fault;
+pub mod laws;
+mod pattern;
+mod piece;
+mod positions;
+mod ranges;
+mod texts;
+mod token;
+
+pub use fault::Fault;
+pub use pattern::Pattern;
+pub use piece::{Part, Piece};
+pub use ranges::{Range, Ranges};
+pub use texts::{Text, Texts};
+
+#[cfg(test)]
+mod tests;

@@ -1,0 +1,11 @@
+pub mod BytesLemmas
+pub mod ChangeLemmas
+pub mod ListLemmas
+pub mod NumberLemmas
+pub mod OrderLemmas
+pub mod PiecesLemmas
+pub mod RunsLemmas
+pub mod SeenLemmas
+pub mod ShowLemmas
+pub mod TableLemmas
+pub mod TextLemmas

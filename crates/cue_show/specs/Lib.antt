@@ -1,0 +1,9 @@
+pub mod Bytes
+pub mod DeviceNumber
+pub mod Devices
+pub mod Distinct
+pub mod Laws
+pub mod Number
+pub mod Padded
+pub mod Parts
+pub mod Show

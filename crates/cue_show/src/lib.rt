@@ -1,0 +1,17 @@
+//! The show of a cue controller: the table of devices, the stack of cues, and the place at which the operator stands.
+#![tactic(auto)]
+
+pub mod device;
+pub mod laws;
+pub mod limits;
+pub mod number;
+pub mod part;
+pub mod show;
+
+pub use device::DeviceNo;
+pub use number::CueNo;
+pub use part::{Part, PartBytes, Parts};
+pub use show::Show;
+
+#[cfg(test)]
+mod tests;

@@ -1,0 +1,93 @@
+//! Parts and lists of parts, with their limits.
+
+use crate::{DeviceNo, Part, PartBytes, Parts};
+use std::alloc::{AllocError, Global};
+use std::process::Abort;
+use std::test::Fail;
+
+// A part with so many bytes.
+pub(super) fn part(rt: &impl Abort, alloc: Global, device: u8, bytes: &[u8]) -> Part {
+    let device = DeviceNo::of_byte(device).expect(rt, "it is a device number");
+    Part::of(alloc, device, bytes).expect(rt, "there is memory")
+}
+
+// Parts of the devices, each with the same bytes.
+fn parts_of(
+    rt: &impl Abort,
+    alloc: Global,
+    devices: &[u8],
+    bytes: &[u8],
+) -> Result<Parts, AllocError> {
+    let mut parts = Parts::new(alloc);
+    for device in devices {
+        parts.push(part(rt, alloc, *device, bytes))?;
+    }
+    Ok(parts)
+}
+
+#[test]
+fn a_part_holds_its_bytes(rt: HostRuntime) -> Result<(), Fail> {
+    let first = part(&rt, rt.alloc(), 3, &[10, 11]);
+    assert_eq!(rt; first.device.number(), 3);
+    assert_eq!(rt; first.bytes.as_slice(), [10, 11].as_slice());
+    let copy = first.clone()?;
+    assert!(rt; copy == first);
+    assert!(rt; part(&rt, rt.alloc(), 4, &[10, 11]) != first);
+    assert!(rt; part(&rt, rt.alloc(), 3, &[10]) != first);
+    let bytes = PartBytes::of(first.bytes.into_vec());
+    assert!(rt; bytes == copy.bytes);
+    Ok(())
+}
+
+#[test]
+fn a_list_of_parts_is_its_vec(rt: HostRuntime) -> Result<(), Fail> {
+    let parts = parts_of(&rt, rt.alloc(), &[3, 4], &[7])?;
+    let copy = parts.clone()?;
+    let items = parts.into_vec();
+    assert_eq!(rt; items.len(), 2);
+    assert!(rt; items[0] == part(&rt, rt.alloc(), 3, &[7]));
+    assert!(rt; items[1] == part(&rt, rt.alloc(), 4, &[7]));
+    let again = Parts::of(items);
+    assert_eq!(rt; again.as_slice().len(), 2);
+    assert!(rt; again == copy);
+    assert!(rt; again != parts_of(&rt, rt.alloc(), &[4, 3], &[7])?);
+    assert!(rt; again != parts_of(&rt, rt.alloc(), &[3], &[7])?);
+    Ok(())
+}
+
+#[test]
+fn a_device_stands_in_one_part(rt: HostRuntime) -> Result<(), Fail> {
+    let cases: [(&[u8], bool); 6] = [
+        (&[], true),
+        (&[0, 111], true),
+        (&[3, 4, 5], true),
+        (&[3, 3], false),
+        (&[3, 4, 3], false),
+        (&[111, 0, 5, 111], false),
+    ];
+    for (devices, expected) in cases {
+        let parts = parts_of(&rt, rt.alloc(), devices, &[])?;
+        assert_eq!(rt; parts.has_distinct_devices(), expected, "{devices:?}");
+    }
+    let parts = parts_of(&rt, rt.alloc(), &[3, 4], &[])?;
+    for (device, expected) in [(3, true), (4, true), (5, false)] {
+        let device = DeviceNo::of_byte(device).ok_or("a device number")?;
+        assert_eq!(rt; parts.uses(device), expected);
+    }
+    Ok(())
+}
+
+#[test]
+fn a_cue_has_1_to_16_parts_of_at_most_32_bytes(rt: HostRuntime) -> Result<(), Fail> {
+    let devices: [u8; 17] = [0, 1, 2, 3, 4, 5, 6, 7, 8, 9, 10, 11, 12, 13, 14, 15, 16];
+    let bytes = [255; 33];
+    for (count, expected) in [(0, false), (1, true), (16, true), (17, false)] {
+        let parts = parts_of(&rt, rt.alloc(), &devices[..count], &bytes[..32])?;
+        assert_eq!(rt; parts.is_fit(), expected, "{count} parts");
+    }
+    assert!(rt; part(&rt, rt.alloc(), 3, &bytes[..32]).is_fit());
+    assert!(rt; !part(&rt, rt.alloc(), 3, &bytes).is_fit());
+    assert!(rt; !parts_of(&rt, rt.alloc(), &[3, 4], &bytes)?.is_fit());
+    assert!(rt; !parts_of(&rt, rt.alloc(), &[3, 3], &[])?.is_fit());
+    Ok(())
+}

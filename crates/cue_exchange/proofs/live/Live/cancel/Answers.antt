@@ -1,0 +1,5 @@
+use Rattle.cue_exchange.proofs.LiveRules.{are_live-cancel}
+use Rattle.cue_exchange.proofs.live.Live.cancel.Goals as goal
+
+pub invariant_of-self : goal.invariant_of-self
+invariant_of-self c = rw c.move_to.ensures (are_live-cancel c.args.seq c.args.reason c.self.inside.attempts.items c.self.invariant (rw (← c.self.view_is) at c.requires))

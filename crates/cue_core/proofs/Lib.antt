@@ -1,0 +1,13 @@
+pub mod Conditions
+pub mod Finding
+pub mod Tells
+pub mod Kept
+pub mod Rules
+pub mod Sound
+pub mod Facts
+pub mod Judged
+pub mod Cancels
+pub mod Safety
+pub mod ReplyLaws
+pub mod Commute
+pub mod Folding

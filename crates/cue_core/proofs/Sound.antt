@@ -1,0 +1,98 @@
+-- Every history leads to a state that keeps the rules.
+use Rattle.std.proofs.Common.{◌≡◌, ℕ, ◌+◌, List, [], ◌∷◌, length, refl, Bool, true, false, not, ◌&&◌, ◌||◌, nat_le, nat_lt}
+use Rattle.std.specs.Prelude.{IsTrue}
+use Rattle.std.specs.List.{list_all, list_any}
+use Rattle.cue_exchange.specs.declared.attempt.Answer.{Answer}
+use Rattle.cue_exchange.specs.declared.attempt.Answer.TheVariants.{Waiting, Ready, Done, LetGo, Failed}
+use Rattle.cue_exchange.specs.declared.attempt.Stage.{Stage}
+use Rattle.cue_exchange.specs.declared.attempt.Stage.TheVariants.{Preparing, Decided, Cancelling}
+use Rattle.cue_exchange.specs.declared.attempt.DeviceAnswer.{DeviceAnswer}
+use Rattle.cue_exchange.specs.declared.attempt.Attempt.{Attempt}
+use Rattle.cue_exchange.specs.declared.limits.TheConstants.{LAST_NUMBER, MAX_LIVE}
+use Rattle.cue_exchange.specs.Answers.{is_waiting, is_preparing, stands, some_waits, devices_of}
+use Rattle.cue_exchange.specs.Live.{are_live, is_attempt, is_sound, is_open, is_number, is_moment, are_sound_devices, pairwise, goes_before, disjoint, distinct}
+use Rattle.cue_show.specs.Show.{is_show}
+use Rattle.cue_core.specs.declared.event.Event.{Event}
+use Rattle.cue_core.specs.State.{Standing, empty_state, is_state, are_tied, is_at_cue, is_ended}
+use Rattle.cue_core.specs.Steps.{acceptable, after}
+use Rattle.cue_core.specs.History.{state_of, is_history}
+use Rattle.cue_core.proofs.Conditions.{both, join, all_from, pairwise_from}
+use Rattle.cue_core.proofs.Rules.{is_state-after}
+use Rattle.cue_core.proofs.Tells.{is_last, not_last}
+use Rattle.cue_core.proofs.Kept.{IsSound, Kept, kept-step, kept-none}
+
+-- a device that is Waiting has not answered for the last time
+waiting_left : (answer : Answer) → IsTrue (is_waiting answer) → is_last answer ≡ false
+waiting_left Waiting w = refl
+waiting_left Ready w = cc
+waiting_left Done w = cc
+waiting_left LetGo w = cc
+waiting_left Failed w = cc
+
+abbrev all_last : List DeviceAnswer → Bool
+all_last xs = list_all (λ x. is_last x.answer) xs
+
+some_left : (xs : List DeviceAnswer) → IsTrue (some_waits xs) → all_last xs ≡ false
+some_left [] w = cc
+some_left (x ∷ xs) w = at (is_waiting x.answer) (is_last x.answer) (waiting_left x.answer) (some_left xs) w
+  where
+    at : (b l : Bool) → (IsTrue b → l ≡ false) → (IsTrue (some_waits xs) → all_last xs ≡ false) → IsTrue (b || some_waits xs) → (l && all_last xs) ≡ false
+    at true l f g w = rw (f refl) refl
+    at false true f g w = g w
+    at false false f g w = refl
+
+first_left : (stage : Stage) (xs : List DeviceAnswer) → IsTrue (is_preparing stage) → IsTrue (nat_le 1 (length (devices_of xs))) → IsTrue (list_all (stands stage) xs) → all_last xs ≡ false
+first_left stage [] p n k = absurd cc
+first_left stage (x ∷ xs) p n k = rw (not_last stage x.answer p (both (stands stage x) (list_all (stands stage) xs) k).0) refl
+
+not_all : (b : Bool) → b ≡ false → IsTrue (not b)
+not_all b e = rw e refl
+
+one_left : (stage : Stage) (xs : List DeviceAnswer) → IsTrue (nat_le 1 (length (devices_of xs))) → IsTrue (list_all (stands stage) xs) → IsTrue (is_open stage xs) → IsTrue (not (all_last xs))
+one_left Preparing xs n k o = not_all (all_last xs) (first_left Preparing xs refl n k)
+one_left Decided xs n k o = not_all (all_last xs) (some_left xs o)
+one_left (Cancelling r) xs n k o = not_all (all_last xs) (some_left xs o)
+
+-- the rules of one attempt, one by one
+pub record AttemptRules (a : Attempt) : Type 0 where
+  pub number : IsTrue (is_number a.seq)
+  pub moment : IsTrue (is_moment a.deadline)
+  pub some : IsTrue (nat_le 1 (length (devices_of a.answers)))
+  pub distinct : IsTrue (distinct (devices_of a.answers))
+  pub stand : IsTrue (list_all (stands a.stage) a.answers)
+  pub open_one : IsTrue (is_open a.stage a.answers)
+
+pub attempt_rules : (a : Attempt) → IsTrue (is_attempt a) → AttemptRules a
+attempt_rules a h =
+    let p = both (is_sound a) (is_open a.stage a.answers) h in
+    let q = both (is_number a.seq) (is_moment a.deadline && (are_sound_devices (devices_of a.answers) && list_all (stands a.stage) a.answers)) p.0 in
+    let r = both (is_moment a.deadline) (are_sound_devices (devices_of a.answers) && list_all (stands a.stage) a.answers) q.1 in
+    let t = both (are_sound_devices (devices_of a.answers)) (list_all (stands a.stage) a.answers) r.1 in
+    let u = both (nat_le 1 (length (devices_of a.answers))) (distinct (devices_of a.answers)) t.0 in
+    record { number = q.0; moment = r.0; some = u.0; distinct = u.1; stand = t.1; open_one = p.1 }
+
+pub sound_of : (s : Standing) → IsTrue (is_state s) → IsSound s
+sound_of s h =
+    let p = both (is_show s.show) (are_live s.live && are_tied s) h in
+    let q = both (are_live s.live) (are_tied s) p.1 in
+    let r = both (nat_le (length s.live) MAX_LIVE) (list_all is_attempt s.live && pairwise goes_before s.live) q.0 in
+    let t = both (list_all is_attempt s.live) (pairwise goes_before s.live) r.1 in
+    let u = both (list_all (is_at_cue s.show) s.live) (list_all (λ a. nat_le a.seq s.last_seq) s.live && (nat_le s.last_seq LAST_NUMBER && is_ended s.live s.last_seq s.ended)) q.1 in
+    let w = both (list_all (λ a. nat_le a.seq s.last_seq) s.live) (nat_le s.last_seq LAST_NUMBER && is_ended s.live s.last_seq s.ended) u.1 in
+    record {
+      rises = pairwise_from goes_before (λ a b. nat_lt a.seq b.seq) s.live (λ a b k. (both (nat_lt a.seq b.seq) (disjoint (devices_of a.answers) (devices_of b.answers)) k).0) t.1;
+      stand = all_from is_attempt (λ a. list_all (stands a.stage) a.answers) s.live (λ a k. (attempt_rules a k).stand) t.0;
+      within = w.0;
+      left = all_from is_attempt (λ a. not (all_last a.answers)) s.live (λ a k. let m = attempt_rules a k in one_left a.stage a.answers m.some m.stand m.open_one) t.0;
+    }
+
+pub is_state-history : (h : List Event) → IsTrue (is_history h) → IsTrue (is_state (state_of h))
+is_state-history [] p = refl
+is_state-history (e ∷ h) p = let q = both (acceptable (state_of h) e) (is_history h) p in is_state-after (state_of h) e (is_state-history h q.1) q.0
+
+pub sound-history : (h : List Event) → IsTrue (is_history h) → IsSound (state_of h)
+sound-history h p = sound_of (state_of h) (is_state-history h p)
+
+pub kept-history : (h : List Event) → IsTrue (is_history h) → Kept h (state_of h)
+kept-history [] p = kept-none
+kept-history (e ∷ h) p = let q = both (acceptable (state_of h) e) (is_history h) p in kept-step h e (kept-history h q.1) (sound-history h q.1) q.0

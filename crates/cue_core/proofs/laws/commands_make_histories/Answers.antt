@@ -1,0 +1,5 @@
+use Rattle.cue_core.proofs.Cancels.{commands-make-histories}
+use Rattle.cue_core.proofs.laws.commands_make_histories.Goals as goal
+
+pub returns : goal.returns
+returns c = commands-make-histories

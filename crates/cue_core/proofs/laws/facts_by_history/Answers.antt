@@ -1,0 +1,5 @@
+use Rattle.cue_core.proofs.Facts.{facts-by-history}
+use Rattle.cue_core.proofs.laws.facts_by_history.Goals as goal
+
+pub returns : goal.returns
+returns c = facts-by-history

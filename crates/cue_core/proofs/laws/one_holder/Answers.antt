@@ -1,0 +1,5 @@
+use Rattle.cue_core.proofs.Safety.{one-holder}
+use Rattle.cue_core.proofs.laws.one_holder.Goals as goal
+
+pub returns : goal.returns
+returns c = one-holder

@@ -1,0 +1,5 @@
+use Rattle.cue_core.proofs.Commute.{replies-commute}
+use Rattle.cue_core.proofs.laws.replies_commute.Goals as goal
+
+pub returns : goal.returns
+returns c = replies-commute

@@ -1,0 +1,5 @@
+use Rattle.cue_core.proofs.ReplyLaws.{replies-leave-others}
+use Rattle.cue_core.proofs.laws.replies_leave_others.Goals as goal
+
+pub returns : goal.returns
+returns c = replies-leave-others

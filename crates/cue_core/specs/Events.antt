@@ -1,0 +1,51 @@
+-- Tests of one event.
+use Rattle.std.specs.Prelude.{ℕ, Bool, true, false, ◌&&◌, nat_eq}
+use Rattle.cue_core.specs.declared.event.Event.{Event}
+use Rattle.cue_core.specs.declared.event.Event.TheVariants.{Device, NoDevice, Cue, NoCue, Place, Start, Ready, Go, Done, Cancel, LetGo, Failed}
+
+-- an attempt starts
+abbrev pub is_start : Event → Bool
+is_start (Start q c t) = true
+is_start _ = false
+
+-- q starts
+abbrev pub is_start_of : ℕ → Event → Bool
+is_start_of q (Start p c t) = nat_eq p q
+is_start_of q _ = false
+
+-- the device d stands by in q
+abbrev pub is_ready_of : ℕ → ℕ → Event → Bool
+is_ready_of q d (Ready p e) = nat_eq p q && nat_eq e d
+is_ready_of q d _ = false
+
+-- q is decided
+abbrev pub is_go_of : ℕ → Event → Bool
+is_go_of q (Go p) = nat_eq p q
+is_go_of q _ = false
+
+-- q is cancelled
+abbrev pub is_cancel_of : ℕ → Event → Bool
+is_cancel_of q (Cancel p r) = nat_eq p q
+is_cancel_of q _ = false
+
+-- the device d answers in q for the last time: Done, LetGo or Failed
+abbrev pub is_end_of : ℕ → ℕ → Event → Bool
+is_end_of q d (Done p e) = nat_eq p q && nat_eq e d
+is_end_of q d (LetGo p e) = nat_eq p q && nat_eq e d
+is_end_of q d (Failed p e) = nat_eq p q && nat_eq e d
+is_end_of q d _ = false
+
+-- the event is one of the attempt q
+abbrev pub is_about : ℕ → Event → Bool
+is_about q (Device d port) = false
+is_about q (NoDevice d) = false
+is_about q (Cue c parts) = false
+is_about q (NoCue c) = false
+is_about q (Place c) = false
+is_about q (Start p c t) = nat_eq p q
+is_about q (Ready p d) = nat_eq p q
+is_about q (Go p) = nat_eq p q
+is_about q (Done p d) = nat_eq p q
+is_about q (Cancel p r) = nat_eq p q
+is_about q (LetGo p d) = nat_eq p q
+is_about q (Failed p d) = nat_eq p q

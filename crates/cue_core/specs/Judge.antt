@@ -1,0 +1,237 @@
+-- What becomes of a command: the first line that holds decides.
+use Rattle.std.specs.Prelude.{ℕ, ◌+◌, Bool, true, false, not, ◌&&◌, if◌then◌else◌, List, [], ◌∷◌, length, Option, None, Some, is_some, nat_eq, nat_le, nat_lt}
+use Rattle.std.specs.Option.{option_map_or}
+use Rattle.cue_show.specs.declared.part.Part.{Part}
+use Rattle.cue_show.specs.DeviceNumber.{is_device, is_port}
+use Rattle.cue_show.specs.Number.{is_cue_number}
+use Rattle.cue_show.specs.Parts.{are_parts, same_parts}
+use Rattle.cue_show.specs.Show.{port_of, parts_of, has_cue, is_used, is_place, has_device, are_known, is_full}
+use Rattle.cue_exchange.specs.declared.limits.TheConstants.{LAST_NUMBER}
+use Rattle.cue_exchange.specs.declared.attempt.Answer.{Answer}
+use Rattle.cue_exchange.specs.declared.attempt.Answer.TheVariants as answer
+use Rattle.cue_exchange.specs.declared.attempt.Reason.TheVariants.{Operator, Abort, Release}
+use Rattle.cue_exchange.specs.declared.attempt.Stage.{Stage}
+use Rattle.cue_exchange.specs.declared.attempt.Stage.TheVariants.{Preparing, Decided, Cancelling}
+use Rattle.cue_exchange.specs.declared.attempt.Attempt.{Attempt}
+use Rattle.cue_exchange.specs.Answers.{is_preparing, is_decided, is_cancelling, is_waiting, answer_of, answer_passes}
+use Rattle.cue_exchange.specs.Live.{devices_in, attempt_of, attempt_of_cue, attempt_of_device, is_moment, is_number}
+use Rattle.cue_exchange.specs.Steps.{are_free, has_room, can_go_now}
+use Rattle.cue_core.specs.declared.limits.TheConstants.{STANDBY_MS}
+use Rattle.cue_core.specs.declared.event.Event.{Event}
+use Rattle.cue_core.specs.declared.event.Event.TheVariants as event
+use Rattle.cue_core.specs.declared.command.Code.{Code}
+use Rattle.cue_core.specs.declared.command.Code.TheVariants as code
+use Rattle.cue_core.specs.declared.command.ReplyKind.{ReplyKind}
+use Rattle.cue_core.specs.declared.command.ReplyKind.TheVariants as reply
+use Rattle.cue_core.specs.declared.command.Command.{Command}
+use Rattle.cue_core.specs.declared.command.Command.TheVariants as command
+use Rattle.cue_core.specs.declared.command.Verdict.{Verdict}
+use Rattle.cue_core.specs.declared.command.Verdict.TheVariants.{Made, Known, No}
+use Rattle.cue_core.specs.State.{Standing}
+
+-- ---- what can be asked
+
+-- the numbers, texts and parts of the command are ones that there are
+abbrev pub is_fit : Command → Bool
+is_fit command.Status = true
+is_fit (command.AddDevice d port) = is_device d && is_port port
+is_fit (command.AddCue c parts) = is_cue_number c && are_parts parts
+is_fit (command.Standby c) = true
+is_fit (command.Go c) = true
+is_fit (command.Cancel c) = true
+is_fit (command.Goto c) = true
+is_fit (command.RemoveCue c) = true
+is_fit (command.Reply kind d q) = is_number q
+is_fit (command.Release d) = true
+is_fit (command.RemoveDevice d) = true
+is_fit (command.Bad c) = true
+
+-- ---- what is answered
+
+-- a verdict and its events
+abbrev pub Judged : Type 0
+Judged = Verdict × List Event
+
+-- the command is carried out by these events
+abbrev pub made : List Event → Judged
+made es = (Made, es)
+
+-- the command says what is so already
+abbrev pub known : Judged
+known = (Known, [])
+
+-- the command is refused with a code
+abbrev pub refused : Code → Judged
+refused c = (No c, [])
+
+-- the first line whose test holds, and else the last word
+abbrev pub first_line : List (Bool × Judged) → Judged → Judged
+first_line [] last = last
+first_line (l ∷ ls) last = if l.0 then l.1 else first_line ls last
+
+-- ---- the device table and the cue stack
+
+abbrev pub on_add_device : Standing → ℕ → ℕ → Judged
+on_add_device s d port =
+    option_map_or (λ p. if nat_eq p port then known else refused code.Duplicate) (port_of s.show d) (made (event.Device d port ∷ []))
+
+abbrev pub on_remove_device : Standing → ℕ → Judged
+on_remove_device s d =
+    first_line (
+    (not (has_device s.show d), refused code.NoMethod)
+    ∷ (is_used s.show d, refused code.InUse)
+    ∷ [])
+    (made (event.NoDevice d ∷ []))
+
+-- a cue that is in the stack is known where its parts are the same
+abbrev pub on_new_cue : Standing → List ℕ → List Part → Judged
+on_new_cue s c parts =
+    option_map_or (λ old. if same_parts old parts then known else refused code.Duplicate) (parts_of s.show c)
+    (if is_full s.show then refused code.Full else made (event.Cue c parts ∷ []))
+
+abbrev pub on_add_cue : Standing → List ℕ → List Part → Judged
+on_add_cue s c parts = if not (are_known s.show parts) then refused code.UnknownDevice else on_new_cue s c parts
+
+abbrev pub on_goto : Standing → List ℕ → Judged
+on_goto s c =
+    first_line (
+    (not (has_cue s.show c), refused code.NoMethod)
+    ∷ (is_place c s.show.place, known)
+    ∷ [])
+    (made (event.Place c ∷ []))
+
+abbrev pub on_remove_cue : Standing → List ℕ → Judged
+on_remove_cue s c =
+    first_line (
+    (not (has_cue s.show c), refused code.NoMethod)
+    ∷ (is_some (attempt_of_cue s.live c), refused code.Busy)
+    ∷ [])
+    (made (event.NoCue c ∷ []))
+
+-- ---- an attempt at a cue
+
+-- the attempt at the cue is Preparing
+abbrev pub prepares : Standing → List ℕ → Bool
+prepares s c = option_map_or (λ a. is_preparing a.stage) (attempt_of_cue s.live c) false
+
+-- a cue of these parts is to be prepared
+abbrev pub on_standby_of : Standing → ℕ → List ℕ → List Part → Judged
+on_standby_of s now c parts =
+    first_line (
+    (prepares s c, known)
+    ∷ (not (are_free (devices_in parts) s.live), refused code.Busy)
+    ∷ (not (has_room s.live), refused code.Full)
+    ∷ (nat_le LAST_NUMBER s.last_seq, refused code.Exhausted)
+    ∷ (not (is_moment (now + STANDBY_MS)), refused code.Clock)
+    ∷ [])
+    (made (event.Start (s.last_seq + 1) c (now + STANDBY_MS) ∷ []))
+
+abbrev pub on_standby : Standing → ℕ → List ℕ → Judged
+on_standby s now c = option_map_or (on_standby_of s now c) (parts_of s.show c) (refused code.NoMethod)
+
+abbrev pub on_go_of : Attempt → Judged
+on_go_of a =
+    first_line (
+    (is_decided a.stage, known)
+    ∷ (can_go_now a, made (event.Go a.seq ∷ []))
+    ∷ [])
+    (refused code.NotReady)
+
+abbrev pub on_go : Standing → List ℕ → Judged
+on_go s c = if not (has_cue s.show c) then refused code.NoMethod else option_map_or on_go_of (attempt_of_cue s.live c) (refused code.NotLive)
+
+abbrev pub on_cancel_of : Attempt → Judged
+on_cancel_of a =
+    first_line (
+    (is_decided a.stage, refused code.Decided)
+    ∷ (is_cancelling a.stage, known)
+    ∷ [])
+    (made (event.Cancel a.seq Operator ∷ []))
+
+abbrev pub on_cancel : Standing → List ℕ → Judged
+on_cancel s c = if not (has_cue s.show c) then refused code.NoMethod else option_map_or on_cancel_of (attempt_of_cue s.live c) (refused code.NotLive)
+
+-- a device is let go of by the operator
+abbrev pub on_release_of : ℕ → Attempt → Judged
+on_release_of d a =
+    first_line (
+    (is_preparing a.stage, made (event.Cancel a.seq Release ∷ event.LetGo a.seq d ∷ []))
+    ∷ (not (answer_passes is_waiting d a.answers), known)
+    ∷ (is_decided a.stage, made (event.Failed a.seq d ∷ []))
+    ∷ [])
+    (made (event.LetGo a.seq d ∷ []))
+
+abbrev pub on_release : Standing → ℕ → Judged
+on_release s d = if not (has_device s.show d) then refused code.NoMethod else option_map_or (on_release_of d) (attempt_of_device s.live d) (refused code.NotLive)
+
+-- ---- the table of replies: the attempt, the device, the stage, and the device's answer so far
+
+abbrev pub on_standing_by : ℕ → ℕ → Stage → Answer → Judged
+on_standing_by q d Preparing answer.Waiting = made (event.Ready q d ∷ [])
+on_standing_by q d Preparing _ = known
+on_standing_by q d Decided answer.Failed = refused code.Stale
+on_standing_by q d Decided _ = known
+on_standing_by q d (Cancelling r) _ = refused code.Stale
+
+abbrev pub on_complete : ℕ → ℕ → Stage → Answer → Judged
+on_complete q d Preparing _ = refused code.Early
+on_complete q d Decided answer.Waiting = made (event.Done q d ∷ [])
+on_complete q d Decided answer.Done = known
+on_complete q d Decided _ = refused code.Stale
+on_complete q d (Cancelling r) _ = refused code.Stale
+
+abbrev pub on_cancelled : ℕ → ℕ → Stage → Answer → Judged
+on_cancelled q d Preparing _ = refused code.Early
+on_cancelled q d Decided _ = refused code.Decided
+on_cancelled q d (Cancelling r) answer.Waiting = made (event.LetGo q d ∷ [])
+on_cancelled q d (Cancelling r) answer.LetGo = known
+on_cancelled q d (Cancelling r) _ = refused code.Stale
+
+abbrev pub on_abort : ℕ → ℕ → Stage → Answer → Judged
+on_abort q d Preparing _ = made (event.Cancel q Abort ∷ event.Failed q d ∷ [])
+on_abort q d Decided answer.Waiting = made (event.Failed q d ∷ [])
+on_abort q d Decided answer.Failed = known
+on_abort q d Decided _ = refused code.Stale
+on_abort q d (Cancelling r) answer.Waiting = made (event.Failed q d ∷ [])
+on_abort q d (Cancelling r) answer.Failed = known
+on_abort q d (Cancelling r) _ = refused code.Stale
+
+abbrev pub on_reply_in : ReplyKind → ℕ → ℕ → Stage → Answer → Judged
+on_reply_in reply.StandingBy = on_standing_by
+on_reply_in reply.Complete = on_complete
+on_reply_in reply.Cancelled = on_cancelled
+on_reply_in reply.Abort = on_abort
+
+-- a reply to a live attempt
+abbrev pub on_reply_to : ReplyKind → ℕ → Attempt → Judged
+on_reply_to kind d a = option_map_or (on_reply_in kind a.seq d a.stage) (answer_of a.answers d) (refused code.NotPart)
+
+-- a reply that came from the port of another
+abbrev pub is_from_another : Standing → ℕ → ℕ → Bool
+is_from_another s d from = option_map_or (λ port. not (nat_eq port from)) (port_of s.show d) true
+
+abbrev pub on_reply : Standing → ℕ → ReplyKind → ℕ → ℕ → Judged
+on_reply s from kind d q =
+    first_line (
+    (not (has_device s.show d), refused code.NoMethod)
+    ∷ (is_from_another s d from, refused code.WrongPort)
+    ∷ (nat_lt s.last_seq q, refused code.Early)
+    ∷ [])
+    (option_map_or (on_reply_to kind d) (attempt_of s.live q) (refused code.Stale))
+
+-- ---- all commands
+
+-- what becomes of the command in the state, at the moment now, from a port
+abbrev pub judged : Standing → ℕ → ℕ → Command → Judged
+judged s now from command.Status = known
+judged s now from (command.AddDevice d port) = on_add_device s d port
+judged s now from (command.AddCue c parts) = on_add_cue s c parts
+judged s now from (command.Standby c) = on_standby s now c
+judged s now from (command.Go c) = on_go s c
+judged s now from (command.Cancel c) = on_cancel s c
+judged s now from (command.Goto c) = on_goto s c
+judged s now from (command.RemoveCue c) = on_remove_cue s c
+judged s now from (command.Reply kind d q) = on_reply s from kind d q
+judged s now from (command.Release d) = on_release s d
+judged s now from (command.RemoveDevice d) = on_remove_device s d
+judged s now from (command.Bad c) = refused c

@@ -1,0 +1,12 @@
+pub mod State
+pub mod Codes
+pub mod Events
+pub mod Steps
+pub mod Judge
+pub mod EventList
+pub mod History
+pub mod Order
+pub mod Happenings
+pub mod Replies
+pub mod Pending
+pub mod Safety

@@ -1,0 +1,57 @@
+//! What becomes of a command: the first line of its table that holds decides.
+ghost use Rattle.std.specs.Prelude.{◌≡◌, IsTrue, IfOk};
+ghost use Rattle.cue_core.specs.Judge.{is_fit, judged};
+ghost use Rattle.cue_core.specs.Steps.{are_acceptable};
+
+mod attempts;
+mod replies;
+mod shows;
+mod verdicts;
+
+use crate::command::{Command, Verdict};
+use crate::events::Events;
+use crate::state::State;
+use std::alloc::AllocError;
+use verdicts::{known, refused};
+
+/// Judges a command on a state, at the moment `now` in milliseconds since 1970, where it came from the port `from` of this machine.
+///
+/// The events that come with the verdict are acceptable in turn; a command that is known or refused has none. Only the parts of a new
+/// cue take memory, from the allocator that the command's own parts keep.
+pub fn judge(
+    state: &State,
+    now: u64,
+    from: u16,
+    command: &Command,
+) -> Result<(Verdict, Events), AllocError>
+    requires { IsTrue (is_fit command.now) }
+    ensures table { IfOk result (λ r. r ≡ judged state.now now from command.now) }
+    ensures acceptable { IfOk result (λ r. IsTrue (are_acceptable state.now r.1)) }
+{
+    let _last = state.last_seq();
+    judged(state, now, from, command)
+}
+
+fn judged(
+    state: &State,
+    now: u64,
+    from: u16,
+    command: &Command,
+) -> Result<(Verdict, Events), AllocError>
+    ensures { IfOk result (λ r. r ≡ judged state.now now from command.now) }
+{
+    Ok(match command {
+        Command::Status => known(),
+        Command::AddDevice(device, port) => shows::on_add_device(state, *device, *port),
+        Command::AddCue(cue, parts) => return shows::on_add_cue(state, *cue, parts),
+        Command::Standby(cue) => attempts::on_standby(state, now, *cue),
+        Command::Go(cue) => attempts::on_go(state, *cue),
+        Command::Cancel(cue) => attempts::on_cancel(state, *cue),
+        Command::Goto(cue) => shows::on_goto(state, *cue),
+        Command::RemoveCue(cue) => shows::on_remove_cue(state, *cue),
+        Command::Reply(kind, device, seq) => replies::on_reply(state, from, *kind, *device, *seq),
+        Command::Release(device) => attempts::on_release(state, *device),
+        Command::RemoveDevice(device) => shows::on_remove_device(state, *device),
+        Command::Bad(code) => refused(*code),
+    })
+}

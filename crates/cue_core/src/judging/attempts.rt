@@ -1,0 +1,133 @@
+//! Commands of the operator on the attempt at a cue, and on the one that a device is in.
+ghost use Rattle.std.specs.Prelude.{◌≡◌};
+ghost use Rattle.cue_core.specs.Judge.{prepares, on_standby, on_standby_of, on_go, on_go_of, on_cancel, on_cancel_of, on_release, on_release_of};
+
+use crate::command::{Code, Verdict};
+use crate::event::Event;
+use crate::events::Events;
+use crate::judging::verdicts::{known, made, made_by_two, refused};
+use crate::limits::STANDBY_MS;
+use crate::state::State;
+use cue_exchange::attempt::{Attempt, Reason};
+use cue_exchange::limits::LAST_NUMBER;
+use cue_show::{CueNo, DeviceNo, Parts};
+
+pub(crate) fn on_standby(state: &State, now: u64, cue: CueNo) -> (Verdict, Events)
+    ensures { result ≡ on_standby state.now now cue }
+{
+    match state.show().parts(cue) {
+        None => refused(Code::NoMethod),
+        Some(parts) => on_standby_of(state, now, cue, parts),
+    }
+}
+
+fn on_standby_of(state: &State, now: u64, cue: CueNo, parts: &Parts) -> (Verdict, Events)
+    ensures { result ≡ on_standby_of state.now now cue parts.now }
+{
+    if prepares(state, cue) {
+        return known();
+    }
+    if !state.live().are_free(parts) {
+        return refused(Code::Busy);
+    }
+    if !state.live().has_room() {
+        return refused(Code::Full);
+    }
+    let last = state.last_seq();
+    if last >= LAST_NUMBER {
+        return refused(Code::Exhausted);
+    }
+    match now.checked_add(STANDBY_MS) {
+        None => refused(Code::Clock),
+        Some(deadline) => made(Event::Start(last + 1, cue, deadline)),
+    }
+}
+
+// Whether the attempt at the cue is Preparing.
+fn prepares(state: &State, cue: CueNo) -> bool
+    ensures { result ≡ prepares state.now cue }
+{
+    match state.live().of_cue(cue) {
+        None => false,
+        Some(attempt) => attempt.stage.is_preparing(),
+    }
+}
+
+pub(crate) fn on_go(state: &State, cue: CueNo) -> (Verdict, Events)
+    ensures { result ≡ on_go state.now cue }
+{
+    if !state.show().has_cue(cue) {
+        return refused(Code::NoMethod);
+    }
+    match state.live().of_cue(cue) {
+        None => refused(Code::NotLive),
+        Some(attempt) => on_go_of(attempt),
+    }
+}
+
+fn on_go_of(attempt: &Attempt) -> (Verdict, Events)
+    ensures { result ≡ on_go_of attempt.now }
+{
+    if attempt.stage.is_decided() {
+        return known();
+    }
+    if attempt.can_go() {
+        return made(Event::Go(attempt.seq));
+    }
+    refused(Code::NotReady)
+}
+
+pub(crate) fn on_cancel(state: &State, cue: CueNo) -> (Verdict, Events)
+    ensures { result ≡ on_cancel state.now cue }
+{
+    if !state.show().has_cue(cue) {
+        return refused(Code::NoMethod);
+    }
+    match state.live().of_cue(cue) {
+        None => refused(Code::NotLive),
+        Some(attempt) => on_cancel_of(attempt),
+    }
+}
+
+fn on_cancel_of(attempt: &Attempt) -> (Verdict, Events)
+    ensures { result ≡ on_cancel_of attempt.now }
+{
+    if attempt.stage.is_decided() {
+        return refused(Code::Decided);
+    }
+    if attempt.stage.is_cancelling() {
+        return known();
+    }
+    made(Event::Cancel(attempt.seq, Reason::Operator))
+}
+
+pub(crate) fn on_release(state: &State, device: DeviceNo) -> (Verdict, Events)
+    ensures { result ≡ on_release state.now device }
+{
+    if !state.show().has_device(device) {
+        return refused(Code::NoMethod);
+    }
+    match state.live().of_device(device) {
+        None => refused(Code::NotLive),
+        Some(attempt) => on_release_of(attempt, device),
+    }
+}
+
+fn on_release_of(attempt: &Attempt, device: DeviceNo) -> (Verdict, Events)
+    ensures { result ≡ on_release_of device attempt.now }
+{
+    let seq = attempt.seq;
+    if attempt.stage.is_preparing() {
+        return made_by_two(
+            Event::Cancel(seq, Reason::Release),
+            Event::LetGo(seq, device),
+        );
+    }
+    if !attempt.answers.waits_for(device) {
+        return known();
+    }
+    if attempt.stage.is_decided() {
+        return made(Event::Failed(seq, device));
+    }
+    made(Event::LetGo(seq, device))
+}

@@ -1,0 +1,57 @@
+//! The laws of the exchange: what holds of every list of events and of every list of commands. Each is the contract of a function that
+//! does nothing.
+ghost use Rattle.cue_core.specs.History.{FactsByHistory};
+ghost use Rattle.cue_core.specs.Happenings.{CommandsInOrder, CommandsMakeHistories};
+ghost use Rattle.cue_core.specs.Order.{GoAfterReady};
+ghost use Rattle.cue_core.specs.Replies.{RepliesCommute, RepliesLeaveOthers};
+ghost use Rattle.cue_core.specs.Safety.{DecidedStays, NeverAskedBoth, OneHolder};
+
+/// Every state that acceptable events lead to from the empty one is what its history says: the last number is the count of the Starts;
+/// an attempt is live exactly where it started and some device of it has not answered for the last time; its devices are those of its
+/// cue at its Start; it is Decided exactly where it was decided; a device of a Preparing attempt is Ready exactly where it stood by.
+pub fn facts_by_history()
+    ensures { FactsByHistory }
+{}
+
+/// An attempt is decided only after its Start, after Ready of each of its devices, and after no Cancel; and after that it is not cancelled.
+pub fn go_after_ready()
+    ensures { GoAfterReady }
+{}
+
+/// Whatever commands, ticks and recoveries from power loss come in turn, the events that are accepted are a history: so each law on
+/// histories holds of them.
+pub fn commands_make_histories()
+    ensures { CommandsMakeHistories }
+{}
+
+/// Whatever commands, ticks and recoveries from power loss come in turn: an attempt is decided only after Ready of each of its devices
+/// was accepted, and after no Cancel; and after that no Cancel is accepted.
+pub fn commands_in_order()
+    ensures { CommandsInOrder }
+{}
+
+/// No device is ever asked to both go and cancel in one attempt: where some state of a history has the one pending, none has the other.
+pub fn never_asked_both()
+    ensures { NeverAskedBoth }
+{}
+
+/// At most one live attempt holds a device.
+pub fn one_holder()
+    ensures { OneHolder }
+{}
+
+/// A decided attempt never becomes another: it is Decided for as long as it is live.
+pub fn decided_stays()
+    ensures { DecidedStays }
+{}
+
+/// A device's reply leaves every other attempt, the show, the place and the last number as they were.
+pub fn replies_leave_others()
+    ensures { RepliesLeaveOthers }
+{}
+
+/// Two replies to one attempt by different devices, each of which would be carried out in the same state, give the same state in either
+/// order.
+pub fn replies_commute()
+    ensures { RepliesCommute }
+{}

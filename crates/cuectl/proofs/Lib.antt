@@ -1,0 +1,6 @@
+pub mod BatchLemmas
+mod CountLemmas
+pub mod HearLemmas
+mod LineLemmas
+pub mod ProgramLemmas
+mod ScriptLemmas

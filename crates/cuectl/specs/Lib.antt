@@ -1,0 +1,16 @@
+pub mod Batch
+pub mod Commands
+pub mod Controller
+pub mod Endings
+pub mod Heard
+pub mod Hearing
+pub mod Line
+pub mod LineViews
+pub mod Methods
+pub mod Playing
+pub mod Script
+pub mod Sending
+pub mod SendingViews
+pub mod Steps
+pub mod Stored
+pub mod Tallies

@@ -1,0 +1,17 @@
+-- Values of the code as the definitions see them.
+use Rattle.std.specs.Prelude.{ℕ, List}
+use Rattle.std.specs.Borrow.{Bor}
+use Rattle.cuectl.specs.Line.{Arrived}
+use Rattle.cuectl.specs.declared.script.line.Arrival.{Arrival}
+
+-- two slices as their bytes
+abbrev pub cut_view : Bor (List ℕ) × Bor (List ℕ) → List ℕ × List ℕ
+cut_view cut = (cut.0.now, cut.1.now)
+
+-- the words in front of a line, with what is left as its bytes
+abbrev pub heading_view : ℕ × ℕ × Bor (List ℕ) → ℕ × ℕ × List ℕ
+heading_view heading = (heading.0, heading.1, heading.2.now)
+
+-- an arrival with its bytes
+abbrev pub arrival_view : Arrival → Arrived
+arrival_view a = record { now = a.now; from = a.from; bytes = a.bytes.items }

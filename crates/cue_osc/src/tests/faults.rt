@@ -1,6 +1,7 @@
 //! Datagrams that are refused, each with the first fault from front to back.
 
 use super::{bytes, said, said_by};
+use crate::{Fault, WriteFault};
 use std::alloc::{AllocError, Global};
 use std::test::Fail;
 
@@ -116,5 +117,33 @@ fn eight_bundles_deep_and_no_more(rt: HostRuntime) -> Result<(), Fail> {
     let nine = nested(rt.alloc(), 8)?;
     assert_eq!(rt; nine.len(), 176);
     assert_eq!(rt; said(rt.alloc(), &nine)?.as_str(), "TooDeep");
+    Ok(())
+}
+
+#[test]
+fn faults_are_printed_in_words(rt: HostRuntime) -> Result<(), Fail> {
+    for (fault, want) in [
+        (Fault::TooLong, "the datagram is longer than 4096 bytes"),
+        (Fault::NotMultiple, "the length is no multiple of 4"),
+        (
+            Fault::BadStart,
+            "neither a message nor a bundle begins here",
+        ),
+        (Fault::BadString, "a text is cut off or badly padded"),
+        (Fault::BadBlob, "a blob is cut off or badly padded"),
+        (
+            Fault::BadSize,
+            "a number is cut off, or a size is not possible",
+        ),
+        (Fault::TooDeep, "a bundle stands inside eight others"),
+        (Fault::Trailing, "bytes follow the last argument"),
+        (Fault::Memory, "out of memory"),
+    ] {
+        assert_eq!(rt; fault.to_string(rt.alloc())?.as_str(), want);
+    }
+    let full = WriteFault::TooLong.to_string(rt.alloc())?;
+    assert_eq!(rt; full.as_str(), "the packet takes more than 4096 bytes");
+    let empty = WriteFault::Memory.to_string(rt.alloc())?;
+    assert_eq!(rt; empty.as_str(), "out of memory");
     Ok(())
 }

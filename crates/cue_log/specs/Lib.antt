@@ -6,3 +6,4 @@ pub mod Words
 pub mod Opened
 pub mod Parts
 pub mod Laws
+pub mod Faults

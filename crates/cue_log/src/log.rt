@@ -25,6 +25,11 @@ pub enum AppendFault {
 }
 
 impl fmt::Display for AppendFault {
+    ghost use Rattle.std.specs.Prelude.{Some};
+    ghost use Rattle.cue_log.specs.Faults.{append_fault_text};
+
+    ghost output = { λ fault. Some (append_fault_text fault) };
+
     fn fmt<W: fmt::Write>(&self, f: &mut fmt::Formatter<W>) -> fmt::Result {
         match self {
             AppendFault::Broken => write!(f, "the log is broken until it is opened again"),

@@ -21,6 +21,11 @@ pub enum OpenFault {
 }
 
 impl fmt::Display for OpenFault {
+    ghost use Rattle.std.specs.Prelude.{Some};
+    ghost use Rattle.cue_log.specs.Faults.{open_fault_text};
+
+    ghost output = { λ fault. Some (open_fault_text fault) };
+
     fn fmt<W: fmt::Write>(&self, f: &mut fmt::Formatter<W>) -> fmt::Result {
         match self {
             OpenFault::Absent => write!(f, "there is no area"),

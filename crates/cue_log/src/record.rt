@@ -17,6 +17,11 @@ pub enum RecordFault {
 }
 
 impl fmt::Display for RecordFault {
+    ghost use Rattle.std.specs.Prelude.{Some};
+    ghost use Rattle.cue_log.specs.Faults.{record_fault_text};
+
+    ghost output = { λ fault. Some (record_fault_text fault) };
+
     fn fmt<W: fmt::Write>(&self, f: &mut fmt::Formatter<W>) -> fmt::Result {
         match self {
             RecordFault::TooLong => write!(f, "the payload is too long for a record"),

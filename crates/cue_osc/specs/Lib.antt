@@ -6,3 +6,4 @@ pub mod Plain
 pub mod Walking
 pub mod Writing
 pub mod Laws
+pub mod Faults

@@ -42,6 +42,11 @@ pub enum WriteFault {
 }
 
 impl fmt::Display for Fault {
+    ghost use Rattle.std.specs.Prelude.{Some};
+    ghost use Rattle.cue_osc.specs.Faults.{fault_text};
+
+    ghost output = { λ fault. Some (fault_text fault) };
+
     fn fmt<W: fmt::Write>(&self, f: &mut fmt::Formatter<W>) -> fmt::Result {
         match self {
             Fault::TooLong => write!(f, "the datagram is longer than 4096 bytes"),
@@ -60,6 +65,11 @@ impl fmt::Display for Fault {
 impl Error for Fault {}
 
 impl fmt::Display for WriteFault {
+    ghost use Rattle.std.specs.Prelude.{Some};
+    ghost use Rattle.cue_osc.specs.Faults.{write_fault_text};
+
+    ghost output = { λ fault. Some (write_fault_text fault) };
+
     fn fmt<W: fmt::Write>(&self, f: &mut fmt::Formatter<W>) -> fmt::Result {
         match self {
             WriteFault::TooLong => write!(f, "the packet takes more than 4096 bytes"),

@@ -1,8 +1,7 @@
 -- A plan comes one call nearer with each call.
 use Rattle.std.proofs.Common.{◌≡◌, ℕ, ◌+◌, ◌-◌, ◌<◌, ◌≤◌, ◌==◌, nat_lt, if◌then◌else◌, Option, Some, None, Bool, ⊎_elim, sym, ◌∙◌, ap, arith}
 use Rattle.std.proofs.lemmas.Bool.{cases_eq, cases_lt, eq-eqb, ne_eqb, lt-ltb, le-ltb}
-use Rattle.cue_disk.specs.Plan.{PlanGoesOn, fate_of, fate_with, fails_at, stops_at, one_less, after_one}
-use Rattle.cue_disk.specs.declared.plan.Plan.{Plan}
+use Rattle.cue_disk.specs.Plan.{PlanGoesOn, fate_with, fails_at, one_less}
 use Rattle.cue_disk.specs.declared.plan.Fate.{Fate}
 use Rattle.cue_disk.specs.declared.plan.Fate.TheVariants.{Succeeds, Fails, Stopped}
 

@@ -1,5 +1,5 @@
 -- What a write and a sync leave of what a memory disk holds, as they were planned to end.
-use Rattle.std.specs.Prelude.{◌≤◌, ◌+◌, ◌/◌, ℕ, nat_le, nat_lt, Bool, true, false, ◌&&◌, ◌||◌, List, [], length, take}
+use Rattle.std.specs.Prelude.{◌+◌, ◌/◌, ℕ, nat_le, nat_lt, Bool, true, false, ◌&&◌, ◌||◌, List, [], length, take}
 use Rattle.cue_disk.specs.Disk.{Contents, overwritten}
 use Rattle.cue_disk.specs.declared.plan.Fate.{Fate}
 use Rattle.cue_disk.specs.declared.plan.Fate.TheVariants.{Succeeds, Fails, Stopped}

@@ -1,5 +1,5 @@
 -- Which of its next calls a memory disk fails.
-use Rattle.std.specs.Prelude.{◌≡◌, ◌<◌, ◌+◌, ◌-◌, ℕ, nat_lt, ◌==◌, if◌then◌else◌, Bool, true, false, ◌≤◌, Option, Some, None}
+use Rattle.std.specs.Prelude.{◌≡◌, ◌<◌, ◌+◌, ◌-◌, ℕ, nat_lt, ◌==◌, if◌then◌else◌, Bool, true, false, Option, Some, None}
 use Rattle.cue_disk.specs.declared.plan.Plan.{Plan}
 use Rattle.cue_disk.specs.declared.plan.Fate.{Fate}
 use Rattle.cue_disk.specs.declared.plan.Fate.TheVariants.{Succeeds, Fails, Stopped}

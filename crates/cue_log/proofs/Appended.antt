@@ -1,7 +1,7 @@
 -- The four device calls of an append, one after another: what a crash leaves at any moment of them.
-use Rattle.std.proofs.Common.{◌≡◌, inl, ℕ, ◌+◌, ◌≤◌, List, [], ◌∷◌, length, refl, sym, ◌∙◌, ap, subst, arith, length-append}
+use Rattle.std.proofs.Common.{◌≡◌, inl, ℕ, ◌+◌, ◌≤◌, List, [], ◌∷◌, length, sym, ◌∙◌, ap, subst, arith, length-append}
 use Rattle.cue_disk.specs.Disk.{Contents, IsImage, IsStable, Writes, overwritten, LeavesOnly, Elapses, Torn}
-use Rattle.cue_disk.proofs.Crash.{image_stable, image_torn}
+use Rattle.cue_disk.proofs.Crash.{image_torn}
 use Rattle.cue_disk.proofs.Moments.{started, goes_on}
 use Rattle.cue_log.specs.declared.area.TheConstants.{AREA_LIMIT}
 use Rattle.cue_log.specs.Area.{Area, IsArea, area_text, with_payload, framed}

@@ -1,10 +1,9 @@
 -- What a crash leaves while a head gate is closed.
-use Rattle.std.proofs.Common.{◌≡◌, ◌≢◌, ◌⊎◌, inl, inr, ℕ, ◌+◌, ◌<◌, ◌≤◌, List, [], ◌∷◌, length, get_or, take, drop, refl, sym, ◌∙◌, ap, subst, arith}
+use Rattle.std.proofs.Common.{◌≡◌, ◌≢◌, inl, inr, ℕ, ◌<◌, List, [], ◌∷◌, length, get_or, take, sym, ◌∙◌, ap, subst, arith}
 use Rattle.std.proofs.lemmas.Bool.{cases_eq, cases_lt}
-use Rattle.cue_disk.specs.Disk.{Contents, IsImage, IsStable, Writes, overwritten, Elapses, LeavesOnly}
+use Rattle.cue_disk.specs.Disk.{Contents, IsImage, IsStable, Writes, Elapses, LeavesOnly}
 use Rattle.cue_disk.proofs.Crash.{image_stable, torn_elsewhere}
 use Rattle.cue_disk.proofs.Moments.{started, goes_on}
-use Rattle.cue_log.specs.Area.{IsAbsent}
 use Rattle.cue_log.specs.Log.{IsOldOrAbsent, LeavesAbsent}
 use Rattle.cue_log.proofs.Filled.{not_open}
 

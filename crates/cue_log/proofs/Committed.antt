@@ -1,17 +1,14 @@
 -- What a crash leaves while a record is appended.
-use Rattle.std.proofs.Common.{◌≡◌, ◌≢◌, ◌⊎◌, inl, inr, ℕ, ◌+◌, ◌<◌, ◌≤◌, List, [], ◌∷◌, ◌++◌, length, get_or, take, drop, refl, sym, ◌∙◌, ap, subst, arith, append_assoc, length-append, length-drop}
+use Rattle.std.proofs.Common.{◌≡◌, ◌≢◌, inl, inr, ℕ, ◌+◌, ◌<◌, ◌≤◌, List, [], ◌∷◌, ◌++◌, length, get_or, take, drop, sym, ◌∙◌, ap, subst, arith, append_assoc, length-append}
 use Rattle.std.proofs.lemmas.Bool.{cases_eq}
-use Rattle.std.proofs.lemmas.List.{length-take, take_at, drop_at, take-take, take-append-le, get_or-take}
-use Rattle.cue_disk.specs.Disk.{Contents, IsImage, IsStable, Torn, Writes, overwritten, LeavesOnly, Elapses}
-use Rattle.cue_disk.proofs.Crash.{image_stable, image_torn, overwritten_torn, overwritten_within, length-overwritten}
-use Rattle.cue_disk.proofs.Moments.{started, goes_on}
-use Rattle.cue_log.specs.declared.area.TheConstants.{AREA_LIMIT, PAYLOAD_LIMIT}
+use Rattle.std.proofs.lemmas.List.{length-take, drop_at, take-take, take-append-le}
+use Rattle.cue_disk.specs.Disk.{Torn, overwritten}
+use Rattle.cue_disk.proofs.Crash.{overwritten_torn, overwritten_within, length-overwritten}
+use Rattle.cue_log.specs.declared.area.TheConstants.{AREA_LIMIT}
 use Rattle.cue_log.specs.Area.{Area, IsArea, area_text, with_payload, framed}
 use Rattle.cue_log.specs.Record.{IsFramed, payload_in}
-use Rattle.cue_log.specs.Reading.{area_in}
-use Rattle.cue_log.specs.Log.{IsSettled, IsEither}
+use Rattle.cue_log.specs.Log.{IsEither}
 use Rattle.cue_log.proofs.Texts.{split_at, reads, front_reads, area_text-push, are_records-push, length-framed}
-use Rattle.cue_log.proofs.Complete.{area_in_is}
 
 -- A text with one gate more, and what was framed behind it: the gate says whether that counts.
 module _ (area : Area) (bytes stored : List ℕ) (end : ℕ) (is : IsArea area bytes) (frame : IsFramed stored) (ends : end ≡ length (area_text area)) (room : end + 1 + length stored ≤ AREA_LIMIT) where

@@ -1,7 +1,7 @@
 -- What was read from a disk, one read after another.
-use Rattle.std.proofs.Common.{◌≡◌, ◌⊎◌, inl, inr, ℕ, min, ◌+◌, ◌≤◌, Result, Ok, Err, get_or, List, ◌++◌, length, take, drop, sym, ◌∙◌, ap, subst, arith, length-append, take-append-drop}
+use Rattle.std.proofs.Common.{◌≡◌, ◌⊎◌, inl, inr, ℕ, min, ◌+◌, ◌≤◌, Result, Ok, Err, get_or, List, ◌++◌, length, take, drop, sym, ◌∙◌, ap, subst, arith, take-append-drop}
 use Rattle.std.specs.Prelude.{IfOk, IsSome}
-use Rattle.std.proofs.lemmas.List.{length-take, take-take, drop-take, take_min}
+use Rattle.std.proofs.lemmas.List.{take-take, drop-take, take_min}
 use Rattle.cue_disk.specs.Disk.{Contents, IsImage, LeavesOnly, Elapses}
 use Rattle.cue_disk.proofs.Moments.{started, goes_on, and_then, weaker}
 use Rattle.cue_log.specs.declared.area.TheConstants.{AREA_LIMIT}

@@ -1,5 +1,5 @@
 -- What a crash leaves while an area is formed.
-use Rattle.std.proofs.Common.{◌≡◌, ◌≢◌, ◌⊎◌, inl, inr, ℕ, ◌+◌, ◌<◌, ◌≤◌, ◌^◌, List, [], ◌∷◌, ◌++◌, length, get_or, take, drop, refl, sym, ◌∙◌, ap, subst, arith, append_assoc, length-append, length-drop}
+use Rattle.std.proofs.Common.{◌≡◌, ◌≢◌, inl, inr, ℕ, ◌+◌, ◌<◌, ◌≤◌, ◌^◌, List, [], ◌∷◌, ◌++◌, length, get_or, take, drop, refl, sym, ◌∙◌, ap, subst, arith, append_assoc, length-append, length-drop}
 use Rattle.std.proofs.lemmas.Bool.{cases_eq}
 use Rattle.std.proofs.lemmas.List.{append-nil, length-take, take_at, drop_at}
 use Rattle.cue_disk.specs.Disk.{Contents, IsImage, IsStable, Torn, Writes, overwritten, LeavesOnly, Elapses}
@@ -9,7 +9,7 @@ use Rattle.cue_log.specs.declared.area.TheConstants.{AREA_LIMIT}
 use Rattle.cue_log.specs.Area.{Area, IsArea, IsAbsent, area_text, body_text, fresh, framed, eight_bytes, four_bytes}
 use Rattle.cue_log.specs.Reading.{area_in}
 use Rattle.cue_log.specs.Log.{IsSettled, IsShut, IsFilled, IsNoneOr}
-use Rattle.cue_log.proofs.Texts.{split_at, reads, length-framed, length-eight_bytes, length-four_bytes}
+use Rattle.cue_log.proofs.Texts.{split_at, reads, length-framed, length-eight_bytes}
 use Rattle.cue_log.proofs.Complete.{area_in_is}
 
 -- bytes with no open gate in front are no area

@@ -1,7 +1,7 @@
 -- What a settled disk reads as, whatever a crash leaves of it.
 use Rattle.std.proofs.Common.{◌≡◌, ◌∙◌, ap, List, ℕ, length, sym, subst, Result, Ok, Err}
 use Rattle.std.specs.Prelude.{OnOk}
-use Rattle.cue_disk.specs.Disk.{Contents, IsImage, IsStable}
+use Rattle.cue_disk.specs.Disk.{Contents, IsStable}
 use Rattle.cue_disk.proofs.Crash.{image_stable}
 use Rattle.cue_log.specs.Area.{Area, IsArea, area_text}
 use Rattle.cue_log.specs.Reading.{area_in}

@@ -1,10 +1,10 @@
 -- Area texts as lists: where they end, and which bytes read as one.
-use Rattle.std.proofs.Common.{◌≡◌, ◌≢◌, ◌⊎◌, inl, inr, ℕ, suc, ◌+◌, ◌<◌, ◌≤◌, ◌^◌, Bool, true, nat_le, List, [], ◌∷◌, ◌++◌, length, get_or, take, drop, refl, sym, ◌∙◌, ap, subst, arith, append_assoc, length-append, length-drop, take-append-drop}
+use Rattle.std.proofs.Common.{◌≡◌, ◌≢◌, ℕ, ◌+◌, ◌<◌, ◌≤◌, ◌^◌, true, nat_le, List, [], ◌∷◌, ◌++◌, length, get_or, take, drop, refl, sym, ◌∙◌, ap, arith, append_assoc, length-append, take-append-drop}
 use Rattle.std.proofs.lemmas.Bool.{and_parts, and_from}
 use Rattle.std.proofs.lemmas.Bool.Decides.{nat_tests}
-use Rattle.std.proofs.lemmas.List.{append-nil, length-take, take_at, take-take, take-append-le, get_or_at, get_or-take, drop_more}
+use Rattle.std.proofs.lemmas.List.{append-nil, length-take, take_at, take-take, get_or_at, get_or-take, drop_more}
 use Rattle.cue_log.specs.declared.area.TheConstants.{AREA_LIMIT, PAYLOAD_LIMIT}
-use Rattle.cue_log.specs.Area.{Area, IsArea, IsAbsent, area_text, records_text, are_records, framed, with_payload, body_text, four_bytes, eight_bytes}
+use Rattle.cue_log.specs.Area.{Area, IsArea, area_text, records_text, are_records, framed, with_payload, body_text, four_bytes, eight_bytes}
 
 -- a list in front of an index, at it and behind it
 pub split_at : (l : List ℕ) (n : ℕ) → n < length l → l ≡ take n l ++ get_or l n 0 ∷ drop (n + 1) l

@@ -1,5 +1,5 @@
 -- What a log knows of its disk.
-use Rattle.std.specs.Prelude.{◌≡◌, ◌≢◌, ◌⊎◌, ◌<◌, ◌≤◌, ℕ, Bool, false, List, [], ◌∷◌, ◌++◌, length, take, drop, slice_index, IsSome, ◌==◌, if◌then◌else◌}
+use Rattle.std.specs.Prelude.{◌≡◌, ◌≢◌, ◌⊎◌, ◌<◌, ◌≤◌, ℕ, false, List, [], ◌∷◌, ◌++◌, length, take, drop, slice_index, IsSome, ◌==◌, if◌then◌else◌}
 use Rattle.cue_disk.specs.Disk.{Contents, IsImage, IsStable, LeavesOnly}
 use Rattle.cue_log.specs.declared.area.TheConstants.{AREA_LIMIT}
 use Rattle.cue_log.specs.Area.{Area, IsArea, IsAbsent, area_text, body_text}

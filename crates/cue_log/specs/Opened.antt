@@ -1,5 +1,5 @@
 -- What callers see of an area that was opened.
-use Rattle.std.specs.Prelude.{◌≡◌, ℕ, List, Result, Ok, Err}
+use Rattle.std.specs.Prelude.{◌≡◌, Result, Ok, Err}
 use Rattle.cue_log.specs.Area.{Area}
 use Rattle.cue_log.specs.Words.{disk_of, generation_of}
 use Rattle.cue_log.specs.declared.opening.Opened.{Opened}

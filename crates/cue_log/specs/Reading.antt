@@ -1,5 +1,5 @@
 -- Reading an area from the front.
-use Rattle.std.specs.Prelude.{◌<◌, ◌+◌, ◌-◌, ℕ, zero, suc, nat_lt, Bool, ◌||◌, ◌==◌, if◌then◌else◌, List, [], ◌∷◌, ◌++◌, length, take, drop, Option, Some, None}
+use Rattle.std.specs.Prelude.{◌+◌, ◌-◌, ℕ, zero, suc, nat_lt, ◌||◌, ◌==◌, if◌then◌else◌, List, [], ◌∷◌, ◌++◌, length, take, drop, Option, Some, None}
 use Rattle.std.specs.Int.{from_be_bytes, w32, w64}
 use Rattle.cue_log.specs.declared.area.TheConstants.{AREA_LIMIT, PAYLOAD_LIMIT}
 use Rattle.std.specs.Option.{option_map}

@@ -1,5 +1,5 @@
 -- What callers see of a log.
-use Rattle.std.specs.Prelude.{ℕ, Bool, List, Result, Ok, Err}
+use Rattle.std.specs.Prelude.{ℕ, Bool, Result, Ok, Err}
 use Rattle.cue_disk.specs.Disk.{Contents}
 use Rattle.cue_log.specs.Area.{Area}
 use Rattle.cue_log.specs.Reading.{area_in}

@@ -1,4 +1,3 @@
-use Rattle.std.proofs.Common.{◌≡◌}
 use Rattle.cue_log.proofs.Settled.{at_ok, if_ok}
 use Rattle.cue_log.proofs.Appended.{body_leaves, sync_leaves, gate_leaves, last_leaves, area_after, settled_after}
 use Rattle.cue_log.proofs.appending.commit.Goals as goal

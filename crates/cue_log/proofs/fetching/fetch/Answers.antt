@@ -1,4 +1,4 @@
-use Rattle.std.proofs.Common.{◌≡◌, ◌≤◌, min, ◌∙◌, ap, sym, subst, arith, List, ℕ, length, take, get_or}
+use Rattle.std.proofs.Common.{◌≡◌, min, ◌∙◌, ap, sym, subst, arith, List, ℕ, length, take, get_or}
 use Rattle.std.specs.Prelude.{IfOk}
 use Rattle.cue_disk.specs.Disk.{Contents}
 use Rattle.cue_log.specs.declared.area.TheConstants.{AREA_LIMIT}

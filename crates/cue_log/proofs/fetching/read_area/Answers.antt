@@ -1,5 +1,4 @@
-use Rattle.std.proofs.Common.{◌≡◌, ◌∙◌, List, ℕ, sym, subst, length}
-use Rattle.std.specs.Option.{option_map}
+use Rattle.std.proofs.Common.{List, ℕ, sym, subst, length}
 use Rattle.cue_log.specs.Area.{IsArea}
 use Rattle.cue_log.specs.Parts.{parts_area}
 use Rattle.cue_log.proofs.Texts.{longer_reads}

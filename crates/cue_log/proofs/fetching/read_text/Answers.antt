@@ -1,4 +1,4 @@
-use Rattle.std.proofs.Common.{◌≡◌, ◌+◌, ◌≤◌, arith, ap, subst, ◌∙◌, length, List, ℕ, take, drop, ◌++◌}
+use Rattle.std.proofs.Common.{arith, ap, ◌∙◌, length, take, drop, ◌++◌}
 use Rattle.cue_disk.specs.Disk.{Contents}
 use Rattle.cue_log.proofs.Fetched.{reads_next, front_more}
 use Rattle.cue_log.proofs.fetching.read_text.Goals as goal

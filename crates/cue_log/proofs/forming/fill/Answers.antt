@@ -1,4 +1,4 @@
-use Rattle.std.proofs.Common.{◌≡◌, ◌+◌, ◌<◌, ◌≤◌, arith, sym, ◌∙◌, ap, ◌++◌, ◌∷◌, List, ℕ, length, drop, get_or, refl, length-append}
+use Rattle.std.proofs.Common.{◌≡◌, ◌+◌, ◌<◌, arith, ap, length, length-append}
 use Rattle.cue_disk.proofs.Moments.{started, goes_on}
 use Rattle.cue_log.specs.Area.{IsAbsent, eight_bytes, four_bytes}
 use Rattle.cue_log.proofs.Settled.{if_ok}

@@ -1,4 +1,4 @@
-use Rattle.std.proofs.Common.{◌≡◌, ◌+◌, ◌∙◌, sym, arith, length}
+use Rattle.std.proofs.Common.{◌≡◌, ◌∙◌, sym, arith, length}
 use Rattle.cue_log.specs.Reading.{area_of}
 use Rattle.cue_log.specs.Area.{Area}
 use Rattle.cue_log.proofs.Sound.{last_gate, few_records, sound_at}

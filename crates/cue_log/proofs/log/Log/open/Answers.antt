@@ -1,4 +1,4 @@
-use Rattle.std.proofs.Common.{◌≡◌, ◌∙◌, List, ℕ, sym, ap, subst, arith, length}
+use Rattle.std.proofs.Common.{◌≡◌, ◌∙◌, List, ℕ, sym, ap, subst, arith}
 use Rattle.cue_disk.specs.Disk.{IsImage}
 use Rattle.cue_log.specs.Area.{Area, IsArea}
 use Rattle.cue_log.specs.Reading.{area_in}

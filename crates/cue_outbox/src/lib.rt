@@ -3,12 +3,14 @@
 //! Each datagram is an OSC message with the port of this machine that it goes to. Nothing here opens a socket.
 #![tactic(auto)]
 
+mod commands;
 mod message;
 mod out;
 mod queue;
 mod replies;
 mod standing;
 
+pub use commands::pending;
 pub use out::{Bytes, Out};
 pub use queue::Queue;
 pub use replies::reply;

@@ -15,3 +15,6 @@ pub use out::{Bytes, Out};
 pub use queue::Queue;
 pub use replies::reply;
 pub use standing::status;
+
+#[cfg(test)]
+mod tests;

@@ -1,1 +1,6 @@
 pub mod Facts
+pub mod Lists
+pub mod ReadBack
+pub mod Told
+pub mod Writable
+pub mod Apart

@@ -4,6 +4,7 @@
 #![tactic(auto)]
 
 mod commands;
+pub mod laws;
 mod message;
 mod out;
 mod queue;

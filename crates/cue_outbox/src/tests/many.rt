@@ -22,7 +22,8 @@ fn add_device(rt: &impl Abort, state: &mut State, number: u8) -> Result<(), Fail
 // Each part is one byte, the number of its device.
 fn parts_of(alloc: Global, seq: u32) -> Result<Parts, Fail> {
     let mut parts = Parts::new(alloc);
-    for number in first_of(seq)..first_of(seq) + 13 {
+    let first = first_of(seq);
+    for number in first..first.saturating_add(13) {
         parts.push(Part::of(alloc, device(number)?, &[number])?)?;
     }
     Ok(parts)

@@ -17,6 +17,7 @@ use Rattle.cue_core.specs.State.{Standing, cue_parts, is_state}
 use Rattle.cue_core.specs.Pending.{Order, standby, go_2pc, cancel, bytes_for, order_at, order_for, pending}
 use Rattle.cue_core.proofs.Rules.{rules_of}
 use Rattle.cue_outbox.specs.Sending.{order, order_content, send_content, datagram, datagrams, orders, all_pending}
+use Rattle.cue_outbox.specs.Laws.{CommandsDiffer}
 use Rattle.cue_outbox.proofs.Lists.{Pairs, pairs_all, pairs_append, each_weaker, each_passes, each_fails, each_mapped, each_found, each_flat}
 use Rattle.cue_outbox.proofs.ReadBack.{read_back}
 use Rattle.cue_outbox.proofs.Told.{IsTold, live_told}
@@ -130,6 +131,6 @@ all_other : (os : List (ℕ × Order)) → AllByRecursion IsWritableOrder os →
 all_other [] ws h = tt
 all_other (o ∷ os) ws h = (each_other o os ws.0 ws.1 h.0, all_other os ws.1 h.1)
 
-pub commands-differ : (s : Standing) → IsTrue (is_state s) → AllPairs (λ x y. x ≢ y) (datagrams (all_pending s))
+pub commands-differ : CommandsDiffer
 commands-differ s h =
     pairs_all (λ x y. x ≢ y) (datagrams (all_pending s)) (all_other (pending s) (all_writable s h) (apart_all s s.live (live_told s h) (order_of s.live (rules_of s h).live)))

@@ -1,20 +1,20 @@
 -- What the rules of a state say of a live attempt.
 use Rattle.std.proofs.Common.{◌≡◌, ℕ, ◌<◌, ◌≤◌, ◌^◌, Bool, true, false, ◌&&◌, cond, List, [], ◌∷◌, length, nat_eq, nat_le, IsTrue, Option, None, Some, refl, sym, subst, arith}
-use Rattle.std.specs.Prelude.{IfSome}
+use Rattle.std.specs.Prelude.{IfSome, is_some, unwrap_or}
 use Rattle.std.specs.List.{AllByRecursion, list_all}
 use Rattle.std.specs.Option.{option_map_or}
 use Rattle.std.specs.Cmp.Lexicographic.{pointwise, bytes_decides}
 use Rattle.std.proofs.lemmas.Bool.{and_parts, leb-true}
 use Rattle.cue_osc.specs.Spelling.{IsText}
 use Rattle.cue_show.specs.Bytes.{are_bytes}
-use Rattle.cue_show.specs.DeviceNumber.{is_device}
+use Rattle.cue_show.specs.DeviceNumber.{is_device, is_port}
 use Rattle.cue_show.specs.Devices.{distinct, devices_in}
 use Rattle.cue_show.specs.Number.{is_cue_number}
 use Rattle.cue_show.specs.Parts.{is_part, are_parts}
-use Rattle.cue_show.specs.Show.{parts_of, are_known, is_show, is_cue_of}
+use Rattle.cue_show.specs.Show.{ShowLists, port_of, parts_of, has_device, are_known, is_entry, is_show, is_cue_of}
 use Rattle.cue_show.specs.declared.limits.TheConstants.{LAST_DEVICE, MAX_PARTS, MAX_PART_BYTES}
 use Rattle.cue_show.specs.declared.part.Part.{Part}
-use Rattle.cue_show.proofs.ChangeLemmas.{is_cue_of-parts_of}
+use Rattle.cue_show.proofs.ChangeLemmas.{is_cue_of-parts_of, is_entry-port_of}
 use Rattle.cue_exchange.specs.declared.attempt.DeviceAnswer.{DeviceAnswer}
 use Rattle.cue_exchange.specs.declared.attempt.Attempt.{Attempt}
 use Rattle.cue_exchange.specs.declared.limits.TheConstants.{LAST_NUMBER}
@@ -35,6 +35,7 @@ pub record IsTold (s : Standing) (a : Attempt) : Type 0 where
   pub short : length a.cue ≤ 16
   pub part : (d : ℕ) → length (bytes_for d (cue_parts s.show a.cue)) ≤ 32
   pub devices : AllByRecursion (λ (x : DeviceAnswer). x.device < 2 ^ 31) a.answers
+  pub ports : AllByRecursion (λ (x : DeviceAnswer). IsTrue (is_port (unwrap_or (port_of s.show x.device) 0))) a.answers
   pub distinct : IsTrue (distinct (devices_of a.answers))
 
 part_short : (d : ℕ) (parts : List Part) → IsTrue (list_all is_part parts) → length (bytes_for d parts) ≤ 32
@@ -61,12 +62,19 @@ each_part parts h =
     let few = and_parts (nat_le (length parts) MAX_PARTS) (distinct (devices_in parts) && list_all is_part parts) some.1 in
     (and_parts (distinct (devices_in parts)) (list_all is_part parts) few.1).1
 
-devices_small : (answers : List DeviceAnswer) (parts : List Part) → devices_of answers ≡ devices_in parts → IsTrue (list_all is_part parts) → AllByRecursion (λ (x : DeviceAnswer). x.device < 2 ^ 31) answers
-devices_small answers parts same h =
-    let of_parts : IsTrue (list_all is_device (devices_in parts)) = all_map is_device (λ p. p.device) parts (all_weaker is_part (λ p. is_device p.device) part_device parts h) in
-    let small : AllByRecursion (λ d. d < 2 ^ 31) (devices_in parts) = each_weaker (λ d. IsTrue (is_device d)) (λ d. d < 2 ^ 31) device_small (devices_in parts) (each_passes is_device (devices_in parts) of_parts) in
-    let P : List ℕ → Type 0 = AllByRecursion (λ d. d < 2 ^ 31) in
-    each_mapped (λ d. d < 2 ^ 31) (λ x. x.device) answers (subst P (sym same) small)
+-- what holds of each device of the parts, of each device of the attempt
+devices_each : (test : ℕ → Bool) (answers : List DeviceAnswer) (parts : List Part) → devices_of answers ≡ devices_in parts → IsTrue (list_all (λ p. test p.device) parts)
+    → AllByRecursion (λ (x : DeviceAnswer). IsTrue (test x.device)) answers
+devices_each test answers parts same h =
+    let P : List ℕ → Type 0 = AllByRecursion (λ d. IsTrue (test d)) in
+    each_mapped (λ d. IsTrue (test d)) (λ x. x.device) answers (subst P (sym same) (each_passes test (devices_in parts) (all_map test (λ p. p.device) parts h)))
+
+port_good : (show : ShowLists) (d : ℕ) → IsTrue (is_show show) → IsTrue (has_device show d) → IsTrue (is_port (unwrap_or (port_of show d) 0))
+port_good show d rules there = by (port_of show d) (is_entry-port_of show d rules) there
+  where
+    by : (o : Option ℕ) → IfSome o (λ port. IsTrue (is_entry (d, port))) → IsTrue (is_some o) → IsTrue (is_port (unwrap_or o 0))
+    by None entry there = absurd cc
+    by (Some port) entry there = (and_parts (is_device d) (is_port port) entry).1
 
 -- an attempt has a number and distinct devices
 record IsNumbered (a : Attempt) : Type 0 where
@@ -93,14 +101,21 @@ told s a rules attempt at = by (parts_of s.show a.cue) refl (is_cue_of-parts_of 
     by None e cue same = absurd cc
     by (Some parts) e cue same =
         let c = and_parts (is_cue_number a.cue) (are_parts parts && are_known s.show parts) cue in
-        let each = each_part parts (and_parts (are_parts parts) (are_known s.show parts) c.1).0 in
+        let p = and_parts (are_parts parts) (are_known s.show parts) c.1 in
+        let each = each_part parts p.0 in
+        let devices : devices_of a.answers ≡ devices_in parts = (bytes_decides (devices_of a.answers) (devices_in parts)).0 same in
         let n = numbered a attempt in
         record {
           number = n.number;
           text = number_text a.cue c.0;
           short = number_short a.cue c.0;
           part = λ d. rw e (part_short d parts each);
-          devices = devices_small a.answers parts ((bytes_decides (devices_of a.answers) (devices_in parts)).0 same) each;
+          devices =
+              each_weaker (λ (x : DeviceAnswer). IsTrue (is_device x.device)) (λ x. x.device < 2 ^ 31) (λ x. device_small x.device) a.answers
+              (devices_each is_device a.answers parts devices (all_weaker is_part (λ q. is_device q.device) part_device parts each));
+          ports =
+              each_weaker (λ (x : DeviceAnswer). IsTrue (has_device s.show x.device)) (λ x. IsTrue (is_port (unwrap_or (port_of s.show x.device) 0)))
+              (λ x. port_good s.show x.device rules) a.answers (devices_each (has_device s.show) a.answers parts devices p.1);
           distinct = n.distinct;
         }
 

@@ -1,8 +1,9 @@
--- Each pending command can be written, and is read again.
+-- Each pending command can be written, is read again, and goes to a port.
 use Rattle.std.proofs.Common.{ℕ, ◌<◌, ◌≤◌, ◌^◌, Bool, true, false, cond, List, length, IsTrue, None, Some}
 use Rattle.std.specs.Prelude.{IfSome, unwrap_or}
 use Rattle.std.specs.List.{AllByRecursion, filter_map}
 use Rattle.cue_osc.specs.Spelling.{IsText}
+use Rattle.cue_show.specs.DeviceNumber.{is_port}
 use Rattle.cue_show.specs.Show.{port_of}
 use Rattle.cue_exchange.specs.declared.attempt.Stage.{Stage}
 use Rattle.cue_exchange.specs.declared.attempt.Stage.TheVariants.{Preparing, Decided, Cancelling}
@@ -11,8 +12,8 @@ use Rattle.cue_exchange.specs.declared.attempt.Attempt.{Attempt}
 use Rattle.cue_exchange.specs.Answers.{waits}
 use Rattle.cue_core.specs.State.{Standing, cue_parts, is_state}
 use Rattle.cue_core.specs.Pending.{Order, bytes_for, order_at, order_for, pending}
-use Rattle.cue_outbox.specs.Sending.{order, order_content, send_content, all_pending}
-use Rattle.cue_outbox.specs.Laws.{IsReadBack}
+use Rattle.cue_outbox.specs.Sending.{Send, order, order_content, send_content}
+use Rattle.cue_outbox.specs.Laws.{IsReadBack, CommandsAreRead, CommandsHavePorts}
 use Rattle.cue_outbox.proofs.ReadBack.{IsWritable, read_back, standby_writable, go_2pc_writable, cancel_writable}
 use Rattle.cue_outbox.proofs.Lists.{each_weaker, each_map, each_found, each_flat}
 use Rattle.cue_outbox.proofs.Told.{IsTold, live_told}
@@ -48,5 +49,17 @@ order_read : (o : ℕ × Order) → IsWritableOrder o → IsReadBack (order o.1)
 unfolding send_content
 order_read o w = read_back (order_content o.1) w
 
-pub commands-are-read : (s : Standing) → IsTrue (is_state s) → AllByRecursion (λ x. IsReadBack x.1) (all_pending s)
+pub commands-are-read : CommandsAreRead
 commands-are-read s h = each_map (λ x. IsReadBack x.1) (λ (o : ℕ × Order). (o.0, order o.1)) (pending s) (each_weaker IsWritableOrder (λ o. IsReadBack (order o.1)) order_read (pending s) (all_writable s h))
+
+-- ---- each goes to a port
+
+port_for : (s : Standing) (a : Attempt) → IsTold s a → AllByRecursion (λ (o : ℕ × Order). IsTrue (is_port o.0)) (filter_map (order_for s a) a.answers)
+port_for s a t =
+    each_found (λ (x : DeviceAnswer). IsTrue (is_port (unwrap_or (port_of s.show x.device) 0))) (λ (o : ℕ × Order). IsTrue (is_port o.0)) (order_for s a)
+    (λ x port. if_waits (waits x) (sent s a x) (λ (o : ℕ × Order). IsTrue (is_port o.0)) port) a.answers t.ports
+
+pub commands-have-ports : CommandsHavePorts
+commands-have-ports s h =
+    each_map (λ (x : ℕ × Send). IsTrue (is_port x.0)) (λ (o : ℕ × Order). (o.0, order o.1)) (pending s)
+    (each_flat (IsTold s) (λ (o : ℕ × Order). IsTrue (is_port o.0)) (λ a. filter_map (order_for s a) a.answers) (λ a t. port_for s a t) s.live (live_told s h))

@@ -4,6 +4,7 @@ use Rattle.std.specs.List.{AllByRecursion, AllPairs}
 use Rattle.cue_osc.specs.Spelling.{IsText}
 use Rattle.cue_osc.specs.Reading.{datagram_at}
 use Rattle.cue_osc.specs.Writing.{text_of}
+use Rattle.cue_show.specs.DeviceNumber.{is_port}
 use Rattle.cue_core.specs.State.{Standing, is_state}
 use Rattle.cue_outbox.specs.Sending.{Send, answer, send_content, datagrams, status_of, all_pending}
 
@@ -23,6 +24,10 @@ StatusIsRead = (s : Standing) → IsTrue (is_state s) → IsReadBack (status_of 
 -- each pending command is
 abbrev pub CommandsAreRead : Type 0
 CommandsAreRead = (s : Standing) → IsTrue (is_state s) → AllByRecursion (λ (x : ℕ × Send). IsReadBack x.1) (all_pending s)
+
+-- each pending command goes to a port of 1 to 65,535
+abbrev pub CommandsHavePorts : Type 0
+CommandsHavePorts = (s : Standing) → IsTrue (is_state s) → AllByRecursion (λ (x : ℕ × Send). IsTrue (is_port x.0)) (all_pending s)
 
 -- no two pending commands are the same datagram
 abbrev pub CommandsDiffer : Type 0

@@ -1,9 +1,9 @@
 -- No two pending commands are for the same device in the same attempt, so no two are the same datagram.
-use Rattle.std.proofs.Common.{◌≡◌, ◌≢◌, ℕ, ◌<◌, pos, Bool, true, false, not, ◌&&◌, cond, List, [], ◌∷◌, nat_eq, nat_lt, IsTrue, Option, None, Some, Ok, refl, sym, ap, ◌∙◌, arith}
-use Rattle.std.specs.List.{AllByRecursion, AllPairs, list_all, list_any, filter_map, flat_map, cons_option}
+use Rattle.std.proofs.Common.{◌≡◌, ◌≢◌, ℕ, ◌<◌, pos, Bool, true, false, not, cond, List, [], ◌∷◌, nat_eq, nat_lt, IsTrue, None, Some, Ok, refl, sym, ap, ◌∙◌, arith}
+use Rattle.std.specs.List.{AllByRecursion, list_all, list_any, filter_map, flat_map, cons_option}
 use Rattle.std.proofs.lemmas.Bool.{and_parts, ltb-true, eqb-false, not-true}
-use Rattle.cue_osc.specs.Argument.{Argument, int, text, blob}
-use Rattle.cue_osc.specs.Content.{Content, message, discarded, bundle}
+use Rattle.cue_osc.specs.Argument.{Argument, int}
+use Rattle.cue_osc.specs.Content.{Content, message}
 use Rattle.cue_osc.specs.Reading.{datagram_at}
 use Rattle.cue_show.specs.Devices.{distinct}
 use Rattle.cue_exchange.specs.declared.attempt.Stage.{Stage}
@@ -13,7 +13,7 @@ use Rattle.cue_exchange.specs.declared.attempt.Attempt.{Attempt}
 use Rattle.cue_exchange.specs.Answers.{devices_of, waits}
 use Rattle.cue_exchange.specs.Live.{disjoint, pairwise, goes_before}
 use Rattle.cue_exchange.proofs.LiveRules.{order_of}
-use Rattle.cue_core.specs.State.{Standing, cue_parts, is_state}
+use Rattle.cue_core.specs.State.{Standing, cue_parts}
 use Rattle.cue_core.specs.Pending.{Order, standby, go_2pc, cancel, bytes_for, order_at, order_for, pending}
 use Rattle.cue_core.proofs.Rules.{rules_of}
 use Rattle.cue_outbox.specs.Sending.{order, order_content, send_content, datagram, datagrams, orders, all_pending}
@@ -70,9 +70,11 @@ apart_within s a (x ∷ xs) h =
     onto (waits x) (others_told s a x.device xs (not-true (list_any (λ e. nat_eq e x.device) (devices_of xs)) k.0)) (apart_within s a xs k.1)
   where
     onto : (b : Bool) → AllByRecursion (λ (o : ℕ × Order). (key o.1).1 ≡ x.device → ⊥) (told_to s a xs) → Pairs Apart (told_to s a xs) → Pairs Apart (cons_option (cond b (Some (sent s a x)) None) (told_to s a xs))
-    onto true others rest =
-        (each_weaker (λ (o : ℕ × Order). (key o.1).1 ≡ x.device → ⊥) (Apart (sent s a x))
-        (λ o other same. other (ap (λ (k : ℕ × ℕ). k.1) (sym same ∙ key_sent s a x))) (told_to s a xs) others, rest)
+    onto true others rest = (
+      each_weaker (λ (o : ℕ × Order). (key o.1).1 ≡ x.device → ⊥) (Apart (sent s a x))
+          (λ o other same. other (ap (λ (k : ℕ × ℕ). k.1) (sym same ∙ key_sent s a x))) (told_to s a xs) others,
+      rest,
+    )
     onto false others rest = rest
 
 -- ---- between attempts

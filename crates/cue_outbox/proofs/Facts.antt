@@ -10,7 +10,7 @@ use Rattle.cue_show.specs.declared.limits.TheConstants.{MAX_CUE_BYTES}
 use Rattle.cue_show.proofs.RunsLemmas.{runs_from, runs_from-start}
 use Rattle.cue_exchange.specs.declared.attempt.Attempt.{Attempt}
 use Rattle.cue_exchange.specs.declared.limits.TheConstants.{LAST_NUMBER, MAX_LIVE}
-use Rattle.cue_exchange.specs.Live.{attempt_of, is_number, are_live}
+use Rattle.cue_exchange.specs.Live.{is_number, are_live}
 use Rattle.cue_exchange.proofs.LiveRules.{room_of}
 use Rattle.cue_core.specs.declared.event.Ended.{Ended}
 use Rattle.cue_core.specs.State.{Standing, is_state, is_ended}

@@ -1,4 +1,5 @@
 pub mod Facts
+pub mod Fronts
 pub mod Lists
 pub mod ReadBack
 pub mod Told

@@ -1,5 +1,5 @@
 -- What holds of each element of a list, and of every two.
-use Rattle.std.proofs.Common.{◌≡◌, ℕ, ◌<◌, Bool, true, false, ◌&&◌, ◌||◌, List, [], ◌∷◌, ◌++◌, length, map, IsTrue, Option, None, Some, refl, arith}
+use Rattle.std.proofs.Common.{◌≡◌, Bool, true, false, ◌||◌, List, [], ◌∷◌, ◌++◌, map, IsTrue, Option, None, Some, refl, arith}
 use Rattle.std.specs.Prelude.{IfSome}
 use Rattle.std.specs.List.{AllByRecursion, AllPairs, list_all, list_any, filter_map, flat_map, cons_option}
 use Rattle.std.proofs.lemmas.Bool.{and_parts}

@@ -1,20 +1,18 @@
 -- What is sent can be written, and is read again as what was meant.
-use Rattle.std.proofs.Common.{◌≡◌, ℕ, zero, suc, ◌+◌, ◌-◌, ◌%◌, ◌^◌, ◌<◌, ◌≤◌, lit≤, pos, true, ◌&&◌, IsTrue, List, [], ◌∷◌, ◌++◌, length, take, Option, Some, None, Ok, rules, arith}
-use Rattle.std.specs.Prelude.{FitsSigned, IfSome, is_some, unwrap_or, codes}
+use Rattle.std.proofs.Common.{◌≡◌, ℕ, zero, suc, ◌^◌, ◌<◌, ◌≤◌, lit≤, pos, ◌&&◌, IsTrue, List, [], ◌∷◌, length, take, Option, Some, None, Ok, rules, arith}
+use Rattle.std.specs.Prelude.{FitsSigned, IfSome, is_some, unwrap_or}
 use Rattle.std.proofs.lemmas.Bool.{and_parts}
 use Rattle.std.specs.Int.{w32}
-use Rattle.std.specs.List.{AllByRecursion}
 use Rattle.std.proofs.lemmas.Int.{ints}
 use Rattle.std.proofs.lemmas.List.{length-append, length-replicate, length-take}
-use Rattle.cue_osc.specs.Argument.{Argument, int, text, blob}
-use Rattle.cue_osc.specs.Content.{Content, message}
-use Rattle.cue_osc.specs.Spelling.{IsText, osc_string, osc_blob}
+use Rattle.cue_osc.specs.Content.{Content}
+use Rattle.cue_osc.specs.Spelling.{IsText}
 use Rattle.cue_osc.specs.Plain.{IsPlain}
 use Rattle.cue_osc.specs.Reading.{datagram_at}
 use Rattle.cue_osc.specs.Writing.{text_of, IsInRange}
 use Rattle.cue_osc.proofs.Written.{text_spells}
 use Rattle.cue_osc.proofs.Packets.{datagram_again}
-use Rattle.cue_core.specs.Pending.{Order, standby, go_2pc, cancel}
+use Rattle.cue_core.specs.Pending.{standby, go_2pc, cancel}
 use Rattle.cue_exchange.specs.declared.attempt.Outcome.{Outcome}
 use Rattle.cue_exchange.specs.declared.attempt.Outcome.TheVariants as outcomes
 use Rattle.cue_show.specs.declared.part.Part.{Part}
@@ -26,7 +24,7 @@ use Rattle.cue_show.proofs.ShowLemmas.{show_rules}
 use Rattle.cue_core.specs.declared.event.Ended.{Ended}
 use Rattle.cue_core.specs.State.{Standing, is_state}
 use Rattle.cue_core.proofs.Rules.{rules_of}
-use Rattle.cue_outbox.specs.Sending.{Send, answer, status, order_content, send_content, status_of, ended_number, ended_outcome, outcome_number}
+use Rattle.cue_outbox.specs.Sending.{answer, status, order_content, send_content, status_of, ended_number, ended_outcome, outcome_number}
 use Rattle.cue_outbox.specs.Laws.{RepliesAreRead, StatusIsRead}
 use Rattle.cue_outbox.proofs.Facts.{number_text, number_short, last_fits, live_fits, ended_fits}
 

@@ -1,0 +1,4 @@
+pub mod Sending
+pub mod Owed
+pub mod Laws
+pub mod Views

@@ -1,0 +1,21 @@
+-- The commands that are owed, as datagrams: to one device, and to some devices of an attempt.
+use Rattle.std.specs.Prelude.{ℕ, List, Option}
+use Rattle.std.specs.List.{filter_map, flat_map}
+use Rattle.std.specs.Option.{option_map}
+use Rattle.cue_exchange.specs.declared.attempt.DeviceAnswer.{DeviceAnswer}
+use Rattle.cue_exchange.specs.declared.attempt.Attempt.{Attempt}
+use Rattle.cue_core.specs.State.{Standing}
+use Rattle.cue_core.specs.Pending.{order_for}
+use Rattle.cue_outbox.specs.Sending.{order, orders, datagram, datagrams}
+
+-- the datagram to a device, where it is still to answer
+abbrev pub datagram_for : Standing → Attempt → DeviceAnswer → Option (ℕ × List ℕ)
+datagram_for s a x = option_map (λ o. datagram (o.0, order o.1)) (order_for s a x)
+
+-- the datagrams to those devices of the attempt
+abbrev pub datagrams_for : Standing → Attempt → List DeviceAnswer → List (ℕ × List ℕ)
+datagrams_for s a xs = datagrams (orders (filter_map (order_for s a) xs))
+
+-- the datagrams to the devices of those attempts
+abbrev pub datagrams_in : Standing → List Attempt → List (ℕ × List ℕ)
+datagrams_in s attempts = datagrams (orders (flat_map (λ a. filter_map (order_for s a) a.answers) attempts))

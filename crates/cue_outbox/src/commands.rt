@@ -1,0 +1,150 @@
+//! The commands that the devices are still to answer.
+ghost use Rattle.std.specs.Prelude.{◌≡◌, ◌≤◌, ◌++◌, IfOk, OnOk, IsTrue, length};
+ghost use Rattle.std.specs.List.{list_all};
+ghost use Rattle.std.specs.Option.{option_map};
+ghost use Rattle.cue_osc.specs.Spelling.{IsText};
+ghost use Rattle.cue_show.specs.Parts.{is_part};
+ghost use Rattle.cue_core.specs.State.{cue_parts};
+ghost use Rattle.cue_core.specs.Pending.{bytes_for, order_at, standby, go_2pc, cancel};
+ghost use Rattle.cue_outbox.specs.Sending.{all_pending, datagram, datagrams, order};
+ghost use Rattle.cue_outbox.specs.Owed.{datagram_for, datagrams_for};
+ghost use Rattle.cue_outbox.specs.Views.{out_view, outs_view};
+
+use crate::message::{int, written};
+use crate::out::Out;
+use cue_core::State;
+use cue_exchange::attempt::{Attempt, DeviceAnswer, Stage};
+use cue_osc::Arg;
+use cue_show::{CueNo, DeviceNo, Part, Show};
+use std::alloc::{AllocError, Global};
+
+/// The commands that the devices are still to answer: for each live attempt by rising number, for each device that has not answered yet, in part
+/// order, the command of the attempt's stage, to the device's port.
+pub fn pending(alloc: Global, state: &State) -> Result<Vec<Out>, AllocError>
+    ensures { IfOk result (λ outs. outs_view outs.items ≡ datagrams (all_pending state.now)) }
+{
+    let mut outs = Vec::new(alloc);
+    for attempt in state.live().as_slice() {
+        push_orders(alloc, &mut outs, state, attempt)?;
+    }
+    Ok(outs)
+}
+
+// Puts the commands of an attempt behind the others.
+fn push_orders(
+    alloc: Global,
+    outs: &mut Vec<Out>,
+    state: &State,
+    attempt: &Attempt,
+) -> Result<(), AllocError>
+    requires { attempt.now.seq ≤ 2147483647 }
+    ensures { OnOk result (outs_view outs.new.items ≡ outs_view outs.old.items ++ datagrams_for state.now attempt.now attempt.now.answers) }
+{
+    for answer in attempt.answers.as_slice() {
+        if let Some(out) = order_for(alloc, state, attempt, *answer)? {
+            outs.push(out)?;
+        }
+    }
+    Ok(())
+}
+
+// The command to a device, where it is still to answer. Each device of a live attempt is in the table.
+fn order_for(
+    alloc: Global,
+    state: &State,
+    attempt: &Attempt,
+    answer: DeviceAnswer,
+) -> Result<Option<Out>, AllocError>
+    requires { attempt.now.seq ≤ 2147483647 }
+    ensures { IfOk result (λ out. option_map out_view out ≡ datagram_for state.now attempt.now answer) }
+{
+    if !answer.answer.is_waiting() {
+        return Ok(None);
+    }
+    let to = state.show().port(answer.device).unwrap_or(0);
+    let out = order_at(alloc, to, state.show(), attempt, answer.device)?;
+    Ok(Some(out))
+}
+
+// The command of the attempt's stage.
+fn order_at(
+    alloc: Global,
+    to: u16,
+    show: &Show,
+    attempt: &Attempt,
+    device: DeviceNo,
+) -> Result<Out, AllocError>
+    requires { attempt.now.seq ≤ 2147483647 }
+    ensures { IfOk result (λ out. out_view out ≡ datagram (to, order (order_at attempt.now.stage attempt.now.seq device attempt.now.cue (bytes_for device (cue_parts show.now attempt.now.cue))))) }
+{
+    let (seq, cue) = (attempt.seq, attempt.cue);
+    match attempt.stage {
+        Stage::Preparing => standby(alloc, to, seq, device, cue, part_of(show, cue, device)),
+        Stage::Decided => go_2pc(alloc, to, seq, device),
+        Stage::Cancelling(_) => cancel(alloc, to, seq, device),
+    }
+}
+
+// The bytes of the device's part of the cue.
+fn part_of(show: &Show, cue: CueNo, device: DeviceNo) -> &[u8]
+    ensures value { result.now ≡ bytes_for device (cue_parts show.now cue) }
+    ensures short { length result.now ≤ 32 }
+{
+    match show.parts(cue) {
+        Some(parts) => bytes_for(parts.as_slice(), device),
+        None => &[],
+    }
+}
+
+fn bytes_for(parts: &[Part], device: DeviceNo) -> &[u8]
+    requires { IsTrue (list_all is_part parts.now) }
+    ensures value { result.now ≡ bytes_for device parts.now }
+    ensures short { length result.now ≤ 32 }
+{
+    for part in parts {
+        if part.device == device {
+            return part.bytes.as_slice();
+        }
+    }
+    &[]
+}
+
+#[tactic(auto, using(crate::proofs::Facts::number_text, crate::proofs::Facts::number_short), unfolding(crate::specs::Sending::send_content, crate::specs::Sending::order_content, crate::specs::Sending::datagram))]
+fn standby(
+    alloc: Global,
+    to: u16,
+    seq: u32,
+    device: DeviceNo,
+    cue: CueNo,
+    bytes: &[u8],
+) -> Result<Out, AllocError>
+    requires number { seq ≤ 2147483647 }
+    requires short { length bytes.now ≤ 32 }
+    ensures { IfOk result (λ out. out_view out ≡ datagram (to, order (standby seq device cue bytes.now))) }
+{
+    let args = vec![in alloc;
+        int(seq),
+        int(u32::from(device.number())),
+        Arg::Text(cue.text()),
+        Arg::Blob(bytes),
+    ]?;
+    written(alloc, to, b"/msc/standby", args)
+}
+
+#[tactic(auto, unfolding(crate::specs::Sending::send_content, crate::specs::Sending::order_content, crate::specs::Sending::datagram))]
+fn go_2pc(alloc: Global, to: u16, seq: u32, device: DeviceNo) -> Result<Out, AllocError>
+    requires { seq ≤ 2147483647 }
+    ensures { IfOk result (λ out. out_view out ≡ datagram (to, order (go_2pc seq device))) }
+{
+    let args = vec![in alloc; int(seq), int(u32::from(device.number()))]?;
+    written(alloc, to, b"/msc/go_2pc", args)
+}
+
+#[tactic(auto, unfolding(crate::specs::Sending::send_content, crate::specs::Sending::order_content, crate::specs::Sending::datagram))]
+fn cancel(alloc: Global, to: u16, seq: u32, device: DeviceNo) -> Result<Out, AllocError>
+    requires { seq ≤ 2147483647 }
+    ensures { IfOk result (λ out. out_view out ≡ datagram (to, order (cancel seq device))) }
+{
+    let args = vec![in alloc; int(seq), int(u32::from(device.number()))]?;
+    written(alloc, to, b"/msc/cancel", args)
+}

@@ -1,0 +1,27 @@
+//! Laws of what is sent, each the contract of a function that does nothing.
+ghost use Rattle.cue_outbox.specs.Laws.{CommandsAreRead, CommandsDiffer, CommandsHavePorts, RepliesAreRead, StatusIsRead};
+
+/// Each reply that `reply` gives is read by `cue_osc` as what was meant.
+pub fn replies_are_read()
+    ensures { RepliesAreRead }
+{}
+
+/// The status of each state is read by `cue_osc` as what was meant.
+pub fn status_is_read()
+    ensures { StatusIsRead }
+{}
+
+/// Each command that `pending` gives is read by `cue_osc` as what was meant.
+pub fn commands_are_read()
+    ensures { CommandsAreRead }
+{}
+
+/// Each command that `pending` gives goes to a port, since each device of a live attempt is in the table.
+pub fn commands_have_ports()
+    ensures { CommandsHavePorts }
+{}
+
+/// No two of the commands that `pending` gives are the same datagram.
+pub fn commands_differ()
+    ensures { CommandsDiffer }
+{}

@@ -1,0 +1,21 @@
+//! What a cue controller sends: replies, the status, and the commands that the devices are still to answer.
+//!
+//! Each datagram is an OSC message with the port of this machine that it goes to. Nothing here opens a socket.
+#![tactic(auto)]
+
+mod commands;
+pub mod laws;
+mod message;
+mod out;
+mod queue;
+mod replies;
+mod standing;
+
+pub use commands::pending;
+pub use out::{Bytes, Out};
+pub use queue::Queue;
+pub use replies::reply;
+pub use standing::status;
+
+#[cfg(test)]
+mod tests;

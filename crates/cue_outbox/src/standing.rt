@@ -1,0 +1,96 @@
+//! The status: how a state stands.
+ghost use Rattle.std.specs.Prelude.{◌≡◌, ◌≤◌, [], IfOk, length, unwrap_or};
+ghost use Rattle.cue_osc.specs.Spelling.{IsText};
+ghost use Rattle.cue_outbox.specs.Sending.{datagram, ended_number, ended_outcome, outcome_number, status_of};
+ghost use Rattle.cue_outbox.specs.Views.{out_view};
+
+use crate::message::{int, written};
+use crate::out::Out;
+use cue_core::{Ended, State};
+use cue_exchange::attempt::Outcome;
+use cue_osc::Arg;
+use cue_show::CueNo;
+use std::alloc::{AllocError, Global};
+
+#[tactic(auto, unfolding(crate::specs::Sending::send_content, crate::specs::Sending::datagram, crate::specs::Sending::status_of))]
+/// The status: the last number that was drawn, the place, how many attempts are live, and which attempt ended last, and how.
+pub fn status(alloc: Global, to: u16, state: &State) -> Result<Out, AllocError>
+    ensures { IfOk result (λ out. out_view out ≡ datagram (to, status_of state.now)) }
+{
+    let place = state.show().place();
+    let args = vec![in alloc;
+        int(last_number(state)),
+        Arg::Text(text_of(&place)),
+        int(live_count(state)),
+        int(last_ended(state)),
+        int(ended_outcome(state.ended())),
+    ]?;
+    written(alloc, to, b"/status", args)
+}
+
+#[tactic(auto, using(crate::proofs::Facts::last_fits))]
+fn last_number(state: &State) -> u32
+    ensures value { result ≡ state.now.last_seq }
+    ensures range { result ≤ 2147483647 }
+{
+    state.last_seq()
+}
+
+#[tactic(auto, using(crate::proofs::Facts::number_text, crate::proofs::Facts::number_short))]
+// The text of the place; empty where there is none.
+fn text_of(place: &Option<CueNo>) -> &[u8]
+    ensures value { result.now ≡ unwrap_or place.now [] }
+    ensures text { IsText result.now }
+    ensures short { length result.now ≤ 16 }
+{
+    match place {
+        Some(cue) => cue.text(),
+        None => &[],
+    }
+}
+
+#[tactic(auto, using(crate::proofs::Facts::live_fits))]
+fn live_count(state: &State) -> u32
+    ensures value { result ≡ length state.now.live }
+    ensures range { result ≤ 8 }
+{
+    state.live().len() as u32
+}
+
+#[tactic(auto, using(crate::proofs::Facts::ended_fits))]
+fn last_ended(state: &State) -> u32
+    ensures value { result ≡ ended_number state.now.ended }
+    ensures range { result ≤ 2147483647 }
+{
+    ended_number(state.ended())
+}
+
+fn ended_number(ended: Option<Ended>) -> u32
+    ensures { result ≡ ended_number ended }
+{
+    match ended {
+        Some(ended) => ended.seq,
+        None => 0,
+    }
+}
+
+fn ended_outcome(ended: Option<Ended>) -> u32
+    ensures value { result ≡ ended_outcome ended }
+    ensures range { result ≤ 3 }
+{
+    match ended {
+        Some(ended) => outcome_number(ended.outcome),
+        None => 0,
+    }
+}
+
+fn outcome_number(outcome: Outcome) -> u32
+    ensures value { result ≡ outcome_number outcome }
+    ensures range { result ≤ 3 }
+{
+    match outcome {
+        Outcome::Complete => 1,
+        Outcome::Cancelled => 2,
+        Outcome::Failed => 3,
+    }
+}

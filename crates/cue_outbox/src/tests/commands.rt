@@ -1,0 +1,87 @@
+//! The commands that the devices are still to answer.
+use super::{Step, Wanted, expect_pending};
+use cue_core::State;
+use cue_exchange::attempt::Reason;
+use std::test::Fail;
+
+const STANDBY_3: Wanted = (
+    9001,
+    "2f6d73632f7374616e64627900000000 2c69697362000000 00000001 00000003 31000000 00000002 0a0b0000",
+);
+
+const STANDBY_4: Wanted = (
+    9002,
+    "2f6d73632f7374616e64627900000000 2c69697362000000 00000001 00000004 31000000 00000000",
+);
+
+const GO_3: Wanted = (9001, "2f6d73632f676f5f32706300 2c696900 00000001 00000003");
+
+const GO_4: Wanted = (9002, "2f6d73632f676f5f32706300 2c696900 00000001 00000004");
+
+const CANCEL_3: Wanted = (9001, "2f6d73632f63616e63656c00 2c696900 00000001 00000003");
+
+const CANCEL_4: Wanted = (9002, "2f6d73632f63616e63656c00 2c696900 00000001 00000004");
+
+// Events after the show, and what is pending then.
+type Row = (&'static [Step], &'static [Wanted]);
+
+const ROWS: [Row; 10] = [
+    (&[], &[]),
+    (&[Step::Start(1, b"1")], &[STANDBY_3, STANDBY_4]),
+    (&[Step::Start(1, b"1"), Step::Ready(1, 3)], &[STANDBY_4]),
+    (&[Step::Start(1, b"1"), Step::Ready(1, 4)], &[STANDBY_3]),
+    (
+        &[Step::Start(1, b"1"), Step::Ready(1, 3), Step::Ready(1, 4)],
+        &[],
+    ),
+    (
+        &[
+            Step::Start(1, b"1"),
+            Step::Ready(1, 3),
+            Step::Ready(1, 4),
+            Step::Go(1),
+        ],
+        &[GO_3, GO_4],
+    ),
+    (
+        &[
+            Step::Start(1, b"1"),
+            Step::Ready(1, 4),
+            Step::Ready(1, 3),
+            Step::Go(1),
+            Step::Failed(1, 3),
+        ],
+        &[GO_4],
+    ),
+    (
+        &[Step::Start(1, b"1"), Step::Cancel(1, Reason::Power)],
+        &[CANCEL_3, CANCEL_4],
+    ),
+    (
+        &[
+            Step::Start(1, b"1"),
+            Step::Ready(1, 3),
+            Step::Cancel(1, Reason::Operator),
+            Step::LetGo(1, 4),
+        ],
+        &[CANCEL_3],
+    ),
+    (
+        &[
+            Step::Start(1, b"1"),
+            Step::Cancel(1, Reason::Deadline),
+            Step::LetGo(1, 4),
+            Step::Failed(1, 3),
+        ],
+        &[],
+    ),
+];
+
+#[test]
+fn commands_are_pending(rt: HostRuntime) -> Result<(), Fail> {
+    for (steps, wanted) in ROWS {
+        let mut state = State::empty(rt.alloc());
+        expect_pending(&rt, rt.alloc(), &mut state, steps, wanted)?;
+    }
+    Ok(())
+}

@@ -6,6 +6,8 @@ use std::alloc::Global;
 use std::process::Abort;
 use std::test::Fail;
 
+mod lines;
+mod replies;
 mod runs;
 mod words;
 
@@ -31,6 +33,17 @@ enum Ask {
 
 // What is asked for, and what becomes of it in words.
 type Step = (Ask, &'static str);
+
+// Devices 3 and 4; cue 1 for both of them, and cue 2 for device 3.
+const SHOW: [Step; 4] = [
+    (Ask::AddDevice(3, 9001), "made Device 3 9001"),
+    (Ask::AddDevice(4, 9002), "made Device 4 9002"),
+    (
+        Ask::AddCue(b"1", &[(3, b"\x0a\x0b"), (4, b"")]),
+        "made Cue 1 3=[10, 11] 4=[]",
+    ),
+    (Ask::AddCue(b"2", &[(3, b"")]), "made Cue 2 3=[]"),
+];
 
 impl Ask {
     // The moment at which it is asked for.

@@ -1,117 +1,50 @@
-//! Commands that are judged and applied in turn: each verdict, each event and each state is written out by hand.
+//! Scripts: each line asks for something, and says behind ` = ` in words what becomes of it, as it is written out by hand.
+//!
+//! A line is a command, which is judged and carried out (`standby 1 1000`: cue 1 at the moment 1000; `complete 3 1 9001`: device 3, attempt 1,
+//! from that port), a command behind `judge`, which is judged and not carried out, an event behind `happen`, which happens where it may, a
+//! `tick` of the clock at a moment, a recovery from `power` loss, or what of the state is asked for: `state`, `live` or `undecided`.
 
-use crate::{Code, Command, Event, Events, ReplyKind, State, Verdict, judge};
-use cue_show::{CueNo, DeviceNo, Part, Parts};
+use crate::{Event, Events, State, judge, undecided};
+use cue_exchange::attempt::Reason;
+use reading::Request;
 use std::alloc::Global;
 use std::process::Abort;
 use std::test::Fail;
 
-mod lines;
-mod replies;
+mod reading;
 mod runs;
-mod words;
-
-// The device of a part, and its bytes.
-type Task = (u8, &'static [u8]);
-
-// What is asked for. A cue is asked to stand by at a moment, and a reply comes from a port.
-#[derive(Clone, Copy)]
-enum Ask {
-    Status,
-    AddDevice(u8, u16),
-    AddCue(&'static [u8], &'static [Task]),
-    Standby(&'static [u8], u64),
-    Go(&'static [u8]),
-    Cancel(&'static [u8]),
-    Goto(&'static [u8]),
-    RemoveCue(&'static [u8]),
-    Reply(ReplyKind, u8, u32, u16),
-    Release(u8),
-    RemoveDevice(u8),
-    Bad(Code),
-}
-
-// What is asked for, and what becomes of it in words.
-type Step = (Ask, &'static str);
+mod told;
 
 // Devices 3 and 4; cue 1 for both of them, and cue 2 for device 3.
-const SHOW: [Step; 4] = [
-    (Ask::AddDevice(3, 9001), "made Device 3 9001"),
-    (Ask::AddDevice(4, 9002), "made Device 4 9002"),
-    (
-        Ask::AddCue(b"1", &[(3, b"\x0a\x0b"), (4, b"")]),
-        "made Cue 1 3=[10, 11] 4=[]",
-    ),
-    (Ask::AddCue(b"2", &[(3, b"")]), "made Cue 2 3=[]"),
-];
+const SHOW: &str = "\
+add_device 3 9001 = made Device 3 9001
+add_device 4 9002 = made Device 4 9002
+add_cue 1 3:10,11 4: = made Cue 1 3:10,11 4:
+add_cue 2 3: = made Cue 2 3:";
 
-impl Ask {
-    // The moment at which it is asked for.
-    fn moment(self) -> u64 {
-        match self {
-            Ask::Standby(_, now) => now,
-            _ => 0,
-        }
-    }
-
-    // The port that it comes from.
-    fn sender(self) -> u16 {
-        match self {
-            Ask::Reply(_, _, _, from) => from,
-            _ => 8000,
-        }
-    }
-}
-
-fn cue(text: &[u8]) -> Result<CueNo, Fail> {
-    Ok(CueNo::read(text).ok_or("no cue number")?)
-}
-
-fn device(number: u8) -> Result<DeviceNo, Fail> {
-    Ok(DeviceNo::of_byte(number).ok_or("no device number")?)
-}
-
-fn parts(alloc: Global, tasks: &[Task]) -> Result<Parts, Fail> {
-    let mut parts = Parts::new(alloc);
-    for (number, bytes) in tasks {
-        parts.push(Part::of(alloc, device(*number)?, bytes)?)?;
-    }
-    Ok(parts)
-}
-
-fn command(alloc: Global, ask: Ask) -> Result<Command, Fail> {
-    Ok(match ask {
-        Ask::Status => Command::Status,
-        Ask::AddDevice(number, port) => Command::AddDevice(device(number)?, port),
-        Ask::AddCue(text, tasks) => Command::AddCue(cue(text)?, parts(alloc, tasks)?),
-        Ask::Standby(text, _) => Command::Standby(cue(text)?),
-        Ask::Go(text) => Command::Go(cue(text)?),
-        Ask::Cancel(text) => Command::Cancel(cue(text)?),
-        Ask::Goto(text) => Command::Goto(cue(text)?),
-        Ask::RemoveCue(text) => Command::RemoveCue(cue(text)?),
-        Ask::Reply(kind, number, seq, _) => Command::Reply(kind, device(number)?, seq),
-        Ask::Release(number) => Command::Release(device(number)?),
-        Ask::RemoveDevice(number) => Command::RemoveDevice(device(number)?),
-        Ask::Bad(code) => Command::Bad(code),
-    })
-}
-
-// Judges the command, which has to be a fit one.
-fn judged(
+// Judges the command, which has to be a fit one, and says what becomes of it.
+fn judge_only(
     rt: &impl Abort,
     alloc: Global,
     state: &State,
-    ask: Ask,
-) -> Result<(Verdict, Events), Fail> {
-    let command = command(alloc, ask)?;
-    assert!(rt; command.is_fit());
-    Ok(judge(state, ask.moment(), ask.sender(), &command)?)
+    asked: &Request,
+) -> Result<String, Fail> {
+    assert!(rt; asked.command.is_fit());
+    let (verdict, events) = judge(state, asked.now, asked.from, &asked.command)?;
+    Ok(told::of_judged(alloc, verdict, &events)?)
 }
 
-// Applies the event, which has to be an acceptable one.
-fn apply(rt: &impl Abort, state: &mut State, event: &Event) -> Result<(), Fail> {
-    assert!(rt; state.can_apply(event));
-    Ok(state.apply(event)?)
+// Judges the command, which has to be a fit one, carries it out, and says what becomes of it.
+fn carry_out(
+    rt: &impl Abort,
+    alloc: Global,
+    state: &mut State,
+    asked: &Request,
+) -> Result<String, Fail> {
+    assert!(rt; asked.command.is_fit());
+    let (verdict, events) = judge(state, asked.now, asked.from, &asked.command)?;
+    apply_each(rt, state, &events)?;
+    Ok(told::of_judged(alloc, verdict, &events)?)
 }
 
 fn apply_each(rt: &impl Abort, state: &mut State, events: &Events) -> Result<(), Fail> {
@@ -123,22 +56,99 @@ fn apply_each(rt: &impl Abort, state: &mut State, events: &Events) -> Result<(),
     Ok(())
 }
 
-// Judges what is asked for, compares what becomes of it, and applies the events.
-fn take(rt: &impl Abort, alloc: Global, state: &mut State, step: &Step) -> Result<(), Fail> {
-    let (verdict, events) = judged(rt, alloc, state, step.0)?;
-    assert_eq!(rt; words::of_judged(alloc, verdict, &events)?.as_str(), step.1);
-    apply_each(rt, state, &events)
+// Applies the event, which has to be an acceptable one.
+fn apply(rt: &impl Abort, state: &mut State, event: &Event) -> Result<(), Fail> {
+    assert!(rt; state.can_apply(event));
+    Ok(state.apply(event)?)
 }
 
-fn take_all(rt: &impl Abort, alloc: Global, state: &mut State, steps: &[Step]) -> Result<(), Fail> {
-    for step in steps {
-        take(rt, alloc, state, step)?;
+// The event happens where it may; whether it does, and a clone of it in words.
+fn happen(alloc: Global, state: &mut State, event: &Event) -> Result<String, Fail> {
+    let copy = event.clone()?;
+    let may = state.can_apply(event);
+    if may {
+        state.apply(event)?;
+    }
+    Ok(told::of_chance(alloc, may, &copy)?)
+}
+
+// The preparations are given up; their numbers.
+fn give_up(
+    rt: &impl Abort,
+    alloc: Global,
+    state: &mut State,
+    seqs: &[u32],
+    reason: Reason,
+) -> Result<String, Fail> {
+    for seq in seqs {
+        apply(rt, state, &Event::Cancel(*seq, reason))?;
+    }
+    Ok(told::of_numbers(alloc, seqs)?)
+}
+
+// The state in words; its clone says the same.
+fn describe(rt: &impl Abort, alloc: Global, state: &State) -> Result<String, Fail> {
+    let text = told::of_state(alloc, state)?;
+    assert_eq!(rt; told::of_clone(alloc, state)?.as_str(), text.as_str());
+    Ok(text)
+}
+
+fn answer(
+    rt: &impl Abort,
+    alloc: Global,
+    state: &mut State,
+    words: &[&str],
+) -> Result<String, Fail> {
+    match words {
+        ["state"] => describe(rt, alloc, state),
+        ["live"] => Ok(told::of_live(alloc, state.live())?),
+        ["undecided"] => Ok(told::of_numbers(alloc, &undecided(alloc, state)?)?),
+        ["power"] => give_up(rt, alloc, state, &undecided(alloc, state)?, Reason::Power),
+        ["tick", now] => {
+            let due = state.live().due(now.parse()?)?;
+            give_up(rt, alloc, state, &due, Reason::Deadline)
+        }
+        ["happen", words @ ..] => happen(alloc, state, &reading::event(alloc, words)?),
+        ["judge", words @ ..] => judge_only(rt, alloc, state, &reading::read(alloc, words)?),
+        words => carry_out(rt, alloc, state, &reading::read(alloc, words)?),
+    }
+}
+
+fn take(rt: &impl Abort, alloc: Global, state: &mut State, line: &str) -> Result<(), Fail> {
+    let (asked, expected) = line.split_once(" = ").ok_or("no line of a script")?;
+    let words: Vec<&str> = asked.split_whitespace().collect(alloc)?;
+    assert_eq!(rt;
+        answer(rt, alloc, state, &words)?.as_str(),
+        expected,
+        "{asked}"
+    );
+    Ok(())
+}
+
+fn run(rt: &impl Abort, alloc: Global, state: &mut State, script: &str) -> Result<(), Fail> {
+    for line in script.lines() {
+        take(rt, alloc, state, line)?;
     }
     Ok(())
 }
 
-// The state is as the text says.
-fn is_left(rt: &impl Abort, alloc: Global, state: &State, text: &str) -> Result<(), Fail> {
-    assert_eq!(rt; words::of_state(alloc, state)?.as_str(), text);
-    Ok(())
+// Runs the script from the empty state.
+fn from_empty(rt: &impl Abort, alloc: Global, script: &str) -> Result<(), Fail> {
+    run(rt, alloc, &mut State::empty(alloc), script)
+}
+
+// Runs the script on the show.
+fn on_show(rt: &impl Abort, alloc: Global, script: &str) -> Result<(), Fail> {
+    run_both(rt, alloc, &mut State::empty(alloc), SHOW, script)
+}
+
+fn run_both(
+    rt: &impl Abort,
+    alloc: Global,
+    state: &mut State,
+    first: &str,
+    second: &str,
+) -> Result<(), Fail> {
+    run(rt, alloc, state, first)?;
+    run(rt, alloc, state, second)
 }

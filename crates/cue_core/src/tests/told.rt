@@ -22,6 +22,30 @@ pub(super) fn of_judged(
     Ok(text)
 }
 
+// Whether the event may happen, and the event.
+pub(super) fn of_chance(alloc: Global, may: bool, event: &Event) -> Result<String, AllocError> {
+    let mut text = String::new(alloc);
+    text.push_str(if may { "yes" } else { "no" })?;
+    push_event(&mut text, event)?;
+    Ok(text)
+}
+
+pub(super) fn of_numbers(alloc: Global, numbers: &[u32]) -> Result<String, AllocError> {
+    let mut text = String::new(alloc);
+    text.push_str("numbers")?;
+    for number in numbers {
+        write!(text, " {}", *number)?;
+    }
+    Ok(text)
+}
+
+pub(super) fn of_live(alloc: Global, live: &Live) -> Result<String, AllocError> {
+    let mut text = String::new(alloc);
+    text.push_str("live")?;
+    push_live(&mut text, live)?;
+    Ok(text)
+}
+
 fn push_verdict(text: &mut String, verdict: Verdict) -> Result<(), AllocError> {
     match verdict {
         Verdict::Made => text.push_str("made"),
@@ -72,12 +96,18 @@ fn push_start(text: &mut String, seq: u32, cue: CueNo, deadline: u64) -> Result<
 
 fn push_parts(text: &mut String, parts: &Parts) -> Result<(), AllocError> {
     for part in parts.as_slice() {
-        write!(
-            text,
-            " {}={:?}",
-            part.device.number(),
-            part.bytes.as_slice()
-        )?;
+        write!(text, " {}:", part.device.number())?;
+        push_bytes(text, part.bytes.as_slice())?;
+    }
+    Ok(())
+}
+
+fn push_bytes(text: &mut String, bytes: &[u8]) -> Result<(), AllocError> {
+    for (index, byte) in bytes.iter().enumerate() {
+        if index > 0 {
+            text.push(',')?;
+        }
+        write!(text, "{}", *byte)?;
     }
     Ok(())
 }
@@ -92,6 +122,11 @@ pub(super) fn of_state(alloc: Global, state: &State) -> Result<String, AllocErro
     push_ended(&mut text, state.ended())?;
     push_live(&mut text, state.live())?;
     Ok(text)
+}
+
+// The same of a clone.
+pub(super) fn of_clone(alloc: Global, state: &State) -> Result<String, AllocError> {
+    of_state(alloc, &state.try_clone()?)
 }
 
 fn push_devices(text: &mut String, show: &Show) -> Result<(), AllocError> {

@@ -1,0 +1,141 @@
+//! Commands and events from their words.
+
+use crate::{Code, Command, Event, ReplyKind};
+use cue_exchange::attempt::Reason;
+use cue_show::{CueNo, DeviceNo, Part, Parts};
+use std::alloc::Global;
+use std::test::Fail;
+
+// A command, the moment at which it is asked for, and the port that it comes from.
+#[derive(Drop)]
+pub(super) struct Request {
+    pub(super) command: Command,
+    pub(super) now: u64,
+    pub(super) from: u16,
+}
+
+fn cue(text: &str) -> Result<CueNo, Fail> {
+    Ok(CueNo::read(text.as_bytes()).ok_or("no cue number")?)
+}
+
+fn device(text: &str) -> Result<DeviceNo, Fail> {
+    Ok(DeviceNo::of(text.parse()?).ok_or("no device number")?)
+}
+
+// Numbers, as in `10,11`.
+fn bytes(alloc: Global, text: &str) -> Result<Vec<u8>, Fail> {
+    let mut bytes = Vec::new(alloc);
+    if text.is_empty() {
+        return Ok(bytes);
+    }
+    for number in text.split(',') {
+        bytes.push(number.parse()?)?;
+    }
+    Ok(bytes)
+}
+
+// A device and its bytes, as in `3:10,11`.
+fn part(alloc: Global, text: &str) -> Result<Part, Fail> {
+    let (number, numbers) = text.split_once(':').ok_or("no part")?;
+    Ok(Part::of(alloc, device(number)?, &bytes(alloc, numbers)?)?)
+}
+
+fn parts(alloc: Global, words: &[&str]) -> Result<Parts, Fail> {
+    let mut parts = Parts::new(alloc);
+    for word in words {
+        parts.push(part(alloc, word)?)?;
+    }
+    Ok(parts)
+}
+
+fn by_operator(command: Command, now: u64) -> Request {
+    Request {
+        command,
+        now,
+        from: 8000,
+    }
+}
+
+fn by_device(kind: ReplyKind, number: &str, seq: &str, from: &str) -> Result<Request, Fail> {
+    Ok(Request {
+        command: Command::Reply(kind, device(number)?, seq.parse()?),
+        now: 0,
+        from: from.parse()?,
+    })
+}
+
+pub(super) fn read(alloc: Global, words: &[&str]) -> Result<Request, Fail> {
+    match words {
+        ["standby", text, now] => Ok(by_operator(Command::Standby(cue(text)?), now.parse()?)),
+        ["standing_by", number, seq, from] => by_device(ReplyKind::StandingBy, number, seq, from),
+        ["complete", number, seq, from] => by_device(ReplyKind::Complete, number, seq, from),
+        ["cancelled", number, seq, from] => by_device(ReplyKind::Cancelled, number, seq, from),
+        ["abort", number, seq, from] => by_device(ReplyKind::Abort, number, seq, from),
+        ["bad", words @ ..] => Ok(by_operator(Command::Bad(code(words)?), 0)),
+        words => Ok(by_operator(command(alloc, words)?, 0)),
+    }
+}
+
+fn command(alloc: Global, words: &[&str]) -> Result<Command, Fail> {
+    match words {
+        ["status"] => Ok(Command::Status),
+        ["add_device", number, port] => Ok(Command::AddDevice(device(number)?, port.parse()?)),
+        ["add_cue", text, words @ ..] => Ok(Command::AddCue(cue(text)?, parts(alloc, words)?)),
+        ["go", text] => Ok(Command::Go(cue(text)?)),
+        ["cancel", text] => Ok(Command::Cancel(cue(text)?)),
+        ["goto", text] => Ok(Command::Goto(cue(text)?)),
+        ["remove_cue", text] => Ok(Command::RemoveCue(cue(text)?)),
+        ["remove_device", number] => Ok(Command::RemoveDevice(device(number)?)),
+        ["release", number] => Ok(Command::Release(device(number)?)),
+        _ => Err("no command")?,
+    }
+}
+
+fn code(words: &[&str]) -> Result<Code, Fail> {
+    match words {
+        ["Unread"] => Ok(Code::Unread),
+        ["BadPattern"] => Ok(Code::BadPattern),
+        ["NoMethod"] => Ok(Code::NoMethod),
+        ["Arguments"] => Ok(Code::Arguments),
+        ["BadNumber"] => Ok(Code::BadNumber),
+        ["BadParts"] => Ok(Code::BadParts),
+        _ => Err("no code of what is no command")?,
+    }
+}
+
+pub(super) fn event(alloc: Global, words: &[&str]) -> Result<Event, Fail> {
+    match words {
+        ["Device", number, port] => Ok(Event::Device(device(number)?, port.parse()?)),
+        ["NoDevice", number] => Ok(Event::NoDevice(device(number)?)),
+        ["Cue", text, words @ ..] => Ok(Event::Cue(cue(text)?, parts(alloc, words)?)),
+        ["NoCue", text] => Ok(Event::NoCue(cue(text)?)),
+        ["Place", text] => Ok(Event::Place(cue(text)?)),
+        words => event_of_attempt(words),
+    }
+}
+
+fn event_of_attempt(words: &[&str]) -> Result<Event, Fail> {
+    match words {
+        ["Start", seq, text, deadline] => {
+            Ok(Event::Start(seq.parse()?, cue(text)?, deadline.parse()?))
+        }
+        ["Ready", seq, number] => Ok(Event::Ready(seq.parse()?, device(number)?)),
+        ["Go", seq] => Ok(Event::Go(seq.parse()?)),
+        ["Done", seq, number] => Ok(Event::Done(seq.parse()?, device(number)?)),
+        ["Cancel", seq, name] => Ok(Event::Cancel(seq.parse()?, reason(name)?)),
+        ["LetGo", seq, number] => Ok(Event::LetGo(seq.parse()?, device(number)?)),
+        ["Failed", seq, number] => Ok(Event::Failed(seq.parse()?, device(number)?)),
+        _ => Err("no event")?,
+    }
+}
+
+fn reason(name: &str) -> Result<Reason, Fail> {
+    match name {
+        "Operator" => Ok(Reason::Operator),
+        "Deadline" => Ok(Reason::Deadline),
+        "Abort" => Ok(Reason::Abort),
+        "Power" => Ok(Reason::Power),
+        "Release" => Ok(Reason::Release),
+        _ => Err("no reason")?,
+    }
+}

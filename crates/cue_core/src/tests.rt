@@ -11,7 +11,12 @@ use std::alloc::Global;
 use std::process::Abort;
 use std::test::Fail;
 
+mod calls;
+mod events;
+mod limits;
+mod lines;
 mod reading;
+mod replies;
 mod runs;
 mod told;
 
@@ -19,7 +24,7 @@ mod told;
 const SHOW: &str = "\
 add_device 3 9001 = made Device 3 9001
 add_device 4 9002 = made Device 4 9002
-add_cue 1 3:10,11 4: = made Cue 1 3:10,11 4:
+add_cue 1 3:up 4: = made Cue 1 3:up 4:
 add_cue 2 3: = made Cue 2 3:";
 
 // Judges the command, which has to be a fit one, and says what becomes of it.

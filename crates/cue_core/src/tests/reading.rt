@@ -1,6 +1,6 @@
 //! Commands and events from their words.
 
-use crate::{Code, Command, Event, ReplyKind};
+use crate::{Command, Event, ReplyKind};
 use cue_exchange::attempt::Reason;
 use cue_show::{CueNo, DeviceNo, Part, Parts};
 use std::alloc::Global;
@@ -22,22 +22,10 @@ fn device(text: &str) -> Result<DeviceNo, Fail> {
     Ok(DeviceNo::of(text.parse()?).ok_or("no device number")?)
 }
 
-// Numbers, as in `10,11`.
-fn bytes(alloc: Global, text: &str) -> Result<Vec<u8>, Fail> {
-    let mut bytes = Vec::new(alloc);
-    if text.is_empty() {
-        return Ok(bytes);
-    }
-    for number in text.split(',') {
-        bytes.push(number.parse()?)?;
-    }
-    Ok(bytes)
-}
-
-// A device and its bytes, as in `3:10,11`.
+// A device and its bytes, as in `3:up`.
 fn part(alloc: Global, text: &str) -> Result<Part, Fail> {
-    let (number, numbers) = text.split_once(':').ok_or("no part")?;
-    Ok(Part::of(alloc, device(number)?, &bytes(alloc, numbers)?)?)
+    let (number, bytes) = text.split_once(':').ok_or("no part")?;
+    Ok(Part::of(alloc, device(number)?, bytes.as_bytes())?)
 }
 
 fn parts(alloc: Global, words: &[&str]) -> Result<Parts, Fail> {
@@ -71,7 +59,6 @@ pub(super) fn read(alloc: Global, words: &[&str]) -> Result<Request, Fail> {
         ["complete", number, seq, from] => by_device(ReplyKind::Complete, number, seq, from),
         ["cancelled", number, seq, from] => by_device(ReplyKind::Cancelled, number, seq, from),
         ["abort", number, seq, from] => by_device(ReplyKind::Abort, number, seq, from),
-        ["bad", words @ ..] => Ok(by_operator(Command::Bad(code(words)?), 0)),
         words => Ok(by_operator(command(alloc, words)?, 0)),
     }
 }
@@ -88,18 +75,6 @@ fn command(alloc: Global, words: &[&str]) -> Result<Command, Fail> {
         ["remove_device", number] => Ok(Command::RemoveDevice(device(number)?)),
         ["release", number] => Ok(Command::Release(device(number)?)),
         _ => Err("no command")?,
-    }
-}
-
-fn code(words: &[&str]) -> Result<Code, Fail> {
-    match words {
-        ["Unread"] => Ok(Code::Unread),
-        ["BadPattern"] => Ok(Code::BadPattern),
-        ["NoMethod"] => Ok(Code::NoMethod),
-        ["Arguments"] => Ok(Code::Arguments),
-        ["BadNumber"] => Ok(Code::BadNumber),
-        ["BadParts"] => Ok(Code::BadParts),
-        _ => Err("no code of what is no command")?,
     }
 }
 

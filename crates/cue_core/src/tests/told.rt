@@ -73,11 +73,11 @@ fn push_event(text: &mut String, event: &Event) -> Result<(), AllocError> {
 
 fn push_named(text: &mut String, name: &str, cue: CueNo) -> Result<(), AllocError> {
     text.push_str(name)?;
-    push_cue(text, cue)
+    push_text(text, cue.text())
 }
 
-fn push_cue(text: &mut String, cue: CueNo) -> Result<(), AllocError> {
-    for byte in cue.text() {
+fn push_text(text: &mut String, bytes: &[u8]) -> Result<(), AllocError> {
+    for byte in bytes {
         text.push(char::from(*byte))?;
     }
     Ok(())
@@ -90,24 +90,14 @@ fn push_new_cue(text: &mut String, cue: CueNo, parts: &Parts) -> Result<(), Allo
 
 fn push_start(text: &mut String, seq: u32, cue: CueNo, deadline: u64) -> Result<(), AllocError> {
     write!(text, " Start {} ", seq)?;
-    push_cue(text, cue)?;
+    push_text(text, cue.text())?;
     write!(text, " {}", deadline)
 }
 
 fn push_parts(text: &mut String, parts: &Parts) -> Result<(), AllocError> {
     for part in parts.as_slice() {
         write!(text, " {}:", part.device.number())?;
-        push_bytes(text, part.bytes.as_slice())?;
-    }
-    Ok(())
-}
-
-fn push_bytes(text: &mut String, bytes: &[u8]) -> Result<(), AllocError> {
-    for (index, byte) in bytes.iter().enumerate() {
-        if index > 0 {
-            text.push(',')?;
-        }
-        write!(text, "{}", *byte)?;
+        push_text(text, part.bytes.as_slice())?;
     }
     Ok(())
 }
@@ -168,7 +158,7 @@ fn push_live(text: &mut String, live: &Live) -> Result<(), AllocError> {
 
 fn push_attempt(text: &mut String, attempt: &Attempt) -> Result<(), AllocError> {
     write!(text, " | attempt {} ", attempt.seq)?;
-    push_cue(text, attempt.cue)?;
+    push_text(text, attempt.cue.text())?;
     write!(text, " until {} {:?}", attempt.deadline, attempt.stage)?;
     for x in attempt.answers.as_slice() {
         write!(text, " {} {:?}", x.device.number(), x.answer)?;

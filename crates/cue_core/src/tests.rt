@@ -1,13 +1,14 @@
 //! Scripts: each line asks for something, and says behind ` = ` in words what becomes of it, as it is written out by hand.
 //!
-//! A line is a command, which is judged and carried out (`standby 1 1000`: cue 1 at the moment 1000; `complete 3 1 9001`: device 3, attempt 1,
-//! from that port), a command behind `judge`, which is judged and not carried out, an event behind `happen`, which happens where it may, a
-//! `tick` of the clock at a moment, a recovery from `power` loss, or what of the state is asked for: `state`, `live` or `undecided`.
+//! A line is a command, which is judged and carried out (`standby 1 1000`: cue 1 at the moment 1000; `complete 3 1 9001`: device 3 in attempt
+//! 1, from that port); a command behind `judge`, which is only judged, or behind `fit`, whether its numbers and parts are ones that there are;
+//! an event behind `happen`, which happens where it may; a `tick` of the clock at a moment; a recovery from `power` loss; or what of the state
+//! is asked for: `state`, `live` or `undecided`.
 
-use crate::{Event, Events, State, judge, undecided};
+use crate::{Ended, Event, Events, State, judge, undecided};
 use cue_exchange::attempt::Reason;
 use reading::Request;
-use std::alloc::Global;
+use std::alloc::{AllocError, Global};
 use std::process::Abort;
 use std::test::Fail;
 
@@ -98,6 +99,12 @@ fn describe(rt: &impl Abort, alloc: Global, state: &State) -> Result<String, Fai
     Ok(text)
 }
 
+// Whether the numbers and parts of the command are ones that there are.
+fn fit(alloc: Global, asked: &Request) -> Result<String, Fail> {
+    let text = if asked.command.is_fit() { "yes" } else { "no" };
+    Ok(String::from_str(alloc, text)?)
+}
+
 fn answer(
     rt: &impl Abort,
     alloc: Global,
@@ -114,19 +121,26 @@ fn answer(
             give_up(rt, alloc, state, &due, Reason::Deadline)
         }
         ["happen", words @ ..] => happen(alloc, state, &reading::event(alloc, words)?),
+        ["fit", words @ ..] => fit(alloc, &reading::read(alloc, words)?),
         ["judge", words @ ..] => judge_only(rt, alloc, state, &reading::read(alloc, words)?),
         words => carry_out(rt, alloc, state, &reading::read(alloc, words)?),
     }
 }
 
+fn answer_to(
+    rt: &impl Abort,
+    alloc: Global,
+    state: &mut State,
+    asked: &str,
+) -> Result<String, Fail> {
+    let words: Vec<&str> = asked.split_whitespace().collect(alloc)?;
+    answer(rt, alloc, state, &words)
+}
+
 fn take(rt: &impl Abort, alloc: Global, state: &mut State, line: &str) -> Result<(), Fail> {
     let (asked, expected) = line.split_once(" = ").ok_or("no line of a script")?;
-    let words: Vec<&str> = asked.split_whitespace().collect(alloc)?;
-    assert_eq!(rt;
-        answer(rt, alloc, state, &words)?.as_str(),
-        expected,
-        "{asked}"
-    );
+    let text = answer_to(rt, alloc, state, asked)?;
+    assert_eq!(rt; text.as_str(), expected, "{asked}");
     Ok(())
 }
 
@@ -135,6 +149,13 @@ fn run(rt: &impl Abort, alloc: Global, state: &mut State, script: &str) -> Resul
         take(rt, alloc, state, line)?;
     }
     Ok(())
+}
+
+// A state of the same parts, with this last number and this attempt that ended last, where they keep the rules.
+fn remade(state: &State, last_seq: u32, ended: Option<Ended>) -> Result<Option<State>, AllocError> {
+    let live = state.live().try_clone()?;
+    let show = state.show().try_clone()?;
+    Ok(State::of(show, live, last_seq, ended))
 }
 
 // Runs the script from the empty state.

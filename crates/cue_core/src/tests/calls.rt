@@ -3,7 +3,8 @@
 ghost use Rattle.std.specs.Prelude.{◌≡◌, [], ◌∷◌, IsTrue};
 ghost use Rattle.cue_core.specs.Steps.{are_acceptable};
 
-use super::{SHOW, reading, run, run_both, told};
+use super::reading::Request;
+use super::{SHOW, from_empty, judge_only, remade, run, run_both, told};
 use crate::event::Ended;
 use crate::{Code, Command, Event, Events, State, Verdict, judge};
 use cue_exchange::attempt::{Outcome, Reason};
@@ -12,89 +13,87 @@ use std::alloc::{AllocError, Global};
 use std::process::Abort;
 use std::test::Fail;
 
-const NUMBERS: [(Code, u8); 20] = [
-    (Code::Unread, 1),
-    (Code::BadPattern, 2),
-    (Code::NoMethod, 3),
-    (Code::Arguments, 4),
-    (Code::BadNumber, 5),
-    (Code::Duplicate, 6),
-    (Code::Full, 7),
-    (Code::BadParts, 8),
-    (Code::UnknownDevice, 9),
-    (Code::InUse, 10),
-    (Code::Busy, 11),
-    (Code::NotLive, 12),
-    (Code::NotReady, 13),
-    (Code::Decided, 14),
-    (Code::Stale, 15),
-    (Code::Early, 16),
-    (Code::WrongPort, 17),
-    (Code::Clock, 18),
-    (Code::Exhausted, 19),
-    (Code::NotPart, 20),
+const CODES: [(Code, &str); 20] = [
+    (Code::Unread, "1 Unread"),
+    (Code::BadPattern, "2 BadPattern"),
+    (Code::NoMethod, "3 NoMethod"),
+    (Code::Arguments, "4 Arguments"),
+    (Code::BadNumber, "5 BadNumber"),
+    (Code::Duplicate, "6 Duplicate"),
+    (Code::Full, "7 Full"),
+    (Code::BadParts, "8 BadParts"),
+    (Code::UnknownDevice, "9 UnknownDevice"),
+    (Code::InUse, "10 InUse"),
+    (Code::Busy, "11 Busy"),
+    (Code::NotLive, "12 NotLive"),
+    (Code::NotReady, "13 NotReady"),
+    (Code::Decided, "14 Decided"),
+    (Code::Stale, "15 Stale"),
+    (Code::Early, "16 Early"),
+    (Code::WrongPort, "17 WrongPort"),
+    (Code::Clock, "18 Clock"),
+    (Code::Exhausted, "19 Exhausted"),
+    (Code::NotPart, "20 NotPart"),
 ];
 
 // What could not be read as a command is refused with its code.
-fn refuse(rt: &impl Abort, state: &State, code: Code, number: u8) -> Result<(), Fail> {
-    let (verdict, events) = judge(state, 0, 8000, &Command::Bad(code))?;
-    assert_eq!(rt; verdict, Verdict::No(code));
-    assert_eq!(rt; code.number(), number);
-    assert!(rt; events.is_empty());
+fn refuse(
+    rt: &impl Abort,
+    alloc: Global,
+    state: &State,
+    code: Code,
+    text: &str,
+) -> Result<(), Fail> {
+    let said = judge_only(
+        rt,
+        alloc,
+        state,
+        &Request::of_operator(Command::Bad(code), 0),
+    )?;
+    assert_eq!(rt; said.as_str(), text);
     Ok(())
 }
 
-fn refuse_each(rt: &impl Abort, state: &State) -> Result<(), Fail> {
-    for (code, number) in NUMBERS {
-        refuse(rt, state, code, number)?;
+fn refuse_each(rt: &impl Abort, alloc: Global, state: &State) -> Result<(), Fail> {
+    for (code, text) in CODES {
+        refuse(rt, alloc, state, code, text)?;
     }
     Ok(())
 }
 
 #[test]
 fn codes_have_their_numbers(rt: HostRuntime) -> Result<(), Fail> {
-    refuse_each(&rt, &State::empty(rt.alloc()))
-}
-
-fn is_fit(rt: &impl Abort, alloc: Global, line: &str) -> Result<(), Fail> {
-    let (asked, expected) = line.split_once(" = ").ok_or("no line")?;
-    let words: Vec<&str> = asked.split_whitespace().collect(alloc)?;
-    let request = reading::read(alloc, &words)?;
-    assert_eq!(rt; request.command.is_fit(), expected == "yes", "{asked}");
-    Ok(())
+    refuse_each(&rt, rt.alloc(), &State::empty(rt.alloc()))
 }
 
 // At most 16 parts, and at most 32 bytes in each.
 const FIT: &str = "\
-status = yes
-add_device 0 0 = no
-add_device 0 1 = yes
-add_device 111 65535 = yes
-standby 1 0 = yes
-go 1 = yes
-cancel 1 = yes
-goto 1 = yes
-remove_cue 1 = yes
-remove_device 3 = yes
-release 3 = yes
-complete 3 0 9001 = no
-complete 3 1 9001 = yes
-standing_by 3 2147483647 9001 = yes
-cancelled 3 2147483648 9001 = no
-add_cue 1 = no
-add_cue 1 3: = yes
-add_cue 1 3: 4: 3:up = no
-add_cue 1 0: 1: 2: 3: 4: 5: 6: 7: 8: 9: 10: 11: 12: 13: 14: 15: = yes
-add_cue 1 0: 1: 2: 3: 4: 5: 6: 7: 8: 9: 10: 11: 12: 13: 14: 15: 16: = no
-add_cue 1 3:12345678901234567890123456789012 = yes
-add_cue 1 3:123456789012345678901234567890123 = no";
+fit status = yes
+fit add_device 0 0 = no
+fit add_device 0 1 = yes
+fit add_device 111 65535 = yes
+fit standby 1 0 = yes
+fit go 1 = yes
+fit cancel 1 = yes
+fit goto 1 = yes
+fit remove_cue 1 = yes
+fit remove_device 3 = yes
+fit release 3 = yes
+fit complete 3 0 9001 = no
+fit complete 3 1 9001 = yes
+fit standing_by 3 2147483647 9001 = yes
+fit cancelled 3 2147483648 9001 = no
+fit add_cue 1 = no
+fit add_cue 1 3: = yes
+fit add_cue 1 3: 4: 3:up = no
+fit add_cue 1 0: 1: 2: 3: 4: 5: 6: 7: 8: 9: 10: 11: 12: 13: 14: 15: = yes
+fit add_cue 1 0: 1: 2: 3: 4: 5: 6: 7: 8: 9: 10: 11: 12: 13: 14: 15: 16: = no
+fit add_cue 1 3:12345678901234567890123456789012 = yes
+fit add_cue 1 3:123456789012345678901234567890123 = no";
 
 #[test]
 fn commands_that_are_fit_are_told(rt: HostRuntime) -> Result<(), Fail> {
-    for line in FIT.lines() {
-        is_fit(&rt, rt.alloc(), line)?;
-    }
-    Ok(())
+    from_empty(&rt, rt.alloc(), FIT)
 }
 
 // Both events, and no other.
@@ -107,49 +106,59 @@ fn both(rt: &impl Abort, mut events: Events) -> (Event, Event)
     (first, second)
 }
 
-fn said(alloc: Global, events: &Events) -> Result<String, AllocError> {
-    told::of_judged(alloc, Verdict::Made, events)
+// So many events, and no more, as the text says.
+fn has(
+    rt: &impl Abort,
+    alloc: Global,
+    events: &Events,
+    len: usize,
+    text: &str,
+) -> Result<(), Fail> {
+    assert_eq!(rt; events.len(), len);
+    assert_eq!(rt; events.is_empty(), len == 0);
+    assert!(rt; events.get(len).is_none());
+    assert_eq!(rt;
+        told::of_judged(alloc, Verdict::Made, events)?.as_str(),
+        text
+    );
+    Ok(())
+}
+
+// The number of the attempt that is to go.
+fn to_go(event: Option<Event>) -> Option<u32> {
+    match event {
+        Some(Event::Go(seq)) => Some(seq),
+        _ => None,
+    }
+}
+
+fn take_both(rt: &impl Abort, alloc: Global, events: &mut Events) -> Result<(), Fail> {
+    has(rt, alloc, events, 2, "made Go 1 Go 2")?;
+    assert_eq!(rt; to_go(events.take_first()), Some(1));
+    has(rt, alloc, events, 1, "made Go 2")?;
+    assert_eq!(rt; to_go(events.take_first()), Some(2));
+    has(rt, alloc, events, 0, "made")?;
+    assert_eq!(rt; to_go(events.take_first()), None);
+    Ok(())
 }
 
 #[test]
 fn events_are_kept_in_order(rt: HostRuntime) -> Result<(), Fail> {
-    let mut events = Events::two(Event::Go(1), Event::Cancel(2, Reason::Operator));
-    assert_eq!(rt; events.len(), 2);
-    assert!(rt; !events.is_empty());
-    assert_eq!(rt;
-        said(rt.alloc(), &events)?.as_str(),
-        "made Go 1 Cancel 2 Operator"
-    );
-    assert!(rt; events.get(2).is_none());
-    assert!(rt; matches!(events.take_first(), Some(Event::Go(1))));
-    assert_eq!(rt;
-        said(rt.alloc(), &events)?.as_str(),
-        "made Cancel 2 Operator"
-    );
-    assert!(rt; events.get(1).is_none());
-    assert!(rt;
-        matches!(
-            events.take_first(),
-            Some(Event::Cancel(2, Reason::Operator))
-        )
-    );
-    assert!(rt; events.is_empty());
-    assert!(rt; events.take_first().is_none());
-    Ok(())
+    take_both(
+        &rt,
+        rt.alloc(),
+        &mut Events::two(Event::Go(1), Event::Go(2)),
+    )
 }
 
 #[test]
-fn one_event_and_none(rt: HostRuntime) -> Result<(), Fail> {
-    let one = Events::one(Event::Go(7));
-    assert_eq!(rt; one.len(), 1);
-    assert!(rt; !one.is_empty());
-    assert_eq!(rt; said(rt.alloc(), &one)?.as_str(), "made Go 7");
-    let none = Events::none();
-    assert_eq!(rt; none.len(), 0);
-    assert!(rt; none.is_empty());
-    assert!(rt; none.get(0).is_none());
-    assert_eq!(rt; said(rt.alloc(), &none)?.as_str(), "made");
-    Ok(())
+fn one_event_is_kept(rt: HostRuntime) -> Result<(), Fail> {
+    has(&rt, rt.alloc(), &Events::one(Event::Go(7)), 1, "made Go 7")
+}
+
+#[test]
+fn no_event_is_kept(rt: HostRuntime) -> Result<(), Fail> {
+    has(&rt, rt.alloc(), &Events::none(), 0, "made")
 }
 
 const RELEASED: &str = "\
@@ -185,13 +194,6 @@ fn release(rt: &impl Abort, alloc: Global, state: &mut State) -> Result<(), Fail
 #[test]
 fn events_are_applied_together(rt: HostRuntime) -> Result<(), Fail> {
     release(&rt, rt.alloc(), &mut State::empty(rt.alloc()))
-}
-
-// Whether the state's parts make a state with this last number and this attempt that ended last.
-fn makes(state: &State, last_seq: u32, ended: Option<Ended>) -> Result<bool, AllocError> {
-    let live = state.live().try_clone()?;
-    let show = state.show().try_clone()?;
-    Ok(State::of(show, live, last_seq, ended).is_some())
 }
 
 const ENDED: [(u32, Option<Ended>, bool); 8] = [
@@ -244,7 +246,7 @@ fn make(rt: &impl Abort, alloc: Global, state: &mut State) -> Result<(), Fail> {
         "standby 1 1000 = made Start 1 1 11000",
     )?;
     for (last_seq, ended, may) in ENDED {
-        assert_eq!(rt; makes(state, last_seq, ended)?, may);
+        assert_eq!(rt; remade(state, last_seq, ended)?.is_some(), may);
     }
     Ok(())
 }

@@ -1,6 +1,6 @@
 //! The limits: of cues, of live attempts, of the clock and of the sequence numbers.
 
-use super::{SHOW, apply, on_show, reading, run};
+use super::{SHOW, apply, on_show, reading, remade, run};
 use crate::State;
 use std::alloc::Global;
 use std::process::Abort;
@@ -108,13 +108,6 @@ fn eight_attempts_are_live_over_104_devices(rt: HostRuntime) -> Result<(), Fail>
     prepare_eight(&rt, rt.alloc(), &mut State::empty(rt.alloc()))
 }
 
-// The state with another last number.
-fn with_last(state: &State, last_seq: u32) -> Result<State, Fail> {
-    let live = state.live().try_clone()?;
-    let show = state.show().try_clone()?;
-    Ok(State::of(show, live, last_seq, state.ended()).ok_or("no state")?)
-}
-
 // Runs the script on the state with another last number.
 fn on_last(
     rt: &impl Abort,
@@ -123,7 +116,8 @@ fn on_last(
     last_seq: u32,
     script: &str,
 ) -> Result<(), Fail> {
-    run(rt, alloc, &mut with_last(state, last_seq)?, script)
+    let mut other = remade(state, last_seq, state.ended())?.ok_or("no state")?;
+    run(rt, alloc, &mut other, script)
 }
 
 // No moment for a deadline is left either.

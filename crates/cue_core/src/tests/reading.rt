@@ -36,11 +36,13 @@ fn parts(alloc: Global, words: &[&str]) -> Result<Parts, Fail> {
     Ok(parts)
 }
 
-fn by_operator(command: Command, now: u64) -> Request {
-    Request {
-        command,
-        now,
-        from: 8000,
+impl Request {
+    pub(super) fn of_operator(command: Command, now: u64) -> Request {
+        Request {
+            command,
+            now,
+            from: 8000,
+        }
     }
 }
 
@@ -54,12 +56,15 @@ fn by_device(kind: ReplyKind, number: &str, seq: &str, from: &str) -> Result<Req
 
 pub(super) fn read(alloc: Global, words: &[&str]) -> Result<Request, Fail> {
     match words {
-        ["standby", text, now] => Ok(by_operator(Command::Standby(cue(text)?), now.parse()?)),
+        ["standby", text, now] => Ok(Request::of_operator(
+            Command::Standby(cue(text)?),
+            now.parse()?,
+        )),
         ["standing_by", number, seq, from] => by_device(ReplyKind::StandingBy, number, seq, from),
         ["complete", number, seq, from] => by_device(ReplyKind::Complete, number, seq, from),
         ["cancelled", number, seq, from] => by_device(ReplyKind::Cancelled, number, seq, from),
         ["abort", number, seq, from] => by_device(ReplyKind::Abort, number, seq, from),
-        words => Ok(by_operator(command(alloc, words)?, 0)),
+        words => Ok(Request::of_operator(command(alloc, words)?, 0)),
     }
 }
 

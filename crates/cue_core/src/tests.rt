@@ -158,14 +158,12 @@ fn remade(state: &State, last_seq: u32, ended: Option<Ended>) -> Result<Option<S
     Ok(State::of(show, live, last_seq, ended))
 }
 
-// Runs the script from the empty state.
-fn from_empty(rt: &impl Abort, alloc: Global, script: &str) -> Result<(), Fail> {
-    run(rt, alloc, &mut State::empty(alloc), script)
-}
-
-// Runs the script on the show.
-fn on_show(rt: &impl Abort, alloc: Global, script: &str) -> Result<(), Fail> {
-    run_both(rt, alloc, &mut State::empty(alloc), SHOW, script)
+// Runs each script from the empty state, behind the one that goes first.
+fn run_each(rt: &impl Abort, alloc: Global, first: &str, scripts: &[&str]) -> Result<(), Fail> {
+    for script in scripts {
+        run_both(rt, alloc, &mut State::empty(alloc), first, script)?;
+    }
+    Ok(())
 }
 
 fn run_both(

@@ -4,7 +4,7 @@ ghost use Rattle.std.specs.Prelude.{◌≡◌, [], ◌∷◌, IsTrue};
 ghost use Rattle.cue_core.specs.Steps.{are_acceptable};
 
 use super::reading::Request;
-use super::{SHOW, from_empty, judge_only, remade, run, run_both, told};
+use super::{SHOW, judge_only, remade, run, run_both, run_each, told};
 use crate::event::Ended;
 use crate::{Code, Command, Event, Events, State, Verdict, judge};
 use cue_exchange::attempt::{Outcome, Reason};
@@ -93,7 +93,7 @@ fit add_cue 1 3:123456789012345678901234567890123 = no";
 
 #[test]
 fn commands_that_are_fit_are_told(rt: HostRuntime) -> Result<(), Fail> {
-    from_empty(&rt, rt.alloc(), FIT)
+    run_each(&rt, rt.alloc(), "", &[FIT])
 }
 
 // Both events, and no other.
@@ -144,6 +144,8 @@ fn take_both(rt: &impl Abort, alloc: Global, events: &mut Events) -> Result<(), 
 
 #[test]
 fn events_are_kept_in_order(rt: HostRuntime) -> Result<(), Fail> {
+    has(&rt, rt.alloc(), &Events::none(), 0, "made")?;
+    has(&rt, rt.alloc(), &Events::one(Event::Go(7)), 1, "made Go 7")?;
     take_both(
         &rt,
         rt.alloc(),
@@ -151,25 +153,22 @@ fn events_are_kept_in_order(rt: HostRuntime) -> Result<(), Fail> {
     )
 }
 
-#[test]
-fn one_event_is_kept(rt: HostRuntime) -> Result<(), Fail> {
-    has(&rt, rt.alloc(), &Events::one(Event::Go(7)), 1, "made Go 7")
-}
-
-#[test]
-fn no_event_is_kept(rt: HostRuntime) -> Result<(), Fail> {
-    has(&rt, rt.alloc(), &Events::none(), 0, "made")
-}
-
 const RELEASED: &str = "\
 state = devices 3:9001 4:9002 | cue 1 3:up 4: | cue 2 3: | place - | last 1 | ended - | attempt 1 1 until 11000 Cancelling(Release) 3 Waiting 4 LetGo";
 
-// Applies two events together, and then none.
-fn apply_both(state: &mut State, first: Event, second: Event) -> Result<(), AllocError>
+// Applies two events together.
+fn apply_both(
+    alloc: Global,
+    state: &mut State,
+    first: Event,
+    second: Event,
+) -> Result<(), AllocError>
     requires { IsTrue (are_acceptable state.old (first ∷ second ∷ [])) }
 {
-    state.apply_all(&[first, second])?;
-    state.apply_all(&[])
+    let mut events = Vec::new(alloc);
+    events.push(first)?;
+    events.push(second)?;
+    state.apply_all(&events)
 }
 
 fn release(rt: &impl Abort, alloc: Global, state: &mut State) -> Result<(), Fail> {
@@ -187,7 +186,7 @@ fn release(rt: &impl Abort, alloc: Global, state: &mut State) -> Result<(), Fail
         &Command::Release(DeviceNo::of(4).ok_or("a device")?),
     )?;
     let (first, second) = both(rt, events);
-    apply_both(state, first, second)?;
+    apply_both(alloc, state, first, second)?;
     run(rt, alloc, state, RELEASED)
 }
 

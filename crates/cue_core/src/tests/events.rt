@@ -1,9 +1,11 @@
 //! The twelve kinds of event: where each may happen, and what all of them leave.
 
-use super::from_empty;
+use super::run_each;
 use std::test::Fail;
 
-const SHOW_MADE: &str = "\
+const HISTORIES: [&str; 2] = [
+    // Events make a show.
+    "\
 happen Device 3 0 = no Device 3 0
 happen Device 3 9001 = yes Device 3 9001
 happen Device 3 9002 = no Device 3 9002
@@ -25,14 +27,9 @@ happen NoCue 4 = no NoCue 4
 happen NoCue 2 = yes NoCue 2
 happen NoCue 3 = yes NoCue 3
 happen Cue 2 4: = yes Cue 2 4:
-state = devices 3:9001 4:9002 | cue 1 3:up 4: | cue 2 4: | place - | last 0 | ended -";
-
-#[test]
-fn events_make_a_show(rt: HostRuntime) -> Result<(), Fail> {
-    from_empty(&rt, rt.alloc(), SHOW_MADE)
-}
-
-const IN_TURN: &str = "\
+state = devices 3:9001 4:9002 | cue 1 3:up 4: | cue 2 4: | place - | last 0 | ended -",
+    // Events happen only in their turn.
+    "\
 happen Device 3 9001 = yes Device 3 9001
 happen Device 4 9002 = yes Device 4 9002
 happen Device 5 9003 = yes Device 5 9003
@@ -77,9 +74,10 @@ state = devices 3:9001 4:9002 5:9003 | cue 1 3: 4: | cue 2 4: | cue 3 5: | place
 happen LetGo 2 5 = yes LetGo 2 5
 happen LetGo 2 5 = no LetGo 2 5
 happen Start 3 2 0 = yes Start 3 2 0
-state = devices 3:9001 4:9002 5:9003 | cue 1 3: 4: | cue 2 4: | cue 3 5: | place 2 | last 3 | ended 2 Cancelled | attempt 3 2 until 0 Preparing 4 Waiting";
+state = devices 3:9001 4:9002 5:9003 | cue 1 3: 4: | cue 2 4: | cue 3 5: | place 2 | last 3 | ended 2 Cancelled | attempt 3 2 until 0 Preparing 4 Waiting",
+];
 
 #[test]
 fn events_happen_only_in_their_turn(rt: HostRuntime) -> Result<(), Fail> {
-    from_empty(&rt, rt.alloc(), IN_TURN)
+    run_each(&rt, rt.alloc(), "", &HISTORIES)
 }

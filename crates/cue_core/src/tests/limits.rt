@@ -1,6 +1,6 @@
 //! The limits: of cues, of live attempts, of the clock and of the sequence numbers.
 
-use super::{SHOW, apply, on_show, reading, remade, run};
+use super::{SHOW, apply, reading, remade, run};
 use crate::State;
 use std::alloc::Global;
 use std::process::Abort;
@@ -139,15 +139,4 @@ fn count_to_the_end(rt: &impl Abort, alloc: Global, state: &mut State) -> Result
 #[test]
 fn numbers_end(rt: HostRuntime) -> Result<(), Fail> {
     count_to_the_end(&rt, rt.alloc(), &mut State::empty(rt.alloc()))
-}
-
-const LAST_MOMENT: &str = "\
-standby 1 18446744073709551615 = 18 Clock
-standby 1 18446744073709541616 = 18 Clock
-standby 1 18446744073709541615 = made Start 1 1 18446744073709551615
-state = devices 3:9001 4:9002 | cue 1 3:up 4: | cue 2 3: | place - | last 1 | ended - | attempt 1 1 until 18446744073709551615 Preparing 3 Waiting 4 Waiting";
-
-#[test]
-fn a_deadline_is_a_moment(rt: HostRuntime) -> Result<(), Fail> {
-    on_show(&rt, rt.alloc(), LAST_MOMENT)
 }

@@ -1,9 +1,12 @@
 //! The lines by which commands are judged: for each command each line that can hold, and which one decides where several do.
 
-use super::{from_empty, on_show};
+use super::{SHOW, run_each};
 use std::test::Fail;
 
-const DEVICES: &str = "\
+// The device table and the cue stack from their first entries.
+const TABLES: [&str; 2] = [
+    // Devices come and go.
+    "\
 add_device 3 9001 = made Device 3 9001
 add_device 3 9001 = known
 add_device 3 9002 = 6 Duplicate
@@ -14,16 +17,11 @@ remove_device 5 = 3 NoMethod
 remove_device 3 = 10 InUse
 remove_device 0 = made NoDevice 0
 remove_device 0 = 3 NoMethod
-state = devices 3:9001 111:65535 | cue 1 3: | place - | last 0 | ended -";
-
-#[test]
-fn devices_come_and_go(rt: HostRuntime) -> Result<(), Fail> {
-    from_empty(&rt, rt.alloc(), DEVICES)
-}
-
-// The same parts are known. Other bytes, another order, a part less, and other devices are not the same parts; a device that is not there is
-// told first; other texts are other cues.
-const CUES: &str = "\
+state = devices 3:9001 111:65535 | cue 1 3: | place - | last 0 | ended -",
+    // Cues are added once.
+    // The same parts are known. Other bytes, another order, a part less, and other devices are not the same parts; a device that is not there is
+    // told first; other texts are other cues.
+    "\
 add_device 3 9001 = made Device 3 9001
 add_device 4 9002 = made Device 4 9002
 add_cue 1 5: = 9 UnknownDevice
@@ -38,14 +36,18 @@ add_cue 1 3:up 5: = 9 UnknownDevice
 add_cue 01 4: = made Cue 01 4:
 add_cue 1.0 4: = made Cue 1.0 4:
 add_cue 1.0 4:0 = 6 Duplicate
-state = devices 3:9001 4:9002 | cue 1 3:up 4: | cue 01 4: | cue 1.0 4: | place - | last 0 | ended -";
+state = devices 3:9001 4:9002 | cue 1 3:up 4: | cue 01 4: | cue 1.0 4: | place - | last 0 | ended -",
+];
 
 #[test]
-fn cues_are_added_once(rt: HostRuntime) -> Result<(), Fail> {
-    from_empty(&rt, rt.alloc(), CUES)
+fn devices_and_cues_are_added_once(rt: HostRuntime) -> Result<(), Fail> {
+    run_each(&rt, rt.alloc(), "", &TABLES)
 }
 
-const LAST_REMOVED: &str = "\
+// Removals, and what they make of the place.
+const REMOVALS: [&str; 3] = [
+    // The last cue is removed at the place.
+    "\
 goto 3 = 3 NoMethod
 goto 1 = made Place 1
 goto 1 = known
@@ -56,34 +58,28 @@ remove_cue 2 = 11 Busy
 release 3 = made Cancel 1 Release LetGo 1 3
 remove_cue 2 = made NoCue 2
 remove_cue 2 = 3 NoMethod
-state = devices 3:9001 4:9002 | cue 1 3:up 4: | place - | last 1 | ended 1 Cancelled";
-
-#[test]
-fn the_last_cue_is_removed_at_the_place(rt: HostRuntime) -> Result<(), Fail> {
-    on_show(&rt, rt.alloc(), LAST_REMOVED)
-}
-
-const FIRST_REMOVED: &str = "\
+state = devices 3:9001 4:9002 | cue 1 3:up 4: | place - | last 1 | ended 1 Cancelled",
+    // The place goes on from a removed cue.
+    "\
 goto 1 = made Place 1
 remove_cue 1 = made NoCue 1
-state = devices 3:9001 4:9002 | cue 2 3: | place 2 | last 0 | ended -";
-
-#[test]
-fn the_place_goes_on_from_a_removed_cue(rt: HostRuntime) -> Result<(), Fail> {
-    on_show(&rt, rt.alloc(), FIRST_REMOVED)
-}
-
-const OTHER_REMOVED: &str = "\
+state = devices 3:9001 4:9002 | cue 2 3: | place 2 | last 0 | ended -",
+    // The place stays where another cue is removed.
+    "\
 goto 1 = made Place 1
 remove_cue 2 = made NoCue 2
-state = devices 3:9001 4:9002 | cue 1 3:up 4: | place 1 | last 0 | ended -";
+state = devices 3:9001 4:9002 | cue 1 3:up 4: | place 1 | last 0 | ended -",
+];
 
 #[test]
-fn the_place_stays_where_another_cue_is_removed(rt: HostRuntime) -> Result<(), Fail> {
-    on_show(&rt, rt.alloc(), OTHER_REMOVED)
+fn the_place_goes_on_where_its_cue_is_removed(rt: HostRuntime) -> Result<(), Fail> {
+    run_each(&rt, rt.alloc(), SHOW, &REMOVALS)
 }
 
-const GIVEN_UP: &str = "\
+// What operators ask of an attempt, and what devices say of it.
+const ATTEMPTS: [&str; 6] = [
+    // An operator gives a cue up.
+    "\
 standby 3 0 = 3 NoMethod
 go 3 = 3 NoMethod
 cancel 3 = 3 NoMethod
@@ -104,14 +100,9 @@ cancelled 4 1 9002 = made LetGo 1 4
 cancelled 3 1 9001 = made LetGo 1 3
 cancel 1 = 12 NotLive
 standby 2 2000 = made Start 2 2 12000
-state = devices 3:9001 4:9002 | cue 1 3:up 4: | cue 2 3: | place - | last 2 | ended 1 Cancelled | attempt 2 2 until 12000 Preparing 3 Waiting";
-
-#[test]
-fn an_operator_gives_a_cue_up(rt: HostRuntime) -> Result<(), Fail> {
-    on_show(&rt, rt.alloc(), GIVEN_UP)
-}
-
-const DECIDED: &str = "\
+state = devices 3:9001 4:9002 | cue 1 3:up 4: | cue 2 3: | place - | last 2 | ended 1 Cancelled | attempt 2 2 until 12000 Preparing 3 Waiting",
+    // A decided cue is not taken back.
+    "\
 standby 1 1000 = made Start 1 1 11000
 standing_by 4 1 9002 = made Ready 1 4
 go 1 = 13 NotReady
@@ -123,14 +114,9 @@ cancel 1 = 14 Decided
 standby 1 2000 = 11 Busy
 standby 2 2000 = 11 Busy
 remove_cue 1 = 11 Busy
-state = devices 3:9001 4:9002 | cue 1 3:up 4: | cue 2 3: | place 2 | last 1 | ended - | attempt 1 1 until 11000 Decided 3 Waiting 4 Waiting";
-
-#[test]
-fn a_decided_cue_is_not_taken_back(rt: HostRuntime) -> Result<(), Fail> {
-    on_show(&rt, rt.alloc(), DECIDED)
-}
-
-const RELEASED: &str = "\
+state = devices 3:9001 4:9002 | cue 1 3:up 4: | cue 2 3: | place 2 | last 1 | ended - | attempt 1 1 until 11000 Decided 3 Waiting 4 Waiting",
+    // Devices are released from preparations.
+    "\
 release 5 = 3 NoMethod
 release 3 = 12 NotLive
 standby 1 1000 = made Start 1 1 11000
@@ -145,14 +131,9 @@ abort 4 2 9002 = made Failed 2 4
 standby 2 3000 = made Start 3 2 13000
 standing_by 3 3 9001 = made Ready 3 3
 release 4 = 12 NotLive
-state = devices 3:9001 4:9002 | cue 1 3:up 4: | cue 2 3: | place - | last 3 | ended 2 Cancelled | attempt 3 2 until 13000 Preparing 3 Ready";
-
-#[test]
-fn devices_are_released_from_preparations(rt: HostRuntime) -> Result<(), Fail> {
-    on_show(&rt, rt.alloc(), RELEASED)
-}
-
-const RELEASED_LATE: &str = "\
+state = devices 3:9001 4:9002 | cue 1 3:up 4: | cue 2 3: | place - | last 3 | ended 2 Cancelled | attempt 3 2 until 13000 Preparing 3 Ready",
+    // A device is released from a decided cue.
+    "\
 standby 1 1000 = made Start 1 1 11000
 standing_by 4 1 9002 = made Ready 1 4
 standing_by 3 1 9001 = made Ready 1 3
@@ -161,16 +142,11 @@ complete 3 1 9001 = made Done 1 3
 release 3 = known
 release 4 = made Failed 1 4
 release 4 = 12 NotLive
-state = devices 3:9001 4:9002 | cue 1 3:up 4: | cue 2 3: | place 2 | last 1 | ended 1 Failed";
-
-#[test]
-fn a_device_is_released_from_a_decided_cue(rt: HostRuntime) -> Result<(), Fail> {
-    on_show(&rt, rt.alloc(), RELEASED_LATE)
-}
-
-// No such device, then another port, then a number above the last, then one that is not live, then a device that is not of the attempt; two
-// devices may share a port.
-const REPLIES: &str = "\
+state = devices 3:9001 4:9002 | cue 1 3:up 4: | cue 2 3: | place 2 | last 1 | ended 1 Failed",
+    // Replies are sorted before they are judged.
+    // No such device, then another port, then a number above the last, then one that is not live, then a device that is not of the attempt; two
+    // devices may share a port.
+    "\
 complete 5 1 9001 = 3 NoMethod
 complete 3 1 9002 = 17 WrongPort
 complete 3 1 9001 = 16 Early
@@ -185,9 +161,16 @@ standing_by 4 1 9002 = 15 Stale
 cancelled 3 1 9002 = 17 WrongPort
 add_device 5 9002 = made Device 5 9002
 complete 5 1 9002 = 15 Stale
-state = devices 3:9001 4:9002 5:9002 | cue 1 3:up 4: | cue 2 3: | place - | last 1 | ended 1 Cancelled";
+state = devices 3:9001 4:9002 5:9002 | cue 1 3:up 4: | cue 2 3: | place - | last 1 | ended 1 Cancelled",
+    // A deadline is a moment.
+    "\
+standby 1 18446744073709551615 = 18 Clock
+standby 1 18446744073709541616 = 18 Clock
+standby 1 18446744073709541615 = made Start 1 1 18446744073709551615
+state = devices 3:9001 4:9002 | cue 1 3:up 4: | cue 2 3: | place - | last 1 | ended - | attempt 1 1 until 18446744073709551615 Preparing 3 Waiting 4 Waiting",
+];
 
 #[test]
-fn replies_are_sorted_before_they_are_judged(rt: HostRuntime) -> Result<(), Fail> {
-    on_show(&rt, rt.alloc(), REPLIES)
+fn attempts_are_judged_line_by_line(rt: HostRuntime) -> Result<(), Fail> {
+    run_each(&rt, rt.alloc(), SHOW, &ATTEMPTS)
 }

@@ -102,20 +102,11 @@ fn event_of_attempt(words: &[&str]) -> Result<Event, Fail> {
         ["Ready", seq, number] => Ok(Event::Ready(seq.parse()?, device(number)?)),
         ["Go", seq] => Ok(Event::Go(seq.parse()?)),
         ["Done", seq, number] => Ok(Event::Done(seq.parse()?, device(number)?)),
-        ["Cancel", seq, name] => Ok(Event::Cancel(seq.parse()?, reason(name)?)),
+        ["Cancel", seq, "Operator"] => Ok(Event::Cancel(seq.parse()?, Reason::Operator)),
+        ["Cancel", seq, "Power"] => Ok(Event::Cancel(seq.parse()?, Reason::Power)),
+        ["Cancel", seq, "Release"] => Ok(Event::Cancel(seq.parse()?, Reason::Release)),
         ["LetGo", seq, number] => Ok(Event::LetGo(seq.parse()?, device(number)?)),
         ["Failed", seq, number] => Ok(Event::Failed(seq.parse()?, device(number)?)),
         _ => Err("no event")?,
-    }
-}
-
-fn reason(name: &str) -> Result<Reason, Fail> {
-    match name {
-        "Operator" => Ok(Reason::Operator),
-        "Deadline" => Ok(Reason::Deadline),
-        "Abort" => Ok(Reason::Abort),
-        "Power" => Ok(Reason::Power),
-        "Release" => Ok(Reason::Release),
-        _ => Err("no reason")?,
     }
 }

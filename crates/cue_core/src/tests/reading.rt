@@ -24,7 +24,7 @@ fn device(text: &str) -> Result<DeviceNo, Fail> {
 
 // A device and its bytes, as in `3:up`.
 fn part(alloc: Global, text: &str) -> Result<Part, Fail> {
-    let (number, bytes) = text.split_once(':').ok_or("no part")?;
+    let (number, bytes) = text.split_once(":").ok_or("no part")?;
     Ok(Part::of(alloc, device(number)?, bytes.as_bytes())?)
 }
 
@@ -96,17 +96,33 @@ pub(super) fn event(alloc: Global, words: &[&str]) -> Result<Event, Fail> {
 
 fn event_of_attempt(words: &[&str]) -> Result<Event, Fail> {
     match words {
-        ["Start", seq, text, deadline] => {
-            Ok(Event::Start(seq.parse()?, cue(text)?, deadline.parse()?))
-        }
-        ["Ready", seq, number] => Ok(Event::Ready(seq.parse()?, device(number)?)),
+        ["Start", seq, text, deadline] => start(seq.parse()?, text, deadline),
         ["Go", seq] => Ok(Event::Go(seq.parse()?)),
-        ["Done", seq, number] => Ok(Event::Done(seq.parse()?, device(number)?)),
-        ["Cancel", seq, "Operator"] => Ok(Event::Cancel(seq.parse()?, Reason::Operator)),
-        ["Cancel", seq, "Power"] => Ok(Event::Cancel(seq.parse()?, Reason::Power)),
-        ["Cancel", seq, "Release"] => Ok(Event::Cancel(seq.parse()?, Reason::Release)),
-        ["LetGo", seq, number] => Ok(Event::LetGo(seq.parse()?, device(number)?)),
-        ["Failed", seq, number] => Ok(Event::Failed(seq.parse()?, device(number)?)),
+        ["Cancel", seq, name] => Ok(Event::Cancel(seq.parse()?, reason(name)?)),
+        [name, seq, number] => event_of_device(name, seq.parse()?, device(number)?),
         _ => Err("no event")?,
+    }
+}
+
+fn start(seq: u32, text: &str, deadline: &str) -> Result<Event, Fail> {
+    Ok(Event::Start(seq, cue(text)?, deadline.parse()?))
+}
+
+fn event_of_device(name: &str, seq: u32, device: DeviceNo) -> Result<Event, Fail> {
+    match name {
+        "Ready" => Ok(Event::Ready(seq, device)),
+        "Done" => Ok(Event::Done(seq, device)),
+        "LetGo" => Ok(Event::LetGo(seq, device)),
+        "Failed" => Ok(Event::Failed(seq, device)),
+        _ => Err("no event of a device")?,
+    }
+}
+
+fn reason(name: &str) -> Result<Reason, Fail> {
+    match name {
+        "Operator" => Ok(Reason::Operator),
+        "Power" => Ok(Reason::Power),
+        "Release" => Ok(Reason::Release),
+        _ => Err("no reason")?,
     }
 }

@@ -17,3 +17,6 @@ pub use event::{Ended, Event};
 pub use events::Events;
 pub use judging::judge;
 pub use state::{State, undecided};
+
+#[cfg(test)]
+mod tests;

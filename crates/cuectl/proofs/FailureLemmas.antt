@@ -1,14 +1,13 @@
 -- Failures that come of what a call of another function met.
 use Rattle.std.specs.Prelude.{◌≡◌, ℕ, ◌≤◌, Bool, true, false, if◌then◌else◌}
-use Rattle.std.proofs.Common.{arith, sym, ◌∙◌, subst}
+use Rattle.std.proofs.Common.{arith, ◌∙◌, subst}
 use Rattle.std.specs.declared.io.Error.{Error}
 use Rattle.cue_disk.specs.Disk.{MoreFailures}
-use Rattle.cuectl.specs.declared.script.ending.Ending.{Ending}
 use Rattle.cuectl.specs.declared.script.ending.Failure.{Failure}
 use Rattle.cuectl.specs.declared.script.ending.Failure.TheVariants.{Io, Memory, Disk, Broken}
 use Rattle.cuectl.specs.declared.script.ending.Stop.{Stop}
 use Rattle.cuectl.specs.declared.script.ending.Stop.TheVariants.{Ended, Failed}
-use Rattle.cuectl.specs.Failures.{HasCause, failure_of, is_memory}
+use Rattle.cuectl.specs.Failures.{HasCause, failure_of}
 use Rattle.cuectl.specs.Playing.{IfEnded, IfFailed}
 
 of_either : (lacked : Bool) (A : Type 0) → A → HasCause (if lacked then Memory else Io) A ⊥ ⊥

@@ -2,6 +2,7 @@ pub mod Batch
 pub mod Commands
 pub mod Controller
 pub mod Endings
+pub mod Failures
 pub mod Heard
 pub mod Hearing
 pub mod Line

@@ -1,9 +1,10 @@
 -- What a script has written so far.
-use Rattle.std.specs.Prelude.{◌≡◌, ℕ, ◌++◌, List, Option}
+use Rattle.std.specs.Prelude.{◌≡◌, ℕ, ◌++◌, List, Option, Result, MatchResult}
 use Rattle.std.specs.Io.KnownBytes.{Appends}
 use Rattle.cue_log.specs.Words.{end_of}
 use Rattle.cuectl.specs.declared.controller.Controller.{Controller}
 use Rattle.cuectl.specs.declared.script.ending.Ending.{Ending}
+use Rattle.cuectl.specs.declared.script.ending.Failure.{Failure}
 use Rattle.cuectl.specs.declared.script.ending.Stop.{Stop}
 use Rattle.cuectl.specs.declared.script.ending.Stop.TheVariants.{Ended, Failed}
 use Rattle.cuectl.specs.Controller.{devices_of, log_of}
@@ -22,6 +23,15 @@ GoesOn (stops ending) stage old new = ⊥
 abbrev pub IfEnded : Stop → (Ending → Type 0) → Type 0
 IfEnded (Ended ending) P = P ending
 IfEnded (Failed failure) P = Unit {0}
+
+-- a fact for the failure, where something outside the script stopped it
+abbrev pub IfFailed : Stop → (Failure → Type 0) → Type 0
+IfFailed (Ended ending) P = Unit {0}
+IfFailed (Failed failure) P = P failure
+
+-- a fact where the script goes on or was stopped by its own text
+abbrev pub UnlessFailed : {T : Type 0} → Result T Stop → Type 0 → Type 0
+UnlessFailed result P = MatchResult result (λ _. P) (λ stop. IfEnded stop (λ _. P))
 
 -- all but the last line was written, and the script ends so
 pub record WroteUpTo (whole : Played) (ending : Ending) (old new : Option (List ℕ)) : Type 0 where

@@ -75,5 +75,9 @@ played stage [] = ended Done
 played stage (line ∷ lines) = after_step (λ next. played next lines) (line_step stage line)
 
 -- a script of at most 1,048,576 bytes is run line by line, and a longer one not at all
-unfoldable pub script : List ℕ → Played
-script text = if nat_lt 1048576 (length text) then ended BadInput else played first_stage (lines_of text)
+unfoldable pub script_from : Stage → List ℕ → Played
+script_from stage text = if nat_lt 1048576 (length text) then ended BadInput else played stage (lines_of text)
+
+-- a script on a new disk
+abbrev pub script : List ℕ → Played
+script text = script_from first_stage text

@@ -2,7 +2,6 @@
 use crate::program::perform;
 use crate::script::script;
 use std::alloc::{AllocError, Global};
-use std::io::{self, ErrorKind, Read, Write};
 use std::process::Abort;
 use std::test::Fail;
 
@@ -139,38 +138,6 @@ fn longest_script(rt: HostRuntime) -> Result<(), Fail> {
     let mut written = Vec::new(alloc);
     assert_eq!(rt; script(alloc, &mut text.as_slice(), &mut written), 1);
     assert!(rt; written.as_slice() == b"! BadInput\n".as_slice());
-    Ok(())
-}
-
-#[derive(Drop)]
-struct Failing;
-
-impl Read for Failing {
-    fn read(&mut self, _buf: &mut [u8]) -> io::Result<usize> {
-        Err(io::Error::from(ErrorKind::BrokenPipe))
-    }
-}
-
-impl Write for Failing {
-    fn write(&mut self, _buf: &[u8]) -> io::Result<usize> {
-        Err(io::Error::from(ErrorKind::BrokenPipe))
-    }
-
-    fn flush(&mut self) -> io::Result<()> {
-        Err(io::Error::from(ErrorKind::BrokenPipe))
-    }
-}
-
-/// A reader or a writer that fails gives status 3.
-#[test]
-fn failing_streams(rt: HostRuntime) -> Result<(), Fail> {
-    let alloc = rt.alloc();
-    let mut written = Vec::new(alloc);
-    assert_eq!(rt; script(alloc, &mut Failing, &mut written), 3);
-    assert!(rt; written.as_slice() == b"! Io\n".as_slice());
-    let text = datagram(alloc, SLASH_STATUS)?;
-    assert_eq!(rt; script(alloc, &mut text.as_bytes(), &mut Failing), 3);
-    assert_eq!(rt; script(alloc, &mut "".as_bytes(), &mut Failing), 3);
     Ok(())
 }
 

@@ -39,7 +39,7 @@ pub(crate) fn batch_record(alloc: Global, devices: &[Device]) -> Result<Record, 
     ensures record_ { IfOk result (λ made. made ≡ batch_text devices.now) }
     ensures short { OnOk result (length (batch_text devices.now) ≤ 32768) }
     ensures full { result ≡ Err Fault.Full → 32768 < length (batch_text devices.now) }
-    ensures others { result ≢ Err Fault.Broken }
+    ensures others { (result ≢ Err Fault.Broken) × (result ≢ Err Fault.Disk) }
 {
     if devices.len() > BATCH_LIMIT {
         return Err(Fault::Full);

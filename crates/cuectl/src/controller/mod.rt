@@ -31,11 +31,12 @@ pub struct Controller<D: Disk> {
 }
 
 impl<D: Disk> Controller<D> {
-    ghost use Rattle.std.specs.Prelude.{◌≡◌, ◌≢◌, ◌↔◌, ◌<◌, ◌+◌, ◌++◌, [], true, false, length, IfOk, IfErr, OnOk, OnErr, Ok, Err};
+    ghost use Rattle.std.specs.Prelude.{◌≡◌, ◌≢◌, ◌↔◌, ◌<◌, ◌≤◌, ◌+◌, ◌++◌, [], true, false, length, IfOk, IfErr, OnOk, OnErr, Ok, Err};
+    ghost use Rattle.cue_disk.specs.Disk.{CountsFailure, MoreFailures};
     ghost use Rattle.cue_log.specs.Area.{fresh, with_payload};
     ghost use Rattle.cue_log.specs.Log.{ReadsAs};
-    ghost use Rattle.cue_log.specs.Words.{disk_of, end_of, is_broken, area_of};
-    ghost use Rattle.cuectl.specs.Controller.{devices_of, log_of, empty_state};
+    ghost use Rattle.cue_log.specs.Words.{disk_of, end_of, is_broken, area_of, disk_after};
+    ghost use Rattle.cuectl.specs.Controller.{devices_of, log_of, failures_of, empty_state};
     ghost use Rattle.cuectl.specs.Stored.{is_large, overflows, area_after, end_after};
     ghost use Rattle.cuectl.specs.Batch.{batch_text};
     ghost use Rattle.cuectl.specs.Sending.{datagrams};
@@ -50,6 +51,7 @@ impl<D: Disk> Controller<D> {
         ensures works { IfOk result (λ made. is_broken (log_of made) ≡ false) }
         ensures stored { D.is_honest disk → IfOk result (λ made. area_of D.held (log_of made) ≡ fresh 1 empty_state) }
         ensures disk { IfErr result (λ refused. refused.0 ≡ Fault.Disk) }
+        ensures count { CountsFailure result (D.failures disk) (D.failures (disk_after (λ made. disk_of (log_of made)) result)) }
     {
         match Log::form(disk, 1, &EMPTY_STATE) {
             Ok(log) => Ok(Controller {
@@ -76,6 +78,12 @@ impl<D: Disk> Controller<D> {
 
         ensures broken { (result ≡ Err Fault.Broken) ↔ (is_broken (log_of self.old) ≡ true) }
         ensures works { OnOk result (is_broken (log_of self.new) ≡ false) }
+
+        // Disk is the device's own failure, and breaks the log.
+        ensures disk { result ≡ Err Fault.Disk → MoreFailures (failures_of D.failures self.old) (failures_of D.failures self.new) }
+        ensures breaks { result ≡ Err Fault.Disk → is_broken (log_of self.new) ≡ true }
+        ensures failures { failures_of D.failures self.old ≤ failures_of D.failures self.new }
+
         ensures room { OnOk result (overflows (end_of (log_of self.old)) (given (devices_of self.old) now from datagram.now).batch ≡ false) }
         ensures full { result ≡ Err Fault.Full → overflows (end_of (log_of self.old)) (given (devices_of self.old) now from datagram.now).batch ≡ true }
         ensures honest { D.is_honest (disk_of (log_of self.new)) ↔ D.is_honest (disk_of (log_of self.old)) }
@@ -103,6 +111,9 @@ impl<D: Disk> Controller<D> {
         ensures room { OnOk result (is_large (end_of (log_of self.old)) (batch_text added.now) ≡ false) }
         ensures full { result ≡ Err Fault.Full → is_large (end_of (log_of self.old)) (batch_text added.now) ≡ true }
         ensures others { result ≢ Err Fault.Broken }
+        ensures disk { result ≡ Err Fault.Disk → MoreFailures (failures_of D.failures self.old) (failures_of D.failures self.new) }
+        ensures breaks { result ≡ Err Fault.Disk → is_broken (log_of self.new) ≡ true }
+        ensures failures { failures_of D.failures self.old ≤ failures_of D.failures self.new }
         ensures honest { D.is_honest (disk_of (log_of self.new)) ↔ D.is_honest (disk_of (log_of self.old)) }
     {
         let made = batch_record(self.alloc, added)?;

@@ -2,9 +2,10 @@
 ghost use Rattle.std.specs.Prelude.{◌≡◌};
 ghost use Rattle.cuectl.specs.Script.{ending_line};
 ghost use Rattle.cuectl.specs.Endings.{status_of};
+ghost use Rattle.cuectl.specs.Failures.{failure_line, failure_of};
 
 use std::alloc::AllocError;
-use std::io;
+use std::io::{self, ErrorKind};
 
 /// How a script ends that nothing went wrong with but its own text.
 #[derive(Clone, Copy, Debug, PartialEq, Eq)]
@@ -19,7 +20,7 @@ pub enum Ending {
     Full,
 }
 
-/// What can go wrong outside a script.
+/// What can go wrong outside a script, and ends it.
 #[derive(Clone, Copy, Debug, PartialEq, Eq)]
 pub enum Failure {
     /// The reader or the writer failed.
@@ -28,7 +29,7 @@ pub enum Failure {
     Memory,
     /// The disk failed.
     Disk,
-    /// The disk failed before.
+    /// The log is broken, since the disk failed before.
     Broken,
 }
 
@@ -40,14 +41,23 @@ pub enum Stop {
 }
 
 impl From<AllocError> for Failure {
+    ghost use Rattle.cuectl.specs.declared.script.ending.Failure.TheVariants.{Memory};
+
+    ghost from_gives = { λ _ failure. failure ≡ Memory };
+
     fn from(_: AllocError) -> Failure {
         Failure::Memory
     }
 }
 
 impl From<io::Error> for Failure {
-    fn from(_: io::Error) -> Failure {
-        Failure::Io
+    ghost from_gives = { λ error failure. failure ≡ failure_of error };
+
+    fn from(error: io::Error) -> Failure {
+        match error.kind() {
+            ErrorKind::OutOfMemory => Failure::Memory,
+            _ => Failure::Io,
+        }
     }
 }
 
@@ -87,7 +97,9 @@ impl Ending {
 
 impl Failure {
     /// The last line of the output.
-    pub fn line(self) -> &'static [u8] {
+    pub fn line(self) -> &'static [u8]
+        ensures { result.now ≡ failure_line self }
+    {
         match self {
             Failure::Io => b"! Io\n",
             Failure::Memory => b"! Memory\n",

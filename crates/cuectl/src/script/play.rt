@@ -1,18 +1,22 @@
 //! Running a script line by line.
-ghost use Rattle.std.specs.Prelude.{◌≡◌, IfOk, IfErr, OnOk};
+ghost use Rattle.std.specs.Prelude.{◌≡◌, ◌≤◌, true, false, IfOk, IfErr, OnOk};
 ghost use Rattle.std.specs.Io.KnownBytes.{Appends, Keeps};
+ghost use Rattle.cue_disk.specs.Disk.{MoreFailures};
+ghost use Rattle.cuectl.specs.Controller.{failures_of, has_failed};
+ghost use Rattle.cuectl.specs.Failures.{HasCause};
 ghost use Rattle.cuectl.specs.Line.{lines_of};
-ghost use Rattle.cuectl.specs.Playing.{stage_of, GoesOn, IfEnded, WroteUpTo};
-ghost use Rattle.cuectl.specs.Script.{line_step, goes_on, stops, printed, played, first_stage};
+ghost use Rattle.cuectl.specs.Playing.{stage_of, GoesOn, IfEnded, IfFailed, UnlessFailed, WroteUpTo};
+ghost use Rattle.cuectl.specs.Script.{line_step, goes_on, stops, printed, played};
 ghost use Rattle.cuectl.specs.SendingViews.{outs_view};
 ghost use Rattle.cuectl.specs.declared.script.ending.Ending.TheVariants.{Done};
 
 use super::ending::{Ending, Failure, Stop};
 use super::line::{first_line, read_arrival};
 use super::print::print_all;
+use super::stream::Streams;
 use crate::controller::reply::Out;
 use crate::controller::{Controller, Fault};
-use cue_disk::{Disk, MemDisk};
+use cue_disk::Disk;
 use std::alloc::Global;
 use std::io::Write;
 
@@ -25,6 +29,12 @@ fn answer<D: Disk>(
 ) -> Result<Vec<Out>, Stop>
     ensures goes_on { IfOk result (λ outs. line_step (stage_of controller.old) line.now ≡ goes_on (printed (outs_view outs.items)) (stage_of controller.new)) }
     ensures stops { IfErr result (λ stop. IfEnded stop (λ ending. line_step (stage_of controller.old) line.now ≡ stops ending)) }
+
+    // It makes no call of the streams.
+    ensures cause { IfErr result (λ stop. IfFailed stop (λ failure. HasCause failure ⊥
+        (MoreFailures (failures_of D.failures controller.old) (failures_of D.failures controller.new)) (has_failed controller.old ≡ true))) }
+    ensures failures { failures_of D.failures controller.old ≤ failures_of D.failures controller.new }
+    ensures works { OnOk result (has_failed controller.new ≡ false) }
 {
     let Some(arrival) = read_arrival(alloc, line).map_err(Failure::from)? else {
         return Err(Stop::Ended(Ending::BadLine));
@@ -43,31 +53,43 @@ fn play_line<D: Disk, W: Write>(
     alloc: Global,
     controller: &mut Controller<D>,
     line: &[u8],
+    streams: &mut Streams,
     writer: &mut W,
 ) -> Result<(), Stop>
     ensures goes_on { OnOk result (GoesOn (line_step (stage_of controller.old) line.now) (stage_of controller.new) (W.contents writer.old) (W.contents writer.new)) }
     ensures stops { IfErr result (λ stop. IfEnded stop (λ ending.
         (line_step (stage_of controller.old) line.now ≡ stops ending) × (W.contents writer.new ≡ W.contents writer.old))) }
+    ensures cause { IfErr result (λ stop. IfFailed stop (λ failure. HasCause failure (MoreFailures streams.old.failures streams.new.failures)
+        (MoreFailures (failures_of D.failures controller.old) (failures_of D.failures controller.new)) (has_failed controller.old ≡ true))) }
+    ensures no_failure { UnlessFailed result (streams.new.failures ≡ streams.old.failures) }
+    ensures failures { failures_of D.failures controller.old ≤ failures_of D.failures controller.new }
+    ensures works { OnOk result (has_failed controller.new ≡ false) }
 {
     let outs = answer(alloc, controller, line)?;
-    print_all(alloc, &outs, writer)?;
-    Ok(())
+    match print_all(alloc, &outs, streams, writer) {
+        Ok(()) => Ok(()),
+        Err(error) => Err(Stop::Failed(Failure::from(error))),
+    }
 }
 
 fn play_lines<D: Disk, W: Write>(
     alloc: Global,
     controller: &mut Controller<D>,
     text: &[u8],
+    streams: &mut Streams,
     writer: &mut W,
 ) -> Result<(), Stop>
     ensures done { OnOk result (WroteUpTo (played (stage_of controller.old) (lines_of text.now)) Done (W.contents writer.old) (W.contents writer.new)) }
     ensures ended { IfErr result (λ stop. IfEnded stop (λ ending.
         WroteUpTo (played (stage_of controller.old) (lines_of text.now)) ending (W.contents writer.old) (W.contents writer.new))) }
+    ensures cause { IfErr result (λ stop. IfFailed stop (λ failure. HasCause failure (MoreFailures streams.old.failures streams.new.failures)
+        (MoreFailures (failures_of D.failures controller.old) (failures_of D.failures controller.new)) (has_failed controller.old ≡ true))) }
+    ensures no_failure { UnlessFailed result (streams.new.failures ≡ streams.old.failures) }
 {
     let mut rest = text;
     while !rest.is_empty() {
         let (line, behind) = first_line(rest);
-        match play_line(alloc, controller, line, writer) {
+        match play_line(alloc, controller, line, streams, writer) {
             Ok(()) => rest = behind,
             Err(stop) => return Err(stop),
         }
@@ -75,16 +97,21 @@ fn play_lines<D: Disk, W: Write>(
     Ok(())
 }
 
-/// Runs the lines of a script on a memory disk of its own, and tells how it ends. The last line of
-/// the output is left to the caller.
-pub fn play<W: Write>(alloc: Global, text: &[u8], writer: &mut W) -> Result<Ending, Failure>
-    ensures { IfOk result (λ ending. WroteUpTo (played first_stage (lines_of text.now)) ending (W.contents writer.old) (W.contents writer.new)) }
+/// Runs the lines of a script, and tells how it ends. The last line of the output is left to the
+/// caller.
+pub fn play<D: Disk, W: Write>(
+    alloc: Global,
+    controller: &mut Controller<D>,
+    text: &[u8],
+    streams: &mut Streams,
+    writer: &mut W,
+) -> Result<Ending, Failure>
+    ensures wrote { IfOk result (λ ending. WroteUpTo (played (stage_of controller.old) (lines_of text.now)) ending (W.contents writer.old) (W.contents writer.new)) }
+    ensures cause { IfErr result (λ failure. HasCause failure (MoreFailures streams.old.failures streams.new.failures)
+        (MoreFailures (failures_of D.failures controller.old) (failures_of D.failures controller.new)) (has_failed controller.old ≡ true)) }
+    ensures no_failure { OnOk result (streams.new.failures ≡ streams.old.failures) }
 {
-    let mut controller = match Controller::form(alloc, MemDisk::new(alloc)) {
-        Ok(controller) => controller,
-        Err((_, _)) => return Err(Failure::Disk),
-    };
-    match play_lines(alloc, &mut controller, text, writer) {
+    match play_lines(alloc, controller, text, streams, writer) {
         Ok(()) => Ok(Ending::Done),
         Err(Stop::Ended(ending)) => Ok(ending),
         Err(Stop::Failed(failure)) => Err(failure),

@@ -1,13 +1,15 @@
 //! Printing what is sent: a line `> PORT HEX` for each datagram.
-ghost use Rattle.std.specs.Prelude.{◌≡◌, IfOk, OnOk, string_bytes};
+ghost use Rattle.std.specs.Prelude.{◌≡◌, IfOk, IfErr, OnOk, string_bytes};
 ghost use Rattle.std.specs.Io.KnownBytes.{Appends};
+ghost use Rattle.cue_disk.specs.Disk.{MoreFailures};
+ghost use Rattle.cuectl.specs.Failures.{failure_of, HasCause};
 ghost use Rattle.cuectl.specs.Script.{line_of, printed};
 ghost use Rattle.cuectl.specs.SendingViews.{out_view, outs_view};
 
-use super::ending::Failure;
+use super::stream::Streams;
 use crate::controller::reply::Out;
 use std::alloc::{AllocError, Global};
-use std::io::Write;
+use std::io::{self, Write};
 
 fn line_of(alloc: Global, out: &Out) -> Result<String, AllocError>
     ensures { IfOk result (λ line. string_bytes line ≡ line_of (out_view out.now)) }
@@ -17,20 +19,33 @@ fn line_of(alloc: Global, out: &Out) -> Result<String, AllocError>
     format!(in alloc; "> {port} {digits}\n")
 }
 
-fn print<W: Write>(alloc: Global, out: &Out, writer: &mut W) -> Result<(), Failure>
-    ensures { OnOk result (Appends (W.contents writer.old) (W.contents writer.new) (line_of (out_view out.now))) }
+fn print<W: Write>(
+    alloc: Global,
+    out: &Out,
+    streams: &mut Streams,
+    writer: &mut W,
+) -> io::Result<()>
+    ensures written { OnOk result (Appends (W.contents writer.old) (W.contents writer.new) (line_of (out_view out.now))) }
+    ensures no_failure { OnOk result (streams.new.failures ≡ streams.old.failures) }
+    ensures cause { IfErr result (λ error. HasCause (failure_of error) (MoreFailures streams.old.failures streams.new.failures) ⊥ ⊥) }
 {
     let line = line_of(alloc, out)?;
-    writer.write_all(line.as_bytes())?;
-    Ok(())
+    streams.write_all(writer, line.as_bytes())
 }
 
 /// Prints what is sent, in order.
-pub fn print_all<W: Write>(alloc: Global, outs: &[Out], writer: &mut W) -> Result<(), Failure>
-    ensures { OnOk result (Appends (W.contents writer.old) (W.contents writer.new) (printed (outs_view outs.now))) }
+pub fn print_all<W: Write>(
+    alloc: Global,
+    outs: &[Out],
+    streams: &mut Streams,
+    writer: &mut W,
+) -> io::Result<()>
+    ensures written { OnOk result (Appends (W.contents writer.old) (W.contents writer.new) (printed (outs_view outs.now))) }
+    ensures no_failure { OnOk result (streams.new.failures ≡ streams.old.failures) }
+    ensures cause { IfErr result (λ error. HasCause (failure_of error) (MoreFailures streams.old.failures streams.new.failures) ⊥ ⊥) }
 {
     for out in outs {
-        print(alloc, out, writer)?;
+        print(alloc, out, streams, writer)?;
     }
     Ok(())
 }

@@ -1,14 +1,14 @@
 -- Commands, ticks and recoveries in turn make histories.
-use Rattle.std.proofs.Common.{◌≡◌, ℕ, ◌<◌, ◌≤◌, List, [], ◌∷◌, ◌++◌, refl, sym, ◌∙◌, ap, Bool, true, false, not, ◌&&◌, ◌||◌, nat_eq, nat_le, nat_lt, arith}
+use Rattle.std.proofs.Common.{◌≡◌, ℕ, List, [], ◌∷◌, refl, Bool, true, false, ◌&&◌, ◌||◌, nat_eq, nat_le, nat_lt, arith}
 use Rattle.std.specs.Prelude.{IsTrue, map, filter, if◌then◌else◌}
-use Rattle.std.specs.List.{list_all, list_any}
+use Rattle.std.specs.List.{list_all}
 use Rattle.std.proofs.lemmas.Bool.Decides.{nat_tests}
 use Rattle.cue_exchange.specs.declared.attempt.Reason.{Reason}
 use Rattle.cue_exchange.specs.declared.attempt.Reason.TheVariants.{Deadline, Power}
 use Rattle.cue_exchange.specs.declared.attempt.Stage.TheVariants.{Cancelling}
 use Rattle.cue_exchange.specs.declared.attempt.Attempt.{Attempt}
 use Rattle.cue_exchange.specs.Answers.{is_preparing}
-use Rattle.cue_exchange.specs.Live.{is_due, pairwise}
+use Rattle.cue_exchange.specs.Live.{is_due}
 use Rattle.cue_exchange.specs.Steps.{holds, changed, moves_to, moved, can_cancel}
 use Rattle.cue_exchange.proofs.Lists.{pairwise_filter}
 use Rattle.cue_core.specs.declared.event.Event.{Event}
@@ -16,7 +16,6 @@ use Rattle.cue_core.specs.declared.event.Event.TheVariants.{Cancel}
 use Rattle.cue_core.specs.State.{Standing}
 use Rattle.cue_core.specs.Steps.{acceptable, after, are_acceptable}
 use Rattle.cue_core.specs.History.{state_of, is_history}
-use Rattle.cue_core.specs.Order.{is_in_order}
 use Rattle.cue_core.specs.Happenings.{Happening, commanded, ticked, recovered, can_come, cancels, is_undecided, events_at, onto, history_of, CommandsMakeHistories, CommandsInOrder}
 use Rattle.cue_core.proofs.Conditions.{both, join, all_from, all_zip, same_number, same_self}
 use Rattle.cue_core.proofs.Finding.{rising}

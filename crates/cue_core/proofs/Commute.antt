@@ -1,7 +1,7 @@
 -- Replies of two devices to one attempt give the same state in either order.
 use Rattle.std.proofs.Common.{◌≡◌, ◌≢◌, ℕ, List, [], ◌∷◌, refl, sym, ◌∙◌, ap, subst, Bool, true, false, not, ◌&&◌, ◌||◌, ◌⊎◌, inl, inr, nat_eq, nat_lt, Option, None, Some}
 use Rattle.std.specs.Prelude.{IsTrue, map, filter, find, if◌then◌else◌, option_and_then}
-use Rattle.std.specs.List.{list_all, list_any}
+use Rattle.std.specs.List.{list_all}
 use Rattle.std.specs.Option.{option_map, option_map_or}
 use Rattle.cue_show.specs.Show.{has_device}
 use Rattle.cue_exchange.specs.declared.attempt.Answer.{Answer}
@@ -11,16 +11,14 @@ use Rattle.cue_exchange.specs.declared.attempt.Stage.{Stage}
 use Rattle.cue_exchange.specs.declared.attempt.Stage.TheVariants.{Preparing, Decided, Cancelling}
 use Rattle.cue_exchange.specs.declared.attempt.DeviceAnswer.{DeviceAnswer}
 use Rattle.cue_exchange.specs.declared.attempt.Attempt.{Attempt}
-use Rattle.cue_exchange.specs.Answers.{is_waiting, is_preparing, waits, some_waits, answer_of, answers_with, with_answer, entering, enters, entered}
+use Rattle.cue_exchange.specs.Answers.{is_waiting, is_preparing, some_waits, answer_of, answers_with, with_answer, entering, enters, entered}
 use Rattle.cue_exchange.specs.Live.{attempt_of, has_number}
 use Rattle.cue_exchange.specs.Steps.{changed, answers_as, moves_to, answered, moved, goes_on, without_ended, ended_in, outcome_of}
-use Rattle.cue_core.specs.declared.event.Event.{Event}
-use Rattle.cue_core.specs.declared.event.Event.TheVariants as event
 use Rattle.cue_core.specs.declared.command.Code.TheVariants as code
 use Rattle.cue_core.specs.declared.command.ReplyKind.{ReplyKind}
 use Rattle.cue_core.specs.declared.command.ReplyKind.TheVariants as reply
 use Rattle.cue_core.specs.State.{Standing, with_live, is_state}
-use Rattle.cue_core.specs.Steps.{after, folded, settled, ended_as}
+use Rattle.cue_core.specs.Steps.{folded, settled, ended_as}
 use Rattle.cue_core.specs.Judge.{Judged, refused, on_reply, on_reply_to, on_reply_in, is_from_another}
 use Rattle.cue_core.specs.Replies.{Said, is_made, is_reply_made, after_reply, RepliesCommute}
 use Rattle.cue_core.proofs.Conditions.{both, join, all_from, same_number}

@@ -1,6 +1,6 @@
 -- Tests joined, and tests of each element of a list.
-use Rattle.std.proofs.Common.{◌≡◌, ℕ, List, [], ◌∷◌, ◌++◌, refl, sym, ◌∙◌, ap, Bool, true, false, not, ◌&&◌, ◌||◌, ◌⊎◌, inl, inr, nat_eq, nat_le, nat_lt, ◌≤◌, ◌<◌, arith}
-use Rattle.std.specs.Prelude.{IsTrue, map, filter}
+use Rattle.std.proofs.Common.{◌≡◌, ℕ, List, [], ◌∷◌, refl, ap, Bool, true, false, not, ◌&&◌, ◌||◌, ◌⊎◌, inl, inr, nat_eq, arith}
+use Rattle.std.specs.Prelude.{IsTrue, map}
 use Rattle.std.specs.List.{list_all, list_any}
 use Rattle.cue_exchange.specs.Live.{pairwise}
 use Rattle.std.proofs.lemmas.Bool.Decides.{nat_tests}

@@ -1,11 +1,11 @@
 -- The facts by history, and the order of an attempt's events.
-use Rattle.std.proofs.Common.{◌≡◌, ℕ, ◌+◌, List, [], ◌∷◌, ◌++◌, refl, sym, ◌∙◌, ap, subst, Bool, true, false, not, ◌&&◌, ◌||◌, ◌⊎◌, inl, inr, nat_eq, nat_le, nat_lt, ◌≤◌, ◌<◌, arith, Option, None, Some}
-use Rattle.std.specs.Prelude.{IsTrue, map, is_some, count_by, if◌then◌else◌}
+use Rattle.std.proofs.Common.{◌≡◌, ℕ, ◌+◌, List, [], ◌∷◌, refl, sym, ◌∙◌, ap, subst, Bool, true, false, not, ◌&&◌, ◌||◌, inl, inr, nat_eq, arith, Option, None, Some}
+use Rattle.std.specs.Prelude.{IsTrue, is_some, count_by, if◌then◌else◌}
 use Rattle.std.specs.List.{list_all, list_any}
 use Rattle.std.proofs.lemmas.List.Recursion.{is_count_by}
 use Rattle.cue_exchange.specs.declared.attempt.DeviceAnswer.{DeviceAnswer}
 use Rattle.cue_exchange.specs.declared.attempt.Attempt.{Attempt}
-use Rattle.cue_exchange.specs.Answers.{is_ready, is_preparing, is_decided, is_cancelling, answer_passes, devices_of, may_go, all_may_go}
+use Rattle.cue_exchange.specs.Answers.{is_ready, is_preparing, answer_passes, devices_of, may_go, all_may_go}
 use Rattle.cue_exchange.specs.Live.{attempt_of, has_number, is_among}
 use Rattle.cue_exchange.specs.Steps.{can_go_now, can_start}
 use Rattle.cue_show.specs.Show.{has_cue}
@@ -14,9 +14,9 @@ use Rattle.cue_core.specs.declared.event.Event.TheVariants as event
 use Rattle.cue_core.specs.State.{Standing, cue_parts}
 use Rattle.cue_core.specs.Steps.{acceptable, after}
 use Rattle.cue_core.specs.Events.{is_start, is_start_of, is_ready_of, is_go_of, is_cancel_of, is_end_of}
-use Rattle.cue_core.specs.History.{state_of, is_history, devices_by, is_live_by, stood_by, IsByHistory, FactsByHistory}
+use Rattle.cue_core.specs.History.{state_of, is_history, devices_by, is_live_by, stood_by, FactsByHistory}
 use Rattle.cue_core.specs.Order.{keeps_order, is_in_order, GoAfterReady}
-use Rattle.cue_core.proofs.Conditions.{both, join, cases, agrees, same-agrees, all_from, all_zip, all_mapped, any_not, same_number}
+use Rattle.cue_core.proofs.Conditions.{both, join, cases, agrees, same-agrees, all_zip, all_mapped, any_not, same_number}
 use Rattle.cue_core.proofs.Finding.{found, found_has}
 use Rattle.cue_core.proofs.Tells.{not_decided, Tells, is_last, last_by, ready_by}
 use Rattle.cue_core.proofs.Kept.{IsSound, Kept, Settles}

@@ -1,15 +1,12 @@
 -- The attempt with a number: what each change of the live attempts makes of it.
-use Rattle.std.proofs.Common.{◌≡◌, ℕ, List, [], ◌∷◌, ◌++◌, refl, sym, ◌∙◌, ap, subst, Bool, true, false, not, ◌&&◌, ◌||◌, ◌⊎◌, inl, inr, nat_eq, nat_le, nat_lt, ◌≤◌, ◌<◌, arith, Option, None, Some}
+use Rattle.std.proofs.Common.{◌≡◌, ℕ, List, [], ◌∷◌, refl, ◌∙◌, ap, Bool, true, false, not, ◌&&◌, ◌||◌, nat_eq, nat_lt, arith, Option, None, Some}
 use Rattle.std.specs.Prelude.{IsTrue, map, filter, find, if◌then◌else◌, option_and_then}
-use Rattle.std.specs.List.{list_all, list_any}
-use Rattle.std.specs.Option.{option_map, option_map_or, option_or}
-use Rattle.std.proofs.lemmas.List.Folds.{find-append}
+use Rattle.std.specs.List.{list_all}
+use Rattle.std.specs.Option.{option_map, option_map_or}
 use Rattle.cue_exchange.specs.declared.attempt.Attempt.{Attempt}
-use Rattle.cue_exchange.specs.declared.attempt.Stage.TheVariants.{Preparing}
 use Rattle.cue_exchange.specs.Answers.{some_waits}
 use Rattle.cue_exchange.specs.Live.{attempt_of, pairwise}
-use Rattle.cue_exchange.specs.Steps.{holds, changed, without_ended, goes_on, started}
-use Rattle.cue_show.specs.declared.part.Part.{Part}
+use Rattle.cue_exchange.specs.Steps.{holds, changed, without_ended, goes_on}
 use Rattle.cue_core.proofs.Conditions.{both, join, same_number, all_from, all_mapped}
 use Rattle.std.proofs.lemmas.Bool.Decides.{nat_tests}
 

@@ -1,6 +1,6 @@
 -- What judging makes is acceptable in turn.
-use Rattle.std.proofs.Common.{◌≡◌, ℕ, ◌+◌, ◌<◌, ◌≤◌, List, [], ◌∷◌, ◌++◌, length, refl, sym, ◌∙◌, ap, subst, Bool, true, false, not, cond, ◌&&◌, ◌||◌, nat_eq, nat_le, nat_lt, arith, Option, None, Some, Result, Ok, Err}
-use Rattle.std.specs.Prelude.{IsTrue, IfOk, is_some, map, find, if◌then◌else◌, unwrap_or}
+use Rattle.std.proofs.Common.{◌≡◌, ℕ, ◌+◌, List, [], ◌∷◌, length, refl, ◌∙◌, ap, Bool, true, false, not, cond, ◌&&◌, ◌||◌, nat_eq, nat_le, nat_lt, arith, Option, None, Some, Result, Ok, Err}
+use Rattle.std.specs.Prelude.{IsTrue, IfOk, is_some, map, find, if◌then◌else◌}
 use Rattle.std.specs.List.{list_all, list_any}
 use Rattle.std.specs.Map.{lookup}
 use Rattle.std.specs.Option.{option_map, option_map_or}
@@ -11,7 +11,7 @@ use Rattle.cue_show.specs.DeviceNumber.{is_device, is_port}
 use Rattle.cue_show.specs.Devices.{is_among, distinct}
 use Rattle.cue_show.specs.Number.{is_cue_number, same_text}
 use Rattle.cue_show.specs.Parts.{are_parts, is_part, same_parts}
-use Rattle.cue_show.specs.Show.{Cues, ShowLists, port_of, parts_of, has_device, has_cue, is_used, is_full, is_place, are_known, is_cue_of, is_show}
+use Rattle.cue_show.specs.Show.{Cues, ShowLists, port_of, parts_of, has_device, has_cue, is_used, is_full, is_place, are_known, is_cue_of}
 use Rattle.cue_show.proofs.ShowLemmas.{show_rules, stack_parts}
 use Rattle.cue_show.specs.declared.limits.TheConstants.{MAX_PARTS}
 use Rattle.cue_exchange.specs.declared.limits.TheConstants.{LAST_NUMBER}
@@ -23,9 +23,9 @@ use Rattle.cue_exchange.specs.declared.attempt.Stage.{Stage}
 use Rattle.cue_exchange.specs.declared.attempt.Stage.TheVariants.{Preparing, Decided, Cancelling}
 use Rattle.cue_exchange.specs.declared.attempt.DeviceAnswer.{DeviceAnswer}
 use Rattle.cue_exchange.specs.declared.attempt.Attempt.{Attempt}
-use Rattle.cue_exchange.specs.Answers.{devices_of, is_waiting, is_preparing, is_decided, is_cancelling, is_concluding, entering, entered, answer_of, answer_passes, all_may_go}
+use Rattle.cue_exchange.specs.Answers.{devices_of, is_waiting, is_preparing, is_decided, is_cancelling, is_concluding, entering, entered, answer_of, answer_passes}
 use Rattle.cue_exchange.specs.Live.{devices_in, attempt_of, attempt_of_cue, attempt_of_device, has_number, has_device as is_of_device, has_cue as is_of_cue, is_number, is_moment, are_sound_devices}
-use Rattle.cue_exchange.specs.Steps.{holds, waits_in, changed, moves_to, moved, can_go_now, are_free, has_room, are_below, can_start, can_cancel}
+use Rattle.cue_exchange.specs.Steps.{holds, waits_in, changed, moves_to, moved, can_go_now, are_free, has_room, are_below, can_start}
 use Rattle.cue_exchange.proofs.AnswerRules.{is_waiting-entering}
 use Rattle.cue_core.specs.declared.limits.TheConstants.{STANDBY_MS}
 use Rattle.cue_core.specs.declared.event.Event.{Event}
@@ -39,7 +39,7 @@ use Rattle.cue_core.specs.State.{Standing, cue_parts, is_state}
 use Rattle.cue_core.specs.Steps.{acceptable, after, are_acceptable}
 use Rattle.cue_core.specs.Judge.{made, known, refused, judged, is_fit, on_add_device, on_remove_device, on_add_cue, on_new_cue, on_goto, on_remove_cue, on_standby, on_standby_of, prepares, on_go, on_go_of, on_cancel, on_cancel_of, on_release, on_release_of, on_reply, on_reply_to, on_reply_in, is_from_another}
 use Rattle.cue_core.proofs.Conditions.{both, join, all_from, same_self}
-use Rattle.cue_core.proofs.Finding.{found_has, found_passes}
+use Rattle.cue_core.proofs.Finding.{found_passes}
 use Rattle.cue_core.proofs.Rules.{Rules, rules_of}
 
 one : (s : Standing) (e : Event) → IsTrue (acceptable s e) → IsTrue (are_acceptable s (e ∷ []))

@@ -1,8 +1,8 @@
 -- What a history tells of every number, and how each event carries it on.
-use Rattle.std.proofs.Common.{◌≡◌, ℕ, ◌+◌, List, [], ◌∷◌, ◌++◌, refl, sym, ◌∙◌, ap, subst, Bool, true, false, not, ◌&&◌, ◌||◌, ◌⊎◌, inl, inr, nat_eq, nat_le, nat_lt, ◌≤◌, ◌<◌, arith, Option, None, Some}
-use Rattle.std.specs.Prelude.{IsTrue, map, filter, find, if◌then◌else◌, option_and_then}
+use Rattle.std.proofs.Common.{◌≡◌, ℕ, ◌+◌, List, [], ◌∷◌, ◌++◌, refl, ◌∙◌, subst, Bool, true, false, not, ◌&&◌, ◌||◌, inl, inr, nat_eq, nat_le, nat_lt, ◌≤◌, ◌<◌, arith, Option, None, Some}
+use Rattle.std.specs.Prelude.{IsTrue, if◌then◌else◌}
 use Rattle.std.specs.List.{list_all, list_any}
-use Rattle.std.specs.Option.{option_map, option_map_or, option_or}
+use Rattle.std.specs.Option.{option_or}
 use Rattle.std.proofs.lemmas.List.Folds.{find-append}
 use Rattle.std.proofs.lemmas.Bool.Decides.{nat_tests}
 use Rattle.cue_exchange.specs.declared.attempt.Reason.{Reason}
@@ -12,17 +12,17 @@ use Rattle.cue_exchange.specs.declared.attempt.Stage.{Stage}
 use Rattle.cue_exchange.specs.declared.attempt.Stage.TheVariants.{Preparing, Decided, Cancelling}
 use Rattle.cue_exchange.specs.declared.attempt.Attempt.{Attempt}
 use Rattle.cue_exchange.specs.Answers.{is_waiting, is_preparing, is_decided, is_cancelling, is_concluding, is_known_in, stands, some_waits, answer_passes, all_may_go, answers_with}
-use Rattle.cue_exchange.specs.Live.{attempt_of, has_number, are_live, devices_in}
-use Rattle.cue_exchange.specs.Steps.{holds, waits_in, changed, answers_as, moves_to, new_attempt, started, answered, moved, goes_on, without_ended, can_start, can_ready, can_go, can_go_now, can_cancel, can_done, can_let_go, can_fail}
+use Rattle.cue_exchange.specs.Live.{attempt_of, has_number}
+use Rattle.cue_exchange.specs.Steps.{holds, waits_in, answers_as, moves_to, new_attempt, started, answered, moved, without_ended, can_start, can_ready, can_go, can_go_now, can_cancel, can_done, can_let_go, can_fail}
 use Rattle.cue_show.specs.Show.{has_cue}
 use Rattle.cue_core.specs.declared.event.Event.{Event}
 use Rattle.cue_core.specs.declared.event.Event.TheVariants as event
 use Rattle.cue_core.specs.State.{Standing, cue_parts}
 use Rattle.cue_core.specs.Steps.{acceptable, after, can_begin}
-use Rattle.cue_core.specs.Events.{is_start_of, is_ready_of, is_go_of, is_cancel_of, is_end_of, is_about}
+use Rattle.cue_core.specs.Events.{is_ready_of, is_go_of, is_cancel_of, is_end_of, is_about}
 use Rattle.cue_core.specs.History.{devices_by, state_of}
-use Rattle.cue_core.proofs.Conditions.{both, join, cases, all_of, all_from, all_zip, all_mapped, same_number, same_self, number_sym, both_false}
-use Rattle.cue_core.proofs.Finding.{rising, lacks, lacks-below, attempt_of-lacks, attempt_of-without_ended, attempt_of-without_ended_other, if_open, rising-changed, found, found-changed, found-others, found_has, found_passes}
+use Rattle.cue_core.proofs.Conditions.{both, cases, all_from, all_mapped, same_number, same_self, number_sym, both_false}
+use Rattle.cue_core.proofs.Finding.{rising, lacks-below, attempt_of-lacks, attempt_of-without_ended, attempt_of-without_ended_other, if_open, rising-changed, found, found-changed, found-others, found_has, found_passes}
 use Rattle.cue_core.proofs.Tells.{Tells, IsQuiet, quiet, tells-on, devices_by-on, tells-start, tells-ready, tells-go, tells-cancel, IsLastAnswer, tells-end, is_last, gone_by}
 
 -- what the rules of a state say that is used here

@@ -1,5 +1,5 @@
 -- A reply leaves all else as it was.
-use Rattle.std.proofs.Common.{◌≡◌, ◌≢◌, ℕ, List, [], ◌∷◌, refl, sym, ◌∙◌, ap, Bool, true, false, not, ◌&&◌, nat_eq, nat_lt, Option, None, Some}
+use Rattle.std.proofs.Common.{◌≡◌, ◌≢◌, ℕ, List, [], ◌∷◌, refl, sym, ◌∙◌, Bool, true, false, not, ◌&&◌, nat_eq, nat_lt, Option, None, Some}
 use Rattle.std.specs.Prelude.{IsTrue, if◌then◌else◌}
 use Rattle.std.specs.List.{list_all}
 use Rattle.std.specs.Option.{option_map_or}
@@ -19,7 +19,7 @@ use Rattle.cue_core.specs.declared.command.ReplyKind.TheVariants as reply
 use Rattle.cue_core.specs.State.{Standing}
 use Rattle.cue_core.specs.Steps.{after, folded}
 use Rattle.cue_core.specs.Judge.{refused, on_reply, on_reply_to, on_reply_in, is_from_another}
-use Rattle.cue_core.specs.Replies.{Said, after_reply, LeavesOthers, RepliesLeaveOthers}
+use Rattle.cue_core.specs.Replies.{Said, LeavesOthers, RepliesLeaveOthers}
 use Rattle.cue_core.proofs.Conditions.{both, join, same_number, same_self}
 use Rattle.cue_core.proofs.Finding.{found_passes}
 use Rattle.cue_core.proofs.Kept.{attempt_of-after_other}

@@ -1,7 +1,7 @@
 -- Each event keeps the rules of a state.
-use Rattle.std.proofs.Common.{◌≡◌, ℕ, ◌+◌, ◌<◌, ◌≤◌, List, [], ◌∷◌, ◌++◌, length, refl, sym, ◌∙◌, ap, subst, Bool, true, false, not, cond, ◌&&◌, ◌||◌, nat_eq, nat_le, nat_lt, arith, Option, None, Some}
-use Rattle.std.specs.Prelude.{IsTrue, is_some, map, filter, find, if◌then◌else◌, option_and_then, unwrap_or}
-use Rattle.std.specs.List.{list_all, list_any}
+use Rattle.std.proofs.Common.{◌≡◌, ℕ, ◌+◌, ◌≤◌, List, [], ◌∷◌, ◌++◌, refl, sym, ◌∙◌, ap, subst, Bool, true, false, not, cond, ◌&&◌, nat_eq, nat_le, nat_lt, arith, Option, None, Some}
+use Rattle.std.specs.Prelude.{IsTrue, is_some, map, if◌then◌else◌, option_and_then, unwrap_or}
+use Rattle.std.specs.List.{list_all}
 use Rattle.std.specs.Map.{lookup}
 use Rattle.std.specs.Option.{option_map, option_map_or}
 use Rattle.std.specs.Cmp.Lexicographic.{pointwise, nat_list_eq_equiv}
@@ -9,20 +9,19 @@ use Rattle.std.proofs.lemmas.Bool.Decides.{nat_tests}
 use Rattle.std.proofs.lemmas.List.Folds.{find-append}
 use Rattle.cue_show.specs.declared.part.Part.{Part}
 use Rattle.cue_show.specs.Number.{same_text}
-use Rattle.cue_show.specs.Show.{ShowLists, parts_of, has_cue, following, is_place_of, is_show, with_device, without_device, with_cue, without_cue, with_place, can_add_cue}
+use Rattle.cue_show.specs.Show.{ShowLists, parts_of, has_cue, following, is_place_of, is_show, with_device, without_device, with_cue, without_cue, with_place}
 use Rattle.cue_show.proofs.ShowLemmas.{is_show-with_device, is_show-without_device, is_show-with_cue, is_show-without_cue, is_show-with_place, is_place_of-following, parts_of-without_cue}
 use Rattle.cue_show.proofs.TextLemmas.{same_text-swapped}
 use Rattle.cue_exchange.specs.declared.attempt.Answer.{Answer}
 use Rattle.cue_exchange.specs.declared.attempt.Answer.TheVariants as answer
 use Rattle.cue_exchange.specs.declared.attempt.Stage.{Stage}
-use Rattle.cue_exchange.specs.declared.attempt.Stage.TheVariants.{Preparing, Decided, Cancelling}
-use Rattle.cue_exchange.specs.declared.attempt.Outcome.{Outcome}
+use Rattle.cue_exchange.specs.declared.attempt.Stage.TheVariants.{Decided, Cancelling}
 use Rattle.cue_exchange.specs.declared.attempt.Attempt.{Attempt}
-use Rattle.cue_exchange.specs.declared.limits.TheConstants.{LAST_NUMBER, MAX_LIVE}
-use Rattle.cue_exchange.specs.Answers.{stands, devices_of, some_waits, is_waiting, is_preparing, is_decided, is_cancelling, is_concluding, first_answers}
-use Rattle.cue_exchange.specs.Live.{disjoint, devices_in, attempt_of, attempt_of_cue, has_number, are_live, is_attempt, is_number, is_moment, are_sound_devices, pairwise, goes_before}
+use Rattle.cue_exchange.specs.declared.limits.TheConstants.{LAST_NUMBER}
+use Rattle.cue_exchange.specs.Answers.{stands, devices_of, some_waits, is_decided, is_cancelling, is_concluding}
+use Rattle.cue_exchange.specs.Live.{disjoint, devices_in, attempt_of, attempt_of_cue, has_number, are_live, is_attempt, is_number, is_moment, are_sound_devices, goes_before}
 use Rattle.cue_exchange.specs.Live.{has_cue as is_of_cue}
-use Rattle.cue_exchange.specs.Steps.{holds, waits_in, changed, answers_as, moves_to, new_attempt, started, answered, moved, goes_on, without_ended, outcome_of, ended_in, are_free, can_start, can_done, can_let_go, can_fail}
+use Rattle.cue_exchange.specs.Steps.{holds, waits_in, changed, answers_as, moves_to, new_attempt, started, answered, goes_on, without_ended, ended_in, can_start}
 use Rattle.cue_exchange.proofs.AnswerRules.{devices_of-with_answer, devices_of-entered, devices_of-first_answers}
 use Rattle.cue_exchange.proofs.LiveRules.{are_live-ready, are_live-go, are_live-cancel, are_live-done, are_live-let_go, are_live-failed, are_live-started, order_of, attempts_of, can_start_parts, is_sound-of_attempt}
 use Rattle.cue_exchange.proofs.Lists.{all_push, all_filter}
@@ -32,7 +31,7 @@ use Rattle.cue_core.specs.declared.event.Event.TheVariants as event
 use Rattle.cue_core.specs.State.{Standing, cue_parts, is_at_cue, is_ended, are_tied, is_state}
 use Rattle.cue_core.specs.Steps.{acceptable, after, can_begin, place_after, ended_as, settled}
 use Rattle.cue_core.proofs.Conditions.{both, join, all_zip, all_from, all_mapped, same_number, pairwise_from}
-use Rattle.cue_core.proofs.Finding.{rising, rising-changed, attempt_of-changed, attempt_of-without_ended, if_open, if_closed, found-closed, found, found-changed, found_none_kept, found_has, found_passes, passes_none}
+use Rattle.cue_core.proofs.Finding.{rising, rising-changed, attempt_of-changed, attempt_of-without_ended, if_open, found-closed, found, found-changed, found_none_kept, found_has, found_passes, passes_none}
 
 pub record Rules (s : Standing) : Type 0 where
   pub show : IsTrue (is_show s.show)

@@ -1,5 +1,5 @@
 -- What a theatre relies on, from what each history tells.
-use Rattle.std.proofs.Common.{◌≡◌, ℕ, List, [], ◌∷◌, ◌++◌, refl, sym, ◌∙◌, ap, Bool, true, false, not, ◌&&◌, ◌||◌, ◌⊎◌, inl, inr, nat_eq, nat_lt, Option, None, Some}
+use Rattle.std.proofs.Common.{◌≡◌, ℕ, List, [], ◌∷◌, ◌++◌, refl, Bool, true, false, not, ◌&&◌, ◌||◌, nat_eq, nat_lt, None, Some}
 use Rattle.std.specs.Prelude.{IsTrue, if◌then◌else◌, unwrap_or}
 use Rattle.std.specs.List.{list_all, list_any, filter_map, flat_map, cons_option}
 use Rattle.cue_show.specs.Show.{port_of}
@@ -8,7 +8,7 @@ use Rattle.cue_exchange.specs.declared.attempt.Stage.TheVariants.{Preparing, Dec
 use Rattle.cue_exchange.specs.declared.attempt.DeviceAnswer.{DeviceAnswer}
 use Rattle.cue_exchange.specs.declared.attempt.Attempt.{Attempt}
 use Rattle.cue_exchange.specs.Answers.{devices_of, waits, is_decided, is_cancelling}
-use Rattle.cue_exchange.specs.Live.{attempt_of, disjoint, goes_before, pairwise}
+use Rattle.cue_exchange.specs.Live.{attempt_of, disjoint, goes_before}
 use Rattle.cue_exchange.specs.Steps.{holds}
 use Rattle.cue_exchange.proofs.LiveRules.{order_of}
 use Rattle.cue_core.specs.declared.event.Event.{Event}
@@ -16,9 +16,9 @@ use Rattle.cue_core.specs.declared.event.Event.TheVariants as event
 use Rattle.cue_core.specs.State.{Standing, cue_parts}
 use Rattle.cue_core.specs.Steps.{acceptable}
 use Rattle.cue_core.specs.Events.{is_start_of, is_go_of, is_cancel_of}
-use Rattle.cue_core.specs.History.{state_of, is_history, is_decided_by, stood_by, devices_by}
+use Rattle.cue_core.specs.History.{state_of, is_history, stood_by, devices_by}
 use Rattle.cue_core.specs.Order.{keeps_order, is_in_order}
-use Rattle.cue_core.specs.Pending.{Order, order_at, order_for, bytes_for, pending}
+use Rattle.cue_core.specs.Pending.{Order, order_at, order_for, bytes_for}
 use Rattle.cue_core.specs.Safety.{is_go_to, is_cancel_to, asks_to_go, asks_to_cancel, ever, NeverAskedBoth, OneHolder, DecidedStays}
 use Rattle.cue_core.proofs.Conditions.{both, join, same_number, pairwise_from}
 use Rattle.cue_core.proofs.Finding.{found}

@@ -1,7 +1,7 @@
 -- Every history leads to a state that keeps the rules.
-use Rattle.std.proofs.Common.{◌≡◌, ℕ, ◌+◌, List, [], ◌∷◌, length, refl, Bool, true, false, not, ◌&&◌, ◌||◌, nat_le, nat_lt}
+use Rattle.std.proofs.Common.{◌≡◌, List, [], ◌∷◌, length, refl, Bool, true, false, not, ◌&&◌, ◌||◌, nat_le, nat_lt}
 use Rattle.std.specs.Prelude.{IsTrue}
-use Rattle.std.specs.List.{list_all, list_any}
+use Rattle.std.specs.List.{list_all}
 use Rattle.cue_exchange.specs.declared.attempt.Answer.{Answer}
 use Rattle.cue_exchange.specs.declared.attempt.Answer.TheVariants.{Waiting, Ready, Done, LetGo, Failed}
 use Rattle.cue_exchange.specs.declared.attempt.Stage.{Stage}
@@ -13,10 +13,10 @@ use Rattle.cue_exchange.specs.Answers.{is_waiting, is_preparing, stands, some_wa
 use Rattle.cue_exchange.specs.Live.{are_live, is_attempt, is_sound, is_open, is_number, is_moment, are_sound_devices, pairwise, goes_before, disjoint, distinct}
 use Rattle.cue_show.specs.Show.{is_show}
 use Rattle.cue_core.specs.declared.event.Event.{Event}
-use Rattle.cue_core.specs.State.{Standing, empty_state, is_state, are_tied, is_at_cue, is_ended}
-use Rattle.cue_core.specs.Steps.{acceptable, after}
+use Rattle.cue_core.specs.State.{Standing, is_state, are_tied, is_at_cue, is_ended}
+use Rattle.cue_core.specs.Steps.{acceptable}
 use Rattle.cue_core.specs.History.{state_of, is_history}
-use Rattle.cue_core.proofs.Conditions.{both, join, all_from, pairwise_from}
+use Rattle.cue_core.proofs.Conditions.{both, all_from, pairwise_from}
 use Rattle.cue_core.proofs.Rules.{is_state-after}
 use Rattle.cue_core.proofs.Tells.{is_last, not_last}
 use Rattle.cue_core.proofs.Kept.{IsSound, Kept, kept-step, kept-none}

@@ -1,6 +1,6 @@
 -- What a history tells of one live attempt, and how each event of that attempt carries it on.
-use Rattle.std.proofs.Common.{◌≡◌, ℕ, List, [], ◌∷◌, ◌++◌, refl, sym, ◌∙◌, ap, subst, Bool, true, false, not, ◌&&◌, ◌||◌, ◌⊎◌, inl, inr, nat_eq, nat_le, nat_lt, ◌≤◌, ◌<◌, arith, Option, None, Some}
-use Rattle.std.specs.Prelude.{IsTrue, map, filter, find, if◌then◌else◌, option_and_then}
+use Rattle.std.proofs.Common.{◌≡◌, ℕ, List, [], ◌∷◌, refl, sym, ◌∙◌, ap, Bool, true, false, not, ◌&&◌, ◌||◌, nat_eq}
+use Rattle.std.specs.Prelude.{IsTrue, if◌then◌else◌}
 use Rattle.std.specs.List.{list_all, list_any}
 use Rattle.cue_show.specs.declared.part.Part.{Part}
 use Rattle.cue_exchange.specs.declared.attempt.Answer.{Answer}
@@ -10,14 +10,14 @@ use Rattle.cue_exchange.specs.declared.attempt.Reason.{Reason}
 use Rattle.cue_exchange.specs.declared.attempt.Stage.TheVariants.{Preparing, Decided, Cancelling}
 use Rattle.cue_exchange.specs.declared.attempt.DeviceAnswer.{DeviceAnswer}
 use Rattle.cue_exchange.specs.declared.attempt.Attempt.{Attempt}
-use Rattle.cue_exchange.specs.Answers.{is_ready, is_waiting, is_preparing, is_decided, is_cancelling, is_concluding, is_known_in, stands, waits, some_waits, entering, enters, entered, answers_with, with_answer, asked, first_answers, devices_of}
+use Rattle.cue_exchange.specs.Answers.{is_ready, is_waiting, is_preparing, is_decided, is_cancelling, is_known_in, stands, waits, some_waits, entering, enters, entered, answers_with, with_answer, asked, first_answers, devices_of}
 use Rattle.cue_exchange.specs.Live.{devices_in}
 use Rattle.cue_exchange.specs.Steps.{answers_as, moves_to, new_attempt}
 use Rattle.cue_core.specs.declared.event.Event.{Event}
 use Rattle.cue_core.specs.declared.event.Event.TheVariants as event
 use Rattle.cue_core.specs.Events.{is_start_of, is_ready_of, is_go_of, is_cancel_of, is_end_of, is_about}
 use Rattle.cue_core.specs.History.{devices_by}
-use Rattle.cue_core.proofs.Conditions.{all_of, both, join, all_zip, all_from, all_mapped, agrees, agrees-same, same-agrees, same_number, same_self, number_sym, none_passes}
+use Rattle.cue_core.proofs.Conditions.{all_of, both, join, all_zip, all_from, all_mapped, agrees, same_self, number_sym, none_passes}
 
 -- the device has answered for the last time
 abbrev pub is_last : Answer → Bool

@@ -1,5 +1,5 @@
 -- Commands that are judged and applied in turn, ticks of the clock, and recoveries from power loss between them.
-use Rattle.std.specs.Prelude.{ℕ, Bool, true, false, not, ◌&&◌, List, [], ◌∷◌, ◌++◌, map, filter, IsTrue}
+use Rattle.std.specs.Prelude.{ℕ, Bool, true, List, [], ◌∷◌, map, filter, IsTrue}
 use Rattle.std.specs.List.{list_all}
 use Rattle.cue_exchange.specs.declared.attempt.Reason.{Reason}
 use Rattle.cue_exchange.specs.declared.attempt.Reason.TheVariants.{Deadline, Power}
@@ -9,8 +9,7 @@ use Rattle.cue_exchange.specs.Live.{is_due}
 use Rattle.cue_core.specs.declared.event.Event.{Event}
 use Rattle.cue_core.specs.declared.event.Event.TheVariants.{Cancel}
 use Rattle.cue_core.specs.declared.command.Command.{Command}
-use Rattle.cue_core.specs.State.{Standing, empty_state}
-use Rattle.cue_core.specs.Steps.{folded}
+use Rattle.cue_core.specs.State.{Standing}
 use Rattle.cue_core.specs.Judge.{judged, is_fit}
 use Rattle.cue_core.specs.History.{state_of, is_history}
 use Rattle.cue_core.specs.Order.{is_in_order}

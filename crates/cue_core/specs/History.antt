@@ -1,5 +1,5 @@
 -- What a history says by itself. A history is the list of the events that were accepted, the newest first.
-use Rattle.std.specs.Prelude.{◌≡◌, ℕ, Bool, true, not, ◌&&◌, if◌then◌else◌, List, [], ◌∷◌, Some, is_some, nat_eq, count_by, IsTrue}
+use Rattle.std.specs.Prelude.{◌≡◌, ℕ, Bool, true, not, ◌&&◌, if◌then◌else◌, List, [], ◌∷◌, Some, is_some, count_by, IsTrue}
 use Rattle.std.specs.List.{list_any}
 use Rattle.cue_exchange.specs.declared.attempt.Attempt.{Attempt}
 use Rattle.cue_exchange.specs.Answers.{devices_of, is_preparing, is_decided, is_ready, answer_passes}

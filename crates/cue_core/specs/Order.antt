@@ -1,9 +1,9 @@
 -- The order in which the events of an attempt come.
-use Rattle.std.specs.Prelude.{ℕ, Bool, true, not, ◌&&◌, List, [], ◌∷◌, IsTrue}
+use Rattle.std.specs.Prelude.{Bool, true, not, ◌&&◌, List, [], ◌∷◌, IsTrue}
 use Rattle.std.specs.List.{list_any, list_all}
 use Rattle.cue_core.specs.declared.event.Event.{Event}
-use Rattle.cue_core.specs.declared.event.Event.TheVariants.{Device, NoDevice, Cue, NoCue, Place, Start, Ready, Go, Done, Cancel, LetGo, Failed}
-use Rattle.cue_core.specs.Events.{is_start_of, is_ready_of, is_go_of, is_cancel_of}
+use Rattle.cue_core.specs.declared.event.Event.TheVariants.{Go, Cancel}
+use Rattle.cue_core.specs.Events.{is_start_of, is_go_of, is_cancel_of}
 use Rattle.cue_core.specs.History.{is_history, devices_by, stood_by}
 
 -- what must have been accepted before the event: before Go, the Start, Ready of each device, and no Cancel; before Cancel, no Go

@@ -1,36 +1,13 @@
 -- Failures that come of what a call of another function met.
-use Rattle.std.specs.Prelude.{◌≡◌, ℕ, ◌≤◌, Bool, true, false, if◌then◌else◌}
+use Rattle.std.specs.Prelude.{◌≡◌, ℕ, ◌≤◌, Bool, true, false}
 use Rattle.std.proofs.Common.{arith, ◌∙◌, subst}
-use Rattle.std.specs.declared.io.Error.{Error}
 use Rattle.cue_disk.specs.Disk.{MoreFailures}
 use Rattle.cuectl.specs.declared.script.ending.Failure.{Failure}
 use Rattle.cuectl.specs.declared.script.ending.Failure.TheVariants.{Io, Memory, Disk, Broken}
 use Rattle.cuectl.specs.declared.script.ending.Stop.{Stop}
 use Rattle.cuectl.specs.declared.script.ending.Stop.TheVariants.{Ended, Failed}
-use Rattle.cuectl.specs.Failures.{HasCause, failure_of}
+use Rattle.cuectl.specs.Failures.{HasCause}
 use Rattle.cuectl.specs.Playing.{IfEnded, IfFailed}
-
-of_either : (lacked : Bool) (A : Type 0) → A → HasCause (if lacked then Memory else Io) A ⊥ ⊥
-of_either true A met = tt
-of_either false A met = met
-
--- a call of the streams failed
-pub of_stream : (error : Error) (old new : ℕ) → MoreFailures old new → HasCause (failure_of error) (MoreFailures old new) ⊥ ⊥
-of_stream error old new more = of_either _ (MoreFailures old new) more
-
--- what the streams met is a cause among others
-pub stream_cause : (failure : Failure) (A B C : Type 0) → HasCause failure A ⊥ ⊥ → HasCause failure A B C
-stream_cause Io A B C cause = cause
-stream_cause Memory A B C cause = tt
-stream_cause Disk A B C cause = absurd cause
-stream_cause Broken A B C cause = absurd cause
-
--- what the controller met is a cause among others
-pub controller_cause : (failure : Failure) (A B C : Type 0) → HasCause failure ⊥ B C → HasCause failure A B C
-controller_cause Io A B C cause = absurd cause
-controller_cause Memory A B C cause = tt
-controller_cause Disk A B C cause = cause
-controller_cause Broken A B C cause = cause
 
 -- no call of the streams has failed so far, and the controller works as it did
 pub record IsWell (streams now disk disk_now : ℕ) (failed failed_now : Bool) : Type 0 where

@@ -1,6 +1,6 @@
 pub mod BatchLemmas
 mod CountLemmas
-pub mod FailureLemmas
+mod FailureLemmas
 pub mod HearLemmas
 mod LineLemmas
 pub mod ProgramLemmas

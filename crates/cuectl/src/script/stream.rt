@@ -22,7 +22,7 @@ impl Streams {
     }
 
     // What a call answered.
-    fn counted<T>(&mut self, answer: io::Result<T>) -> io::Result<T>
+    fn counted(&mut self, answer: io::Result<()>) -> io::Result<()>
         ensures same { result ≡ answer }
         ensures count { CountsFailure result self.old.failures self.new.failures }
     {
@@ -33,11 +33,15 @@ impl Streams {
     }
 
     /// Reads all that is left.
-    pub fn read_to_end<R: Read>(&mut self, reader: &mut R, bytes: &mut Vec<u8>) -> io::Result<usize>
+    pub fn read_to_end<R: Read>(&mut self, reader: &mut R, bytes: &mut Vec<u8>) -> io::Result<()>
         ensures bytes { OnOk result (IfSome (R.remaining reader.old) (λ rest. bytes.new.items ≡ bytes.old.items ++ rest)) }
         ensures count { CountsFailure result self.old.failures self.new.failures }
     {
-        self.counted(reader.read_to_end(bytes))
+        let answer = match reader.read_to_end(bytes) {
+            Ok(_) => Ok(()),
+            Err(error) => Err(error),
+        };
+        self.counted(answer)
     }
 
     /// Writes all of the bytes.

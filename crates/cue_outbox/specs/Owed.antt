@@ -1,12 +1,17 @@
--- The commands that are owed, as datagrams: to one device, and to some devices of an attempt.
+-- The commands that are owed, as datagrams: to one device, to some devices of an attempt, to the devices of some attempts.
 use Rattle.std.specs.Prelude.{ℕ, List, Option}
 use Rattle.std.specs.List.{filter_map, flat_map}
 use Rattle.std.specs.Option.{option_map}
+use Rattle.cue_show.specs.Show.{ShowLists}
 use Rattle.cue_exchange.specs.declared.attempt.DeviceAnswer.{DeviceAnswer}
 use Rattle.cue_exchange.specs.declared.attempt.Attempt.{Attempt}
-use Rattle.cue_core.specs.State.{Standing}
-use Rattle.cue_core.specs.Pending.{order_for}
+use Rattle.cue_core.specs.State.{Standing, cue_parts}
+use Rattle.cue_core.specs.Pending.{Order, bytes_for, order_at, order_for}
 use Rattle.cue_outbox.specs.Sending.{order, orders, datagram, datagrams}
+
+-- what a device of the attempt is told
+abbrev pub order_to : ShowLists → Attempt → ℕ → Order
+order_to show a d = order_at a.stage a.seq d a.cue (bytes_for d (cue_parts show a.cue))
 
 -- the datagram to a device, where it is still to answer
 abbrev pub datagram_for : Standing → Attempt → DeviceAnswer → Option (ℕ × List ℕ)

@@ -2,12 +2,13 @@
 ghost use Rattle.std.specs.Prelude.{◌≡◌, ◌≤◌, ◌++◌, IfOk, OnOk, IsTrue, length};
 ghost use Rattle.std.specs.List.{list_all};
 ghost use Rattle.std.specs.Option.{option_map};
-ghost use Rattle.cue_osc.specs.Spelling.{IsText};
+ghost use Rattle.cue_show.specs.declared.limits.TheConstants.{MAX_PART_BYTES};
 ghost use Rattle.cue_show.specs.Parts.{is_part};
+ghost use Rattle.cue_exchange.specs.declared.limits.TheConstants.{LAST_NUMBER};
 ghost use Rattle.cue_core.specs.State.{cue_parts};
-ghost use Rattle.cue_core.specs.Pending.{bytes_for, order_at, standby, go_2pc, cancel};
+ghost use Rattle.cue_core.specs.Pending.{bytes_for, standby, go_2pc, cancel};
 ghost use Rattle.cue_outbox.specs.Sending.{all_pending, datagram, datagrams, order};
-ghost use Rattle.cue_outbox.specs.Owed.{datagram_for, datagrams_for};
+ghost use Rattle.cue_outbox.specs.Owed.{datagram_for, datagrams_for, order_to};
 ghost use Rattle.cue_outbox.specs.Views.{out_view, outs_view};
 
 use crate::message::{int, written};
@@ -18,8 +19,8 @@ use cue_osc::Arg;
 use cue_show::{CueNo, DeviceNo, Part, Show};
 use std::alloc::{AllocError, Global};
 
-/// The commands that the devices are still to answer: for each live attempt by rising number, for each device that has not answered yet, in part
-/// order, the command of the attempt's stage, to the device's port.
+/// The commands that the devices are still to answer: for each live attempt by rising number, for each device that is still to answer, in
+/// part order, the command of the attempt's stage, to the device's port.
 pub fn pending(alloc: Global, state: &State) -> Result<Vec<Out>, AllocError>
     ensures { IfOk result (λ outs. outs_view outs.items ≡ datagrams (all_pending state.now)) }
 {
@@ -37,8 +38,9 @@ fn push_orders(
     state: &State,
     attempt: &Attempt,
 ) -> Result<(), AllocError>
-    requires { attempt.now.seq ≤ 2147483647 }
-    ensures { OnOk result (outs_view outs.new.items ≡ outs_view outs.old.items ++ datagrams_for state.now attempt.now attempt.now.answers) }
+    requires { attempt.now.seq ≤ LAST_NUMBER }
+    ensures { let owed = datagrams_for state.now attempt.now attempt.now.answers in
+        OnOk result (outs_view outs.new.items ≡ outs_view outs.old.items ++ owed) }
 {
     for answer in attempt.answers.as_slice() {
         if let Some(out) = order_for(alloc, state, attempt, *answer)? {
@@ -48,34 +50,34 @@ fn push_orders(
     Ok(())
 }
 
-// The command to a device, where it is still to answer. Each device of a live attempt is in the table.
+// The command to a device, where it is still to answer. Each device of a live attempt has a port, as the law `commands_have_ports` says.
 fn order_for(
     alloc: Global,
     state: &State,
     attempt: &Attempt,
     answer: DeviceAnswer,
 ) -> Result<Option<Out>, AllocError>
-    requires { attempt.now.seq ≤ 2147483647 }
+    requires { attempt.now.seq ≤ LAST_NUMBER }
     ensures { IfOk result (λ out. option_map out_view out ≡ datagram_for state.now attempt.now answer) }
 {
     if !answer.answer.is_waiting() {
         return Ok(None);
     }
     let to = state.show().port(answer.device).unwrap_or(0);
-    let out = order_at(alloc, to, state.show(), attempt, answer.device)?;
+    let out = order_to(alloc, to, state.show(), attempt, answer.device)?;
     Ok(Some(out))
 }
 
 // The command of the attempt's stage.
-fn order_at(
+fn order_to(
     alloc: Global,
     to: u16,
     show: &Show,
     attempt: &Attempt,
     device: DeviceNo,
 ) -> Result<Out, AllocError>
-    requires { attempt.now.seq ≤ 2147483647 }
-    ensures { IfOk result (λ out. out_view out ≡ datagram (to, order (order_at attempt.now.stage attempt.now.seq device attempt.now.cue (bytes_for device (cue_parts show.now attempt.now.cue))))) }
+    requires { attempt.now.seq ≤ LAST_NUMBER }
+    ensures { IfOk result (λ out. out_view out ≡ datagram (to, order (order_to show.now attempt.now device))) }
 {
     let (seq, cue) = (attempt.seq, attempt.cue);
     match attempt.stage {
@@ -88,7 +90,7 @@ fn order_at(
 // The bytes of the device's part of the cue.
 fn part_of(show: &Show, cue: CueNo, device: DeviceNo) -> &[u8]
     ensures value { result.now ≡ bytes_for device (cue_parts show.now cue) }
-    ensures short { length result.now ≤ 32 }
+    ensures short { length result.now ≤ MAX_PART_BYTES }
 {
     match show.parts(cue) {
         Some(parts) => bytes_for(parts.as_slice(), device),
@@ -99,7 +101,7 @@ fn part_of(show: &Show, cue: CueNo, device: DeviceNo) -> &[u8]
 fn bytes_for(parts: &[Part], device: DeviceNo) -> &[u8]
     requires { IsTrue (list_all is_part parts.now) }
     ensures value { result.now ≡ bytes_for device parts.now }
-    ensures short { length result.now ≤ 32 }
+    ensures short { length result.now ≤ MAX_PART_BYTES }
 {
     for part in parts {
         if part.device == device {
@@ -118,8 +120,8 @@ fn standby(
     cue: CueNo,
     bytes: &[u8],
 ) -> Result<Out, AllocError>
-    requires number { seq ≤ 2147483647 }
-    requires short { length bytes.now ≤ 32 }
+    requires number { seq ≤ LAST_NUMBER }
+    requires short { length bytes.now ≤ MAX_PART_BYTES }
     ensures { IfOk result (λ out. out_view out ≡ datagram (to, order (standby seq device cue bytes.now))) }
 {
     let args = vec![in alloc;
@@ -133,7 +135,7 @@ fn standby(
 
 #[tactic(auto, unfolding(crate::specs::Sending::send_content, crate::specs::Sending::order_content, crate::specs::Sending::datagram))]
 fn go_2pc(alloc: Global, to: u16, seq: u32, device: DeviceNo) -> Result<Out, AllocError>
-    requires { seq ≤ 2147483647 }
+    requires { seq ≤ LAST_NUMBER }
     ensures { IfOk result (λ out. out_view out ≡ datagram (to, order (go_2pc seq device))) }
 {
     let args = vec![in alloc; int(seq), int(u32::from(device.number()))]?;
@@ -142,7 +144,7 @@ fn go_2pc(alloc: Global, to: u16, seq: u32, device: DeviceNo) -> Result<Out, All
 
 #[tactic(auto, unfolding(crate::specs::Sending::send_content, crate::specs::Sending::order_content, crate::specs::Sending::datagram))]
 fn cancel(alloc: Global, to: u16, seq: u32, device: DeviceNo) -> Result<Out, AllocError>
-    requires { seq ≤ 2147483647 }
+    requires { seq ≤ LAST_NUMBER }
     ensures { IfOk result (λ out. out_view out ≡ datagram (to, order (cancel seq device))) }
 {
     let args = vec![in alloc; int(seq), int(u32::from(device.number()))]?;

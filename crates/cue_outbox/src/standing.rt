@@ -1,6 +1,8 @@
 //! The status: how a state stands.
 ghost use Rattle.std.specs.Prelude.{◌≡◌, ◌≤◌, [], IfOk, length, unwrap_or};
 ghost use Rattle.cue_osc.specs.Spelling.{IsText};
+ghost use Rattle.cue_show.specs.declared.limits.TheConstants.{MAX_CUE_BYTES};
+ghost use Rattle.cue_exchange.specs.declared.limits.TheConstants.{LAST_NUMBER, MAX_LIVE};
 ghost use Rattle.cue_outbox.specs.Sending.{datagram, ended_number, ended_outcome, outcome_number, status_of};
 ghost use Rattle.cue_outbox.specs.Views.{out_view};
 
@@ -31,7 +33,7 @@ pub fn status(alloc: Global, to: u16, state: &State) -> Result<Out, AllocError>
 #[tactic(auto, using(crate::proofs::Facts::last_fits))]
 fn last_number(state: &State) -> u32
     ensures value { result ≡ state.now.last_seq }
-    ensures range { result ≤ 2147483647 }
+    ensures range { result ≤ LAST_NUMBER }
 {
     state.last_seq()
 }
@@ -41,7 +43,7 @@ fn last_number(state: &State) -> u32
 fn text_of(place: &Option<CueNo>) -> &[u8]
     ensures value { result.now ≡ unwrap_or place.now [] }
     ensures text { IsText result.now }
-    ensures short { length result.now ≤ 16 }
+    ensures short { length result.now ≤ MAX_CUE_BYTES }
 {
     match place {
         Some(cue) => cue.text(),
@@ -52,7 +54,7 @@ fn text_of(place: &Option<CueNo>) -> &[u8]
 #[tactic(auto, using(crate::proofs::Facts::live_fits))]
 fn live_count(state: &State) -> u32
     ensures value { result ≡ length state.now.live }
-    ensures range { result ≤ 8 }
+    ensures range { result ≤ MAX_LIVE }
 {
     state.live().len() as u32
 }
@@ -60,7 +62,7 @@ fn live_count(state: &State) -> u32
 #[tactic(auto, using(crate::proofs::Facts::ended_fits))]
 fn last_ended(state: &State) -> u32
     ensures value { result ≡ ended_number state.now.ended }
-    ensures range { result ≤ 2147483647 }
+    ensures range { result ≤ LAST_NUMBER }
 {
     ended_number(state.ended())
 }

@@ -51,6 +51,36 @@ fn each_number_has_its_place(rt: HostRuntime) -> Result<(), Fail> {
     )
 }
 
+// Of each, one command was made.
+#[test]
+fn commands_of_an_exchange_were_made(rt: HostRuntime) -> Result<(), Fail> {
+    let alloc = rt.alloc();
+    let standby = reply(alloc, 8000, b"/cue/1/standby", 1, 0, 0, 0)?;
+    expect(
+        &rt,
+        alloc,
+        &standby,
+        8000,
+        "2f7265706c790000 2c73696969690000 2f6375652f312f7374616e6462790000 00000001 00000000 00000000 00000000",
+    )?;
+    let ready = reply(alloc, 9001, b"/device/3/standing_by", 1, 0, 0, 0)?;
+    expect(
+        &rt,
+        alloc,
+        &ready,
+        9001,
+        "2f7265706c790000 2c73696969690000 2f6465766963652f332f7374616e64696e675f6279000000 00000001 00000000 00000000 00000000",
+    )?;
+    let go = reply(alloc, 8000, b"/cue/1/go", 1, 0, 0, 0)?;
+    expect(
+        &rt,
+        alloc,
+        &go,
+        8000,
+        "2f7265706c790000 2c73696969690000 2f6375652f312f676f000000 00000001 00000000 00000000 00000000",
+    )
+}
+
 // Of 66 bytes the first 64 are shown.
 #[test]
 fn a_long_address_is_cut(rt: HostRuntime) -> Result<(), Fail> {

@@ -1,5 +1,5 @@
 //! The events of one verdict: none, one, or two in order, in place so that they take no memory.
-ghost use Rattle.std.specs.Prelude.{◌≡◌, ◌↔◌, [], ◌∷◌, ◌++◌, length, slice_get, IsTrue};
+ghost use Rattle.std.specs.Prelude.{◌≡◌, ◌↔◌, [], ◌∷◌, ◌++◌, length, slice_get, IsTrue, IfNone};
 ghost use Rattle.std.specs.Option.{option_copied, option_to_list};
 
 use crate::event::Event;
@@ -88,7 +88,8 @@ impl Events {
 
     /// Takes the first event out, where there is one.
     pub fn take_first(&mut self) -> Option<Event>
-        ensures { self.old ≡ option_to_list result ++ self.new }
+        ensures taken { self.old ≡ option_to_list result ++ self.new }
+        ensures none { IfNone result (self.old ≡ []) }
     {
         match mem::replace(&mut self.held, Held::None) {
             Held::None => None,

@@ -12,16 +12,16 @@ use Rattle.cue_outbox.specs.Sending.{Send, answer, send_content, datagrams, stat
 abbrev pub IsReadBack : Send → Type 0
 IsReadBack x = datagram_at (text_of (send_content x)) ≡ Ok (send_content x)
 
--- each reply is, whatever the address that it shows, and whatever its numbers of 16 bits
+-- each reply is read as what was meant, whatever the address that it shows, and whatever its numbers of 16 bits
 abbrev pub RepliesAreRead : Type 0
 RepliesAreRead = (address : List ℕ) (made known refused code : ℕ) → IsText address → made < 2 ^ 16 → known < 2 ^ 16 → refused < 2 ^ 16 → code < 2 ^ 16
     → IsReadBack (answer (take 64 address) made known refused code)
 
--- the status of each state is
+-- the status of each state is read as what was meant
 abbrev pub StatusIsRead : Type 0
 StatusIsRead = (s : Standing) → IsTrue (is_state s) → IsReadBack (status_of s)
 
--- each pending command is
+-- each pending command is read as what was meant
 abbrev pub CommandsAreRead : Type 0
 CommandsAreRead = (s : Standing) → IsTrue (is_state s) → AllByRecursion (λ (x : ℕ × Send). IsReadBack x.1) (all_pending s)
 

@@ -14,4 +14,5 @@ pub mod Sending
 pub mod SendingViews
 pub mod Steps
 pub mod Stored
+pub mod Streams
 pub mod Tallies

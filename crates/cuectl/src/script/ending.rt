@@ -54,10 +54,7 @@ impl From<io::Error> for Failure {
     ghost from_gives = { λ error failure. failure ≡ failure_of error };
 
     fn from(error: io::Error) -> Failure {
-        match error.kind() {
-            ErrorKind::OutOfMemory => Failure::Memory,
-            _ => Failure::Io,
-        }
+        Failure::of(&error)
     }
 }
 
@@ -96,6 +93,16 @@ impl Ending {
 }
 
 impl Failure {
+    /// What a call of the reader or the writer failed as: for lack of memory, or otherwise.
+    pub fn of(error: &io::Error) -> Failure
+        ensures { result ≡ failure_of error.now }
+    {
+        match error.kind() {
+            ErrorKind::OutOfMemory => Failure::Memory,
+            _ => Failure::Io,
+        }
+    }
+
     /// The last line of the output.
     pub fn line(self) -> &'static [u8]
         ensures { result.now ≡ failure_line self }

@@ -15,6 +15,7 @@ ghost use Rattle.cuectl.specs.Endings.{status_of};
 ghost use Rattle.cuectl.specs.Failures.{failure_of, HasCause};
 ghost use Rattle.cuectl.specs.Playing.{stage_of};
 ghost use Rattle.cuectl.specs.Script.{script as script_text, script_from};
+ghost use Rattle.cuectl.specs.Streams.{FailedAsIo};
 
 use crate::controller::Controller;
 use cue_disk::{Disk, MemDisk};
@@ -40,8 +41,8 @@ fn read_at_most<R: Read>(
 ) -> io::Result<Option<Vec<u8>>>
     requires { limit < 2 ^ 64 - 1 }
     ensures read { IfOk result (λ found. IfSome (R.remaining reader.old) (λ text. MatchOption found (limit < length text) (λ bytes. (bytes.items ≡ text) × (length text ≤ limit)))) }
-    ensures no_failure { OnOk result (streams.new.failures ≡ streams.old.failures) }
-    ensures cause { IfErr result (λ error. HasCause (failure_of error) (MoreFailures streams.old.failures streams.new.failures) ⊥ ⊥) }
+    ensures no_failure { OnOk result (streams.new ≡ streams.old) }
+    ensures cause { IfErr result (λ error. HasCause (failure_of error) (FailedAsIo streams.old streams.new) ⊥ ⊥) }
 {
     let mut bytes = Vec::new(alloc);
     streams.read_to_end(&mut reader.take(limit + 1), &mut bytes)?;
@@ -64,9 +65,9 @@ fn run<D: Disk, R: Read, W: Write>(
 ) -> Result<Ending, Failure>
     ensures exact { IfOk result (λ ending. IfSome (R.remaining reader.old) (λ text.
         Appends (W.contents writer.old) (W.contents writer.new) (script_from (stage_of controller.old) text).text × ((script_from (stage_of controller.old) text).ending ≡ ending))) }
-    ensures cause { IfErr result (λ failure. HasCause failure (MoreFailures streams.old.failures streams.new.failures)
+    ensures cause { IfErr result (λ failure. HasCause failure (FailedAsIo streams.old streams.new)
         (MoreFailures (failures_of D.failures controller.old) (failures_of D.failures controller.new)) (has_failed controller.old ≡ true)) }
-    ensures no_failure { OnOk result (streams.new.failures ≡ streams.old.failures) }
+    ensures no_failure { OnOk result (streams.new ≡ streams.old) }
 {
     let ending = match read_at_most(alloc, streams, reader, SCRIPT_LIMIT)? {
         Some(text) => play(alloc, controller, &text, streams, writer)?,

@@ -1,5 +1,5 @@
 //! Running a script line by line.
-ghost use Rattle.std.specs.Prelude.{◌≡◌, ◌≤◌, true, false, IfOk, IfErr, OnOk};
+ghost use Rattle.std.specs.Prelude.{◌≡◌, ◌≢◌, ◌≤◌, true, false, IfOk, IfErr, OnOk};
 ghost use Rattle.std.specs.Io.KnownBytes.{Appends, Keeps};
 ghost use Rattle.cue_disk.specs.Disk.{MoreFailures};
 ghost use Rattle.cuectl.specs.Controller.{failures_of, has_failed};
@@ -8,6 +8,7 @@ ghost use Rattle.cuectl.specs.Line.{lines_of};
 ghost use Rattle.cuectl.specs.Playing.{stage_of, GoesOn, IfEnded, IfFailed, UnlessFailed, WroteUpTo};
 ghost use Rattle.cuectl.specs.Script.{line_step, goes_on, stops, printed, played};
 ghost use Rattle.cuectl.specs.SendingViews.{outs_view};
+ghost use Rattle.cuectl.specs.Streams.{FailedAsIo};
 ghost use Rattle.cuectl.specs.declared.script.ending.Ending.TheVariants.{Done};
 
 use super::ending::{Ending, Failure, Stop};
@@ -29,6 +30,7 @@ fn answer<D: Disk>(
 ) -> Result<Vec<Out>, Stop>
     ensures goes_on { IfOk result (λ outs. line_step (stage_of controller.old) line.now ≡ goes_on (printed (outs_view outs.items)) (stage_of controller.new)) }
     ensures stops { IfErr result (λ stop. IfEnded stop (λ ending. line_step (stage_of controller.old) line.now ≡ stops ending)) }
+    ensures early { IfErr result (λ stop. IfEnded stop (λ ending. ending ≢ Done)) }
 
     // It makes no call of the streams.
     ensures cause { IfErr result (λ stop. IfFailed stop (λ failure. HasCause failure ⊥
@@ -59,9 +61,10 @@ fn play_line<D: Disk, W: Write>(
     ensures goes_on { OnOk result (GoesOn (line_step (stage_of controller.old) line.now) (stage_of controller.new) (W.contents writer.old) (W.contents writer.new)) }
     ensures stops { IfErr result (λ stop. IfEnded stop (λ ending.
         (line_step (stage_of controller.old) line.now ≡ stops ending) × (W.contents writer.new ≡ W.contents writer.old))) }
-    ensures cause { IfErr result (λ stop. IfFailed stop (λ failure. HasCause failure (MoreFailures streams.old.failures streams.new.failures)
+    ensures early { IfErr result (λ stop. IfEnded stop (λ ending. ending ≢ Done)) }
+    ensures cause { IfErr result (λ stop. IfFailed stop (λ failure. HasCause failure (FailedAsIo streams.old streams.new)
         (MoreFailures (failures_of D.failures controller.old) (failures_of D.failures controller.new)) (has_failed controller.old ≡ true))) }
-    ensures no_failure { UnlessFailed result (streams.new.failures ≡ streams.old.failures) }
+    ensures no_failure { UnlessFailed result (streams.new ≡ streams.old) }
     ensures failures { failures_of D.failures controller.old ≤ failures_of D.failures controller.new }
     ensures works { OnOk result (has_failed controller.new ≡ false) }
 {
@@ -82,9 +85,10 @@ fn play_lines<D: Disk, W: Write>(
     ensures done { OnOk result (WroteUpTo (played (stage_of controller.old) (lines_of text.now)) Done (W.contents writer.old) (W.contents writer.new)) }
     ensures ended { IfErr result (λ stop. IfEnded stop (λ ending.
         WroteUpTo (played (stage_of controller.old) (lines_of text.now)) ending (W.contents writer.old) (W.contents writer.new))) }
-    ensures cause { IfErr result (λ stop. IfFailed stop (λ failure. HasCause failure (MoreFailures streams.old.failures streams.new.failures)
+    ensures early { IfErr result (λ stop. IfEnded stop (λ ending. ending ≢ Done)) }
+    ensures cause { IfErr result (λ stop. IfFailed stop (λ failure. HasCause failure (FailedAsIo streams.old streams.new)
         (MoreFailures (failures_of D.failures controller.old) (failures_of D.failures controller.new)) (has_failed controller.old ≡ true))) }
-    ensures no_failure { UnlessFailed result (streams.new.failures ≡ streams.old.failures) }
+    ensures no_failure { UnlessFailed result (streams.new ≡ streams.old) }
 {
     let mut rest = text;
     while !rest.is_empty() {
@@ -107,9 +111,9 @@ pub fn play<D: Disk, W: Write>(
     writer: &mut W,
 ) -> Result<Ending, Failure>
     ensures wrote { IfOk result (λ ending. WroteUpTo (played (stage_of controller.old) (lines_of text.now)) ending (W.contents writer.old) (W.contents writer.new)) }
-    ensures cause { IfErr result (λ failure. HasCause failure (MoreFailures streams.old.failures streams.new.failures)
+    ensures cause { IfErr result (λ failure. HasCause failure (FailedAsIo streams.old streams.new)
         (MoreFailures (failures_of D.failures controller.old) (failures_of D.failures controller.new)) (has_failed controller.old ≡ true)) }
-    ensures no_failure { OnOk result (streams.new.failures ≡ streams.old.failures) }
+    ensures no_failure { OnOk result (streams.new ≡ streams.old) }
 {
     match play_lines(alloc, controller, text, streams, writer) {
         Ok(()) => Ok(Ending::Done),

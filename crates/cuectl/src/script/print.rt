@@ -1,10 +1,10 @@
 //! Printing what is sent: a line `> PORT HEX` for each datagram.
 ghost use Rattle.std.specs.Prelude.{◌≡◌, IfOk, IfErr, OnOk, string_bytes};
 ghost use Rattle.std.specs.Io.KnownBytes.{Appends};
-ghost use Rattle.cue_disk.specs.Disk.{MoreFailures};
 ghost use Rattle.cuectl.specs.Failures.{failure_of, HasCause};
 ghost use Rattle.cuectl.specs.Script.{line_of, printed};
 ghost use Rattle.cuectl.specs.SendingViews.{out_view, outs_view};
+ghost use Rattle.cuectl.specs.Streams.{FailedAsIo};
 
 use super::stream::Streams;
 use crate::controller::reply::Out;
@@ -26,8 +26,8 @@ fn print<W: Write>(
     writer: &mut W,
 ) -> io::Result<()>
     ensures written { OnOk result (Appends (W.contents writer.old) (W.contents writer.new) (line_of (out_view out.now))) }
-    ensures no_failure { OnOk result (streams.new.failures ≡ streams.old.failures) }
-    ensures cause { IfErr result (λ error. HasCause (failure_of error) (MoreFailures streams.old.failures streams.new.failures) ⊥ ⊥) }
+    ensures no_failure { OnOk result (streams.new ≡ streams.old) }
+    ensures cause { IfErr result (λ error. HasCause (failure_of error) (FailedAsIo streams.old streams.new) ⊥ ⊥) }
 {
     let line = line_of(alloc, out)?;
     streams.write_all(writer, line.as_bytes())
@@ -41,8 +41,8 @@ pub fn print_all<W: Write>(
     writer: &mut W,
 ) -> io::Result<()>
     ensures written { OnOk result (Appends (W.contents writer.old) (W.contents writer.new) (printed (outs_view outs.now))) }
-    ensures no_failure { OnOk result (streams.new.failures ≡ streams.old.failures) }
-    ensures cause { IfErr result (λ error. HasCause (failure_of error) (MoreFailures streams.old.failures streams.new.failures) ⊥ ⊥) }
+    ensures no_failure { OnOk result (streams.new ≡ streams.old) }
+    ensures cause { IfErr result (λ error. HasCause (failure_of error) (FailedAsIo streams.old streams.new) ⊥ ⊥) }
 {
     for out in outs {
         print(alloc, out, streams, writer)?;

@@ -13,7 +13,7 @@ loop-rest-preserved g c = (
       (lines_of c.loop-rest.rest.now) (lines_of c.first_line.result.1.now) c.first_line.result.0.now
       (g.W.Write.contents c.args.writer.now) (g.W.Write.contents c.loop-rest.writer) (g.W.Write.contents c.play_line.new.writer)
       c.loop-rest.invariant.0 c.first_line.ensures.line c.in-Ok.ensures.goes_on,
-  well_on c.args.streams.now.failures c.loop-rest.streams.failures c.play_line.new.streams.failures
+  well_on c.args.streams.now c.loop-rest.streams c.play_line.new.streams
       (failures_of g.D.Disk.failures c.args.controller.now) (failures_of g.D.Disk.failures c.loop-rest.controller) (failures_of g.D.Disk.failures c.play_line.new.controller)
       (has_failed c.args.controller.now) (has_failed c.loop-rest.controller) (has_failed c.play_line.new.controller)
       c.loop-rest.invariant.1 c.in-Ok.ensures.no_failure c.in-Ok.ensures.failures c.in-Ok.ensures.works,
@@ -28,13 +28,13 @@ returns-in-Err-clause-ended g c =
 
 pub returns-in-Err-clause-cause : goal.returns-in-Err-clause-cause
 returns-in-Err-clause-cause g c =
-    stop_later c.in-Err.stop c.args.streams.now.failures c.loop-rest.streams.failures c.play_line.new.streams.failures
+    stop_later c.in-Err.stop c.args.streams.now c.loop-rest.streams c.play_line.new.streams
     (failures_of g.D.Disk.failures c.args.controller.now) (failures_of g.D.Disk.failures c.loop-rest.controller) (failures_of g.D.Disk.failures c.play_line.new.controller)
     (has_failed c.args.controller.now) (has_failed c.loop-rest.controller) c.loop-rest.invariant.1 c.in-Err.ensures.cause
 
 pub returns-in-Err-clause-no_failure : goal.returns-in-Err-clause-no_failure
 returns-in-Err-clause-no_failure g c =
-    ended_later c.in-Err.stop c.args.streams.now.failures c.loop-rest.streams.failures c.play_line.new.streams.failures
+    ended_later c.in-Err.stop c.args.streams.now c.loop-rest.streams c.play_line.new.streams
     c.loop-rest.invariant.1.streams_same c.in-Err.ensures.no_failure
 
 pub returns-clause-done : goal.returns-clause-done

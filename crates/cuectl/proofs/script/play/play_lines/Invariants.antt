@@ -10,7 +10,7 @@ use Rattle.cuectl.proofs.script.play.play_lines.Given as goal
 abbrev pub invariant-loop-rest : goal.invariant-loop-rest
 invariant-loop-rest g l =
     IsPlaying (played (stage_of l.initial.controller) (lines_of l.text)) (played (stage_of l.controller) (lines_of l.rest)) (g.W.Write.contents l.initial.writer) (g.W.Write.contents l.writer)
-    × IsWell l.initial.streams.failures l.streams.failures (failures_of g.D.Disk.failures l.initial.controller) (failures_of g.D.Disk.failures l.controller)
+    × IsWell l.initial.streams l.streams (failures_of g.D.Disk.failures l.initial.controller) (failures_of g.D.Disk.failures l.controller)
     (has_failed l.initial.controller) (has_failed l.controller)
 
 abbrev pub decreases-loop-rest : goal.decreases-loop-rest

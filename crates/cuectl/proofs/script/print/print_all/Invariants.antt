@@ -7,4 +7,4 @@ use Rattle.cuectl.proofs.script.print.print_all.Given as goal
 abbrev pub invariant-loop-out : goal.invariant-loop-out
 invariant-loop-out g l =
     Appends (g.W.Write.contents l.initial.writer) (g.W.Write.contents l.writer) (printed (outs_view (take l.out-index l.outs)))
-    × (l.streams.failures ≡ l.initial.streams.failures)
+    × (l.streams ≡ l.initial.streams)

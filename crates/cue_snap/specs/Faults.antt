@@ -1,0 +1,10 @@
+-- The words in which faults are printed.
+use Rattle.std.specs.Prelude.{ℕ, List, codes}
+use Rattle.cue_snap.specs.declared.snap.TurnOverFault.{TurnOverFault}
+use Rattle.cue_snap.specs.declared.snap.TurnOverFault.TheVariants as turn_over
+
+-- why no new area is formed
+abbrev pub turn_over_fault_text : TurnOverFault → List ℕ
+turn_over_fault_text turn_over.Broken = codes "the pair is broken until it is opened again"
+turn_over_fault_text turn_over.Exhausted = codes "no generation is left"
+turn_over_fault_text turn_over.Disk = codes "the disk failed"

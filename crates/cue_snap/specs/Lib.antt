@@ -1,0 +1,5 @@
+pub mod Pair
+pub mod Reading
+pub mod Kept
+pub mod Words
+pub mod Faults

@@ -1,5 +1,5 @@
 -- What callers see of a pair.
-use Rattle.std.specs.Prelude.{ℕ, Bool, if◌then◌else◌, Result, Ok, Err}
+use Rattle.std.specs.Prelude.{◌≡◌, ℕ, Bool, if◌then◌else◌, Result, Ok, Err}
 use Rattle.cue_disk.specs.Disk.{Contents}
 use Rattle.cue_log.specs.Area.{Area}
 use Rattle.cue_log.specs.Words as log
@@ -47,3 +47,17 @@ area_of held snap = log.area_of held snap.log
 abbrev pub turned : {E D : Type 0} {disk : _} {T : Type 0} → Result T E → Snap D disk → D
 turned (Ok done) snap = log.disk_of snap.log
 turned (Err fault) snap = snap.spare
+
+-- the two disks that come back: in what was made, or with the fault
+abbrev pub first_after : {T E D : Type 0} → (T → D) → Result T (E × D × D) → D
+first_after disk_in (Ok made) = disk_in made
+first_after disk_in (Err refused) = refused.1
+
+abbrev pub second_after : {T E D : Type 0} → (T → D) → Result T (E × D × D) → D
+second_after disk_in (Ok made) = disk_in made
+second_after disk_in (Err refused) = refused.2
+
+-- this fault is answered only where it is so
+abbrev pub RefusedAs : {T E D : Type 0} → E → Type 0 → Result T (E × D × D) → Type 0
+RefusedAs fault reason (Ok made) = Unit {0}
+RefusedAs fault reason (Err refused) = refused.0 ≡ fault → reason

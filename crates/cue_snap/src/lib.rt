@@ -2,7 +2,9 @@
 //! still counts, so that at any moment a stop leaves the old area or the new one.
 #![tactic(auto)]
 
+mod forming;
 mod snap;
 mod turning;
 
+pub use forming::FormFault;
 pub use snap::{Snap, TurnOverFault};

@@ -5,6 +5,7 @@ ghost use Rattle.cue_snap.specs.Kept.{LogWorks, LogReads, LogIsNumbered, SpareIs
 
 mod looking;
 
+use crate::forming::{FormFault, form_first, look};
 use crate::turning::turn;
 use cue_disk::{Disk, DiskFault};
 use cue_log::{AppendFault, Log, Record};
@@ -56,12 +57,59 @@ pub struct Snap<D: Disk> {
 }
 
 impl<D: Disk> Snap<D> {
-    ghost use Rattle.std.specs.Prelude.{◌≡◌, ◌≤◌, ◌<◌, ◌+◌, ◌-◌, ◌^◌, ◌⊎◌, ◌↔◌, ℕ, List, false, true, not, length, OnOk, OnErr, IsErrOf};
+    ghost use Rattle.std.specs.Prelude.{◌≡◌, ◌≤◌, ◌<◌, ◌+◌, ◌-◌, ◌^◌, ◌⊎◌, ◌↔◌, ℕ, List, false, true, not, length, IfOk, OnOk, OnErr, IsErrOf};
     ghost use Rattle.cue_disk.specs.Disk.{LeavesOnly, IsImage, MoreFailures};
     ghost use Rattle.cue_log.specs.Area.{fresh, with_payload};
     ghost use Rattle.cue_log.specs.declared.area.TheConstants.{AREA_LIMIT};
-    ghost use Rattle.cue_snap.specs.Pair.{PairIsEither, PairLeaves};
-    ghost use Rattle.cue_snap.specs.Words.{live_of, spare_of, is_first_live, generation_of, end_of, count_of, is_broken, area_of, turned};
+    ghost use Rattle.cue_snap.specs.Pair.{PairIsEither, PairLeaves, NeitherHas, SomeIsThere, IsUnformedOr, AfterBarrier};
+    ghost use Rattle.cue_snap.specs.Words.{live_of, spare_of, is_first_live, generation_of, end_of, count_of, is_broken, area_of, turned, first_of, second_of, first_after, second_after, RefusedAs};
+
+    /// Forms a pair on two disks without areas: the first one gets an area of generation 1 with this snapshot and no
+    /// record. Both are synced before anything is written. It takes no memory; a refusal hands both disks back.
+    pub fn form(first: D, second: D, snapshot: &[u8]) -> Result<Snap<D>, (FormFault, D, D)>
+        requires { 14 + length snapshot.now ≤ AREA_LIMIT }
+
+        ensures formed { D.is_honest first → D.is_honest second
+            → IfOk result (λ snap. PairLeaves (D.held (first_of snap)) (D.held (second_of snap)) (fresh 1 snapshot.now)) }
+        ensures area { D.is_honest first → IfOk result (λ snap. area_of D.held snap ≡ fresh 1 snapshot.now) }
+        ensures numbers { IfOk result (λ snap. (generation_of snap ≡ 1) × (count_of snap ≡ 0) × (end_of snap ≡ 13 + length snapshot.now)) }
+        ensures works { IfOk result (λ snap. is_broken snap ≡ false) }
+        ensures sides { IfOk result (λ snap. is_first_live snap ≡ true) }
+
+        // It goes on only where neither disk has an area; NotEmpty leaves all as it was, but for the sync.
+        ensures empty { D.is_honest first → D.is_honest second → OnOk result (NeitherHas (D.held first).bytes (D.held second).bytes) }
+        ensures not_empty { D.is_honest first → D.is_honest second → RefusedAs FormFault.NotEmpty (SomeIsThere (D.held first).bytes (D.held second).bytes) result }
+        ensures first_kept { D.is_honest first → RefusedAs FormFault.NotEmpty (LeavesOnly D.moment D.held_at first (first_after first_of result) (IsImage (D.held first))) result }
+        ensures first_bytes { D.is_honest first → RefusedAs FormFault.NotEmpty ((D.held (first_after first_of result)).bytes ≡ (D.held first).bytes) result }
+        ensures disk { RefusedAs FormFault.Disk (MoreFailures (D.failures first) (D.failures (first_after first_of result)) ⊎ MoreFailures (D.failures second) (D.failures (second_after second_of result))) result }
+
+        // Up to the barrier a stop leaves what one at entry might have left, from then on no area or this one.
+        ensures any_moment { D.is_honest first → D.is_honest second → AfterBarrier D.moment D.held_at first second (first_after first_of result) (second_after second_of result)
+            (IsUnformedOr (fresh 1 snapshot.now) (D.held first) (D.held second)) }
+        // The second disk is synced, and no more.
+        ensures second_kept { D.is_honest second → LeavesOnly D.moment D.held_at second (second_after second_of result) (IsImage (D.held second)) }
+        ensures second_bytes { D.is_honest second → (D.held (second_after second_of result)).bytes ≡ (D.held second).bytes }
+
+        ensures first_failures { D.failures first ≤ D.failures (first_after first_of result) }
+        ensures second_failures { D.failures second ≤ D.failures (second_after second_of result) }
+        ensures first_honest { D.is_honest (first_after first_of result) ↔ D.is_honest first }
+        ensures second_honest { D.is_honest (second_after second_of result) ↔ D.is_honest second }
+    {
+        let mut first = first;
+        let mut second = second;
+        if let Err(fault) = look(&mut first, &mut second) {
+            return Err((fault, first, second));
+        }
+        match form_first(first, snapshot) {
+            Err((DiskFault, first)) => Err((FormFault::Disk, first, second)),
+            Ok(log) => Ok(Snap {
+                log,
+                spare: second,
+                first_is_live: true,
+                broken: false,
+            }),
+        }
+    }
 
     /// Adds a record to the live area. It takes no memory.
     pub fn append(&mut self, added: &Record) -> Result<(), AppendFault>

@@ -3,3 +3,5 @@ pub mod Reading
 pub mod Kept
 pub mod Words
 pub mod Faults
+pub mod Opened
+pub mod Found

@@ -61,3 +61,8 @@ second_after disk_in (Err refused) = refused.2
 abbrev pub RefusedAs : {T E D : Type 0} → E → Type 0 → Result T (E × D × D) → Type 0
 RefusedAs fault reason (Ok made) = Unit {0}
 RefusedAs fault reason (Err refused) = refused.0 ≡ fault → reason
+
+-- the same of a call on one disk, which comes back with the fault
+abbrev pub FailsAs : {T E D : Type 0} → E → Type 0 → Result T (E × D) → Type 0
+FailsAs fault reason (Ok made) = Unit {0}
+FailsAs fault reason (Err refused) = refused.0 ≡ fault → reason

@@ -2,9 +2,12 @@
 //! still counts, so that at any moment a stop leaves the old area or the new one.
 #![tactic(auto)]
 
+mod choosing;
 mod forming;
+mod opening;
 mod snap;
 mod turning;
 
 pub use forming::FormFault;
+pub use opening::{OpenFault, OpenedPair};
 pub use snap::{Snap, TurnOverFault};

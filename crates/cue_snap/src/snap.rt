@@ -62,7 +62,24 @@ impl<D: Disk> Snap<D> {
     ghost use Rattle.cue_log.specs.Area.{fresh, with_payload};
     ghost use Rattle.cue_log.specs.declared.area.TheConstants.{AREA_LIMIT};
     ghost use Rattle.cue_snap.specs.Pair.{PairIsEither, PairLeaves, NeitherHas, SomeIsThere, IsUnformedOr, AfterBarrier};
+    ghost use Rattle.cue_snap.specs.Found.{IsPairOf};
     ghost use Rattle.cue_snap.specs.Words.{live_of, spare_of, is_first_live, generation_of, end_of, count_of, is_broken, area_of, turned, first_of, second_of, first_after, second_after, RefusedAs};
+
+    /// A pair of a log that works and a disk whose area is older.
+    pub(crate) fn over(log: Log<D>, spare: D, first_is_live: bool) -> Snap<D>
+        requires works { LogWorks log }
+        requires reads { D.is_honest (disk_of log) → LogReads D.held log }
+        requires numbered { D.is_honest (disk_of log) → LogIsNumbered D.held log }
+        requires older { D.is_honest spare → SpareIsOlder D.held log spare }
+        ensures { IsPairOf log spare first_is_live result }
+    {
+        Snap {
+            log,
+            spare,
+            first_is_live,
+            broken: false,
+        }
+    }
 
     /// Forms a pair on two disks without areas: the first one gets an area of generation 1 with this snapshot and no
     /// record. Both are synced before anything is written. It takes no memory; a refusal hands both disks back.

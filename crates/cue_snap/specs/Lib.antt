@@ -5,3 +5,4 @@ pub mod Words
 pub mod Faults
 pub mod Opened
 pub mod Found
+pub mod Laws

@@ -4,6 +4,7 @@
 
 mod choosing;
 mod forming;
+pub mod laws;
 mod opening;
 mod snap;
 mod turning;

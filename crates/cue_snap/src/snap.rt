@@ -193,6 +193,7 @@ impl<D: Disk> Snap<D> {
         ensures swapped { OnOk result (spare_of self.new ≡ live_of self.old) }
         ensures sides { OnOk result (is_first_live self.new ≡ not (is_first_live self.old)) }
         ensures kept { OnErr result ((live_of self.new ≡ live_of self.old) × (is_first_live self.new ≡ is_first_live self.old)) }
+        ensures numbers_kept { OnErr result ((generation_of self.new ≡ generation_of self.old) × (count_of self.new ≡ count_of self.old) × (end_of self.new ≡ end_of self.old)) }
 
         // A stop at any moment leaves the area as it was, or the new one.
         ensures any_moment { D.is_honest (live_of self.old) → D.is_honest (spare_of self.old) → is_broken self.old ≡ false

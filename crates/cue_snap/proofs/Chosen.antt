@@ -4,7 +4,6 @@ use Rattle.std.specs.Prelude.{IfOk}
 use Rattle.cue_disk.specs.Disk.{Contents, IsImage}
 use Rattle.cue_log.specs.Area.{Area}
 use Rattle.cue_log.specs.Reading.{area_in}
-use Rattle.cue_log.specs.Words.{disk_of}
 use Rattle.cue_snap.specs.declared.opening.OpenedPair.{OpenedPair}
 use Rattle.cue_snap.specs.Pair.{PairReads, PairLeaves}
 use Rattle.cue_snap.specs.Words.{live_of, first_after, second_after}

@@ -1,10 +1,10 @@
 -- What two areas stand for, from what a crash leaves of each.
-use Rattle.std.proofs.Common.{◌≡◌, ◌⊎◌, inl, inr, ℕ, ◌+◌, ◌<◌, Bool, true, false, List, [], ◌∷◌, sym, ap, subst, arith}
+use Rattle.std.proofs.Common.{◌≡◌, ◌⊎◌, inl, inr, ℕ, ◌+◌, ◌<◌, List, [], ◌∷◌, sym, subst, arith}
 use Rattle.std.proofs.lemmas.Bool.{cases_eq}
 use Rattle.cue_disk.specs.Disk.{Contents, IsImage}
 use Rattle.cue_log.specs.Area.{Area, IsArea, IsAbsent, fresh}
 use Rattle.cue_log.specs.Reading.{area_in}
-use Rattle.cue_log.specs.Log.{ReadsAs, IsEither, IsNoneOr, IsOldOrAbsent, LeavesAbsent}
+use Rattle.cue_log.specs.Log.{ReadsAs, IsEither, LeavesAbsent}
 use Rattle.cue_log.proofs.Complete.{area_in_is}
 use Rattle.cue_snap.specs.Pair.{IsOlder, PairReads, PairIsEither, PairLeaves, LeavesOlder, IsOldOrNew}
 

@@ -1,14 +1,14 @@
 -- The reader of pairs, and what a pair may be.
-use Rattle.std.proofs.Common.{◌≡◌, ◌≢◌, ◌⊎◌, inl, inr, ℕ, zero, suc, ◌<◌, Bool, true, false, nat_lt, ◌==◌, if◌then◌else◌, List, [], ◌∷◌, length, take, drop, Option, Some, None, refl, sym, ◌∙◌, ap, subst, arith}
+use Rattle.std.proofs.Common.{◌≡◌, ◌⊎◌, inl, inr, ℕ, zero, suc, ◌<◌, Bool, true, false, nat_lt, ◌==◌, if◌then◌else◌, List, [], ◌∷◌, length, take, drop, Some, None, refl, sym, ◌∙◌, ap, subst, arith}
 use Rattle.std.proofs.lemmas.Bool.{cases_Bool, cases_lt}
 use Rattle.std.proofs.lemmas.Bool.Decides.{nat_tests}
 use Rattle.cue_log.specs.declared.area.TheConstants.{AREA_LIMIT}
 use Rattle.cue_log.specs.Area.{Area, IsArea, IsAbsent}
 use Rattle.cue_log.specs.Log.{IsDamaged}
 use Rattle.cue_log.specs.Reading.{area_at, area_after, eight_at, frame_at, read_area, area_in}
-use Rattle.cue_log.proofs.Complete.{complete, unique, area_in_is}
+use Rattle.cue_log.proofs.Complete.{complete, area_in_is}
 use Rattle.cue_log.proofs.Sound.{area_not_absent, any_bytes}
-use Rattle.cue_snap.specs.Pair.{IsOlder, PairReads, NeitherHas, OneGeneration, IsSpoiled}
+use Rattle.cue_snap.specs.Pair.{PairReads, NeitherHas, OneGeneration, IsSpoiled}
 use Rattle.cue_snap.specs.Reading.{pair_in, newer_of, newer, only, is_absent}
 use Rattle.cue_snap.proofs.Pairs.{swapped}
 use Rattle.cue_snap.specs.Laws.{OneAreaOfAPair, ReaderFindsEachPair, AnyPairAnswers, PairThatReadsIsGood}

@@ -8,7 +8,7 @@ use Rattle.cue_log.specs.declared.log.Log.{Log}
 use Rattle.cue_log.specs.declared.opening.Opened.{Opened}
 use Rattle.cue_snap.specs.Pair.{PairLeaves, PairReads}
 use Rattle.cue_snap.specs.Words.{live_of, spare_of, is_first_live, is_broken, generation_of, count_of, area_of}
-use Rattle.cue_snap.specs.Opened.{area_read, first_opened, second_opened}
+use Rattle.cue_snap.specs.Opened.{area_read}
 use Rattle.cue_snap.specs.declared.choosing.Found.{Found}
 use Rattle.cue_snap.specs.declared.choosing.Found.TheVariants.{Area, Absent, Damaged}
 use Rattle.cue_snap.specs.declared.opening.OpenedPair.{OpenedPair}

@@ -1,5 +1,5 @@
 -- What a pair keeps of its live log.
-use Rattle.std.specs.Prelude.{◌≡◌, ℕ, false, length}
+use Rattle.std.specs.Prelude.{◌≡◌, false}
 use Rattle.cue_disk.specs.Disk.{Contents}
 use Rattle.cue_log.specs.Log.{ReadsAs}
 use Rattle.cue_log.specs.Words.{disk_of, generation_of, is_broken, area_of}

@@ -1,9 +1,7 @@
 // Which of two areas counts: the one with the higher generation, or the only one.
-ghost use Rattle.std.specs.Prelude.{◌≡◌, ◌≤◌, ◌<◌, false, IfOk};
-ghost use Rattle.cue_disk.specs.Disk.{LeavesOnly, IsImage, MoreFailures};
+ghost use Rattle.std.specs.Prelude.{◌≡◌, IfOk};
 ghost use Rattle.cue_log.specs.Log.{LeavesAbsent, IsDamaged};
 ghost use Rattle.cue_log.specs.Opened.{opened_disk, area_read as log_area_read};
-ghost use Rattle.cue_log.specs.Words.{disk_after, generation_of};
 ghost use Rattle.cue_snap.specs.Found.{disk_in, IsFound, FoundWorks, IsOpened, OpenedWorks, IsPairOf, PairWorks, IsChosen};
 ghost use Rattle.cue_snap.specs.Kept.{SpareIsOlder};
 ghost use Rattle.cue_snap.specs.Opened.{area_read, first_opened, second_opened};
@@ -26,14 +24,16 @@ pub(crate) enum Found<D: Disk> {
     Damaged(D),
 }
 
-/// Gives the disk back.
-pub(crate) fn into_disk<D: Disk>(found: Found<D>) -> D
-    ensures { result ≡ disk_in found }
-{
-    match found {
-        Found::Area(opened) => opened.log.retire(),
-        Found::Absent(disk) => disk,
-        Found::Damaged(disk) => disk,
+impl<D: Disk> Found<D> {
+    /// Gives the disk back.
+    pub(crate) fn into_disk(self) -> D
+        ensures { result ≡ disk_in self }
+    {
+        match self {
+            Found::Area(opened) => opened.log.retire(),
+            Found::Absent(disk) => disk,
+            Found::Damaged(disk) => disk,
+        }
     }
 }
 
@@ -155,6 +155,6 @@ pub(crate) fn choose<D: Disk>(
     match first {
         Found::Area(first) => beside_area(first, second),
         Found::Absent(first) => beside_none(first, second),
-        Found::Damaged(first) => Err((OpenFault::Damaged, first, into_disk(second))),
+        Found::Damaged(first) => Err((OpenFault::Damaged, first, second.into_disk())),
     }
 }

@@ -5,7 +5,7 @@ ghost use Rattle.cue_log.specs.Words.{disk_after};
 ghost use Rattle.cue_snap.specs.Found.{disk_in, IsFound, FoundWorks};
 ghost use Rattle.cue_snap.specs.Words.{FailsAs};
 
-use crate::choosing::{Found, choose, into_disk};
+use crate::choosing::{Found, choose};
 use crate::snap::Snap;
 use cue_disk::Disk;
 use cue_log::{Log, OpenFault as AreaFault, Records, Snapshot};
@@ -111,7 +111,7 @@ impl<D: Disk> Snap<D> {
         };
         match find(alloc, second) {
             Ok(second) => choose(first, second),
-            Err((fault, second)) => Err((fault, into_disk(first), second)),
+            Err((fault, second)) => Err((fault, first.into_disk(), second)),
         }
     }
 }

@@ -5,7 +5,6 @@ use cue_log::Record;
 
 impl<D: Disk> Snap<D> {
     ghost use Rattle.std.specs.Prelude.{◌≡◌, ◌≤◌, ◌+◌, ◌↔◌, false, length, IsTrue};
-    ghost use Rattle.cue_log.specs.Area.{area_text};
     ghost use Rattle.cue_log.specs.declared.area.TheConstants.{AREA_LIMIT};
     ghost use Rattle.cue_snap.specs.Pair.{PairLeaves};
     ghost use Rattle.cue_snap.specs.Words.{live_of, spare_of, first_of, second_of, generation_of, end_of, count_of, is_broken, area_of};

@@ -1,4 +1,4 @@
-use Rattle.std.proofs.Common.{List, ℕ, inl, refl}
+use Rattle.std.proofs.Common.{inl}
 use Rattle.cue_disk.proofs.Moments.{started, weaker}
 use Rattle.cue_log.specs.Area.{with_payload}
 use Rattle.cue_log.specs.Words as log

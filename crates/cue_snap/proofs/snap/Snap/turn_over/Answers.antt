@@ -4,7 +4,7 @@ use Rattle.cue_disk.specs.Disk.{LeavesOnly}
 use Rattle.cue_log.specs.Area.{fresh}
 use Rattle.cue_log.specs.Words as log
 use Rattle.cue_snap.specs.Pair.{PairIsEither, LeavesOlder, IsOldOrNew}
-use Rattle.cue_snap.proofs.Pairs.{older_of, turn_reads, area_leaves_older}
+use Rattle.cue_snap.proofs.Pairs.{turn_reads, area_leaves_older}
 use Rattle.cue_snap.proofs.snap.Snap.turn_over.Goals as goal
 
 -- no call was made

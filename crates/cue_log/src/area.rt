@@ -1,6 +1,7 @@
 // What an area is to the device: its limits, its gates, and how its head gate is closed.
-ghost use Rattle.std.specs.Prelude.{◌≡◌, ◌↔◌, OnOk};
-ghost use Rattle.cue_disk.specs.Disk.{LeavesOnly, CountsFailure};
+ghost use Rattle.std.specs.Prelude.{◌≡◌, ◌↔◌, IfOk, IsTrue, OnOk};
+ghost use Rattle.cue_disk.specs.Disk.{LeavesOnly, CountsFailure, IsImage, IsStable};
+ghost use Rattle.cue_log.specs.Area.{IsAbsent};
 ghost use Rattle.cue_log.specs.Log.{IsOldOrAbsent, IsClosed, LeavesAbsent, closed_bytes};
 
 use cue_disk::{Disk, DiskFault};
@@ -39,4 +40,24 @@ pub fn close<D: Disk>(disk: &mut D) -> Result<(), DiskFault>
     }
     disk.write_at(0, &[CLOSED])?;
     disk.sync()
+}
+
+/// Whether a disk has no area. It syncs before it looks, so that what it answers holds of whatever a stop leaves from
+/// then on; it writes nothing.
+pub fn is_absent<D: Disk>(disk: &mut D) -> Result<bool, DiskFault>
+    ensures absent { D.is_honest disk.old → IfOk result (λ absent. IsTrue absent ↔ IsAbsent (D.held disk.old).bytes) }
+    ensures stable { D.is_honest disk.old → OnOk result (IsStable (D.held disk.new)) }
+    ensures bytes { D.is_honest disk.old → (D.held disk.new).bytes ≡ (D.held disk.old).bytes }
+    // A stop at any moment leaves what one at entry might have left.
+    ensures any_moment { D.is_honest disk.old → LeavesOnly D.moment D.held_at disk.old disk.new (IsImage (D.held disk.old)) }
+    ensures count { CountsFailure result (D.failures disk.old) (D.failures disk.new) }
+    ensures honest { D.is_honest disk.new ↔ D.is_honest disk.old }
+{
+    disk.sync()?;
+    if disk.len()? < 2 {
+        return Ok(true);
+    }
+    let mut gate = [CLOSED];
+    disk.read_at(0, &mut gate)?;
+    Ok(gate[0] != OPEN)
 }

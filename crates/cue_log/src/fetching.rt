@@ -3,7 +3,7 @@ ghost use Rattle.std.specs.Prelude.{◌≡◌, ◌⊎◌, ◌+◌, ◌<◌, ◌�
 ghost use Rattle.cue_disk.specs.Disk.{LeavesOnly, IsImage, IsStable, MoreFailures};
 ghost use Rattle.cue_log.specs.Area.{IsArea, IsAbsent, area_text};
 ghost use Rattle.cue_log.specs.Reading.{area_at};
-ghost use Rattle.cue_log.specs.Log.{OnlyReads, IsFront, IsDamaged};
+ghost use Rattle.cue_log.specs.Log.{OnlyReads, IsFront, IsDamaged, LeavesAbsent};
 ghost use Rattle.cue_log.specs.Parts.{parts_area};
 
 use crate::area::{AREA_LIMIT, OPEN};
@@ -66,6 +66,7 @@ pub(crate) fn fetch<D: Disk>(alloc: Global, disk: &mut D) -> Result<Vec<u8>, Ope
     ensures front { D.is_honest disk.old → IfOk result (λ text. IsFront text.items (D.held disk.old).bytes) }
     ensures short { IfOk result (λ text. length text.items ≤ AREA_LIMIT) }
     ensures absent { D.is_honest disk.old → IsErrOf result OpenFault.Absent → IsAbsent (D.held disk.old).bytes }
+    ensures stays_absent { D.is_honest disk.old → IsErrOf result OpenFault.Absent → LeavesAbsent (D.held disk.new) }
     ensures damaged { IsErrOf result OpenFault.Damaged → ⊥ }
     ensures disk { IsErrOf result OpenFault.Disk → MoreFailures (D.failures disk.old) (D.failures disk.new) }
     ensures failures { D.failures disk.old ≤ D.failures disk.new }
@@ -94,6 +95,7 @@ pub(crate) fn read_area<D: Disk>(alloc: Global, disk: &mut D) -> Result<Parts, O
     ensures within { IfOk result (λ parts. parts.end < AREA_LIMIT) }
     ensures few { IfOk result (λ parts. length parts.records.items ≤ parts.end) }
     ensures absent { D.is_honest disk.old → IsErrOf result OpenFault.Absent → IsAbsent (D.held disk.old).bytes }
+    ensures stays_absent { D.is_honest disk.old → IsErrOf result OpenFault.Absent → LeavesAbsent (D.held disk.new) }
     ensures damaged { D.is_honest disk.old → IsErrOf result OpenFault.Damaged → IsDamaged (D.held disk.old).bytes }
     ensures disk { IsErrOf result OpenFault.Disk → MoreFailures (D.failures disk.old) (D.failures disk.new) }
     ensures failures { D.failures disk.old ≤ D.failures disk.new }

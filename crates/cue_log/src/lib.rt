@@ -15,7 +15,7 @@ mod record;
 #[cfg(test)]
 mod tests;
 
-pub use area::{AREA_LIMIT, PAYLOAD_LIMIT, close};
+pub use area::{AREA_LIMIT, PAYLOAD_LIMIT, close, is_absent};
 pub use log::{AppendFault, Log};
 pub use opening::{OpenFault, Opened};
 pub use parts::{Records, Snapshot};

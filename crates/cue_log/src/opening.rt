@@ -72,7 +72,7 @@ impl<D: Disk> Log<D> {
     ghost use Rattle.std.specs.Prelude.{◌≡◌, ◌≤◌, ◌↔◌, IfOk, length, false};
     ghost use Rattle.cue_disk.specs.Disk.{LeavesOnly, IsImage, MoreFailures};
     ghost use Rattle.cue_log.specs.Area.{IsArea, IsAbsent};
-    ghost use Rattle.cue_log.specs.Log.{IsDamaged, ReadsAs};
+    ghost use Rattle.cue_log.specs.Log.{IsDamaged, LeavesAbsent, ReadsAs};
     ghost use Rattle.cue_log.specs.Words.{disk_of, is_broken, count_of, area_of, disk_after};
     ghost use Rattle.cue_log.specs.Opened.{area_read, opened_disk, FailsAs};
 
@@ -88,6 +88,7 @@ impl<D: Disk> Log<D> {
 
         // Each refusal has its reason.
         ensures absent { D.is_honest disk → FailsAs OpenFault.Absent (IsAbsent (D.held disk).bytes) result }
+        ensures stays_absent { D.is_honest disk → FailsAs OpenFault.Absent (LeavesAbsent (D.held (disk_after opened_disk result))) result }
         ensures damaged { D.is_honest disk → FailsAs OpenFault.Damaged (IsDamaged (D.held disk).bytes) result }
         ensures disk { FailsAs OpenFault.Disk (MoreFailures (D.failures disk) (D.failures (disk_after opened_disk result))) result }
 

@@ -159,6 +159,23 @@ fn closing_an_area(rt: HostRuntime) -> Result<(), Fail> {
 }
 
 #[test]
+fn whether_there_is_an_area(rt: HostRuntime) -> Result<(), Fail> {
+    let alloc = rt.alloc();
+    let mut empty = MemDisk::new(alloc);
+    assert_eq!(rt; is_absent(&mut empty), Ok(true));
+    let mut one = MemDisk::from_bytes(alloc, &[1])?;
+    assert_eq!(rt; is_absent(&mut one), Ok(true));
+    let mut other = MemDisk::from_bytes(alloc, &[9, 1])?;
+    assert_eq!(rt; is_absent(&mut other), Ok(true));
+    // Damage is no absence.
+    let mut damaged = MemDisk::from_bytes(alloc, &[1, 0])?;
+    assert_eq!(rt; is_absent(&mut damaged), Ok(false));
+    damaged.fail_at(1);
+    assert_eq!(rt; is_absent(&mut damaged), Err(DiskFault));
+    Ok(())
+}
+
+#[test]
 fn a_log_goes_on_on_another_disk(rt: HostRuntime) -> Result<(), Fail> {
     let alloc = rt.alloc();
     let mut log = opened_bytes(alloc, &APPENDED)?.log;

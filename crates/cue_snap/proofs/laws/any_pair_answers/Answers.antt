@@ -1,0 +1,5 @@
+use Rattle.cue_snap.proofs.Reader.{any_pair}
+use Rattle.cue_snap.proofs.laws.any_pair_answers.Goals as goal
+
+pub returns : goal.returns
+returns c = any_pair

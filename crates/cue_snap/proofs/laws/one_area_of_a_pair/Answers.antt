@@ -1,0 +1,5 @@
+use Rattle.cue_snap.proofs.Reader.{one_of_a_pair}
+use Rattle.cue_snap.proofs.laws.one_area_of_a_pair.Goals as goal
+
+pub returns : goal.returns
+returns c = one_of_a_pair

@@ -1,0 +1,5 @@
+use Rattle.cue_snap.proofs.Pairs.{swapped}
+use Rattle.cue_snap.proofs.laws.pairs_are_symmetric.Goals as goal
+
+pub returns : goal.returns
+returns c = swapped

@@ -1,0 +1,5 @@
+use Rattle.cue_snap.proofs.Reader.{pair_found}
+use Rattle.cue_snap.proofs.laws.reader_finds_each_pair.Goals as goal
+
+pub returns : goal.returns
+returns c = pair_found

@@ -1,0 +1,8 @@
+pub mod Pair
+pub mod Reading
+pub mod Kept
+pub mod Words
+pub mod Faults
+pub mod Opened
+pub mod Found
+pub mod Laws

@@ -1,0 +1,98 @@
+// How a pair comes to be: both disks are looked at and synced, and then the first one gets an area.
+ghost use Rattle.std.specs.Prelude.{◌≡◌, ◌⊎◌, ◌≤◌, ◌+◌, ◌↔◌, false, length, IfOk, OnOk, IsErrOf};
+ghost use Rattle.cue_disk.specs.Disk.{LeavesOnly, IsImage, CountsFailure, MoreFailures};
+ghost use Rattle.cue_log.specs.Area.{fresh};
+ghost use Rattle.cue_log.specs.Log.{IsNoneOr, LeavesAbsent, ReadsAs};
+ghost use Rattle.cue_log.specs.Words.{disk_of, disk_after, generation_of, end_of, count_of, is_broken, area_of};
+ghost use Rattle.cue_log.specs.declared.area.TheConstants.{AREA_LIMIT};
+ghost use Rattle.cue_snap.specs.Pair.{NeitherHas, SomeIsThere};
+
+use cue_disk::{Disk, DiskFault};
+use cue_log::{Log, close, is_absent};
+use std::error::Error;
+use std::fmt;
+
+/// Why a pair is not formed.
+#[derive(Clone, Copy, Debug, PartialEq, Eq)]
+pub enum FormFault {
+    /// A disk has an area, or a damaged one. Nothing was written.
+    NotEmpty,
+    /// A device call failed.
+    Disk,
+}
+
+impl fmt::Display for FormFault {
+    ghost use Rattle.std.specs.Prelude.{Some};
+    ghost use Rattle.cue_snap.specs.Faults.{form_fault_text};
+
+    ghost output = { λ fault. Some (form_fault_text fault) };
+
+    fn fmt<W: fmt::Write>(&self, f: &mut fmt::Formatter<W>) -> fmt::Result {
+        match self {
+            FormFault::NotEmpty => write!(f, "a disk has an area already"),
+            FormFault::Disk => write!(f, "the disk failed"),
+        }
+    }
+}
+
+impl Error for FormFault {}
+
+impl From<DiskFault> for FormFault {
+    ghost use Rattle.std.specs.Prelude.{◌≡◌};
+    ghost use Rattle.cue_snap.specs.declared.forming.FormFault.TheVariants.{Disk};
+
+    ghost from_gives = { λ _ fault. fault ≡ Disk };
+
+    fn from(_: DiskFault) -> FormFault {
+        FormFault::Disk
+    }
+}
+
+/// The generation of a first area.
+const FIRST: u64 = 1;
+
+/// Syncs both disks, and tells whether neither has an area.
+pub(crate) fn look<D: Disk>(first: &mut D, second: &mut D) -> Result<(), FormFault>
+    ensures empty { D.is_honest first.old → D.is_honest second.old → OnOk result (NeitherHas (D.held first.old).bytes (D.held second.old).bytes) }
+    ensures not_empty { D.is_honest first.old → D.is_honest second.old → IsErrOf result FormFault.NotEmpty → SomeIsThere (D.held first.old).bytes (D.held second.old).bytes }
+    ensures disk { IsErrOf result FormFault.Disk → MoreFailures (D.failures first.old) (D.failures first.new) ⊎ MoreFailures (D.failures second.old) (D.failures second.new) }
+    ensures first_stays { D.is_honest first.old → OnOk result (LeavesAbsent (D.held first.new)) }
+    ensures second_stays { D.is_honest second.old → OnOk result (LeavesAbsent (D.held second.new)) }
+    ensures first_moments { D.is_honest first.old → LeavesOnly D.moment D.held_at first.old first.new (IsImage (D.held first.old)) }
+    ensures second_moments { D.is_honest second.old → LeavesOnly D.moment D.held_at second.old second.new (IsImage (D.held second.old)) }
+    ensures first_bytes { D.is_honest first.old → (D.held first.new).bytes ≡ (D.held first.old).bytes }
+    ensures second_bytes { D.is_honest second.old → (D.held second.new).bytes ≡ (D.held second.old).bytes }
+    ensures first_failures { D.failures first.old ≤ D.failures first.new }
+    ensures second_failures { D.failures second.old ≤ D.failures second.new }
+    ensures first_honest { D.is_honest first.new ↔ D.is_honest first.old }
+    ensures second_honest { D.is_honest second.new ↔ D.is_honest second.old }
+{
+    let first_is_absent = is_absent(first)?;
+    let second_is_absent = is_absent(second)?;
+    if !first_is_absent {
+        return Err(FormFault::NotEmpty);
+    }
+    if !second_is_absent {
+        return Err(FormFault::NotEmpty);
+    }
+    Ok(())
+}
+
+/// Forms a first area on a disk without one.
+pub(crate) fn form_first<D: Disk>(disk: D, snapshot: &[u8]) -> Result<Log<D>, (DiskFault, D)>
+    requires room { 14 + length snapshot.now ≤ AREA_LIMIT }
+    requires absent { D.is_honest disk → LeavesAbsent (D.held disk) }
+    ensures formed { D.is_honest disk → IfOk result (λ log. ReadsAs (D.held (disk_of log)) (fresh 1 snapshot.now)) }
+    ensures area { D.is_honest disk → IfOk result (λ log. area_of D.held log ≡ fresh 1 snapshot.now) }
+    ensures numbers { IfOk result (λ log. (generation_of log ≡ 1) × (count_of log ≡ 0) × (end_of log ≡ 13 + length snapshot.now)) }
+    ensures works { IfOk result (λ log. is_broken log ≡ false) }
+    ensures any_moment { D.is_honest disk → LeavesOnly D.moment D.held_at disk (disk_after disk_of result) (IsNoneOr (fresh 1 snapshot.now)) }
+    ensures count { CountsFailure result (D.failures disk) (D.failures (disk_after disk_of result)) }
+    ensures honest { D.is_honest (disk_after disk_of result) ↔ D.is_honest disk }
+{
+    let mut disk = disk;
+    match close(&mut disk) {
+        Err(fault) => Err((fault, disk)),
+        Ok(()) => Log::form(disk, FIRST, snapshot),
+    }
+}

@@ -1,0 +1,16 @@
+//! Two areas of `cue_log` on two disks, live in turn: while the one is formed anew with a higher generation the other
+//! still counts, so that at any moment a stop leaves the old area or the new one.
+#![tactic(auto)]
+
+mod choosing;
+mod forming;
+pub mod laws;
+mod opening;
+mod snap;
+#[cfg(test)]
+mod tests;
+mod turning;
+
+pub use forming::FormFault;
+pub use opening::{OpenFault, OpenedPair};
+pub use snap::{Snap, TurnOverFault};

@@ -1,0 +1,117 @@
+// How a pair is read: each disk for itself, and then the one that counts.
+ghost use Rattle.std.specs.Prelude.{◌≡◌, ◌≤◌, ◌↔◌, IfOk};
+ghost use Rattle.cue_disk.specs.Disk.{LeavesOnly, IsImage, MoreFailures};
+ghost use Rattle.cue_log.specs.Words.{disk_after};
+ghost use Rattle.cue_snap.specs.Found.{disk_in, IsFound, FoundWorks};
+ghost use Rattle.cue_snap.specs.Words.{FailsAs};
+
+use crate::choosing::{Found, choose};
+use crate::snap::Snap;
+use cue_disk::Disk;
+use cue_log::{Log, OpenFault as AreaFault, Records, Snapshot};
+use std::alloc::Global;
+use std::error::Error;
+use std::fmt;
+
+/// Why a pair is not opened.
+#[derive(Clone, Copy, Debug, PartialEq, Eq)]
+pub enum OpenFault {
+    /// An area is damaged, or both have one generation.
+    Damaged,
+    /// Neither disk has an area.
+    Unformed,
+    /// A device call failed.
+    Disk,
+    /// Out of memory.
+    Memory,
+}
+
+impl fmt::Display for OpenFault {
+    ghost use Rattle.std.specs.Prelude.{Some};
+    ghost use Rattle.cue_snap.specs.Faults.{open_fault_text};
+
+    ghost output = { λ fault. Some (open_fault_text fault) };
+
+    fn fmt<W: fmt::Write>(&self, f: &mut fmt::Formatter<W>) -> fmt::Result {
+        match self {
+            OpenFault::Damaged => write!(f, "an area is damaged"),
+            OpenFault::Unformed => write!(f, "there is no area"),
+            OpenFault::Disk => write!(f, "the disk failed"),
+            OpenFault::Memory => write!(f, "out of memory"),
+        }
+    }
+}
+
+impl Error for OpenFault {}
+
+/// A pair that was opened, and what its live area held.
+#[derive(Drop)]
+pub struct OpenedPair<D: Disk> {
+    pub snap: Snap<D>,
+    pub base: Snapshot,
+    pub tail: Records,
+}
+
+// What a disk has. It is synced first, so that this stays.
+fn find<D: Disk>(alloc: Global, disk: D) -> Result<Found<D>, (OpenFault, D)>
+    ensures found { D.is_honest disk → IfOk result (IsFound D.held) }
+    ensures works { IfOk result FoundWorks }
+    ensures disk { FailsAs OpenFault.Disk (MoreFailures (D.failures disk) (D.failures (disk_after disk_in result))) result }
+    ensures damaged { FailsAs OpenFault.Damaged ⊥ result }
+    ensures unformed { FailsAs OpenFault.Unformed ⊥ result }
+    ensures any_moment { D.is_honest disk → LeavesOnly D.moment D.held_at disk (disk_after disk_in result) (IsImage (D.held disk)) }
+    ensures bytes { D.is_honest disk → (D.held (disk_after disk_in result)).bytes ≡ (D.held disk).bytes }
+    ensures failures { D.failures disk ≤ D.failures (disk_after disk_in result) }
+    ensures honest { D.is_honest (disk_after disk_in result) ↔ D.is_honest disk }
+{
+    match Log::open(alloc, disk) {
+        Ok(opened) => Ok(Found::Area(opened)),
+        Err((AreaFault::Absent, disk)) => Ok(Found::Absent(disk)),
+        Err((AreaFault::Damaged, disk)) => Ok(Found::Damaged(disk)),
+        Err((AreaFault::Disk, disk)) => Err((OpenFault::Disk, disk)),
+        Err((AreaFault::Memory, disk)) => Err((OpenFault::Memory, disk)),
+    }
+}
+
+impl<D: Disk> Snap<D> {
+    ghost use Rattle.std.specs.Prelude.{◌≡◌, ◌⊎◌, ◌≤◌, ◌↔◌, IfOk, length, false};
+    ghost use Rattle.cue_disk.specs.Disk.{LeavesOnly, IsImage, MoreFailures};
+    ghost use Rattle.cue_snap.specs.Opened.{area_read, first_opened, second_opened};
+    ghost use Rattle.cue_snap.specs.Pair.{PairReads, PairLeaves, NeitherHas, IsSpoiled};
+    ghost use Rattle.cue_snap.specs.Words.{count_of, is_broken, area_of, first_after, second_after, RefusedAs};
+
+    /// Opens a pair, pending writes included: from Ok on whatever a stop leaves reads as what is answered. It writes
+    /// nothing, and takes memory in proportion to the areas. A refusal hands both disks back.
+    pub fn open(alloc: Global, first: D, second: D) -> Result<OpenedPair<D>, (OpenFault, D, D)>
+        // What is answered stood on the disks, and stays.
+        ensures stood { D.is_honest first → D.is_honest second → IfOk result (λ opened. PairReads (area_read opened) (D.held first).bytes (D.held second).bytes) }
+        ensures reads { D.is_honest first → D.is_honest second → IfOk result (λ opened. PairLeaves (D.held (first_opened opened)) (D.held (second_opened opened)) (area_read opened)) }
+        ensures area { D.is_honest first → D.is_honest second → IfOk result (λ opened. area_of D.held opened.snap ≡ area_read opened) }
+        ensures works { IfOk result (λ opened. is_broken opened.snap ≡ false) }
+        ensures counted { IfOk result (λ opened. count_of opened.snap ≡ length opened.tail) }
+
+        // Each refusal has its reason.
+        ensures damaged { D.is_honest first → D.is_honest second → RefusedAs OpenFault.Damaged (IsSpoiled (D.held first).bytes (D.held second).bytes) result }
+        ensures unformed { D.is_honest first → D.is_honest second → RefusedAs OpenFault.Unformed (NeitherHas (D.held first).bytes (D.held second).bytes) result }
+        ensures disk { RefusedAs OpenFault.Disk (MoreFailures (D.failures first) (D.failures (first_after first_opened result)) ⊎ MoreFailures (D.failures second) (D.failures (second_after second_opened result))) result }
+
+        // A stop at any moment leaves of each disk what one at entry might have left.
+        ensures first_moments { D.is_honest first → LeavesOnly D.moment D.held_at first (first_after first_opened result) (IsImage (D.held first)) }
+        ensures second_moments { D.is_honest second → LeavesOnly D.moment D.held_at second (second_after second_opened result) (IsImage (D.held second)) }
+        ensures first_bytes { D.is_honest first → (D.held (first_after first_opened result)).bytes ≡ (D.held first).bytes }
+        ensures second_bytes { D.is_honest second → (D.held (second_after second_opened result)).bytes ≡ (D.held second).bytes }
+        ensures first_failures { D.failures first ≤ D.failures (first_after first_opened result) }
+        ensures second_failures { D.failures second ≤ D.failures (second_after second_opened result) }
+        ensures first_honest { D.is_honest (first_after first_opened result) ↔ D.is_honest first }
+        ensures second_honest { D.is_honest (second_after second_opened result) ↔ D.is_honest second }
+    {
+        let first = match find(alloc, first) {
+            Ok(found) => found,
+            Err((fault, first)) => return Err((fault, first, second)),
+        };
+        match find(alloc, second) {
+            Ok(second) => choose(first, second),
+            Err((fault, second)) => Err((fault, first.into_disk(), second)),
+        }
+    }
+}

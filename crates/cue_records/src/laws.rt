@@ -1,0 +1,17 @@
+//! Laws of the texts, each the contract of a function that does nothing.
+ghost use Rattle.cue_records.specs.Laws.{AcceptableEventsFit, BatchTextsDiffer, BatchesAreReadBack};
+
+/// The text of a batch reads back as the batch.
+pub fn batches_are_read_back()
+    ensures { BatchesAreReadBack }
+{}
+
+/// No two batches have one text.
+pub fn batch_texts_differ()
+    ensures { BatchTextsDiffer }
+{}
+
+/// Events that may happen to a state one after the other are within the ranges that their texts have.
+pub fn acceptable_events_fit()
+    ensures { AcceptableEventsFit }
+{}

@@ -12,3 +12,6 @@ pub mod laws;
 pub use batch::{Batch, MAX_EVENTS, batch_len, read_batch, write_batch};
 pub use bytes::Bytes;
 pub use fault::ReadFault;
+
+#[cfg(test)]
+mod tests;

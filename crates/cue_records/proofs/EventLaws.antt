@@ -12,9 +12,9 @@ use Rattle.cue_records.specs.declared.batch.kind.Kind.TheVariants as kind
 use Rattle.cue_records.specs.Fields.{byte_text, short_text, number_text, moment_text, text_text, parts_text, reason_number}
 use Rattle.cue_records.specs.Batch.{event_text, is_event}
 use Rattle.cue_records.specs.Reading.{Reads, as_at}
-use Rattle.cue_records.specs.BatchReading.{kind_of, kind_at, entry_at, new_cue_at, start_at, answer_at, cancel_at, body_at, event_at}
+use Rattle.cue_records.specs.BatchReading.{kind_of, kind_at, start_at, answer_at, cancel_at, body_at, event_at}
 use Rattle.cue_records.proofs.Taking.{Takes, IsField, bind_some, some_is, bytes_behind, made_field, both_field}
-use Rattle.cue_records.proofs.FieldLaws.{byte_field, step_number, device_field, port_field, sequence_field, moment_field, cue_field, parts_field, reason_field}
+use Rattle.cue_records.proofs.FieldLaws.{byte_field, step_number, device_field, sequence_field, moment_field, cue_field, entry_field, new_cue_field, reason_field}
 
 -- ---- kinds
 
@@ -77,7 +77,7 @@ kind_byte kind.Failed = refl
 
 kind_field : IsField kind_at (λ k. byte_text (kind_number k)) (λ k. true)
 unfolding kind_at
-kind_field = made_field kind_of kind_number byte_field kind_numbered kind_again kind_byte
+kind_field = made_field kind_of kind_number (λ k. true) byte_field (λ n k h e. (kind_numbered n k e, refl)) (λ k h. kind_again k) (λ k h. kind_byte k)
 
 -- ---- bodies
 
@@ -95,14 +95,6 @@ module _ {A : Type 0} {read : Reads A} {text : A → List ℕ} {fits : A → Boo
 
   given : IsField read text fits → (make : A → Event) (y : A) (rest : List ℕ) → IsTrue (fits y) → as_at make read (text y ++ rest) ≡ Some (make y, rest)
   given f make y rest h = rw (f.again y rest h) refl
-
-entry_field : IsField entry_at (λ x. byte_text x.0 ++ short_text x.1) (λ x. is_device x.0 && is_port x.1)
-unfolding entry_at
-entry_field = both_field device_field port_field
-
-new_cue_field : IsField new_cue_at (λ x. text_text x.0 ++ parts_text x.1) (λ x. is_cue_number x.0 && are_parts x.1)
-unfolding new_cue_at
-new_cue_field = both_field cue_field parts_field
 
 start_field : IsField start_at (λ x. number_text x.0 ++ (text_text x.1.0 ++ moment_text x.1.1)) (λ x. is_number x.0 && (is_cue_number x.1.0 && is_moment x.1.1))
 unfolding start_at

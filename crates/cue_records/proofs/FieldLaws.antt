@@ -18,8 +18,8 @@ use Rattle.cue_exchange.specs.declared.attempt.Reason.{Reason}
 use Rattle.cue_exchange.specs.declared.attempt.Reason.TheVariants.{Operator, Deadline, Abort, Power, Release}
 use Rattle.cue_exchange.specs.declared.limits.TheConstants.{LAST_NUMBER}
 use Rattle.cue_core.proofs.Conditions.{both, join}
-use Rattle.cue_records.specs.Fields.{byte_text, short_text, number_text, moment_text, text_text, part_text, parts_text, reason_number}
-use Rattle.cue_records.specs.Reading.{byte_at, number_at, bytes_at, text_at, device_at, port_at, sequence_at, cue_at, part_bytes_at, part_at, part_count_at, parts_at, reason_of, reason_at}
+use Rattle.cue_records.specs.Fields.{byte_text, short_text, number_text, moment_text, text_text, part_text, parts_text, entry_text, new_cue_text, reason_number}
+use Rattle.cue_records.specs.Reading.{byte_at, number_at, bytes_at, text_at, device_at, port_at, sequence_at, cue_at, part_bytes_at, part_at, part_count_at, parts_at, entry_at, new_cue_at, reason_of, reason_at}
 use Rattle.cue_records.proofs.Taking.{Takes, IsField, bind_some, else_some, some_is, bytes_apart, bytes_behind, refit, where_field, test_field, as_field, made_field, both_field, counted_field}
 use Rattle.cue_records.proofs.Numbers.{field16, field32, field64}
 
@@ -113,7 +113,7 @@ reason_byte Release = refl
 
 pub reason_field : IsField reason_at (λ r. byte_text (reason_number r)) (λ r. true)
 unfolding reason_at
-reason_field = made_field reason_of reason_number byte_field reason_numbered reason_again reason_byte
+reason_field = made_field reason_of reason_number (λ r. true) byte_field (λ n r h e. (reason_numbered n r e, refl)) (λ r h. reason_again r) (λ r h. reason_byte r)
 
 -- ---- cues
 
@@ -133,7 +133,7 @@ runs_are_bytes a (b ∷ bs) h = by (is_ascii_digit b) refl h (runs_are_bytes tru
         let point : b ≡ 46 = eqb-true b 46 here.0 in
         join (nat_le b 255) (are_bytes bs) (le-leb b 255 (omega arith)) (before (both a (runs_from false bs) here.1).1)
 
-cue_short : (c : List ℕ) → IsTrue (is_cue_number c) → IsTrue (nat_le (length c) 255 && are_bytes c)
+pub cue_short : (c : List ℕ) → IsTrue (is_cue_number c) → IsTrue (nat_le (length c) 255 && are_bytes c)
 cue_short c h =
     let p = both (nat_le (length c) MAX_CUE_BYTES) (list_all is_run (pieces c)) h in
     let k : length c ≤ MAX_CUE_BYTES = leb-true (length c) MAX_CUE_BYTES p.0 in
@@ -193,3 +193,13 @@ parts_field =
     refit are_parts (where_field (λ ps. distinct (devices_in ps)) (counted_field part_count_field part_field))
     (λ ps h. turned (nat_le 1 (length ps)) (nat_le (length ps) MAX_PARTS) (distinct (devices_in ps)) (list_all is_part ps) h)
     (λ ps h. turned_back (nat_le 1 (length ps)) (nat_le (length ps) MAX_PARTS) (distinct (devices_in ps)) (list_all is_part ps) h)
+
+-- ---- entries
+
+pub entry_field : IsField entry_at entry_text (λ x. is_device x.0 && is_port x.1)
+unfolding entry_at
+entry_field = both_field device_field port_field
+
+pub new_cue_field : IsField new_cue_at new_cue_text (λ x. is_cue_number x.0 && are_parts x.1)
+unfolding new_cue_at
+new_cue_field = both_field cue_field parts_field

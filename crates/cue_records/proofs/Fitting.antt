@@ -42,7 +42,7 @@ device_fits show d rules there = by (port_of show d) (is_entry-port_of show d ru
     by None entry there = absurd cc
     by (Some port) entry there = (both (is_device d) (is_port port) entry).0
 
-cue_fits : (show : ShowLists) (c : List ℕ) → IsTrue (is_show show) → IsTrue (has_cue show c) → IsTrue (is_cue_number c)
+pub cue_fits : (show : ShowLists) (c : List ℕ) → IsTrue (is_show show) → IsTrue (has_cue show c) → IsTrue (is_cue_number c)
 cue_fits show c rules there = by (parts_of show c) (is_cue_of-parts_of show c rules) there
   where
     by : (o : Option (List Part)) → IfSome o (λ parts. IsTrue (is_cue_of show (c, parts))) → IsTrue (is_some o) → IsTrue (is_cue_number c)
@@ -75,6 +75,15 @@ devices_fit show a rules at = by (parts_of show a.cue) (is_cue_of-parts_of show 
         let k = both (is_cue_number a.cue) (are_parts parts && are_known show parts) cue in
         let same : devices_of a.answers ≡ devices_in parts = same_text-true (devices_of a.answers) (devices_in parts) at in
         subst (λ ds. IsTrue (list_all is_device ds)) (sym same) (parts_devices parts (both (are_parts parts) (are_known show parts) k.1).0)
+
+-- the cue of an attempt is one of the show
+pub attempt_cue_fits : (show : ShowLists) (a : Attempt) → IsTrue (is_show show) → IsTrue (is_at_cue show a) → IsTrue (is_cue_number a.cue)
+attempt_cue_fits show a rules at = by (parts_of show a.cue) (is_cue_of-parts_of show a.cue rules) at
+  where
+    by : (o : Option (List Part)) → IfSome o (λ parts. IsTrue (is_cue_of show (a.cue, parts)))
+        → IsTrue (option_map_or (λ parts. pointwise nat_eq (devices_of a.answers) (devices_in parts)) o false) → IsTrue (is_cue_number a.cue)
+    by None cue at = absurd cc
+    by (Some parts) cue at = (both (is_cue_number a.cue) (are_parts parts && are_known show parts) cue).0
 
 live_fit : (s : Standing) → Rules s → IsTrue (list_all is_ranged s.live)
 live_fit s r =

@@ -1,8 +1,15 @@
+pub mod AttemptLaws
 pub mod BatchLaws
+pub mod Behind
 pub mod Counted
 pub mod EventLaws
 pub mod FieldLaws
 pub mod Fitting
+pub mod FoldLaws
+pub mod Folded
 pub mod Lengths
 pub mod Numbers
+pub mod Ranges
+pub mod ShowLaws
+pub mod StateLaws
 pub mod Taking

@@ -58,6 +58,13 @@ module _ {A : Type 0} {read : Reads A} {text : A → List ℕ} {fits : A → Boo
     again = λ x rest h. f.again x rest (back x h);
   }
 
+  -- the same spelling, said in other words
+  pub respell : (other : A → List ℕ) → IsField read text fits → ((x : A) → text x ≡ other x) → IsField read other fits
+  respell other f same = record {
+    takes = λ bytes x b e. let t = f.takes bytes x b e in (t.0 ∙ ap (λ bs. bs ++ x.1) (same x.0), t.1);
+    again = λ x rest h. rw (← same x) (f.again x rest h);
+  }
+
   -- what passes a test
   pub where_field : (test : A → Bool) → IsField read text fits → IsField (where_at test read) text (λ x. test x && fits x)
   where_field test f = record {
@@ -80,15 +87,16 @@ module _ {A : Type 0} {read : Reads A} {text : A → List ℕ} {fits : A → Boo
   }
 
   -- what has a number
-  pub made_field : {B : Type 0} (make : A → Option B) (number : B → A) → IsField read text fits → ((x : A) (y : B) → make x ≡ Some y → number y ≡ x) → ((y : B) → make (number y) ≡ Some y) → ((y : B) → IsTrue (fits (number y)))
-      → IsField (made_at make read) (λ y. text (number y)) (λ y. true)
-  made_field make number f one other within = record {
+  pub made_field : {B : Type 0} (make : A → Option B) (number : B → A) (good : B → Bool) → IsField read text fits → ((x : A) (y : B) → IsTrue (fits x) → make x ≡ Some y → (number y ≡ x) × IsTrue (good y))
+      → ((y : B) → IsTrue (good y) → make (number y) ≡ Some y) → ((y : B) → IsTrue (good y) → IsTrue (fits (number y))) → IsField (made_at make read) (λ y. text (number y)) good
+  made_field make number good f one other within = record {
     takes = λ bytes y b e.
         let s = bind_some (read bytes) (λ x. make x.0 >>= λ z. Some (z, x.1)) y e in
         let m = bind_some (make s.0.0) (λ z. Some (z, s.0.1)) y s.2 in
         let t = f.takes bytes s.0 b s.1 in
-        subst (Takes (λ z. text (number z)) (λ z. true) bytes) (some_is (m.0, s.0.1) y m.2) (rw (one s.0.0 m.0 m.1) t.0, refl);
-    again = λ y rest h. rw (f.again (number y) rest (within y), other y) refl;
+        let n = one s.0.0 m.0 t.1 m.1 in
+        subst (Takes (λ z. text (number z)) good bytes) (some_is (m.0, s.0.1) y m.2) (rw n.0 t.0, n.1);
+    again = λ y rest h. rw (f.again (number y) rest (within y h), other y h) refl;
   }
 
   pub list_takes : IsField read text fits → (n : ℕ) (bytes : List ℕ) (x : List A × List ℕ) → IsTrue (are_bytes bytes) → list_at read n bytes ≡ Some x → Takes (flat_map text) (list_all fits) bytes x × (length x.0 ≡ n)

@@ -8,7 +8,7 @@ use Rattle.cue_exchange.specs.Live.{is_number, is_moment}
 use Rattle.cue_core.specs.declared.event.Event.{Event}
 use Rattle.cue_core.specs.declared.event.Event.TheVariants.{Device, NoDevice, Cue, NoCue, Place, Start, Ready, Go, Done, Cancel, LetGo, Failed}
 use Rattle.cue_records.specs.declared.batch.TheConstants.{MAX_EVENTS}
-use Rattle.cue_records.specs.Fields.{byte_text, short_text, number_text, moment_text, text_text, parts_text, reason_number}
+use Rattle.cue_records.specs.Fields.{byte_text, short_text, number_text, moment_text, text_text, entry_text, new_cue_text, reason_number}
 
 -- the number of an event's kind
 abbrev pub event_number : Event → ℕ
@@ -27,9 +27,9 @@ event_number (Failed q d) = 12
 
 -- what stands behind the number of its kind
 abbrev pub body_text : Event → List ℕ
-body_text (Device d port) = byte_text d ++ short_text port
+body_text (Device d port) = entry_text (d, port)
 body_text (NoDevice d) = byte_text d
-body_text (Cue c parts) = text_text c ++ parts_text parts
+body_text (Cue c parts) = new_cue_text (c, parts)
 body_text (NoCue c) = text_text c
 body_text (Place c) = text_text c
 body_text (Start q c t) = number_text q ++ (text_text c ++ moment_text t)

@@ -1,14 +1,13 @@
 -- Reading a batch of events.
 use Rattle.std.specs.Prelude.{ℕ, ◌&&◌, ◌==◌, if◌then◌else◌, List, Option, None, Some, length, nat_le}
 use Rattle.std.specs.Int.{w16, w64}
-use Rattle.cue_show.specs.declared.part.Part.{Part}
 use Rattle.cue_exchange.specs.declared.attempt.Reason.{Reason}
 use Rattle.cue_core.specs.declared.event.Event.{Event}
 use Rattle.cue_core.specs.declared.event.Event.TheVariants as event
 use Rattle.cue_records.specs.declared.batch.TheConstants.{MAX_EVENTS}
 use Rattle.cue_records.specs.declared.batch.kind.Kind.{Kind}
 use Rattle.cue_records.specs.declared.batch.kind.Kind.TheVariants as kind
-use Rattle.cue_records.specs.Reading.{◌>>=◌, Reads, where_it, where_at, made_at, as_at, both_at, counted_at, byte_at, number_at, device_at, port_at, sequence_at, cue_at, parts_at, reason_at}
+use Rattle.cue_records.specs.Reading.{◌>>=◌, Reads, where_it, where_at, made_at, as_at, both_at, counted_at, byte_at, number_at, device_at, sequence_at, cue_at, entry_at, new_cue_at, reason_at}
 
 -- the kind with the number
 abbrev pub kind_of : ℕ → Option Kind
@@ -20,14 +19,6 @@ kind_of n =
 -- a kind
 unfoldable pub kind_at : Reads Kind
 kind_at = made_at kind_of byte_at
-
--- a device and its port
-unfoldable pub entry_at : Reads (ℕ × ℕ)
-entry_at = both_at device_at port_at
-
--- a cue and its parts
-unfoldable pub new_cue_at : Reads (List ℕ × List Part)
-new_cue_at = both_at cue_at parts_at
 
 -- a number, a cue and a moment
 unfoldable pub start_at : Reads (ℕ × (List ℕ × ℕ))

@@ -34,6 +34,14 @@ part_text p = p.device ∷ text_text p.bytes
 abbrev pub parts_text : List Part → List ℕ
 parts_text parts = length parts ∷ flat_map part_text parts
 
+-- a device and its port
+abbrev pub entry_text : ℕ × ℕ → List ℕ
+entry_text e = byte_text e.0 ++ short_text e.1
+
+-- a cue and its parts
+abbrev pub new_cue_text : List ℕ × List Part → List ℕ
+new_cue_text e = text_text e.0 ++ parts_text e.1
+
 -- the number of a reason
 abbrev pub reason_number : Reason → ℕ
 reason_number Operator = 1

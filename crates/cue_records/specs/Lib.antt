@@ -4,3 +4,5 @@ pub mod Faults
 pub mod Fields
 pub mod Laws
 pub mod Reading
+pub mod State
+pub mod StateReading

@@ -116,6 +116,14 @@ part_count_at = where_at (λ n. nat_le 1 n && nat_le n MAX_PARTS) byte_at
 unfoldable pub parts_at : Reads (List Part)
 parts_at = where_at (λ parts. distinct (devices_in parts)) (counted_at part_count_at part_at)
 
+-- a device and its port
+unfoldable pub entry_at : Reads (ℕ × ℕ)
+entry_at = both_at device_at port_at
+
+-- a cue and its parts
+unfoldable pub new_cue_at : Reads (List ℕ × List Part)
+new_cue_at = both_at cue_at parts_at
+
 -- the reason with the number
 abbrev pub reason_of : ℕ → Option Reason
 reason_of n = if n == 1 then Some Operator else if n == 2 then Some Deadline else if n == 3 then Some Abort else if n == 4 then Some Power else if n == 5 then Some Release else None

@@ -1,7 +1,7 @@
 //! Reading events one behind the other.
 ghost use Rattle.std.specs.Prelude.{◌≡◌};
 ghost use Rattle.cue_records.specs.Reading.{Gives, list_at};
-ghost use Rattle.cue_records.specs.BatchReading.{kind_at, entry_at, new_cue_at, start_at, answer_at, cancel_at, body_at, event_at, event_count_at, batch_of};
+ghost use Rattle.cue_records.specs.BatchReading.{kind_at, start_at, answer_at, cancel_at, body_at, event_at, event_count_at, batch_of};
 
 use crate::batch::kind::{Kind, kind_of};
 use crate::batch::{Batch, MAX_EVENTS};
@@ -9,7 +9,7 @@ use crate::fault::ReadFault;
 use crate::fields::Reader;
 use cue_core::Event;
 use cue_exchange::attempt::Reason;
-use cue_show::{CueNo, DeviceNo, Parts};
+use cue_show::{CueNo, DeviceNo};
 use std::alloc::Global;
 
 impl<'a> Reader<'a> {
@@ -19,26 +19,6 @@ impl<'a> Reader<'a> {
     {
         let number = self.byte()?;
         kind_of(number).ok_or(ReadFault::Malformed)
-    }
-
-    // A device and its port.
-    #[tactic(auto, unfolding(crate::specs::BatchReading::entry_at))]
-    fn entry(&mut self) -> Result<(DeviceNo, u16), ReadFault>
-        ensures { Gives (λ x. (x, self.new.rest.now)) result (entry_at self.old.rest.now) }
-    {
-        let device = self.device()?;
-        let port = self.port()?;
-        Ok((device, port))
-    }
-
-    // A cue and its parts.
-    #[tactic(auto, unfolding(crate::specs::BatchReading::new_cue_at))]
-    fn new_cue(&mut self, alloc: Global) -> Result<(CueNo, Parts), ReadFault>
-        ensures { Gives (λ x. (x, self.new.rest.now)) result (new_cue_at self.old.rest.now) }
-    {
-        let cue = self.cue()?;
-        let parts = self.parts(alloc)?;
-        Ok((cue, parts))
     }
 
     // A number, a cue and a moment.

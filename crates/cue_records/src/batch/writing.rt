@@ -1,14 +1,13 @@
 //! Writing events, each behind what stands already.
 ghost use Rattle.std.specs.Prelude.{◌≡◌, ◌++◌, IsTrue, OnOk};
 ghost use Rattle.std.specs.List.{flat_map, list_all};
-ghost use Rattle.cue_show.specs.Parts.{are_parts};
 ghost use Rattle.cue_records.specs.Batch.{is_event, event_text, body_text};
-ghost use Rattle.cue_records.specs.Fields.{byte_text, short_text, number_text, moment_text, text_text, parts_text};
+ghost use Rattle.cue_records.specs.Fields.{number_text, moment_text, text_text};
 
 use crate::batch::kind::event_number;
-use crate::fields::{put_byte, put_cue, put_parts, reason_number};
+use crate::fields::{put_byte, put_cue, put_entry, put_new_cue, put_numbered, reason_number};
 use cue_core::Event;
-use cue_show::{CueNo, DeviceNo, Parts};
+use cue_show::CueNo;
 use std::alloc::AllocError;
 
 /// The events, one behind the other.
@@ -51,23 +50,6 @@ fn put_body(out: &mut Vec<u8>, event: &Event) -> Result<(), AllocError>
     }
 }
 
-// A device and its port.
-fn put_entry(out: &mut Vec<u8>, device: DeviceNo, port: u16) -> Result<(), AllocError>
-    ensures { OnOk result (out.new.items ≡ out.old.items ++ (byte_text device ++ short_text port)) }
-{
-    out.push(device.number())?;
-    out.extend_from_slice(&port.to_be_bytes())
-}
-
-// A cue and its parts.
-fn put_new_cue(out: &mut Vec<u8>, cue: CueNo, parts: &Parts) -> Result<(), AllocError>
-    requires { IsTrue (are_parts parts.now) }
-    ensures { OnOk result (out.new.items ≡ out.old.items ++ (text_text cue ++ parts_text parts.now)) }
-{
-    put_cue(out, cue)?;
-    put_parts(out, parts)
-}
-
 // A number, a cue and a moment.
 fn put_start(out: &mut Vec<u8>, seq: u32, cue: CueNo, deadline: u64) -> Result<(), AllocError>
     ensures { OnOk result (out.new.items ≡ out.old.items ++ (number_text seq ++ (text_text cue ++ moment_text deadline))) }
@@ -75,12 +57,4 @@ fn put_start(out: &mut Vec<u8>, seq: u32, cue: CueNo, deadline: u64) -> Result<(
     out.extend_from_slice(&seq.to_be_bytes())?;
     put_cue(out, cue)?;
     out.extend_from_slice(&deadline.to_be_bytes())
-}
-
-// A number, and one byte.
-fn put_numbered(out: &mut Vec<u8>, seq: u32, byte: u8) -> Result<(), AllocError>
-    ensures { OnOk result (out.new.items ≡ out.old.items ++ (number_text seq ++ byte_text byte)) }
-{
-    out.extend_from_slice(&seq.to_be_bytes())?;
-    put_byte(out, byte)
 }

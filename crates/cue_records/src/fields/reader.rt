@@ -1,7 +1,7 @@
 //! Reading fields one behind the other.
 ghost use Rattle.std.specs.Prelude.{◌≡◌, List, ℕ};
 ghost use Rattle.std.specs.Int.{w16, w32, w64};
-ghost use Rattle.cue_records.specs.Reading.{Gives, byte_at, bytes_at, number_at, text_at, device_at, port_at, sequence_at, cue_at, part_bytes_at, part_at, part_count_at, list_at, parts_at, reason_at, reason_of};
+ghost use Rattle.cue_records.specs.Reading.{Gives, byte_at, bytes_at, number_at, text_at, device_at, port_at, sequence_at, cue_at, part_bytes_at, part_at, part_count_at, list_at, parts_at, entry_at, new_cue_at, reason_at, reason_of};
 
 use crate::fault::ReadFault;
 use cue_exchange::attempt::Reason;
@@ -69,7 +69,7 @@ impl<'a> Reader<'a> {
 
     /// A length in one byte, and so many bytes.
     #[tactic(auto, unfolding(crate::specs::Reading::text_at))]
-    fn text(&mut self) -> Result<&'a [u8], ReadFault>
+    pub fn text(&mut self) -> Result<&'a [u8], ReadFault>
         ensures { Gives (λ x. (x.now, self.new.rest.now)) result (text_at self.old.rest.now) }
     {
         let count = self.byte()?;
@@ -184,6 +184,26 @@ impl<'a> Reader<'a> {
             return Err(ReadFault::Malformed);
         }
         Ok(parts)
+    }
+
+    /// A device and its port.
+    #[tactic(auto, unfolding(crate::specs::Reading::entry_at))]
+    pub fn entry(&mut self) -> Result<(DeviceNo, u16), ReadFault>
+        ensures { Gives (λ x. (x, self.new.rest.now)) result (entry_at self.old.rest.now) }
+    {
+        let device = self.device()?;
+        let port = self.port()?;
+        Ok((device, port))
+    }
+
+    /// A cue and its parts.
+    #[tactic(auto, unfolding(crate::specs::Reading::new_cue_at))]
+    pub fn new_cue(&mut self, alloc: Global) -> Result<(CueNo, Parts), ReadFault>
+        ensures { Gives (λ x. (x, self.new.rest.now)) result (new_cue_at self.old.rest.now) }
+    {
+        let cue = self.cue()?;
+        let parts = self.parts(alloc)?;
+        Ok((cue, parts))
     }
 }
 

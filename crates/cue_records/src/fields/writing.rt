@@ -2,10 +2,10 @@
 ghost use Rattle.std.specs.Prelude.{◌≡◌, ◌≤◌, ◌++◌, length, IsTrue, OnOk};
 ghost use Rattle.std.specs.List.{flat_map, list_all};
 ghost use Rattle.cue_show.specs.Parts.{is_part, are_parts};
-ghost use Rattle.cue_records.specs.Fields.{byte_text, text_text, part_text, parts_text, reason_number};
+ghost use Rattle.cue_records.specs.Fields.{byte_text, number_text, text_text, part_text, parts_text, entry_text, new_cue_text, reason_number};
 
 use cue_exchange::attempt::Reason;
-use cue_show::{CueNo, Part, Parts};
+use cue_show::{CueNo, DeviceNo, Part, Parts};
 use std::alloc::AllocError;
 
 /// One byte.
@@ -14,6 +14,13 @@ pub fn put_byte(out: &mut Vec<u8>, byte: u8) -> Result<(), AllocError>
 {
     out.push(byte)?;
     Ok(())
+}
+
+/// Four bytes.
+pub fn put_u32(out: &mut Vec<u8>, number: u32) -> Result<(), AllocError>
+    ensures { OnOk result (out.new.items ≡ out.old.items ++ number_text number) }
+{
+    out.extend_from_slice(&number.to_be_bytes())
 }
 
 // A length in one byte, and the bytes.
@@ -50,14 +57,39 @@ fn put_part_list(out: &mut Vec<u8>, parts: &[Part]) -> Result<(), AllocError>
     Ok(())
 }
 
-/// The parts of a cue, behind their count.
-pub fn put_parts(out: &mut Vec<u8>, parts: &Parts) -> Result<(), AllocError>
+// The parts of a cue, behind their count.
+fn put_parts(out: &mut Vec<u8>, parts: &Parts) -> Result<(), AllocError>
     requires { IsTrue (are_parts parts.now) }
     ensures { OnOk result (out.new.items ≡ out.old.items ++ parts_text parts.now) }
 {
     let parts = parts.as_slice();
     out.push(parts.len() as u8)?;
     put_part_list(out, parts)
+}
+
+/// A device and its port.
+pub fn put_entry(out: &mut Vec<u8>, device: DeviceNo, port: u16) -> Result<(), AllocError>
+    ensures { OnOk result (out.new.items ≡ out.old.items ++ entry_text (device, port)) }
+{
+    out.push(device.number())?;
+    out.extend_from_slice(&port.to_be_bytes())
+}
+
+/// A cue and its parts.
+pub fn put_new_cue(out: &mut Vec<u8>, cue: CueNo, parts: &Parts) -> Result<(), AllocError>
+    requires { IsTrue (are_parts parts.now) }
+    ensures { OnOk result (out.new.items ≡ out.old.items ++ new_cue_text (cue, parts.now)) }
+{
+    put_cue(out, cue)?;
+    put_parts(out, parts)
+}
+
+/// A number, and one byte.
+pub fn put_numbered(out: &mut Vec<u8>, seq: u32, byte: u8) -> Result<(), AllocError>
+    ensures { OnOk result (out.new.items ≡ out.old.items ++ (number_text seq ++ byte_text byte)) }
+{
+    out.extend_from_slice(&seq.to_be_bytes())?;
+    put_byte(out, byte)
 }
 
 /// The number of a reason.

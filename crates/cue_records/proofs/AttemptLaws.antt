@@ -1,9 +1,9 @@
 -- Attempts: what is read is spelled so and fits, and is read again.
-use Rattle.std.proofs.Common.{◌≡◌, ℕ, ◌+◌, ◌<◌, ◌≤◌, Bool, true, false, cond, ◌&&◌, ◌==◌, List, [], ◌∷◌, ◌++◌, length, map, Option, Some, None, IsTrue, nat_eq, nat_le, nat_lt, refl, sym, ap, subst, ◌∙◌, append_assoc, arith}
+use Rattle.std.proofs.Common.{◌≡◌, ℕ, ◌<◌, ◌≤◌, Bool, true, false, ◌&&◌, List, [], ◌∷◌, ◌++◌, length, Option, Some, None, IsTrue, nat_eq, nat_le, nat_lt, refl, sym, ap, subst, ◌∙◌, append_assoc, arith}
 use Rattle.std.specs.Option.{option_map_or}
-use Rattle.std.specs.List.{flat_map, list_all}
+use Rattle.std.specs.List.{list_all}
 use Rattle.std.specs.Cmp.Lexicographic.{pointwise}
-use Rattle.std.proofs.lemmas.Bool.{le-leb, leb-true, ltb-true, le-ltb, eqb-true}
+use Rattle.std.proofs.lemmas.Bool.{le-leb, ltb-true, le-ltb}
 use Rattle.cue_show.specs.Bytes.{are_bytes}
 use Rattle.cue_show.specs.Devices.{disjoint, devices_in}
 use Rattle.cue_show.specs.Number.{is_cue_number}
@@ -11,7 +11,7 @@ use Rattle.cue_show.specs.Show.{ShowLists, parts_of}
 use Rattle.cue_show.specs.declared.part.Part.{Part}
 use Rattle.cue_show.proofs.TextLemmas.{same_text-true, same_text-itself}
 use Rattle.cue_exchange.specs.Answers.{devices_of}
-use Rattle.cue_exchange.specs.Live.{is_number, is_moment, is_attempt, are_live, goes_before}
+use Rattle.cue_exchange.specs.Live.{is_number, is_moment, are_live, goes_before}
 use Rattle.cue_exchange.specs.Steps.{are_below, can_put, with_attempt}
 use Rattle.cue_exchange.specs.declared.attempt.Answer.{Answer}
 use Rattle.cue_exchange.specs.declared.attempt.Answer.TheVariants as answer
@@ -28,7 +28,7 @@ use Rattle.cue_core.specs.State.{is_at_cue}
 use Rattle.cue_core.proofs.Conditions.{both, join}
 use Rattle.cue_records.specs.Fields.{byte_text, number_text, moment_text, text_text}
 use Rattle.cue_records.specs.State.{stage_number, answer_number, answers_text, attempt_text, live_text}
-use Rattle.cue_records.specs.Reading.{◌>>=◌, number_at, cue_at}
+use Rattle.cue_records.specs.Reading.{◌>>=◌}
 use Rattle.cue_records.specs.StateReading.{stage_of, stage_at, answer_of, one_answer_at, answers_at, head_at, attempt_at, can_follow, attempt_step, live_at}
 use Rattle.cue_records.proofs.Behind.{all_here}
 use Rattle.cue_records.proofs.FieldLaws.{byte_field, step_number, sequence_field, moment_field, cue_field}
@@ -164,7 +164,7 @@ attempt_takes show bytes y b e =
     let u = answers_take p.0 s.0.1 m.0 (bytes_behind bytes (head_text h) s.0.1 t.0 b) m.1 in
     let xs = m.0.0 in
     let parts : bytes ≡ attempt_text (attempt_of h xs) ++ m.0.1 =
-        t.0 ∙ ap (λ bs. head_text h ++ bs) u.0 ∙ grouped (number_text h.0) (text_text h.1.0) (moment_text h.1.1.0) (byte_text (stage_number h.1.1.1)) (answers_text xs) m.0.1 in
+    t.0 ∙ ap (λ bs. head_text h ++ bs) u.0 ∙ grouped (number_text h.0) (text_text h.1.0) (moment_text h.1.1.0) (byte_text (stage_number h.1.1.1)) (answers_text xs) m.0.1 in
     let at : IsTrue (is_at_cue show (attempt_of h xs)) = at_parts (parts_of show h.1.0) p.0 (devices_of xs) p.1 u.1 in
     subst (Takes attempt_text (attempt_fits show) bytes) (some_is (attempt_of h xs, m.0.1) y m.2) (parts, join (head_fits h) (is_at_cue show (attempt_of h xs)) t.1 at)
 
@@ -182,7 +182,7 @@ attempt_again show a rest h =
     let k = both (head_fits head) (is_at_cue show a) h in
     let p = parts_found show a k.1 in
     let regrouped : attempt_text a ++ rest ≡ head_text head ++ (answers_text a.answers ++ rest) =
-        sym (grouped (number_text a.seq) (text_text a.cue) (moment_text a.deadline) (byte_text (stage_number a.stage)) (answers_text a.answers) rest) in
+    sym (grouped (number_text a.seq) (text_text a.cue) (moment_text a.deadline) (byte_text (stage_number a.stage)) (answers_text a.answers) rest) in
     ap (attempt_at show) regrouped ∙ rw (head_field.again head (answers_text a.answers ++ rest) k.0, p.1, answers_again a.answers p.0 rest p.2) refl
 
 pub attempt_field : (show : ShowLists) → IsField (attempt_at show) attempt_text (attempt_fits show)

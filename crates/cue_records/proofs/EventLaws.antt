@@ -1,15 +1,14 @@
 -- Events: what is read is spelled so and fits, and is read again.
 use Rattle.std.proofs.Common.{◌≡◌, ℕ, Bool, true, false, ◌&&◌, List, ◌∷◌, ◌++◌, Some, None, IsTrue, nat_le, refl, sym, ap, subst, ◌∙◌}
 use Rattle.cue_show.specs.Bytes.{are_bytes}
-use Rattle.cue_show.specs.DeviceNumber.{is_device, is_port}
+use Rattle.cue_show.specs.DeviceNumber.{is_device}
 use Rattle.cue_show.specs.Number.{is_cue_number}
-use Rattle.cue_show.specs.Parts.{are_parts}
 use Rattle.cue_exchange.specs.Live.{is_number, is_moment}
 use Rattle.cue_core.specs.declared.event.Event.{Event}
 use Rattle.cue_core.specs.declared.event.Event.TheVariants as event
 use Rattle.cue_records.specs.declared.batch.kind.Kind.{Kind}
 use Rattle.cue_records.specs.declared.batch.kind.Kind.TheVariants as kind
-use Rattle.cue_records.specs.Fields.{byte_text, short_text, number_text, moment_text, text_text, parts_text, reason_number}
+use Rattle.cue_records.specs.Fields.{byte_text, number_text, moment_text, text_text, reason_number}
 use Rattle.cue_records.specs.Batch.{event_text, is_event}
 use Rattle.cue_records.specs.Reading.{Reads, as_at}
 use Rattle.cue_records.specs.BatchReading.{kind_of, kind_at, start_at, answer_at, cancel_at, body_at, event_at}

@@ -1,5 +1,5 @@
 -- What is read and added one after the other is spelled so, and what is spelled so is read again.
-use Rattle.std.proofs.Common.{◌≡◌, ℕ, suc, zero, Bool, true, ◌&&◌, List, [], ◌∷◌, ◌++◌, length, Option, Some, None, IsTrue, refl, sym, ap, subst, ◌∙◌, append_assoc}
+use Rattle.std.proofs.Common.{◌≡◌, ℕ, suc, zero, Bool, true, List, [], ◌∷◌, ◌++◌, length, Some, IsTrue, refl, sym, ap, subst, ◌∙◌, append_assoc}
 use Rattle.std.specs.List.{flat_map}
 use Rattle.std.proofs.lemmas.List.{append-nil}
 use Rattle.cue_show.specs.Bytes.{are_bytes}
@@ -23,7 +23,7 @@ module _ {S A : Type 0} {read : Reads A} {text : A → List ℕ} {fits : A → B
   unfolding fold_at
   fold_takes f made zero front bytes y b e =
       let same : (at front, bytes) ≡ y = some_is (at front, bytes) y e in
-      ([], sym (ap (λ z. z.1) same), refl, sym (ap (λ z. z.0) same) ∙ ap at (sym (append-nil front)))
+      ([], ap (λ z. z.1) same, refl, sym (ap (λ z. z.0) same) ∙ ap at (sym (append-nil front)))
   fold_takes f made (suc n) front bytes y b e =
       let s = bind_some (added_at can add read (at front) bytes) (λ x. fold_at (added_at can add read) n x.0 x.1) y e in
       let m = bind_some (read bytes) (λ x. where_it (can (at front) x.0) (add (at front) x.0, x.1)) s.0 s.1 in

@@ -2,7 +2,7 @@
 use Rattle.std.proofs.Common.{◌≡◌, ℕ, suc, ◌-◌, ◌+◌, ◌≤◌, ◌<◌, List, Option, Some, None, refl, sym, ◌∙◌, arith}
 use Rattle.cue_records.specs.declared.fault.ReadFault.{ReadFault}
 use Rattle.cue_records.specs.declared.fault.ReadFault.TheVariants as fault
-use Rattle.cue_records.specs.Reading.{◌>>=◌, Reads, Fails}
+use Rattle.cue_records.specs.Reading.{Reads, Fails}
 use Rattle.cue_records.specs.StateReading.{fold_at}
 
 pub fold_goes_on : {S : Type 0} (step : S → Reads S) (count i : ℕ) (s : S) (bytes : List ℕ) (t : S) (after : List ℕ) (total : Option (S × List ℕ)) → i < count → step s bytes ≡ Some (t, after)

@@ -1,3 +1,4 @@
+pub mod Answered
 pub mod AttemptLaws
 pub mod BatchLaws
 pub mod Behind

@@ -1,5 +1,5 @@
 -- What the rules of a state say of its lists.
-use Rattle.std.proofs.Common.{◌≡◌, ◌≤◌, List, length, IsTrue}
+use Rattle.std.proofs.Common.{◌≤◌, List, length, IsTrue}
 use Rattle.std.proofs.lemmas.Bool.{leb-true}
 use Rattle.cue_exchange.specs.declared.attempt.Attempt.{Attempt}
 use Rattle.cue_exchange.specs.declared.limits.TheConstants.{MAX_LIVE}

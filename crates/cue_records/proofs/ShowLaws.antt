@@ -1,7 +1,7 @@
 -- Shows: what is read is spelled so, and is read again.
-use Rattle.std.proofs.Common.{◌≡◌, ℕ, ◌≤◌, ◌<◌, Bool, true, false, not, ◌&&◌, List, [], ◌∷◌, ◌++◌, length, Option, Some, None, IsTrue, nat_eq, nat_le, refl, sym, ap, subst, ◌∙◌, append_assoc, arith}
+use Rattle.std.proofs.Common.{◌≡◌, ℕ, ◌≤◌, Bool, true, false, not, ◌&&◌, List, [], ◌∷◌, ◌++◌, length, Option, Some, None, IsTrue, nat_eq, nat_le, refl, sym, ap, subst, ◌∙◌, append_assoc, arith}
 use Rattle.std.specs.Prelude.{is_some}
-use Rattle.std.specs.List.{flat_map, list_all}
+use Rattle.std.specs.List.{list_all}
 use Rattle.std.specs.Map.{keys_of}
 use Rattle.std.proofs.lemmas.Bool.{le-leb, leb-true, lt-leb}
 use Rattle.std.proofs.lemmas.List.{length-append}
@@ -15,9 +15,9 @@ use Rattle.cue_show.specs.Show.{Cues, ShowLists, empty_show, has_device, has_cue
 use Rattle.cue_show.specs.declared.limits.TheConstants.{MAX_DEVICES, MAX_CUES}
 use Rattle.cue_show.specs.declared.part.Part.{Part}
 use Rattle.cue_core.proofs.Conditions.{both, join}
-use Rattle.cue_records.specs.Fields.{entry_text, new_cue_text, text_text}
+use Rattle.cue_records.specs.Fields.{text_text}
 use Rattle.cue_records.specs.State.{table_text, stack_text, place_text, show_text}
-use Rattle.cue_records.specs.Reading.{◌>>=◌, where_it, text_at}
+use Rattle.cue_records.specs.Reading.{◌>>=◌, where_it}
 use Rattle.cue_records.specs.StateReading.{device_step, cue_step, place_of, place_at, place_step, table_at, stack_at, show_at}
 use Rattle.cue_records.proofs.Behind.{all_here, absent_before}
 use Rattle.cue_records.proofs.Fitting.{cue_fits}

@@ -1,5 +1,5 @@
 -- States: what is read is spelled so and keeps the rules, and is read again.
-use Rattle.std.proofs.Common.{◌≡◌, ℕ, ◌≤◌, Bool, true, false, cond, not, ◌&&◌, ◌==◌, List, [], ◌∷◌, ◌++◌, length, Option, Some, None, Result, Ok, Err, IsTrue, nat_eq, nat_le, refl, sym, ap, subst, ◌∙◌, append_assoc, arith}
+use Rattle.std.proofs.Common.{◌≡◌, ℕ, ◌≤◌, Bool, true, false, cond, not, ◌&&◌, ◌==◌, List, [], ◌∷◌, ◌++◌, length, Option, Some, None, Result, Ok, Err, IsTrue, nat_le, refl, sym, ap, subst, ◌∙◌, arith}
 use Rattle.std.specs.Prelude.{IfOk, IsErrOf, is_some}
 use Rattle.std.specs.List.{list_all}
 use Rattle.std.specs.Int.{w32}
@@ -7,7 +7,7 @@ use Rattle.std.proofs.lemmas.Bool.{le-leb, leb-true, eqb-true}
 use Rattle.std.proofs.lemmas.List.{append-nil, nil_from_length}
 use Rattle.cue_show.specs.Bytes.{are_bytes}
 use Rattle.cue_show.specs.Number.{is_cue_number}
-use Rattle.cue_show.specs.Show.{ShowLists, empty_show, has_cue, is_show}
+use Rattle.cue_show.specs.Show.{ShowLists, empty_show}
 use Rattle.cue_exchange.specs.Live.{is_number, is_moment, is_attempt, are_live, attempt_of}
 use Rattle.cue_exchange.specs.declared.attempt.Attempt.{Attempt}
 use Rattle.cue_exchange.specs.declared.attempt.Outcome.{Outcome}
@@ -24,9 +24,9 @@ use Rattle.cue_records.specs.declared.fault.StateFault.{StateFault}
 use Rattle.cue_records.specs.declared.fault.StateFault.TheVariants.{Version, Malformed, Memory}
 use Rattle.cue_records.specs.declared.state.TheConstants.{VERSION}
 use Rattle.cue_records.specs.Fields.{byte_text, number_text}
-use Rattle.cue_records.specs.State.{show_text, outcome_number, ended_text, live_text, state_text, is_other_version, IsNoState}
+use Rattle.cue_records.specs.State.{show_text, outcome_number, ended_text, live_text, state_text, IsNoState}
 use Rattle.cue_records.specs.Laws.{StatesAreReadBack, StateTextsDiffer}
-use Rattle.cue_records.specs.Reading.{◌>>=◌, where_it, both_at, byte_at, number_at}
+use Rattle.cue_records.specs.Reading.{◌>>=◌, where_it, number_at}
 use Rattle.cue_records.specs.StateReading.{GivesState, outcome_of, ended_of, ended_at, show_at, live_at, tail_of, checked, standing_of, state_of}
 use Rattle.cue_records.proofs.AttemptLaws.{attempt_fits, are_live_at, live_takes, live_again}
 use Rattle.cue_records.proofs.FieldLaws.{byte_field, step_number}
@@ -142,10 +142,10 @@ live_fits s r =
     join (are_live s.live) (list_all (attempt_fits s.show) s.live) r.live
     (all_given is_attempt (is_at_cue s.show) (attempt_fits s.show)
     (λ a attempt at.
-        let k = attempt_rules a attempt in
-        join (is_number a.seq && (is_cue_number a.cue && (is_moment a.deadline && true))) (is_at_cue s.show a)
-        (join (is_number a.seq) (is_cue_number a.cue && (is_moment a.deadline && true)) k.number
-        (join (is_cue_number a.cue) (is_moment a.deadline && true) (attempt_cue_fits s.show a r.show at) (join (is_moment a.deadline) true k.moment refl))) at)
+    let k = attempt_rules a attempt in
+    join (is_number a.seq && (is_cue_number a.cue && (is_moment a.deadline && true))) (is_at_cue s.show a)
+    (join (is_number a.seq) (is_cue_number a.cue && (is_moment a.deadline && true)) k.number
+    (join (is_cue_number a.cue) (is_moment a.deadline && true) (attempt_cue_fits s.show a r.show at) (join (is_moment a.deadline) true k.moment refl))) at)
     s.live (attempts_of s.live r.live) r.at)
 
 last_fits : (n : ℕ) → IsTrue (nat_le n LAST_NUMBER) → IsTrue (nat_le n 4294967295)

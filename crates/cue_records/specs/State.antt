@@ -1,5 +1,5 @@
 -- The text of a state.
-use Rattle.std.specs.Prelude.{◌≡◌, ◌≢◌, ℕ, ◌+◌, ◌==◌, Bool, false, not, List, [], ◌∷◌, ◌++◌, length, map, Option, None, Some, IsTrue}
+use Rattle.std.specs.Prelude.{◌≢◌, ℕ, ◌+◌, ◌==◌, Bool, false, not, List, [], ◌∷◌, ◌++◌, length, map, Option, None, Some, IsTrue}
 use Rattle.std.specs.List.{flat_map}
 use Rattle.cue_show.specs.Show.{Cues, ShowLists}
 use Rattle.cue_exchange.specs.declared.attempt.Answer.{Answer}

@@ -6,4 +6,6 @@ mod writing;
 
 pub use length::{cue_len, parts_len};
 pub use reader::Reader;
-pub use writing::{put_byte, put_cue, put_entry, put_new_cue, put_numbered, put_u32, reason_number};
+pub use writing::{
+    put_byte, put_cue, put_entry, put_new_cue, put_numbered, put_u32, reason_number,
+};

@@ -23,9 +23,10 @@ pub fn write_state(alloc: Global, state: &State) -> Result<Bytes, AllocError>
     // So the text is read again as the state.
     ensures rules { IsTrue (is_state state.now) }
 {
+    let show = state.show();
     let mut out = Vec::new(alloc);
     put_byte(&mut out, VERSION)?;
-    writing::put_show(&mut out, state.show())?;
+    writing::put_show(&mut out, show)?;
     put_u32(&mut out, state.last_seq())?;
     writing::put_ended(&mut out, state.ended())?;
     writing::put_live(&mut out, state.live())?;

@@ -1,8 +1,8 @@
 //! Reading the parts of a state one behind the other.
 ghost use Rattle.std.specs.Prelude.{◌≡◌};
-ghost use Rattle.cue_show.specs.Show.{is_place_of};
+ghost use Rattle.cue_show.specs.Show.{is_place_of, with_place};
 ghost use Rattle.cue_exchange.specs.Steps.{are_below};
-ghost use Rattle.cue_records.specs.Reading.{Gives};
+ghost use Rattle.cue_records.specs.Reading.{Gives, where_it};
 ghost use Rattle.cue_records.specs.StateReading.{fold_at, device_step, cue_step, place_of, place_at, place_step, table_at, stack_at, show_at, ended_of, ended_at, stage_at, one_answer_at, answers_at, head_at, attempt_at, attempt_step, live_at, tail_of, standing_of};
 
 use crate::fault::ReadFault;
@@ -76,11 +76,7 @@ impl<'a> Reader<'a> {
         ensures { Gives (λ _. (show.new, self.new.rest.now)) result (place_step show.old self.old.rest.now) }
     {
         let place = self.place()?;
-        if !is_place_of(show, place) {
-            return Err(ReadFault::Malformed);
-        }
-        show.set_place(place);
-        Ok(())
+        move_to(show, place)
     }
 
     // A count, and so many devices more.
@@ -183,12 +179,7 @@ impl<'a> Reader<'a> {
 
     // One attempt more.
     #[tactic(auto, unfolding(crate::specs::StateReading::attempt_step))]
-    fn add_attempt(
-        &mut self,
-        alloc: Global,
-        show: &Show,
-        live: &mut Live,
-    ) -> Result<(), ReadFault>
+    fn add_attempt(&mut self, alloc: Global, show: &Show, live: &mut Live) -> Result<(), ReadFault>
         ensures { Gives (λ _. (live.new, self.new.rest.now)) result (attempt_step show.now live.old self.old.rest.now) }
     {
         let attempt = self.attempt(alloc, show)?;
@@ -257,13 +248,20 @@ fn place_of(text: &[u8]) -> Option<Option<CueNo>>
     }
 }
 
-fn is_place_of(show: &Show, place: Option<CueNo>) -> bool
-    ensures { result ≡ is_place_of show.now place }
+// Sets the place, where it is one of the show.
+fn move_to(show: &mut Show, place: Option<CueNo>) -> Result<(), ReadFault>
+    ensures { Gives (λ _. show.new) result (where_it (is_place_of show.old place) (with_place show.old place)) }
 {
     match place {
-        Some(cue) => show.has_cue(cue),
-        None => true,
+        Some(cue) => {
+            if !show.has_cue(cue) {
+                return Err(ReadFault::Malformed);
+            }
+            show.set_place(Some(cue));
+        }
+        None => show.set_place(None),
     }
+    Ok(())
 }
 
 // The attempt with the number that ended so; none for two zeros.

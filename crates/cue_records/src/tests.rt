@@ -4,6 +4,7 @@ use std::alloc::{AllocError, Global};
 
 mod batches;
 mod malformed;
+mod states;
 mod told;
 
 // The bytes of hexadecimal digits; spaces are for reading.

@@ -1,7 +1,7 @@
 //! Bytes that are the text of no batch.
 
 use super::bytes;
-use crate::{ReadFault, read_batch};
+use crate::{ReadFault, StateFault, read_batch};
 use std::alloc::Global;
 use std::process::Abort;
 use std::test::Fail;
@@ -79,5 +79,12 @@ fn faults_in_words(rt: HostRuntime) -> Result<(), Fail> {
         text.as_str(),
         "the bytes are no batch of events; out of memory"
     );
+    let text = format!(in alloc; "{}; {}", StateFault::Version, StateFault::Malformed)?;
+    assert_eq!(rt;
+        text.as_str(),
+        "the text is of another version; the bytes are no state"
+    );
+    let text = format!(in alloc; "{}", StateFault::Memory)?;
+    assert_eq!(rt; text.as_str(), "out of memory");
     Ok(())
 }

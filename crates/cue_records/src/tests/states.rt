@@ -62,15 +62,33 @@ fn assert_state(
     Ok(())
 }
 
+// The bytes are read as the state that the words say, which is written as these bytes.
+fn assert_read(
+    rt: &impl Abort,
+    alloc: Global,
+    bytes: &[u8],
+    words: &str,
+) -> Result<(), AllocError> {
+    let state = read_state(alloc, bytes).expect(rt, "it is a state");
+    assert_state(rt, alloc, &state, bytes, words)
+}
+
 #[test]
 fn states_are_read_and_written(rt: HostRuntime) -> Result<(), Fail> {
     let alloc = rt.alloc();
     for line in STATES.lines() {
         let (digits, words) = line.split_once(" = ").ok_or("no line of the table")?;
-        let text = bytes(alloc, digits)?;
-        let state = read_state(alloc, &text).expect(&rt, "it is a state");
-        assert_state(&rt, alloc, &state, &text, words)?;
+        assert_read(&rt, alloc, &bytes(alloc, digits)?, words)?;
     }
+    Ok(())
+}
+
+// The state is the one of the line.
+fn assert_line(rt: &impl Abort, alloc: Global, state: &State, line: usize) -> Result<(), Fail> {
+    let line = STATES.lines().nth(line).ok_or("no such line")?;
+    let (digits, words) = line.split_once(" = ").ok_or("no line of the table")?;
+    let text = bytes(alloc, digits)?;
+    assert_state(rt, alloc, state, &text, words)?;
     Ok(())
 }
 
@@ -83,28 +101,21 @@ fn apply(rt: &impl Abort, state: &mut State, events: &[Event]) -> Result<(), All
     Ok(())
 }
 
+// The devices 3 and 4, the cue 1 for both, and a start at it.
+const EVENTS: &str = "0004 01032329 0104232a 0301310203020a0b0400 06000000010131 0000000000002af8";
+
+fn assert_after_events(rt: &impl Abort, alloc: Global, state: &mut State) -> Result<(), Fail> {
+    assert_line(rt, alloc, state, 0)?;
+    let text = bytes(alloc, EVENTS)?;
+    let batch = read_batch(alloc, &text)?;
+    apply(rt, state, batch.as_slice())?;
+    assert_line(rt, alloc, state, 2)
+}
+
 #[test]
 fn a_state_that_events_make(rt: HostRuntime) -> Result<(), Fail> {
-    let alloc = rt.alloc();
-    let mut state = State::empty(alloc);
-    let text = bytes(alloc, "01 0000000000000000000000000000")?;
-    assert_state(
-        &rt,
-        alloc,
-        &state,
-        &text,
-        "devices, place -, last 0, ended -",
-    )?;
-    let events = bytes(
-        alloc,
-        "0004 01032329 0104232a 0301310203020a0b0400 06000000010131 0000000000002af8",
-    )?;
-    let batch = read_batch(alloc, &events)?;
-    apply(&rt, &mut state, batch.as_slice())?;
-    let line = STATES.lines().nth(2).ok_or("a third line")?;
-    let (digits, words) = line.split_once(" = ").ok_or("no line of the table")?;
-    assert_state(&rt, alloc, &state, &bytes(alloc, digits)?, words)?;
-    Ok(())
+    let mut state = State::empty(rt.alloc());
+    assert_after_events(&rt, rt.alloc(), &mut state)
 }
 
 fn assert_refused(rt: &impl Abort, alloc: Global, bytes: &[u8], fault: StateFault, what: &str) {

@@ -1,0 +1,158 @@
+-- Events: what is read is spelled so and fits, and is read again.
+use Rattle.std.proofs.Common.{◌≡◌, ℕ, Bool, true, false, ◌&&◌, List, ◌∷◌, ◌++◌, Some, None, IsTrue, nat_le, refl, sym, ap, subst, ◌∙◌}
+use Rattle.cue_show.specs.Bytes.{are_bytes}
+use Rattle.cue_show.specs.DeviceNumber.{is_device}
+use Rattle.cue_show.specs.Number.{is_cue_number}
+use Rattle.cue_exchange.specs.Live.{is_number, is_moment}
+use Rattle.cue_core.specs.declared.event.Event.{Event}
+use Rattle.cue_core.specs.declared.event.Event.TheVariants as event
+use Rattle.cue_records.specs.declared.batch.kind.Kind.{Kind}
+use Rattle.cue_records.specs.declared.batch.kind.Kind.TheVariants as kind
+use Rattle.cue_records.specs.Fields.{byte_text, number_text, moment_text, text_text, reason_number}
+use Rattle.cue_records.specs.Batch.{event_text, is_event}
+use Rattle.cue_records.specs.Reading.{Reads, as_at}
+use Rattle.cue_records.specs.BatchReading.{kind_of, kind_at, start_at, answer_at, cancel_at, body_at, event_at}
+use Rattle.cue_records.proofs.Taking.{Takes, IsField, bind_some, some_is, bytes_behind, made_field, both_field}
+use Rattle.cue_records.proofs.FieldLaws.{byte_field, step_number, device_field, sequence_field, moment_field, cue_field, entry_field, new_cue_field, reason_field}
+
+-- ---- kinds
+
+abbrev kind_number : Kind → ℕ
+kind_number kind.Device = 1
+kind_number kind.NoDevice = 2
+kind_number kind.Cue = 3
+kind_number kind.NoCue = 4
+kind_number kind.Place = 5
+kind_number kind.Start = 6
+kind_number kind.Ready = 7
+kind_number kind.Go = 8
+kind_number kind.Done = 9
+kind_number kind.Cancel = 10
+kind_number kind.LetGo = 11
+kind_number kind.Failed = 12
+
+kind_numbered : (n : ℕ) (k : Kind) → kind_of n ≡ Some k → kind_number k ≡ n
+kind_numbered n =
+    step_number kind_number n 1 kind.Device _ refl
+    (step_number kind_number n 2 kind.NoDevice _ refl
+    (step_number kind_number n 3 kind.Cue _ refl
+    (step_number kind_number n 4 kind.NoCue _ refl
+    (step_number kind_number n 5 kind.Place _ refl
+    (step_number kind_number n 6 kind.Start _ refl
+    (step_number kind_number n 7 kind.Ready _ refl
+    (step_number kind_number n 8 kind.Go _ refl
+    (step_number kind_number n 9 kind.Done _ refl
+    (step_number kind_number n 10 kind.Cancel _ refl
+    (step_number kind_number n 11 kind.LetGo _ refl
+    (step_number kind_number n 12 kind.Failed None refl (λ k e. absurd cc))))))))))))
+
+kind_again : (k : Kind) → kind_of (kind_number k) ≡ Some k
+kind_again kind.Device = refl
+kind_again kind.NoDevice = refl
+kind_again kind.Cue = refl
+kind_again kind.NoCue = refl
+kind_again kind.Place = refl
+kind_again kind.Start = refl
+kind_again kind.Ready = refl
+kind_again kind.Go = refl
+kind_again kind.Done = refl
+kind_again kind.Cancel = refl
+kind_again kind.LetGo = refl
+kind_again kind.Failed = refl
+
+kind_byte : (k : Kind) → IsTrue (nat_le (kind_number k) 255)
+kind_byte kind.Device = refl
+kind_byte kind.NoDevice = refl
+kind_byte kind.Cue = refl
+kind_byte kind.NoCue = refl
+kind_byte kind.Place = refl
+kind_byte kind.Start = refl
+kind_byte kind.Ready = refl
+kind_byte kind.Go = refl
+kind_byte kind.Done = refl
+kind_byte kind.Cancel = refl
+kind_byte kind.LetGo = refl
+kind_byte kind.Failed = refl
+
+kind_field : IsField kind_at (λ k. byte_text (kind_number k)) (λ k. true)
+unfolding kind_at
+kind_field = made_field kind_of kind_number (λ k. true) byte_field (λ n k h e. (kind_numbered n k e, refl)) (λ k h. kind_again k) (λ k h. kind_byte k)
+
+-- ---- bodies
+
+-- an event was taken from behind the number of its kind
+abbrev TakesEvent : ℕ → List ℕ → Event × List ℕ → Type 0
+TakesEvent number bytes x = (number ∷ bytes ≡ event_text x.0 ++ x.1) × IsTrue (is_event x.0)
+
+module _ {A : Type 0} {read : Reads A} {text : A → List ℕ} {fits : A → Bool} where
+  taken : IsField read text fits → (make : A → Event) (number : ℕ) → ((y : A) → event_text (make y) ≡ number ∷ text y) → ((y : A) → is_event (make y) ≡ fits y)
+      → (bytes : List ℕ) (x : Event × List ℕ) → IsTrue (are_bytes bytes) → as_at make read bytes ≡ Some x → TakesEvent number bytes x
+  taken f make number spelled fitting bytes x b e =
+      let s = bind_some (read bytes) (λ y. Some (make y.0, y.1)) x e in
+      let t = f.takes bytes s.0 b s.1 in
+      subst (TakesEvent number bytes) (some_is (make s.0.0, s.0.1) x s.2) (ap (λ bs. number ∷ bs) t.0 ∙ ap (λ bs. bs ++ s.0.1) (sym (spelled s.0.0)), rw (fitting s.0.0) t.1)
+
+  given : IsField read text fits → (make : A → Event) (y : A) (rest : List ℕ) → IsTrue (fits y) → as_at make read (text y ++ rest) ≡ Some (make y, rest)
+  given f make y rest h = rw (f.again y rest h) refl
+
+start_field : IsField start_at (λ x. number_text x.0 ++ (text_text x.1.0 ++ moment_text x.1.1)) (λ x. is_number x.0 && (is_cue_number x.1.0 && is_moment x.1.1))
+unfolding start_at
+start_field = both_field sequence_field (both_field cue_field moment_field)
+
+answer_field : IsField answer_at (λ x. number_text x.0 ++ byte_text x.1) (λ x. is_number x.0 && is_device x.1)
+unfolding answer_at
+answer_field = both_field sequence_field device_field
+
+cancel_field : IsField cancel_at (λ x. number_text x.0 ++ byte_text (reason_number x.1)) (λ x. is_number x.0 && true)
+unfolding cancel_at
+cancel_field = both_field sequence_field reason_field
+
+cancel_fits : (q : ℕ) → is_number q ≡ (is_number q && true)
+cancel_fits q = by (is_number q)
+  where
+    by : (b : Bool) → b ≡ (b && true)
+    by true = refl
+    by false = refl
+
+body_taken : (k : Kind) (bytes : List ℕ) (x : Event × List ℕ) → IsTrue (are_bytes bytes) → body_at k bytes ≡ Some x → TakesEvent (kind_number k) bytes x
+unfolding body_at
+body_taken kind.Device = taken entry_field (λ x. event.Device x.0 x.1) 1 (λ x. refl) (λ x. refl)
+body_taken kind.NoDevice = taken device_field (λ d. event.NoDevice d) 2 (λ d. refl) (λ d. refl)
+body_taken kind.Cue = taken new_cue_field (λ x. event.Cue x.0 x.1) 3 (λ x. refl) (λ x. refl)
+body_taken kind.NoCue = taken cue_field (λ c. event.NoCue c) 4 (λ c. refl) (λ c. refl)
+body_taken kind.Place = taken cue_field (λ c. event.Place c) 5 (λ c. refl) (λ c. refl)
+body_taken kind.Start = taken start_field (λ x. event.Start x.0 x.1.0 x.1.1) 6 (λ x. refl) (λ x. refl)
+body_taken kind.Ready = taken answer_field (λ x. event.Ready x.0 x.1) 7 (λ x. refl) (λ x. refl)
+body_taken kind.Go = taken sequence_field (λ q. event.Go q) 8 (λ q. refl) (λ q. refl)
+body_taken kind.Done = taken answer_field (λ x. event.Done x.0 x.1) 9 (λ x. refl) (λ x. refl)
+body_taken kind.Cancel = taken cancel_field (λ x. event.Cancel x.0 x.1) 10 (λ x. refl) (λ x. cancel_fits x.0)
+body_taken kind.LetGo = taken answer_field (λ x. event.LetGo x.0 x.1) 11 (λ x. refl) (λ x. refl)
+body_taken kind.Failed = taken answer_field (λ x. event.Failed x.0 x.1) 12 (λ x. refl) (λ x. refl)
+
+-- ---- events
+
+event_takes : (bytes : List ℕ) (x : Event × List ℕ) → IsTrue (are_bytes bytes) → event_at bytes ≡ Some x → Takes event_text is_event bytes x
+unfolding event_at
+event_takes bytes x b e =
+    let s = bind_some (kind_at bytes) (λ k. body_at k.0 k.1) x e in
+    let t = kind_field.takes bytes s.0 b s.1 in
+    let u = body_taken s.0.0 s.0.1 x (bytes_behind bytes (byte_text (kind_number s.0.0)) s.0.1 t.0 b) s.2 in
+    (t.0 ∙ u.0, u.1)
+
+event_again : (e : Event) (rest : List ℕ) → IsTrue (is_event e) → event_at (event_text e ++ rest) ≡ Some (e, rest)
+unfolding event_at kind_at body_at
+event_again (event.Device d port) rest h = given entry_field (λ x. event.Device x.0 x.1) (d, port) rest h
+event_again (event.NoDevice d) rest h = given device_field (λ d. event.NoDevice d) d rest h
+event_again (event.Cue c parts) rest h = given new_cue_field (λ x. event.Cue x.0 x.1) (c, parts) rest h
+event_again (event.NoCue c) rest h = given cue_field (λ c. event.NoCue c) c rest h
+event_again (event.Place c) rest h = given cue_field (λ c. event.Place c) c rest h
+event_again (event.Start q c t) rest h = given start_field (λ x. event.Start x.0 x.1.0 x.1.1) (q, (c, t)) rest h
+event_again (event.Ready q d) rest h = given answer_field (λ x. event.Ready x.0 x.1) (q, d) rest h
+event_again (event.Go q) rest h = given sequence_field (λ q. event.Go q) q rest h
+event_again (event.Done q d) rest h = given answer_field (λ x. event.Done x.0 x.1) (q, d) rest h
+event_again (event.Cancel q r) rest h = given cancel_field (λ x. event.Cancel x.0 x.1) (q, r) rest (rw (← cancel_fits q) h)
+event_again (event.LetGo q d) rest h = given answer_field (λ x. event.LetGo x.0 x.1) (q, d) rest h
+event_again (event.Failed q d) rest h = given answer_field (λ x. event.Failed x.0 x.1) (q, d) rest h
+
+pub event_field : IsField event_at event_text is_event
+event_field = record { takes = event_takes; again = event_again }

@@ -1,0 +1,16 @@
+pub mod Answered
+pub mod AttemptLaws
+pub mod BatchLaws
+pub mod Behind
+pub mod Counted
+pub mod EventLaws
+pub mod FieldLaws
+pub mod Fitting
+pub mod FoldLaws
+pub mod Folded
+pub mod Lengths
+pub mod Numbers
+pub mod Ranges
+pub mod ShowLaws
+pub mod StateLaws
+pub mod Taking

@@ -1,0 +1,193 @@
+-- Shows: what is read is spelled so, and is read again.
+use Rattle.std.proofs.Common.{◌≡◌, ℕ, ◌≤◌, Bool, true, false, not, ◌&&◌, List, [], ◌∷◌, ◌++◌, length, Option, Some, None, IsTrue, nat_eq, nat_le, refl, sym, ap, subst, ◌∙◌, append_assoc, arith}
+use Rattle.std.specs.Prelude.{is_some}
+use Rattle.std.specs.List.{list_all}
+use Rattle.std.specs.Map.{keys_of}
+use Rattle.std.proofs.lemmas.Bool.{le-leb, leb-true, lt-leb}
+use Rattle.std.proofs.lemmas.List.{length-append}
+use Rattle.cue_show.specs.Bytes.{are_bytes}
+use Rattle.cue_show.specs.DeviceNumber.{is_device, is_port}
+use Rattle.cue_show.specs.Devices.{distinct}
+use Rattle.cue_show.specs.Distinct.{are_distinct}
+use Rattle.cue_show.specs.Number.{is_cue_number, same_text}
+use Rattle.cue_show.specs.Parts.{are_parts}
+use Rattle.cue_show.specs.Show.{Cues, ShowLists, empty_show, has_device, has_cue, is_full, are_known, is_place_of, is_entry, is_table, is_cue_of, is_stack_of, is_show, can_add_device, can_add_cue, with_device, with_cue, with_place}
+use Rattle.cue_show.specs.declared.limits.TheConstants.{MAX_DEVICES, MAX_CUES}
+use Rattle.cue_show.specs.declared.part.Part.{Part}
+use Rattle.cue_core.proofs.Conditions.{both, join}
+use Rattle.cue_records.specs.Fields.{text_text}
+use Rattle.cue_records.specs.State.{table_text, stack_text, place_text, show_text}
+use Rattle.cue_records.specs.Reading.{◌>>=◌, where_it}
+use Rattle.cue_records.specs.StateReading.{device_step, cue_step, place_of, place_at, place_step, table_at, stack_at, show_at}
+use Rattle.cue_records.proofs.Behind.{all_here, absent_before}
+use Rattle.cue_records.proofs.Fitting.{cue_fits}
+use Rattle.cue_records.proofs.FieldLaws.{byte_field, text_field, cue_short, entry_field, new_cue_field}
+use Rattle.cue_records.proofs.FoldLaws.{IsMade, counted_takes, counted_again}
+use Rattle.cue_records.proofs.Numbers.{field16}
+use Rattle.cue_records.proofs.Taking.{IsField, bind_some, where_some, some_is, bytes_behind, made_field, respell}
+
+-- ---- devices
+
+-- a show of these devices alone
+abbrev pub of_devices : List (ℕ × ℕ) → ShowLists
+of_devices ds = record { devices = ds; cues = []; place = None }
+
+devices_allow : (ys zs : List (ℕ × ℕ)) (x : ℕ × ℕ) → IsTrue (is_table (ys ++ x ∷ zs)) → IsTrue (can_add_device (of_devices ys) x.0 x.1)
+devices_allow ys zs x h =
+    let all = ys ++ x ∷ zs in
+    let p = both (nat_le (length all) MAX_DEVICES) (distinct (keys_of all) && list_all is_entry all) h in
+    let q = both (distinct (keys_of all)) (list_all is_entry all) p.1 in
+    let absent : has_device (of_devices ys) x.0 ≡ false = ap is_some (absent_before nat_eq ys zs x q.0) in
+    join (not (has_device (of_devices ys) x.0)) (is_device x.0 && is_port x.1) (rw absent refl) (all_here is_entry ys zs x q.1)
+
+entry_fits : (ys zs : List (ℕ × ℕ)) (x : ℕ × ℕ) → IsTrue (is_table (ys ++ x ∷ zs)) → IsTrue (is_device x.0 && is_port x.1)
+entry_fits ys zs x h =
+    let all = ys ++ x ∷ zs in
+    let p = both (nat_le (length all) MAX_DEVICES) (distinct (keys_of all) && list_all is_entry all) h in
+    all_here is_entry ys zs x (both (distinct (keys_of all)) (list_all is_entry all) p.1).1
+
+devices_made : IsMade (λ s e. can_add_device s e.0 e.1) (λ s e. with_device s e.0 e.1) of_devices (λ e. is_device e.0 && is_port e.1) is_table
+devices_made = record { grows = λ xs x may. refl; allows = devices_allow; fitting = entry_fits }
+
+table_takes : (bytes : List ℕ) (y : ShowLists × List ℕ) → IsTrue (are_bytes bytes) → table_at empty_show bytes ≡ Some y → (ds : List (ℕ × ℕ)) × (bytes ≡ table_text ds ++ y.1) × (y.0 ≡ of_devices ds)
+unfolding table_at device_step
+table_takes bytes y b e = counted_takes byte_field entry_field devices_made bytes y b e
+
+table_again : (ds : List (ℕ × ℕ)) (rest : List ℕ) → IsTrue (is_table ds) → table_at empty_show (table_text ds ++ rest) ≡ Some (of_devices ds, rest)
+unfolding table_at device_step
+table_again ds rest h =
+    let few : length ds ≤ MAX_DEVICES = leb-true (length ds) MAX_DEVICES (both (nat_le (length ds) MAX_DEVICES) (distinct (keys_of ds) && list_all is_entry ds) h).0 in
+    counted_again byte_field entry_field devices_made ds rest (le-leb (length ds) 255 (omega arith)) h
+
+-- ---- cues
+
+-- a show of these devices and cues
+abbrev pub of_cues : List (ℕ × ℕ) → Cues → ShowLists
+of_cues ds cs = record { devices = ds; cues = cs; place = None }
+
+-- the rules of a stack, one by one
+record StackRules (ds : List (ℕ × ℕ)) (cs : Cues) : Type 0 where
+  few : length cs ≤ MAX_CUES
+  apart : IsTrue (are_distinct same_text (keys_of cs))
+  each : IsTrue (list_all (is_cue_of (of_devices ds)) cs)
+
+stack_rules : (ds : List (ℕ × ℕ)) (cs : Cues) → IsTrue (is_stack_of (of_devices ds) cs) → StackRules ds cs
+stack_rules ds cs h =
+    let p = both (nat_le (length cs) MAX_CUES) (are_distinct same_text (keys_of cs) && list_all (is_cue_of (of_devices ds)) cs) h in
+    let q = both (are_distinct same_text (keys_of cs)) (list_all (is_cue_of (of_devices ds)) cs) p.1 in
+    record { few = leb-true (length cs) MAX_CUES p.0; apart = q.0; each = q.1 }
+
+room_before : (ys zs : Cues) (x : List ℕ × List Part) → length (ys ++ x ∷ zs) ≤ MAX_CUES → nat_le MAX_CUES (length ys) ≡ false
+room_before ys zs x h = lt-leb MAX_CUES (length ys) (omega (arith, length-append ys (x ∷ zs)))
+
+cues_allow : (ds : List (ℕ × ℕ)) (ys zs : Cues) (x : List ℕ × List Part) → IsTrue (is_stack_of (of_devices ds) (ys ++ x ∷ zs)) → IsTrue (can_add_cue (of_cues ds ys) x.0 x.1)
+cues_allow ds ys zs x h =
+    let r = stack_rules ds (ys ++ x ∷ zs) h in
+    let absent : has_cue (of_cues ds ys) x.0 ≡ false = ap is_some (absent_before same_text ys zs x r.apart) in
+    let room : is_full (of_cues ds ys) ≡ false = room_before ys zs x r.few in
+    join (not (has_cue (of_cues ds ys) x.0)) (not (is_full (of_cues ds ys)) && is_cue_of (of_cues ds ys) (x.0, x.1)) (rw absent refl)
+    (join (not (is_full (of_cues ds ys))) (is_cue_of (of_cues ds ys) (x.0, x.1)) (rw room refl) (all_here (is_cue_of (of_devices ds)) ys zs x r.each))
+
+new_cue_fits : (ds : List (ℕ × ℕ)) (ys zs : Cues) (x : List ℕ × List Part) → IsTrue (is_stack_of (of_devices ds) (ys ++ x ∷ zs)) → IsTrue (is_cue_number x.0 && are_parts x.1)
+new_cue_fits ds ys zs x h =
+    let here = all_here (is_cue_of (of_devices ds)) ys zs x (stack_rules ds (ys ++ x ∷ zs) h).each in
+    let p = both (is_cue_number x.0) (are_parts x.1 && are_known (of_devices ds) x.1) here in
+    join (is_cue_number x.0) (are_parts x.1) p.0 (both (are_parts x.1) (are_known (of_devices ds) x.1) p.1).0
+
+cues_made : (ds : List (ℕ × ℕ)) → IsMade (λ s e. can_add_cue s e.0 e.1) (λ s e. with_cue s e.0 e.1) (of_cues ds) (λ e. is_cue_number e.0 && are_parts e.1) (is_stack_of (of_devices ds))
+cues_made ds = record { grows = λ xs x may. refl; allows = cues_allow ds; fitting = new_cue_fits ds }
+
+stack_takes : (ds : List (ℕ × ℕ)) (bytes : List ℕ) (y : ShowLists × List ℕ) → IsTrue (are_bytes bytes) → stack_at (of_devices ds) bytes ≡ Some y → (cs : Cues) × (bytes ≡ stack_text cs ++ y.1) × (y.0 ≡ of_cues ds cs)
+unfolding stack_at cue_step
+stack_takes ds bytes y b e = counted_takes field16 new_cue_field (cues_made ds) bytes y b e
+
+stack_again : (ds : List (ℕ × ℕ)) (cs : Cues) (rest : List ℕ) → IsTrue (is_stack_of (of_devices ds) cs) → stack_at (of_devices ds) (stack_text cs ++ rest) ≡ Some (of_cues ds cs, rest)
+unfolding stack_at cue_step
+stack_again ds cs rest h =
+    let few : length cs ≤ MAX_CUES = (stack_rules ds cs h).few in
+    counted_again field16 new_cue_field (cues_made ds) cs rest (le-leb (length cs) 65535 (omega arith)) h
+
+-- ---- the place
+
+abbrev place_number : Option (List ℕ) → List ℕ
+place_number None = []
+place_number (Some c) = c
+
+abbrev place_fits : Option (List ℕ) → Bool
+place_fits None = true
+place_fits (Some c) = is_cue_number c
+
+place_numbered : (t : List ℕ) (o : Option (List ℕ)) → IsTrue (nat_le (length t) 255 && are_bytes t) → place_of t ≡ Some o → (place_number o ≡ t) × IsTrue (place_fits o)
+place_numbered [] o h e = subst (λ p. (place_number p ≡ []) × IsTrue (place_fits p)) (some_is None o e) (refl, refl)
+place_numbered (b ∷ bs) o h e =
+    let w = where_some (is_cue_number (b ∷ bs)) (Some (b ∷ bs)) o e in
+    subst (λ p. (place_number p ≡ b ∷ bs) × IsTrue (place_fits p)) w.1 (refl, w.0)
+
+place_found : (o : Option (List ℕ)) → IsTrue (place_fits o) → place_of (place_number o) ≡ Some o
+place_found None h = refl
+place_found (Some []) h = absurd cc
+place_found (Some (b ∷ bs)) h = let k : is_cue_number (b ∷ bs) ≡ true = h in rw k refl
+
+place_short : (o : Option (List ℕ)) → IsTrue (place_fits o) → IsTrue (nat_le (length (place_number o)) 255 && are_bytes (place_number o))
+place_short None h = refl
+place_short (Some c) h = cue_short c h
+
+place_spelled : (o : Option (List ℕ)) → text_text (place_number o) ≡ place_text o
+place_spelled None = refl
+place_spelled (Some c) = refl
+
+place_field : IsField place_at place_text place_fits
+unfolding place_at
+place_field = respell place_text (made_field place_of place_number place_fits text_field place_numbered place_found place_short) place_spelled
+
+place_takes : (s : ShowLists) (bytes : List ℕ) (y : ShowLists × List ℕ) → IsTrue (are_bytes bytes) → place_step s bytes ≡ Some y → (o : Option (List ℕ)) × (bytes ≡ place_text o ++ y.1) × (y.0 ≡ with_place s o)
+unfolding place_step
+place_takes s bytes y b e =
+    let x = bind_some (place_at bytes) (λ o. where_it (is_place_of s o.0) (with_place s o.0, o.1)) y e in
+    let w = where_some (is_place_of s x.0.0) (with_place s x.0.0, x.0.1) y x.2 in
+    let t = place_field.takes bytes x.0 b x.1 in
+    (x.0.0, t.0 ∙ ap (λ z. place_text x.0.0 ++ z.1) w.1, sym (ap (λ z. z.0) w.1))
+
+place_again : (s : ShowLists) (o : Option (List ℕ)) (rest : List ℕ) → IsTrue (place_fits o) → IsTrue (is_place_of s o) → place_step s (place_text o ++ rest) ≡ Some (with_place s o, rest)
+unfolding place_step
+place_again s o rest h k = let may : is_place_of s o ≡ true = k in rw (place_field.again o rest h, may) refl
+
+-- ---- shows
+
+three : (a b c rest : List ℕ) → a ++ (b ++ (c ++ rest)) ≡ (a ++ (b ++ c)) ++ rest
+three a b c rest = sym (append_assoc a (b ++ c) rest ∙ ap (λ bs. a ++ bs) (append_assoc b c rest))
+
+pub show_takes : (bytes : List ℕ) (y : ShowLists × List ℕ) → IsTrue (are_bytes bytes) → show_at empty_show bytes ≡ Some y → bytes ≡ show_text y.0 ++ y.1
+unfolding show_at
+show_takes bytes y b e =
+    let a = bind_some (table_at empty_show bytes) (λ t. stack_at t.0 t.1 >>= λ u. place_step u.0 u.1) y e in
+    let t = table_takes bytes a.0 b a.1 in
+    let ds = t.0 in
+    let c = bind_some (stack_at a.0.0 a.0.1) (λ u. place_step u.0 u.1) y a.2 in
+    let here : stack_at (of_devices ds) a.0.1 ≡ Some c.0 = subst (λ s. stack_at s a.0.1 ≡ Some c.0) t.2 c.1 in
+    let b1 = bytes_behind bytes (table_text ds) a.0.1 t.1 b in
+    let u = stack_takes ds a.0.1 c.0 b1 here in
+    let cs = u.0 in
+    let v = place_takes c.0.0 c.0.1 y (bytes_behind a.0.1 (stack_text cs) c.0.1 u.1 b1) c.2 in
+    let whole : y.0 ≡ record { devices = ds; cues = cs; place = v.0 } = v.2 ∙ ap (λ s. with_place s v.0) u.2 in
+    let parts : bytes ≡ (table_text ds ++ (stack_text cs ++ place_text v.0)) ++ y.1 = t.1 ∙ ap (λ bs. table_text ds ++ bs) (u.1 ∙ ap (λ bs. stack_text cs ++ bs) v.1) ∙ three (table_text ds) (stack_text cs) (place_text v.0) y.1 in
+    subst (λ s. bytes ≡ show_text s ++ y.1) (sym whole) parts
+
+place_same : (s : ShowLists) (o : Option (List ℕ)) → IsTrue (is_place_of s o) → IsTrue (is_place_of (of_cues s.devices s.cues) o)
+place_same s None h = h
+place_same s (Some c) h = h
+
+place_in : (s : ShowLists) (o : Option (List ℕ)) → IsTrue (is_show s) → IsTrue (is_place_of s o) → IsTrue (place_fits o)
+place_in s None rules h = refl
+place_in s (Some c) rules h = cue_fits s c rules h
+
+pub show_again : (s : ShowLists) (rest : List ℕ) → IsTrue (is_show s) → show_at empty_show (show_text s ++ rest) ≡ Some (s, rest)
+unfolding show_at
+show_again s rest h =
+    let p = both (is_table s.devices) (is_stack_of s s.cues && is_place_of s s.place) h in
+    let q = both (is_stack_of s s.cues) (is_place_of s s.place) p.1 in
+    let after = place_text s.place ++ rest in
+    let regrouped : show_text s ++ rest ≡ table_text s.devices ++ (stack_text s.cues ++ after) = sym (three (table_text s.devices) (stack_text s.cues) (place_text s.place) rest) in
+    let table : table_at empty_show (table_text s.devices ++ (stack_text s.cues ++ after)) ≡ Some (of_devices s.devices, stack_text s.cues ++ after) = table_again s.devices (stack_text s.cues ++ after) p.0 in
+    let stack : stack_at (of_devices s.devices) (stack_text s.cues ++ after) ≡ Some (of_cues s.devices s.cues, after) = stack_again s.devices s.cues after q.0 in
+    ap (show_at empty_show) regrouped ∙ rw (table, stack) (place_again (of_cues s.devices s.cues) s.place rest (place_in s s.place h q.1) (place_same s s.place q.1))

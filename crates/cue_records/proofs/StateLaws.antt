@@ -1,0 +1,202 @@
+-- States: what is read is spelled so and keeps the rules, and is read again.
+use Rattle.std.proofs.Common.{◌≡◌, ℕ, ◌≤◌, Bool, true, false, cond, not, ◌&&◌, ◌==◌, List, [], ◌∷◌, ◌++◌, length, Option, Some, None, Result, Ok, Err, IsTrue, nat_le, refl, sym, ap, subst, ◌∙◌, arith}
+use Rattle.std.specs.Prelude.{IfOk, IsErrOf, is_some}
+use Rattle.std.specs.List.{list_all}
+use Rattle.std.specs.Int.{w32}
+use Rattle.std.proofs.lemmas.Bool.{le-leb, leb-true, eqb-true}
+use Rattle.std.proofs.lemmas.List.{append-nil, nil_from_length}
+use Rattle.cue_show.specs.Bytes.{are_bytes}
+use Rattle.cue_show.specs.Number.{is_cue_number}
+use Rattle.cue_show.specs.Show.{ShowLists, empty_show}
+use Rattle.cue_exchange.specs.Live.{is_number, is_moment, is_attempt, are_live, attempt_of}
+use Rattle.cue_exchange.specs.declared.attempt.Attempt.{Attempt}
+use Rattle.cue_exchange.specs.declared.attempt.Outcome.{Outcome}
+use Rattle.cue_exchange.specs.declared.attempt.Outcome.TheVariants as outcome
+use Rattle.cue_exchange.specs.declared.limits.TheConstants.{LAST_NUMBER}
+use Rattle.cue_exchange.proofs.Lists.{all_given}
+use Rattle.cue_exchange.proofs.LiveRules.{attempts_of}
+use Rattle.cue_core.specs.declared.event.Ended.{Ended}
+use Rattle.cue_core.specs.State.{Standing, is_at_cue, is_ended, is_state}
+use Rattle.cue_core.proofs.Conditions.{both, join}
+use Rattle.cue_core.proofs.Rules.{Rules, rules_of}
+use Rattle.cue_core.proofs.Sound.{attempt_rules}
+use Rattle.cue_records.specs.declared.fault.StateFault.{StateFault}
+use Rattle.cue_records.specs.declared.fault.StateFault.TheVariants.{Version, Malformed, Memory}
+use Rattle.cue_records.specs.declared.state.TheConstants.{VERSION}
+use Rattle.cue_records.specs.Fields.{byte_text, number_text}
+use Rattle.cue_records.specs.State.{show_text, outcome_number, ended_text, live_text, state_text, IsNoState}
+use Rattle.cue_records.specs.Laws.{StatesAreReadBack, StateTextsDiffer}
+use Rattle.cue_records.specs.Reading.{◌>>=◌, where_it, number_at}
+use Rattle.cue_records.specs.StateReading.{GivesState, outcome_of, ended_of, ended_at, show_at, live_at, tail_of, checked, standing_of, state_of}
+use Rattle.cue_records.proofs.AttemptLaws.{attempt_fits, are_live_at, live_takes, live_again}
+use Rattle.cue_records.proofs.FieldLaws.{byte_field, step_number}
+use Rattle.cue_records.proofs.Fitting.{attempt_cue_fits}
+use Rattle.cue_records.proofs.Numbers.{field32}
+use Rattle.cue_records.proofs.Ranges.{live_short}
+use Rattle.cue_records.proofs.ShowLaws.{show_takes, show_again}
+use Rattle.cue_records.proofs.Taking.{IsField, bind_some, where_some, some_is, bytes_behind, made_field, both_field, respell}
+
+-- ---- the attempt that ended last
+
+outcome_numbered : (n : ℕ) (o : Outcome) → outcome_of n ≡ Some o → outcome_number o ≡ n
+outcome_numbered n =
+    step_number outcome_number n 1 outcome.Complete _ refl
+    (step_number outcome_number n 2 outcome.Cancelled _ refl
+    (step_number outcome_number n 3 outcome.Failed None refl (λ o e. absurd cc)))
+
+-- the numbers of an attempt that ended
+abbrev ended_numbers : Option Ended → ℕ × ℕ
+ended_numbers None = (0, 0)
+ended_numbers (Some e) = (e.seq, outcome_number e.outcome)
+
+abbrev ended_fits : Option Ended → Bool
+ended_fits None = true
+ended_fits (Some e) = nat_le e.seq 4294967295
+
+abbrev EndedIs : ℕ × ℕ → Option Ended → Type 0
+EndedIs x o = (ended_numbers o ≡ x) × IsTrue (ended_fits o)
+
+ended_numbered : (x : ℕ × ℕ) (o : Option Ended) → IsTrue (nat_le x.0 4294967295 && nat_le x.1 255) → ended_of x ≡ Some o → EndedIs x o
+ended_numbered x o h e = by (x.1 == 0) refl e
+  where
+    by : (b : Bool) → (x.1 == 0) ≡ b → cond b (where_it (x.0 == 0) None) (outcome_of x.1 >>= λ k. Some (Some (record { seq = x.0; outcome = k }))) ≡ Some o → EndedIs x o
+    by true zero e =
+        let w = where_some (x.0 == 0) None o e in
+        let first : x.0 ≡ 0 = eqb-true x.0 0 w.0 in
+        let second : x.1 ≡ 0 = eqb-true x.1 0 zero in
+        subst (EndedIs x) w.1 (ap (λ n. (n, 0)) (sym first) ∙ ap (λ n. (x.0, n)) (sym second), refl)
+    by false some e =
+        let s = bind_some (outcome_of x.1) (λ k. Some (Some (record { seq = x.0; outcome = k }))) o e in
+        subst (EndedIs x) (some_is (Some (record { seq = x.0; outcome = s.0 })) o s.2) (ap (λ n. (x.0, n)) (outcome_numbered x.1 s.0 s.1), (both (nat_le x.0 4294967295) (nat_le x.1 255) h).0)
+
+ended_again : (o : Option Ended) → IsTrue (ended_fits o) → ended_of (ended_numbers o) ≡ Some o
+ended_again None h = refl
+ended_again (Some e) h = by e.seq e.outcome
+  where
+    by : (q : ℕ) (k : Outcome) → ended_of (q, outcome_number k) ≡ Some (Some (record { seq = q; outcome = k }))
+    by q outcome.Complete = refl
+    by q outcome.Cancelled = refl
+    by q outcome.Failed = refl
+
+outcome_byte : (k : Outcome) → IsTrue (nat_le (outcome_number k) 255)
+outcome_byte outcome.Complete = refl
+outcome_byte outcome.Cancelled = refl
+outcome_byte outcome.Failed = refl
+
+ended_within : (o : Option Ended) → IsTrue (ended_fits o) → IsTrue (nat_le (ended_numbers o).0 4294967295 && nat_le (ended_numbers o).1 255)
+ended_within None h = refl
+ended_within (Some e) h = join (nat_le e.seq 4294967295) (nat_le (outcome_number e.outcome) 255) h (outcome_byte e.outcome)
+
+ended_spelled : (o : Option Ended) → number_text (ended_numbers o).0 ++ byte_text (ended_numbers o).1 ≡ ended_text o
+ended_spelled None = refl
+ended_spelled (Some e) = refl
+
+ended_field : IsField ended_at ended_text ended_fits
+unfolding ended_at
+ended_field = respell ended_text (made_field ended_of ended_numbers ended_fits (both_field field32 byte_field) ended_numbered ended_again ended_within) ended_spelled
+
+-- ---- what stands behind the show
+
+tail_takes : (show : ShowLists) (bytes : List ℕ) (t : ℕ × (Option Ended × List Attempt)) → IsTrue (are_bytes bytes) → tail_of show [] bytes ≡ Some t → bytes ≡ number_text t.0 ++ (ended_text t.1.0 ++ live_text t.1.1)
+unfolding tail_of
+tail_takes show bytes t b e =
+    let q = bind_some (number_at w32 bytes) (λ q. ended_at q.1 >>= λ o. live_at show [] o.1 >>= λ all. where_it (length all.1 == 0) (q.0, (o.0, all.0))) t e in
+    let o = bind_some (ended_at q.0.1) (λ o. live_at show [] o.1 >>= λ all. where_it (length all.1 == 0) (q.0.0, (o.0, all.0))) t q.2 in
+    let all = bind_some (live_at show [] o.0.1) (λ all. where_it (length all.1 == 0) (q.0.0, (o.0.0, all.0))) t o.2 in
+    let w = where_some (length all.0.1 == 0) (q.0.0, (o.0.0, all.0.0)) t all.2 in
+    let nothing : all.0.1 ≡ [] = nil_from_length all.0.1 (eqb-true (length all.0.1) 0 w.0) in
+    let t0 = field32.takes bytes q.0 b q.1 in
+    let b1 = bytes_behind bytes (number_text q.0.0) q.0.1 t0.0 b in
+    let t1 = ended_field.takes q.0.1 o.0 b1 o.1 in
+    let t2 = live_takes show o.0.1 all.0 (bytes_behind q.0.1 (ended_text o.0.0) o.0.1 t1.0 b1) all.1 in
+    let last : o.0.1 ≡ live_text all.0.0 = t2 ∙ ap (λ rest. live_text all.0.0 ++ rest) nothing ∙ append-nil (live_text all.0.0) in
+    let parts : bytes ≡ number_text q.0.0 ++ (ended_text o.0.0 ++ live_text all.0.0) = t0.0 ∙ ap (λ bs. number_text q.0.0 ++ bs) (t1.0 ∙ ap (λ bs. ended_text o.0.0 ++ bs) last) in
+    subst (λ z. bytes ≡ number_text z.0 ++ (ended_text z.1.0 ++ live_text z.1.1)) w.1 parts
+
+tail_again : (show : ShowLists) (last : ℕ) (ended : Option Ended) (live : List Attempt) → IsTrue (nat_le last 4294967295) → IsTrue (ended_fits ended) → IsTrue (are_live live) → IsTrue (are_live_at show live)
+    → tail_of show [] (number_text last ++ (ended_text ended ++ live_text live)) ≡ Some (last, (ended, live))
+unfolding tail_of
+tail_again show last ended live h k few all =
+    let read : live_at show [] (live_text live) ≡ Some (live, []) = ap (live_at show []) (sym (append-nil (live_text live))) ∙ live_again show live [] (live_short live few) all in
+    rw (field32.again last (ended_text ended ++ live_text live) h, ended_field.again ended (live_text live) k, read) refl
+
+-- ---- states
+
+-- what stands behind the version
+abbrev body_of : Standing → List ℕ
+body_of s = show_text s.show ++ (number_text s.last_seq ++ (ended_text s.ended ++ live_text s.live))
+
+standing_takes : (bytes : List ℕ) (s : Standing) → IsTrue (are_bytes bytes) → standing_of bytes ≡ Some s → IsTrue (is_state s) × (bytes ≡ body_of s)
+unfolding standing_of
+standing_takes bytes s b e =
+    let a = bind_some (show_at empty_show bytes) (λ show. tail_of show.0 [] show.1 >>= λ t. checked (record { show = show.0; live = t.1.1; last_seq = t.0; ended = t.1.0 })) s e in
+    let c = bind_some (tail_of a.0.0 [] a.0.1) (λ t. checked (record { show = a.0.0; live = t.1.1; last_seq = t.0; ended = t.1.0 })) s a.2 in
+    let made : Standing = record { show = a.0.0; live = c.0.1.1; last_seq = c.0.0; ended = c.0.1.0 } in
+    let w = where_some (is_state made) made s c.2 in
+    let t = show_takes bytes a.0 b a.1 in
+    let u = tail_takes a.0.0 a.0.1 c.0 (bytes_behind bytes (show_text a.0.0) a.0.1 t b) c.1 in
+    subst (λ z. IsTrue (is_state z) × (bytes ≡ body_of z)) w.1 (w.0, t ∙ ap (λ bs. show_text a.0.0 ++ bs) u)
+
+live_fits : (s : Standing) → Rules s → IsTrue (are_live_at s.show s.live)
+live_fits s r =
+    join (are_live s.live) (list_all (attempt_fits s.show) s.live) r.live
+    (all_given is_attempt (is_at_cue s.show) (attempt_fits s.show)
+    (λ a attempt at.
+    let k = attempt_rules a attempt in
+    join (is_number a.seq && (is_cue_number a.cue && (is_moment a.deadline && true))) (is_at_cue s.show a)
+    (join (is_number a.seq) (is_cue_number a.cue && (is_moment a.deadline && true)) k.number
+    (join (is_cue_number a.cue) (is_moment a.deadline && true) (attempt_cue_fits s.show a r.show at) (join (is_moment a.deadline) true k.moment refl))) at)
+    s.live (attempts_of s.live r.live) r.at)
+
+last_fits : (n : ℕ) → IsTrue (nat_le n LAST_NUMBER) → IsTrue (nat_le n 4294967295)
+last_fits n h = let k : n ≤ LAST_NUMBER = leb-true n LAST_NUMBER h in le-leb n 4294967295 (omega arith)
+
+ended_in_range : (live : List Attempt) (last : ℕ) (o : Option Ended) → IsTrue (is_ended live last o) → IsTrue (ended_fits o)
+ended_in_range live last None h = refl
+ended_in_range live last (Some e) h =
+    let p = both (is_number e.seq) (nat_le e.seq last && not (is_some (attempt_of live e.seq))) h in
+    last_fits e.seq (both (nat_le 1 e.seq) (nat_le e.seq LAST_NUMBER) p.0).1
+
+standing_again : (s : Standing) → IsTrue (is_state s) → standing_of (body_of s) ≡ Some s
+unfolding standing_of
+standing_again s h =
+    let r = rules_of s h in
+    let tail = number_text s.last_seq ++ (ended_text s.ended ++ live_text s.live) in
+    let show : show_at empty_show (show_text s.show ++ tail) ≡ Some (s.show, tail) = show_again s.show tail r.show in
+    let rest : tail_of s.show [] tail ≡ Some (s.last_seq, (s.ended, s.live)) = tail_again s.show s.last_seq s.ended s.live (last_fits s.last_seq r.last) (ended_in_range s.live s.last_seq s.ended r.ended) r.live (live_fits s r) in
+    let keeps : is_state s ≡ true = h in
+    rw (show, rest, keeps) refl
+
+state_takes : (bytes : List ℕ) (s : Standing) → IsTrue (are_bytes bytes) → state_of bytes ≡ Some s → IsTrue (is_state s) × (bytes ≡ state_text s)
+unfolding state_of
+state_takes [] s b e = absurd cc
+state_takes (v ∷ bytes) s b e = by (v == VERSION) refl e
+  where
+    by : (k : Bool) → (v == VERSION) ≡ k → cond (not k) None (standing_of bytes) ≡ Some s → IsTrue (is_state s) × (v ∷ bytes ≡ state_text s)
+    by true same e =
+        let version : v ≡ VERSION = eqb-true v VERSION same in
+        let t = standing_takes bytes s (both (nat_le v 255) (are_bytes bytes) b).1 e in
+        (t.0, ap (λ n. n ∷ bytes) version ∙ ap (λ bs. VERSION ∷ bs) t.1)
+    by false other e = absurd cc
+
+state_again : (s : Standing) → IsTrue (is_state s) → state_of (state_text s) ≡ Some s
+unfolding state_of
+state_again s h = standing_again s h
+
+pub is_found : (bytes : List ℕ) (r : Result Standing StateFault) → IsTrue (are_bytes bytes) → GivesState r (state_of bytes) → IfOk r (λ s. IsTrue (is_state s) × (bytes ≡ state_text s))
+is_found bytes (Ok s) b e = state_takes bytes s b e
+is_found bytes (Err fault) b e = tt
+
+pub is_only : (bytes : List ℕ) (r : Result Standing StateFault) → GivesState r (state_of bytes) → IsErrOf r Malformed → IsNoState bytes
+is_only bytes (Ok s) e malformed = absurd cc
+is_only bytes (Err Memory) e malformed = absurd cc
+is_only bytes (Err Version) e malformed = absurd cc
+is_only bytes (Err Malformed) e malformed = λ s h same. let read : state_of bytes ≡ Some s = ap state_of same ∙ state_again s h in absurd cc
+
+-- ---- the laws
+
+pub read_back : StatesAreReadBack
+read_back s h = state_again s h
+
+pub texts_differ : StateTextsDiffer
+texts_differ one other h k same = some_is one other (sym (state_again one h) ∙ ap state_of same ∙ state_again other k)

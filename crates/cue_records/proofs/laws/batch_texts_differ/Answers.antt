@@ -1,0 +1,5 @@
+use Rattle.cue_records.proofs.BatchLaws.{texts_differ}
+use Rattle.cue_records.proofs.laws.batch_texts_differ.Goals as goal
+
+pub returns : goal.returns
+returns c = texts_differ

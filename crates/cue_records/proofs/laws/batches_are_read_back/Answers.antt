@@ -1,0 +1,5 @@
+use Rattle.cue_records.proofs.BatchLaws.{read_back}
+use Rattle.cue_records.proofs.laws.batches_are_read_back.Goals as goal
+
+pub returns : goal.returns
+returns c = read_back

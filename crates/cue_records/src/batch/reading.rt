@@ -1,0 +1,145 @@
+//! Reading events one behind the other.
+ghost use Rattle.std.specs.Prelude.{◌≡◌};
+ghost use Rattle.cue_records.specs.Reading.{Gives, list_at};
+ghost use Rattle.cue_records.specs.BatchReading.{kind_at, start_at, answer_at, cancel_at, body_at, event_at, event_count_at, batch_of};
+
+use crate::batch::kind::{Kind, kind_of};
+use crate::batch::{Batch, MAX_EVENTS};
+use crate::fault::ReadFault;
+use crate::fields::Reader;
+use cue_core::Event;
+use cue_exchange::attempt::Reason;
+use cue_show::{CueNo, DeviceNo};
+use std::alloc::Global;
+
+impl<'a> Reader<'a> {
+    #[tactic(auto, unfolding(crate::specs::BatchReading::kind_at))]
+    fn kind(&mut self) -> Result<Kind, ReadFault>
+        ensures { Gives (λ x. (x, self.new.rest.now)) result (kind_at self.old.rest.now) }
+    {
+        let number = self.byte()?;
+        kind_of(number).ok_or(ReadFault::Malformed)
+    }
+
+    // A number, a cue and a moment.
+    #[tactic(auto, unfolding(crate::specs::BatchReading::start_at))]
+    fn start(&mut self) -> Result<(u32, CueNo, u64), ReadFault>
+        ensures { Gives (λ x. ((x.0, (x.1, x.2)), self.new.rest.now)) result (start_at self.old.rest.now) }
+    {
+        let seq = self.sequence()?;
+        let cue = self.cue()?;
+        let deadline = self.u64()?;
+        Ok((seq, cue, deadline))
+    }
+
+    // A number and a device.
+    #[tactic(auto, unfolding(crate::specs::BatchReading::answer_at))]
+    fn answer(&mut self) -> Result<(u32, DeviceNo), ReadFault>
+        ensures { Gives (λ x. (x, self.new.rest.now)) result (answer_at self.old.rest.now) }
+    {
+        let seq = self.sequence()?;
+        let device = self.device()?;
+        Ok((seq, device))
+    }
+
+    // A number and a reason.
+    #[tactic(auto, unfolding(crate::specs::BatchReading::cancel_at))]
+    fn cancel(&mut self) -> Result<(u32, Reason), ReadFault>
+        ensures { Gives (λ x. (x, self.new.rest.now)) result (cancel_at self.old.rest.now) }
+    {
+        let seq = self.sequence()?;
+        let reason = self.reason()?;
+        Ok((seq, reason))
+    }
+
+    // What stands behind a kind.
+    #[tactic(auto, unfolding(crate::specs::BatchReading::body_at))]
+    fn body(&mut self, alloc: Global, kind: Kind) -> Result<Event, ReadFault>
+        ensures { Gives (λ x. (x, self.new.rest.now)) result (body_at kind self.old.rest.now) }
+    {
+        match kind {
+            Kind::Device => {
+                let (device, port) = self.entry()?;
+                Ok(Event::Device(device, port))
+            }
+            Kind::NoDevice => Ok(Event::NoDevice(self.device()?)),
+            Kind::Cue => {
+                let (cue, parts) = self.new_cue(alloc)?;
+                Ok(Event::Cue(cue, parts))
+            }
+            Kind::NoCue => Ok(Event::NoCue(self.cue()?)),
+            Kind::Place => Ok(Event::Place(self.cue()?)),
+            Kind::Start => {
+                let (seq, cue, deadline) = self.start()?;
+                Ok(Event::Start(seq, cue, deadline))
+            }
+            Kind::Go => Ok(Event::Go(self.sequence()?)),
+            Kind::Cancel => {
+                let (seq, reason) = self.cancel()?;
+                Ok(Event::Cancel(seq, reason))
+            }
+            Kind::Ready => {
+                let (seq, device) = self.answer()?;
+                Ok(Event::Ready(seq, device))
+            }
+            Kind::Done => {
+                let (seq, device) = self.answer()?;
+                Ok(Event::Done(seq, device))
+            }
+            Kind::LetGo => {
+                let (seq, device) = self.answer()?;
+                Ok(Event::LetGo(seq, device))
+            }
+            Kind::Failed => {
+                let (seq, device) = self.answer()?;
+                Ok(Event::Failed(seq, device))
+            }
+        }
+    }
+
+    #[tactic(auto, unfolding(crate::specs::BatchReading::event_at))]
+    fn event(&mut self, alloc: Global) -> Result<Event, ReadFault>
+        ensures { Gives (λ x. (x, self.new.rest.now)) result (event_at self.old.rest.now) }
+    {
+        let kind = self.kind()?;
+        self.body(alloc, kind)
+    }
+
+    // A count of events.
+    #[tactic(auto, unfolding(crate::specs::BatchReading::event_count_at))]
+    fn event_count(&mut self) -> Result<u16, ReadFault>
+        ensures { Gives (λ x. (x, self.new.rest.now)) result (event_count_at self.old.rest.now) }
+    {
+        let count = self.u16()?;
+        if count < 1 || usize::from(count) > MAX_EVENTS {
+            return Err(ReadFault::Malformed);
+        }
+        Ok(count)
+    }
+
+    // So many events.
+    fn event_list(&mut self, alloc: Global, count: u16) -> Result<Vec<Event>, ReadFault>
+        ensures { Gives (λ x. (x.items, self.new.rest.now)) result (list_at event_at count self.old.rest.now) }
+    {
+        let mut events = Vec::new(alloc);
+        for _ in 0..count {
+            let event = self.event(alloc)?;
+            events.push(event)?;
+        }
+        Ok(events)
+    }
+}
+
+/// The events of the bytes, all of the bytes.
+#[tactic(auto, unfolding(crate::specs::BatchReading::batch_of))]
+pub fn batch_of(alloc: Global, bytes: &[u8]) -> Result<Batch, ReadFault>
+    ensures { Gives (λ batch. batch) result (batch_of bytes.now) }
+{
+    let mut reader = Reader { rest: bytes };
+    let count = reader.event_count()?;
+    let events = reader.event_list(alloc, count)?;
+    if !reader.rest.is_empty() {
+        return Err(ReadFault::Malformed);
+    }
+    Ok(Batch::from_vec(events))
+}

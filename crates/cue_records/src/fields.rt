@@ -1,0 +1,11 @@
+//! The fields of a text: how each is read, written and measured.
+
+mod length;
+mod reader;
+mod writing;
+
+pub use length::{cue_len, parts_len};
+pub use reader::Reader;
+pub use writing::{
+    put_byte, put_cue, put_entry, put_new_cue, put_numbered, put_u32, reason_number,
+};

@@ -1,0 +1,84 @@
+//! The numbers of outcomes, stages and answers.
+ghost use Rattle.std.specs.Prelude.{◌≡◌};
+ghost use Rattle.cue_records.specs.State.{outcome_number, stage_number, answer_number};
+ghost use Rattle.cue_records.specs.StateReading.{outcome_of, stage_of, answer_of};
+
+use crate::fields::reason_number;
+use cue_exchange::attempt::{Answer, Outcome, Reason, Stage};
+
+/// The number of an outcome.
+pub fn outcome_number(outcome: Outcome) -> u8
+    ensures { result ≡ outcome_number outcome }
+{
+    match outcome {
+        Outcome::Complete => 1,
+        Outcome::Cancelled => 2,
+        Outcome::Failed => 3,
+    }
+}
+
+/// The outcome with the number.
+pub fn outcome_of(number: u8) -> Option<Outcome>
+    ensures { result ≡ outcome_of number }
+{
+    match number {
+        1 => Some(Outcome::Complete),
+        2 => Some(Outcome::Cancelled),
+        3 => Some(Outcome::Failed),
+        _ => None,
+    }
+}
+
+/// The number of a stage.
+pub fn stage_number(stage: Stage) -> u8
+    ensures { result ≡ stage_number stage }
+{
+    match stage {
+        Stage::Preparing => 1,
+        Stage::Decided => 2,
+        Stage::Cancelling(reason) => 2 + reason_number(reason),
+    }
+}
+
+/// The stage with the number.
+pub fn stage_of(number: u8) -> Option<Stage>
+    ensures { result ≡ stage_of number }
+{
+    match number {
+        1 => Some(Stage::Preparing),
+        2 => Some(Stage::Decided),
+        3 => Some(Stage::Cancelling(Reason::Operator)),
+        4 => Some(Stage::Cancelling(Reason::Deadline)),
+        5 => Some(Stage::Cancelling(Reason::Abort)),
+        6 => Some(Stage::Cancelling(Reason::Power)),
+        7 => Some(Stage::Cancelling(Reason::Release)),
+        _ => None,
+    }
+}
+
+/// The number of an answer.
+pub fn answer_number(answer: Answer) -> u8
+    ensures { result ≡ answer_number answer }
+{
+    match answer {
+        Answer::Waiting => 0,
+        Answer::Ready => 1,
+        Answer::Done => 2,
+        Answer::LetGo => 3,
+        Answer::Failed => 4,
+    }
+}
+
+/// The answer with the number.
+pub fn answer_of(number: u8) -> Option<Answer>
+    ensures { result ≡ answer_of number }
+{
+    match number {
+        0 => Some(Answer::Waiting),
+        1 => Some(Answer::Ready),
+        2 => Some(Answer::Done),
+        3 => Some(Answer::LetGo),
+        4 => Some(Answer::Failed),
+        _ => None,
+    }
+}

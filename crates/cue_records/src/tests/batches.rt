@@ -1,0 +1,122 @@
+//! Batches that are read, measured and written again.
+
+use super::{bytes, told};
+use crate::laws::acceptable_events_fit;
+use crate::{Batch, Bytes, ReadFault, batch_len, read_batch, write_batch};
+use cue_core::{Event, State};
+use cue_show::{DeviceNo, Part, Parts};
+use std::alloc::{AllocError, Global};
+use std::process::Abort;
+use std::test::Fail;
+
+// The text of a batch, and its events in words.
+const BATCHES: &str = "\
+0001 01 03 2329 = Device 3 9001
+0002 01 03 2329 03 0131 01 03 02 0a0b = Device 3 9001 Cue 1 3[10, 11]
+0002 0a 00000001 03 0c 00000001 03 = Cancel 1 Abort Failed 1 3
+0002 06 00000001 0131 0000000000002af8 0a 00000001 01 = Start 1 1 11000 Cancel 1 Operator
+0001 01 00 0001 = Device 0 1
+0001 01 6f ffff = Device 111 65535
+0001 02 04 = NoDevice 4
+0001 03 0131 02 03 02 0a0b 04 00 = Cue 1 3[10, 11] 4[]
+0001 04 03 312e32 = NoCue 1.2
+0001 05 10 31323334353637383930313233343536 = Place 1234567890123456
+0001 06 7fffffff 0132 ffffffffffffffff = Start 2147483647 2 18446744073709551615
+0001 07 00000001 03 = Ready 1 3
+0001 08 01020304 = Go 16909060
+0001 09 00000002 6f = Done 2 111
+0001 0a 00000001 02 = Cancel 1 Deadline
+0001 0a 00000001 04 = Cancel 1 Power
+0001 0a 00000001 05 = Cancel 1 Release
+0001 0b 00000100 04 = LetGo 256 4
+0001 0c 00010000 05 = Failed 65536 5";
+
+// The batch is as the words say, and its text is these bytes.
+fn assert_batch(
+    rt: &impl Abort,
+    alloc: Global,
+    bytes: &[u8],
+    words: &str,
+) -> Result<(), ReadFault> {
+    let batch = read_batch(alloc, bytes)?;
+    let text = told::of_batch(alloc, &batch)?;
+    assert_eq!(rt; text.trim(), words);
+    assert_eq!(rt; batch_len(batch.as_slice()), bytes.len() as u64, "{words}");
+    let again = write_batch(alloc, batch.as_slice())?;
+    assert_eq!(rt; again.as_slice(), bytes, "{words}");
+    Ok(())
+}
+
+#[test]
+fn each_kind_of_event(rt: HostRuntime) -> Result<(), Fail> {
+    let alloc = rt.alloc();
+    for line in BATCHES.lines() {
+        let (digits, words) = line.split_once(" = ").ok_or("no line of the table")?;
+        assert_batch(&rt, alloc, &bytes(alloc, digits)?, words)?;
+    }
+    Ok(())
+}
+
+// The text of an event that may happen to the state.
+fn text_of(alloc: Global, state: &State, event: Event) -> Result<Bytes, Fail> {
+    acceptable_events_fit();
+    // Called for its clause that the state keeps the rules.
+    let _last = state.last_seq();
+    if !state.can_apply(&event) {
+        return Err("the event is not acceptable".into());
+    }
+    Ok(write_batch(alloc, &[event])?)
+}
+
+#[test]
+fn an_event_that_may_happen(rt: HostRuntime) -> Result<(), Fail> {
+    let alloc = rt.alloc();
+    let device = DeviceNo::of_byte(3).ok_or("a device number")?;
+    let text = text_of(alloc, &State::empty(alloc), Event::Device(device, 9001))?;
+    assert_eq!(rt; text.as_slice(), [0, 1, 1, 3, 0x23, 0x29].as_slice());
+    let text = Bytes::from_vec(text.into_vec());
+    assert_eq!(rt; text.as_slice().len(), 6);
+    Ok(())
+}
+
+// A batch of so many events, each a Go of attempt 1.
+fn many(alloc: Global, count: u16) -> Result<Vec<u8>, AllocError> {
+    let mut text = Vec::new(alloc);
+    text.extend_from_slice(&count.to_be_bytes())?;
+    for _ in 0..count {
+        text.extend_from_slice(&[8, 0, 0, 0, 1])?;
+    }
+    Ok(text)
+}
+
+#[test]
+fn a_batch_has_at_most_1024_events(rt: HostRuntime) -> Result<(), Fail> {
+    let alloc = rt.alloc();
+    let text = many(alloc, 1024)?;
+    let batch = read_batch(alloc, &text)?;
+    assert_eq!(rt; batch.as_slice().len(), 1024);
+    assert_eq!(rt; batch_len(batch.as_slice()), 5122);
+    let again = write_batch(alloc, batch.as_slice())?;
+    assert_eq!(rt; again.as_slice(), text.as_slice());
+    let found = read_batch(alloc, &many(alloc, 1025)?).err();
+    assert_eq!(rt; found, Some(ReadFault::Malformed));
+    Ok(())
+}
+
+#[test]
+fn events_out_of_range_are_measured(rt: HostRuntime) -> Result<(), Fail> {
+    let alloc = rt.alloc();
+    assert_eq!(rt; batch_len(&[]), 2);
+    assert_eq!(rt; batch_len(&[Event::Go(0), Event::Go(0)]), 12);
+    let device = DeviceNo::of_byte(3).ok_or("a device number")?;
+    let long: Vec<u8> = vec![in alloc; 7; 300]?;
+    let mut parts = Parts::new(alloc);
+    for _ in 0..300 {
+        parts.push(Part::of(alloc, device, &long)?)?;
+    }
+    let cue = cue_show::CueNo::read(b"1").ok_or("a cue number")?;
+    let batch = Batch::from_vec(vec![in alloc; Event::Cue(cue, parts)]?);
+    assert_eq!(rt; batch_len(batch.as_slice()), 2 + 1 + 2 + 1 + 300 * 302);
+    assert_eq!(rt; batch.into_vec().len(), 1);
+    Ok(())
+}

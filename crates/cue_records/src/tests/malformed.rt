@@ -1,0 +1,90 @@
+//! Bytes that are the text of no batch.
+
+use super::bytes;
+use crate::{ReadFault, StateFault, read_batch};
+use std::alloc::Global;
+use std::process::Abort;
+use std::test::Fail;
+
+// Each with what is wrong with it.
+const MALFORMED: &str = "\
+0001 00 00000001 = kind 0
+0001 0d 00000001 03 = kind 13
+0001 01 70 2329 = device 112
+0001 02 ff = device 255
+0001 01 03 0000 = port 0
+0001 04 00 = an empty cue number
+0001 04 01 61 = a letter
+0001 05 02 312e = a point at the end
+0001 05 11 3132333435363738393031323334353637 = 17 digits
+0001 03 0131 00 = no part
+0001 03 0131 11 0000 0100 0200 0300 0400 0500 0600 0700 0800 0900 0a00 0b00 0c00 0d00 0e00 0f00 1000 = 17 parts
+0001 03 0131 01 03 21 000102030405060708090a0b0c0d0e0f101112131415161718191a1b1c1d1e1f20 = 33 bytes
+0001 03 0131 02 03 00 03 00 = a device twice
+0001 03 0131 03 03 00 04 00 03 00 = a device twice, not side by side
+0001 08 00000000 = number 0
+0001 08 80000000 = number 2147483648
+0001 07 00000000 03 = number 0 of an answer
+0001 0a 00000001 00 = reason 0
+0001 0a 00000001 06 = reason 6
+0000 = no event
+0000 08 00000001 = a count of 0
+0001 08 00000001 00 = a byte more
+0001 08 00000001 08 00000002 = an event more
+0002 08 00000001 = an event less";
+
+// Batches that are read: each beginning of one is malformed, and so is one with a byte more.
+const WHOLE: &str = "\
+0002 01 03 2329 03 0131 01 03 02 0a0b
+0002 06 00000001 0131 0000000000002af8 0a 00000001 01
+0001 03 0131 10 0000 0100 0200 0300 0400 0500 0600 0700 0800 0900 0a00 0b00 0c00 0d00 0e00 0f00
+0001 03 0131 01 03 20 000102030405060708090a0b0c0d0e0f101112131415161718191a1b1c1d1e1f
+0003 07 00000001 03 09 00000001 03 0b 00000001 03";
+
+fn assert_malformed(rt: &impl Abort, alloc: Global, bytes: &[u8], what: &str) {
+    let found = read_batch(alloc, bytes).err();
+    assert_eq!(rt; found, Some(ReadFault::Malformed), "{what}");
+}
+
+#[test]
+fn texts_of_no_batch(rt: HostRuntime) -> Result<(), Fail> {
+    let alloc = rt.alloc();
+    for line in MALFORMED.lines() {
+        let (digits, what) = line.split_once(" = ").ok_or("no line of the table")?;
+        assert_malformed(&rt, alloc, &bytes(alloc, digits)?, what);
+    }
+    Ok(())
+}
+
+#[test]
+fn texts_that_are_cut_or_go_on(rt: HostRuntime) -> Result<(), Fail> {
+    let alloc = rt.alloc();
+    for digits in WHOLE.lines() {
+        let mut text = bytes(alloc, digits)?;
+        assert_eq!(rt; read_batch(alloc, &text).err(), None, "{digits}");
+        for len in 0..text.len() {
+            assert_malformed(&rt, alloc, &text[..len], digits);
+        }
+        text.push(0)?;
+        assert_malformed(&rt, alloc, &text, digits);
+    }
+    Ok(())
+}
+
+#[test]
+fn faults_in_words(rt: HostRuntime) -> Result<(), Fail> {
+    let alloc = rt.alloc();
+    let text = format!(in alloc; "{}; {}", ReadFault::Malformed, ReadFault::Memory)?;
+    assert_eq!(rt;
+        text.as_str(),
+        "the bytes are no batch of events; out of memory"
+    );
+    let text = format!(in alloc; "{}; {}", StateFault::Version, StateFault::Malformed)?;
+    assert_eq!(rt;
+        text.as_str(),
+        "the text is of another version; the bytes are no state"
+    );
+    let text = format!(in alloc; "{}", StateFault::Memory)?;
+    assert_eq!(rt; text.as_str(), "out of memory");
+    Ok(())
+}

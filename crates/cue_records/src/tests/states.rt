@@ -1,0 +1,169 @@
+//! States that are read and written again, and bytes that are the text of none.
+
+use super::{bytes, told};
+use crate::{StateFault, read_batch, read_state, write_state};
+use cue_core::{Event, State};
+use std::alloc::{AllocError, Global};
+use std::process::Abort;
+use std::test::Fail;
+
+// The text of a state, and the state in words.
+const STATES: &str = "\
+01 00 0000 00 00000000 0000000000 00 = devices, place -, last 0, ended -
+01 01032329 0002 0131010300 0132010300 0131 00000000 0000000000 00 = devices 3:9001, cue 1 3[], cue 2 3[], place 1, last 0, ended -
+01 02 032329 04232a 0001 013102 03020a0b 0400 00 00000001 0000000000 01 00000001 0131 0000000000002af8 01 0000 = devices 3:9001 4:9002, cue 1 3[10, 11] 4[], place -, last 1, ended -, attempt 1 1 until 11000 Preparing 3 Waiting 4 Waiting
+01 02 032329 04232a 0001 013102 0300 0400 00 00000009 0000000803 01 00000009 0131 0000000000000000 01 0100 = devices 3:9001 4:9002, cue 1 3[] 4[], place -, last 9, ended 8 Failed, attempt 9 1 until 0 Preparing 3 Ready 4 Waiting
+01 02 032329 04232a 0001 013102 0300 0400 00 00000009 0000000102 01 00000002 0131 0000000000000000 02 0002 = devices 3:9001 4:9002, cue 1 3[] 4[], place -, last 9, ended 1 Cancelled, attempt 2 1 until 0 Decided 3 Waiting 4 Done
+01 02 032329 04232a 0002 01310103 00 01320104 00 0132 7fffffff 7fffffff01 02 00000001 0131 0000000000000000 03 00 00000002 0132 ffffffffffffffff 07 00 = devices 3:9001 4:9002, cue 1 3[], cue 2 4[], place 2, last 2147483647, ended 2147483647 Complete, attempt 1 1 until 0 Cancelling(Operator) 3 Waiting, attempt 2 2 until 18446744073709551615 Cancelling(Release) 4 Waiting
+01 02 032329 04232a 0001 013102 0300 0400 00 00000001 0000000000 01 00000001 0131 0000000000000000 04 0300 = devices 3:9001 4:9002, cue 1 3[] 4[], place -, last 1, ended -, attempt 1 1 until 0 Cancelling(Deadline) 3 LetGo 4 Waiting
+01 02 032329 04232a 0001 013102 0300 0400 00 00000001 0000000000 01 00000001 0131 0000000000000000 05 0004 = devices 3:9001 4:9002, cue 1 3[] 4[], place -, last 1, ended -, attempt 1 1 until 0 Cancelling(Abort) 3 Waiting 4 Failed
+01 02 032329 04232a 0001 013102 0300 0400 00 00000001 0000000000 01 00000001 0131 0000000000000000 06 0000 = devices 3:9001 4:9002, cue 1 3[] 4[], place -, last 1, ended -, attempt 1 1 until 0 Cancelling(Power) 3 Waiting 4 Waiting";
+
+// Each with what is wrong with it.
+const MALFORMED: &str = "\
+01 01 702329 0000 00 00000000 0000000000 00 = device 112
+01 01 030000 0000 00 00000000 0000000000 00 = port 0
+01 02 032329 03232a 0000 00 00000000 0000000000 00 = a device twice
+01 01 032329 0001 0131010400 00 00000000 0000000000 00 = a part of no device of the table
+01 01 032329 0001 013100 00 00000000 0000000000 00 = no part
+01 01 032329 0002 0131010300 0131010300 00 00000000 0000000000 00 = a cue twice
+01 00 0000 0131 00000000 0000000000 00 = a place that is no cue of the stack
+01 00 0000 00 80000000 0000000000 00 = last number 2147483648
+01 00 0000 00 00000001 0000000001 00 = ended number 0 with an outcome
+01 00 0000 00 00000001 0000000100 00 = ended number 1 with no outcome
+01 00 0000 00 00000001 0000000104 00 = outcome 4
+01 00 0000 00 00000001 0000000201 00 = ended number above the last
+01 01 032329 0001 0131010300 00 00000000 0000000000 01 00000001 0131 0000000000000000 01 00 = attempt above the last number
+01 01 032329 0001 0131010300 00 00000001 0000000000 01 00000000 0131 0000000000000000 01 00 = attempt 0
+01 01 032329 0001 0131010300 00 00000001 0000000000 01 00000001 0132 0000000000000000 01 00 = attempt at no cue of the stack
+01 01 032329 0001 0131010300 00 00000001 0000000000 01 00000001 0131 0000000000000000 00 00 = stage 0
+01 01 032329 0001 0131010300 00 00000001 0000000000 01 00000001 0131 0000000000000000 08 00 = stage 8
+01 01 032329 0001 0131010300 00 00000001 0000000000 01 00000001 0131 0000000000000000 01 05 = answer 5
+01 01 032329 0001 0131010300 00 00000001 0000000000 01 00000001 0131 0000000000000000 01 02 = Done while Preparing
+01 01 032329 0001 0131010300 00 00000001 0000000000 01 00000001 0131 0000000000000000 02 01 = Ready while Decided
+01 01 032329 0001 0131010300 00 00000001 0000000000 01 00000001 0131 0000000000000000 02 02 = no device waits
+01 01 032329 0001 0131010300 00 00000001 0000000101 01 00000001 0131 0000000000000000 01 00 = the attempt that ended is live
+01 02 032329 04232a 0002 0131010300 0132010400 00 00000002 0000000000 02 00000002 0131 0000000000000000 01 00 00000001 0132 0000000000000000 01 00 = numbers that fall
+01 02 032329 04232a 0002 0131010300 0132010400 00 00000002 0000000000 02 00000002 0131 0000000000000000 01 00 00000002 0132 0000000000000000 01 00 = a number twice
+01 01 032329 0002 0131010300 0132010300 00 00000002 0000000000 02 00000001 0131 0000000000000000 01 00 00000002 0132 0000000000000000 01 00 = a device in two attempts";
+
+// The state is as the words say, and its text is these bytes.
+fn assert_state(
+    rt: &impl Abort,
+    alloc: Global,
+    state: &State,
+    bytes: &[u8],
+    words: &str,
+) -> Result<(), AllocError> {
+    let text = told::of_state(alloc, state)?;
+    assert_eq!(rt; text.as_str(), words);
+    let again = write_state(alloc, state)?;
+    assert_eq!(rt; again.as_slice(), bytes, "{words}");
+    Ok(())
+}
+
+// The bytes are read as the state that the words say, which is written as these bytes.
+fn assert_read(
+    rt: &impl Abort,
+    alloc: Global,
+    bytes: &[u8],
+    words: &str,
+) -> Result<(), AllocError> {
+    let state = read_state(alloc, bytes).expect(rt, "it is a state");
+    assert_state(rt, alloc, &state, bytes, words)
+}
+
+#[test]
+fn states_are_read_and_written(rt: HostRuntime) -> Result<(), Fail> {
+    let alloc = rt.alloc();
+    for line in STATES.lines() {
+        let (digits, words) = line.split_once(" = ").ok_or("no line of the table")?;
+        assert_read(&rt, alloc, &bytes(alloc, digits)?, words)?;
+    }
+    Ok(())
+}
+
+// The state is the one of the line.
+fn assert_line(rt: &impl Abort, alloc: Global, state: &State, line: usize) -> Result<(), Fail> {
+    let line = STATES.lines().nth(line).ok_or("no such line")?;
+    let (digits, words) = line.split_once(" = ").ok_or("no line of the table")?;
+    let text = bytes(alloc, digits)?;
+    assert_state(rt, alloc, state, &text, words)?;
+    Ok(())
+}
+
+// Applies the events of a batch.
+fn apply(rt: &impl Abort, state: &mut State, events: &[Event]) -> Result<(), AllocError> {
+    for event in events {
+        assert!(rt; state.can_apply(event));
+        state.apply(event)?;
+    }
+    Ok(())
+}
+
+// The devices 3 and 4, the cue 1 for both, and a start at it.
+const EVENTS: &str = "0004 01032329 0104232a 0301310203020a0b0400 06000000010131 0000000000002af8";
+
+fn assert_after_events(rt: &impl Abort, alloc: Global, state: &mut State) -> Result<(), Fail> {
+    assert_line(rt, alloc, state, 0)?;
+    let text = bytes(alloc, EVENTS)?;
+    let batch = read_batch(alloc, &text)?;
+    apply(rt, state, batch.as_slice())?;
+    assert_line(rt, alloc, state, 2)
+}
+
+#[test]
+fn a_state_that_events_make(rt: HostRuntime) -> Result<(), Fail> {
+    let mut state = State::empty(rt.alloc());
+    assert_after_events(&rt, rt.alloc(), &mut state)
+}
+
+fn assert_refused(rt: &impl Abort, alloc: Global, bytes: &[u8], fault: StateFault, what: &str) {
+    let found = read_state(alloc, bytes).err();
+    assert_eq!(rt; found, Some(fault), "{what}");
+}
+
+#[test]
+fn texts_of_no_state(rt: HostRuntime) -> Result<(), Fail> {
+    let alloc = rt.alloc();
+    for line in MALFORMED.lines() {
+        let (digits, what) = line.split_once(" = ").ok_or("no line of the table")?;
+        assert_refused(
+            &rt,
+            alloc,
+            &bytes(alloc, digits)?,
+            StateFault::Malformed,
+            what,
+        );
+    }
+    assert_refused(&rt, alloc, &[], StateFault::Malformed, "no byte");
+    Ok(())
+}
+
+#[test]
+fn texts_that_are_cut_or_go_on(rt: HostRuntime) -> Result<(), Fail> {
+    let alloc = rt.alloc();
+    for line in STATES.lines() {
+        let (digits, _) = line.split_once(" = ").ok_or("no line of the table")?;
+        let mut text = bytes(alloc, digits)?;
+        for len in 0..text.len() {
+            assert_refused(&rt, alloc, &text[..len], StateFault::Malformed, digits);
+        }
+        text.push(0)?;
+        assert_refused(&rt, alloc, &text, StateFault::Malformed, digits);
+    }
+    Ok(())
+}
+
+// The text of the empty state.
+const EMPTY: [u8; 15] = [1, 0, 0, 0, 0, 0, 0, 0, 0, 0, 0, 0, 0, 0, 0];
+
+#[test]
+fn texts_of_another_version(rt: HostRuntime) {
+    for version in [0, 2, 3, 255] {
+        let mut text = EMPTY;
+        text[0] = version;
+        assert_refused(&rt, rt.alloc(), &text, StateFault::Version, "a whole text");
+        assert_refused(&rt, rt.alloc(), &[version], StateFault::Version, "one byte");
+    }
+}

@@ -1,4 +1,4 @@
-use Rattle.std.proofs.Common.{◌≡◌, [], ◌∷◌, true, refl, sym, ◌∙◌}
+use Rattle.std.proofs.Common.{◌≡◌, [], ◌∷◌, true, refl}
 use Rattle.cue_core.specs.Steps.{acceptable}
 use Rattle.cue_records.proofs.tests.batches.text_of.Goals as goal
 

@@ -6,6 +6,7 @@ use cue_log::Record;
 impl<D: Disk> Snap<D> {
     ghost use Rattle.std.specs.Prelude.{◌≡◌, ◌≤◌, ◌+◌, ◌↔◌, false, length, IsTrue};
     ghost use Rattle.cue_log.specs.declared.area.TheConstants.{AREA_LIMIT};
+    ghost use Rattle.cue_log.specs.Area.{area_text};
     ghost use Rattle.cue_snap.specs.Pair.{PairLeaves};
     ghost use Rattle.cue_snap.specs.Words.{live_of, spare_of, first_of, second_of, generation_of, end_of, count_of, is_broken, area_of};
 
@@ -39,7 +40,9 @@ impl<D: Disk> Snap<D> {
         ensures reads { D.is_honest (live_of self.now) → D.is_honest (spare_of self.now) → is_broken self.now ≡ false
             → PairLeaves (D.held (live_of self.now)) (D.held (spare_of self.now)) (area_of D.held self.now) }
         ensures numbered { D.is_honest (live_of self.now) → is_broken self.now ≡ false → generation_of self.now ≡ (area_of D.held self.now).generation }
+        ensures ends { D.is_honest (live_of self.now) → is_broken self.now ≡ false → end_of self.now ≡ length (area_text (area_of D.held self.now)) }
     {
+        let _broken = self.log.is_broken();
         self.broken
     }
 

@@ -1,42 +1,15 @@
 -- What a store that is opened and then closed comes to.
-use Rattle.std.proofs.Common.{◌≡◌, inr, ℕ, ◌+◌, ◌-◌, ◌^◌, ◌≤◌, ◌<◌, List, length, Result, Ok, Err, false, ◌∙◌, sym, ap, subst, arith, IsTrue}
-use Rattle.cue_disk.specs.Disk.{Contents, IsImage, MoreFailures}
-use Rattle.cue_log.specs.Area.{Area, area_text}
+use Rattle.std.proofs.Common.{◌≡◌, inr, ℕ, ◌+◌, ◌-◌, ◌^◌, ◌<◌, List, length, Result, Ok, Err, ◌∙◌, sym, subst, IsTrue}
+use Rattle.cue_disk.specs.Disk.{Contents, IsImage}
+use Rattle.cue_log.specs.Area.{area_text}
 use Rattle.cue_log.specs.declared.area.TheConstants.{AREA_LIMIT}
-use Rattle.cue_snap.specs.Pair.{IsSpoiled, NeitherHas}
 use Rattle.cue_snap.specs.Words.{first_after, second_after}
-use Rattle.cue_snap.proofs.Reader.{one_of_a_pair, good_pair}
 use Rattle.cue_core.specs.State.{Standing}
-use Rattle.cue_records.specs.State.{is_other_version, state_text}
+use Rattle.cue_records.specs.State.{state_text}
 use Rattle.cue_keeper.specs.Due.{is_due}
-use Rattle.cue_keeper.specs.Refusals.{HasOtherVersion, StandsForNone}
-use Rattle.cue_keeper.specs.Stands.{StandsFor, Stands, StandsEither, IsKept}
+use Rattle.cue_keeper.specs.Stands.{Stands, StandsEither, IsKept}
 use Rattle.cue_engine.specs.Given.{closed}
 use Rattle.cue_engine.specs.Recovery.{IsLeftOrStands, NeedsArea, NoGenerationLeft, NoRoomLeft, RefusedBut, cancels_length}
-
--- a count that rose later has risen since
-pub more_since : (old mid new : ℕ) → old ≤ mid → MoreFailures mid new → MoreFailures old new
-more_since old mid new le more = omega (arith, le, more)
-
--- ---- two that stand for a state are not refused
-
-pub not_spoiled : (x y : List ℕ) (s : Standing) → Stands x y s → IsSpoiled x y → ⊥
-not_spoiled x y s stands spoiled = (good_pair stands.area x y stands.reads).1 spoiled
-
-pub not_unformed : (x y : List ℕ) (s : Standing) → Stands x y s → NeitherHas x y → ⊥
-not_unformed x y s stands neither = (good_pair stands.area x y stands.reads).0 neither
-
-pub not_malformed : (x y : List ℕ) (s : Standing) → Stands x y s → StandsForNone x y → ⊥
-not_malformed x y s stands bad =
-    let same : stands.area ≡ bad.area = one_of_a_pair stands.area bad.area x y stands.reads bad.reads in
-    bad.none s (subst (λ (a : Area). StandsFor a s) same stands.stands)
-
-pub not_other_version : (x y : List ℕ) (s : Standing) → Stands x y s → HasOtherVersion x y → ⊥
-not_other_version x y s stands other =
-    let same : stands.area ≡ other.area = one_of_a_pair stands.area other.area x y stands.reads other.reads in
-    let text = sym (ap (λ (a : Area). a.snapshot) same) ∙ stands.stands.base_text in
-    let h : IsTrue false = subst (λ (bytes : List ℕ). IsTrue (is_other_version bytes)) text other.version in
-    cc
 
 -- ---- what a crash leaves
 

@@ -6,10 +6,11 @@ use Rattle.cue_keeper.specs.declared.fault.StoreFault.TheVariants as fault
 use Rattle.cue_keeper.specs.Stands.{StandsEither}
 use Rattle.cue_keeper.specs.Words as kept
 use Rattle.cue_keeper.proofs.Moving.{opened_then, leaves_weaker}
+use Rattle.cue_keeper.proofs.Refused.{is_opened}
 use Rattle.cue_engine.specs.Given.{closed}
 use Rattle.cue_engine.specs.Recovery.{IsLeftOrStands}
 use Rattle.cue_engine.specs.Words.{first_of, second_of}
-use Rattle.cue_engine.proofs.Reopened.{left_or_stands, unwritten, not_spoiled, not_unformed, not_malformed, not_other_version}
+use Rattle.cue_engine.proofs.Reopened.{left_or_stands, unwritten}
 use Rattle.cue_engine.proofs.engine.Engine.recover.Goals as goal
 
 pub returns-in-Ok-clause-any_moment : goal.returns-in-Ok-clause-any_moment
@@ -37,12 +38,12 @@ returns-in-Ok-clause-unwritten g c = λ first second.
 
 pub returns-in-Err-clause-readable : goal.returns-in-Err-clause-readable
 returns-in-Err-clause-readable g c = λ first second s stands.
-    let x = (g.D.Disk.held c.args.first).bytes in
-    let y = (g.D.Disk.held c.args.second).bytes in (
-      λ refused. not_unformed x y s stands (c.in-Err.ensures.unformed first second refused),
-      λ refused. not_spoiled x y s stands (c.in-Err.ensures.damaged first second refused),
-      λ refused. not_other_version x y s stands (c.in-Err.ensures.version first second refused),
-      λ refused. not_malformed x y s stands (c.in-Err.ensures.malformed first second refused),
+    let never = is_opened (g.D.Disk.held c.args.first).bytes (g.D.Disk.held c.args.second).bytes s stands in
+    let told = c.in-Err.ensures in (
+      λ refused. never.0 (told.unformed first second refused),
+      λ refused. never.1 (told.damaged first second refused),
+      λ refused. never.2 (told.version first second refused),
+      λ refused. never.3 (told.malformed first second refused),
     )
 
 pub returns-in-Err-clause-any_moment : goal.returns-in-Err-clause-any_moment

@@ -9,33 +9,18 @@ ghost use Rattle.cue_snap.specs.Pair.{NeitherHas, SomeIsThere};
 
 use cue_disk::{Disk, DiskFault};
 use cue_log::{Log, close, is_absent};
-use std::error::Error;
-use std::fmt;
+use thiserror::Error;
 
 /// Why a pair is not formed.
-#[derive(Clone, Copy, Debug, PartialEq, Eq)]
+#[derive(Clone, Copy, Debug, PartialEq, Eq, Error)]
 pub enum FormFault {
     /// A disk has an area, or a damaged one. Nothing was written.
+    #[error("a disk has an area already")]
     NotEmpty,
     /// A device call failed.
+    #[error("the disk failed")]
     Disk,
 }
-
-impl fmt::Display for FormFault {
-    ghost use Rattle.std.specs.Prelude.{Some};
-    ghost use Rattle.cue_snap.specs.Faults.{form_fault_text};
-
-    ghost output = { λ fault. Some (form_fault_text fault) };
-
-    fn fmt<W: fmt::Write>(&self, f: &mut fmt::Formatter<W>) -> fmt::Result {
-        match self {
-            FormFault::NotEmpty => write!(f, "a disk has an area already"),
-            FormFault::Disk => write!(f, "the disk failed"),
-        }
-    }
-}
-
-impl Error for FormFault {}
 
 impl From<DiskFault> for FormFault {
     ghost use Rattle.std.specs.Prelude.{◌≡◌};

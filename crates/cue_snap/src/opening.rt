@@ -10,39 +10,24 @@ use crate::snap::Snap;
 use cue_disk::Disk;
 use cue_log::{Log, OpenFault as AreaFault, Records, Snapshot};
 use std::alloc::Global;
-use std::error::Error;
-use std::fmt;
+use thiserror::Error;
 
 /// Why a pair is not opened.
-#[derive(Clone, Copy, Debug, PartialEq, Eq)]
+#[derive(Clone, Copy, Debug, PartialEq, Eq, Error)]
 pub enum OpenFault {
     /// An area is damaged, or both have one generation.
+    #[error("an area is damaged")]
     Damaged,
     /// Neither disk has an area.
+    #[error("there is no area")]
     Unformed,
     /// A device call failed.
+    #[error("the disk failed")]
     Disk,
     /// Out of memory.
+    #[error("out of memory")]
     Memory,
 }
-
-impl fmt::Display for OpenFault {
-    ghost use Rattle.std.specs.Prelude.{Some};
-    ghost use Rattle.cue_snap.specs.Faults.{open_fault_text};
-
-    ghost output = { λ fault. Some (open_fault_text fault) };
-
-    fn fmt<W: fmt::Write>(&self, f: &mut fmt::Formatter<W>) -> fmt::Result {
-        match self {
-            OpenFault::Damaged => write!(f, "an area is damaged"),
-            OpenFault::Unformed => write!(f, "there is no area"),
-            OpenFault::Disk => write!(f, "the disk failed"),
-            OpenFault::Memory => write!(f, "out of memory"),
-        }
-    }
-}
-
-impl Error for OpenFault {}
 
 /// A pair that was opened, and what its live area held.
 #[derive(Drop)]

@@ -9,36 +9,21 @@ use crate::forming::{FormFault, form_first, look};
 use crate::turning::turn;
 use cue_disk::{Disk, DiskFault};
 use cue_log::{AppendFault, Log, Record};
-use std::error::Error;
-use std::fmt;
+use thiserror::Error;
 
 /// Why a pair is not turned over.
-#[derive(Clone, Copy, Debug, PartialEq, Eq)]
+#[derive(Clone, Copy, Debug, PartialEq, Eq, Error)]
 pub enum TurnOverFault {
     /// A device call failed before. Open the pair again.
+    #[error("the pair is broken until it is opened again")]
     Broken,
     /// The live area has the last generation that there is. Nothing has changed.
+    #[error("no generation is left")]
     Exhausted,
     /// A device call failed: the new area is there or it is not. The pair is `Broken` from then on.
+    #[error("the disk failed")]
     Disk,
 }
-
-impl fmt::Display for TurnOverFault {
-    ghost use Rattle.std.specs.Prelude.{Some};
-    ghost use Rattle.cue_snap.specs.Faults.{turn_over_fault_text};
-
-    ghost output = { λ fault. Some (turn_over_fault_text fault) };
-
-    fn fmt<W: fmt::Write>(&self, f: &mut fmt::Formatter<W>) -> fmt::Result {
-        match self {
-            TurnOverFault::Broken => write!(f, "the pair is broken until it is opened again"),
-            TurnOverFault::Exhausted => write!(f, "no generation is left"),
-            TurnOverFault::Disk => write!(f, "the disk failed"),
-        }
-    }
-}
-
-impl Error for TurnOverFault {}
 
 /// Two areas on two disks, of which the one with the higher generation counts: it is live, the other one is spare.
 ///

@@ -3,7 +3,7 @@ ghost use Rattle.std.specs.Prelude.{◌≡◌, ◌≤◌, ◌↔◌, IfOk};
 ghost use Rattle.cue_disk.specs.Disk.{LeavesOnly, IsImage, MoreFailures};
 ghost use Rattle.cue_log.specs.Words.{disk_after};
 ghost use Rattle.cue_snap.specs.Found.{disk_in, IsFound, FoundWorks};
-ghost use Rattle.cue_snap.specs.Words.{FailsAs};
+ghost use Rattle.cue_snap.specs.Words.{FailsAs, CountsOnlyAs};
 
 use crate::choosing::{Found, choose};
 use crate::snap::Snap;
@@ -42,6 +42,7 @@ fn find<D: Disk>(alloc: Global, disk: D) -> Result<Found<D>, (OpenFault, D)>
     ensures found { D.is_honest disk → IfOk result (IsFound D.held) }
     ensures works { IfOk result FoundWorks }
     ensures disk { FailsAs OpenFault.Disk (MoreFailures (D.failures disk) (D.failures (disk_after disk_in result))) result }
+    ensures memory { CountsOnlyAs OpenFault.Disk (D.failures disk) (D.failures (disk_after disk_in result)) result }
     ensures damaged { FailsAs OpenFault.Damaged ⊥ result }
     ensures unformed { FailsAs OpenFault.Unformed ⊥ result }
     ensures any_moment { D.is_honest disk → LeavesOnly D.moment D.held_at disk (disk_after disk_in result) (IsImage (D.held disk)) }
@@ -79,6 +80,8 @@ impl<D: Disk> Snap<D> {
         ensures damaged { D.is_honest first → D.is_honest second → RefusedAs OpenFault.Damaged (IsSpoiled (D.held first).bytes (D.held second).bytes) result }
         ensures unformed { D.is_honest first → D.is_honest second → RefusedAs OpenFault.Unformed (NeitherHas (D.held first).bytes (D.held second).bytes) result }
         ensures disk { RefusedAs OpenFault.Disk (MoreFailures (D.failures first) (D.failures (first_after first_opened result)) ⊎ MoreFailures (D.failures second) (D.failures (second_after second_opened result))) result }
+        // Want of memory hides no fault of a device: each call went through.
+        ensures memory { RefusedAs OpenFault.Memory ((D.failures (first_after first_opened result) ≡ D.failures first) × (D.failures (second_after second_opened result) ≡ D.failures second)) result }
 
         // A stop at any moment leaves of each disk what one at entry might have left.
         ensures first_moments { D.is_honest first → LeavesOnly D.moment D.held_at first (first_after first_opened result) (IsImage (D.held first)) }

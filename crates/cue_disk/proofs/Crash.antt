@@ -2,7 +2,7 @@
 use Rattle.std.proofs.Common.{◌≡◌, ◌⊎◌, ℕ, ◌+◌, ◌-◌, ◌<◌, ◌≤◌, max, List, ◌++◌, length, get_or, take, drop, inl, inr, ⊎_elim, sym, ◌∙◌, ap, subst, arith, length-append, length-drop}
 use Rattle.std.proofs.lemmas.List.{length-take, get_or-take, get_or-drop, get_or_append_left, get_or-append_right, ext_get_or}
 use Rattle.std.proofs.lemmas.Bool.{cases_lt, both_ways}
-use Rattle.cue_disk.specs.Disk.{Contents, IsImage, IsStable, Torn, Writes, overwritten, StopWithinAWrite}
+use Rattle.cue_disk.specs.Disk.{Contents, IsImage, IsStable, Torn, Writes, overwritten, StopWithinAWrite, StopWithinASync}
 
 -- A crash of what is stable leaves what is read.
 pub image_stable : (now : Contents) (image : List ℕ) → IsStable now → IsImage now image → image ≡ now.bytes
@@ -109,4 +109,12 @@ stop_within_a_write at bytes old part whole room does_part does_whole stored all
       left.untouched i (omega (arith, within, does_part.synced, does_whole.synced)) (does_part.elsewhere i outside ∙ sym (does_whole.elsewhere i outside) ∙ clean)
       ∙ torn_elsewhere at (length bytes) old.bytes part.bytes does_part.torn i outside
       ∙ sym (torn_elsewhere at (length bytes) old.bytes whole.bytes does_whole.torn i outside);
+}
+
+-- What a stop within a sync may leave, a crash before it may leave.
+pub stop_within_a_sync : StopWithinASync
+stop_within_a_sync old part some image left = record {
+  no_shorter = omega (arith, left.no_shorter, some.no_less);
+  no_longer = omega (arith, left.no_longer, ap length some.same);
+  untouched = λ i within clean. left.untouched i (omega (arith, within, some.no_less)) (some.untouched i within clean) ∙ ap (λ (l : List ℕ). get_or l i 0) some.same;
 }

@@ -26,6 +26,15 @@ module _ (now : Contents) (image : List ℕ) where
       ∙ sym (ap (λ (k : ℕ). changeable_before now n + k) (cond-false (may_change now n) 1 0 fixed) ∙ omega arith))
       (cases_Bool (may_change now n))
 
+  -- no more of them than places
+  changeable_few : (n : ℕ) → changeable_before now n ≤ n
+  changeable_few zero = omega arith
+  changeable_few (suc n) =
+      ⊎_elim
+      (λ (may : may_change now n ≡ true). omega (arith, changeable_few n, cond-true {A = ℕ} (may_change now n) 1 0 may))
+      (λ (fixed : may_change now n ≡ false). omega (arith, changeable_few n, cond-false {A = ℕ} (may_change now n) 1 0 fixed))
+      (cases_Bool (may_change now n))
+
   -- more of them, the further on the place lies
   before_less : (n i : ℕ) → i < n → may_change now i ≡ true → changeable_before now i < changeable_before now n
   before_less zero i within may = absurd (omega arith)
@@ -104,6 +113,7 @@ module _ (now : Contents) (image : List ℕ) where
     junk = junk_before (length image);
     crashed = made left;
     within = omega (arith, left.no_shorter, left.no_longer);
+    few = omega (arith, length-junk_before (length image), changeable_few (length image));
     bytes = λ bytes. junk_bytes bytes (length image);
   }
 

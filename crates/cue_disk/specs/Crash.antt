@@ -22,12 +22,13 @@ pub record IsCrashed (now : Contents) (extra : ℕ) (junk image : List ℕ) : Ty
   pub long : length image ≡ min (now.synced + extra) (length now.bytes)
   pub each : (i : ℕ) → i < length image → slice_index image i ≡ crashed_byte now junk i
 
--- Some length and some junk make this image, and the junk is of bytes where the image is.
+-- Some length and some junk make this image. The junk is no longer than the image, and of bytes where the image is.
 pub record IsReached (now : Contents) (image : List ℕ) : Type 0 where
   pub extra : ℕ
   pub junk : List ℕ
   pub crashed : IsCrashed now extra junk image
   pub within : now.synced + extra ≤ length now.bytes
+  pub few : length junk ≤ length image
   pub bytes : ((i : ℕ) → slice_index image i < 256) → (i : ℕ) → slice_index junk i < 256
 
 -- Each image is reached.

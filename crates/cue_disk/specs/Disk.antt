@@ -11,7 +11,8 @@
 --   bytes in that range, and any length from the synced one to the full one: whatever a stop within the write leaves
 --   is among what a crash right after it leaves. A promise speaks of every disk, and so of that one too on which the
 --   same write goes through. The law `StopWithinAWrite`, below, is this argument, and it is proved.
--- * Within a sync each byte is as before or made stable. What a stop then leaves, a crash before the sync may leave.
+-- * Within a sync each byte is as before or made stable. What a stop then leaves, a crash before the sync may leave: the law
+--   `StopWithinASync`, below.
 -- * A read and the question for the length change nothing.
 use Rattle.std.specs.Prelude.{◌≡◌, ◌⊎◌, ◌<◌, ◌≤◌, ◌+◌, ◌-◌, ◌^◌, ℕ, min, max, Bool, false, true, List, ◌++◌, length, take, drop, slice_index, Result, MatchResult}
 
@@ -90,6 +91,16 @@ StopWithinAWrite =
     → whole.bytes ≡ overwritten old.bytes at bytes
     → AllTouched at (length bytes) whole
     → (image : List ℕ) → IsImage part image → IsImage whole image
+
+-- A part of a sync: the bytes are the same, and no more of them are left to a crash than before.
+pub record SyncsSome (old part : Contents) : Type 0 where
+  pub same : part.bytes ≡ old.bytes
+  pub no_less : old.synced ≤ part.synced
+  pub untouched : (i : ℕ) → i < old.synced → old.touched i ≡ false → part.touched i ≡ false
+
+-- What a stop within a sync may leave, however far the sync came, a crash before it may leave.
+abbrev pub StopWithinASync : Type 0
+StopWithinASync = (old part : Contents) → SyncsSome old part → (image : List ℕ) → IsImage part image → IsImage old image
 
 -- Of a stable disk a crash leaves what a read gives.
 abbrev pub StableLeavesWhatIsRead : Type 0

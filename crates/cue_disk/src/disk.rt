@@ -11,24 +11,12 @@ ghost use Rattle.cue_disk.specs.Disk.{
   CountsFailure,
 };
 
-use std::error::Error;
-use std::fmt;
+use thiserror::Error;
 
 /// The device failed. The call has no other answer for a failure.
-#[derive(Clone, Copy, Debug, PartialEq, Eq)]
+#[derive(Clone, Copy, Debug, PartialEq, Eq, Error)]
+#[error("the disk failed")]
 pub struct DiskFault;
-
-impl fmt::Display for DiskFault {
-    ghost use Rattle.std.specs.Prelude.{Some, codes};
-
-    ghost output = { λ _. Some (codes "the disk failed") };
-
-    fn fmt<W: fmt::Write>(&self, f: &mut fmt::Formatter<W>) -> fmt::Result {
-        write!(f, "the disk failed")
-    }
-}
-
-impl Error for DiskFault {}
 
 /// A disk: bytes that are written at an offset, and that a crash may change until a sync has succeeded.
 ///
@@ -82,7 +70,8 @@ pub trait Disk {
         ensures count { CountsFailure result (failures self.old) (failures self.new) }
         ensures honest { is_honest self.new ↔ is_honest self.old };
 
-    /// After it a crash leaves what a read gives. A sync that fails makes nothing stable.
+    /// After it a crash leaves what a read gives. After a fault any part of what was written may be on the disk for good,
+    /// and none of it has to be.
     fn sync(&mut self) -> Result<(), DiskFault>
         ensures stable { is_honest self.old → OnOk result (IsStable (held self.new)) }
         ensures bytes { is_honest self.old → (held self.new).bytes ≡ (held self.old).bytes }

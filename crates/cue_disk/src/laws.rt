@@ -1,11 +1,16 @@
 // What follows from the definitions of a crash alone, for every disk.
-ghost use Rattle.cue_disk.specs.Disk.{StopWithinAWrite, StableLeavesWhatIsRead, WriteLeavesTorn};
+ghost use Rattle.cue_disk.specs.Disk.{StopWithinAWrite, StopWithinASync, StableLeavesWhatIsRead, WriteLeavesTorn};
 ghost use Rattle.cue_disk.specs.Plan.{PlanGoesOn};
 
 /// A stop within a write leaves nothing that a crash right after the write may not leave, so that the moments
 /// between calls speak of a stop at any time.
 pub fn stop_within_a_write()
     ensures { StopWithinAWrite }
+{}
+
+/// A stop within a sync leaves nothing that a crash right before the sync may not leave.
+pub fn stop_within_a_sync()
+    ensures { StopWithinASync }
 {}
 
 /// Where the disk is stable a crash leaves what a read gives.

@@ -8,3 +8,4 @@ pub mod Closed
 pub mod Steps
 pub mod Sound
 pub mod Fetched
+pub mod Overwritten

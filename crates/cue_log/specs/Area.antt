@@ -47,11 +47,19 @@ pub record IsArea (area : Area) (bytes : List ℕ) : Type 0 where
   pub generation : area.generation < 2 ^ 64
   pub records : are_records area.payloads ≡ true
 
--- the bytes have no open head gate
+-- No area stands here: there are fewer than two bytes, whatever they are, or the head gate is not open.
 abbrev pub IsAbsent : List ℕ → Type 0
 IsAbsent [] = Unit {0}
 IsAbsent (gate ∷ []) = Unit {0}
 IsAbsent (gate ∷ byte ∷ bytes) = gate ≢ 1
+
+-- what a formed area has: its text, and behind it a gate that is not open
+abbrev pub formed_text : ℕ → List ℕ → List ℕ
+formed_text generation snapshot = 1 ∷ (body_text generation snapshot ++ 0 ∷ [])
+
+-- what a record adds from the last gate on: that gate open, the payload, and a gate that is not open
+abbrev pub record_text : List ℕ → List ℕ
+record_text payload = 1 ∷ (framed payload ++ 0 ∷ [])
 
 -- one record more
 abbrev pub with_payload : Area → List ℕ → Area

@@ -3,6 +3,7 @@ use Rattle.std.specs.Prelude.{◌≡◌, ◌⊎◌, ◌<◌, ℕ, List, Some, sl
 use Rattle.cue_log.specs.Area.{Area, IsArea, IsAbsent}
 use Rattle.cue_log.specs.Reading.{read_area}
 use Rattle.cue_log.specs.Log.{IsDamaged}
+use Rattle.cue_log.specs.declared.area.TheConstants.{AREA_LIMIT, PAYLOAD_LIMIT, OPEN, CLOSED}
 
 -- each cell is a byte
 abbrev pub AreBytes : List ℕ → Type 0
@@ -27,3 +28,7 @@ AnyBytesAnswer = (bytes : List ℕ) → AreBytes bytes → IsAbsent bytes ⊎ ((
 -- An area is not absent.
 abbrev pub NoAreaIsAbsent : Type 0
 NoAreaIsAbsent = (area : Area) (bytes : List ℕ) → IsArea area bytes → IsAbsent bytes → ⊥
+
+-- The limits as numbers: the bytes of the longest area and of the longest payload, and the bytes of an open and of a closed gate.
+abbrev pub LimitsOfAnArea : Type 0
+LimitsOfAnArea = (AREA_LIMIT ≡ 4194304) × (PAYLOAD_LIMIT ≡ 32768) × (OPEN ≡ 1) × (CLOSED ≡ 0)

@@ -6,4 +6,3 @@ pub mod Words
 pub mod Opened
 pub mod Parts
 pub mod Laws
-pub mod Faults

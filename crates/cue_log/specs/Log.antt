@@ -44,6 +44,11 @@ IsNoneOr area image = IsAbsent image ⊎ IsArea area image
 abbrev pub IsOldOrAbsent : Contents → List ℕ → Type 0
 IsOldOrAbsent held image = IsImage held image ⊎ IsAbsent image
 
+-- a closed head gate where nothing stood
+abbrev pub prepared : List ℕ → List ℕ
+prepared [] = 0 ∷ []
+prepared (gate ∷ bytes) = gate ∷ bytes
+
 -- Behind a gate that is not open stand this generation and snapshot and a gate that is not open, and a crash leaves it so.
 pub record IsFilled (held : Contents) (generation : ℕ) (snapshot : List ℕ) : Type 0 where
   pub stable : IsStable held

@@ -1,5 +1,5 @@
 -- What callers see of an area that was opened.
-use Rattle.std.specs.Prelude.{◌≡◌, Result, Ok, Err}
+use Rattle.std.specs.Prelude.{◌≡◌, ◌≢◌, ℕ, Result, Ok, Err}
 use Rattle.cue_log.specs.Area.{Area}
 use Rattle.cue_log.specs.Words.{disk_of, generation_of}
 use Rattle.cue_log.specs.declared.opening.Opened.{Opened}
@@ -17,3 +17,8 @@ opened_disk opened = disk_of opened.log
 abbrev pub FailsAs : {T D : Type 0} → OpenFault → Type 0 → Result T (OpenFault × D) → Type 0
 FailsAs fault reason (Ok made) = Unit {0}
 FailsAs fault reason (Err refused) = refused.0 ≡ fault → reason
+
+-- a count of failures rose only where this fault is answered
+abbrev pub CountsOnlyAs : {T D : Type 0} → OpenFault → ℕ → ℕ → Result T (OpenFault × D) → Type 0
+CountsOnlyAs fault old new (Ok made) = new ≡ old
+CountsOnlyAs fault old new (Err refused) = refused.0 ≢ fault → new ≡ old

@@ -1,6 +1,6 @@
 // How a record comes to be: it is on the disk behind a closed gate before that gate is opened.
-ghost use Rattle.std.specs.Prelude.{◌≡◌, ◌≤◌, ◌+◌, ◌↔◌, length, OnOk};
-ghost use Rattle.cue_disk.specs.Disk.{LeavesOnly, CountsFailure};
+ghost use Rattle.std.specs.Prelude.{◌≡◌, ◌≤◌, ◌+◌, ◌↔◌, ◌∷◌, length, OnOk};
+ghost use Rattle.cue_disk.specs.Disk.{LeavesOnly, CountsFailure, overwritten};
 ghost use Rattle.cue_log.specs.Area.{with_payload};
 ghost use Rattle.cue_log.specs.Reading.{area_in};
 ghost use Rattle.cue_log.specs.Record.{IsFramed, payload_in};
@@ -18,6 +18,7 @@ pub(crate) fn commit<D: Disk>(disk: &mut D, end: u64, framed: &[u8]) -> Result<(
         (IsEither (area_in (D.held disk.old).bytes) (with_payload (area_in (D.held disk.old).bytes) (payload_in framed.now))) }
     ensures settled { D.is_honest disk.old → OnOk result (IsSettled (D.held disk.new) (end + length framed.now)) }
     ensures area { D.is_honest disk.old → OnOk result (area_in (D.held disk.new).bytes ≡ with_payload (area_in (D.held disk.old).bytes) (payload_in framed.now)) }
+    ensures bytes { D.is_honest disk.old → OnOk result ((D.held disk.new).bytes ≡ overwritten (D.held disk.old).bytes end (1 ∷ framed.now)) }
     ensures count { CountsFailure result (D.failures disk.old) (D.failures disk.new) }
     ensures honest { D.is_honest disk.new ↔ D.is_honest disk.old }
 {

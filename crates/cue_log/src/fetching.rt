@@ -25,6 +25,7 @@ fn read_more<D: Disk>(disk: &mut D, text: &mut Vec<u8>, more: usize) -> Result<(
     ensures disk { IsErrOf result OpenFault.Disk → MoreFailures (D.failures disk.old) (D.failures disk.new) }
     ensures only { IsErrOf result OpenFault.Absent ⊎ IsErrOf result OpenFault.Damaged → ⊥ }
     ensures failures { D.failures disk.old ≤ D.failures disk.new }
+    ensures no_other { (IsErrOf result OpenFault.Disk → ⊥) → D.failures disk.new ≡ D.failures disk.old }
     ensures honest { D.is_honest disk.new ↔ D.is_honest disk.old }
 {
     let have = text.len();
@@ -45,6 +46,7 @@ fn read_text<D: Disk>(alloc: Global, disk: &mut D, most: usize) -> Result<Vec<u8
     ensures disk { IsErrOf result OpenFault.Disk → MoreFailures (D.failures disk.old) (D.failures disk.new) }
     ensures only { IsErrOf result OpenFault.Absent ⊎ IsErrOf result OpenFault.Damaged → ⊥ }
     ensures failures { D.failures disk.old ≤ D.failures disk.new }
+    ensures no_other { (IsErrOf result OpenFault.Disk → ⊥) → D.failures disk.new ≡ D.failures disk.old }
     ensures honest { D.is_honest disk.new ↔ D.is_honest disk.old }
 {
     let mut text = Vec::new(alloc);
@@ -70,6 +72,7 @@ pub(crate) fn fetch<D: Disk>(alloc: Global, disk: &mut D) -> Result<Vec<u8>, Ope
     ensures damaged { IsErrOf result OpenFault.Damaged → ⊥ }
     ensures disk { IsErrOf result OpenFault.Disk → MoreFailures (D.failures disk.old) (D.failures disk.new) }
     ensures failures { D.failures disk.old ≤ D.failures disk.new }
+    ensures no_other { (IsErrOf result OpenFault.Disk → ⊥) → D.failures disk.new ≡ D.failures disk.old }
     ensures honest { D.is_honest disk.new ↔ D.is_honest disk.old }
 {
     disk.sync()?;
@@ -99,6 +102,7 @@ pub(crate) fn read_area<D: Disk>(alloc: Global, disk: &mut D) -> Result<Parts, O
     ensures damaged { D.is_honest disk.old → IsErrOf result OpenFault.Damaged → IsDamaged (D.held disk.old).bytes }
     ensures disk { IsErrOf result OpenFault.Disk → MoreFailures (D.failures disk.old) (D.failures disk.new) }
     ensures failures { D.failures disk.old ≤ D.failures disk.new }
+    ensures no_other { (IsErrOf result OpenFault.Disk → ⊥) → D.failures disk.new ≡ D.failures disk.old }
     ensures honest { D.is_honest disk.new ↔ D.is_honest disk.old }
 {
     let text = fetch(alloc, disk)?;

@@ -1,9 +1,9 @@
 // How an area comes to be: its body is on the disk, behind a closed head gate, before that gate is opened.
-ghost use Rattle.std.specs.Prelude.{◌≡◌, ◌≤◌, ◌+◌, ◌↔◌, ◌++◌, length, OnOk};
-ghost use Rattle.cue_disk.specs.Disk.{LeavesOnly, CountsFailure};
-ghost use Rattle.cue_log.specs.Area.{IsAbsent, fresh, eight_bytes, four_bytes};
+ghost use Rattle.std.specs.Prelude.{◌≡◌, ◌≤◌, ◌+◌, ◌↔◌, [], ◌∷◌, ◌++◌, length, OnOk};
+ghost use Rattle.cue_disk.specs.Disk.{LeavesOnly, CountsFailure, overwritten};
+ghost use Rattle.cue_log.specs.Area.{IsAbsent, fresh, body_text, formed_text, eight_bytes, four_bytes};
 ghost use Rattle.cue_log.specs.Reading.{area_in};
-ghost use Rattle.cue_log.specs.Log.{IsClosed, IsShut, IsFilled, IsNoneOr, IsSettled, ReadsAs};
+ghost use Rattle.cue_log.specs.Log.{IsClosed, IsShut, IsFilled, IsNoneOr, IsSettled, ReadsAs, prepared};
 
 use crate::area::{AREA_LIMIT, CLOSED, OPEN};
 use cue_disk::{Disk, DiskFault};
@@ -13,6 +13,7 @@ fn prepare<D: Disk>(disk: &mut D) -> Result<(), DiskFault>
     requires { D.is_honest disk.old → IsClosed (D.held disk.old) }
     ensures any_moment { D.is_honest disk.old → LeavesOnly D.moment D.held_at disk.old disk.new IsAbsent }
     ensures shut { D.is_honest disk.old → OnOk result (IsShut (D.held disk.new)) }
+    ensures bytes { D.is_honest disk.old → OnOk result ((D.held disk.new).bytes ≡ prepared (D.held disk.old).bytes) }
     ensures count { CountsFailure result (D.failures disk.old) (D.failures disk.new) }
     ensures honest { D.is_honest disk.new ↔ D.is_honest disk.old }
 {
@@ -39,6 +40,7 @@ fn fill<D: Disk>(disk: &mut D, generation: u64, snapshot: &[u8]) -> Result<(), D
     requires shut { D.is_honest disk.old → IsShut (D.held disk.old) }
     ensures any_moment { D.is_honest disk.old → LeavesOnly D.moment D.held_at disk.old disk.new IsAbsent }
     ensures filled { D.is_honest disk.old → OnOk result (IsFilled (D.held disk.new) generation snapshot.now) }
+    ensures bytes { D.is_honest disk.old → OnOk result ((D.held disk.new).bytes ≡ overwritten (D.held disk.old).bytes 1 (body_text generation snapshot.now ++ 0 ∷ [])) }
     ensures count { CountsFailure result (D.failures disk.old) (D.failures disk.new) }
     ensures honest { D.is_honest disk.new ↔ D.is_honest disk.old }
 {
@@ -56,6 +58,7 @@ fn open_gate<D: Disk>(disk: &mut D, generation: u64, snapshot: &[u8]) -> Result<
     ensures any_moment { D.is_honest disk.old → LeavesOnly D.moment D.held_at disk.old disk.new (IsNoneOr (fresh generation snapshot.now)) }
     ensures settled { D.is_honest disk.old → OnOk result (IsSettled (D.held disk.new) (13 + length snapshot.now)) }
     ensures area { D.is_honest disk.old → OnOk result (area_in (D.held disk.new).bytes ≡ fresh generation snapshot.now) }
+    ensures bytes { D.is_honest disk.old → OnOk result ((D.held disk.new).bytes ≡ overwritten (D.held disk.old).bytes 0 (1 ∷ [])) }
     ensures count { CountsFailure result (D.failures disk.old) (D.failures disk.new) }
     ensures honest { D.is_honest disk.new ↔ D.is_honest disk.old }
 {
@@ -74,6 +77,7 @@ pub(crate) fn form_on<D: Disk>(
     ensures any_moment { D.is_honest disk.old → LeavesOnly D.moment D.held_at disk.old disk.new (IsNoneOr (fresh generation snapshot.now)) }
     ensures settled { D.is_honest disk.old → OnOk result (IsSettled (D.held disk.new) (13 + length snapshot.now)) }
     ensures area { D.is_honest disk.old → OnOk result (area_in (D.held disk.new).bytes ≡ fresh generation snapshot.now) }
+    ensures bytes { D.is_honest disk.old → OnOk result ((D.held disk.new).bytes ≡ overwritten (D.held disk.old).bytes 0 (formed_text generation snapshot.now)) }
     ensures count { CountsFailure result (D.failures disk.old) (D.failures disk.new) }
     ensures honest { D.is_honest disk.new ↔ D.is_honest disk.old }
 {

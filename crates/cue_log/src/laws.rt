@@ -1,5 +1,5 @@
 // What the definitions of an area give, over any bytes.
-ghost use Rattle.cue_log.specs.Laws.{OneArea, ReaderFindsEach, ReaderFindsOnly, AnyBytesAnswer, NoAreaIsAbsent};
+ghost use Rattle.cue_log.specs.Laws.{OneArea, ReaderFindsEach, ReaderFindsOnly, AnyBytesAnswer, NoAreaIsAbsent, LimitsOfAnArea};
 
 /// The same bytes read as one area at most.
 pub fn one_area()
@@ -24,4 +24,9 @@ pub fn any_bytes_answer()
 /// An area is not absent.
 pub fn no_area_is_absent()
     ensures { NoAreaIsAbsent }
+{}
+
+/// The limits of an area as numbers: 4,194,304 bytes in all, 32,768 bytes of a payload, and the bytes of its gates.
+pub fn limits_of_an_area()
+    ensures { LimitsOfAnArea }
 {}

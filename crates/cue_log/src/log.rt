@@ -10,36 +10,22 @@ use crate::area::AREA_LIMIT;
 use crate::forming::form_on;
 use crate::record::Record;
 use cue_disk::{Disk, DiskFault};
-use std::error::Error;
-use std::{fmt, mem};
+use std::mem;
+use thiserror::Error;
 
 /// Why a record is not appended.
-#[derive(Clone, Copy, Debug, PartialEq, Eq)]
+#[derive(Clone, Copy, Debug, PartialEq, Eq, Error)]
 pub enum AppendFault {
     /// A device call failed in an earlier `append`. Open the area again.
+    #[error("the log is broken until it is opened again")]
     Broken,
     /// The text of the area would be longer than `AREA_LIMIT`. Nothing has changed.
+    #[error("the area is full")]
     Full,
     /// A device call failed: the record is there or it is not. The log is `Broken` from then on.
+    #[error("the disk failed")]
     Disk,
 }
-
-impl fmt::Display for AppendFault {
-    ghost use Rattle.std.specs.Prelude.{Some};
-    ghost use Rattle.cue_log.specs.Faults.{append_fault_text};
-
-    ghost output = { λ fault. Some (append_fault_text fault) };
-
-    fn fmt<W: fmt::Write>(&self, f: &mut fmt::Formatter<W>) -> fmt::Result {
-        match self {
-            AppendFault::Broken => write!(f, "the log is broken until it is opened again"),
-            AppendFault::Full => write!(f, "the area is full"),
-            AppendFault::Disk => write!(f, "the disk failed"),
-        }
-    }
-}
-
-impl Error for AppendFault {}
 
 /// One area of a disk: a generation, a snapshot and the records that were appended to it.
 ///
@@ -61,8 +47,8 @@ pub struct Log<D: Disk> {
 
 impl<D: Disk> Log<D> {
     ghost use Rattle.std.specs.Prelude.{◌≡◌, ◌≤◌, ◌<◌, ◌+◌, ◌⊎◌, ◌↔◌, false, true, length, OnOk, OnErr, IfOk, IsErrOf};
-    ghost use Rattle.cue_disk.specs.Disk.{LeavesOnly, CountsFailure, MoreFailures};
-    ghost use Rattle.cue_log.specs.Area.{fresh, with_payload};
+    ghost use Rattle.cue_disk.specs.Disk.{LeavesOnly, CountsFailure, MoreFailures, overwritten};
+    ghost use Rattle.cue_log.specs.Area.{fresh, with_payload, formed_text, record_text};
     ghost use Rattle.cue_log.specs.Log.{IsClosed, IsEither, IsNoneOr, IsSettled, IsCounted, ReadsAs};
     ghost use Rattle.cue_log.specs.Words.{disk_of, generation_of, end_of, count_of, is_broken, area_of, disk_after, formed_disk};
 
@@ -74,6 +60,7 @@ impl<D: Disk> Log<D> {
 
         ensures formed { D.is_honest disk → IfOk result (λ log. ReadsAs (D.held (disk_of log)) (fresh generation snapshot.now)) }
         ensures area { D.is_honest disk → IfOk result (λ log. area_of D.held log ≡ fresh generation snapshot.now) }
+        ensures bytes { D.is_honest disk → IfOk result (λ log. (D.held (disk_of log)).bytes ≡ overwritten (D.held disk).bytes 0 (formed_text generation snapshot.now)) }
         ensures numbers { IfOk result (λ log. (generation_of log ≡ generation) × (count_of log ≡ 0) × (end_of log ≡ 13 + length snapshot.now)) }
         ensures works { IfOk result (λ log. is_broken log ≡ false) }
 
@@ -114,7 +101,7 @@ impl<D: Disk> Log<D> {
         }
     }
 
-    /// Adds a record behind the last one. It takes no memory.
+    /// Adds a record behind the last one. It takes no memory. After a fault the log tells the numbers that it had before.
     pub fn append(&mut self, added: &Record) -> Result<(), AppendFault>
         // Broken comes first, then Full; both leave all as it was.
         ensures broken { IsErrOf result AppendFault.Broken ↔ (is_broken self.old ≡ true) }
@@ -129,8 +116,10 @@ impl<D: Disk> Log<D> {
         // What is there after Ok, whatever a stop leaves.
         ensures appended { D.is_honest (disk_of self.old) → OnOk result (ReadsAs (D.held (disk_of self.new)) (with_payload (area_of D.held self.old) added.now)) }
         ensures area { D.is_honest (disk_of self.old) → OnOk result (area_of D.held self.new ≡ with_payload (area_of D.held self.old) added.now) }
+        ensures bytes { D.is_honest (disk_of self.old) → OnOk result ((D.held (disk_of self.new)).bytes ≡ overwritten (D.held (disk_of self.old)).bytes (end_of self.old) (record_text added.now)) }
         ensures works { OnOk result (is_broken self.new ≡ false) }
         ensures numbers { OnOk result ((count_of self.new ≡ count_of self.old + 1) × (end_of self.new ≡ end_of self.old + 5 + length added.now)) }
+        ensures numbers_kept { OnErr result ((count_of self.new ≡ count_of self.old) × (end_of self.new ≡ end_of self.old)) }
         ensures generation { generation_of self.new ≡ generation_of self.old }
 
         // A stop at any moment leaves the area as it was, or with the record.
@@ -155,7 +144,8 @@ impl<D: Disk> Log<D> {
     }
 
     /// Forms an area on another disk and goes on there: for who holds a log behind a reference. After Ok the old disk
-    /// stands in the place of the other, as it was; a refusal leaves the log as it was. It takes no memory.
+    /// stands in the place of the other, as it was; a refusal leaves the log as it was. It takes no memory. A log that
+    /// is broken is not renewed, since nothing but opening its area again mends it.
     pub fn renew(
         &mut self,
         spare: &mut D,
@@ -163,10 +153,12 @@ impl<D: Disk> Log<D> {
         snapshot: &[u8],
     ) -> Result<(), DiskFault>
         requires room { 14 + length snapshot.now ≤ AREA_LIMIT }
+        requires works { is_broken self.old ≡ false }
         requires closed { D.is_honest spare.old → IsClosed (D.held spare.old) }
 
         ensures formed { D.is_honest spare.old → OnOk result (ReadsAs (D.held (disk_of self.new)) (fresh generation snapshot.now)) }
         ensures area { D.is_honest spare.old → OnOk result (area_of D.held self.new ≡ fresh generation snapshot.now) }
+        ensures bytes { D.is_honest spare.old → OnOk result ((D.held (disk_of self.new)).bytes ≡ overwritten (D.held spare.old).bytes 0 (formed_text generation snapshot.now)) }
         ensures numbers { OnOk result ((generation_of self.new ≡ generation) × (count_of self.new ≡ 0) × (end_of self.new ≡ 13 + length snapshot.now)) }
         ensures works { OnOk result (is_broken self.new ≡ false) }
         ensures swapped { OnOk result (spare.new ≡ disk_of self.old) }
@@ -182,7 +174,6 @@ impl<D: Disk> Log<D> {
         self.generation = generation;
         self.end = 13 + snapshot.len() as u64;
         self.count = 0;
-        self.broken = false;
         Ok(())
     }
 }

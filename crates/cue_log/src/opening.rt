@@ -4,39 +4,24 @@ use crate::log::Log;
 use crate::parts::{Records, Snapshot};
 use cue_disk::{Disk, DiskFault};
 use std::alloc::{AllocError, Global};
-use std::error::Error;
-use std::fmt;
+use thiserror::Error;
 
 /// Why an area is not opened.
-#[derive(Clone, Copy, Debug, PartialEq, Eq)]
+#[derive(Clone, Copy, Debug, PartialEq, Eq, Error)]
 pub enum OpenFault {
     /// There is no area: the length is 0 or 1, or the head gate is not open.
+    #[error("there is no area")]
     Absent,
     /// The head gate is open, and the bytes are no text of an area.
+    #[error("the area is damaged")]
     Damaged,
     /// A device call failed.
+    #[error("the disk failed")]
     Disk,
     /// Out of memory.
+    #[error("out of memory")]
     Memory,
 }
-
-impl fmt::Display for OpenFault {
-    ghost use Rattle.std.specs.Prelude.{Some};
-    ghost use Rattle.cue_log.specs.Faults.{open_fault_text};
-
-    ghost output = { λ fault. Some (open_fault_text fault) };
-
-    fn fmt<W: fmt::Write>(&self, f: &mut fmt::Formatter<W>) -> fmt::Result {
-        match self {
-            OpenFault::Absent => write!(f, "there is no area"),
-            OpenFault::Damaged => write!(f, "the area is damaged"),
-            OpenFault::Disk => write!(f, "the disk failed"),
-            OpenFault::Memory => write!(f, "out of memory"),
-        }
-    }
-}
-
-impl Error for OpenFault {}
 
 impl From<DiskFault> for OpenFault {
     ghost use Rattle.std.specs.Prelude.{◌≡◌};
@@ -74,7 +59,7 @@ impl<D: Disk> Log<D> {
     ghost use Rattle.cue_log.specs.Area.{IsArea, IsAbsent};
     ghost use Rattle.cue_log.specs.Log.{IsDamaged, LeavesAbsent, ReadsAs};
     ghost use Rattle.cue_log.specs.Words.{disk_of, is_broken, count_of, area_of, disk_after};
-    ghost use Rattle.cue_log.specs.Opened.{area_read, opened_disk, FailsAs};
+    ghost use Rattle.cue_log.specs.Opened.{area_read, opened_disk, FailsAs, CountsOnlyAs};
 
     /// Opens the area of a disk, pending writes included: from Ok on whatever a stop leaves reads as what is answered. It
     /// writes nothing, and takes memory in proportion to the area. A refusal hands the disk back.
@@ -91,6 +76,9 @@ impl<D: Disk> Log<D> {
         ensures stays_absent { D.is_honest disk → FailsAs OpenFault.Absent (LeavesAbsent (D.held (disk_after opened_disk result))) result }
         ensures damaged { D.is_honest disk → FailsAs OpenFault.Damaged (IsDamaged (D.held disk).bytes) result }
         ensures disk { FailsAs OpenFault.Disk (MoreFailures (D.failures disk) (D.failures (disk_after opened_disk result))) result }
+
+        // No other answer hides a fault of the device: want of memory is told only where each call went through.
+        ensures memory { CountsOnlyAs OpenFault.Disk (D.failures disk) (D.failures (disk_after opened_disk result)) result }
 
         // A stop at any moment leaves what one at entry might have left.
         ensures any_moment { D.is_honest disk → LeavesOnly D.moment D.held_at disk (disk_after opened_disk result) (IsImage (D.held disk)) }

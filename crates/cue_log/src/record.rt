@@ -4,33 +4,19 @@ ghost use Rattle.cue_log.specs.Record.{IsFramed, payload_in};
 
 use crate::area::{CLOSED, PAYLOAD_LIMIT};
 use std::alloc::{AllocError, AllocFailed, Global};
-use std::fmt;
 use std::marker::Model;
+use thiserror::Error;
 
 /// Why a payload is not made into a record.
-#[derive(Clone, Copy, Debug, PartialEq, Eq)]
+#[derive(Clone, Copy, Debug, PartialEq, Eq, Error)]
 pub enum RecordFault {
     /// The payload is longer than `PAYLOAD_LIMIT`.
+    #[error("the payload is too long for a record")]
     TooLong,
     /// Out of memory.
+    #[error("out of memory")]
     Memory,
 }
-
-impl fmt::Display for RecordFault {
-    ghost use Rattle.std.specs.Prelude.{Some};
-    ghost use Rattle.cue_log.specs.Faults.{record_fault_text};
-
-    ghost output = { λ fault. Some (record_fault_text fault) };
-
-    fn fmt<W: fmt::Write>(&self, f: &mut fmt::Formatter<W>) -> fmt::Result {
-        match self {
-            RecordFault::TooLong => write!(f, "the payload is too long for a record"),
-            RecordFault::Memory => write!(f, "out of memory"),
-        }
-    }
-}
-
-impl std::error::Error for RecordFault {}
 
 impl From<AllocError> for RecordFault {
     ghost use Rattle.cue_log.specs.declared.record.RecordFault.TheVariants.{Memory};

@@ -168,7 +168,7 @@ attempt_takes show bytes y b e =
     let at : IsTrue (is_at_cue show (attempt_of h xs)) = at_parts (parts_of show h.1.0) p.0 (devices_of xs) p.1 u.1 in
     subst (Takes attempt_text (attempt_fits show) bytes) (some_is (attempt_of h xs, m.0.1) y m.2) (parts, join (head_fits h) (is_at_cue show (attempt_of h xs)) t.1 at)
 
-parts_found : (show : ShowLists) (a : Attempt) → IsTrue (is_at_cue show a) → (ps : List Part) × (parts_of show a.cue ≡ Some ps) × (devices_of a.answers ≡ devices_in ps)
+pub parts_found : (show : ShowLists) (a : Attempt) → IsTrue (is_at_cue show a) → (ps : List Part) × (parts_of show a.cue ≡ Some ps) × (devices_of a.answers ≡ devices_in ps)
 parts_found show a h = by (parts_of show a.cue) h
   where
     by : (o : Option (List Part)) → IsTrue (option_map_or (λ parts. pointwise nat_eq (devices_of a.answers) (devices_in parts)) o false) → (ps : List Part) × (o ≡ Some ps) × (devices_of a.answers ≡ devices_in ps)

@@ -14,3 +14,4 @@ pub mod Ranges
 pub mod ShowLaws
 pub mod StateLaws
 pub mod Taking
+pub mod Longest

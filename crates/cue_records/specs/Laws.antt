@@ -1,5 +1,5 @@
 -- What the texts come to.
-use Rattle.std.specs.Prelude.{◌≡◌, List, Some, IsTrue}
+use Rattle.std.specs.Prelude.{◌≡◌, ◌≤◌, List, Some, length, IsTrue}
 use Rattle.cue_core.specs.declared.event.Event.{Event}
 use Rattle.cue_core.specs.State.{Standing, is_state}
 use Rattle.cue_core.specs.Steps.{are_acceptable}
@@ -8,6 +8,8 @@ use Rattle.cue_records.specs.Batch.{batch_text, is_batch, is_event}
 use Rattle.cue_records.specs.BatchReading.{batch_of}
 use Rattle.cue_records.specs.State.{state_text}
 use Rattle.cue_records.specs.StateReading.{state_of}
+use Rattle.cue_records.specs.declared.batch.TheConstants.{MAX_EVENTS}
+use Rattle.cue_records.specs.declared.state.TheConstants.{VERSION, MAX_STATE_BYTES}
 
 -- the text of a batch reads back as the batch
 abbrev pub BatchesAreReadBack : Type 0
@@ -28,3 +30,11 @@ StatesAreReadBack = (s : Standing) → IsTrue (is_state s) → state_of (state_t
 -- states with one text are one state
 abbrev pub StateTextsDiffer : Type 0
 StateTextsDiffer = (one other : Standing) → IsTrue (is_state one) → IsTrue (is_state other) → state_text one ≡ state_text other → one ≡ other
+
+-- the text of a state is no longer than the most that the limits of its fields allow
+abbrev pub StateTextsAreBounded : Type 0
+StateTextsAreBounded = (s : Standing) → IsTrue (is_state s) → length (state_text s) ≤ MAX_STATE_BYTES
+
+-- the limits as numbers: the most events of a batch, the version of a state's text, and the most bytes of one
+abbrev pub LimitsOfTexts : Type 0
+LimitsOfTexts = (MAX_EVENTS ≡ 1024) × (VERSION ≡ 1) × (MAX_STATE_BYTES ≡ 144607)

@@ -65,12 +65,12 @@ pub fn batch_len(events: &[Event]) -> u64
 }
 
 /// The text of a batch: 1 to 1,024 events, each within its ranges. Events that may happen to a state one after the other, as those of
-/// `judge` may, are within them.
+/// `judge` may, are within them. It takes memory once, as much as the text has bytes.
 pub fn write_batch(alloc: Global, events: &[Event]) -> Result<Bytes, AllocError>
     requires { IsTrue (is_batch events.now) }
     ensures { IfOk result (λ bytes. bytes ≡ batch_text events.now) }
 {
-    let mut out = Vec::new(alloc);
+    let mut out = Vec::with_capacity(alloc, batch_len(events) as usize)?;
     out.extend_from_slice(&(events.len() as u16).to_be_bytes())?;
     writing::put_events(&mut out, events)?;
     Ok(Bytes::from_vec(out))

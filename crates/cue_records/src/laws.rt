@@ -1,5 +1,5 @@
 //! Laws of the texts, each the contract of a function that does nothing.
-ghost use Rattle.cue_records.specs.Laws.{AcceptableEventsFit, BatchTextsDiffer, BatchesAreReadBack, StateTextsDiffer, StatesAreReadBack};
+ghost use Rattle.cue_records.specs.Laws.{AcceptableEventsFit, BatchTextsDiffer, BatchesAreReadBack, StateTextsDiffer, StatesAreReadBack, StateTextsAreBounded, LimitsOfTexts};
 
 /// The text of a batch reads back as the batch.
 pub fn batches_are_read_back()
@@ -24,4 +24,14 @@ pub fn states_are_read_back()
 /// No two states have one text.
 pub fn state_texts_differ()
     ensures { StateTextsDiffer }
+{}
+
+/// No text of a state is longer than `MAX_STATE_BYTES`.
+pub fn state_texts_are_bounded()
+    ensures { StateTextsAreBounded }
+{}
+
+/// The limits of the texts as numbers: 1,024 events of a batch, version 1, and 144,607 bytes of a state.
+pub fn limits_of_texts()
+    ensures { LimitsOfTexts }
 {}

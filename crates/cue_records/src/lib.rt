@@ -13,7 +13,7 @@ mod state;
 pub use batch::{Batch, MAX_EVENTS, batch_len, read_batch, write_batch};
 pub use bytes::Bytes;
 pub use fault::{ReadFault, StateFault};
-pub use state::{VERSION, read_state, write_state};
+pub use state::{MAX_STATE_BYTES, VERSION, read_state, write_state};
 
 #[cfg(test)]
 mod tests;

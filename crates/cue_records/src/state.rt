@@ -12,19 +12,45 @@ use crate::bytes::Bytes;
 use crate::fault::{ReadFault, StateFault};
 use crate::fields::{put_byte, put_u32};
 use cue_core::State;
+use cue_exchange::limits::MAX_LIVE;
+use cue_show::limits::{MAX_CUE_BYTES, MAX_CUES, MAX_DEVICES, MAX_PART_BYTES, MAX_PARTS};
 use std::alloc::{AllocError, Global};
 
 /// The version of the format, the first byte of each text of a state.
 pub const VERSION: u8 = 1;
 
-/// The text of a state.
+// The most bytes of a cue number with its length, of a cue with its parts, and of an attempt.
+const NUMBER_BYTES: usize = 1 + MAX_CUE_BYTES;
+
+const CUE_BYTES: usize = NUMBER_BYTES + 1 + MAX_PARTS * (2 + MAX_PART_BYTES);
+
+const ATTEMPT_BYTES: usize = 4 + NUMBER_BYTES + 8 + 1 + MAX_PARTS;
+
+// The most bytes of the devices, of the cues, and of the live attempts, each with its count.
+const TABLE_BYTES: usize = 1 + MAX_DEVICES * 3;
+
+const STACK_BYTES: usize = 2 + MAX_CUES * CUE_BYTES;
+
+const LIVE_BYTES: usize = 1 + MAX_LIVE * ATTEMPT_BYTES;
+
+/// The most bytes of the text of a state: version, devices, cues, place, last number, the attempt that ended last, and
+/// the live ones.
+pub const MAX_STATE_BYTES: usize = 1
+    + TABLE_BYTES
+    + STACK_BYTES
+    + NUMBER_BYTES
+    + 4
+    + 5
+    + LIVE_BYTES;
+
+/// The text of a state. It takes memory once, for the longest text.
 pub fn write_state(alloc: Global, state: &State) -> Result<Bytes, AllocError>
     ensures text { IfOk result (λ bytes. bytes ≡ state_text state.now) }
     // So the text is read again as the state.
     ensures rules { IsTrue (is_state state.now) }
 {
     let show = state.show();
-    let mut out = Vec::new(alloc);
+    let mut out = Vec::with_capacity(alloc, MAX_STATE_BYTES)?;
     put_byte(&mut out, VERSION)?;
     writing::put_show(&mut out, show)?;
     put_u32(&mut out, state.last_seq())?;

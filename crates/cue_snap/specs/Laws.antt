@@ -4,6 +4,7 @@ use Rattle.cue_log.specs.Area.{Area}
 use Rattle.cue_log.specs.Laws.{AreBytes}
 use Rattle.cue_snap.specs.Pair.{PairReads, NeitherHas, IsSpoiled}
 use Rattle.cue_snap.specs.Reading.{pair_in}
+use Rattle.cue_snap.specs.declared.forming.TheConstants.{FIRST}
 
 -- The order of the two does not count.
 abbrev pub PairsAreSymmetric : Type 0
@@ -24,3 +25,7 @@ AnyPairAnswers = (x y : List ℕ) → AreBytes x → AreBytes y → NeitherHas x
 -- A pair that reads as an area has one, and is not spoiled.
 abbrev pub PairThatReadsIsGood : Type 0
 PairThatReadsIsGood = (area : Area) (x y : List ℕ) → PairReads area x y → (NeitherHas x y → ⊥) × (IsSpoiled x y → ⊥)
+
+-- The generation that a pair begins with, as a number.
+abbrev pub PairsBeginWithOne : Type 0
+PairsBeginWithOne = FIRST ≡ 1

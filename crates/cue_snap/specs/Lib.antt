@@ -2,7 +2,6 @@ pub mod Pair
 pub mod Reading
 pub mod Kept
 pub mod Words
-pub mod Faults
 pub mod Opened
 pub mod Found
 pub mod Laws

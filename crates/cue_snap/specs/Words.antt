@@ -1,5 +1,5 @@
 -- What callers see of a pair.
-use Rattle.std.specs.Prelude.{◌≡◌, ℕ, Bool, if◌then◌else◌, Result, Ok, Err}
+use Rattle.std.specs.Prelude.{◌≡◌, ◌≢◌, ℕ, Bool, if◌then◌else◌, Result, Ok, Err}
 use Rattle.cue_disk.specs.Disk.{Contents}
 use Rattle.cue_log.specs.Area.{Area}
 use Rattle.cue_log.specs.Words as log
@@ -66,3 +66,8 @@ RefusedAs fault reason (Err refused) = refused.0 ≡ fault → reason
 abbrev pub FailsAs : {T E D : Type 0} → E → Type 0 → Result T (E × D) → Type 0
 FailsAs fault reason (Ok made) = Unit {0}
 FailsAs fault reason (Err refused) = refused.0 ≡ fault → reason
+
+-- a count of failures rose only where this fault is answered
+abbrev pub CountsOnlyAs : {T E D : Type 0} → E → ℕ → ℕ → Result T (E × D) → Type 0
+CountsOnlyAs fault old new (Ok made) = new ≡ old
+CountsOnlyAs fault old new (Err refused) = refused.0 ≢ fault → new ≡ old

@@ -1,6 +1,6 @@
 // How a pair comes to be: both disks are looked at and synced, and then the first one gets an area.
 ghost use Rattle.std.specs.Prelude.{◌≡◌, ◌⊎◌, ◌≤◌, ◌+◌, ◌↔◌, false, length, IfOk, OnOk, IsErrOf};
-ghost use Rattle.cue_disk.specs.Disk.{LeavesOnly, IsImage, CountsFailure, MoreFailures};
+ghost use Rattle.cue_disk.specs.Disk.{LeavesOnly, IsImage, IsStable, CountsFailure, MoreFailures};
 ghost use Rattle.cue_log.specs.Area.{fresh};
 ghost use Rattle.cue_log.specs.Log.{IsNoneOr, LeavesAbsent, ReadsAs};
 ghost use Rattle.cue_log.specs.Words.{disk_of, disk_after, generation_of, end_of, count_of, is_broken, area_of};
@@ -9,33 +9,18 @@ ghost use Rattle.cue_snap.specs.Pair.{NeitherHas, SomeIsThere};
 
 use cue_disk::{Disk, DiskFault};
 use cue_log::{Log, close, is_absent};
-use std::error::Error;
-use std::fmt;
+use thiserror::Error;
 
 /// Why a pair is not formed.
-#[derive(Clone, Copy, Debug, PartialEq, Eq)]
+#[derive(Clone, Copy, Debug, PartialEq, Eq, Error)]
 pub enum FormFault {
     /// A disk has an area, or a damaged one. Nothing was written.
+    #[error("a disk has an area already")]
     NotEmpty,
     /// A device call failed.
+    #[error("the disk failed")]
     Disk,
 }
-
-impl fmt::Display for FormFault {
-    ghost use Rattle.std.specs.Prelude.{Some};
-    ghost use Rattle.cue_snap.specs.Faults.{form_fault_text};
-
-    ghost output = { λ fault. Some (form_fault_text fault) };
-
-    fn fmt<W: fmt::Write>(&self, f: &mut fmt::Formatter<W>) -> fmt::Result {
-        match self {
-            FormFault::NotEmpty => write!(f, "a disk has an area already"),
-            FormFault::Disk => write!(f, "the disk failed"),
-        }
-    }
-}
-
-impl Error for FormFault {}
 
 impl From<DiskFault> for FormFault {
     ghost use Rattle.std.specs.Prelude.{◌≡◌};
@@ -56,6 +41,8 @@ pub(crate) fn look<D: Disk>(first: &mut D, second: &mut D) -> Result<(), FormFau
     ensures empty { D.is_honest first.old → D.is_honest second.old → OnOk result (NeitherHas (D.held first.old).bytes (D.held second.old).bytes) }
     ensures not_empty { D.is_honest first.old → D.is_honest second.old → IsErrOf result FormFault.NotEmpty → SomeIsThere (D.held first.old).bytes (D.held second.old).bytes }
     ensures disk { IsErrOf result FormFault.Disk → MoreFailures (D.failures first.old) (D.failures first.new) ⊎ MoreFailures (D.failures second.old) (D.failures second.new) }
+    ensures first_synced { D.is_honest first.old → IsErrOf result FormFault.NotEmpty → IsStable (D.held first.new) }
+    ensures second_synced { D.is_honest second.old → IsErrOf result FormFault.NotEmpty → IsStable (D.held second.new) }
     ensures first_stays { D.is_honest first.old → OnOk result (LeavesAbsent (D.held first.new)) }
     ensures second_stays { D.is_honest second.old → OnOk result (LeavesAbsent (D.held second.new)) }
     ensures first_moments { D.is_honest first.old → LeavesOnly D.moment D.held_at first.old first.new (IsImage (D.held first.old)) }

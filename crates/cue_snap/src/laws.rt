@@ -1,5 +1,5 @@
 // What the definitions of a pair give, over any bytes.
-ghost use Rattle.cue_snap.specs.Laws.{PairsAreSymmetric, OneAreaOfAPair, ReaderFindsEachPair, AnyPairAnswers, PairThatReadsIsGood};
+ghost use Rattle.cue_snap.specs.Laws.{PairsAreSymmetric, OneAreaOfAPair, ReaderFindsEachPair, AnyPairAnswers, PairThatReadsIsGood, PairsBeginWithOne};
 
 /// Which of the two disks comes first does not count.
 pub fn pairs_are_symmetric()
@@ -24,4 +24,9 @@ pub fn any_pair_answers()
 /// A pair that reads as an area has one, and is not spoiled: so each answer of opening excludes the others.
 pub fn pair_that_reads_is_good()
     ensures { PairThatReadsIsGood }
+{}
+
+/// The first area of a pair has generation 1.
+pub fn pairs_begin_with_one()
+    ensures { PairsBeginWithOne }
 {}

@@ -3,46 +3,31 @@ ghost use Rattle.std.specs.Prelude.{◌≡◌, ◌≤◌, ◌↔◌, IfOk};
 ghost use Rattle.cue_disk.specs.Disk.{LeavesOnly, IsImage, MoreFailures};
 ghost use Rattle.cue_log.specs.Words.{disk_after};
 ghost use Rattle.cue_snap.specs.Found.{disk_in, IsFound, FoundWorks};
-ghost use Rattle.cue_snap.specs.Words.{FailsAs};
+ghost use Rattle.cue_snap.specs.Words.{FailsAs, CountsOnlyAs};
 
 use crate::choosing::{Found, choose};
 use crate::snap::Snap;
 use cue_disk::Disk;
 use cue_log::{Log, OpenFault as AreaFault, Records, Snapshot};
 use std::alloc::Global;
-use std::error::Error;
-use std::fmt;
+use thiserror::Error;
 
 /// Why a pair is not opened.
-#[derive(Clone, Copy, Debug, PartialEq, Eq)]
+#[derive(Clone, Copy, Debug, PartialEq, Eq, Error)]
 pub enum OpenFault {
     /// An area is damaged, or both have one generation.
+    #[error("an area is damaged")]
     Damaged,
     /// Neither disk has an area.
+    #[error("there is no area")]
     Unformed,
     /// A device call failed.
+    #[error("the disk failed")]
     Disk,
     /// Out of memory.
+    #[error("out of memory")]
     Memory,
 }
-
-impl fmt::Display for OpenFault {
-    ghost use Rattle.std.specs.Prelude.{Some};
-    ghost use Rattle.cue_snap.specs.Faults.{open_fault_text};
-
-    ghost output = { λ fault. Some (open_fault_text fault) };
-
-    fn fmt<W: fmt::Write>(&self, f: &mut fmt::Formatter<W>) -> fmt::Result {
-        match self {
-            OpenFault::Damaged => write!(f, "an area is damaged"),
-            OpenFault::Unformed => write!(f, "there is no area"),
-            OpenFault::Disk => write!(f, "the disk failed"),
-            OpenFault::Memory => write!(f, "out of memory"),
-        }
-    }
-}
-
-impl Error for OpenFault {}
 
 /// A pair that was opened, and what its live area held.
 #[derive(Drop)]
@@ -57,6 +42,7 @@ fn find<D: Disk>(alloc: Global, disk: D) -> Result<Found<D>, (OpenFault, D)>
     ensures found { D.is_honest disk → IfOk result (IsFound D.held) }
     ensures works { IfOk result FoundWorks }
     ensures disk { FailsAs OpenFault.Disk (MoreFailures (D.failures disk) (D.failures (disk_after disk_in result))) result }
+    ensures memory { CountsOnlyAs OpenFault.Disk (D.failures disk) (D.failures (disk_after disk_in result)) result }
     ensures damaged { FailsAs OpenFault.Damaged ⊥ result }
     ensures unformed { FailsAs OpenFault.Unformed ⊥ result }
     ensures any_moment { D.is_honest disk → LeavesOnly D.moment D.held_at disk (disk_after disk_in result) (IsImage (D.held disk)) }
@@ -94,6 +80,8 @@ impl<D: Disk> Snap<D> {
         ensures damaged { D.is_honest first → D.is_honest second → RefusedAs OpenFault.Damaged (IsSpoiled (D.held first).bytes (D.held second).bytes) result }
         ensures unformed { D.is_honest first → D.is_honest second → RefusedAs OpenFault.Unformed (NeitherHas (D.held first).bytes (D.held second).bytes) result }
         ensures disk { RefusedAs OpenFault.Disk (MoreFailures (D.failures first) (D.failures (first_after first_opened result)) ⊎ MoreFailures (D.failures second) (D.failures (second_after second_opened result))) result }
+        // Want of memory hides no fault of a device: each call went through.
+        ensures memory { RefusedAs OpenFault.Memory ((D.failures (first_after first_opened result) ≡ D.failures first) × (D.failures (second_after second_opened result) ≡ D.failures second)) result }
 
         // A stop at any moment leaves of each disk what one at entry might have left.
         ensures first_moments { D.is_honest first → LeavesOnly D.moment D.held_at first (first_after first_opened result) (IsImage (D.held first)) }

@@ -9,36 +9,21 @@ use crate::forming::{FormFault, form_first, look};
 use crate::turning::turn;
 use cue_disk::{Disk, DiskFault};
 use cue_log::{AppendFault, Log, Record};
-use std::error::Error;
-use std::fmt;
+use thiserror::Error;
 
 /// Why a pair is not turned over.
-#[derive(Clone, Copy, Debug, PartialEq, Eq)]
+#[derive(Clone, Copy, Debug, PartialEq, Eq, Error)]
 pub enum TurnOverFault {
     /// A device call failed before. Open the pair again.
+    #[error("the pair is broken until it is opened again")]
     Broken,
     /// The live area has the last generation that there is. Nothing has changed.
+    #[error("no generation is left")]
     Exhausted,
     /// A device call failed: the new area is there or it is not. The pair is `Broken` from then on.
+    #[error("the disk failed")]
     Disk,
 }
-
-impl fmt::Display for TurnOverFault {
-    ghost use Rattle.std.specs.Prelude.{Some};
-    ghost use Rattle.cue_snap.specs.Faults.{turn_over_fault_text};
-
-    ghost output = { λ fault. Some (turn_over_fault_text fault) };
-
-    fn fmt<W: fmt::Write>(&self, f: &mut fmt::Formatter<W>) -> fmt::Result {
-        match self {
-            TurnOverFault::Broken => write!(f, "the pair is broken until it is opened again"),
-            TurnOverFault::Exhausted => write!(f, "no generation is left"),
-            TurnOverFault::Disk => write!(f, "the disk failed"),
-        }
-    }
-}
-
-impl Error for TurnOverFault {}
 
 /// Two areas on two disks, of which the one with the higher generation counts: it is live, the other one is spare.
 ///
@@ -58,7 +43,7 @@ pub struct Snap<D: Disk> {
 
 impl<D: Disk> Snap<D> {
     ghost use Rattle.std.specs.Prelude.{◌≡◌, ◌≤◌, ◌<◌, ◌+◌, ◌-◌, ◌^◌, ◌⊎◌, ◌↔◌, ℕ, List, false, true, not, length, IfOk, OnOk, OnErr, IsErrOf};
-    ghost use Rattle.cue_disk.specs.Disk.{LeavesOnly, IsImage, MoreFailures};
+    ghost use Rattle.cue_disk.specs.Disk.{LeavesOnly, IsImage, IsStable, MoreFailures};
     ghost use Rattle.cue_log.specs.Area.{fresh, with_payload};
     ghost use Rattle.cue_log.specs.declared.area.TheConstants.{AREA_LIMIT};
     ghost use Rattle.cue_snap.specs.Pair.{PairIsEither, PairLeaves, NeitherHas, SomeIsThere, IsUnformedOr, AfterBarrier};
@@ -98,6 +83,9 @@ impl<D: Disk> Snap<D> {
         ensures not_empty { D.is_honest first → D.is_honest second → RefusedAs FormFault.NotEmpty (SomeIsThere (D.held first).bytes (D.held second).bytes) result }
         ensures first_kept { D.is_honest first → RefusedAs FormFault.NotEmpty (LeavesOnly D.moment D.held_at first (first_after first_of result) (IsImage (D.held first))) result }
         ensures first_bytes { D.is_honest first → RefusedAs FormFault.NotEmpty ((D.held (first_after first_of result)).bytes ≡ (D.held first).bytes) result }
+        // NotEmpty is answered once both disks are synced, so what was found stays.
+        ensures first_synced { D.is_honest first → RefusedAs FormFault.NotEmpty (IsStable (D.held (first_after first_of result))) result }
+        ensures second_synced { D.is_honest second → RefusedAs FormFault.NotEmpty (IsStable (D.held (second_after second_of result))) result }
         ensures disk { RefusedAs FormFault.Disk (MoreFailures (D.failures first) (D.failures (first_after first_of result)) ⊎ MoreFailures (D.failures second) (D.failures (second_after second_of result))) result }
 
         // Up to the barrier a stop leaves what one at entry might have left, from then on no area or this one.
@@ -128,7 +116,8 @@ impl<D: Disk> Snap<D> {
         }
     }
 
-    /// Adds a record to the live area. It takes no memory.
+    /// Adds a record to the live area. It takes no memory. After a fault the pair tells the numbers that it had before:
+    /// whether a record of which `Disk` was answered is there, is known once the pair is opened again.
     pub fn append(&mut self, added: &Record) -> Result<(), AppendFault>
         // Broken comes first, then Full; both leave all as it was.
         ensures broken { IsErrOf result AppendFault.Broken ↔ (is_broken self.old ≡ true) }
@@ -146,6 +135,7 @@ impl<D: Disk> Snap<D> {
         ensures area { D.is_honest (live_of self.old) → OnOk result (area_of D.held self.new ≡ with_payload (area_of D.held self.old) added.now) }
         ensures works { OnOk result (is_broken self.new ≡ false) }
         ensures numbers { OnOk result ((count_of self.new ≡ count_of self.old + 1) × (end_of self.new ≡ end_of self.old + 5 + length added.now)) }
+        ensures numbers_kept { OnErr result ((count_of self.new ≡ count_of self.old) × (end_of self.new ≡ end_of self.old)) }
         ensures generation { generation_of self.new ≡ generation_of self.old }
 
         // The spare disk is not touched. A stop at any moment leaves the area as it was, or with the record.

@@ -17,7 +17,8 @@ pub(crate) fn turn<D: Disk>(
     generation: u64,
     snapshot: &[u8],
 ) -> Result<(), DiskFault>
-    requires { 14 + length snapshot.now ≤ AREA_LIMIT }
+    requires room { 14 + length snapshot.now ≤ AREA_LIMIT }
+    requires works { is_broken log.old ≡ false }
     ensures formed { D.is_honest spare.old → OnOk result (ReadsAs (D.held (disk_of log.new)) (fresh generation snapshot.now)) }
     ensures area { D.is_honest spare.old → OnOk result (area_of D.held log.new ≡ fresh generation snapshot.now) }
     ensures numbers { OnOk result ((generation_of log.new ≡ generation) × (count_of log.new ≡ 0) × (end_of log.new ≡ 13 + length snapshot.now)) }

@@ -41,3 +41,28 @@ fn an_area_that_is_filled(rt: HostRuntime) -> Result<(), Fail> {
     );
     Ok(())
 }
+
+// A file longer than an area may be: the head of an area with a snapshot of so many bytes 7, and zeros behind it.
+fn long_file(alloc: Global, len: u32) -> Result<Vec<u8>, AllocError> {
+    let mut bytes = [1, 0, 0, 0, 0, 0, 0, 0, 1].to_vec(alloc)?;
+    bytes.extend_from_slice(&len.to_be_bytes())?;
+    let snapshot: Vec<u8> = vec![in alloc; 7; len as usize]?;
+    bytes.extend_from_slice(&snapshot)?;
+    bytes.resize(4_194_404, 0)?;
+    Ok(bytes)
+}
+
+#[test]
+fn a_file_longer_than_an_area(rt: HostRuntime) -> Result<(), Fail> {
+    let alloc = rt.alloc();
+    // The last gate is the last byte that an area may have.
+    let area = opened_bytes(alloc, &long_file(alloc, 4_194_290)?)?;
+    assert_eq!(rt; area.snapshot.as_slice().len(), 4_194_290);
+    assert_eq!(rt; area.log.count(), 0);
+    // And one byte beyond it.
+    assert_eq!(rt;
+        opened_bytes(alloc, &long_file(alloc, 4_194_291)?).err(),
+        Some(OpenFault::Damaged)
+    );
+    Ok(())
+}

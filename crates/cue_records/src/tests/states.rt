@@ -11,7 +11,7 @@ use std::test::Fail;
 const STATES: &str = "\
 01 00 0000 00 00000000 0000000000 00 = devices, place -, last 0, ended -
 01 01032329 0002 0131010300 0132010300 0131 00000000 0000000000 00 = devices 3:9001, cue 1 3[], cue 2 3[], place 1, last 0, ended -
-01 02 032329 04232a 0001 013102 03020a0b 0400 00 00000001 0000000000 01 00000001 0131 0000000000002af8 01 0000 = devices 3:9001 4:9002, cue 1 3[10, 11] 4[], place -, last 1, ended -, attempt 1 1 until 11000 Preparing 3 Waiting 4 Waiting
+01 02 032329 04232a 0002 013102 03020a0b 0400 013201 0300 00 00000001 0000000000 01 00000001 0131 0000000000002af8 01 0000 = devices 3:9001 4:9002, cue 1 3[10, 11] 4[], cue 2 3[], place -, last 1, ended -, attempt 1 1 until 11000 Preparing 3 Waiting 4 Waiting
 01 02 032329 04232a 0001 013102 0300 0400 00 00000009 0000000803 01 00000009 0131 0000000000000000 01 0100 = devices 3:9001 4:9002, cue 1 3[] 4[], place -, last 9, ended 8 Failed, attempt 9 1 until 0 Preparing 3 Ready 4 Waiting
 01 02 032329 04232a 0001 013102 0300 0400 00 00000009 0000000102 01 00000002 0131 0000000000000000 02 0002 = devices 3:9001 4:9002, cue 1 3[] 4[], place -, last 9, ended 1 Cancelled, attempt 2 1 until 0 Decided 3 Waiting 4 Done
 01 02 032329 04232a 0002 01310103 00 01320104 00 0132 7fffffff 7fffffff01 02 00000001 0131 0000000000000000 03 00 00000002 0132 ffffffffffffffff 07 00 = devices 3:9001 4:9002, cue 1 3[], cue 2 4[], place 2, last 2147483647, ended 2147483647 Complete, attempt 1 1 until 0 Cancelling(Operator) 3 Waiting, attempt 2 2 until 18446744073709551615 Cancelling(Release) 4 Waiting
@@ -101,8 +101,9 @@ fn apply(rt: &impl Abort, state: &mut State, events: &[Event]) -> Result<(), All
     Ok(())
 }
 
-// The devices 3 and 4, the cue 1 for both, and a start at it.
-const EVENTS: &str = "0004 01032329 0104232a 0301310203020a0b0400 06000000010131 0000000000002af8";
+// The devices 3 and 4, the cue 1 for both, the cue 2 for the first, and a start at the cue 1.
+const EVENTS: &str =
+    "0005 01032329 0104232a 0301310203020a0b0400 030132010300 06000000010131 0000000000002af8";
 
 fn assert_after_events(rt: &impl Abort, alloc: Global, state: &mut State) -> Result<(), Fail> {
     assert_line(rt, alloc, state, 0)?;
@@ -166,4 +167,15 @@ fn texts_of_another_version(rt: HostRuntime) {
         assert_refused(&rt, rt.alloc(), &text, StateFault::Version, "a whole text");
         assert_refused(&rt, rt.alloc(), &[version], StateFault::Version, "one byte");
     }
+}
+
+// A whole text but for its first byte.
+const OTHER: &str = "03 01032329 0002 0131010300 0132010300 0131 00000000 0000000000 00";
+
+#[test]
+fn a_show_of_another_version(rt: HostRuntime) -> Result<(), Fail> {
+    let alloc = rt.alloc();
+    let text = bytes(alloc, OTHER)?;
+    assert_refused(&rt, alloc, &text, StateFault::Version, OTHER);
+    Ok(())
 }

@@ -26,5 +26,5 @@ loop-text-preserved g c =
           front_more (g.D.Disk.held c.args.disk.now).bytes c.loop-text.text.items c.read_more.new.text.items c.min-more.result (so_far.front honest)
           (c.in_ok-read_more.ensures.text (so_far.honest.1 honest) ∙ same) c.in_ok-read_more.ensures.len;
       short = omega (arith, c.in_ok-read_more.ensures.len, c.min-more.ensures, c.loop-text-test.true);
-      failures = omega (arith, so_far.failures, c.read_more.ensures.failures);
+      failures = c.in_ok-read_more.ensures.no_other (λ no_. absurd (cc no_)) ∙ so_far.failures;
     }

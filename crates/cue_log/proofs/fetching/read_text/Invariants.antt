@@ -8,7 +8,7 @@ invariant-loop-text g l = record {
   honest : g.D.Disk.is_honest l.disk ↔ g.D.Disk.is_honest l.initial.disk;
   front : g.D.Disk.is_honest l.initial.disk → l.text.items ≡ take (length l.text.items) (g.D.Disk.held l.initial.disk).bytes;
   short : length l.text.items ≤ l.most;
-  failures : g.D.Disk.failures l.initial.disk ≤ g.D.Disk.failures l.disk;
+  failures : g.D.Disk.failures l.disk ≡ g.D.Disk.failures l.initial.disk;
 }
 
 abbrev pub decreases-loop-text : goal.decreases-loop-text

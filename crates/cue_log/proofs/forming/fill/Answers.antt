@@ -1,7 +1,9 @@
-use Rattle.std.proofs.Common.{◌≡◌, ◌+◌, ◌<◌, arith, ap, length, length-append}
+use Rattle.std.proofs.Common.{◌≡◌, ◌+◌, ◌<◌, ◌∷◌, [], ◌∙◌, List, ℕ, arith, ap, length, length-append}
+use Rattle.cue_disk.specs.Disk.{overwritten}
 use Rattle.cue_disk.proofs.Moments.{started, goes_on}
 use Rattle.cue_log.specs.Area.{IsAbsent, eight_bytes, four_bytes}
-use Rattle.cue_log.proofs.Settled.{if_ok}
+use Rattle.cue_log.proofs.Overwritten.{body-overwritten}
+use Rattle.cue_log.proofs.Settled.{at_ok, if_ok}
 use Rattle.cue_log.proofs.Filled.{shut_absent, shut_stays, shut_leaves, body_written, filled_after}
 use Rattle.cue_log.proofs.Texts.{length-eight_bytes, length-four_bytes}
 use Rattle.cue_log.proofs.forming.fill.Goals as goal
@@ -65,3 +67,19 @@ returns-clause-filled g c = λ honest.
     if_ok c.sync.result
     (filled_after c.args.generation c.args.snapshot.now header.result (held c.write_at-3.new.self) (held c.sync.new.self) _ header.ensures shut3 body (c.sync.ensures.bytes honest3))
     (c.sync.ensures.stable honest3)
+
+pub returns-clause-bytes : goal.returns-clause-bytes
+returns-clause-bytes g c = λ honest.
+    let held = g.D.Disk.held in
+    let shut = c.requires.shut honest in
+    let honest1 = c.write_at.ensures.honest.1 honest in
+    let honest2 = c.write_at-2.ensures.honest.1 honest1 in
+    let honest3 = c.write_at-3.ensures.honest.1 honest2 in
+    let some : 0 < length (held c.args.disk.now).bytes = omega (arith, shut.0, (g.met.D.Disk.reads_as_image c.args.disk.now honest).no_shorter) in
+    let header = c.header_of-header in
+    let snapshot = c.args.snapshot.now in
+    let twelve : length header.result ≡ 12 = omega (arith, ap length header.ensures, length-append (eight_bytes c.args.generation) (four_bytes (length snapshot)), length-eight_bytes c.args.generation, length-four_bytes (length snapshot)) in
+    at_ok c.sync.result
+    (c.sync.ensures.bytes honest3 ∙ c.in_ok-write_at-3.ensures.written honest2
+    ∙ ap (λ (l : List ℕ). overwritten l (13 + length snapshot) (0 ∷ [])) (c.in_ok-write_at-2.ensures.written honest1 ∙ ap (λ (l : List ℕ). overwritten l 13 snapshot) (c.in_ok-write_at.ensures.written honest))
+    ∙ body-overwritten (held c.args.disk.now).bytes header.result snapshot c.args.generation some twelve header.ensures)

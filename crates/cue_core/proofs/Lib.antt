@@ -6,6 +6,7 @@ pub mod Rules
 pub mod Sound
 pub mod Facts
 pub mod Judged
+pub mod Few
 pub mod Cancels
 pub mod Safety
 pub mod ReplyLaws

@@ -1,5 +1,5 @@
 //! The events of one verdict: none, one, or two in order, in place so that they take no memory.
-ghost use Rattle.std.specs.Prelude.{◌≡◌, ◌↔◌, [], ◌∷◌, ◌++◌, length, slice_get, IsTrue, IfNone};
+ghost use Rattle.std.specs.Prelude.{◌≡◌, ◌↔◌, ◌≤◌, [], ◌∷◌, ◌++◌, length, slice_get, IsTrue, IfNone};
 ghost use Rattle.std.specs.Option.{option_copied, option_to_list};
 
 use crate::event::Event;
@@ -20,7 +20,7 @@ enum Held {
 }
 
 impl Model for Events {
-    ghost use Rattle.std.specs.Prelude.{List};
+    ghost use Rattle.std.specs.Prelude.{◌≤◌, List, length};
     ghost use Rattle.cue_core.specs.declared.event.Event.{Event};
 
     ghost Value = { List Event };
@@ -28,6 +28,8 @@ impl Model for Events {
     ghost use Rattle.cue_core.specs.EventList.{events_in};
 
     ghost view = { λ e. events_in e.held };
+
+    ghost invariant = { λ e. length (events_in e.held) ≤ 2 };
 }
 
 impl Events {
@@ -58,7 +60,8 @@ impl Events {
 
     /// How many events there are.
     pub fn len(&self) -> usize
-        ensures { result ≡ length self.now }
+        ensures value { result ≡ length self.now }
+        ensures few { result ≤ 2 }
     {
         match &self.held {
             Held::None => 0,

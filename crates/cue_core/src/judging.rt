@@ -1,5 +1,5 @@
 //! What becomes of a command: the first line of its table that holds decides.
-ghost use Rattle.std.specs.Prelude.{◌≡◌, IsTrue, IfOk};
+ghost use Rattle.std.specs.Prelude.{◌≡◌, ◌≢◌, ◌↔◌, ◌≤◌, [], IsTrue, IfOk, length};
 ghost use Rattle.cue_core.specs.Judge.{is_fit, judged};
 ghost use Rattle.cue_core.specs.Steps.{are_acceptable};
 
@@ -16,7 +16,7 @@ use verdicts::{known, refused};
 
 /// Judges a command on a state, at the moment `now` in milliseconds since 1970, where it came from the port `from` of this machine.
 ///
-/// The events that come with the verdict are acceptable in turn; a command that is known or refused has none. Only the parts of a new
+/// The events that come with the verdict are acceptable in turn. Only the parts of a new
 /// cue take memory, from the allocator that the command's own parts keep.
 pub fn judge(
     state: &State,
@@ -27,6 +27,10 @@ pub fn judge(
     requires { IsTrue (is_fit command.now) }
     ensures table { IfOk result (λ r. r ≡ judged state.now now from command.now) }
     ensures acceptable { IfOk result (λ r. IsTrue (are_acceptable state.now r.1)) }
+    ensures few { IfOk result (λ r. length r.1 ≤ 2) }
+
+    // What is made has an event, and what is known or refused has none.
+    ensures made { IfOk result (λ r. (r.0 ≡ Verdict.Made) ↔ (r.1 ≢ [])) }
 {
     let _last = state.last_seq();
     judged(state, now, from, command)

@@ -1,4 +1,6 @@
 // Each refusal, and what it leaves.
+ghost use Rattle.std.specs.Prelude.{◌<◌};
+
 use super::*;
 
 // What opening a store of these bytes answers, where it is refused.

@@ -1,6 +1,6 @@
 use Rattle.std.proofs.Common.{◌∙◌, ◌-◌, length, arith}
 use Rattle.cue_pattern.proofs.PositionsLemmas.{left-start, left-more}
-use Rattle.cue_pattern.proofs.piece.Part.matches.Goals as goal
+use Rattle.cue_pattern.proofs.piece.Part.matches_by.Goals as goal
 
 pub loop-rest-init : goal.loop-rest-init
 loop-rest-init c =

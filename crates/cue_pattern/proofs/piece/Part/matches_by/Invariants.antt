@@ -1,7 +1,7 @@
 use Rattle.std.proofs.Common.{◌≡◌, length, take, drop}
 use Rattle.cue_pattern.specs.Matching.{part_matches}
 use Rattle.cue_pattern.specs.Steps.{Tells}
-use Rattle.cue_pattern.proofs.piece.Part.matches.Given as goal
+use Rattle.cue_pattern.proofs.piece.Part.matches_by.Given as goal
 
 abbrev pub invariant-loop-rest : goal.invariant-loop-rest
 invariant-loop-rest l = record {

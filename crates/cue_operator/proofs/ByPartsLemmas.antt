@@ -1,8 +1,8 @@
 -- A pattern matched part by part.
-use Rattle.std.proofs.Common.{◌≡◌, ◌≢◌, ℕ, length, Bool, true, false, ◌&&◌, List, [], ◌∷◌, ◌++◌, map, filter, cond, refl, sym, ap, ◌∙◌, append-nil}
+use Rattle.std.proofs.Common.{◌≡◌, ◌≢◌, ℕ, length, Bool, true, false, ◌&&◌, List, [], ◌∷◌, ◌++◌, map, filter, cond, refl, ap, ◌∙◌, append-nil}
 use Rattle.std.specs.Prelude.{◌==◌, not, IsTrue, codes}
 use Rattle.std.specs.Fmt.{decimal}
-use Rattle.std.specs.List.{list_all, flat_map, AllByRecursion}
+use Rattle.std.specs.List.{list_all, flat_map}
 use Rattle.std.specs.Map.{keys_of}
 use Rattle.std.proofs.lemmas.List.Elements.{filter-append}
 use Rattle.std.proofs.lemmas.Bool.{eqb-false, not-true}
@@ -22,7 +22,7 @@ use Rattle.cue_operator.specs.declared.method.Method.{Method}
 use Rattle.cue_operator.specs.declared.method.Method.TheVariants as method
 use Rattle.cue_operator.specs.Methods.{under, address_of, cue_verb_text, device_verb_text, cue_verbs, device_verbs, fixed_methods, methods_of_cue, methods_of_device, methods}
 use Rattle.cue_operator.specs.Commands.{methods_at}
-use Rattle.cue_operator.specs.ByParts.{methods_if, named_cue, named_device, status_by, show_by, cues_by, devices_by, methods_by, MatchedByParts}
+use Rattle.cue_operator.specs.ByParts.{methods_if, status_by, show_by, cues_by, devices_by, MatchedByParts}
 use Rattle.cue_operator.proofs.LookUps.{both, no_slash, filter-same, filter-none, filter-mapped, filter-flat, flat-same, flat-none, entries-no_slash, numbers-no_slash}
 
 abbrev Pattern : Type 0

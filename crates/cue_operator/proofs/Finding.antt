@@ -1,6 +1,6 @@
 -- One method at each address, and finding it.
-use Rattle.std.proofs.Common.{◌≡◌, ℕ, ◌+◌, ◌-◌, ◌*◌, ◌/◌, ◌%◌, ◌<◌, ◌≤◌, ◌^◌, length, take, drop, Bool, true, false, not, ◌&&◌, List, [], ◌∷◌, ◌++◌, Option, None, Some, map, filter, cond, nat_eq, nat_lt, suc, add-one, if◌then◌else◌, refl, sym, ap, ◌∙◌, subst, arith, append-nil}
-use Rattle.std.specs.Prelude.{◌==◌, ◌||◌, IsTrue, option_and_then, is_some, codes, Result, Ok, Err}
+use Rattle.std.proofs.Common.{◌≡◌, ℕ, ◌+◌, ◌-◌, ◌*◌, ◌/◌, ◌%◌, ◌<◌, ◌≤◌, length, take, drop, Bool, true, false, not, ◌&&◌, List, [], ◌∷◌, ◌++◌, Option, None, Some, map, filter, cond, nat_eq, nat_lt, add-one, if◌then◌else◌, refl, sym, ap, ◌∙◌, subst, arith, append-nil}
+use Rattle.std.specs.Prelude.{◌==◌, ◌||◌, IsTrue, option_and_then, is_some, codes, Err}
 use Rattle.std.specs.Fmt.{decimal}
 use Rattle.std.specs.Option.{option_map, option_map_or, option_to_list}
 use Rattle.std.specs.List.{list_all, list_any, flat_map, find, starts_with}
@@ -17,12 +17,10 @@ use Rattle.cue_show.specs.Distinct.{are_distinct}
 use Rattle.cue_show.specs.Number.{same_text, is_cue_number}
 use Rattle.cue_show.specs.Show.{ShowLists, Cues, is_show, is_table, is_stack_of, is_cue_of, is_entry, has_cue, has_device}
 use Rattle.cue_osc.specs.Argument.{Argument}
-use Rattle.cue_core.specs.declared.command.Code.{Code}
 use Rattle.cue_core.specs.declared.command.Code.TheVariants as code
-use Rattle.cue_core.specs.declared.command.Command.{Command}
 use Rattle.cue_pattern.specs.declared.piece.Piece.{Piece}
 use Rattle.cue_pattern.specs.Literal.{is_literal}
-use Rattle.cue_pattern.specs.Reading.{cut, enclosed, parts_of, pieces_of, pattern_at}
+use Rattle.cue_pattern.specs.Reading.{enclosed, parts_of, pieces_of, pattern_at}
 use Rattle.cue_pattern.specs.Steps.{CutsFirst}
 use Rattle.cue_operator.specs.declared.method.CueVerb.{CueVerb}
 use Rattle.cue_operator.specs.declared.method.DeviceVerb.{DeviceVerb}
@@ -33,7 +31,7 @@ use Rattle.cue_operator.specs.Arguments.{command_by}
 use Rattle.cue_operator.specs.Commands.{methods_at, unless_none, commands_matched, commands_of}
 use Rattle.cue_operator.specs.LookUp.{behind_front, cut_at_slash, name_and_verb, cue_verbs_at, device_verbs_at, cue_methods_at, device_methods_at, looked_up, number_at, device_written, device_named, OneMethodAtEach}
 use Rattle.cue_operator.proofs.Literals.{literal-pattern}
-use Rattle.cue_operator.proofs.LookUps.{both, join, text_sym, equal_text, all-cues, all-devices, literal-is-looked-up}
+use Rattle.cue_operator.proofs.LookUps.{both, text_sym, equal_text, all-cues, all-devices, literal-is-looked-up}
 
 not_so : (b : Bool) → IsTrue (not b) → b ≡ false
 not_so true g = cc

@@ -1,4 +1,4 @@
-use Rattle.std.proofs.Common.{List, ℕ, Bor, Option, None, Some, subst, sym, ◌∙◌}
+use Rattle.std.proofs.Common.{List, ℕ, Bor, Option, None, subst}
 use Rattle.std.specs.Option.{option_copied}
 use Rattle.cue_pattern.specs.Steps.{CutsFirst}
 use Rattle.cue_operator.proofs.Finding.{named-at, cut-none, cut-some}

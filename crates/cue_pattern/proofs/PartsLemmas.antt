@@ -1,17 +1,23 @@
 -- Going over the parts of a pattern or an address, one cut after the other.
-use Rattle.std.proofs.Common.{◌≡◌, ℕ, zero, suc, ◌≢◌, get_or, add-one, is_none, is_some, not, Bor, ◌+◌, ◌<◌, ◌≤◌, Bool, true, false, ◌&&◌, List, [], ◌∷◌, ◌++◌, length, drop, Option, Some, None, Result, Ok, Err, IfOk, MatchResult, IsTrue, ◌↔◌, refl, sym, ap, ◌∙◌, arith, append_assoc, append-nil}
+use Rattle.std.proofs.Common.{◌≡◌, ℕ, zero, suc, ◌≢◌, get_or, add-one, is_none, is_some, not, Bor, ◌+◌, ◌<◌, ◌≤◌, Bool, true, false, ◌&&◌, List, [], ◌∷◌, ◌++◌, length, drop, Option, Some, None, Result, Ok, Err, IfOk, MatchResult, IsTrue, ◌↔◌, refl, sym, ap, ◌∙◌, arith, append_assoc, append-nil, subst, if◌then◌else◌, ◌==◌, nat_le, count_by, cond}
 use Rattle.std.specs.Option.{option_map, option_copied}
 use Rattle.cue_pattern.specs.declared.piece.Piece.{Piece}
 use Rattle.cue_pattern.specs.declared.fault.Fault.{Fault}
 use Rattle.cue_pattern.specs.declared.fault.Fault.TheVariants.{BadPattern, Memory}
 use Rattle.cue_pattern.specs.Grammar.{IsPattern}
 use Rattle.cue_pattern.specs.Meaning.{separated, Denotes}
-use Rattle.cue_pattern.specs.Reading.{cut, parts_of, pieces_behind, pieces_of, pattern_at}
+use Rattle.cue_pattern.specs.Reading.{with_byte, cut, parts_of, pieces_behind, pieces_of, pattern_at}
 use Rattle.cue_pattern.specs.Matching.{part_matches, parts_match, matches}
 use Rattle.cue_pattern.specs.Steps.{cut_left, left_len, CutsFirst, with_front}
+use Rattle.std.specs.declared.alloc.AllocError.{AllocError}
+use Rattle.cue_pattern.specs.Short.{is_short}
+use Rattle.cue_pattern.specs.Laws.{MatchesPartByPart}
+use Rattle.std.specs.List.{list_all}
+use Rattle.std.proofs.lemmas.Bool.Decides.{nat_tests}
+use Rattle.std.proofs.lemmas.List.Sums.{sum_by-cons}
 use Rattle.std.proofs.Math.Seq.{drop-cons}
 use Rattle.std.proofs.Math.ListN.{drop_of_length-le}
-use Rattle.cue_pattern.proofs.CutLemmas.{cut-is_cut}
+use Rattle.cue_pattern.proofs.CutLemmas.{cut-is_cut, cut-from}
 use Rattle.cue_pattern.proofs.MeaningLemmas.{matches-is, matches-again}
 use Rattle.cue_pattern.proofs.PatternLemmas.{pattern_at-is, pattern_at-again}
 
@@ -169,3 +175,64 @@ pub some-pattern : (bytes : List ℕ) (n : ℕ) → Some n ≡ option_map {U = �
 some-pattern bytes n counted none =
     let c = counted-read n (pattern_at bytes) counted in
     none c.pieces (pattern_at-is bytes c.pieces c.read_is)
+
+-- ---- as many texts as parts
+
+pub parts_match-uneven : (ps : List (List Piece)) (ts : List (List ℕ)) → length ts ≢ length ps → parts_match ps ts ≡ false
+unfolding parts_match
+parts_match-uneven [] [] ne = absurd (ne refl)
+parts_match-uneven [] (t ∷ ts) ne = refl
+parts_match-uneven (p ∷ ps) [] ne = refl
+parts_match-uneven (p ∷ ps) (t ∷ ts) ne = rw (parts_match-uneven ps ts (λ e. ne (ap suc e))) (and_false (part_matches p t))
+  where
+    and_false : (b : Bool) → (b && false) ≡ false
+    and_false true = refl
+    and_false false = refl
+
+pub matches-uneven : (pattern : List (List Piece)) (address rest : List ℕ) → parts_of address ≡ Some (cut 47 rest) → length (cut 47 rest) ≢ length pattern → matches pattern address ≡ false
+matches-uneven pattern address rest h ne = matches-behind pattern address rest h ∙ parts_match-uneven pattern (cut 47 rest) ne
+
+-- a text for each slash, and one more
+pub length-cut : (c : ℕ) (bs : List ℕ) → length (cut c bs) ≡ count_by (λ b. b == c) bs + 1
+length-cut c [] = refl
+length-cut c (b ∷ bs) = at (b == c) (length-cut c bs) ∙ ap (λ n. n + 1) (sym (sum_by-cons (λ x. cond (x == c) 1 0) b bs))
+  where
+    longer : (ts : List (List ℕ)) → 1 ≤ length ts → length (with_byte b ts) ≡ length ts
+    longer [] h = absurd (omega arith)
+    longer (t ∷ ts) h = refl
+
+    at : (t : Bool) → length (cut c bs) ≡ count_by (λ x. x == c) bs + 1 → length (if t then [] ∷ cut c bs else with_byte b (cut c bs)) ≡ cond t 1 0 + count_by (λ x. x == c) bs + 1
+    at true k = let e : suc (length (cut c bs)) ≡ 1 + count_by (λ x. x == c) bs + 1 = omega (arith, k) in e
+    at false k = let e : length (cut c bs) ≡ 0 + count_by (λ x. x == c) bs + 1 = omega (arith, k) in longer (cut c bs) (omega (arith, k)) ∙ e
+
+-- ---- short texts
+
+both : (a b : Bool) → IsTrue (a && b) → IsTrue a × IsTrue b
+both true b h = (refl, h)
+both false b h = cc
+
+pub short-parts : (bytes before : List ℕ) (behind : Option (List ℕ)) → CutsFirst 47 bytes before behind → IsTrue (list_all is_short (cut 47 bytes)) → (length before ≤ 64) × IsTrue (list_all is_short (cut_left 47 behind))
+short-parts bytes before behind h all =
+    let P : List (List ℕ) → Type 0 = λ ts. IsTrue (list_all is_short ts) in
+    let k = both (is_short before) (list_all is_short (cut_left 47 behind)) (subst P h.parts all) in
+    (few (length before) k.0, k.1)
+  where
+    few : (n : ℕ) → IsTrue (nat_le n 64) → n ≤ 64
+    few n t = grind (arith, nat_tests)
+
+-- ---- what the whole match answers
+
+pub exact-behind : (pattern : List (List Piece)) (address rest : List ℕ) (r : Result Bool AllocError) → parts_of address ≡ Some (cut 47 rest) → IfOk r (λ b. b ≡ parts_match pattern (cut 47 rest)) → IfOk r (λ b. b ≡ matches pattern address)
+exact-behind pattern address rest (Ok b) h e = e ∙ sym (matches-behind pattern address rest h)
+exact-behind pattern address rest (Err e) h k = k
+
+pub denotes-behind : (pattern : List (List Piece)) (address rest : List ℕ) (r : Result Bool AllocError) → parts_of address ≡ Some (cut 47 rest) → IfOk r (λ b. b ≡ parts_match pattern (cut 47 rest)) → IfOk r (λ b. IsTrue b ↔ Denotes pattern address)
+denotes-behind pattern address rest (Ok b) h e = denotes-from pattern address b (e ∙ sym (matches-behind pattern address rest h))
+denotes-behind pattern address rest (Err e) h k = k
+
+-- ---- texts put together
+
+pub matches-part_by_part : MatchesPartByPart
+matches-part_by_part pattern texts some none =
+    let bytes : List ℕ = separated 47 texts in
+    matches-behind pattern (47 ∷ bytes) bytes refl ∙ ap (parts_match pattern) (cut-from 47 bytes texts (some, refl, none))

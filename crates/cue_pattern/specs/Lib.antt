@@ -5,3 +5,5 @@ pub mod Reading
 pub mod Matching
 pub mod Laws
 pub mod Steps
+pub mod Short
+pub mod Literal

@@ -4,6 +4,7 @@
 mod cut;
 mod fault;
 pub mod laws;
+mod literal;
 mod pattern;
 mod piece;
 mod positions;
@@ -11,9 +12,11 @@ mod ranges;
 mod texts;
 mod token;
 
+pub use cut::cut_first;
 pub use fault::Fault;
+pub use literal::is_literal;
 pub use pattern::Pattern;
-pub use piece::{Part, Piece};
+pub use piece::{MAX_SHORT, Part, Piece};
 pub use ranges::{Range, Ranges};
 pub use texts::{Text, Texts};
 

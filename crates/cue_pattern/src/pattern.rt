@@ -1,6 +1,7 @@
 //! A whole pattern: read from bytes, and matched with addresses.
 
-ghost use Rattle.std.specs.Prelude.{◌≡◌, ◌↔◌, ◌<◌, ◌≤◌, ℕ, List, IsTrue, IfOk, MatchResult, Some, None, length};
+ghost use Rattle.std.specs.Prelude.{◌≡◌, ◌↔◌, ◌≤◌, ◌==◌, ℕ, count_by, List, IsTrue, IfOk, IsOk, MatchResult, Some, None, length};
+ghost use Rattle.std.specs.List.{list_all};
 ghost use Rattle.std.specs.Option.{option_copied, option_map};
 ghost use Rattle.cue_pattern.specs.Bytes.{slash};
 ghost use Rattle.cue_pattern.specs.Reading.{cut, parts_of, pattern_at};
@@ -55,11 +56,26 @@ fn count_parts(bytes: &[u8]) -> Option<usize>
     Some(count)
 }
 
+fn count_slashes(rest: &[u8]) -> usize
+    ensures count { result ≡ count_by (λ b. b == slash) rest.now }
+    ensures few { result ≤ length rest.now }
+{
+    rest.iter().filter(|b| **b == b'/').count()
+}
+
+/// How many texts stand between the slashes.
+fn count_texts(rest: &[u8]) -> usize
+    ensures { result ≡ length (cut slash rest.now) }
+{
+    count_slashes(rest) + 1
+}
+
 impl Pattern {
     ghost use Rattle.cue_pattern.specs.declared.piece.Piece.{Piece};
     ghost use Rattle.cue_pattern.specs.Meaning.{Denotes};
     ghost use Rattle.cue_pattern.specs.Grammar.{IsPattern};
     ghost use Rattle.cue_pattern.specs.Matching.{parts_match, matches};
+    ghost use Rattle.cue_pattern.specs.Short.{is_short, are_short};
 
     /// Reads the address of a message as a pattern. An address without special bytes is a pattern
     /// too, which matches itself alone. Bad bytes are told from a refused allocation in every case.
@@ -101,41 +117,51 @@ impl Pattern {
         Ok(Pattern { parts })
     }
 
+    /// The parts, in order.
+    pub fn parts(&self) -> &[Part]
+        ensures { result.now ≡ self.now }
+    {
+        self.parts.as_slice()
+    }
+
     /// Whether the pattern matches an address. Bytes that do not begin with `/` are no address, and
     /// are never matched. The time is bounded by the number of pieces times the length of the
-    /// address; memory is asked for once.
+    /// address; memory is asked for only by parts of the address that are not short.
     pub fn matches(&self, address: &[u8]) -> Result<bool, AllocError>
         // The answer is whether the pattern denotes the address.
         ensures denotes { IfOk result (λ b. IsTrue b ↔ Denotes self.now address.now) }
 
         // The same by a function that computes, for the layers above.
         ensures exact { IfOk result (λ b. b ≡ matches self.now address.now) }
+        // Where each part of the address is short, no memory is asked for.
+        ensures short { IsTrue (are_short (parts_of address.now)) → IsOk result }
     {
         let Some(first) = behind_slash(address) else {
             return Ok(false);
         };
-        let alloc = *self.parts.allocator();
-        let mut reached = vec![in alloc; false; address.len()]?;
-        Ok(self.match_parts(first, reached.as_mut_slice()))
+        if count_texts(first) != self.parts().len() {
+            return Ok(false);
+        }
+        self.match_parts(first)
     }
 
     /// Whether the parts match what follows the first slash of an address, as many of the one as of
-    /// the other. What `reached` holds does not matter, it is room to work in.
-    fn match_parts(&self, rest: &[u8], reached: &mut [bool]) -> bool
-        requires { length rest.now < length reached.old }
-        ensures { result ≡ parts_match self.now (cut slash rest.now) }
+    /// the other.
+    fn match_parts(&self, rest: &[u8]) -> Result<bool, AllocError>
+        ensures exact { IfOk result (λ b. b ≡ parts_match self.now (cut slash rest.now)) }
+        ensures short { IsTrue (list_all is_short (cut slash rest.now)) → IsOk result }
     {
         let mut left = Some(rest);
         for part in &self.parts {
             let Some(rest) = left else {
-                return false;
+                return Ok(false);
             };
             let (text, next) = cut_first(b'/', rest);
-            if !part.matches(text, reached) {
-                return false;
+            if !part.matches(text)? {
+                return Ok(false);
             }
             left = next;
         }
-        left.is_none()
+        Ok(left.is_none())
     }
 }

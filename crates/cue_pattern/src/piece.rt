@@ -1,6 +1,6 @@
 //! What a pattern is made of: parts, and in a part its pieces in a row.
 
-ghost use Rattle.std.specs.Prelude.{◌≡◌, ◌<◌, length, IfOk, Some, None};
+ghost use Rattle.std.specs.Prelude.{◌≡◌, ◌<◌, ◌≤◌, length, IfOk, IsOk, Some, None};
 ghost use Rattle.std.specs.Option.{option_map};
 ghost use Rattle.cue_pattern.specs.Reading.{pieces_behind};
 
@@ -60,6 +60,9 @@ impl Piece {
     }
 }
 
+/// The most bytes of a text that is matched without memory.
+pub const MAX_SHORT: usize = 64;
+
 /// What stands between two slashes of a pattern: pieces in a row.
 #[derive(Debug, Drop)]
 pub struct Part {
@@ -97,8 +100,31 @@ impl Part {
         Ok(Part { pieces })
     }
 
+    /// Whether the part matches a text between two slashes of an address. A text of up to `MAX_SHORT`
+    /// bytes takes no memory, a longer one takes it once.
+    pub fn matches(&self, text: &[u8]) -> Result<bool, AllocError>
+        ensures exact { IfOk result (λ b. b ≡ part_matches self.now text.now) }
+        ensures short { length text.now ≤ MAX_SHORT → IsOk result }
+    {
+        if text.len() <= MAX_SHORT {
+            return Ok(self.matches_short(text));
+        }
+        let alloc = *self.pieces.allocator();
+        let mut reached = vec![in alloc; false; text.len() + 1]?;
+        Ok(self.matches_by(text, reached.as_mut_slice()))
+    }
+
+    /// Whether the part matches a short text. This takes no memory.
+    pub fn matches_short(&self, text: &[u8]) -> bool
+        requires { length text.now ≤ MAX_SHORT }
+        ensures { result ≡ part_matches self.now text.now }
+    {
+        let mut reached = [false; MAX_SHORT + 1];
+        self.matches_by(text, &mut reached)
+    }
+
     /// Whether the part matches the text. What `reached` holds does not matter, it is room to work in.
-    pub(crate) fn matches(&self, text: &[u8], reached: &mut [bool]) -> bool
+    fn matches_by(&self, text: &[u8], reached: &mut [bool]) -> bool
         requires { length text.now < length reached.old }
         ensures { result ≡ part_matches self.now text.now }
     {

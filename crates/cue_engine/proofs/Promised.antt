@@ -12,7 +12,7 @@ use Rattle.cue_outbox.specs.Sending.{Send, all_pending}
 use Rattle.cue_engine.specs.Given.{Input, given, given_recovery, closed}
 use Rattle.cue_engine.specs.Runs.{with_batch, joined, rests}
 use Rattle.cue_engine.specs.Headline.{Incident, taken, handed_out, stopped, stopped_in_take, recovered, stopped_in_recovery, Store, running, at_rest, begun, RecoversTo, LeavesClosing, Permits, left_by, Happens, left_by_all, owed_by, handed_in, all_handed, batch_of, is_cut_off, AreKept, StandsAt, CameTo, WhateverHappens, IsPromised, RecoveryGivesAPrefix}
-use Rattle.cue_engine.proofs.Tests.{all-append, all_implied}
+use Rattle.cue_engine.proofs.Truth.{all-append, all_implied}
 use Rattle.cue_engine.proofs.Resting.{more, earlier, input_rests, all_pending_rest, joined-with}
 
 -- what the store stands for after these events, and that what is owed rests on them

@@ -1,0 +1,103 @@
+-- What holds of answers, of status and of all that is pending holds of all that is sent.
+use Rattle.std.proofs.Common.{◌≡◌, ℕ, Bool, true, false, not, cond, List, [], ◌∷◌, ◌++◌, Result, Ok, Err, map, filter, if◌then◌else◌, refl, sym, subst}
+use Rattle.std.specs.List.{AllByRecursion, list_any, list_all}
+use Rattle.cue_core.specs.declared.event.Event.{Event}
+use Rattle.cue_core.specs.declared.command.Command.{Command}
+use Rattle.cue_core.specs.declared.command.Command.TheVariants as command
+use Rattle.cue_core.specs.State.{Standing}
+use Rattle.cue_core.specs.Steps.{folded}
+use Rattle.cue_core.specs.Happenings.{ticked, events_at}
+use Rattle.cue_osc.specs.Content.{Content}
+use Rattle.cue_outbox.specs.Sending.{Send, order, answer, status, status_of, all_pending, datagrams}
+use Rattle.cue_outbox.proofs.Lists.{each_append, each_flat, each_map}
+use Rattle.cue_engine.specs.declared.refusal.Refusal.{Refusal}
+use Rattle.cue_engine.specs.declared.refusal.Refusal.TheVariants as refusal
+use Rattle.cue_engine.specs.Heard.{Step, Heard, refused, carried, all_counts, hear_all, all_events, replies_to, replies_or_one, shown_by, sent_to}
+use Rattle.cue_engine.specs.Given.{Input, datagram, tick, Given, given, given_by, given_heard, given_refused, are_too_many, messages_in, newly_pending, is_new, closed}
+use Rattle.cue_engine.specs.Runs.{Happening, took, given_at}
+use Rattle.cue_engine.specs.Runs as runs
+
+-- it holds of what is no command
+pub record HoldsElsewhere (R : Send → Type 0) : Type 0 where
+  pub answers : (a : List ℕ) (m k r c : ℕ) → R (answer a m k r c)
+  pub statuses : (l : ℕ) (p : List ℕ) (v e o : ℕ) → R (status l p v e o)
+
+-- it holds of each, whatever its port
+abbrev pub Each : (Send → Type 0) → List (ℕ × Send) → Type 0
+Each R ms = AllByRecursion (λ (m : ℕ × Send). R m.1) ms
+
+-- of all that is sent it holds where it holds of all that is pending after the batch
+abbrev pub HoldsOfSent : (Send → Type 0) → Standing → Given → Type 0
+HoldsOfSent R s g = Each R (all_pending (folded s g.batch)) → Each R g.sends
+
+each : {A : Type 0} (xs : List A) → AllByRecursion (λ x. Unit {0}) xs
+each [] = tt
+each (x ∷ xs) = (tt, each xs)
+
+each_kept : {A : Type 0} (P : A → Type 0) (p : A → Bool) (xs : List A) → AllByRecursion P xs → AllByRecursion P (filter p xs)
+each_kept P p [] h = tt
+each_kept P p (x ∷ xs) h = by (p x) h.0 (each_kept P p xs h.1)
+  where
+    by : (b : Bool) → P x → AllByRecursion P (filter p xs) → AllByRecursion P (cond b (x ∷ filter p xs) (filter p xs))
+    by true k r = (k, r)
+    by false k r = r
+
+module _ (R : Send → Type 0) (els : HoldsElsewhere R) where
+  shown-each : (c : Command) (t : Standing) → AllByRecursion R (shown_by c t)
+  unfolding status_of
+  shown-each command.Status t = (els.statuses _ _ _ _ _, tt)
+  shown-each (command.AddDevice device port) t = tt
+  shown-each (command.AddCue cue parts) t = tt
+  shown-each (command.Standby cue) t = tt
+  shown-each (command.Go cue) t = tt
+  shown-each (command.Cancel cue) t = tt
+  shown-each (command.Goto cue) t = tt
+  shown-each (command.RemoveCue cue) t = tt
+  shown-each (command.Reply kind device seq) t = tt
+  shown-each (command.Release device) t = tt
+  shown-each (command.RemoveDevice device) t = tt
+  shown-each (command.Bad code) t = tt
+
+  reply-each : (h : Heard) → AllByRecursion R (replies_to h)
+  reply-each (refused a c) = (els.answers _ _ _ _ _, tt)
+  reply-each (carried a xs) = (els.answers _ _ _ _ _, each_flat (λ x. Unit {0}) R (λ (x : Step). shown_by x.command x.before) (λ x u. shown-each x.command x.before) xs (each xs))
+
+  replies-each : (hs : List Heard) → AllByRecursion R (replies_or_one hs)
+  replies-each [] = (els.answers _ _ _ _ _, tt)
+  replies-each (h ∷ hs) = each_flat (λ x. Unit {0}) R replies_to (λ x u. reply-each x) (h ∷ hs) (each (h ∷ hs))
+
+  sent-each : (from : ℕ) (ms : List Send) → AllByRecursion R ms → Each R (sent_to from ms)
+  sent-each from ms h = each_map (λ (m : ℕ × Send). R m.1) (λ m. (from, m)) ms h
+
+  newly-each : (s t : Standing) → Each R (all_pending t) → Each R (newly_pending s t)
+  unfolding newly_pending
+  newly-each s t h = each_kept (λ (m : ℕ × Send). R m.1) (is_new (datagrams (all_pending s))) (all_pending t) h
+
+  refused-each : (s : Standing) (from : ℕ) (why : Refusal) → HoldsOfSent R s (given_refused from why)
+  refused-each s from why h = (els.answers _ _ _ _ _, tt)
+
+  heard-each : (s : Standing) (from : ℕ) (hs : List Heard) → HoldsOfSent R s (given_heard s from hs)
+  unfolding given_heard
+  heard-each s from hs = by (are_too_many hs)
+    where
+      full : Given
+      full = record { batch = all_events hs; sends = sent_to from (replies_or_one hs) ++ newly_pending s (folded s (all_events hs)); counts = all_counts hs }
+
+      by : (b : Bool) → HoldsOfSent R s (if b then given_refused from refusal.TooMany else full)
+      by true = refused-each s from refusal.TooMany
+      by false = λ h. each_append (λ (m : ℕ × Send). R m.1) (sent_to from (replies_or_one hs)) (newly_pending s (folded s (all_events hs)))
+          (sent-each from (replies_or_one hs) (replies-each hs)) (newly-each s (folded s (all_events hs)) h)
+
+  datagram-each : (s : Standing) (now from : ℕ) (r : Result (List Content) Refusal) → HoldsOfSent R s (given_by s now from r)
+  datagram-each s now from (Err why) = refused-each s from why
+  datagram-each s now from (Ok ms) = heard-each s from (hear_all s now from ms)
+
+  input-each : (s : Standing) (now : ℕ) (i : Input) → HoldsOfSent R s (given s now i)
+  unfolding given
+  input-each s now (datagram from bytes) = datagram-each s now from (messages_in now bytes)
+  input-each s now tick = λ h. h
+
+  pub happening-each : (s : Standing) (x : Happening) → HoldsOfSent R s (given_at s x)
+  unfolding closed
+  happening-each s (took now input) = input-each s now input
+  happening-each s runs.recovered = λ h. h

@@ -1,0 +1,50 @@
+-- What an attempt may count on, over all inputs of any parties, in any order, with recoveries from power loss between them.
+use Rattle.std.specs.Prelude.{◌≡◌, ℕ, Bool, false, not, ◌&&◌, List, [], ◌∷◌, ◌++◌, IsTrue}
+use Rattle.std.specs.List.{list_any, list_all}
+use Rattle.cue_core.specs.declared.event.Event.{Event}
+use Rattle.cue_core.specs.declared.event.Event.TheVariants.{Start, Go}
+use Rattle.cue_core.specs.Events.{is_start_of, is_ready_of, is_cancel_of}
+use Rattle.cue_core.specs.State.{empty_state}
+use Rattle.cue_core.specs.Happenings.{onto}
+use Rattle.cue_core.specs.History.{devices_by}
+use Rattle.cue_core.specs.Pending.{Order}
+use Rattle.cue_core.specs.Safety.{is_go_to, is_cancel_to}
+use Rattle.cue_outbox.specs.Sending.{Send, answer, status, order}
+use Rattle.cue_engine.specs.Runs.{Happening, run, joined}
+
+-- all events that were accepted, from the empty state on, in order
+abbrev pub accepted : List Happening → List Event
+accepted hs = joined (run empty_state hs).batches
+
+-- What was accepted before Go of an attempt, and after it.
+pub record IsDecidedInOrder (q : ℕ) (before later : List Event) : Type 0 where
+  -- the attempt had started
+  pub started : IsTrue (list_any (is_start_of q) before)
+  -- each device of its cue stood by in it
+  pub all_ready : IsTrue (list_all (λ d. list_any (is_ready_of q d) before) (devices_by (onto before []) q))
+  -- it was not cancelled, and it never is
+  pub not_cancelled : IsTrue (not (list_any (is_cancel_of q) before))
+  pub stays : IsTrue (not (list_any (is_cancel_of q) later))
+
+-- Go of an attempt is accepted only after Ready of each of its devices and after no Cancel, and no Cancel is accepted after it.
+abbrev pub DecidedInOrder : Type 0
+DecidedInOrder = (hs : List Happening) (q : ℕ) (before later : List Event) → accepted hs ≡ before ++ Go q ∷ later → IsDecidedInOrder q before later
+
+-- A number names one attempt for good: no other Start has it.
+abbrev pub NumberNamesOne : Type 0
+NumberNamesOne = (hs : List Happening) (q : ℕ) (cue : List ℕ) (deadline : ℕ) (before later : List Event) → accepted hs ≡ before ++ Start q cue deadline ∷ later
+    → IsTrue (not (list_any (is_start_of q) before) && not (list_any (is_start_of q) later))
+
+-- a datagram that is a command with this test
+abbrev pub is_command : (Order → Bool) → Send → Bool
+is_command test (answer address made known refused code) = false
+is_command test (status last place live ended outcome) = false
+is_command test (order o) = test o
+
+-- some datagram that was sent is such a command
+abbrev pub was_sent : (Order → Bool) → List Happening → Bool
+was_sent test hs = list_any (λ m. is_command test m.1) (run empty_state hs).sends
+
+-- No device is ever sent both GO_2PC and CANCEL in one attempt.
+abbrev pub NeverSentBoth : Type 0
+NeverSentBoth = (hs : List Happening) (q d : ℕ) → IsTrue (not (was_sent (is_go_to q d) hs && was_sent (is_cancel_to q d) hs))

@@ -8,10 +8,19 @@ ghost use Rattle.cue_snap.specs.Opened.{area_read, first_opened, second_opened};
 ghost use Rattle.cue_snap.specs.Pair.{NeitherHas, IsSpoiled, OneGeneration};
 ghost use Rattle.cue_snap.specs.Words.{first_after, second_after, RefusedAs};
 
-use crate::opening::{OpenFault, OpenedPair};
+use crate::opening::OpenedPair;
 use crate::snap::Snap;
 use cue_disk::Disk;
 use cue_log::Opened;
+
+/// Why neither of two areas is chosen.
+#[derive(Clone, Copy)]
+pub(crate) enum Unfit {
+    /// An area is damaged, or both have one generation.
+    Damaged,
+    /// There is no area.
+    Unformed,
+}
 
 /// What a disk was found to have.
 #[derive(Drop)]
@@ -59,7 +68,7 @@ fn pair_of<D: Disk>(opened: Opened<D>, spare: D, first_is_live: bool) -> OpenedP
 }
 
 // What counts of two areas.
-fn newer<D: Disk>(first: Opened<D>, second: Opened<D>) -> Result<OpenedPair<D>, (OpenFault, D, D)>
+fn newer<D: Disk>(first: Opened<D>, second: Opened<D>) -> Result<OpenedPair<D>, (Unfit, D, D)>
     requires first_works { OpenedWorks first }
     requires second_works { OpenedWorks second }
     requires first_opened { D.is_honest (opened_disk first) → IsOpened D.held first }
@@ -69,10 +78,8 @@ fn newer<D: Disk>(first: Opened<D>, second: Opened<D>) -> Result<OpenedPair<D>, 
     ensures works { IfOk result PairWorks }
     ensures chosen { D.is_honest (opened_disk first) → D.is_honest (opened_disk second) → IfOk result (IsChosen D.held (opened_disk first) (opened_disk second)) }
     ensures damaged { D.is_honest (opened_disk first) → D.is_honest (opened_disk second)
-        → RefusedAs OpenFault.Damaged (OneGeneration (D.held (opened_disk first)).bytes (D.held (opened_disk second)).bytes) result }
-    ensures unformed { RefusedAs OpenFault.Unformed ⊥ result }
-    ensures disk { RefusedAs OpenFault.Disk ⊥ result }
-    ensures memory { RefusedAs OpenFault.Memory ⊥ result }
+        → RefusedAs Unfit.Damaged (OneGeneration (D.held (opened_disk first)).bytes (D.held (opened_disk second)).bytes) result }
+    ensures unformed { RefusedAs Unfit.Unformed ⊥ result }
 {
     let first_generation = first.log.generation();
     let second_generation = second.log.generation();
@@ -82,14 +89,11 @@ fn newer<D: Disk>(first: Opened<D>, second: Opened<D>) -> Result<OpenedPair<D>, 
     if first_generation < second_generation {
         return Ok(pair_of(second, first.log.retire(), false));
     }
-    Err((OpenFault::Damaged, first.log.retire(), second.log.retire()))
+    Err((Unfit::Damaged, first.log.retire(), second.log.retire()))
 }
 
 // An area on the first disk, beside what the second one has.
-fn beside_area<D: Disk>(
-    first: Opened<D>,
-    second: Found<D>,
-) -> Result<OpenedPair<D>, (OpenFault, D, D)>
+fn beside_area<D: Disk>(first: Opened<D>, second: Found<D>) -> Result<OpenedPair<D>, (Unfit, D, D)>
     requires first_works { OpenedWorks first }
     requires second_works { FoundWorks second }
     requires first_opened { D.is_honest (opened_disk first) → IsOpened D.held first }
@@ -99,20 +103,18 @@ fn beside_area<D: Disk>(
     ensures works { IfOk result PairWorks }
     ensures chosen { D.is_honest (opened_disk first) → D.is_honest (disk_in second) → IfOk result (IsChosen D.held (opened_disk first) (disk_in second)) }
     ensures damaged { D.is_honest (opened_disk first) → D.is_honest (disk_in second)
-        → RefusedAs OpenFault.Damaged (IsSpoiled (D.held (opened_disk first)).bytes (D.held (disk_in second)).bytes) result }
-    ensures unformed { RefusedAs OpenFault.Unformed ⊥ result }
-    ensures disk { RefusedAs OpenFault.Disk ⊥ result }
-    ensures memory { RefusedAs OpenFault.Memory ⊥ result }
+        → RefusedAs Unfit.Damaged (IsSpoiled (D.held (opened_disk first)).bytes (D.held (disk_in second)).bytes) result }
+    ensures unformed { RefusedAs Unfit.Unformed ⊥ result }
 {
     match second {
         Found::Area(second) => newer(first, second),
         Found::Absent(second) => Ok(pair_of(first, second, true)),
-        Found::Damaged(second) => Err((OpenFault::Damaged, first.log.retire(), second)),
+        Found::Damaged(second) => Err((Unfit::Damaged, first.log.retire(), second)),
     }
 }
 
 // No area on the first disk, beside what the second one has.
-fn beside_none<D: Disk>(first: D, second: Found<D>) -> Result<OpenedPair<D>, (OpenFault, D, D)>
+fn beside_none<D: Disk>(first: D, second: Found<D>) -> Result<OpenedPair<D>, (Unfit, D, D)>
     requires second_works { FoundWorks second }
     requires first_absent { D.is_honest first → LeavesAbsent (D.held first) }
     requires second_found { D.is_honest (disk_in second) → IsFound D.held second }
@@ -120,15 +122,13 @@ fn beside_none<D: Disk>(first: D, second: Found<D>) -> Result<OpenedPair<D>, (Op
     ensures second { second_after second_opened result ≡ disk_in second }
     ensures works { IfOk result PairWorks }
     ensures chosen { D.is_honest first → D.is_honest (disk_in second) → IfOk result (IsChosen D.held first (disk_in second)) }
-    ensures damaged { D.is_honest (disk_in second) → RefusedAs OpenFault.Damaged (IsDamaged (D.held (disk_in second)).bytes) result }
-    ensures unformed { D.is_honest first → D.is_honest (disk_in second) → RefusedAs OpenFault.Unformed (NeitherHas (D.held first).bytes (D.held (disk_in second)).bytes) result }
-    ensures disk { RefusedAs OpenFault.Disk ⊥ result }
-    ensures memory { RefusedAs OpenFault.Memory ⊥ result }
+    ensures damaged { D.is_honest (disk_in second) → RefusedAs Unfit.Damaged (IsDamaged (D.held (disk_in second)).bytes) result }
+    ensures unformed { D.is_honest first → D.is_honest (disk_in second) → RefusedAs Unfit.Unformed (NeitherHas (D.held first).bytes (D.held (disk_in second)).bytes) result }
 {
     match second {
         Found::Area(second) => Ok(pair_of(second, first, false)),
-        Found::Absent(second) => Err((OpenFault::Unformed, first, second)),
-        Found::Damaged(second) => Err((OpenFault::Damaged, first, second)),
+        Found::Absent(second) => Err((Unfit::Unformed, first, second)),
+        Found::Damaged(second) => Err((Unfit::Damaged, first, second)),
     }
 }
 
@@ -136,7 +136,7 @@ fn beside_none<D: Disk>(first: D, second: Found<D>) -> Result<OpenedPair<D>, (Op
 pub(crate) fn choose<D: Disk>(
     first: Found<D>,
     second: Found<D>,
-) -> Result<OpenedPair<D>, (OpenFault, D, D)>
+) -> Result<OpenedPair<D>, (Unfit, D, D)>
     requires first_works { FoundWorks first }
     requires second_works { FoundWorks second }
     requires first_found { D.is_honest (disk_in first) → IsFound D.held first }
@@ -146,15 +146,13 @@ pub(crate) fn choose<D: Disk>(
     ensures works { IfOk result PairWorks }
     ensures chosen { D.is_honest (disk_in first) → D.is_honest (disk_in second) → IfOk result (IsChosen D.held (disk_in first) (disk_in second)) }
     ensures damaged { D.is_honest (disk_in first) → D.is_honest (disk_in second)
-        → RefusedAs OpenFault.Damaged (IsSpoiled (D.held (disk_in first)).bytes (D.held (disk_in second)).bytes) result }
+        → RefusedAs Unfit.Damaged (IsSpoiled (D.held (disk_in first)).bytes (D.held (disk_in second)).bytes) result }
     ensures unformed { D.is_honest (disk_in first) → D.is_honest (disk_in second)
-        → RefusedAs OpenFault.Unformed (NeitherHas (D.held (disk_in first)).bytes (D.held (disk_in second)).bytes) result }
-    ensures disk { RefusedAs OpenFault.Disk ⊥ result }
-    ensures memory { RefusedAs OpenFault.Memory ⊥ result }
+        → RefusedAs Unfit.Unformed (NeitherHas (D.held (disk_in first)).bytes (D.held (disk_in second)).bytes) result }
 {
     match first {
         Found::Area(first) => beside_area(first, second),
         Found::Absent(first) => beside_none(first, second),
-        Found::Damaged(first) => Err((OpenFault::Damaged, first, second.into_disk())),
+        Found::Damaged(first) => Err((Unfit::Damaged, first, second.into_disk())),
     }
 }

@@ -1,7 +1,7 @@
 // How a pair comes to be: both disks are looked at and synced, and then the first one gets an area.
 ghost use Rattle.std.specs.Prelude.{◌≡◌, ◌⊎◌, ◌≤◌, ◌+◌, ◌↔◌, false, length, IfOk, OnOk, IsErrOf};
-ghost use Rattle.cue_disk.specs.Disk.{LeavesOnly, IsImage, IsStable, CountsFailure, MoreFailures};
-ghost use Rattle.cue_log.specs.Area.{fresh};
+ghost use Rattle.cue_disk.specs.Disk.{LeavesOnly, IsImage, IsStable, CountsFailure, MoreFailures, overwritten};
+ghost use Rattle.cue_log.specs.Area.{fresh, formed_text};
 ghost use Rattle.cue_log.specs.Log.{IsNoneOr, LeavesAbsent, ReadsAs};
 ghost use Rattle.cue_log.specs.Words.{disk_of, disk_after, generation_of, end_of, count_of, is_broken, area_of};
 ghost use Rattle.cue_log.specs.declared.area.TheConstants.{AREA_LIMIT};
@@ -71,6 +71,7 @@ pub(crate) fn form_first<D: Disk>(disk: D, snapshot: &[u8]) -> Result<Log<D>, (D
     requires absent { D.is_honest disk → LeavesAbsent (D.held disk) }
     ensures formed { D.is_honest disk → IfOk result (λ log. ReadsAs (D.held (disk_of log)) (fresh 1 snapshot.now)) }
     ensures area { D.is_honest disk → IfOk result (λ log. area_of D.held log ≡ fresh 1 snapshot.now) }
+    ensures bytes { D.is_honest disk → IfOk result (λ log. (D.held (disk_of log)).bytes ≡ overwritten (D.held disk).bytes 0 (formed_text 1 snapshot.now)) }
     ensures numbers { IfOk result (λ log. (generation_of log ≡ 1) × (count_of log ≡ 0) × (end_of log ≡ 13 + length snapshot.now)) }
     ensures works { IfOk result (λ log. is_broken log ≡ false) }
     ensures any_moment { D.is_honest disk → LeavesOnly D.moment D.held_at disk (disk_after disk_of result) (IsNoneOr (fresh 1 snapshot.now)) }

@@ -5,7 +5,7 @@ ghost use Rattle.cue_log.specs.Words.{disk_after};
 ghost use Rattle.cue_snap.specs.Found.{disk_in, IsFound, FoundWorks};
 ghost use Rattle.cue_snap.specs.Words.{FailsAs, CountsOnlyAs};
 
-use crate::choosing::{Found, choose};
+use crate::choosing::{Found, Unfit, choose};
 use crate::snap::Snap;
 use cue_disk::Disk;
 use cue_log::{Log, OpenFault as AreaFault, Records, Snapshot};
@@ -98,7 +98,11 @@ impl<D: Disk> Snap<D> {
             Err((fault, first)) => return Err((fault, first, second)),
         };
         match find(alloc, second) {
-            Ok(second) => choose(first, second),
+            Ok(second) => match choose(first, second) {
+                Ok(opened) => Ok(opened),
+                Err((Unfit::Damaged, first, second)) => Err((OpenFault::Damaged, first, second)),
+                Err((Unfit::Unformed, first, second)) => Err((OpenFault::Unformed, first, second)),
+            },
             Err((fault, second)) => Err((fault, first.into_disk(), second)),
         }
     }

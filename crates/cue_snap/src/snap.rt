@@ -43,8 +43,8 @@ pub struct Snap<D: Disk> {
 
 impl<D: Disk> Snap<D> {
     ghost use Rattle.std.specs.Prelude.{◌≡◌, ◌≤◌, ◌<◌, ◌+◌, ◌-◌, ◌^◌, ◌⊎◌, ◌↔◌, ℕ, List, false, true, not, length, IfOk, OnOk, OnErr, IsErrOf};
-    ghost use Rattle.cue_disk.specs.Disk.{LeavesOnly, IsImage, IsStable, MoreFailures};
-    ghost use Rattle.cue_log.specs.Area.{fresh, with_payload};
+    ghost use Rattle.cue_disk.specs.Disk.{LeavesOnly, IsImage, IsStable, MoreFailures, overwritten};
+    ghost use Rattle.cue_log.specs.Area.{fresh, with_payload, formed_text, record_text};
     ghost use Rattle.cue_log.specs.declared.area.TheConstants.{AREA_LIMIT};
     ghost use Rattle.cue_snap.specs.Pair.{PairIsEither, PairLeaves, NeitherHas, SomeIsThere, IsUnformedOr, AfterBarrier};
     ghost use Rattle.cue_snap.specs.Found.{IsPairOf};
@@ -74,6 +74,7 @@ impl<D: Disk> Snap<D> {
         ensures formed { D.is_honest first → D.is_honest second
             → IfOk result (λ snap. PairLeaves (D.held (first_of snap)) (D.held (second_of snap)) (fresh 1 snapshot.now)) }
         ensures area { D.is_honest first → IfOk result (λ snap. area_of D.held snap ≡ fresh 1 snapshot.now) }
+        ensures bytes { D.is_honest first → IfOk result (λ snap. (D.held (first_of snap)).bytes ≡ overwritten (D.held first).bytes 0 (formed_text 1 snapshot.now)) }
         ensures numbers { IfOk result (λ snap. (generation_of snap ≡ 1) × (count_of snap ≡ 0) × (end_of snap ≡ 13 + length snapshot.now)) }
         ensures works { IfOk result (λ snap. is_broken snap ≡ false) }
         ensures sides { IfOk result (λ snap. is_first_live snap ≡ true) }
@@ -133,6 +134,7 @@ impl<D: Disk> Snap<D> {
         ensures appended { D.is_honest (live_of self.old) → D.is_honest (spare_of self.old)
             → OnOk result (PairLeaves (D.held (live_of self.new)) (D.held (spare_of self.new)) (with_payload (area_of D.held self.old) added.now)) }
         ensures area { D.is_honest (live_of self.old) → OnOk result (area_of D.held self.new ≡ with_payload (area_of D.held self.old) added.now) }
+        ensures bytes { D.is_honest (live_of self.old) → OnOk result ((D.held (live_of self.new)).bytes ≡ overwritten (D.held (live_of self.old)).bytes (end_of self.old) (record_text added.now)) }
         ensures works { OnOk result (is_broken self.new ≡ false) }
         ensures numbers { OnOk result ((count_of self.new ≡ count_of self.old + 1) × (end_of self.new ≡ end_of self.old + 5 + length added.now)) }
         ensures numbers_kept { OnErr result ((count_of self.new ≡ count_of self.old) × (end_of self.new ≡ end_of self.old)) }
@@ -176,6 +178,7 @@ impl<D: Disk> Snap<D> {
         ensures formed { D.is_honest (live_of self.old) → D.is_honest (spare_of self.old)
             → OnOk result (PairLeaves (D.held (live_of self.new)) (D.held (spare_of self.new)) (fresh (generation_of self.old + 1) snapshot.now)) }
         ensures area { D.is_honest (spare_of self.old) → OnOk result (area_of D.held self.new ≡ fresh (generation_of self.old + 1) snapshot.now) }
+        ensures bytes { D.is_honest (spare_of self.old) → OnOk result ((D.held (live_of self.new)).bytes ≡ overwritten (D.held (spare_of self.old)).bytes 0 (formed_text (generation_of self.old + 1) snapshot.now)) }
         ensures works { OnOk result (is_broken self.new ≡ false) }
         ensures numbers { OnOk result ((generation_of self.new ≡ generation_of self.old + 1) × (count_of self.new ≡ 0) × (end_of self.new ≡ 13 + length snapshot.now)) }
 

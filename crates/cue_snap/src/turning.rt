@@ -1,7 +1,7 @@
 // How the other area comes to count: the spare disk is closed and formed anew, and the log goes on there.
 ghost use Rattle.std.specs.Prelude.{◌≡◌, ◌≤◌, ◌+◌, ◌↔◌, false, length, OnOk, OnErr};
-ghost use Rattle.cue_disk.specs.Disk.{LeavesOnly, CountsFailure};
-ghost use Rattle.cue_log.specs.Area.{fresh};
+ghost use Rattle.cue_disk.specs.Disk.{LeavesOnly, CountsFailure, overwritten};
+ghost use Rattle.cue_log.specs.Area.{fresh, formed_text};
 ghost use Rattle.cue_log.specs.Log.{ReadsAs};
 ghost use Rattle.cue_log.specs.Words.{disk_of, generation_of, end_of, count_of, is_broken, area_of, formed_disk};
 ghost use Rattle.cue_log.specs.declared.area.TheConstants.{AREA_LIMIT};
@@ -21,6 +21,7 @@ pub(crate) fn turn<D: Disk>(
     requires works { is_broken log.old ≡ false }
     ensures formed { D.is_honest spare.old → OnOk result (ReadsAs (D.held (disk_of log.new)) (fresh generation snapshot.now)) }
     ensures area { D.is_honest spare.old → OnOk result (area_of D.held log.new ≡ fresh generation snapshot.now) }
+    ensures bytes { D.is_honest spare.old → OnOk result ((D.held (disk_of log.new)).bytes ≡ overwritten (D.held spare.old).bytes 0 (formed_text generation snapshot.now)) }
     ensures numbers { OnOk result ((generation_of log.new ≡ generation) × (count_of log.new ≡ 0) × (end_of log.new ≡ 13 + length snapshot.now)) }
     ensures works { OnOk result (is_broken log.new ≡ false) }
     ensures swapped { OnOk result (spare.new ≡ disk_of log.old) }

@@ -181,6 +181,7 @@ fn a_log_goes_on_on_another_disk(rt: HostRuntime) -> Result<(), Fail> {
     let mut log = opened_bytes(alloc, &APPENDED)?.log;
     let mut spare = MemDisk::new(alloc);
     close(&mut spare)?;
+    assert!(rt; !log.is_broken());
     assert_eq!(rt; log.renew(&mut spare, 2, &[5]), Ok(()));
     assert_eq!(rt; spare.bytes(), APPENDED.as_slice());
     assert_eq!(rt; (log.generation(), log.count()), (2, 0));

@@ -1,11 +1,8 @@
 //! The command line, read over `clap`.
-ghost use Rattle.std.specs.Prelude.{◌≡◌, ◌≤◌, IfOk, map, string_bytes, codes};
+ghost use Rattle.std.specs.Prelude.{◌≡◌, ◌≤◌, IfOk, false, map, string_bytes, codes};
 ghost use Rattle.clap.specs.Words.{app_of, rule_of, subcommand_of, found_of, rows_of, first_of};
 ghost use Rattle.cuectl.specs.Lines.{
   cuectl_app,
-  form_app,
-  serve_app,
-  show_app,
   dir_rule,
   port_rule,
   turns_rule,
@@ -24,7 +21,8 @@ use words::LineFault;
 
 // The folder that the two area files stand in.
 fn dir<'a>(alloc: Global) -> Arg<'a>
-    ensures { rule_of result ≡ dir_rule }
+    ensures rule { rule_of result ≡ dir_rule }
+    ensures local { result.global ≡ false }
 {
     Arg::new(alloc, "DIR")
         .help("The folder that a.area and b.area stand in")
@@ -34,7 +32,8 @@ fn dir<'a>(alloc: Global) -> Arg<'a>
 
 // The port to listen on.
 fn port<'a>(alloc: Global) -> Arg<'a>
-    ensures { rule_of result ≡ port_rule }
+    ensures rule { rule_of result ≡ port_rule }
+    ensures local { result.global ≡ false }
 {
     Arg::new(alloc, "port")
         .help("The UDP port on 127.0.0.1 to listen on, 1 to 65535")
@@ -46,7 +45,8 @@ fn port<'a>(alloc: Global) -> Arg<'a>
 
 // How many turns to run.
 fn turns<'a>(alloc: Global) -> Arg<'a>
-    ensures { rule_of result ≡ turns_rule }
+    ensures rule { rule_of result ≡ turns_rule }
+    ensures local { result.global ≡ false }
 {
     Arg::new(alloc, "turns")
         .help("How many datagrams and ticks to take before it ends")
@@ -56,48 +56,30 @@ fn turns<'a>(alloc: Global) -> Arg<'a>
         .value_parser(value_parser!(u64))
 }
 
-// The command `form`.
-fn form<'a>(alloc: Global) -> Result<Command<'a>, AllocError>
-    ensures { IfOk result (λ command. app_of command ≡ form_app) }
-{
-    Command::new(alloc, "form")
-        .about("Make an empty show in a folder that has none")
-        .arg(dir(alloc))
-}
-
-// The command `serve`.
-fn serve<'a>(alloc: Global) -> Result<Command<'a>, AllocError>
-    ensures { IfOk result (λ command. app_of command ≡ serve_app) }
-{
-    Command::new(alloc, "serve")
-        .about("Run the show of a folder over UDP")
-        .arg(dir(alloc))?
-        .arg(port(alloc))?
-        .arg(turns(alloc))
-}
-
-// The command `show`.
-fn show<'a>(alloc: Global) -> Result<Command<'a>, AllocError>
-    ensures { IfOk result (λ command. app_of command ≡ show_app) }
-{
-    Command::new(alloc, "show")
-        .about("Print the show of a folder, and change nothing")
-        .arg(dir(alloc))
-}
-
 // All commands.
 fn cuectl<'a>(alloc: Global) -> Result<Command<'a>, AllocError>
     ensures { IfOk result (λ command. app_of command ≡ cuectl_app) }
 {
+    let form = Command::new(alloc, "form")
+        .about("Make an empty show in a folder that has none")
+        .arg(dir(alloc))?;
+    let serve = Command::new(alloc, "serve")
+        .about("Run the show of a folder over UDP")
+        .arg(dir(alloc))?
+        .arg(port(alloc))?
+        .arg(turns(alloc))?;
+    let show = Command::new(alloc, "show")
+        .about("Print the show of a folder, and change nothing")
+        .arg(dir(alloc))?;
     let script = Command::new(alloc, "script").about(
         "Run a script from standard input on two disks in memory",
     );
     Command::new(alloc, "cuectl")
         .version("1.0")
         .about("A two-phase cue controller for theatre machinery")
-        .subcommand(form(alloc)?)?
-        .subcommand(serve(alloc)?)?
-        .subcommand(show(alloc)?)?
+        .subcommand(form)?
+        .subcommand(serve)?
+        .subcommand(show)?
         .subcommand(script)
 }
 

@@ -2,10 +2,11 @@
 //!
 //! `Disk` says what a read gives, what a crash may leave at each moment, and that failures are counted. `MemDisk` is a
 //! disk in memory that keeps exactly to that: it can be told which of its calls fail, and shows each image that a crash
-//! may leave. What the words of the contracts mean stands in `specs/Disk.antt`.
+//! may leave. `FileDisk` is a disk over a file, of which nothing can be proved. What the words of the contracts mean stands in `specs/Disk.antt`.
 #![tactic(auto)]
 
 mod disk;
+mod file;
 pub mod laws;
 mod medium;
 mod memory;
@@ -14,4 +15,5 @@ mod plan;
 mod tests;
 
 pub use disk::{Disk, DiskFault};
+pub use file::{FileDisk, FileFault};
 pub use memory::MemDisk;

@@ -1,11 +1,14 @@
 //! `cuectl`: a two-phase cue controller for theatre machinery.
 #![tactic(auto)]
 
-mod controller;
+mod line;
 mod program;
+mod run;
 mod script;
+mod show_text;
 #[cfg(test)]
 mod tests;
+mod udp;
 
 use std::env;
 use std::io::{self, BufWriter};
@@ -13,12 +16,9 @@ use std::process::ExitCode;
 
 fn main(rt: HostRuntime) -> io::Result<ExitCode> {
     let alloc = rt.alloc();
-    let mut words = Vec::new(alloc);
-    for word in env::args(&rt)?.skip(1) {
-        words.push(word)?;
-    }
+    let words: Vec<String> = env::args(&rt)?.collect(alloc)?;
     let mut reader = rt.reader();
     let mut writer = BufWriter::new(alloc, io::writer(&rt))?;
-    let status = program::perform(alloc, &words, &mut reader, &mut writer);
+    let status = program::perform(&rt, &words, &mut reader, &mut writer);
     Ok(ExitCode::from(status))
 }

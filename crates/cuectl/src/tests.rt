@@ -1,357 +1,129 @@
-//! Scripts with their whole output, and command lines. The expected bytes were written by hand.
+//! The program on files and sockets of its own. The table, the datagram and its reply are written by hand.
 use crate::program::perform;
-use crate::script::script;
-use std::alloc::{AllocError, Global};
+use crate::run::run;
+use crate::udp::{UdpSource, UdpWire, local};
+use cue_disk::FileDisk;
+use cue_engine::Engine;
+use std::fs::{self, File, Files};
+use std::io::Eprint;
+use std::net::{Net, UdpSocket};
 use std::process::Abort;
 use std::test::Fail;
+use std::time::Clock;
 
-const REPLY: &str = "2f7265706c7900002c73696969690000";
+/// `/show/device` with 3 and 9001.
+const DEVICE: [u8; 28] = [
+    0x2f, 0x73, 0x68, 0x6f, 0x77, 0x2f, 0x64, 0x65, 0x76, 0x69, 0x63, 0x65, 0, 0, 0, 0, 0x2c, 0x69,
+    0x69, 0, 0, 0, 0, 3, 0, 0, 0x23, 0x29,
+];
 
-const STATUS: &str = "2f737461747573002c697369696900000000000000000000000000000000000000000000";
+/// `/reply` with that address, one made and three zeros.
+const MADE: [u8; 48] = [
+    0x2f, 0x72, 0x65, 0x70, 0x6c, 0x79, 0, 0, 0x2c, 0x73, 0x69, 0x69, 0x69, 0x69, 0, 0, 0x2f, 0x73,
+    0x68, 0x6f, 0x77, 0x2f, 0x64, 0x65, 0x76, 0x69, 0x63, 0x65, 0, 0, 0, 0, 0, 0, 0, 1, 0, 0, 0, 0,
+    0, 0, 0, 0, 0, 0, 0, 0,
+];
 
-const SHOW_DEVICE: &str = "2f73686f772f64657669636500000000";
-
-const SLASH_STATUS: &str = "2f73746174757300";
-
-const BUNDLE: &str = "2362756e646c6500";
-
-const AT_ONCE: &str = "0000000000000001";
-
-const NO_ADDRESS: &str = "00000000";
-
-const MADE: &str = "00000001000000000000000000000000";
-
-const KNOWN: &str = "00000000000000010000000000000000";
-
-const NOTHING: &str = "00000000000000000000000000000000";
-
-/// What a reply holds behind its address, where one command was refused: the code in hexadecimal.
-fn refused(alloc: Global, code: &str) -> Result<String, AllocError> {
-    format!(in alloc; "000000000000000000000001000000{code}")
-}
-
-/// The line of a reply to port 8000.
-fn reply(alloc: Global, address: &str, numbers: &str) -> Result<String, AllocError> {
-    format!(in alloc; "> 8000 {REPLY}{address}{numbers}\n")
-}
-
-/// A line that tells of a datagram at moment 0 from port 8000.
-fn datagram(alloc: Global, digits: &str) -> Result<String, AllocError> {
-    format!(in alloc; "d 0 8000 {digits}\n")
-}
-
-/// Runs a script, and compares its status and its whole output.
-fn expect(rt: &impl Abort, alloc: Global, text: &str, status: u8, output: &str) {
-    let mut reader = text.as_bytes();
+/// Runs a command line, its words apart by spaces, and compares its status and its whole output.
+fn expect<R: Files<File = File> + Net + Clock + Eprint + AllocGlobal + Abort>(
+    rt: &R,
+    line: &str,
+    status: u8,
+    output: &str,
+) -> Result<(), Fail> {
+    let alloc = rt.alloc();
+    let mut words = Vec::new(alloc);
+    for word in line.split(' ') {
+        words.push(String::from_str(alloc, word)?)?;
+    }
+    let mut reader = "".as_bytes();
     let mut written = Vec::new(alloc);
-    let got = script(alloc, &mut reader, &mut written);
+    let got = perform(rt, &words, &mut reader, &mut written);
     assert!(rt;
         written.as_slice() == output.as_bytes(),
-        "the output of {text:?}"
+        "the output of {line}"
     );
-    assert_eq!(rt; got, status);
-}
-
-/// Adds the device 3 at port 9001, and asks for the status.
-#[test]
-fn first_run(rt: HostRuntime) -> Result<(), Fail> {
-    let alloc = rt.alloc();
-    let text = format!(in alloc;
-        "d 0 8000 {SHOW_DEVICE}2c6969000000000300002329\nd 0 8000 {SLASH_STATUS}\n"
-    )?;
-    let made = reply(alloc, SHOW_DEVICE, MADE)?;
-    let known = reply(alloc, SLASH_STATUS, KNOWN)?;
-    let output = format!(in alloc; "{made}{known}> 8000 {STATUS}\n")?;
-    expect(&rt, alloc, text.as_str(), 0, output.as_str());
+    assert!(rt; got == status, "the status of {line}");
     Ok(())
 }
 
-/// A line of another form ends the script after what the lines before it printed.
-#[test]
-fn bad_lines(rt: HostRuntime) -> Result<(), Fail> {
-    let alloc = rt.alloc();
-    let bad = [
-        "",
-        "x",
-        "t 0",
-        "d",
-        "d 0",
-        "d 0 0",
-        "d 0 0 0",
-        "d 0 0 0g",
-        "d 0 0 000",
-        "d  0 0 ",
-        "d 0  0 ",
-        "d 0 0  ",
-        "d 0 0 00 ",
-        "d 0 0 00\r",
-        "d\t0 0 ",
-        "d +0 0 ",
-        "d 0 -1 ",
-        "d 0 65536 ",
-        "d 18446744073709551616 0 ",
-        "D 0 0 ",
-        " d 0 0 ",
-        "d 0x0 0 ",
-        "d  0 ",
-    ];
-    let first = datagram(alloc, SLASH_STATUS)?;
-    let known = reply(alloc, SLASH_STATUS, KNOWN)?;
-    let output = format!(in alloc; "{known}> 8000 {STATUS}\n! BadLine\n")?;
-    for line in bad {
-        let text = format!(in alloc; "{first}{line}\n{first}")?;
-        expect(&rt, alloc, text.as_str(), 1, output.as_str());
-    }
-    expect(&rt, alloc, "", 0, "");
-    expect(&rt, alloc, "\n", 1, "! BadLine\n");
-    Ok(())
-}
-
-/// The largest numbers, leading zeros, digits of either case, the empty datagram, and a last line without its line feed.
-#[test]
-fn good_lines(rt: HostRuntime) -> Result<(), Fail> {
-    let alloc = rt.alloc();
-    let bad_packet = refused(alloc, "1e")?;
-    for (line, port) in [
-        ("d 0 0 ", "0"),
-        ("d 18446744073709551615 65535 ", "65535"),
-        ("d 0000000000000000000000001 000000000000000000000007 ", "7"),
-        ("d 0 1 0aBf", "1"),
-    ] {
-        let output = format!(in alloc; "> {port} {REPLY}{NO_ADDRESS}{bad_packet}\n")?;
-        expect(&rt, alloc, line, 0, output.as_str());
-        let ended = format!(in alloc; "{line}\n")?;
-        expect(&rt, alloc, ended.as_str(), 0, output.as_str());
-    }
-    Ok(())
-}
-
-/// 1,048,576 bytes are run, and one byte more is refused before any line.
-#[test]
-fn longest_script(rt: HostRuntime) -> Result<(), Fail> {
-    let alloc = rt.alloc();
-    let mut text = vec![in alloc; b'x'; 1_048_576]?;
-    let mut written = Vec::new(alloc);
-    assert_eq!(rt; script(alloc, &mut text.as_slice(), &mut written), 1);
-    assert!(rt; written.as_slice() == b"! BadLine\n".as_slice());
-    text.push(b'x')?;
-    let mut written = Vec::new(alloc);
-    assert_eq!(rt; script(alloc, &mut text.as_slice(), &mut written), 1);
-    assert!(rt; written.as_slice() == b"! BadInput\n".as_slice());
-    Ok(())
-}
-
-/// Each code that a message or a datagram is refused with.
-#[test]
-fn refusals(rt: HostRuntime) -> Result<(), Fail> {
-    let alloc = rt.alloc();
-    let device_args = "2c696900";
-    for (address, rest, code) in [
-        // a tag that is not understood, and arguments without a type tag string
-        ("2f780000", "2c6600003f800000", "01"),
-        ("2f780000", "00000001", "01"),
-        // a bracket that does not close within its part
-        ("2f6375652f5b212f63616e63656c0000", "", "02"),
-        // no such method, and empty parts
-        ("2f780000", "", "03"),
-        ("2f2f73746174757300000000", "", "03"),
-        ("2f7374617475732f00000000", "", "03"),
-        ("2f000000", "", "03"),
-        // arguments of another kind
-        (SLASH_STATUS, "2c69000000000001", "04"),
-        (SHOW_DEVICE, "", "04"),
-        (SHOW_DEVICE, "2c69000000000003", "04"),
-        // numbers out of range
-        (SHOW_DEVICE, "2c6969000000007000002329", "05"),
-        (SHOW_DEVICE, "2c696900ffffffff00002329", "05"),
-        (SHOW_DEVICE, "2c6969000000000300000000", "05"),
-        (SHOW_DEVICE, "2c6969000000000300010000", "05"),
-    ] {
-        let digits = format!(in alloc; "{address}{rest}")?;
-        let line = datagram(alloc, digits.as_str())?;
-        let answer = reply(alloc, address, refused(alloc, code)?.as_str())?;
-        expect(&rt, alloc, line.as_str(), 0, answer.as_str());
-    }
-    for (digits, code) in [
-        ("", "1e"),
-        ("2f610061", "1e"),
-        ("2f6100002c00000000000000", "1e"),
-    ] {
-        let line = datagram(alloc, digits)?;
-        let answer = reply(alloc, NO_ADDRESS, refused(alloc, code)?.as_str())?;
-        expect(&rt, alloc, line.as_str(), 0, answer.as_str());
-    }
-    // a device again with its port, and with another port
-    let first = format!(in alloc; "{SHOW_DEVICE}{device_args}0000006f0000ffff")?;
-    let other = format!(in alloc; "{SHOW_DEVICE}{device_args}0000006f00000001")?;
-    let text = format!(in alloc; "d 0 8000 {first}\nd 0 8000 {first}\nd 0 8000 {other}\n")?;
-    let made = reply(alloc, SHOW_DEVICE, MADE)?;
-    let known = reply(alloc, SHOW_DEVICE, KNOWN)?;
-    let duplicate = reply(alloc, SHOW_DEVICE, refused(alloc, "06")?.as_str())?;
-    let output = format!(in alloc; "{made}{known}{duplicate}")?;
-    expect(&rt, alloc, text.as_str(), 0, output.as_str());
-    Ok(())
-}
-
-/// A bundle at exactly its moment is carried out, and one that is later by the smallest fraction is refused.
-#[test]
-fn time_tags(rt: HostRuntime) -> Result<(), Fail> {
-    let alloc = rt.alloc();
-    let known = reply(alloc, SLASH_STATUS, KNOWN)?;
-    let now = format!(in alloc; "d 0 8000 {BUNDLE}83aa7e800000000000000008{SLASH_STATUS}\n")?;
-    let output = format!(in alloc; "{known}> 8000 {STATUS}\n")?;
-    expect(&rt, alloc, now.as_str(), 0, output.as_str());
-    let later = format!(in alloc; "d 0 8000 {BUNDLE}83aa7e800000000100000008{SLASH_STATUS}\n")?;
-    let refusal = reply(alloc, NO_ADDRESS, refused(alloc, "20")?.as_str())?;
-    expect(&rt, alloc, later.as_str(), 0, refusal.as_str());
-    Ok(())
-}
-
-/// So many bundles, one in the other, of which the innermost is empty.
-fn nested(alloc: Global, depth: usize) -> Result<String, AllocError> {
-    let mut digits = format!(in alloc; "{BUNDLE}{AT_ONCE}")?;
-    for _ in 1..depth {
-        let size = digits.len() / 2;
-        digits = format!(in alloc; "{BUNDLE}{AT_ONCE}{size:08x}{digits}")?;
-    }
-    Ok(digits)
-}
-
-/// Eight bundles in one another have no message; a ninth is too deep.
-#[test]
-fn nested_bundles(rt: HostRuntime) -> Result<(), Fail> {
-    let alloc = rt.alloc();
-    let eight = datagram(alloc, nested(alloc, 8)?.as_str())?;
-    expect(
-        &rt,
-        alloc,
-        eight.as_str(),
-        0,
-        reply(alloc, NO_ADDRESS, NOTHING)?.as_str(),
-    );
-    let nine = datagram(alloc, nested(alloc, 9)?.as_str())?;
-    expect(
-        &rt,
-        alloc,
-        nine.as_str(),
-        0,
-        reply(alloc, NO_ADDRESS, refused(alloc, "1e")?.as_str())?.as_str(),
-    );
-    Ok(())
-}
-
-/// The longest bundle of statuses; one word more, and two bytes fewer.
-#[test]
-fn longest_bundle(rt: HostRuntime) -> Result<(), Fail> {
-    let alloc = rt.alloc();
-    let known = reply(alloc, SLASH_STATUS, KNOWN)?;
-    let mut digits = format!(in alloc; "{BUNDLE}{AT_ONCE}")?;
-    let mut output = String::new(alloc);
-    for _ in 0..340 {
-        digits.push_str("00000008")?;
-        digits.push_str(SLASH_STATUS)?;
-        output.push_str(known.as_str())?;
-        output.push_str("> 8000 ")?;
-        output.push_str(STATUS)?;
-        output.push_str("\n")?;
-    }
-    expect(
-        &rt,
-        alloc,
-        datagram(alloc, digits.as_str())?.as_str(),
-        0,
-        output.as_str(),
-    );
-    let longer = format!(in alloc; "d 0 8000 {digits}00000000\n")?;
-    let too_long = reply(alloc, NO_ADDRESS, refused(alloc, "1f")?.as_str())?;
-    expect(&rt, alloc, longer.as_str(), 0, too_long.as_str());
-    let _ = digits.pop();
-    let _ = digits.pop();
-    let _ = digits.pop();
-    let _ = digits.pop();
-    let bad_packet = reply(alloc, NO_ADDRESS, refused(alloc, "1e")?.as_str())?;
-    expect(
-        &rt,
-        alloc,
-        datagram(alloc, digits.as_str())?.as_str(),
-        0,
-        bad_packet.as_str(),
-    );
-    Ok(())
-}
-
-/// A pattern of stars is answered at once, and its reply shows the first 64 bytes of it.
-#[test]
-fn stars(rt: HostRuntime) -> Result<(), Fail> {
-    let alloc = rt.alloc();
-    let mut digits = String::from_str(alloc, "2f")?;
-    let mut front = String::from_str(alloc, "2f")?;
-    for index in 0..4090u32 {
-        digits.push_str("2a")?;
-        if index < 63 {
-            front.push_str("2a")?;
-        }
-    }
-    digits.push_str("00")?;
-    front.push_str(NO_ADDRESS)?;
-    let known = reply(alloc, front.as_str(), KNOWN)?;
-    let output = format!(in alloc; "{known}> 8000 {STATUS}\n")?;
-    expect(
-        &rt,
-        alloc,
-        datagram(alloc, digits.as_str())?.as_str(),
-        0,
-        output.as_str(),
-    );
-    Ok(())
-}
-
-/// Patterns are matched with both methods.
-#[test]
-fn patterns(rt: HostRuntime) -> Result<(), Fail> {
-    let alloc = rt.alloc();
-    // `/show/*` with 3 and 9001, and `/s[!a]atus`
-    let text = format!(in alloc;
-        "d 0 8000 2f73686f772f2a002c6969000000000300002329\nd 0 8000 2f735b21615d6174757300000000\n"
-    )?;
-    let made = reply(alloc, "2f73686f772f2a00", MADE)?;
-    let bad_packet = reply(alloc, NO_ADDRESS, refused(alloc, "1e")?.as_str())?;
-    let output = format!(in alloc; "{made}{bad_packet}")?;
-    expect(&rt, alloc, text.as_str(), 0, output.as_str());
-    // `/s{tat,}us`
-    let known = reply(alloc, "2f737b7461742c7d75730000", KNOWN)?;
-    let output = format!(in alloc; "{known}> 8000 {STATUS}\n")?;
-    expect(
-        &rt,
-        alloc,
-        "d 0 8000 2f737b7461742c7d75730000\n",
-        0,
-        output.as_str(),
-    );
-    Ok(())
-}
-
-/// One command is known; any other words are refused.
+/// Each command with what it prints and answers.
 #[test]
 fn command_lines(rt: HostRuntime) -> Result<(), Fail> {
-    let alloc = rt.alloc();
-    let none: [&str; 0] = [];
-    for (words, status, output) in [
-        (["script"].as_slice(), 0, ""),
-        (none.as_slice(), 2, "! Usage\n"),
-        (["show"].as_slice(), 2, "! Usage\n"),
-        (["script", "more"].as_slice(), 2, "! Usage\n"),
-    ] {
-        let mut line = Vec::new(alloc);
-        for word in words {
-            line.push(String::from_str(alloc, word)?)?;
-        }
-        let mut written = Vec::new(alloc);
-        assert_eq!(rt;
-            perform(alloc, &line, &mut "".as_bytes(), &mut written),
-            status
-        );
-        assert!(rt; written.as_slice() == output.as_bytes());
+    let _ = fs::remove_dir_all(&rt, "table");
+    fs::create_dir(&rt, "table")?;
+    expect(&rt, "cuectl form table", 0, "formed\n")?;
+    expect(&rt, "cuectl form table", 1, "! NotEmpty\n")?;
+    expect(&rt, "cuectl show table", 0, "last 0\nplace -\nended 0 0\n")?;
+    expect(
+        &rt,
+        "cuectl serve table --port 9100 --turns 0",
+        0,
+        "turns 0 unsent 0\n",
+    )?;
+    expect(&rt, "cuectl serve table --port 0 --turns 1", 2, "! Usage\n")?;
+    expect(
+        &rt,
+        "cuectl serve table --port 65536 --turns 1",
+        2,
+        "! Usage\n",
+    )?;
+    expect(&rt, "cuectl serve table --turns 1", 2, "! Usage\n")?;
+    expect(&rt, "cuectl", 2, "! Usage\n")?;
+    expect(&rt, "cuectl strike table", 2, "! Usage\n")?;
+    expect(&rt, "cuectl show missing", 3, "! NotFound\n")?;
+    expect(&rt, "cuectl form missing", 3, "! Io\n")?;
+    fs::write(&rt, "table/a.area", [1u8, 0, 0, 0, 0].as_slice())?;
+    expect(&rt, "cuectl show table", 1, "! Damaged\n")?;
+    fs::remove_dir_all(&rt, "table")?;
+    Ok(())
+}
+
+// Opens both files of the folder and recovers their show.
+fn recovered<R: Files<File = File> + AllocGlobal>(rt: &R) -> Result<Engine<FileDisk>, Fail> {
+    let first = FileDisk::open(rt, "kept/a.area")?;
+    let second = FileDisk::open(rt, "kept/b.area")?;
+    match Engine::recover(rt.alloc(), first, second) {
+        Ok(engine) => Ok(engine),
+        Err((fault, _, _)) => Err(Fail::from(fault)),
     }
+}
+
+// Takes a datagram and two ticks over a socket.
+fn take_three<R: Files<File = File> + Net + Clock + AllocGlobal + Abort>(
+    rt: &R,
+    operator: &UdpSocket,
+) -> Result<(), Fail> {
+    let mut engine = recovered(rt)?;
+    let socket = UdpSocket::bind(rt, local(0))?;
+    let port = socket.local_addr()?.port();
+    operator.send_to(&DEVICE, local(port))?;
+    let mut source = UdpSource::new(rt, &socket, port)?;
+    let mut wire = UdpWire::new(&socket);
+    let ended = run(rt.alloc(), &mut engine, &mut source, &mut wire, 3);
+    assert_eq!(rt; ended.turns, 3);
+    assert_eq!(rt; ended.unsent, 0);
+    assert!(rt; ended.fault.is_none(), "a fault");
+    Ok(())
+}
+
+/// A datagram is answered, and what it made is still there when the files are opened again.
+#[test]
+fn a_datagram_is_answered_and_kept(rt: HostRuntime) -> Result<(), Fail> {
+    let _ = fs::remove_dir_all(&rt, "kept");
+    fs::create_dir(&rt, "kept")?;
+    expect(&rt, "cuectl form kept", 0, "formed\n")?;
+    let operator = UdpSocket::bind(&rt, local(0))?;
+    take_three(&rt, &operator)?;
+    let mut reply = [0; 64];
+    let (n, _) = operator.recv_from(&mut reply)?;
+    assert_eq!(rt; &reply[..n], MADE.as_slice());
+    expect(
+        &rt,
+        "cuectl show kept",
+        0,
+        "last 0\nplace -\nended 0 0\ndevice 3 9001\n",
+    )?;
+    fs::remove_dir_all(&rt, "kept")?;
     Ok(())
 }

@@ -1,0 +1,58 @@
+-- The commands as clap knows them, and what a line says of the one that it matched.
+use Rattle.std.specs.Prelude.{◌≡◌, ℕ, ◌≤◌, pos, List, ◌∷◌, [], Option, Some, None, true, codes, string_bytes}
+use Rattle.std.specs.Str.Parse.{IsNumeral, digits_value, without_leading_plus}
+use Rattle.clap.specs.Words.{App, Rule, Row, Text, new_app, new_rule, with_rule, with_subcommand, first_of, one_of}
+use Rattle.clap.specs.declared.builder.ArgAction.TheVariants.{Set}
+use Rattle.clap.specs.declared.builder.value_parser.ValueParser.TheVariants.{Signed, Unsigned}
+use Rattle.cuectl.specs.declared.line.words.Line.{Line}
+use Rattle.cuectl.specs.declared.line.words.Line.TheVariants.{Form, Serve, Show, Script}
+
+abbrev pub dir_rule : Rule
+dir_rule = record (new_rule (codes "DIR")) { required = true; action = Some Set }
+
+abbrev pub port_rule : Rule
+port_rule = record (new_rule (codes "port")) { long = Some (codes "port"); required = true; action = Some Set; parser = Some (Signed (pos 0) (pos 65535)) }
+
+abbrev pub turns_rule : Rule
+turns_rule = record (new_rule (codes "turns")) { long = Some (codes "turns"); required = true; action = Some Set; parser = Some (Unsigned 0 18446744073709551615) }
+
+abbrev pub form_app : App
+form_app = with_rule (new_app (codes "form")) dir_rule
+
+abbrev pub serve_app : App
+serve_app = with_rule (with_rule (with_rule (new_app (codes "serve")) dir_rule) port_rule) turns_rule
+
+abbrev pub show_app : App
+show_app = with_rule (new_app (codes "show")) dir_rule
+
+-- a command line without commands, which tells its version
+abbrev pub bare_app : App
+bare_app = let bare = new_app (codes "cuectl") in record bare { top = record bare.top { has_version = true } }
+
+-- all commands
+abbrev pub cuectl_app : App
+cuectl_app = with_subcommand (with_subcommand (with_subcommand (with_subcommand bare_app form_app.top) serve_app.top) show_app.top) (new_app (codes "script")).top
+
+-- the decimal number that stands behind an option
+pub record IsNumberIn (id : Text) (rows : List Row) (n : ℕ) : Type 0 where
+  pub text : Text
+  pub stands : one_of id rows ≡ Some text
+  pub numeral : IsNumeral 10 (without_leading_plus text)
+  pub value : n ≡ digits_value 10 (without_leading_plus text)
+
+-- the folder that stands there
+abbrev pub IsDirIn : List Row → Text → Type 0
+IsDirIn rows dir = first_of (codes "DIR") rows ≡ Some dir
+
+-- the line is the command that was matched, with what stands there
+abbrev pub IsLine : Text × List Row → Line → Type 0
+IsLine found (Form dir) = (found.0 ≡ codes "form") × IsDirIn found.1 (string_bytes dir)
+IsLine found (Serve dir port turns) = (found.0 ≡ codes "serve") × IsDirIn found.1 (string_bytes dir)
+    × IsNumberIn (codes "port") found.1 port × (1 ≤ port) × IsNumberIn (codes "turns") found.1 turns
+IsLine found (Show dir) = (found.0 ≡ codes "show") × IsDirIn found.1 (string_bytes dir)
+IsLine found Script = found.0 ≡ codes "script"
+
+-- and there is such a command
+abbrev pub IsLineOf : Option (Text × List Row) → Line → Type 0
+IsLineOf (Some found) line = IsLine found line
+IsLineOf None line = ⊥

@@ -1,0 +1,164 @@
+//! The command line, read over `clap`.
+ghost use Rattle.std.specs.Prelude.{◌≡◌, ◌≤◌, IfOk, false, map, string_bytes, codes};
+ghost use Rattle.clap.specs.Words.{app_of, rule_of, subcommand_of, found_of, rows_of, first_of};
+ghost use Rattle.cuectl.specs.Lines.{
+  cuectl_app,
+  dir_rule,
+  port_rule,
+  turns_rule,
+  IsNumberIn,
+  IsDirIn,
+  IsLine,
+  IsLineOf,
+};
+
+pub mod words;
+
+use clap::error::ErrorKind;
+use clap::{Arg, ArgAction, ArgMatches, Command, Error, value_parser};
+use std::alloc::{AllocError, Global};
+use words::LineFault;
+
+// The folder that the two area files stand in.
+fn dir<'a>(alloc: Global) -> Arg<'a>
+    ensures rule { rule_of result ≡ dir_rule }
+    ensures local { result.global ≡ false }
+{
+    Arg::new(alloc, "DIR")
+        .help("The folder that a.area and b.area stand in")
+        .required(true)
+        .action(ArgAction::Set)
+}
+
+// The port to listen on.
+fn port<'a>(alloc: Global) -> Arg<'a>
+    ensures rule { rule_of result ≡ port_rule }
+    ensures local { result.global ≡ false }
+{
+    Arg::new(alloc, "port")
+        .help("The UDP port on 127.0.0.1 to listen on, 1 to 65535")
+        .long("port")
+        .required(true)
+        .action(ArgAction::Set)
+        .value_parser(value_parser!(u16))
+}
+
+// How many turns to run.
+fn turns<'a>(alloc: Global) -> Arg<'a>
+    ensures rule { rule_of result ≡ turns_rule }
+    ensures local { result.global ≡ false }
+{
+    Arg::new(alloc, "turns")
+        .help("How many datagrams and ticks to take before it ends")
+        .long("turns")
+        .required(true)
+        .action(ArgAction::Set)
+        .value_parser(value_parser!(u64))
+}
+
+// All commands.
+fn cuectl<'a>(alloc: Global) -> Result<Command<'a>, AllocError>
+    ensures { IfOk result (λ command. app_of command ≡ cuectl_app) }
+{
+    let form = Command::new(alloc, "form")
+        .about("Make an empty show in a folder that has none")
+        .arg(dir(alloc))?;
+    let serve = Command::new(alloc, "serve")
+        .about("Run the show of a folder over UDP")
+        .arg(dir(alloc))?
+        .arg(port(alloc))?
+        .arg(turns(alloc))?;
+    let show = Command::new(alloc, "show")
+        .about("Print the show of a folder, and change nothing")
+        .arg(dir(alloc))?;
+    let script = Command::new(alloc, "script").about(
+        "Run a script from standard input on two disks in memory",
+    );
+    Command::new(alloc, "cuectl")
+        .version("1.0")
+        .about("A two-phase cue controller for theatre machinery")
+        .subcommand(form)?
+        .subcommand(serve)?
+        .subcommand(show)?
+        .subcommand(script)
+}
+
+// The folder that stands there.
+fn dir_in(alloc: Global, found: &ArgMatches<'_>) -> Result<String, LineFault>
+    ensures { IfOk result (λ dir. IsDirIn (rows_of (found_of found.now)) (string_bytes dir)) }
+{
+    match found.get_str("DIR") {
+        Some(dir) => Ok(String::from_str(alloc, dir)?),
+        None => Err(LineFault::Usage),
+    }
+}
+
+// The port that stands there, where it is one.
+fn port_in(found: &ArgMatches<'_>) -> Result<u16, LineFault>
+    ensures { IfOk result (λ port. IsNumberIn (codes "port") (rows_of (found_of found.now)) port × (1 ≤ port)) }
+{
+    match found.get_one::<u16>("port") {
+        Some(port) if port >= 1 => Ok(port),
+        _ => Err(LineFault::Usage),
+    }
+}
+
+// The number of turns that stands there.
+fn turns_in(found: &ArgMatches<'_>) -> Result<u64, LineFault>
+    ensures { IfOk result (λ turns. IsNumberIn (codes "turns") (rows_of (found_of found.now)) turns) }
+{
+    match found.get_one::<u64>("turns") {
+        Some(turns) => Ok(turns),
+        None => Err(LineFault::Usage),
+    }
+}
+
+// The command that was matched.
+fn line_in(alloc: Global, name: &str, found: &ArgMatches<'_>) -> Result<words::Line, LineFault>
+    ensures { IfOk result (λ line. IsLine (name.now, rows_of (found_of found.now)) line) }
+{
+    if name == "form" {
+        let dir = dir_in(alloc, found)?;
+        return Ok(words::Line::Form { dir });
+    }
+    if name == "serve" {
+        let dir = dir_in(alloc, found)?;
+        let port = port_in(found)?;
+        let turns = turns_in(found)?;
+        return Ok(words::Line::Serve { dir, port, turns });
+    }
+    if name == "show" {
+        let dir = dir_in(alloc, found)?;
+        return Ok(words::Line::Show { dir });
+    }
+    if name == "script" {
+        return Ok(words::Line::Script);
+    }
+    Err(LineFault::Usage)
+}
+
+// Why there is no match: the text of the help and of the version is clap's.
+fn fault_of(alloc: Global, error: &Error) -> LineFault {
+    match error.kind() {
+        ErrorKind::DisplayHelp | ErrorKind::DisplayVersion => match error.to_string(alloc) {
+            Ok(text) => LineFault::Help(text),
+            Err(_) => LineFault::Memory,
+        },
+        ErrorKind::OutOfMemory => LineFault::Memory,
+        _ => LineFault::Usage,
+    }
+}
+
+/// Reads a command line, the program's name first, as `clap` matches it.
+pub fn line(alloc: Global, words: &[String]) -> Result<words::Line, LineFault>
+    ensures { IfOk result (λ line. IsLineOf (subcommand_of cuectl_app (map string_bytes words.now)) line) }
+{
+    let command = cuectl(alloc)?;
+    match command.try_get_matches_from(words) {
+        Ok(matches) => match matches.subcommand() {
+            Some((name, found)) => line_in(alloc, name, found),
+            None => Err(LineFault::Usage),
+        },
+        Err(error) => Err(fault_of(alloc, &error)),
+    }
+}

@@ -1,0 +1,106 @@
+//! Whole inputs, on two disks in memory.
+use crate::shows;
+use crate::timing::{Work, time};
+use cue_disk::MemDisk;
+use cue_engine::{Engine, Input, Wire, WireFault};
+use std::alloc::AllocGlobal;
+use std::io;
+use std::rt::{Clock, Print};
+
+// A wire that forgets.
+#[derive(Drop)]
+struct Nowhere;
+
+impl Wire for Nowhere {
+    ghost use Rattle.std.specs.Prelude.{None};
+
+    ghost told = { λ _. None };
+
+    fn send(&mut self, _to: u16, _bytes: &[u8]) -> Result<(), WireFault> {
+        Ok(())
+    }
+}
+
+// Takes two datagrams in turn, and hands out what is owed.
+#[derive(Drop)]
+struct TakeInTurn<'a> {
+    engine: Engine<MemDisk>,
+    one: &'a [u8],
+    other: &'a [u8],
+    is_other: bool,
+}
+
+impl<'a> Work for TakeInTurn<'a> {
+    fn once(&mut self) -> bool {
+        let bytes = if self.is_other { self.other } else { self.one };
+        self.is_other = !self.is_other;
+        let took = self
+            .engine
+            .take(1_000, Input::Datagram { from: 8000, bytes })
+            .is_ok();
+        let unsent = self.engine.hand_out(&mut Nowhere);
+        took && unsent == 0
+    }
+}
+
+// A name, two datagrams that are taken in turn, and how often.
+const TAKES: [(&str, &[u8], &[u8], u32); 4] = [
+    (
+        "take_goto",
+        b"/cue/100/goto\0\0\0,\0\0\0",
+        b"/cue/101/goto\0\0\0,\0\0\0",
+        5_000,
+    ),
+    ("take_status", b"/status\0", b"/status\0", 100_000),
+    (
+        "take_refused",
+        b"/nothing\0\0\0\0,\0\0\0",
+        b"/nothing\0\0\0\0,\0\0\0",
+        100_000,
+    ),
+    (
+        "take_all_goto",
+        b"/cue/*/goto\0,\0\0\0",
+        b"/cue/*/goto\0,\0\0\0",
+        100,
+    ),
+];
+
+/// Prints the measures that this word names: of whole inputs over a full show, and `take_goto_small` over one of two cues.
+pub fn measure<R: Clock + Print + AllocGlobal>(rt: &R, name: &str) -> io::Result<()> {
+    let alloc = rt.alloc();
+    for (take, one, other, calls) in TAKES {
+        if name == "all" || name == take {
+            if let Some(engine) = shows::full(alloc)? {
+                time(
+                    rt,
+                    take,
+                    calls,
+                    &mut TakeInTurn {
+                        engine,
+                        one,
+                        other,
+                        is_other: false,
+                    },
+                )?;
+            }
+        }
+    }
+    if name == "all" || name == "take_goto_small" {
+        if let Some(engine) = shows::small(alloc)? {
+            let (one, other) = (b"/cue/100/goto\0\0\0,\0\0\0", b"/cue/212/goto\0\0\0,\0\0\0");
+            time(
+                rt,
+                "take_goto_small",
+                5_000,
+                &mut TakeInTurn {
+                    engine,
+                    one,
+                    other,
+                    is_other: false,
+                },
+            )?;
+        }
+    }
+    Ok(())
+}

@@ -1,0 +1,54 @@
+//! How long one call takes: the best and the median of several rounds.
+use std::alloc::AllocGlobal;
+use std::io;
+use std::rt::{Clock, Print};
+use std::time::Instant;
+
+/// How often all is measured.
+const ROUNDS: usize = 7;
+
+/// Something that is measured.
+pub trait Work {
+    /// One call; whether it went as it is meant to.
+    fn once(&mut self) -> bool;
+}
+
+// The nanoseconds of one call, taken over many; None where one of them did not go as it is meant to.
+fn round<R: Clock, W: Work>(rt: &R, calls: u32, work: &mut W) -> io::Result<Option<u64>> {
+    let start = Instant::now(rt)?;
+    let mut went = true;
+    for _ in 0..calls {
+        if !work.once() {
+            went = false;
+        }
+    }
+    let nanos = start.elapsed(rt)?.as_nanos() as u64;
+    if went && calls > 0 {
+        Ok(Some(nanos / u64::from(calls)))
+    } else {
+        Ok(None)
+    }
+}
+
+/// Prints the best and the median of seven rounds of so many calls, where the word asks for this measure.
+pub fn time<R: Clock + Print + AllocGlobal, W: Work>(
+    rt: &R,
+    name: &str,
+    calls: u32,
+    work: &mut W,
+) -> io::Result<()> {
+    let mut rounds = Vec::new(rt.alloc());
+    for _ in 0..ROUNDS {
+        if let Some(nanos) = round(rt, calls, work)? {
+            rounds.push(nanos)?;
+        }
+    }
+    rounds.sort_unstable();
+    match (rounds.first(), rounds.get(ROUNDS / 2)) {
+        (Some(best), Some(median)) => {
+            println!(rt; "{name}: best {best} ns, median {median} ns a call")?;
+        }
+        _ => println!(rt; "{name}: a call did not go as it is meant to")?,
+    }
+    Ok(())
+}

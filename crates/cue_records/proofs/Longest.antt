@@ -1,5 +1,5 @@
 -- How long the text of a state can be.
-use Rattle.std.proofs.Common.{◌≡◌, ℕ, ◌+◌, ◌*◌, ◌≤◌, Bool, false, ◌&&◌, List, [], ◌∷◌, ◌++◌, length, Option, Some, None, IsTrue, nat_eq, nat_le, refl, sym, ◌∙◌, ap, arith, length-append}
+use Rattle.std.proofs.Common.{◌≡◌, ℕ, ◌+◌, ◌*◌, ◌≤◌, Bool, ◌&&◌, List, [], ◌∷◌, ◌++◌, length, Option, Some, None, IsTrue, nat_le, refl, sym, ◌∙◌, ap, arith, length-append}
 use Rattle.std.specs.Prelude.{IfSome}
 use Rattle.std.specs.List.{list_all, flat_map}
 use Rattle.std.specs.Map.{keys_of}
@@ -16,15 +16,14 @@ use Rattle.cue_show.specs.Show.{Cues, ShowLists, parts_of, are_known, is_place_o
 use Rattle.cue_show.specs.declared.limits.TheConstants.{MAX_CUE_BYTES, MAX_PARTS, MAX_PART_BYTES, MAX_DEVICES, MAX_CUES}
 use Rattle.cue_show.specs.declared.part.Part.{Part}
 use Rattle.cue_show.proofs.ChangeLemmas.{is_cue_of-parts_of}
-use Rattle.cue_exchange.specs.Answers.{devices_of}
 use Rattle.cue_exchange.specs.declared.attempt.Attempt.{Attempt}
 use Rattle.cue_exchange.specs.declared.limits.TheConstants.{MAX_LIVE}
 use Rattle.cue_core.specs.declared.event.Ended.{Ended}
-use Rattle.cue_core.specs.State.{Standing, is_at_cue}
+use Rattle.cue_core.specs.State.{is_at_cue}
 use Rattle.cue_core.proofs.Conditions.{both}
 use Rattle.cue_core.proofs.Rules.{rules_of}
 use Rattle.cue_records.specs.Fields.{byte_text, short_text, number_text, moment_text, text_text, part_text, parts_text, entry_text, new_cue_text}
-use Rattle.cue_records.specs.State.{table_text, stack_text, place_text, show_text, outcome_number, ended_text, stage_number, answer_number, answers_text, attempt_text, live_text, state_text}
+use Rattle.cue_records.specs.State.{table_text, stack_text, place_text, show_text, outcome_number, ended_text, stage_number, answer_number, answers_text, attempt_text, live_text}
 use Rattle.cue_records.specs.Laws.{StateTextsAreBounded}
 use Rattle.cue_records.proofs.AttemptLaws.{parts_found}
 use Rattle.cue_records.proofs.Fitting.{cue_fits, attempt_cue_fits}

@@ -1,7 +1,3 @@
-pub mod BatchLemmas
-mod CountLemmas
-mod FailureLemmas
-pub mod HearLemmas
 mod LineLemmas
 pub mod ProgramLemmas
 mod ScriptLemmas

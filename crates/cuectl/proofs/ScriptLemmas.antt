@@ -1,18 +1,24 @@
 -- What a script has written, line by line.
-use Rattle.std.specs.Prelude.{◌≡◌, ℕ, ◌+◌, ◌<◌, ◌≤◌, ◌++◌, List, [], ◌∷◌, length, take, Option, Some, None, slice_index_or, IfSome}
+use Rattle.std.specs.Prelude.{◌≡◌, ℕ, ◌+◌, ◌<◌, ◌≤◌, ◌++◌, Bool, List, [], ◌∷◌, length, map, take, Option, Some, None, slice_index_or, IfSome}
 use Rattle.std.specs.Option.{option_map}
 use Rattle.std.specs.Io.KnownBytes.{Appends}
 use Rattle.std.proofs.Common.{ap, refl, arith, sym, ◌∙◌, append_assoc, subst}
 use Rattle.std.proofs.lemmas.Grind.{flat_map-append}
 use Rattle.std.proofs.lemmas.List.{append-nil, map-append, take_more, take_all, length-take}
-use Rattle.cuectl.specs.declared.controller.reply.Out.{Out}
+use Rattle.cue_core.specs.State.{Standing}
+use Rattle.cue_core.specs.Steps.{folded}
+use Rattle.cue_outbox.specs.Sending.{Send, datagram, datagrams}
+use Rattle.cue_engine.specs.declared.mem_wire.Sent.{Sent}
+use Rattle.cue_engine.specs.Runs.{Happening, given_at, in_front, run}
+use Rattle.cue_engine.specs.Told.{sents_view}
+use Rattle.cue_engine.specs.Wires.{Handed, handed, Grew, AllHanded}
+use Rattle.cuectl.specs.declared.script.TheConstants.{SCRIPT_LIMIT}
 use Rattle.cuectl.specs.declared.script.ending.Ending.{Ending}
-use Rattle.cuectl.specs.declared.script.ending.Ending.TheVariants.{Done}
-use Rattle.cuectl.specs.declared.script.ending.Stop.{Stop}
-use Rattle.cuectl.specs.declared.script.ending.Stop.TheVariants.{Ended, Failed}
-use Rattle.cuectl.specs.Playing.{GoesOn, IfEnded, WroteUpTo}
-use Rattle.cuectl.specs.Script.{Stage, Step, goes_on, stops, Played, line_of, printed, line_step, played, ended, after_step}
-use Rattle.cuectl.specs.SendingViews.{out_view, outs_view}
+use Rattle.cuectl.specs.declared.script.ending.Ending.TheVariants.{Done, BadLine, BadInput, Failed, Stopped}
+use Rattle.cuectl.specs.Line.{lines_of, happening_in}
+use Rattle.cuectl.specs.LineViews.{sent_view}
+use Rattle.cuectl.specs.Playing.{Goes, EndsAt}
+use Rattle.cuectl.specs.Script.{line_of, printed, output, Ran, RanToBadLine, Wrote}
 
 pub appends_none : (old : Option (List ℕ)) → Appends old old []
 appends_none None = tt
@@ -24,75 +30,142 @@ appends_both (Some old) None new first then one two = absurd one
 appends_both (Some old) (Some mid) None first then one two = absurd two
 appends_both (Some old) (Some mid) (Some new) first then one two = two ∙ ap (λ (held : List ℕ). held ++ then) one ∙ append_assoc old first then
 
+-- ---- what is printed
+
+printed-append : (xs ys : List (ℕ × List ℕ)) → printed (xs ++ ys) ≡ printed xs ++ printed ys
+printed-append xs ys = flat_map-append line_of xs ys
+
 -- a datagram more was printed
-pub printed_more : (outs : List Out) (i : ℕ) (d : Out) → i < length outs → printed (outs_view (take (i + 1) outs)) ≡ printed (outs_view (take i outs)) ++ line_of (out_view (slice_index_or outs i d))
-printed_more outs i d low =
-    ap (λ (os : List Out). printed (outs_view os)) (take_more outs i d low)
-    ∙ ap printed (map-append out_view (take i outs) (slice_index_or outs i d ∷ []))
-    ∙ flat_map-append line_of (outs_view (take i outs)) (out_view (slice_index_or outs i d) ∷ [])
-    ∙ ap (λ (t : List ℕ). printed (outs_view (take i outs)) ++ t) (append-nil (line_of (out_view (slice_index_or outs i d))))
+pub printed_more : (all : List Sent) (i : ℕ) (d : Sent) → i < length all → printed (map sent_view (take (i + 1) all)) ≡ printed (map sent_view (take i all)) ++ line_of (sent_view (slice_index_or all i d))
+printed_more all i d low =
+    ap (λ (xs : List Sent). printed (map sent_view xs)) (take_more all i d low)
+    ∙ ap printed (map-append sent_view (take i all) (slice_index_or all i d ∷ []))
+    ∙ printed-append (map sent_view (take i all)) (sent_view (slice_index_or all i d) ∷ [])
+    ∙ ap (λ (t : List ℕ). printed (map sent_view (take i all)) ++ t) (append-nil (line_of (sent_view (slice_index_or all i d))))
 
-pub print_step : (outs : List Out) (i : ℕ) (d : Out) (old mid new : Option (List ℕ)) → i < length outs → Appends old mid (printed (outs_view (take i outs))) → Appends mid new (line_of (out_view (slice_index_or outs i d))) →
-    Appends old new (printed (outs_view (take (i + 1) outs)))
-print_step outs i d old mid new low so_far here =
-    let P : List ℕ → Type 0 = λ text. Appends old new text in
-    subst P (sym (printed_more outs i d low)) (appends_both old mid new (printed (outs_view (take i outs))) (line_of (out_view (slice_index_or outs i d))) so_far here)
+-- a datagram that was handed over, without what became of it
+abbrev pub sent_of : Handed → ℕ × List ℕ
+sent_of h = (h.to, h.bytes)
 
--- what was written, and what is still to come, is the whole
-pub record IsPlaying (whole rest : Played) (old new : Option (List ℕ)) : Type 0 where
-  pub text : List ℕ
-  pub wrote : Appends old new text
-  pub all : whole.text ≡ text ++ rest.text
-  pub same : whole.ending ≡ rest.ending
+handed-all : (queue : List (ℕ × List ℕ)) (flags : List Bool) → length flags ≡ length queue → map sent_of (handed queue flags) ≡ queue
+handed-all [] flags same = refl
+handed-all (o ∷ os) [] same = absurd (omega arith)
+handed-all (o ∷ os) (f ∷ fs) same = ap (λ (xs : List (ℕ × List ℕ)). o ∷ xs) (handed-all os fs (omega arith))
 
-pub playing_first : (whole : Played) (old : Option (List ℕ)) → IsPlaying whole whole old old
-playing_first whole old = record { text = []; wrote = appends_none old; all = refl; same = refl }
+sents-all : (all : List Sent) → map sent_of (sents_view all) ≡ map sent_view all
+sents-all [] = refl
+sents-all (x ∷ xs) = ap (λ (ys : List (ℕ × List ℕ)). sent_view x ∷ ys) (sents-all xs)
 
-went_on : (whole : Played) (rest : Stage → Played) (step : Step) (next : Stage) (old mid new : Option (List ℕ)) → IsPlaying whole (after_step rest step) old mid → GoesOn step next mid new → IsPlaying whole (rest next) old new
-went_on whole rest (goes_on text stage) next old mid new held goes =
-    let P : Stage → Type 0 = λ s. IsPlaying whole (rest s) old new in
-    subst P goes.0 (record {
-      text = held.text ++ text;
-      wrote = appends_both old mid new held.text text held.wrote goes.1;
-      all = held.all ∙ sym (append_assoc held.text text (rest stage).text);
-      same = held.same;
-    })
-went_on whole rest (stops ending) next old mid new held goes = absurd goes
+-- where the wire still tells, it tells of the whole queue
+pub told_whole : (queue : List (ℕ × List ℕ)) (n : ℕ) (told : Option (List Handed)) (all : List Sent) → AllHanded (Some []) queue n told → told ≡ Some (sents_view all) → map sent_view all ≡ queue
+told_whole queue n None all each is = absurd (cc)
+told_whole queue n (Some xs) all each is =
+    let same : xs ≡ sents_view all = cc in
+    sym (sents-all all) ∙ ap (map sent_of) (sym same ∙ each.grew) ∙ handed-all queue each.flags each.each
 
-played_line : (stage : Stage) (line : List ℕ) (lines : List (List ℕ)) → played stage (line ∷ lines) ≡ after_step (λ next. played next lines) (line_step stage line)
-unfolding played
-played_line stage line lines = refl
+-- ---- what happened
 
--- a line more was played
-pub playing_more : (whole : Played) (stage next : Stage) (all others : List (List ℕ)) (line : List ℕ) (old mid new : Option (List ℕ)) → IsPlaying whole (played stage all) old mid → all ≡ line ∷ others →
-    GoesOn (line_step stage line) next mid new → IsPlaying whole (played next others) old new
-playing_more whole stage next all others line old mid new held split goes =
-    let P : Played → Type 0 = λ rest. IsPlaying whole rest old mid in
-    went_on whole (λ s. played s others) (line_step stage line) next old mid new (subst P (ap (played stage) split ∙ played_line stage line others) held) goes
+run-none : (s : Standing) → (run s []).state ≡ s
+run-none s = refl
 
-played_none : (stage : Stage) → played stage [] ≡ ended Done
-unfolding played
-played_none stage = refl
+pub run-more-state : (s : Standing) (hs : List Happening) (h : Happening) → (run s (hs ++ h ∷ [])).state ≡ folded (run s hs).state (given_at (run s hs).state h).batch
+run-more-state s [] h = refl
+run-more-state s (g ∷ gs) h = run-more-state (folded s (given_at s g).batch) gs h
 
--- all lines were played
-pub playing_done : (whole : Played) (stage : Stage) (all : List (List ℕ)) (old new : Option (List ℕ)) → IsPlaying whole (played stage all) old new → all ≡ [] → WroteUpTo whole Done old new
-playing_done whole stage all old new held none =
-    let rest : played stage all ≡ ended Done = ap (played stage) none ∙ played_none stage in
-    record { text = held.text; wrote = held.wrote; all = held.all ∙ ap (λ (p : Played). held.text ++ p.text) rest; same = held.same ∙ ap (λ (p : Played). p.ending) rest }
+pub run-more-sends : (s : Standing) (hs : List Happening) (h : Happening) → (run s (hs ++ h ∷ [])).sends ≡ (run s hs).sends ++ (given_at (run s hs).state h).sends
+run-more-sends s [] h = append-nil (given_at s h).sends
+run-more-sends s (g ∷ gs) h =
+    ap (λ (xs : List (ℕ × Send)). (given_at s g).sends ++ xs) (run-more-sends (folded s (given_at s g).batch) gs h)
+    ∙ sym (append_assoc (given_at s g).sends (run (folded s (given_at s g).batch) gs).sends (given_at (run (folded s (given_at s g).batch) gs).state h).sends)
+
+pub output-none : (s : Standing) → output s [] ≡ []
+unfolding output
+output-none s = refl
+
+pub output-more : (s : Standing) (hs : List Happening) (h : Happening) → output s (hs ++ h ∷ []) ≡ output s hs ++ printed (datagrams (given_at (run s hs).state h).sends)
+unfolding output
+output-more s hs h =
+    ap (λ (xs : List (ℕ × Send)). printed (datagrams xs)) (run-more-sends s hs h)
+    ∙ ap printed (map-append datagram (run s hs).sends (given_at (run s hs).state h).sends)
+    ∙ printed-append (datagrams (run s hs).sends) (datagrams (given_at (run s hs).state h).sends)
+
+-- ---- the lines of a text
+
+-- The first lines of a text were run, those of the rest are left, and this is the state.
+pub record IsRunning (first : Standing) (text rest : List ℕ) (state : Standing) (old new : Option (List ℕ)) : Type 0 where
+  pub happened : List Happening
+  pub lines : List (List ℕ)
+  pub all : lines_of text ≡ lines ++ lines_of rest
+  pub each : map happening_in lines ≡ map Some happened
+  pub is : state ≡ (run first happened).state
+  pub wrote : Appends old new (output first happened)
+
+pub running_first : (first : Standing) (text : List ℕ) (old : Option (List ℕ)) → IsRunning first text text first old old
+running_first first text old =
+    let P : List ℕ → Type 0 = λ t. Appends old old t in
+    record { happened = []; lines = []; all = refl; each = refl; is = refl; wrote = subst P (sym (output-none first)) (appends_none old) }
+
+-- a line more was run
+pub running_more : (first : Standing) (text rest others line : List ℕ) (s t : Standing) (old mid new : Option (List ℕ)) →
+    IsRunning first text rest s old mid → lines_of rest ≡ line ∷ lines_of others → Goes line s t mid new → IsRunning first text others t old new
+running_more first text rest others line s t old mid new held split goes =
+    let P : List ℕ → Type 0 = λ out. Appends old new out in
+    let Q : Standing → Type 0 = λ u. Appends mid new (printed (datagrams (given_at u goes.happening).sends)) in
+    record {
+      happened = held.happened ++ goes.happening ∷ [];
+      lines = held.lines ++ line ∷ [];
+      all = held.all ∙ ap (λ (xs : List (List ℕ)). held.lines ++ xs) split ∙ sym (append_assoc held.lines (line ∷ []) (lines_of others));
+      each = map-append happening_in held.lines (line ∷ []) ∙ ap (λ (xs : List (Option Happening)). xs ++ happening_in line ∷ []) held.each
+          ∙ ap (λ (x : Option Happening). map Some held.happened ++ x ∷ []) goes.tells ∙ sym (map-append Some held.happened (goes.happening ∷ []));
+      is = goes.is ∙ ap (λ (u : Standing). folded u (given_at u goes.happening).batch) held.is ∙ sym (run-more-state first held.happened goes.happening);
+      wrote = subst P (sym (output-more first held.happened goes.happening)) (appends_both old mid new _ _ held.wrote (subst Q held.is goes.wrote));
+    }
+
+-- the script stands where its first lines were run
+pub ran : (first : Standing) (text rest : List ℕ) (left : List (List ℕ)) (s : Standing) (old new : Option (List ℕ)) → IsRunning first text rest s old new → lines_of rest ≡ left → length text ≤ SCRIPT_LIMIT → Ran first text left [] old new
+ran first text rest left s old new held is short =
+    let P : List ℕ → Type 0 = λ out. Appends old new out in
+    record {
+      happened = held.happened;
+      lines = held.lines;
+      all = held.all ∙ ap (λ (xs : List (List ℕ)). held.lines ++ xs) is;
+      each = held.each;
+      short = short;
+      wrote = subst P (sym (append-nil (output first held.happened))) held.wrote;
+    }
 
 -- a line ended the script
-pub playing_stopped : (whole : Played) (stage : Stage) (all others : List (List ℕ)) (line : List ℕ) (ending : Ending) (old mid new : Option (List ℕ)) → IsPlaying whole (played stage all) old mid → all ≡ line ∷ others →
-    line_step stage line ≡ stops ending → new ≡ mid → WroteUpTo whole ending old new
-playing_stopped whole stage all others line ending old mid new held split stopped same =
-    let rest : played stage all ≡ ended ending = ap (played stage) split ∙ played_line stage line others ∙ ap (after_step (λ next. played next others)) stopped in
-    let P : Option (List ℕ) → Type 0 = λ now. WroteUpTo whole ending old now in
-    subst P (sym same) (record { text = held.text; wrote = held.wrote; all = held.all ∙ ap (λ (p : Played). held.text ++ p.text) rest; same = held.same ∙ ap (λ (p : Played). p.ending) rest })
+pub ran_until : (ending : Ending) (first : Standing) (text rest others line : List ℕ) (s : Standing) (old mid new : Option (List ℕ)) →
+    IsRunning first text rest s old mid → lines_of rest ≡ line ∷ lines_of others → length text ≤ SCRIPT_LIMIT → EndsAt ending line mid new → Wrote ending first text [] old new
+ran_until Done first text rest others line s old mid new held split short ends = absurd ends
+ran_until BadLine first text rest others line s old mid new held split short ends =
+    let P : Option (List ℕ) → Type 0 = λ now. Ran first text (line ∷ lines_of others) [] old now in
+    record { bad = line; others = lines_of others; no_form = ends.0; ran = subst P (sym ends.1) (ran first text rest (line ∷ lines_of others) s old mid held split short) }
+ran_until BadInput first text rest others line s old mid new held split short ends = absurd ends
+ran_until (Failed failure) first text rest others line s old mid new held split short ends =
+    let P : Option (List ℕ) → Type 0 = λ now. Ran first text (line ∷ lines_of others) [] old now in
+    (line ∷ lines_of others, subst P (sym ends) (ran first text rest (line ∷ lines_of others) s old mid held split short))
+ran_until (Stopped failure) first text rest others line s old mid new held split short ends = tt
 
--- the same of why the script stopped
-pub playing_ended : (whole : Played) (stage : Stage) (all others : List (List ℕ)) (line : List ℕ) (stop : Stop) (old mid new : Option (List ℕ)) → IsPlaying whole (played stage all) old mid → all ≡ line ∷ others →
-    IfEnded stop (λ ending. (line_step stage line ≡ stops ending) × (new ≡ mid)) → IfEnded stop (λ ending. WroteUpTo whole ending old new)
-playing_ended whole stage all others line (Ended ending) old mid new held split stopped = playing_stopped whole stage all others line ending old mid new held split stopped.0 stopped.1
-playing_ended whole stage all others line (Failed failure) old mid new held split stopped = tt
+-- a last line behind it
+ran_with : (first : Standing) (text last : List ℕ) (left : List (List ℕ)) (old mid new : Option (List ℕ)) → Ran first text left [] old mid → Appends mid new last → Ran first text left last old new
+ran_with first text last left old mid new held more =
+    let P : List ℕ → Type 0 = λ out. Appends old mid out in
+    record {
+      happened = held.happened;
+      lines = held.lines;
+      all = held.all;
+      each = held.each;
+      short = held.short;
+      wrote = appends_both old mid new _ _ (subst P (append-nil (output first held.happened)) held.wrote) more;
+    }
+
+pub wrote_with : (ending : Ending) (first : Standing) (text last : List ℕ) (old mid new : Option (List ℕ)) → Wrote ending first text [] old mid → Appends mid new last → Wrote ending first text last old new
+wrote_with Done first text last old mid new held more = ran_with first text last [] old mid new held more
+wrote_with BadLine first text last old mid new held more = record { bad = held.bad; others = held.others; no_form = held.no_form; ran = ran_with first text last (held.bad ∷ held.others) old mid new held.ran more }
+wrote_with BadInput first text last old mid new held more = (held.0, appends_both old mid new [] last held.1 more)
+wrote_with (Failed failure) first text last old mid new held more = (held.0, ran_with first text last held.0 old mid new held.1 more)
+wrote_with (Stopped failure) first text last old mid new held more = tt
 
 -- a text of which no more than so many bytes were read was read whole
 pub read_whole : (text : List ℕ) (limit : ℕ) → length (take (limit + 1) text) ≤ limit → (take (limit + 1) text ≡ text) × (length text ≤ limit)

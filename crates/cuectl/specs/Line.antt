@@ -1,11 +1,13 @@
--- The text of a script: its lines, and the datagram that a line tells of.
+-- The text of a script: its lines, and what a line tells of.
 use Rattle.std.specs.Prelude.{ℕ, ◌&&◌, ◌==◌, not, nat_le, if◌then◌else◌, List, [], ◌∷◌, length, take, drop, Option, Some, None, codes}
 use Rattle.std.specs.List.{onto_first}
-use Rattle.std.specs.Option.{option_map, option_and_then}
+use Rattle.std.specs.Option.{option_map, option_and_then, option_or}
 use Rattle.std.specs.Result.{result_ok}
 use Rattle.std.specs.Str.{all_ascii_digits, bytes_eq}
 use Rattle.std.specs.Str.Parse.{digits_value}
 use Rattle.hex.specs.Hex.{decode_of}
+use Rattle.cue_engine.specs.Given.{datagram, tick}
+use Rattle.cue_engine.specs.Runs.{Happening, took, recovered}
 
 -- the lines of a text: each ends with a line feed, which the last may lack
 abbrev pub lines_of : List ℕ → List (List ℕ)
@@ -51,8 +53,27 @@ heading_in line = do
   Some (moment, port, from.1)
 
 -- a line `d NOW FROM HEX`
-abbrev pub arrival_in : List ℕ → Option Arrived
+unfoldable pub arrival_in : List ℕ → Option Arrived
 arrival_in line = do
   heading ← heading_in line
   bytes ← result_ok (decode_of heading.2)
   Some (record { now = heading.0; from = heading.1; bytes = bytes })
+
+-- a line `t NOW`: the moment
+unfoldable pub tick_in : List ℕ → Option ℕ
+tick_in line = do
+  digits ← behind (codes "t ") line
+  number_in 18446744073709551615 digits
+
+-- what happens where a datagram arrives
+abbrev pub arrives : Arrived → Happening
+arrives a = took a.now (datagram a.from a.bytes)
+
+-- what happens where the clock ticks
+abbrev pub ticks : ℕ → Happening
+ticks now = took now tick
+
+-- what a line tells of: `x` of power loss, `t NOW` of a tick of the clock, `d NOW FROM HEX` of a datagram; none for a line of another form
+unfoldable pub happening_in : List ℕ → Option Happening
+happening_in line =
+    if bytes_eq line (codes "x") then Some recovered else option_or (option_map ticks (tick_in line)) (option_map arrives (arrival_in line))

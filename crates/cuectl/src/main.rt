@@ -1,11 +1,8 @@
 //! `cuectl`: a two-phase cue controller for theatre machinery.
 #![tactic(auto)]
 
-mod controller;
 mod program;
 mod script;
-#[cfg(test)]
-mod tests;
 
 use std::env;
 use std::io::{self, BufWriter};

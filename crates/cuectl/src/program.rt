@@ -1,8 +1,7 @@
 //! The command line.
 ghost use Rattle.std.specs.Prelude.{◌≡◌, ◌≢◌, map, string_bytes, codes, [], ◌∷◌, length, IfSome, IfNone};
-ghost use Rattle.std.specs.Io.KnownBytes.{Appends};
-ghost use Rattle.cuectl.specs.Endings.{status_of};
-ghost use Rattle.cuectl.specs.Script.{script as script_text};
+ghost use Rattle.cue_core.specs.State.{empty_state};
+ghost use Rattle.cuectl.specs.Script.{HasRun};
 
 use crate::script::script;
 use std::alloc::Global;
@@ -33,8 +32,8 @@ pub fn perform<R: Read, W: Write>(
 ) -> u8
     ensures usage { map string_bytes words.now ≢ codes "script" ∷ [] → result ≡ 2 }
     ensures known { map string_bytes words.now ≡ codes "script" ∷ [] → result ≢ 2 }
-    ensures script { map string_bytes words.now ≡ codes "script" ∷ [] → result ≢ 3 → IfSome (R.remaining reader.old) (λ text.
-        Appends (W.contents writer.old) (W.contents writer.new) (script_text text).text × (result ≡ status_of (script_text text).ending)) }
+    ensures script { map string_bytes words.now ≡ codes "script" ∷ [] → IfSome (R.remaining reader.old) (λ text.
+        HasRun empty_state text result (W.contents writer.old) (W.contents writer.new)) }
 {
     match only_word(words) {
         Some(word) if word == "script" => script(alloc, reader, writer),

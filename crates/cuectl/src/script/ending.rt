@@ -1,13 +1,11 @@
 //! How a script ends.
 ghost use Rattle.std.specs.Prelude.{◌≡◌};
-ghost use Rattle.cuectl.specs.Script.{ending_line};
-ghost use Rattle.cuectl.specs.Endings.{status_of};
-ghost use Rattle.cuectl.specs.Failures.{failure_line, failure_of};
+ghost use Rattle.cuectl.specs.Endings.{ending_line, failure_line, failure_of, failure_status, status_of, store_line, store_status};
 
-use std::alloc::AllocError;
+use cue_keeper::StoreFault;
 use std::io::{self, ErrorKind};
 
-/// How a script ends that nothing went wrong with but its own text.
+/// How a script ends.
 #[derive(Clone, Copy, Debug, PartialEq, Eq)]
 pub enum Ending {
     /// All lines were run.
@@ -16,59 +14,65 @@ pub enum Ending {
     BadLine,
     /// The script is too long. No line was run.
     BadInput,
-    /// The log has no room for the batch of a line. Those before it were run.
-    Full,
+    /// A line was not carried out. Those before it were run.
+    Failed(Failure),
+    /// The reader or the writer failed. What was written up to then is not known.
+    Stopped(StreamFailure),
 }
 
-/// What can go wrong outside a script, and ends it.
+/// Why a line is not carried out, whatever it tells of.
 #[derive(Clone, Copy, Debug, PartialEq, Eq)]
 pub enum Failure {
-    /// The reader or the writer failed.
-    Io,
-    /// An allocation was refused.
-    Memory,
-    /// The disk failed.
-    Disk,
-    /// The log is broken, since the disk failed before.
+    /// A device call failed before.
     Broken,
+    /// The store refuses, a device call failed, or memory ran out.
+    Store(StoreFault),
 }
 
-/// Why no further line is run.
+/// How a call of the reader or the writer fails.
 #[derive(Clone, Copy, Debug, PartialEq, Eq)]
-pub enum Stop {
-    Ended(Ending),
-    Failed(Failure),
+pub enum StreamFailure {
+    Io,
+    /// It lacked memory.
+    Memory,
 }
 
-impl From<AllocError> for Failure {
-    ghost use Rattle.cuectl.specs.declared.script.ending.Failure.TheVariants.{Memory};
-
-    ghost from_gives = { λ _ failure. failure ≡ Memory };
-
-    fn from(_: AllocError) -> Failure {
-        Failure::Memory
+impl StreamFailure {
+    /// What a call failed as.
+    pub fn of(error: &io::Error) -> StreamFailure
+        ensures { result ≡ failure_of error.now }
+    {
+        match error.kind() {
+            ErrorKind::OutOfMemory => StreamFailure::Memory,
+            _ => StreamFailure::Io,
+        }
     }
 }
 
-impl From<io::Error> for Failure {
-    ghost from_gives = { λ error failure. failure ≡ failure_of error };
-
-    fn from(error: io::Error) -> Failure {
-        Failure::of(&error)
+impl Failure {
+    fn line(self) -> &'static [u8]
+        ensures { result.now ≡ failure_line self }
+    {
+        match self {
+            Failure::Broken => b"! Broken\n",
+            Failure::Store(fault) => store_line(fault),
+        }
     }
-}
 
-impl From<Failure> for Stop {
-    ghost use Rattle.cuectl.specs.declared.script.ending.Stop.TheVariants.{Failed};
-
-    ghost from_gives = { λ failure stop. stop ≡ Failed failure };
-
-    fn from(failure: Failure) -> Stop {
-        Stop::Failed(failure)
+    fn status(self) -> u8
+        ensures { result ≡ failure_status self }
+    {
+        match self {
+            Failure::Broken => 3,
+            Failure::Store(fault) => store_status(fault),
+        }
     }
 }
 
 impl Ending {
+    /// Memory ran out.
+    pub const NO_MEMORY: Ending = Ending::Failed(Failure::Store(StoreFault::Memory));
+
     /// The last line of the output.
     pub fn line(self) -> &'static [u8]
         ensures { result.now ≡ ending_line self }
@@ -77,7 +81,9 @@ impl Ending {
             Ending::Done => b"",
             Ending::BadLine => b"! BadLine\n",
             Ending::BadInput => b"! BadInput\n",
-            Ending::Full => b"! Full\n",
+            Ending::Failed(failure) => failure.line(),
+            Ending::Stopped(StreamFailure::Io) => b"! Io\n",
+            Ending::Stopped(StreamFailure::Memory) => b"! Memory\n",
         }
     }
 
@@ -87,31 +93,40 @@ impl Ending {
     {
         match self {
             Ending::Done => 0,
-            Ending::BadLine | Ending::BadInput | Ending::Full => 1,
+            Ending::BadLine | Ending::BadInput => 1,
+            Ending::Failed(failure) => failure.status(),
+            Ending::Stopped(_) => 3,
         }
     }
 }
 
-impl Failure {
-    /// What a call of the reader or the writer failed as: for lack of memory, or otherwise.
-    pub fn of(error: &io::Error) -> Failure
-        ensures { result ≡ failure_of error.now }
-    {
-        match error.kind() {
-            ErrorKind::OutOfMemory => Failure::Memory,
-            _ => Failure::Io,
-        }
+fn store_line(fault: StoreFault) -> &'static [u8]
+    ensures { result.now ≡ store_line fault }
+{
+    match fault {
+        StoreFault::NotEmpty => b"! NotEmpty\n",
+        StoreFault::Unformed => b"! Unformed\n",
+        StoreFault::Damaged => b"! Damaged\n",
+        StoreFault::Version => b"! Version\n",
+        StoreFault::Malformed => b"! Malformed\n",
+        StoreFault::Full => b"! Full\n",
+        StoreFault::Exhausted => b"! Exhausted\n",
+        StoreFault::Memory => b"! Memory\n",
+        StoreFault::Disk => b"! Disk\n",
     }
+}
 
-    /// The last line of the output.
-    pub fn line(self) -> &'static [u8]
-        ensures { result.now ≡ failure_line self }
-    {
-        match self {
-            Failure::Io => b"! Io\n",
-            Failure::Memory => b"! Memory\n",
-            Failure::Disk => b"! Disk\n",
-            Failure::Broken => b"! Broken\n",
-        }
+fn store_status(fault: StoreFault) -> u8
+    ensures { result ≡ store_status fault }
+{
+    match fault {
+        StoreFault::NotEmpty
+        | StoreFault::Unformed
+        | StoreFault::Damaged
+        | StoreFault::Version
+        | StoreFault::Malformed
+        | StoreFault::Full
+        | StoreFault::Exhausted => 1,
+        StoreFault::Memory | StoreFault::Disk => 3,
     }
 }

@@ -1,8 +1,8 @@
-// The lines of a script, and the datagram that a line tells of.
+// The lines of a script, and what each tells of.
 ghost use Rattle.std.specs.Prelude.{◌≡◌, ℕ, ◌<◌, ◌≤◌, ◌^◌, ◌∷◌, length, IfOk, IfSome};
 ghost use Rattle.std.specs.Option.{option_map};
-ghost use Rattle.cuectl.specs.Line.{lines_of, cut_at, number_in, heading_in, arrival_in};
-ghost use Rattle.cuectl.specs.LineViews.{cut_view, heading_view, arrival_view};
+ghost use Rattle.cuectl.specs.Line.{lines_of, cut_at, number_in, heading_in, arrival_in, tick_in, happening_in};
+ghost use Rattle.cuectl.specs.LineViews.{cut_view, heading_view, arrival_view, line_view};
 
 use hex::FromHexError;
 use memchr::memchr;
@@ -14,6 +14,17 @@ pub struct Arrival {
     pub now: u64,
     pub from: u16,
     pub bytes: Vec<u8>,
+}
+
+/// What a line of a script tells of.
+#[derive(Debug, Drop)]
+pub enum ScriptLine {
+    /// A datagram arrives.
+    Datagram(Arrival),
+    /// The clock ticks, at a moment in milliseconds since 1970.
+    Tick(u64),
+    /// Power is lost.
+    PowerLoss,
 }
 
 fn cut_at(mark: u8, text: &[u8]) -> Option<(&[u8], &[u8])>
@@ -78,9 +89,8 @@ fn port_in(digits: &[u8]) -> Option<u16>
     }
 }
 
-/// Reads a line `d NOW FROM HEX`: a datagram `HEX`, in hexadecimal digits of either case, that came
-/// at the moment `NOW` from the port `FROM`. `None` where the line has another form.
-pub fn read_arrival(alloc: Global, line: &[u8]) -> Result<Option<Arrival>, AllocError>
+#[tactic(auto, unfolding(crate::specs::Line::arrival_in))]
+fn read_arrival(alloc: Global, line: &[u8]) -> Result<Option<Arrival>, AllocError>
     ensures { IfOk result (λ found. option_map arrival_view found ≡ arrival_in line.now) }
 {
     let Some((now, from, digits)) = heading(line) else {
@@ -90,5 +100,31 @@ pub fn read_arrival(alloc: Global, line: &[u8]) -> Result<Option<Arrival>, Alloc
         Ok(bytes) => Ok(Some(Arrival { now, from, bytes })),
         Err(FromHexError::OutOfMemory) => Err(AllocError),
         Err(_) => Ok(None),
+    }
+}
+
+#[tactic(auto, unfolding(crate::specs::Line::tick_in))]
+fn read_tick(line: &[u8]) -> Option<u64>
+    ensures { result ≡ tick_in line.now }
+{
+    let digits = line.strip_prefix(b"t ")?;
+    number_in(u64::MAX, digits)
+}
+
+/// Reads a line of a script: `d NOW FROM HEX` is a datagram `HEX`, in hexadecimal digits of either case, that came at
+/// the moment `NOW` from the port `FROM`, `t NOW` a tick, and `x` power loss. `None` where the line has another form.
+#[tactic(auto, unfolding(crate::specs::Line::happening_in))]
+pub fn read_line(alloc: Global, line: &[u8]) -> Result<Option<ScriptLine>, AllocError>
+    ensures { IfOk result (λ found. option_map line_view found ≡ happening_in line.now) }
+{
+    if line == b"x".as_slice() {
+        return Ok(Some(ScriptLine::PowerLoss));
+    }
+    if let Some(now) = read_tick(line) {
+        return Ok(Some(ScriptLine::Tick(now)));
+    }
+    match read_arrival(alloc, line)? {
+        Some(arrival) => Ok(Some(ScriptLine::Datagram(arrival))),
+        None => Ok(None),
     }
 }

@@ -1,123 +1,201 @@
 //! Running a script line by line.
-ghost use Rattle.std.specs.Prelude.{◌≡◌, ◌≢◌, ◌≤◌, true, false, IfOk, IfErr, OnOk};
-ghost use Rattle.std.specs.Io.KnownBytes.{Appends, Keeps};
-ghost use Rattle.cue_disk.specs.Disk.{MoreFailures};
-ghost use Rattle.cuectl.specs.Controller.{failures_of, has_failed};
-ghost use Rattle.cuectl.specs.Failures.{HasCause};
-ghost use Rattle.cuectl.specs.Line.{lines_of};
-ghost use Rattle.cuectl.specs.Playing.{stage_of, GoesOn, IfEnded, IfFailed, UnlessFailed, WroteUpTo};
-ghost use Rattle.cuectl.specs.Script.{line_step, goes_on, stops, printed, played};
-ghost use Rattle.cuectl.specs.SendingViews.{outs_view};
-ghost use Rattle.cuectl.specs.Streams.{FailedAsIo};
-ghost use Rattle.cuectl.specs.declared.script.ending.Ending.TheVariants.{Done};
+ghost use Rattle.std.specs.Prelude.{◌≡◌, ◌≤◌, [], length, false, IfOk, IfErr, OnOk};
+ghost use Rattle.std.specs.Io.KnownBytes.{Appends};
+ghost use Rattle.cue_core.specs.Steps.{folded};
+ghost use Rattle.cue_outbox.specs.Sending.{datagrams};
+ghost use Rattle.cue_engine.specs.Inputs.{input_view};
+ghost use Rattle.cue_engine.specs.Runs.{took, given_at};
+ghost use Rattle.cue_engine.specs.Words.{state_of, queue_of, keeper_of};
+ghost use Rattle.cue_keeper.specs.Words.{is_broken};
+ghost use Rattle.cuectl.specs.LineViews.{line_view};
+ghost use Rattle.cuectl.specs.Playing.{IsReady, IsAfter, Goes, EndsAt, EndsUnheard};
+ghost use Rattle.cuectl.specs.Script.{printed, Wrote};
+ghost use Rattle.cuectl.specs.Streams.{HasCause};
 
-use super::ending::{Ending, Failure, Stop};
-use super::line::{first_line, read_arrival};
+use super::SCRIPT_LIMIT;
+use super::ending::{Ending, Failure, StreamFailure};
+use super::line::{ScriptLine, first_line, read_line};
 use super::print::print_all;
 use super::stream::Streams;
-use crate::controller::reply::Out;
-use crate::controller::{Controller, Fault};
-use cue_disk::Disk;
-use std::alloc::Global;
+use cue_disk::MemDisk;
+use cue_engine::{Engine, Input, MemWire};
+use cue_keeper::{Fault, StoreFault};
+use std::alloc::{AllocError, Global};
 use std::io::Write;
 
-/// Carries a line out: what is owed for its datagram.
-#[tactic(auto, unfolding(crate::specs::Script::line_step))]
-fn answer<D: Disk>(
-    alloc: Global,
-    controller: &mut Controller<D>,
-    line: &[u8],
-) -> Result<Vec<Out>, Stop>
-    ensures goes_on { IfOk result (λ outs. line_step (stage_of controller.old) line.now ≡ goes_on (printed (outs_view outs.items)) (stage_of controller.new)) }
-    ensures stops { IfErr result (λ stop. IfEnded stop (λ ending. line_step (stage_of controller.old) line.now ≡ stops ending)) }
-    ensures early { IfErr result (λ stop. IfEnded stop (λ ending. ending ≢ Done)) }
+// Drops an engine. It stands apart, since what is dropped fills the goals of the function around it.
+fn let_go(_engine: Engine<MemDisk>) {}
 
-    // It makes no call of the streams.
-    ensures cause { IfErr result (λ stop. IfFailed stop (λ failure. HasCause failure ⊥
-        (MoreFailures (failures_of D.failures controller.old) (failures_of D.failures controller.new)) (has_failed controller.old ≡ true))) }
-    ensures failures { failures_of D.failures controller.old ≤ failures_of D.failures controller.new }
-    ensures works { OnOk result (has_failed controller.new ≡ false) }
+// Drops the engine of a line that is not carried out.
+fn refused(_engine: Engine<MemDisk>, failure: Failure) -> Result<Engine<MemDisk>, Failure>
+    ensures { result ≡ Err failure }
 {
-    let Some(arrival) = read_arrival(alloc, line).map_err(Failure::from)? else {
-        return Err(Stop::Ended(Ending::BadLine));
-    };
-    match controller.take(arrival.now, arrival.from, &arrival.bytes) {
-        Ok(outs) => Ok(outs),
-        Err(Fault::Full) => Err(Stop::Ended(Ending::Full)),
-        Err(Fault::Memory) => Err(Stop::Failed(Failure::Memory)),
-        Err(Fault::Disk) => Err(Stop::Failed(Failure::Disk)),
-        Err(Fault::Broken) => Err(Stop::Failed(Failure::Broken)),
+    Err(failure)
+}
+
+// Drops the engine of a script that ends.
+fn stopped(_engine: Engine<MemDisk>, ending: Ending) -> Result<Engine<MemDisk>, Ending>
+    ensures { result ≡ Err ending }
+{
+    Err(ending)
+}
+
+// Why the engine does not take what came.
+fn failure_of(fault: Fault) -> Failure {
+    match fault {
+        Fault::Broken => Failure::Broken,
+        Fault::Memory => Failure::Store(StoreFault::Memory),
+        Fault::Exhausted => Failure::Store(StoreFault::Exhausted),
+        Fault::Full => Failure::Store(StoreFault::Full),
+        Fault::Disk => Failure::Store(StoreFault::Disk),
     }
 }
 
-/// Carries a line out and prints what is owed. Where it ends the script, nothing is printed.
-fn play_line<D: Disk, W: Write>(
+// Takes what came at a moment.
+fn taken(
     alloc: Global,
-    controller: &mut Controller<D>,
+    mut engine: Engine<MemDisk>,
+    now: u64,
+    input: Input<'_>,
+) -> Result<Engine<MemDisk>, Failure>
+    requires { IsReady engine }
+    ensures { IfOk result (λ next. IsAfter (state_of engine) (took now (input_view input.entry)) next) }
+{
+    match engine.take(alloc, now, input) {
+        Ok(_) => Ok(engine),
+        Err(fault) => refused(engine, failure_of(fault)),
+    }
+}
+
+// Lets what a line tells of happen.
+fn carry_out(
+    alloc: Global,
+    engine: Engine<MemDisk>,
+    line: &ScriptLine,
+) -> Result<Engine<MemDisk>, Failure>
+    requires { IsReady engine }
+    ensures { IfOk result (λ next. IsAfter (state_of engine) (line_view line.now) next) }
+{
+    match line {
+        ScriptLine::Datagram(arrival) => {
+            let input = Input::Datagram {
+                from: arrival.from,
+                bytes: arrival.bytes.as_slice(),
+            };
+            taken(alloc, engine, arrival.now, input)
+        }
+        ScriptLine::Tick(now) => taken(alloc, engine, *now, Input::Tick),
+        ScriptLine::PowerLoss => refused(engine, Failure::Broken),
+    }
+}
+
+// Hands over what is owed, and gives its lines.
+fn owed_text(alloc: Global, engine: &mut Engine<MemDisk>) -> Result<Vec<u8>, AllocError>
+    ensures keeper { keeper_of engine.new ≡ keeper_of engine.old }
+    ensures emptied { queue_of engine.new ≡ [] }
+    ensures text { IfOk result (λ text. text.items ≡ printed (queue_of engine.old)) }
+{
+    let mut wire = MemWire::new(alloc);
+    engine.hand_out(&mut wire);
+    match wire.sent() {
+        Some(all) => print_all(alloc, all),
+        None => Err(AllocError),
+    }
+}
+
+// Hands over what is owed, and prints it.
+fn print_owed<W: Write>(
+    alloc: Global,
+    mut engine: Engine<MemDisk>,
+    streams: &mut Streams,
+    writer: &mut W,
+) -> Result<Engine<MemDisk>, Ending>
+    requires works { is_broken (keeper_of engine) ≡ false }
+    ensures ready { IfOk result (λ next. IsReady next) }
+    ensures state { IfOk result (λ next. state_of next ≡ state_of engine) }
+    ensures wrote { OnOk result (Appends (W.contents writer.old) (W.contents writer.new) (printed (queue_of engine))) }
+    ensures ends { IfErr result (λ ending. EndsUnheard ending (W.contents writer.old) (W.contents writer.new)) }
+    ensures no_failure { OnOk result (streams.new ≡ streams.old) }
+    ensures cause { IfErr result (λ ending. HasCause ending streams.old streams.new) }
+{
+    match owed_text(alloc, &mut engine) {
+        Ok(text) => match streams.write_all(writer, &text) {
+            Ok(()) => Ok(engine),
+            Err(error) => stopped(engine, Ending::Stopped(StreamFailure::of(&error))),
+        },
+        Err(AllocError) => stopped(engine, Ending::NO_MEMORY),
+    }
+}
+
+// Runs a line, and prints what is sent for it.
+fn run_line<W: Write>(
+    alloc: Global,
+    engine: Engine<MemDisk>,
+    line: &ScriptLine,
+    streams: &mut Streams,
+    writer: &mut W,
+) -> Result<Engine<MemDisk>, Ending>
+    requires { IsReady engine }
+    ensures ready { IfOk result (λ next. IsReady next) }
+    ensures state { IfOk result (λ next. state_of next ≡ folded (state_of engine) (given_at (state_of engine) (line_view line.now)).batch) }
+    ensures wrote { OnOk result (Appends (W.contents writer.old) (W.contents writer.new) (printed (datagrams (given_at (state_of engine) (line_view line.now)).sends))) }
+    ensures ends { IfErr result (λ ending. EndsUnheard ending (W.contents writer.old) (W.contents writer.new)) }
+    ensures no_failure { OnOk result (streams.new ≡ streams.old) }
+    ensures cause { IfErr result (λ ending. HasCause ending streams.old streams.new) }
+{
+    match carry_out(alloc, engine, line) {
+        Ok(next) => print_owed(alloc, next, streams, writer),
+        Err(failure) => Err(Ending::Failed(failure)),
+    }
+}
+
+// Reads a line and runs it. Where it ends the script, nothing is printed.
+fn play_line<W: Write>(
+    alloc: Global,
+    engine: Engine<MemDisk>,
     line: &[u8],
     streams: &mut Streams,
     writer: &mut W,
-) -> Result<(), Stop>
-    ensures goes_on { OnOk result (GoesOn (line_step (stage_of controller.old) line.now) (stage_of controller.new) (W.contents writer.old) (W.contents writer.new)) }
-    ensures stops { IfErr result (λ stop. IfEnded stop (λ ending.
-        (line_step (stage_of controller.old) line.now ≡ stops ending) × (W.contents writer.new ≡ W.contents writer.old))) }
-    ensures early { IfErr result (λ stop. IfEnded stop (λ ending. ending ≢ Done)) }
-    ensures cause { IfErr result (λ stop. IfFailed stop (λ failure. HasCause failure (FailedAsIo streams.old streams.new)
-        (MoreFailures (failures_of D.failures controller.old) (failures_of D.failures controller.new)) (has_failed controller.old ≡ true))) }
-    ensures no_failure { UnlessFailed result (streams.new ≡ streams.old) }
-    ensures failures { failures_of D.failures controller.old ≤ failures_of D.failures controller.new }
-    ensures works { OnOk result (has_failed controller.new ≡ false) }
+) -> Result<Engine<MemDisk>, Ending>
+    requires { IsReady engine }
+    ensures ready { IfOk result (λ next. IsReady next) }
+    ensures goes { IfOk result (λ next. Goes line.now (state_of engine) (state_of next) (W.contents writer.old) (W.contents writer.new)) }
+    ensures ends { IfErr result (λ ending. EndsAt ending line.now (W.contents writer.old) (W.contents writer.new)) }
+    ensures no_failure { OnOk result (streams.new ≡ streams.old) }
+    ensures cause { IfErr result (λ ending. HasCause ending streams.old streams.new) }
 {
-    let outs = answer(alloc, controller, line)?;
-    match print_all(alloc, &outs, streams, writer) {
-        Ok(()) => Ok(()),
-        Err(error) => Err(Stop::Failed(Failure::from(error))),
+    match read_line(alloc, line) {
+        Ok(Some(told)) => run_line(alloc, engine, &told, streams, writer),
+        Ok(None) => stopped(engine, Ending::BadLine),
+        Err(AllocError) => stopped(engine, Ending::NO_MEMORY),
     }
 }
 
-fn play_lines<D: Disk, W: Write>(
+/// Runs the lines of a script, and tells how it ends. The last line of the output is left to the caller.
+pub fn play_lines<W: Write>(
     alloc: Global,
-    controller: &mut Controller<D>,
+    engine: Engine<MemDisk>,
     text: &[u8],
     streams: &mut Streams,
     writer: &mut W,
-) -> Result<(), Stop>
-    ensures done { OnOk result (WroteUpTo (played (stage_of controller.old) (lines_of text.now)) Done (W.contents writer.old) (W.contents writer.new)) }
-    ensures ended { IfErr result (λ stop. IfEnded stop (λ ending.
-        WroteUpTo (played (stage_of controller.old) (lines_of text.now)) ending (W.contents writer.old) (W.contents writer.new))) }
-    ensures early { IfErr result (λ stop. IfEnded stop (λ ending. ending ≢ Done)) }
-    ensures cause { IfErr result (λ stop. IfFailed stop (λ failure. HasCause failure (FailedAsIo streams.old streams.new)
-        (MoreFailures (failures_of D.failures controller.old) (failures_of D.failures controller.new)) (has_failed controller.old ≡ true))) }
-    ensures no_failure { UnlessFailed result (streams.new ≡ streams.old) }
+) -> Ending
+    requires ready { IsReady engine }
+    requires short { length text.now ≤ SCRIPT_LIMIT }
+    ensures wrote { Wrote result (state_of engine) text.now [] (W.contents writer.old) (W.contents writer.new) }
+    ensures cause { HasCause result streams.old streams.new }
 {
+    let mut engine = engine;
     let mut rest = text;
     while !rest.is_empty() {
         let (line, behind) = first_line(rest);
-        match play_line(alloc, controller, line, streams, writer) {
-            Ok(()) => rest = behind,
-            Err(stop) => return Err(stop),
+        match play_line(alloc, engine, line, streams, writer) {
+            Ok(next) => {
+                engine = next;
+                rest = behind;
+            }
+            Err(ending) => return ending,
         }
     }
-    Ok(())
-}
-
-/// Runs the lines of a script, and tells how it ends. The last line of the output is left to the
-/// caller.
-pub fn play<D: Disk, W: Write>(
-    alloc: Global,
-    controller: &mut Controller<D>,
-    text: &[u8],
-    streams: &mut Streams,
-    writer: &mut W,
-) -> Result<Ending, Failure>
-    ensures wrote { IfOk result (λ ending. WroteUpTo (played (stage_of controller.old) (lines_of text.now)) ending (W.contents writer.old) (W.contents writer.new)) }
-    ensures cause { IfErr result (λ failure. HasCause failure (FailedAsIo streams.old streams.new)
-        (MoreFailures (failures_of D.failures controller.old) (failures_of D.failures controller.new)) (has_failed controller.old ≡ true)) }
-    ensures no_failure { OnOk result (streams.new ≡ streams.old) }
-{
-    match play_lines(alloc, controller, text, streams, writer) {
-        Ok(()) => Ok(Ending::Done),
-        Err(Stop::Ended(ending)) => Ok(ending),
-        Err(Stop::Failed(failure)) => Err(failure),
-    }
+    let_go(engine);
+    Ending::Done
 }

@@ -3,7 +3,7 @@ ghost use Rattle.std.specs.Prelude.{◌≡◌, ◌++◌, None, OnOk, IfSome};
 ghost use Rattle.std.specs.Io.KnownBytes.{Appends, Keeps};
 ghost use Rattle.cuectl.specs.Streams.{failed_calls, last_failure, Tells};
 
-use super::ending::Failure;
+use super::ending::StreamFailure;
 use std::io::{self, Read, Write};
 
 /// Calls the reader and the writer, counts the calls that fail, and keeps what the last of them failed as.
@@ -12,7 +12,7 @@ use std::io::{self, Read, Write};
 pub struct Streams {
     // It may stand at the last number.
     failures: u64,
-    last: Option<Failure>,
+    last: Option<StreamFailure>,
 }
 
 impl Streams {
@@ -35,7 +35,7 @@ impl Streams {
             Ok(()) => Ok(()),
             Err(error) => {
                 self.failures = self.failures.saturating_add(1);
-                self.last = Some(Failure::of(&error));
+                self.last = Some(StreamFailure::of(&error));
                 Err(error)
             }
         }

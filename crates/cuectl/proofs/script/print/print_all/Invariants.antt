@@ -1,10 +1,7 @@
-use Rattle.std.specs.Prelude.{◌≡◌, take}
-use Rattle.std.specs.Io.KnownBytes.{Appends}
+use Rattle.std.specs.Prelude.{◌≡◌, map, take}
+use Rattle.cuectl.specs.LineViews.{sent_view}
 use Rattle.cuectl.specs.Script.{printed}
-use Rattle.cuectl.specs.SendingViews.{outs_view}
 use Rattle.cuectl.proofs.script.print.print_all.Given as goal
 
-abbrev pub invariant-loop-out : goal.invariant-loop-out
-invariant-loop-out g l =
-    Appends (g.W.Write.contents l.initial.writer) (g.W.Write.contents l.writer) (printed (outs_view (take l.out-index l.outs)))
-    × (l.streams ≡ l.initial.streams)
+abbrev pub invariant-loop-sent : goal.invariant-loop-sent
+invariant-loop-sent l = l.text.items ≡ printed (map sent_view (take l.sent-index l.all))

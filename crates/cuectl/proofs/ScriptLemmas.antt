@@ -1,8 +1,8 @@
 -- What a script has written, line by line.
-use Rattle.std.specs.Prelude.{◌≡◌, ℕ, ◌+◌, ◌<◌, ◌≤◌, ◌++◌, Bool, List, [], ◌∷◌, length, map, take, Option, Some, None, slice_index_or, IfSome}
+use Rattle.std.specs.Prelude.{◌≡◌, ◌≢◌, ℕ, ◌+◌, ◌<◌, ◌≤◌, ◌++◌, Bool, List, [], ◌∷◌, length, map, take, Option, Some, None, slice_index_or, IfSome, IfOk, IfErr, OnOk, Result, Ok, Err}
 use Rattle.std.specs.Option.{option_map}
 use Rattle.std.specs.Io.KnownBytes.{Appends}
-use Rattle.std.proofs.Common.{ap, refl, arith, sym, ◌∙◌, append_assoc, subst}
+use Rattle.std.proofs.Common.{ap, refl, arith, sym, ◌∙◌, append_assoc, subst, lit≤}
 use Rattle.std.proofs.lemmas.Grind.{flat_map-append}
 use Rattle.std.proofs.lemmas.List.{append-nil, map-append, take_more, take_all, length-take}
 use Rattle.cue_core.specs.State.{Standing}
@@ -15,10 +15,16 @@ use Rattle.cue_engine.specs.Wires.{Handed, handed, Grew, AllHanded}
 use Rattle.cuectl.specs.declared.script.TheConstants.{SCRIPT_LIMIT}
 use Rattle.cuectl.specs.declared.script.ending.Ending.{Ending}
 use Rattle.cuectl.specs.declared.script.ending.Ending.TheVariants.{Done, BadLine, BadInput, Failed, Stopped}
+use Rattle.cue_keeper.specs.declared.fault.StoreFault.{StoreFault}
+use Rattle.cue_keeper.specs.declared.fault.StoreFault.TheVariants as store
+use Rattle.cuectl.specs.declared.script.ending.Failure.{Failure}
+use Rattle.cuectl.specs.declared.script.ending.Failure.TheVariants.{Broken, Store}
+use Rattle.cuectl.specs.declared.script.ending.StreamFailure.{StreamFailure}
+use Rattle.cuectl.specs.Endings.{ending_line, status_of, store_status}
 use Rattle.cuectl.specs.Line.{lines_of, happening_in}
 use Rattle.cuectl.specs.LineViews.{sent_view}
-use Rattle.cuectl.specs.Playing.{Goes, EndsAt}
-use Rattle.cuectl.specs.Script.{line_of, printed, output, Ran, RanToBadLine, Wrote}
+use Rattle.cuectl.specs.Playing.{Goes, EndsAt, EndsUnheard}
+use Rattle.cuectl.specs.Script.{line_of, printed, output, Ran, RanToBadLine, Wrote, HasRun}
 
 pub appends_none : (old : Option (List ℕ)) → Appends old old []
 appends_none None = tt
@@ -43,6 +49,10 @@ printed_more all i d low =
     ∙ printed-append (map sent_view (take i all)) (sent_view (slice_index_or all i d) ∷ [])
     ∙ ap (λ (t : List ℕ). printed (map sent_view (take i all)) ++ t) (append-nil (line_of (sent_view (slice_index_or all i d))))
 
+pub printed_step : (all : List Sent) (i : ℕ) (d : Sent) (old new : List ℕ) → i < length all → d ≡ slice_index_or all i d → old ≡ printed (map sent_view (take i all)) → new ≡ old ++ line_of (sent_view d) → new ≡ printed (map sent_view (take (i + 1) all))
+printed_step all i d old new low is before more =
+    more ∙ ap (λ (t : List ℕ). t ++ line_of (sent_view d)) before ∙ ap (λ (x : Sent). printed (map sent_view (take i all)) ++ line_of (sent_view x)) is ∙ sym (printed_more all i d low)
+
 -- a datagram that was handed over, without what became of it
 abbrev pub sent_of : Handed → ℕ × List ℕ
 sent_of h = (h.to, h.bytes)
@@ -57,11 +67,13 @@ sents-all [] = refl
 sents-all (x ∷ xs) = ap (λ (ys : List (ℕ × List ℕ)). sent_view x ∷ ys) (sents-all xs)
 
 -- where the wire still tells, it tells of the whole queue
-pub told_whole : (queue : List (ℕ × List ℕ)) (n : ℕ) (told : Option (List Handed)) (all : List Sent) → AllHanded (Some []) queue n told → told ≡ Some (sents_view all) → map sent_view all ≡ queue
-told_whole queue n None all each is = absurd (cc)
-told_whole queue n (Some xs) all each is =
-    let same : xs ≡ sents_view all = cc in
-    sym (sents-all all) ∙ ap (map sent_of) (sym same ∙ each.grew) ∙ handed-all queue each.flags each.each
+pub told_whole : (queue : List (ℕ × List ℕ)) (n : ℕ) (before told : Option (List Handed)) (all : List Sent) → before ≡ Some [] → AllHanded before queue n told → told ≡ Some (sents_view all) → map sent_view all ≡ queue
+told_whole queue n None told all none each is = absurd (cc)
+told_whole queue n (Some xs) None all none each is = absurd (cc)
+told_whole queue n (Some xs) (Some ys) all none each is =
+    let empty : xs ≡ [] = cc in
+    let same : ys ≡ sents_view all = cc in
+    sym (sents-all all) ∙ ap (map sent_of) (sym same ∙ each.grew ∙ ap (λ (zs : List Handed). zs ++ handed queue each.flags) empty) ∙ handed-all queue each.flags each.each
 
 -- ---- what happened
 
@@ -121,6 +133,23 @@ running_more first text rest others line s t old mid new held split goes =
       wrote = subst P (sym (output-more first held.happened goes.happening)) (appends_both old mid new _ _ held.wrote (subst Q held.is goes.wrote));
     }
 
+-- a line of which this is known went on
+pub goes_behind : {T E : Type 0} (r : Result T E) (state : T → Standing) (line : List ℕ) (h : Happening) (s : Standing) (old new : Option (List ℕ)) → happening_in line ≡ Some h →
+    IfOk r (λ next. state next ≡ folded s (given_at s h).batch) → OnOk r (Appends old new (printed (datagrams (given_at s h).sends))) → IfOk r (λ next. Goes line s (state next) old new)
+goes_behind (Ok next) state line h s old new tells is wrote = record { happening = h; tells = tells; is = is; wrote = wrote }
+goes_behind (Err ending) state line h s old new tells is wrote = tt
+
+ends_one : (ending : Ending) (line : List ℕ) (old new : Option (List ℕ)) → EndsUnheard ending old new → EndsAt ending line old new
+ends_one Done line old new ends = absurd ends
+ends_one BadLine line old new ends = absurd ends
+ends_one BadInput line old new ends = absurd ends
+ends_one (Failed failure) line old new ends = ends
+ends_one (Stopped failure) line old new ends = tt
+
+pub ends_behind : {T : Type 0} (r : Result T Ending) (line : List ℕ) (old new : Option (List ℕ)) → IfErr r (λ ending. EndsUnheard ending old new) → IfErr r (λ ending. EndsAt ending line old new)
+ends_behind (Ok next) line old new ends = tt
+ends_behind (Err ending) line old new ends = ends_one ending line old new ends
+
 -- the script stands where its first lines were run
 pub ran : (first : Standing) (text rest : List ℕ) (left : List (List ℕ)) (s : Standing) (old new : Option (List ℕ)) → IsRunning first text rest s old new → lines_of rest ≡ left → length text ≤ SCRIPT_LIMIT → Ran first text left [] old new
 ran first text rest left s old new held is short =
@@ -179,3 +208,45 @@ read_known None limit bytes read short = tt
 read_known (Some text) limit bytes read short =
     let whole = read_whole text limit (omega (arith, ap length read)) in
     (read ∙ whole.0, whole.1)
+
+-- what holds of the bytes that were read holds of what is known of the reader
+pub of_known : (known : Option (List ℕ)) (limit : ℕ) (bytes : List ℕ) (F : List ℕ → Type 0) → IfSome known (λ text. (bytes ≡ text) × (length text ≤ limit)) → F bytes → IfSome known F
+of_known None limit bytes F read holds = tt
+of_known (Some text) limit bytes F read holds = subst F read.0 holds
+
+-- nothing was run of a text that is too long
+pub too_long : (known : Option (List ℕ)) (first : Standing) (old : Option (List ℕ)) → IfSome known (λ text. SCRIPT_LIMIT < length text) → IfSome known (λ text. Wrote BadInput first text [] old old)
+too_long None first old long = tt
+too_long (Some text) first old long = (long, appends_none old)
+
+-- nothing was run where no engine was formed
+pub not_formed : (failure : Failure) (first : Standing) (text : List ℕ) (old : Option (List ℕ)) → length text ≤ SCRIPT_LIMIT → Wrote (Failed failure) first text [] old old
+not_formed failure first text old short = (lines_of text, ran first text text (lines_of text) first old old (running_first first text old) refl short)
+
+pub has_run : (known : Option (List ℕ)) (ending : Ending) (first : Standing) (old mid new : Option (List ℕ)) → IfSome known (λ text. Wrote ending first text [] old mid) → Appends mid new (ending_line ending) →
+    IfSome known (λ text. HasRun first text (status_of ending) old new)
+has_run None ending first old mid new wrote last = tt
+has_run (Some text) ending first old mid new wrote last = record { ending = ending; is = refl; wrote = wrote_with ending first text (ending_line ending) old mid new wrote last }
+
+pub has_stopped : (known : Option (List ℕ)) (failure : StreamFailure) (first : Standing) (old new : Option (List ℕ)) → IfSome known (λ text. HasRun first text 3 old new)
+has_stopped None failure first old new = tt
+has_stopped (Some text) failure first old new = record { ending = Stopped failure; is = refl; wrote = tt }
+
+small_store : (fault : StoreFault) → (store_status fault ≤ 3) × (store_status fault ≢ 2)
+small_store store.NotEmpty = (lit≤ tt, λ is. cc)
+small_store store.Unformed = (lit≤ tt, λ is. cc)
+small_store store.Damaged = (lit≤ tt, λ is. cc)
+small_store store.Version = (lit≤ tt, λ is. cc)
+small_store store.Malformed = (lit≤ tt, λ is. cc)
+small_store store.Full = (lit≤ tt, λ is. cc)
+small_store store.Exhausted = (lit≤ tt, λ is. cc)
+small_store store.Memory = (lit≤ tt, λ is. cc)
+small_store store.Disk = (lit≤ tt, λ is. cc)
+
+pub small : (ending : Ending) → (status_of ending ≤ 3) × (status_of ending ≢ 2)
+small Done = (lit≤ tt, λ is. cc)
+small BadLine = (lit≤ tt, λ is. cc)
+small BadInput = (lit≤ tt, λ is. cc)
+small (Failed Broken) = (lit≤ tt, λ is. cc)
+small (Failed (Store fault)) = small_store fault
+small (Stopped failure) = (lit≤ tt, λ is. cc)

@@ -13,7 +13,7 @@ use Rattle.cue_exchange.specs.declared.attempt.Attempt.{Attempt}
 use Rattle.cue_exchange.specs.Answers.{devices_of, waits}
 use Rattle.cue_exchange.specs.Live.{disjoint, pairwise, goes_before}
 use Rattle.cue_exchange.proofs.LiveRules.{order_of}
-use Rattle.cue_core.specs.State.{Standing, cue_parts}
+use Rattle.cue_core.specs.State.{Standing, cue_parts, is_state}
 use Rattle.cue_core.specs.Pending.{Order, standby, go_2pc, cancel, bytes_for, order_at, order_for, pending}
 use Rattle.cue_core.proofs.Rules.{rules_of}
 use Rattle.cue_outbox.specs.Sending.{order, order_content, send_content, datagram, datagrams, orders, all_pending}
@@ -24,7 +24,7 @@ use Rattle.cue_outbox.proofs.Told.{IsTold, live_told}
 use Rattle.cue_outbox.proofs.Writable.{sent, if_waits, IsWritableOrder, all_writable}
 
 -- the number and the device of a command
-abbrev key : Order → ℕ × ℕ
+abbrev pub key : Order → ℕ × ℕ
 key (standby q d cue bytes) = (q, d)
 key (go_2pc q d) = (q, d)
 key (cancel q d) = (q, d)
@@ -37,7 +37,7 @@ key_at (Cancelling r) q d cue bytes = refl
 key_sent : (s : Standing) (a : Attempt) (x : DeviceAnswer) → key (sent s a x).1 ≡ (a.seq, x.device)
 key_sent s a x = key_at a.stage a.seq x.device a.cue (bytes_for x.device (cue_parts s.show a.cue))
 
-abbrev Apart : ℕ × Order → ℕ × Order → Type 0
+abbrev pub Apart : ℕ × Order → ℕ × Order → Type 0
 Apart o p = key o.1 ≡ key p.1 → ⊥
 
 -- the commands to some devices of the attempt
@@ -107,18 +107,18 @@ abbrev number_in : Argument → ℕ
 number_in (int (pos n)) = n
 number_in _ = 0
 
-abbrev content_key : Content → ℕ × ℕ
+abbrev pub content_key : Content → ℕ × ℕ
 content_key (message a (x ∷ y ∷ xs)) = (number_in x, number_in y)
 content_key _ = (0, 0)
 
-key_in : (o : Order) → content_key (order_content o) ≡ key o
+pub key_in : (o : Order) → content_key (order_content o) ≡ key o
 unfolding order_content
 key_in (standby q d cue bytes) = refl
 key_in (go_2pc q d) = refl
 key_in (cancel q d) = refl
 
 -- other commands have other bytes
-apart_bytes : (o p : ℕ × Order) → IsWritableOrder o → IsWritableOrder p → Apart o p → datagram (o.0, order o.1) ≢ datagram (p.0, order p.1)
+pub apart_bytes : (o p : ℕ × Order) → IsWritableOrder o → IsWritableOrder p → Apart o p → datagram (o.0, order o.1) ≢ datagram (p.0, order p.1)
 unfolding datagram send_content
 apart_bytes o p w v apart e =
     let read : Ok (order_content o.1) ≡ Ok (order_content p.1) = sym (read_back (order_content o.1) w) ∙ ap (λ (x : ℕ × List ℕ). datagram_at x.1) e ∙ read_back (order_content p.1) v in
@@ -129,10 +129,13 @@ each_other : (o : ℕ × Order) (os : List (ℕ × Order)) → IsWritableOrder o
 each_other o [] w ws h = tt
 each_other o (p ∷ os) w ws h = (apart_bytes o p w ws.0 h.0, each_other o os w ws.1 h.1)
 
-all_other : (os : List (ℕ × Order)) → AllByRecursion IsWritableOrder os → Pairs Apart os → Pairs (λ x y. x ≢ y) (datagrams (orders os))
+pub all_other : (os : List (ℕ × Order)) → AllByRecursion IsWritableOrder os → Pairs Apart os → Pairs (λ x y. x ≢ y) (datagrams (orders os))
 all_other [] ws h = tt
 all_other (o ∷ os) ws h = (each_other o os ws.0 ws.1 h.0, all_other os ws.1 h.1)
 
+-- no two of the pending commands are for the same device in the same attempt
+pub apart_pending : (s : Standing) → IsTrue (is_state s) → Pairs Apart (pending s)
+apart_pending s h = apart_all s s.live (live_told s h) (order_of s.live (rules_of s h).live)
+
 pub commands-differ : CommandsDiffer
-commands-differ s h =
-    pairs_all (λ x y. x ≢ y) (datagrams (all_pending s)) (all_other (pending s) (all_writable s h) (apart_all s s.live (live_told s h) (order_of s.live (rules_of s h).live)))
+commands-differ s h = pairs_all (λ x y. x ≢ y) (datagrams (all_pending s)) (all_other (pending s) (all_writable s h) (apart_pending s h))

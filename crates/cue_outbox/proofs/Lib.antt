@@ -1,7 +1,11 @@
 pub mod Facts
 pub mod Fronts
 pub mod Lists
+pub mod Numbers
 pub mod ReadBack
 pub mod Told
 pub mod Writable
 pub mod Apart
+pub mod Since
+pub mod Newly
+pub mod Counted

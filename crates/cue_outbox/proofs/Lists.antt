@@ -1,5 +1,5 @@
 -- What holds of each element of a list, and of every two.
-use Rattle.std.proofs.Common.{◌≡◌, Bool, true, false, ◌||◌, List, [], ◌∷◌, ◌++◌, map, IsTrue, Option, None, Some, refl, arith}
+use Rattle.std.proofs.Common.{◌≡◌, Bool, true, false, ◌||◌, List, [], ◌∷◌, ◌++◌, map, filter, cond, IsTrue, Option, None, Some, refl, ap, arith}
 use Rattle.std.specs.Prelude.{IfSome}
 use Rattle.std.specs.List.{AllByRecursion, AllPairs, list_all, list_any, filter_map, flat_map, cons_option}
 use Rattle.std.proofs.lemmas.Bool.{and_parts}
@@ -58,3 +58,20 @@ each_found {B = B} Q P f h (x ∷ xs) k = onto (f x) (h x k.0) (each_found Q P f
 pub each_flat : {A B : Type 0} (Q : A → Type 0) (P : B → Type 0) (f : A → List B) → ((x : A) → Q x → AllByRecursion P (f x)) → (xs : List A) → AllByRecursion Q xs → AllByRecursion P (flat_map f xs)
 each_flat Q P f h [] k = tt
 each_flat Q P f h (x ∷ xs) k = each_append P (f x) (flat_map f xs) (h x k.0) (each_flat Q P f h xs k.1)
+
+pub each_filter : {A : Type 0} (P : A → Type 0) (test : A → Bool) (xs : List A) → AllByRecursion P xs → AllByRecursion P (filter test xs)
+each_filter P test [] h = tt
+each_filter P test (x ∷ xs) h = by (test x) h.0 (each_filter P test xs h.1)
+  where
+    by : (b : Bool) → P x → AllByRecursion P (filter test xs) → AllByRecursion P (cond b (x ∷ filter test xs) (filter test xs))
+    by true here rest = (here, rest)
+    by false here rest = rest
+
+-- the filter of each part is the filter of all
+pub filter-append : {A : Type 0} (test : A → Bool) (xs ys : List A) → filter test (xs ++ ys) ≡ filter test xs ++ filter test ys
+filter-append test [] ys = refl
+filter-append test (x ∷ xs) ys = by (test x) (filter-append test xs ys)
+  where
+    by : (b : Bool) → filter test (xs ++ ys) ≡ filter test xs ++ filter test ys → cond b (x ∷ filter test (xs ++ ys)) (filter test (xs ++ ys)) ≡ cond b (x ∷ filter test xs) (filter test xs) ++ filter test ys
+    by true e = ap (λ zs. x ∷ zs) e
+    by false e = e

@@ -63,7 +63,7 @@ each_part parts h =
     (and_parts (distinct (devices_in parts)) (list_all is_part parts) few.1).1
 
 -- what holds of each device of the parts, of each device of the attempt
-devices_each : (test : ℕ → Bool) (answers : List DeviceAnswer) (parts : List Part) → devices_of answers ≡ devices_in parts → IsTrue (list_all (λ p. test p.device) parts)
+pub devices_each : (test : ℕ → Bool) (answers : List DeviceAnswer) (parts : List Part) → devices_of answers ≡ devices_in parts → IsTrue (list_all (λ p. test p.device) parts)
     → AllByRecursion (λ (x : DeviceAnswer). IsTrue (test x.device)) answers
 devices_each test answers parts same h =
     let P : List ℕ → Type 0 = AllByRecursion (λ d. IsTrue (test d)) in

@@ -36,7 +36,7 @@ writable_at (Cancelling r) q d cue bytes m k is_text short part = cancel_writabl
 abbrev pub IsWritableOrder : ℕ × Order → Type 0
 IsWritableOrder o = IsWritable (order_content o.1)
 
-writable_for : (s : Standing) (a : Attempt) → IsTold s a → AllByRecursion IsWritableOrder (filter_map (order_for s a) a.answers)
+pub writable_for : (s : Standing) (a : Attempt) → IsTold s a → AllByRecursion IsWritableOrder (filter_map (order_for s a) a.answers)
 writable_for s a t =
     each_found (λ (x : DeviceAnswer). x.device < 2 ^ 31) IsWritableOrder (order_for s a)
     (λ x small. if_waits (waits x) (sent s a x) IsWritableOrder

@@ -1,14 +1,17 @@
 //! The commands that the devices are still to answer.
 ghost use Rattle.std.specs.Prelude.{◌≡◌, ◌≤◌, ◌++◌, IfOk, OnOk, IsTrue, length};
 ghost use Rattle.std.specs.List.{list_all};
+ghost use Rattle.std.specs.List.Sorted.{IsStrictlyIncreasing};
 ghost use Rattle.std.specs.Option.{option_map};
 ghost use Rattle.cue_show.specs.declared.limits.TheConstants.{MAX_PART_BYTES};
+ghost use Rattle.cue_show.specs.Devices.{is_among};
 ghost use Rattle.cue_show.specs.Parts.{is_part};
 ghost use Rattle.cue_exchange.specs.declared.limits.TheConstants.{LAST_NUMBER};
 ghost use Rattle.cue_core.specs.State.{cue_parts};
 ghost use Rattle.cue_core.specs.Pending.{bytes_for, standby, go_2pc, cancel};
 ghost use Rattle.cue_outbox.specs.Sending.{all_pending, datagram, datagrams, order};
-ghost use Rattle.cue_outbox.specs.Owed.{datagram_for, datagrams_for, order_to};
+ghost use Rattle.cue_outbox.specs.Asked.{pending_of};
+ghost use Rattle.cue_outbox.specs.Owed.{datagram_for, datagrams_for, order_in};
 ghost use Rattle.cue_outbox.specs.Views.{out_view, outs_view};
 
 use crate::message::{int, written};
@@ -31,6 +34,28 @@ pub fn pending(alloc: Global, state: &State) -> Result<Vec<Out>, AllocError>
     Ok(outs)
 }
 
+/// The commands to the devices of the attempts with these numbers, in the order of `pending`; a number that is not live gives nothing.
+/// With the numbers that `numbers_asked` gives of a batch, and on the state after it, these are the commands that were not pending before.
+pub fn pending_of(alloc: Global, state: &State, numbers: &[u32]) -> Result<Vec<Out>, AllocError>
+    requires { IsStrictlyIncreasing numbers.now }
+    ensures { IfOk result (λ outs. outs_view outs.items ≡ datagrams (pending_of numbers.now state.now)) }
+{
+    let mut asked = Vec::new(alloc);
+    for attempt in state.live().as_slice() {
+        if is_among(numbers, attempt.seq) {
+            push_orders(alloc, &mut asked, state, attempt)?;
+        }
+    }
+    Ok(asked)
+}
+
+fn is_among(numbers: &[u32], number: u32) -> bool
+    requires { IsStrictlyIncreasing numbers.now }
+    ensures { result ≡ is_among number numbers.now }
+{
+    numbers.binary_search(&number).is_ok()
+}
+
 // Puts the commands of an attempt behind the others.
 fn push_orders(
     alloc: Global,
@@ -42,12 +67,24 @@ fn push_orders(
     ensures { let owed = datagrams_for state.now attempt.now attempt.now.answers in
         OnOk result (outs_view outs.new.items ≡ outs_view outs.old.items ++ owed) }
 {
+    let parts = parts_of(state.show(), attempt.cue);
     for answer in attempt.answers.as_slice() {
-        if let Some(out) = order_for(alloc, state, attempt, *answer)? {
+        if let Some(out) = order_for(alloc, state, attempt, parts, *answer)? {
             outs.push(out)?;
         }
     }
     Ok(())
+}
+
+// The parts of the cue; none where it is not in the stack.
+fn parts_of(show: &Show, cue: CueNo) -> &[Part]
+    ensures value { result.now ≡ cue_parts show.now cue }
+    ensures each { IsTrue (list_all is_part result.now) }
+{
+    match show.parts(cue) {
+        Some(parts) => parts.as_slice(),
+        None => &[],
+    }
 }
 
 // The command to a device, where it is still to answer. Each device of a live attempt has a port, as the law `commands_have_ports` says.
@@ -55,16 +92,19 @@ fn order_for(
     alloc: Global,
     state: &State,
     attempt: &Attempt,
+    parts: &[Part],
     answer: DeviceAnswer,
 ) -> Result<Option<Out>, AllocError>
-    requires { attempt.now.seq ≤ LAST_NUMBER }
+    requires number { attempt.now.seq ≤ LAST_NUMBER }
+    requires parts { parts.now ≡ cue_parts state.now.show attempt.now.cue }
+    requires each { IsTrue (list_all is_part parts.now) }
     ensures { IfOk result (λ out. option_map out_view out ≡ datagram_for state.now attempt.now answer) }
 {
     if !answer.answer.is_waiting() {
         return Ok(None);
     }
     let to = state.show().port(answer.device).unwrap_or(0);
-    let out = order_to(alloc, to, state.show(), attempt, answer.device)?;
+    let out = order_to(alloc, to, attempt, parts, answer.device)?;
     Ok(Some(out))
 }
 
@@ -72,29 +112,19 @@ fn order_for(
 fn order_to(
     alloc: Global,
     to: u16,
-    show: &Show,
     attempt: &Attempt,
+    parts: &[Part],
     device: DeviceNo,
 ) -> Result<Out, AllocError>
-    requires { attempt.now.seq ≤ LAST_NUMBER }
-    ensures { IfOk result (λ out. out_view out ≡ datagram (to, order (order_to show.now attempt.now device))) }
+    requires number { attempt.now.seq ≤ LAST_NUMBER }
+    requires each { IsTrue (list_all is_part parts.now) }
+    ensures { IfOk result (λ out. out_view out ≡ datagram (to, order (order_in attempt.now parts.now device))) }
 {
     let (seq, cue) = (attempt.seq, attempt.cue);
     match attempt.stage {
-        Stage::Preparing => standby(alloc, to, seq, device, cue, part_of(show, cue, device)),
+        Stage::Preparing => standby(alloc, to, seq, device, cue, bytes_for(parts, device)),
         Stage::Decided => go_2pc(alloc, to, seq, device),
         Stage::Cancelling(_) => cancel(alloc, to, seq, device),
-    }
-}
-
-// The bytes of the device's part of the cue.
-fn part_of(show: &Show, cue: CueNo, device: DeviceNo) -> &[u8]
-    ensures value { result.now ≡ bytes_for device (cue_parts show.now cue) }
-    ensures short { length result.now ≤ MAX_PART_BYTES }
-{
-    match show.parts(cue) {
-        Some(parts) => bytes_for(parts.as_slice(), device),
-        None => &[],
     }
 }
 

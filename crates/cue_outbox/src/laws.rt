@@ -1,4 +1,5 @@
 //! Laws of what is sent, each the contract of a function that does nothing.
+ghost use Rattle.cue_outbox.specs.Asked.{AskedCommandsDiffer, NewlyPendingAreAsked};
 ghost use Rattle.cue_outbox.specs.Laws.{CommandsAreRead, CommandsDiffer, CommandsHavePorts, RepliesAreRead, StatusIsRead};
 
 /// Each reply that `reply` gives is read by `cue_osc` as what was meant.
@@ -24,4 +25,15 @@ pub fn commands_have_ports()
 /// No two of the commands that `pending` gives are the same datagram.
 pub fn commands_differ()
     ensures { CommandsDiffer }
+{}
+
+/// After events that are acceptable in turn, the commands that were not pending before, as datagrams, are those of the attempts whose
+/// devices the events ask anew, in the new state: by their Start, Go or Cancel.
+pub fn newly_pending_are_asked()
+    ensures { NewlyPendingAreAsked }
+{}
+
+/// No two of the commands that `pending_of` gives are the same datagram.
+pub fn asked_commands_differ()
+    ensures { AskedCommandsDiffer }
 {}

@@ -3,6 +3,7 @@
 //! Each datagram is an OSC message with the port of this machine that it goes to. Nothing here opens a socket.
 #![tactic(auto)]
 
+mod asked;
 mod commands;
 pub mod laws;
 mod message;
@@ -11,7 +12,8 @@ mod queue;
 mod replies;
 mod standing;
 
-pub use commands::pending;
+pub use asked::numbers_asked;
+pub use commands::{pending, pending_of};
 pub use out::{Bytes, Out};
 pub use queue::Queue;
 pub use replies::reply;

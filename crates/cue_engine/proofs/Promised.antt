@@ -1,0 +1,181 @@
+-- Whatever happens to a store, whole batches are kept, and what was handed over rests on them.
+use Rattle.std.proofs.Common.{◌≡◌, ◌⊎◌, inl, inr, ℕ, zero, suc, Bool, true, false, ◌&&◌, List, [], ◌∷◌, ◌++◌, take, refl, sym, ap, ◌∙◌, subst, append_assoc, append-nil}
+use Rattle.std.specs.List.{list_all}
+use Rattle.cue_core.specs.declared.event.Event.{Event}
+use Rattle.cue_core.specs.State.{Standing}
+use Rattle.cue_core.specs.Steps.{folded}
+use Rattle.cue_core.proofs.Conditions.{both, join}
+use Rattle.cue_core.proofs.Folding.{folded-append}
+use Rattle.cue_keeper.specs.Stands.{Stands, StandsEither}
+use Rattle.cue_keeper.proofs.Standing.{one_state}
+use Rattle.cue_outbox.specs.Sending.{Send, all_pending}
+use Rattle.cue_engine.specs.Given.{Input, given, given_recovery, closed}
+use Rattle.cue_engine.specs.Runs.{with_batch, joined, rests}
+use Rattle.cue_engine.specs.Headline.{Incident, taken, handed_out, stopped, stopped_in_take, recovered, stopped_in_recovery, Store, running, at_rest, begun, RecoversTo, LeavesClosing, Permits, left_by, Happens, left_by_all, owed_by, handed_in, all_handed, batch_of, is_cut_off, AreKept, StandsAt, CameTo, WhateverHappens, IsPromised, RecoveryGivesAPrefix}
+use Rattle.cue_engine.proofs.Tests.{all-append, all_implied}
+use Rattle.cue_engine.proofs.Resting.{more, earlier, input_rests, all_pending_rest, joined-with}
+
+-- what the store stands for after these events, and that what is owed rests on them
+record IsOn (s : Standing) (es : List Event) (store : Store) : Type 0 where
+  stands : StandsAt store (folded s es)
+  owed : list_all (rests s es) (owed_by store) ≡ true
+
+-- ---- what rests
+
+all_more : (s : Standing) (es fs : List Event) (xs : List (ℕ × Send)) → list_all (rests s es) xs ≡ true → list_all (rests s (es ++ fs)) xs ≡ true
+all_more s es fs xs h = all_implied (rests s es) (rests s (es ++ fs)) (λ m k. more s es fs m.1 k) xs h
+
+all_earlier : (s : Standing) (es fs : List Event) (xs : List (ℕ × Send)) → list_all (rests (folded s es) fs) xs ≡ true → list_all (rests s (es ++ fs)) xs ≡ true
+all_earlier s es fs xs h = all_implied (rests (folded s es) fs) (rests s (es ++ fs)) (λ m k. earlier s es fs m.1 k) xs h
+
+all_taken : (p : ℕ × Send → Bool) (n : ℕ) (xs : List (ℕ × Send)) → list_all p xs ≡ true → list_all p (take n xs) ≡ true
+all_taken p zero xs h = refl
+all_taken p (suc n) [] h = refl
+all_taken p (suc n) (x ∷ xs) h = let w = both (p x) (list_all p xs) h in join (p x) (list_all p (take n xs)) w.0 (all_taken p n xs w.1)
+
+-- what is handed over was owed
+handed_rests : (s : Standing) (es : List Event) (store : Store) (i : Incident) → list_all (rests s es) (owed_by store) ≡ true → list_all (rests s es) (handed_in store i) ≡ true
+handed_rests s es store (taken now input) h = refl
+handed_rests s es store handed_out h = h
+handed_rests s es store (stopped n x y) h = all_taken (rests s es) n (owed_by store) h
+handed_rests s es store (stopped_in_take now input n x y) h = all_taken (rests s es) n (owed_by store) h
+handed_rests s es store (recovered t) h = refl
+handed_rests s es store (stopped_in_recovery x y) h = refl
+
+-- ---- one incident
+
+-- the batch is kept whole, or, where its call was cut off, not at all
+abbrev Goes : Standing → List Event → Store → Incident → Type 0
+Goes s es store i = IsOn s (es ++ batch_of (folded s es) i) (left_by store i) ⊎ ((is_cut_off i ≡ true) × IsOn s es (left_by store i))
+
+-- nothing is added
+as_before : (s : Standing) (es : List Event) (store : Store) → IsOn s es store → IsOn s (es ++ []) store
+as_before s es store on = let P : List Event → Type 0 = λ fs. IsOn s fs store in subst P (sym (append-nil es)) on
+
+resting_at : (s : Standing) (es : List Event) (x y : List ℕ) → Stands x y (folded s es) → IsOn s es (at_rest x y)
+resting_at s es x y h = record { stands = h; owed = refl }
+
+-- a stop leaves the state from before or the one after the batch
+resting_either : (s : Standing) (es batch : List Event) (x y : List ℕ) → StandsEither (folded s es) (folded (folded s es) batch) x y → IsOn s (es ++ batch) (at_rest x y) ⊎ IsOn s es (at_rest x y)
+resting_either s es batch x y (inl h) = inr (resting_at s es x y h)
+resting_either s es batch x y (inr h) = let P : Standing → Type 0 = λ t. Stands x y t in inl (resting_at s (es ++ batch) x y (subst P (sym (folded-append s es batch)) h))
+
+with_cut : {A B : Type 0} → A ⊎ B → A ⊎ ((true ≡ true) × B)
+with_cut (inl a) = inl a
+with_cut (inr b) = inr (refl, b)
+
+goes_taken : (s : Standing) (es : List Event) (owed : List (ℕ × Send)) (now : ℕ) (input : Input) → list_all (rests s es) owed ≡ true → Goes s es (running (folded s es) owed) (taken now input)
+goes_taken s es owed now input h =
+    let batch : List Event = (given (folded s es) now input).batch in
+    let sends : List (ℕ × Send) = (given (folded s es) now input).sends in
+    inl (record {
+      stands = sym (folded-append s es batch);
+      owed = all-append (rests s (es ++ batch)) owed sends (all_more s es batch owed h) (all_earlier s es batch sends (input_rests (folded s es) now input));
+    })
+
+goes_running : (s : Standing) (es : List Event) (owed : List (ℕ × Send)) (i : Incident) → list_all (rests s es) owed ≡ true → Permits (running (folded s es) owed) i → Goes s es (running (folded s es) owed) i
+goes_running s es owed (taken now input) h ok = goes_taken s es owed now input h
+goes_running s es owed handed_out h ok = inl (as_before s es (running (folded s es) []) (record { stands = refl; owed = refl }))
+goes_running s es owed (stopped n x y) h ok = inl (as_before s es (at_rest x y) (resting_at s es x y ok))
+goes_running s es owed (stopped_in_take now input n x y) h ok = with_cut (resting_either s es (given (folded s es) now input).batch x y ok)
+goes_running s es owed (recovered t) h ok = absurd ok
+goes_running s es owed (stopped_in_recovery x y) h ok = absurd ok
+
+goes_recovered : (s : Standing) (es : List Event) (x y : List ℕ) → Goes s es (at_rest x y) (recovered (closed (folded s es)))
+unfolding closed
+goes_recovered s es x y =
+    let batch : List Event = (given_recovery (folded s es)).batch in
+    inl (record {
+      stands = sym (folded-append s es batch);
+      owed = all_earlier s es batch (all_pending (closed (folded s es))) (all_pending_rest (folded s es) batch);
+    })
+
+goes_stopped : (s : Standing) (es : List Event) (x y u v : List ℕ) → StandsEither (folded s es) (closed (folded s es)) u v → Goes s es (at_rest x y) (stopped_in_recovery u v)
+unfolding closed
+goes_stopped s es x y u v h = with_cut (resting_either s es (given_recovery (folded s es)).batch u v h)
+
+goes_at_rest : (s : Standing) (es : List Event) (x y : List ℕ) (i : Incident) → Stands x y (folded s es) → Permits (at_rest x y) i → Goes s es (at_rest x y) i
+goes_at_rest s es x y (taken now input) h ok = absurd ok
+goes_at_rest s es x y handed_out h ok = absurd ok
+goes_at_rest s es x y (stopped n u v) h ok = absurd ok
+goes_at_rest s es x y (stopped_in_take now input n u v) h ok = absurd ok
+goes_at_rest s es x y (recovered t) h ok =
+    let P : Standing → Type 0 = λ u. Goes s es (at_rest x y) (recovered u) in
+    subst P (sym (ok.1.1 ∙ ap closed (one_state x y ok.0 (folded s es) ok.1.0 h))) (goes_recovered s es x y)
+goes_at_rest s es x y (stopped_in_recovery u v) h ok =
+    let P : Standing → Type 0 = λ c. StandsEither c (closed c) u v in
+    goes_stopped s es x y u v (subst P (one_state x y ok.0 (folded s es) ok.1.0 h) ok.1.1)
+
+goes : (s : Standing) (es : List Event) (store : Store) (i : Incident) → IsOn s es store → Permits store i → Goes s es store i
+goes s es (running t owed) i on ok =
+    let P : Standing → Type 0 = λ u. Permits (running u owed) i → Goes s es (running u owed) i in
+    subst P (sym on.stands) (goes_running s es owed i on.owed) ok
+goes s es (at_rest x y) i on ok = goes_at_rest s es x y i on.stands ok
+
+-- ---- all of them
+
+record Found (s : Standing) (es : List Event) (store : Store) (is : List Incident) : Type 0 where
+  kept : List (List Event)
+  prefix : AreKept (folded s es) is kept
+  stands : StandsAt (left_by_all store is) (folded s (es ++ joined kept))
+  decided : list_all (rests s (es ++ joined kept)) (all_handed store is) ≡ true
+
+found_none : (s : Standing) (es : List Event) (store : Store) → IsOn s es store → Found s es store []
+found_none s es store on = record { kept = []; prefix = refl; stands = (as_before s es store on).stands; decided = refl }
+
+found_whole : (s : Standing) (es : List Event) (store : Store) (i : Incident) (is : List Incident) → IsOn s es store → Found s (es ++ batch_of (folded s es) i) (left_by store i) is → Found s es store (i ∷ is)
+found_whole s es store i is on f =
+    let batch : List Event = batch_of (folded s es) i in
+    let P : Standing → Type 0 = λ u. AreKept u is f.kept in
+    let same : (es ++ batch) ++ joined f.kept ≡ es ++ joined (with_batch batch f.kept) = append_assoc es batch (joined f.kept) ∙ ap (λ (xs : List Event). es ++ xs) (sym (joined-with batch f.kept)) in
+    let Q : List Event → Type 0 = λ xs. StandsAt (left_by_all (left_by store i) is) (folded s xs) in
+    let R : List Event → Type 0 = λ xs. list_all (rests s xs) (all_handed (left_by store i) is) ≡ true in
+    record {
+      kept = with_batch batch f.kept;
+      prefix = inl (f.kept, (refl, subst P (folded-append s es batch) f.prefix));
+      stands = subst Q same f.stands;
+      decided = all-append (rests s (es ++ joined (with_batch batch f.kept))) (handed_in store i) (all_handed (left_by store i) is)
+          (all_more s es (joined (with_batch batch f.kept)) (handed_in store i) (handed_rests s es store i on.owed)) (subst R same f.decided);
+    }
+
+found_cut : (s : Standing) (es : List Event) (store : Store) (i : Incident) (is : List Incident) → IsOn s es store → is_cut_off i ≡ true → Found s es (left_by store i) is → Found s es store (i ∷ is)
+found_cut s es store i is on cut f = record {
+  kept = f.kept;
+  prefix = inr (cut, f.prefix);
+  stands = f.stands;
+  decided = all-append (rests s (es ++ joined f.kept)) (handed_in store i) (all_handed (left_by store i) is)
+      (all_more s es (joined f.kept) (handed_in store i) (handed_rests s es store i on.owed)) f.decided;
+}
+
+found_either : (s : Standing) (es : List Event) (store : Store) (i : Incident) (is : List Incident) → IsOn s es store
+    → (IsOn s (es ++ batch_of (folded s es) i) (left_by store i) → Found s (es ++ batch_of (folded s es) i) (left_by store i) is)
+    → (IsOn s es (left_by store i) → Found s es (left_by store i) is)
+    → Goes s es store i → Found s es store (i ∷ is)
+found_either s es store i is on whole cut (inl h) = found_whole s es store i is on (whole h)
+found_either s es store i is on whole cut (inr h) = found_cut s es store i is on h.0 (cut h.1)
+
+found : (s : Standing) (es : List Event) (store : Store) (is : List Incident) → IsOn s es store → Happens store is → Found s es store is
+found s es store [] on ok = found_none s es store on
+found s es store (i ∷ is) on ok =
+    found_either s es store i is on
+    (λ h. found s (es ++ batch_of (folded s es) i) (left_by store i) is h ok.1)
+    (λ h. found s es (left_by store i) is h ok.1)
+    (goes s es store i on ok.0)
+
+begins : (s : Standing) → IsOn s [] (begun s)
+begins s = record { stands = refl; owed = all_pending_rest s [] }
+
+pub whatever_happens : WhateverHappens
+whatever_happens s is ok = let f = found s [] (begun s) is (begins s) ok in record { kept = f.kept; prefix = f.prefix; stands = f.stands; decided = f.decided }
+
+pub recovery_gives_a_prefix : RecoveryGivesAPrefix
+recovery_gives_a_prefix s t is x y ok end gives =
+    let f = whatever_happens s is ok in
+    let P : Store → Type 0 = λ store. StandsAt store (folded s (joined f.kept)) in
+    let stands : Stands x y (folded s (joined f.kept)) = subst P end f.stands in
+    record {
+      kept = f.kept;
+      prefix = f.prefix;
+      gives = gives.1.1 ∙ ap closed (one_state x y gives.0 (folded s (joined f.kept)) gives.1.0 stands);
+      decided = f.decided;
+    }

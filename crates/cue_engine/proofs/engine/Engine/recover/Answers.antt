@@ -1,0 +1,55 @@
+use Rattle.std.proofs.Common.{inl}
+use Rattle.cue_disk.specs.Disk.{IsImage, LeavesOnly}
+use Rattle.cue_snap.specs.Words.{first_after, second_after}
+use Rattle.cue_snap.proofs.Barrier.{entry_pairs}
+use Rattle.cue_keeper.specs.declared.fault.StoreFault.TheVariants as fault
+use Rattle.cue_keeper.specs.Stands.{StandsEither}
+use Rattle.cue_keeper.specs.Words as kept
+use Rattle.cue_keeper.proofs.Moving.{opened_then, leaves_weaker}
+use Rattle.cue_keeper.proofs.Refused.{is_opened}
+use Rattle.cue_engine.specs.Given.{closed}
+use Rattle.cue_engine.specs.Recovery.{IsLeftOrStands}
+use Rattle.cue_engine.specs.Words.{first_of, second_of}
+use Rattle.cue_engine.proofs.Reopened.{left_or_stands, unwritten}
+use Rattle.cue_engine.proofs.engine.Engine.recover.Goals as goal
+
+pub returns-in-Ok-clause-any_moment : goal.returns-in-Ok-clause-any_moment
+returns-in-Ok-clause-any_moment g c = λ first second.
+    let d = g.D.Disk in
+    let a = c.args.first in
+    let b = c.args.second in
+    let keeper = c.in-Ok.keeper in
+    let s = kept.state_of keeper in
+    let new_a = first_after first_of c.close_opened.result in
+    let new_b = second_after second_of c.close_opened.result in
+    opened_then d.moment d.held d.held_at d.failures d.is_honest a b (kept.first_of keeper) (kept.second_of keeper) new_a new_b (IsLeftOrStands (d.held a) (d.held b)) (g.met.D.Disk.held_now a first) (g.met.D.Disk.held_now b second)
+    (c.in-Ok.ensures.first_moments first) (c.in-Ok.ensures.second_moments second)
+    (leaves_weaker d.moment d.held d.held_at d.failures d.is_honest (kept.first_of keeper) (kept.second_of keeper) new_a new_b (StandsEither s (closed s)) (IsLeftOrStands (d.held a) (d.held b))
+    (left_or_stands (d.held a) (d.held b) (d.held a).bytes (d.held b).bytes s (g.met.D.Disk.reads_as_image a first) (g.met.D.Disk.reads_as_image b second) (c.in-Ok.ensures.stood first second))
+    (c.close_opened.ensures.any_moment (c.in-Ok.ensures.first_honest.1 first) (c.in-Ok.ensures.second_honest.1 second)))
+
+pub returns-in-Ok-clause-unwritten : goal.returns-in-Ok-clause-unwritten
+returns-in-Ok-clause-unwritten g c = λ first second.
+    let d = g.D.Disk in
+    let a = c.args.first in
+    let b = c.args.second in
+    unwritten fault.Disk first_of second_of (λ new. LeavesOnly d.moment d.held_at a new (IsImage (d.held a))) (λ new. LeavesOnly d.moment d.held_at b new (IsImage (d.held b)))
+    (kept.first_of c.in-Ok.keeper) (kept.second_of c.in-Ok.keeper) c.close_opened.result c.close_opened.ensures.unwritten (c.in-Ok.ensures.first_moments first) (c.in-Ok.ensures.second_moments second)
+
+pub returns-in-Err-clause-readable : goal.returns-in-Err-clause-readable
+returns-in-Err-clause-readable g c = λ first second s stands.
+    let never = is_opened (g.D.Disk.held c.args.first).bytes (g.D.Disk.held c.args.second).bytes s stands in
+    let told = c.in-Err.ensures in (
+      λ refused. never.0 (told.unformed first second refused),
+      λ refused. never.1 (told.damaged first second refused),
+      λ refused. never.2 (told.version first second refused),
+      λ refused. never.3 (told.malformed first second refused),
+    )
+
+pub returns-in-Err-clause-any_moment : goal.returns-in-Err-clause-any_moment
+returns-in-Err-clause-any_moment g c = λ first second.
+    let d = g.D.Disk in
+    let a = c.args.first in
+    let b = c.args.second in
+    entry_pairs d.moment d.held d.held_at a b c.in-Err.refused.1 c.in-Err.refused.2 (IsLeftOrStands (d.held a) (d.held b)) (c.in-Err.ensures.first_moments first) (c.in-Err.ensures.second_moments second)
+    (λ x y left_x left_y. inl (left_x, left_y))

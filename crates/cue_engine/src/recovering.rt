@@ -1,0 +1,105 @@
+// What a recovery from power loss gives up: each attempt that is undecided is cancelled, in one batch.
+ghost use Rattle.std.specs.Prelude.{◌≡◌, ◌≤◌, ◌<◌, ◌+◌, ◌-◌, ◌^◌, ◌⊎◌, ◌↔◌, false, true, length, IsTrue, IfOk, OnOk, OnErr, IsErrOf};
+ghost use Rattle.cue_disk.specs.Disk.{MoreFailures};
+ghost use Rattle.cue_log.specs.declared.area.TheConstants.{AREA_LIMIT};
+ghost use Rattle.cue_core.specs.Happenings.{events_at, recovered};
+ghost use Rattle.cue_core.specs.Steps.{are_acceptable};
+ghost use Rattle.cue_records.specs.State.{state_text};
+ghost use Rattle.cue_keeper.specs.Pairs.{LeavesPairs};
+ghost use Rattle.cue_keeper.specs.Stands.{StandsEither, StandsAs};
+ghost use Rattle.cue_keeper.specs.Words.{state_of, pair_of, first_of, second_of, is_broken, generation_of, is_due};
+ghost use Rattle.cue_outbox.specs.Sending.{datagrams, all_pending};
+ghost use Rattle.cue_engine.specs.Given.{closed};
+ghost use Rattle.cue_engine.specs.Recovery.{cancels_length};
+ghost use Rattle.cue_engine.specs.Takes.{FitsRecord, CanFollow, Follows};
+
+use crate::drafts::{Draft, catch_up};
+use crate::keeping::accept_batch;
+use crate::ticking::cancels;
+use cue_core::{Event, State, undecided};
+use cue_disk::Disk;
+use cue_exchange::attempt::Reason;
+use cue_keeper::{Fault, Keeper};
+use cue_outbox::{Queue, pending};
+use std::alloc::{AllocError, Global};
+
+// What is undecided is cancelled.
+fn cancels_undecided(alloc: Global, kept: &State) -> Result<Vec<Event>, AllocError>
+    ensures batch { IfOk result (λ batch. batch.items ≡ events_at kept.now recovered) }
+    ensures acceptable { IfOk result (λ batch. IsTrue (are_acceptable kept.now batch.items)) }
+    ensures fits { IfOk result (λ batch. FitsRecord batch.items) }
+{
+    let _last = kept.last_seq();
+    let seqs = undecided(alloc, kept)?;
+    cancels(alloc, &seqs, Reason::Power)
+}
+
+// What is pending, as a queue.
+fn queue_pending(alloc: Global, state: &State) -> Result<Queue, AllocError>
+    ensures { IfOk result (λ queue. queue ≡ datagrams (all_pending state.now)) }
+{
+    let mut queue = Queue::new(alloc);
+    queue.push_all(pending(alloc, state)?)?;
+    Ok(queue)
+}
+
+// Closes the state on the draft: the cancels, and what is owed then. From here on the draft is of no use, until it is put in step again.
+#[tactic(auto, unfolding(crate::specs::Given::closed))]
+fn close_on(
+    alloc: Global,
+    kept: &State,
+    draft: &mut Draft,
+) -> Result<(Vec<Event>, Queue), AllocError>
+    requires can_follow { CanFollow draft.old }
+    requires follows { Follows kept.now draft.old }
+    ensures marked { draft.new.is_of_use ≡ false }
+    ensures draft { OnOk result (draft.new.state ≡ closed kept.now) }
+    ensures batch { IfOk result (λ r. r.0.items ≡ events_at kept.now recovered) }
+    ensures acceptable { IfOk result (λ r. IsTrue (are_acceptable kept.now r.0.items)) }
+    ensures fits { IfOk result (λ r. FitsRecord r.0.items) }
+    ensures queue { IfOk result (λ r. r.1 ≡ datagrams (all_pending (closed kept.now))) }
+{
+    catch_up(kept, draft)?;
+    let batch = cancels_undecided(alloc, kept)?;
+    draft.state.apply_all(&batch)?;
+    let queue = queue_pending(alloc, &draft.state)?;
+    Ok((batch, queue))
+}
+
+/// Cancels what is undecided, and answers what is owed then. All memory is taken before the first device call; where nothing is undecided none
+/// is made.
+#[tactic(auto, unfolding(crate::specs::Given::closed))]
+pub(crate) fn close_undecided<D: Disk>(
+    alloc: Global,
+    keeper: &mut Keeper<D>,
+    draft: &mut Draft,
+) -> Result<Queue, Fault>
+    requires works { is_broken keeper.old ≡ false }
+    requires can_follow { CanFollow draft.old }
+    requires follows { Follows (state_of keeper.old) draft.old }
+
+    ensures ok { OnOk result (state_of keeper.new ≡ closed (state_of keeper.old)) }
+    ensures err { OnErr result (state_of keeper.new ≡ state_of keeper.old) }
+    ensures queue { IfOk result (λ queue. queue ≡ datagrams (all_pending (closed (state_of keeper.old)))) }
+    ensures can_follow { CanFollow draft.new }
+    ensures follows { Follows (state_of keeper.new) draft.new }
+
+    ensures no_broken { IsErrOf result Fault.Broken → ⊥ }
+    ensures exhausted { IsErrOf result Fault.Exhausted → IsTrue (is_due keeper.old (cancels_length (state_of keeper.old))) × (generation_of keeper.old ≡ 2 ^ 64 - 1) }
+    ensures full { IsErrOf result Fault.Full → IsTrue (is_due keeper.old (cancels_length (state_of keeper.old))) × (AREA_LIMIT < 19 + length (state_text (state_of keeper.old)) + cancels_length (state_of keeper.old)) }
+    ensures unchanged { IsErrOf result Fault.Memory ⊎ IsErrOf result Fault.Exhausted ⊎ IsErrOf result Fault.Full → pair_of keeper.new ≡ pair_of keeper.old }
+    ensures disk { IsErrOf result Fault.Disk → MoreFailures (D.failures (first_of keeper.old)) (D.failures (first_of keeper.new)) ⊎ MoreFailures (D.failures (second_of keeper.old)) (D.failures (second_of keeper.new)) }
+    ensures works { OnOk result (is_broken keeper.new ≡ false) }
+    ensures any_moment { D.is_honest (first_of keeper.old) → D.is_honest (second_of keeper.old)
+        → LeavesPairs D.moment D.held_at (first_of keeper.old) (second_of keeper.old) (first_of keeper.new) (second_of keeper.new) (StandsEither (state_of keeper.old) (closed (state_of keeper.old))) }
+    ensures accepted { D.is_honest (first_of keeper.old) → D.is_honest (second_of keeper.old) → OnOk result (StandsAs (D.held (first_of keeper.new)) (D.held (second_of keeper.new)) (closed (state_of keeper.old))) }
+    ensures first_failures { D.failures (first_of keeper.old) ≤ D.failures (first_of keeper.new) }
+    ensures second_failures { D.failures (second_of keeper.old) ≤ D.failures (second_of keeper.new) }
+    ensures first_honest { D.is_honest (first_of keeper.new) ↔ D.is_honest (first_of keeper.old) }
+    ensures second_honest { D.is_honest (second_of keeper.new) ↔ D.is_honest (second_of keeper.old) }
+{
+    let _broken = keeper.is_broken();
+    let (batch, queue) = close_on(alloc, keeper.state(), draft)?;
+    accept_batch(keeper, draft, batch)?;
+    Ok(queue)
+}

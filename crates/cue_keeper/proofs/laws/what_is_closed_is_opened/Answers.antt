@@ -1,0 +1,5 @@
+use Rattle.cue_keeper.proofs.Refused.{opened_again}
+use Rattle.cue_keeper.proofs.laws.what_is_closed_is_opened.Goals as goal
+
+pub returns : goal.returns
+returns c = opened_again

@@ -1,0 +1,126 @@
+// The bytes of both disks.
+ghost use Rattle.std.specs.Prelude.{◌≡◌};
+ghost use Rattle.cue_keeper.specs.Words.{state_of};
+
+use super::*;
+use cue_core::State;
+use cue_show::{Part, Parts};
+
+#[test]
+fn a_batch_is_kept(rt: HostRuntime) -> Result<(), Fail> {
+    let alloc = rt.alloc();
+    let Ok(keeper) = Keeper::form(alloc, MemDisk::new(alloc), MemDisk::new(alloc)) else {
+        return Err("the store is not formed".into());
+    };
+    let (first, second) = keeper.close();
+    assert_eq!(rt; first.bytes(), FORMED.as_slice());
+    assert_eq!(rt; second.bytes(), [].as_slice());
+
+    let kept = accept_on(alloc, first, second, Event::Device(device()?, 9001))?;
+    assert_eq!(rt; kept.answer, Ok(()));
+    assert_eq!(rt; kept.first.bytes(), ACCEPTED.as_slice());
+    assert_eq!(rt; kept.second.bytes(), [].as_slice());
+    Ok(())
+}
+
+// The cue with one empty part.
+fn new_cue(alloc: Global, text: &[u8]) -> Result<Event, Fail> {
+    let mut parts = Parts::new(alloc);
+    parts.push(Part::of(alloc, device()?, &[])?)?;
+    Ok(Event::Cue(cue(text)?, parts))
+}
+
+// Accepts 64 batches, the last of which moves to cue 1.
+fn fill(alloc: Global, keeper: &mut Keeper<MemDisk>) -> Result<(), Fail> {
+    accept(keeper, Event::Device(device()?, 9001))??;
+    accept(keeper, new_cue(alloc, b"1")?)??;
+    accept(keeper, new_cue(alloc, b"2")?)??;
+    for i in 0..61u32 {
+        let name = if i % 2 == 0 { cue(b"1")? } else { cue(b"2")? };
+        accept(keeper, Event::Place(name))??;
+    }
+    Ok(())
+}
+
+// The area of generation 2 with device 3, cues 1 and 2 and the place 1, and a record that moves to cue 2.
+const TURNED: [u8; 53] = [
+    1, 0, 0, 0, 0, 0, 0, 0, 2, 0, 0, 0, 0x1d, 1, 1, 3, 0x23, 0x29, 0, 2, 1, 0x31, 1, 3, 0, 1, 0x32,
+    1, 3, 0, 1, 0x31, 0, 0, 0, 0, 0, 0, 0, 0, 0, 0, 1, 0, 0, 0, 5, 0, 1, 5, 1, 0x32, 0,
+];
+
+#[test]
+fn the_65th_batch_turns_over(rt: HostRuntime) -> Result<(), Fail> {
+    let alloc = rt.alloc();
+    let Ok(mut keeper) = Keeper::form(alloc, MemDisk::new(alloc), MemDisk::new(alloc)) else {
+        return Err("the store is not formed".into());
+    };
+    let filled = fill(alloc, &mut keeper);
+    let (first, second) = keeper.close();
+    filled?;
+    let full = area(alloc, 1, 61)?;
+    assert_eq!(rt; full.len(), 676);
+    assert_eq!(rt; first.bytes(), full.as_slice());
+    assert_eq!(rt; second.bytes(), [].as_slice());
+
+    let kept = accept_on(alloc, first, second, Event::Place(cue(b"2")?))?;
+    assert_eq!(rt; kept.answer, Ok(()));
+    assert_eq!(rt; kept.first.bytes(), full.as_slice());
+    assert_eq!(rt; kept.second.bytes(), TURNED.as_slice());
+    assert_eq!(rt; place(alloc, kept.first, kept.second), Ok(Some(cue(b"2")?)));
+    Ok(())
+}
+
+#[test]
+fn a_longer_area_is_turned_over(rt: HostRuntime) -> Result<(), Fail> {
+    let alloc = rt.alloc();
+    let long = area(alloc, 1, 99)?;
+    let first = MemDisk::from_bytes(alloc, &long)?;
+    let kept = accept_on(alloc, first, MemDisk::new(alloc), Event::Place(cue(b"2")?))?;
+    assert_eq!(rt; kept.answer, Ok(()));
+    assert_eq!(rt; kept.first.bytes(), long.as_slice());
+    assert_eq!(rt; kept.second.bytes(), TURNED.as_slice());
+    Ok(())
+}
+
+// Moves from cue 1 to cue 2 by a draft, which is the state at cue 1 afterwards.
+fn move_by_draft(
+    rt: &impl Abort,
+    keeper: &mut Keeper<MemDisk>,
+    draft: &mut State,
+) -> Result<(), Fail>
+    requires { draft.old ≡ state_of keeper.old }
+{
+    let event = Event::Place(cue(b"2")?);
+    if !draft.can_apply(&event) {
+        return Err("the event is not acceptable".into());
+    }
+    draft.apply(&event)?;
+    let events = [event];
+    if batch_len(&events) > PAYLOAD_LIMIT as u64 {
+        return Err("the batch is too long".into());
+    }
+    assert!(rt; keeper.accept_draft(draft, &events).is_ok());
+    assert!(rt; keeper.state().show().place() == Some(cue(b"2")?));
+    assert!(rt; draft.show().place() == Some(cue(b"1")?));
+    Ok(())
+}
+
+fn move_by_clone(rt: &impl Abort, keeper: &mut Keeper<MemDisk>) -> Result<(), Fail> {
+    let mut draft = keeper.state().try_clone()?;
+    move_by_draft(rt, keeper, &mut draft)
+}
+
+#[test]
+fn a_draft_changes_places(rt: HostRuntime) -> Result<(), Fail> {
+    let alloc = rt.alloc();
+    let first = MemDisk::from_bytes(alloc, &area(alloc, 1, 1)?)?;
+    let Ok(mut keeper) = Keeper::open(alloc, first, MemDisk::new(alloc)) else {
+        return Err("the store is not opened".into());
+    };
+    let moved = move_by_clone(&rt, &mut keeper);
+    let (first, second) = keeper.close();
+    moved?;
+    assert_eq!(rt; first.bytes(), area(alloc, 1, 2)?.as_slice());
+    assert_eq!(rt; second.bytes(), [].as_slice());
+    Ok(())
+}

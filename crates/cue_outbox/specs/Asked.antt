@@ -1,0 +1,50 @@
+-- The attempts whose devices are asked anew by events, and the commands to them.
+use Rattle.std.specs.Prelude.{◌≡◌, ◌≢◌, ℕ, Bool, List, filter, Option, None, Some, IsTrue}
+use Rattle.std.specs.List.{AllPairs, filter_map}
+use Rattle.cue_show.specs.Devices.{is_among}
+use Rattle.cue_core.specs.declared.event.Event.{Event}
+use Rattle.cue_core.specs.declared.event.Event.TheVariants.{Device, NoDevice, Cue, NoCue, Place, Start, Ready, Go, Done, Cancel, LetGo, Failed}
+use Rattle.cue_core.specs.State.{Standing, is_state}
+use Rattle.cue_core.specs.Steps.{are_acceptable, folded}
+use Rattle.cue_core.specs.Pending.{Order, standby, go_2pc, cancel, pending}
+use Rattle.cue_outbox.specs.Sending.{Send, datagrams, orders}
+use Rattle.cue_outbox.specs.New.{newly_pending}
+
+-- the number of the attempt that a command is of
+abbrev pub number_of : Order → ℕ
+number_of (standby q d cue bytes) = q
+number_of (go_2pc q d) = q
+number_of (cancel q d) = q
+
+-- the attempt whose devices the event asks anew: it starts, is decided, or is cancelled
+abbrev pub number_asked : Event → Option ℕ
+number_asked (Device d port) = None
+number_asked (NoDevice d) = None
+number_asked (Cue c parts) = None
+number_asked (NoCue c) = None
+number_asked (Place c) = None
+number_asked (Start q c t) = Some q
+number_asked (Ready q d) = None
+number_asked (Go q) = Some q
+number_asked (Done q d) = None
+number_asked (Cancel q r) = Some q
+number_asked (LetGo q d) = None
+number_asked (Failed q d) = None
+
+-- some of the events ask the devices of q anew
+abbrev pub is_asked : ℕ → List Event → Bool
+is_asked q events = is_among q (filter_map number_asked events)
+
+-- the pending commands of the attempts with these numbers, in the order of all
+abbrev pub pending_of : List ℕ → Standing → List (ℕ × Send)
+pending_of numbers s = orders (filter (λ o. is_among (number_of o.1) numbers) (pending s))
+
+-- After events that are acceptable in turn, the newly pending commands are those of the attempts that the events ask anew.
+abbrev pub NewlyPendingAreAsked : Type 0
+NewlyPendingAreAsked =
+    (s : Standing) (events : List Event) (numbers : List ℕ) → IsTrue (is_state s) → IsTrue (are_acceptable s events) → ((q : ℕ) → is_among q numbers ≡ is_asked q events)
+    → newly_pending s (folded s events) ≡ pending_of numbers (folded s events)
+
+-- no two pending commands of some attempts are the same datagram
+abbrev pub AskedCommandsDiffer : Type 0
+AskedCommandsDiffer = (s : Standing) (numbers : List ℕ) → IsTrue (is_state s) → AllPairs (λ x y. x ≢ y) (datagrams (pending_of numbers s))

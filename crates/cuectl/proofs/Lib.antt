@@ -1,3 +1,3 @@
-mod LineLemmas
 pub mod ProgramLemmas
 mod ScriptLemmas
+mod ScriptLineLemmas

@@ -7,9 +7,13 @@ use Rattle.std.proofs.lemmas.Grind.{flat_map-append}
 use Rattle.std.proofs.lemmas.List.{append-nil, map-append, take_more, take_all, length-take}
 use Rattle.cue_core.specs.State.{Standing}
 use Rattle.cue_core.specs.Steps.{folded}
-use Rattle.cue_outbox.specs.Sending.{Send, datagram, datagrams}
+use Rattle.cue_keeper.specs.Stands.{Stands}
+use Rattle.cue_keeper.proofs.Standing.{one_state}
+use Rattle.cue_outbox.specs.Sending.{Send, datagram, datagrams, all_pending}
+use Rattle.cue_engine.specs.Given.{closed}
+use Rattle.cue_engine.specs.Recovery.{ClosedFrom}
 use Rattle.cue_engine.specs.declared.mem_wire.Sent.{Sent}
-use Rattle.cue_engine.specs.Runs.{Happening, given_at, in_front, run}
+use Rattle.cue_engine.specs.Runs.{Happening, recovered, given_at, in_front, run}
 use Rattle.cue_engine.specs.Told.{sents_view}
 use Rattle.cue_engine.specs.Wires.{Handed, handed, Grew, AllHanded}
 use Rattle.cuectl.specs.declared.script.TheConstants.{SCRIPT_LIMIT}
@@ -21,8 +25,8 @@ use Rattle.cuectl.specs.declared.script.ending.Failure.{Failure}
 use Rattle.cuectl.specs.declared.script.ending.Failure.TheVariants.{Broken, Store}
 use Rattle.cuectl.specs.declared.script.ending.StreamFailure.{StreamFailure}
 use Rattle.cuectl.specs.Endings.{ending_line, status_of, store_status}
-use Rattle.cuectl.specs.Line.{lines_of, happening_in}
-use Rattle.cuectl.specs.LineViews.{sent_view}
+use Rattle.cuectl.specs.ScriptLines.{lines_of, happening_in}
+use Rattle.cuectl.specs.ScriptViews.{sent_view}
 use Rattle.cuectl.specs.Playing.{Goes, EndsAt, EndsUnheard}
 use Rattle.cuectl.specs.Script.{line_of, printed, output, Ran, RanToBadLine, Wrote, HasRun}
 
@@ -100,6 +104,14 @@ output-more s hs h =
     ap (λ (xs : List (ℕ × Send)). printed (datagrams xs)) (run-more-sends s hs h)
     ∙ ap printed (map-append datagram (run s hs).sends (given_at (run s hs).state h).sends)
     ∙ printed-append (datagrams (run s hs).sends) (datagrams (given_at (run s hs).state h).sends)
+
+-- what recovery makes of bytes that stand for a state
+pub closed_state : (s t : Standing) (x y : List ℕ) → Stands x y s → ClosedFrom x y t → t ≡ folded s (given_at s recovered).batch
+unfolding closed
+closed_state s t x y stands from = from.is ∙ ap closed (one_state x y from.before s from.stood stands)
+
+pub closed_sends : (s t : Standing) (x y : List ℕ) (queue : List (ℕ × List ℕ)) → Stands x y s → ClosedFrom x y t → queue ≡ datagrams (all_pending t) → queue ≡ datagrams (given_at s recovered).sends
+closed_sends s t x y queue stands from owes = owes ∙ ap (λ (u : Standing). datagrams (all_pending u)) (from.is ∙ ap closed (one_state x y from.before s from.stood stands))
 
 -- ---- the lines of a text
 
@@ -220,17 +232,23 @@ too_long None first old long = tt
 too_long (Some text) first old long = (long, appends_none old)
 
 -- nothing was run where no engine was formed
-pub not_formed : (failure : Failure) (first : Standing) (text : List ℕ) (old : Option (List ℕ)) → length text ≤ SCRIPT_LIMIT → Wrote (Failed failure) first text [] old old
-not_formed failure first text old short = (lines_of text, ran first text text (lines_of text) first old old (running_first first text old) refl short)
+pub not_formed : (first : Standing) (text : List ℕ) (old : Option (List ℕ)) → length text ≤ SCRIPT_LIMIT → (left : List (List ℕ)) × Ran first text left [] old old
+not_formed first text old short = (lines_of text, ran first text text (lines_of text) first old old (running_first first text old) refl short)
 
-pub has_run : (known : Option (List ℕ)) (ending : Ending) (first : Standing) (old mid new : Option (List ℕ)) → IfSome known (λ text. Wrote ending first text [] old mid) → Appends mid new (ending_line ending) →
-    IfSome known (λ text. HasRun first text (status_of ending) old new)
-has_run None ending first old mid new wrote last = tt
-has_run (Some text) ending first old mid new wrote last = record { ending = ending; is = refl; wrote = wrote_with ending first text (ending_line ending) old mid new wrote last }
+pub has_run : (known : Option (List ℕ)) (ending : Ending) (first : Standing) (line : List ℕ) (status : ℕ) (old mid new : Option (List ℕ)) → IfSome known (λ text. Wrote ending first text [] old mid) → line ≡ ending_line ending →
+    Appends mid new line → status ≡ status_of ending → IfSome known (λ text. HasRun first text status old new)
+has_run None ending first line status old mid new wrote is last ends = tt
+has_run (Some text) ending first line status old mid new wrote is last ends =
+    let P : List ℕ → Type 0 = λ l. Appends mid new l in
+    record { ending = ending; is = ends; wrote = wrote_with ending first text (ending_line ending) old mid new wrote (subst P is last) }
 
-pub has_stopped : (known : Option (List ℕ)) (failure : StreamFailure) (first : Standing) (old new : Option (List ℕ)) → IfSome known (λ text. HasRun first text 3 old new)
-has_stopped None failure first old new = tt
-has_stopped (Some text) failure first old new = record { ending = Stopped failure; is = refl; wrote = tt }
+pub has_stopped : (known : Option (List ℕ)) (failure : StreamFailure) (first : Standing) (status : ℕ) (old new : Option (List ℕ)) → status ≡ status_of (Stopped failure) → IfSome known (λ text. HasRun first text status old new)
+has_stopped None failure first status old new ends = tt
+has_stopped (Some text) failure first status old new ends = record { ending = Stopped failure; is = ends; wrote = tt }
+
+pub stopped_known : (known : Option (List ℕ)) (failure : StreamFailure) (first : Standing) (old new : Option (List ℕ)) → IfSome known (λ text. Wrote (Stopped failure) first text [] old new)
+stopped_known None failure first old new = tt
+stopped_known (Some text) failure first old new = tt
 
 small_store : (fault : StoreFault) → (store_status fault ≤ 3) × (store_status fault ≢ 2)
 small_store store.NotEmpty = (lit≤ tt, λ is. cc)
@@ -243,10 +261,15 @@ small_store store.Exhausted = (lit≤ tt, λ is. cc)
 small_store store.Memory = (lit≤ tt, λ is. cc)
 small_store store.Disk = (lit≤ tt, λ is. cc)
 
-pub small : (ending : Ending) → (status_of ending ≤ 3) × (status_of ending ≢ 2)
+small : (ending : Ending) → (status_of ending ≤ 3) × (status_of ending ≢ 2)
 small Done = (lit≤ tt, λ is. cc)
 small BadLine = (lit≤ tt, λ is. cc)
 small BadInput = (lit≤ tt, λ is. cc)
 small (Failed Broken) = (lit≤ tt, λ is. cc)
 small (Failed (Store fault)) = small_store fault
 small (Stopped failure) = (lit≤ tt, λ is. cc)
+
+pub small_status : (ending : Ending) (status : ℕ) → status ≡ status_of ending → (status ≤ 3) × (status ≢ 2)
+small_status ending status is =
+    let P : ℕ → Type 0 = λ n. (n ≤ 3) × (n ≢ 2) in
+    subst P (sym is) (small ending)

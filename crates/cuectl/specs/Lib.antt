@@ -1,6 +1,6 @@
 pub mod Endings
-pub mod Line
-pub mod LineViews
 pub mod Playing
 pub mod Script
+pub mod ScriptLines
+pub mod ScriptViews
 pub mod Streams

@@ -10,7 +10,7 @@ use Rattle.cue_engine.specs.Runs.{Happening, given_at}
 use Rattle.cue_engine.specs.Words.{keeper_of, queue_of, state_of}
 use Rattle.cuectl.specs.declared.script.ending.Ending.{Ending}
 use Rattle.cuectl.specs.declared.script.ending.Ending.TheVariants.{Done, BadLine, BadInput, Failed, Stopped}
-use Rattle.cuectl.specs.Line.{happening_in}
+use Rattle.cuectl.specs.ScriptLines.{happening_in}
 use Rattle.cuectl.specs.Script.{printed}
 
 -- an engine that works and owes nothing

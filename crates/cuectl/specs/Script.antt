@@ -10,7 +10,7 @@ use Rattle.cuectl.specs.declared.script.TheConstants.{SCRIPT_LIMIT}
 use Rattle.cuectl.specs.declared.script.ending.Ending.{Ending}
 use Rattle.cuectl.specs.declared.script.ending.Ending.TheVariants.{Done, BadLine, BadInput, Failed, Stopped}
 use Rattle.cuectl.specs.Endings.{status_of, ending_line}
-use Rattle.cuectl.specs.Line.{lines_of, happening_in}
+use Rattle.cuectl.specs.ScriptLines.{lines_of, happening_in}
 
 -- a datagram that is sent, as a line `> PORT HEX` in lower case
 abbrev pub line_of : ℕ × List ℕ → List ℕ

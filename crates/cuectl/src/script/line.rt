@@ -1,8 +1,8 @@
 // The lines of a script, and what each tells of.
 ghost use Rattle.std.specs.Prelude.{◌≡◌, ℕ, ◌<◌, ◌≤◌, ◌^◌, ◌∷◌, length, IfOk, IfSome};
 ghost use Rattle.std.specs.Option.{option_map};
-ghost use Rattle.cuectl.specs.Line.{lines_of, cut_at, number_in, heading_in, arrival_in, tick_in, happening_in};
-ghost use Rattle.cuectl.specs.LineViews.{cut_view, heading_view, arrival_view, line_view};
+ghost use Rattle.cuectl.specs.ScriptLines.{lines_of, cut_at, number_in, heading_in, arrival_in, tick_in, happening_in};
+ghost use Rattle.cuectl.specs.ScriptViews.{cut_view, heading_view, arrival_view, line_view};
 
 use hex::FromHexError;
 use memchr::memchr;
@@ -89,7 +89,7 @@ fn port_in(digits: &[u8]) -> Option<u16>
     }
 }
 
-#[tactic(auto, unfolding(crate::specs::Line::arrival_in))]
+#[tactic(auto, unfolding(crate::specs::ScriptLines::arrival_in))]
 fn read_arrival(alloc: Global, line: &[u8]) -> Result<Option<Arrival>, AllocError>
     ensures { IfOk result (λ found. option_map arrival_view found ≡ arrival_in line.now) }
 {
@@ -103,7 +103,7 @@ fn read_arrival(alloc: Global, line: &[u8]) -> Result<Option<Arrival>, AllocErro
     }
 }
 
-#[tactic(auto, unfolding(crate::specs::Line::tick_in))]
+#[tactic(auto, unfolding(crate::specs::ScriptLines::tick_in))]
 fn read_tick(line: &[u8]) -> Option<u64>
     ensures { result ≡ tick_in line.now }
 {
@@ -113,7 +113,7 @@ fn read_tick(line: &[u8]) -> Option<u64>
 
 /// Reads a line of a script: `d NOW FROM HEX` is a datagram `HEX`, in hexadecimal digits of either case, that came at
 /// the moment `NOW` from the port `FROM`, `t NOW` a tick, and `x` power loss. `None` where the line has another form.
-#[tactic(auto, unfolding(crate::specs::Line::happening_in))]
+#[tactic(auto, unfolding(crate::specs::ScriptLines::happening_in))]
 pub fn read_line(alloc: Global, line: &[u8]) -> Result<Option<ScriptLine>, AllocError>
     ensures { IfOk result (λ found. option_map line_view found ≡ happening_in line.now) }
 {

@@ -14,8 +14,6 @@ ghost use Rattle.cuectl.specs.Streams.{FailedAs, HasCause};
 
 use cue_disk::MemDisk;
 use cue_engine::Engine;
-use cue_keeper::Keeper;
-use cue_outbox::Queue;
 use ending::{Ending, Failure, StreamFailure};
 use play::play_lines;
 use std::alloc::Global;
@@ -53,11 +51,8 @@ fn play_anew<W: Write>(alloc: Global, text: &[u8], streams: &mut Streams, writer
     ensures wrote { Wrote result empty_state text.now [] (W.contents writer.old) (W.contents writer.new) }
     ensures cause { HasCause result streams.old streams.new }
 {
-    match Keeper::form(alloc, MemDisk::new(alloc), MemDisk::new(alloc)) {
-        Ok(keeper) => {
-            let engine = Engine::over(alloc, keeper, Queue::new(alloc));
-            play_lines(alloc, engine, text, streams, writer)
-        }
+    match Engine::form(alloc, MemDisk::new(alloc), MemDisk::new(alloc)) {
+        Ok(engine) => play_lines(alloc, engine, text, streams, writer),
         Err((fault, _, _)) => Ending::Failed(Failure::Store(fault)),
     }
 }
@@ -73,7 +68,7 @@ fn play_all<R: Read, W: Write>(
     ensures cause { HasCause result streams.old streams.new }
 {
     match read_at_most(alloc, streams, reader, SCRIPT_LIMIT) {
-        Ok(Some(text)) => play_anew(alloc, &text, streams, writer),
+        Ok(Some(text)) => play_anew(alloc, text.as_slice(), streams, writer),
         Ok(None) => Ending::BadInput,
         Err(error) => Ending::Stopped(StreamFailure::of(&error)),
     }

@@ -4,10 +4,12 @@ ghost use Rattle.std.specs.Io.KnownBytes.{Appends};
 ghost use Rattle.cue_core.specs.Steps.{folded};
 ghost use Rattle.cue_outbox.specs.Sending.{datagrams};
 ghost use Rattle.cue_engine.specs.Inputs.{input_view};
-ghost use Rattle.cue_engine.specs.Runs.{took, given_at};
+ghost use Rattle.cue_engine.specs.Runs.{took, recovered, given_at};
 ghost use Rattle.cue_engine.specs.Words.{state_of, queue_of, keeper_of};
+ghost use Rattle.cue_disk.specs.Memory.{memory_bytes};
+ghost use Rattle.cue_keeper.specs.Stands.{Stands};
 ghost use Rattle.cue_keeper.specs.Words.{is_broken};
-ghost use Rattle.cuectl.specs.LineViews.{line_view};
+ghost use Rattle.cuectl.specs.ScriptViews.{line_view};
 ghost use Rattle.cuectl.specs.Playing.{IsReady, IsAfter, Goes, EndsAt, EndsUnheard};
 ghost use Rattle.cuectl.specs.Script.{printed, Wrote};
 ghost use Rattle.cuectl.specs.Streams.{HasCause};
@@ -53,7 +55,6 @@ fn failure_of(fault: Fault) -> Failure {
 
 // Takes what came at a moment.
 fn taken(
-    alloc: Global,
     mut engine: Engine<MemDisk>,
     now: u64,
     input: Input<'_>,
@@ -61,9 +62,34 @@ fn taken(
     requires { IsReady engine }
     ensures { IfOk result (λ next. IsAfter (state_of engine) (took now (input_view input.entry)) next) }
 {
-    match engine.take(alloc, now, input) {
+    match engine.take(now, input) {
         Ok(_) => Ok(engine),
         Err(fault) => refused(engine, failure_of(fault)),
+    }
+}
+
+// What power loss leaves of the two disks: bytes that stand for the engine's state.
+fn crashed(engine: Engine<MemDisk>) -> Result<(MemDisk, MemDisk), AllocError>
+    requires { IsReady engine }
+    ensures { IfOk result (λ left. Stands (memory_bytes left.0) (memory_bytes left.1) (state_of engine)) }
+{
+    let (first, second) = engine.close();
+    let left = first.crash(0, &[])?;
+    let other = second.crash(0, &[])?;
+    Ok((left, other))
+}
+
+// Loses power, and recovers from what that leaves.
+fn recovered(alloc: Global, engine: Engine<MemDisk>) -> Result<Engine<MemDisk>, Failure>
+    requires { IsReady engine }
+    ensures { IfOk result (λ next. IsAfter (state_of engine) recovered next) }
+{
+    match crashed(engine) {
+        Ok((first, second)) => match Engine::recover(alloc, first, second) {
+            Ok(next) => Ok(next),
+            Err((fault, _, _)) => Err(Failure::Store(fault)),
+        },
+        Err(AllocError) => Err(Failure::Store(StoreFault::Memory)),
     }
 }
 
@@ -82,10 +108,10 @@ fn carry_out(
                 from: arrival.from,
                 bytes: arrival.bytes.as_slice(),
             };
-            taken(alloc, engine, arrival.now, input)
+            taken(engine, arrival.now, input)
         }
-        ScriptLine::Tick(now) => taken(alloc, engine, *now, Input::Tick),
-        ScriptLine::PowerLoss => refused(engine, Failure::Broken),
+        ScriptLine::Tick(now) => taken(engine, *now, Input::Tick),
+        ScriptLine::PowerLoss => recovered(alloc, engine),
     }
 }
 

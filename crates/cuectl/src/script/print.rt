@@ -1,6 +1,6 @@
 //! The text of what is sent: a line `> PORT HEX` for each datagram.
 ghost use Rattle.std.specs.Prelude.{◌≡◌, ◌++◌, IfOk, OnOk, string_bytes, map};
-ghost use Rattle.cuectl.specs.LineViews.{sent_view};
+ghost use Rattle.cuectl.specs.ScriptViews.{sent_view};
 ghost use Rattle.cuectl.specs.Script.{line_of, printed};
 
 use cue_engine::Sent;

@@ -1,7 +1,7 @@
 use Rattle.std.specs.Prelude.{◌+◌}
 use Rattle.std.proofs.Common.{sym, arith}
 use Rattle.std.proofs.lemmas.List.{take_rest}
-use Rattle.cuectl.proofs.LineLemmas.{cut_found, cut_nowhere}
+use Rattle.cuectl.proofs.ScriptLineLemmas.{cut_found, cut_nowhere}
 use Rattle.cuectl.proofs.script.line.cut_at.Goals as goal
 
 pub returns-in-Some-clause-cut : goal.returns-in-Some-clause-cut

@@ -1,4 +1,4 @@
-use Rattle.cuectl.proofs.LineLemmas.{lines-found, lines-whole}
+use Rattle.cuectl.proofs.ScriptLineLemmas.{lines-found, lines-whole}
 use Rattle.cuectl.proofs.script.line.first_line.Goals as goal
 
 pub returns-in-Some-clause-line : goal.returns-in-Some-clause-line

@@ -2,7 +2,7 @@ use Rattle.std.specs.Prelude.{◌≡◌, ◌+◌, true, slice_index}
 use Rattle.std.specs.Char.{is_ascii_digit}
 use Rattle.std.proofs.Common.{sym, ◌∙◌, arith}
 use Rattle.std.proofs.lemmas.Int.Digits.{digits_value_more}
-use Rattle.cuectl.proofs.LineLemmas.{number_not, number_large, digits_more, digit_less}
+use Rattle.cuectl.proofs.ScriptLineLemmas.{number_not, number_large, digits_more, digit_less}
 use Rattle.cuectl.proofs.script.line.number_in.Goals as goal
 
 pub returns-then-not-is_ascii_digit-clause-number : goal.returns-then-not-is_ascii_digit-clause-number

@@ -1,6 +1,6 @@
 use Rattle.std.proofs.Common.{sym}
 use Rattle.cue_engine.specs.Words.{state_of}
-use Rattle.cuectl.specs.LineViews.{line_view}
+use Rattle.cuectl.specs.ScriptViews.{line_view}
 use Rattle.cuectl.proofs.ScriptLemmas.{goes_behind, ends_behind}
 use Rattle.cuectl.proofs.script.play.play_line.Goals as goal
 

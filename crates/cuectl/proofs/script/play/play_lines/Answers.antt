@@ -3,7 +3,7 @@ use Rattle.std.proofs.Common.{refl, ◌∙◌, subst}
 use Rattle.cue_engine.specs.Words.{state_of}
 use Rattle.cuectl.specs.Streams.{HasCause}
 use Rattle.cuectl.specs.declared.script.stream.Streams.{Streams}
-use Rattle.cuectl.proofs.LineLemmas.{lines-none}
+use Rattle.cuectl.proofs.ScriptLineLemmas.{lines-none}
 use Rattle.cuectl.proofs.ScriptLemmas.{running_first, running_more, ran, ran_until}
 use Rattle.cuectl.proofs.script.play.play_lines.Goals as goal
 

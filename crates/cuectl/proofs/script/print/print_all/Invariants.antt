@@ -1,5 +1,5 @@
 use Rattle.std.specs.Prelude.{◌≡◌, map, take}
-use Rattle.cuectl.specs.LineViews.{sent_view}
+use Rattle.cuectl.specs.ScriptViews.{sent_view}
 use Rattle.cuectl.specs.Script.{printed}
 use Rattle.cuectl.proofs.script.print.print_all.Given as goal
 

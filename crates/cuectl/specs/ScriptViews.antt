@@ -3,7 +3,7 @@ use Rattle.std.specs.Prelude.{ℕ, List}
 use Rattle.std.specs.Borrow.{Bor}
 use Rattle.cue_engine.specs.declared.mem_wire.Sent.{Sent}
 use Rattle.cue_engine.specs.Runs.{Happening, recovered}
-use Rattle.cuectl.specs.Line.{Arrived, arrives, ticks}
+use Rattle.cuectl.specs.ScriptLines.{Arrived, arrives, ticks}
 use Rattle.cuectl.specs.declared.script.line.Arrival.{Arrival}
 use Rattle.cuectl.specs.declared.script.line.ScriptLine.{ScriptLine}
 use Rattle.cuectl.specs.declared.script.line.ScriptLine.TheVariants.{Datagram, Tick, PowerLoss}

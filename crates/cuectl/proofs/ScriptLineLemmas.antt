@@ -11,7 +11,7 @@ use Rattle.std.proofs.lemmas.List.{take_more}
 use Rattle.std.proofs.lemmas.List.Recursion.{and_fails_at, and_push}
 use Rattle.std.proofs.lemmas.Str.{digit_value_digit}
 use Rattle.std.proofs.lemmas.Str.Parse.{digits_value-take-le, tells_all_ascii_digits}
-use Rattle.cuectl.specs.Line.{number_in, lines_of, cut_at, before_front}
+use Rattle.cuectl.specs.ScriptLines.{number_in, lines_of, cut_at, before_front}
 
 no_mark : (b : Bool) → ¬ (b ≡ true) → b ≡ false
 no_mark true h = absurd (h refl)

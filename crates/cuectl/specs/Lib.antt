@@ -1,3 +1,9 @@
+pub mod Endings
 pub mod Lines
+pub mod Playing
+pub mod Script
+pub mod ScriptLines
+pub mod ScriptViews
 pub mod Sources
+pub mod Streams
 pub mod Udp

@@ -62,17 +62,17 @@ each_holds pass test f (a ∷ live) = at (pass a) refl (all_from (λ b. holds b.
     at true e h = join (holds a.seq test (a ∷ live)) (list_all (λ x. holds x.seq test (a ∷ live)) (filter pass live)) (rw (same_self a.seq, f a e) refl) h
     at false e h = h
 
-cancels-acceptable : (pass : Attempt → Bool) (r : Reason) (s : Standing) → ((a : Attempt) → IsTrue (pass a) → IsTrue (is_preparing a.stage)) → IsTrue (rising s.live) → IsTrue (are_acceptable s (cancels pass r s))
+pub cancels-acceptable : (pass : Attempt → Bool) (r : Reason) (s : Standing) → ((a : Attempt) → IsTrue (pass a) → IsTrue (is_preparing a.stage)) → IsTrue (rising s.live) → IsTrue (are_acceptable s (cancels pass r s))
 cancels-acceptable pass r s f h = in_turn r (filter pass s.live) s (pairwise_filter (λ a b. nat_lt a.seq b.seq) pass s.live h) (each_holds pass (λ a. is_preparing a.stage) f s.live)
 
 -- events that are acceptable in turn carry a history on
-history-onto : (es past : List Event) → IsTrue (is_history past) → IsTrue (are_acceptable (state_of past) es) → IsTrue (is_history (onto es past))
+pub history-onto : (es past : List Event) → IsTrue (is_history past) → IsTrue (are_acceptable (state_of past) es) → IsTrue (is_history (onto es past))
 history-onto [] past h g = h
 history-onto (e ∷ es) past h g =
     let p = both (acceptable (state_of past) e) (are_acceptable (after (state_of past) e) es) g in
     history-onto es (e ∷ past) (join (acceptable (state_of past) e) (is_history past) p.0 h) p.1
 
-events-acceptable : (past : List Event) (x : Happening) → IsTrue (is_history past) → IsTrue (can_come x) → IsTrue (are_acceptable (state_of past) (events_at (state_of past) x))
+pub events-acceptable : (past : List Event) (x : Happening) → IsTrue (is_history past) → IsTrue (can_come x) → IsTrue (are_acceptable (state_of past) (events_at (state_of past) x))
 events-acceptable past (commanded now from c) h fit = judged-acceptable (state_of past) now from c (is_state-history past h) fit
 events-acceptable past (ticked now) h fit = cancels-acceptable (is_due now) Deadline (state_of past) (λ a k. (both (is_preparing a.stage) (nat_le a.deadline now) k).0) (sound_of (state_of past) (is_state-history past h)).rises
 events-acceptable past recovered h fit = cancels-acceptable is_undecided Power (state_of past) (λ a k. k) (sound_of (state_of past) (is_state-history past h)).rises

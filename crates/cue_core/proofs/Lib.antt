@@ -12,3 +12,7 @@ pub mod Safety
 pub mod ReplyLaws
 pub mod Commute
 pub mod Folding
+pub mod Tests
+pub mod Closing
+pub mod Batches
+pub mod Resting

@@ -27,7 +27,7 @@ use Rattle.cue_core.proofs.Sound.{is_state-history, sound-history, kept-history}
 use Rattle.cue_core.proofs.Facts.{facts-by-history, go-after-ready, told_of}
 
 -- an order of an attempt that passes says of what stage the attempt is
-order_says : (pick : Order → Bool) (stage : Stage → Bool) (q : ℕ) → ((t : Stage) (p e : ℕ) (c b : List ℕ) → IsTrue (pick (order_at t p e c b)) → IsTrue (nat_eq p q && stage t))
+pub order_says : (pick : Order → Bool) (stage : Stage → Bool) (q : ℕ) → ((t : Stage) (p e : ℕ) (c b : List ℕ) → IsTrue (pick (order_at t p e c b)) → IsTrue (nat_eq p q && stage t))
     → (s : Standing) (a : Attempt) (xs : List DeviceAnswer) → IsTrue (list_any (λ (o : ℕ × Order). pick o.1) (filter_map (order_for s a) xs)) → IsTrue (nat_eq a.seq q && stage a.stage)
 order_says pick stage q f s a [] h = cc
 order_says pick stage q f s a (x ∷ xs) h = at (waits x) h (order_says pick stage q f s a xs)
@@ -41,7 +41,7 @@ order_says pick stage q f s a (x ∷ xs) h = at (waits x) h (order_says pick sta
     at true h g = told (pick (order_at a.stage a.seq x.device a.cue (bytes_for x.device (cue_parts s.show a.cue)))) (list_any (λ (o : ℕ × Order). pick o.1) (filter_map (order_for s a) xs)) (f a.stage a.seq x.device a.cue (bytes_for x.device (cue_parts s.show a.cue))) g h
     at false h g = g h
 
-any_append : {A : Type 0} (P : A → Bool) (xs ys : List A) → list_any P (xs ++ ys) ≡ (list_any P xs || list_any P ys)
+pub any_append : {A : Type 0} (P : A → Bool) (xs ys : List A) → list_any P (xs ++ ys) ≡ (list_any P xs || list_any P ys)
 any_append P [] ys = refl
 any_append P (x ∷ xs) ys = at (P x) (any_append P xs ys)
   where
@@ -50,7 +50,7 @@ any_append P (x ∷ xs) ys = at (P x) (any_append P xs ys)
     at false e = e
 
 -- so does one of the pending orders
-pending_says : (pick : Order → Bool) (stage : Stage → Bool) (q : ℕ) → ((t : Stage) (p e : ℕ) (c b : List ℕ) → IsTrue (pick (order_at t p e c b)) → IsTrue (nat_eq p q && stage t))
+pub pending_says : (pick : Order → Bool) (stage : Stage → Bool) (q : ℕ) → ((t : Stage) (p e : ℕ) (c b : List ℕ) → IsTrue (pick (order_at t p e c b)) → IsTrue (nat_eq p q && stage t))
     → (s : Standing) (live : List Attempt) → IsTrue (list_any (λ (o : ℕ × Order). pick o.1) (flat_map (λ a. filter_map (order_for s a) a.answers) live)) → IsTrue (holds q (λ a. stage a.stage) live)
 pending_says pick stage q f s [] h = h
 pending_says pick stage q f s (a ∷ live) h =
@@ -69,12 +69,12 @@ pending_says pick stage q f s (a ∷ live) h =
     at true c g k m = first (nat_eq a.seq q && stage a.stage) (holds q (λ x. stage x.stage) live) (g refl)
     at false c g k m = later (nat_eq a.seq q && stage a.stage) (holds q (λ x. stage x.stage) live) (k m)
 
-go_says : (q d : ℕ) (t : Stage) (p e : ℕ) (c b : List ℕ) → IsTrue (is_go_to q d (order_at t p e c b)) → IsTrue (nat_eq p q && is_decided t)
+pub go_says : (q d : ℕ) (t : Stage) (p e : ℕ) (c b : List ℕ) → IsTrue (is_go_to q d (order_at t p e c b)) → IsTrue (nat_eq p q && is_decided t)
 go_says q d Preparing p e c b h = cc
 go_says q d Decided p e c b h = join (nat_eq p q) true (both (nat_eq p q) (nat_eq e d) h).0 refl
 go_says q d (Cancelling r) p e c b h = cc
 
-cancel_says : (q d : ℕ) (t : Stage) (p e : ℕ) (c b : List ℕ) → IsTrue (is_cancel_to q d (order_at t p e c b)) → IsTrue (nat_eq p q && is_cancelling t)
+pub cancel_says : (q d : ℕ) (t : Stage) (p e : ℕ) (c b : List ℕ) → IsTrue (is_cancel_to q d (order_at t p e c b)) → IsTrue (nat_eq p q && is_cancelling t)
 cancel_says q d Preparing p e c b h = cc
 cancel_says q d Decided p e c b h = cc
 cancel_says q d (Cancelling r) p e c b h = join (nat_eq p q) true (both (nat_eq p q) (nat_eq e d) h).0 refl

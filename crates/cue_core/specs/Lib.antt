@@ -10,3 +10,4 @@ pub mod Happenings
 pub mod Replies
 pub mod Pending
 pub mod Safety
+pub mod Batches

@@ -1,5 +1,8 @@
 //! The laws of the exchange: what holds of every list of events and of every list of commands. Each is the contract of a function that
 //! does nothing.
+ghost use Rattle.std.specs.Prelude.{◌≡◌};
+ghost use Rattle.cue_core.specs.declared.limits.TheConstants.{STANDBY_MS};
+ghost use Rattle.cue_core.specs.Batches.{AcceptableAreHistories, ClosedStays, DecidedByGo, EventsKeepRules, HistoriesFold, LiveByStart};
 ghost use Rattle.cue_core.specs.History.{FactsByHistory};
 ghost use Rattle.cue_core.specs.Happenings.{CommandsInOrder, CommandsMakeHistories};
 ghost use Rattle.cue_core.specs.Order.{GoAfterReady};
@@ -54,4 +57,39 @@ pub fn replies_leave_others()
 /// order.
 pub fn replies_commute()
     ensures { RepliesCommute }
+{}
+
+/// Closing twice is closing once: a state whose undecided attempts were cancelled has none left.
+pub fn closed_stays()
+    ensures { ClosedStays }
+{}
+
+/// The state that a history leads to is that of its events in turn.
+pub fn histories_fold()
+    ensures { HistoriesFold }
+{}
+
+/// Events that are acceptable in turn from the empty state are a history: so each law on histories holds of them.
+pub fn acceptable_are_histories()
+    ensures { AcceptableAreHistories }
+{}
+
+/// Events that are acceptable in turn keep the rules of a state.
+pub fn events_keep_rules()
+    ensures { EventsKeepRules }
+{}
+
+/// An attempt that is live after events was live before, or its Start is one of them.
+pub fn live_by_start()
+    ensures { LiveByStart }
+{}
+
+/// An attempt that is Decided after events was Decided before, or its Go is one of them.
+pub fn decided_by_go()
+    ensures { DecidedByGo }
+{}
+
+/// The limit, as a number: a device has 10 seconds to stand by.
+pub fn limits()
+    ensures { STANDBY_MS ≡ 10000 }
 {}

@@ -4,3 +4,4 @@ pub mod DeviceRules
 pub mod LiveRules
 pub mod LookUps
 pub mod PlaceRules
+pub mod HolderRules

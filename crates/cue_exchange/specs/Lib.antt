@@ -1,3 +1,4 @@
 pub mod Answers
 pub mod Live
 pub mod Steps
+pub mod Holders

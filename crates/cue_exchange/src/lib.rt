@@ -3,8 +3,15 @@
 
 pub mod answers;
 pub mod attempt;
+mod holders;
+pub mod laws;
 pub mod limits;
 pub mod live;
 mod steps;
+
+pub use answers::Answers;
+pub use attempt::{Answer, Attempt, DeviceAnswer, Outcome, Reason, Stage};
+pub use live::Live;
+
 #[cfg(test)]
 mod tests;

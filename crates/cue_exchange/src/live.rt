@@ -9,6 +9,7 @@ ghost use Rattle.cue_exchange.specs.Live.{are_live, are_sound_devices, attempt_o
 ghost use Rattle.cue_exchange.specs.Steps.{answered, are_below, are_free, can_cancel, can_done, can_fail, can_go, can_let_go, can_put, can_ready, can_start, ended_in, has_room, is_apart, moved, started, with_attempt, without_ended};
 
 use crate::attempt::{Answer, Attempt, Outcome, Reason, Stage, is_number};
+use crate::holders::{Holders, holders_of, no_holders};
 use crate::limits::MAX_LIVE;
 use crate::steps;
 use cue_show::{CueNo, DeviceNo, Part, Parts};
@@ -21,6 +22,8 @@ use std::marker::Model;
 #[derive(Debug, Drop)]
 pub struct Live {
     attempts: Vec<Attempt>,
+    // Which attempt each device is in; it follows each change of `attempts` that changes their devices.
+    holders: Holders,
 }
 
 impl Model for Live {
@@ -30,10 +33,11 @@ impl Model for Live {
     ghost Value = { List Attempt };
 
     ghost use Rattle.cue_exchange.specs.Live.{are_live};
+    ghost use Rattle.cue_exchange.specs.Holders.{AreHolders};
 
     ghost view = { λ l. l.attempts.items };
 
-    ghost invariant = { λ l. IsTrue (are_live l.attempts.items) };
+    ghost invariant = { λ l. record { live : IsTrue (are_live l.attempts.items); holders : AreHolders l.holders l.attempts.items } };
 }
 
 impl Live {
@@ -43,6 +47,7 @@ impl Live {
     {
         Live {
             attempts: Vec::new(alloc),
+            holders: no_holders(),
         }
     }
 
@@ -87,7 +92,8 @@ impl Live {
     pub fn of_device(&self, device: DeviceNo) -> Option<&Attempt>
         ensures { option_copied result ≡ attempt_of_device self.now device }
     {
-        self.attempts.iter().find(|a| a.answers.has_device(device))
+        // No attempt has the number 0, which stands for none.
+        self.of_seq(self.holders[usize::from(device.number())])
     }
 
     /// The attempt at the cue.
@@ -111,6 +117,7 @@ impl Live {
     {
         Ok(Live {
             attempts: self.attempts.clone()?,
+            holders: self.holders,
         })
     }
 
@@ -234,6 +241,7 @@ impl Live {
     {
         let place = steps::place_of(&self.attempts, attempt.seq);
         self.attempts.insert(place, attempt)?;
+        self.holders = holders_of(&self.attempts);
         Ok(())
     }
 
@@ -258,6 +266,7 @@ impl Live {
             stage: Stage::Preparing,
             answers,
         })?;
+        self.holders = holders_of(&self.attempts);
         Ok(())
     }
 
@@ -292,7 +301,9 @@ impl Live {
         ensures live { self.new ≡ without_ended seq (answered seq device answer.Done self.old) }
         ensures outcome { result ≡ ended_in seq (answered seq device answer.Done self.old) }
     {
-        steps::settle(&mut self.attempts, seq, device, Answer::Done)
+        let outcome = steps::settle(&mut self.attempts, seq, device, Answer::Done);
+        self.holders = holders_of(&self.attempts);
+        outcome
     }
 
     /// The device has given the preparation up. Where it was the last to answer, the attempt ends, and the result is how it
@@ -302,7 +313,9 @@ impl Live {
         ensures live { self.new ≡ without_ended seq (answered seq device answer.LetGo self.old) }
         ensures outcome { result ≡ ended_in seq (answered seq device answer.LetGo self.old) }
     {
-        steps::settle(&mut self.attempts, seq, device, Answer::LetGo)
+        let outcome = steps::settle(&mut self.attempts, seq, device, Answer::LetGo);
+        self.holders = holders_of(&self.attempts);
+        outcome
     }
 
     /// The device cannot go on. Where it was the last to answer, the attempt ends, and the result is how it ended. Asked
@@ -312,7 +325,9 @@ impl Live {
         ensures live { self.new ≡ without_ended seq (answered seq device answer.Failed self.old) }
         ensures outcome { result ≡ ended_in seq (answered seq device answer.Failed self.old) }
     {
-        steps::settle(&mut self.attempts, seq, device, Answer::Failed)
+        let outcome = steps::settle(&mut self.attempts, seq, device, Answer::Failed);
+        self.holders = holders_of(&self.attempts);
+        outcome
     }
 }
 

@@ -1,0 +1,5 @@
+use Rattle.cue_core.proofs.Batches.{state-onto}
+use Rattle.cue_core.proofs.laws.histories_fold.Goals as goal
+
+pub returns : goal.returns
+returns c = state-onto

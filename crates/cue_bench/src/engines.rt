@@ -5,7 +5,8 @@ use cue_disk::MemDisk;
 use cue_engine::{Engine, Input, Wire, WireFault};
 use std::alloc::AllocGlobal;
 use std::io;
-use std::rt::{Clock, Print};
+use std::io::Print;
+use std::time::Clock;
 
 // A wire that forgets.
 #[derive(Drop)]

@@ -10,7 +10,8 @@ use cue_pattern::Pattern;
 use cue_show::DeviceNo;
 use std::alloc::{AllocGlobal, Global};
 use std::io;
-use std::rt::{Clock, Print};
+use std::io::Print;
+use std::time::Clock;
 
 const STANDBY: &[u8] =
     b"/msc/standby\0\0\0\0,iisb\0\0\0\0\0\0\x01\0\0\0\x031\0\0\0\0\0\0\x02\x0a\x0b\0\0";

@@ -1,8 +1,8 @@
 //! How long one call takes: the best and the median of several rounds.
 use std::alloc::AllocGlobal;
 use std::io;
-use std::rt::{Clock, Print};
-use std::time::Instant;
+use std::io::Print;
+use std::time::{Clock, Instant};
 
 /// How often all is measured.
 const ROUNDS: usize = 7;

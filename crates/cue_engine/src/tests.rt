@@ -21,6 +21,8 @@ enum Step {
     Fails(u64, u16, &'static [u8], Fault),
     /// A tick at a moment, and how many attempts it cancelled.
     Ticks(u64, u16),
+    /// The k-th send from now is refused.
+    Refuses(u64),
     /// A reply comes next: to a port, for an address, with four numbers.
     Answers(u16, &'static [u8], [u32; 4]),
     /// This datagram comes next.
@@ -35,11 +37,12 @@ struct Disks {
     second: MemDisk,
 }
 
-// What was handed over, and how much of it was looked at.
+// What was handed over, how much of it was looked at, and how many sends are to be refused next.
 #[derive(Drop)]
 struct Told {
     wire: MemWire,
     seen: usize,
+    refused: u64,
 }
 
 // A reply, as OSC 1.0 has it: its own address, the type tags, the text that is answered and four numbers.
@@ -110,6 +113,12 @@ fn fail(rt: &impl Abort, engine: &mut Engine<MemDisk>, now: u64, input: Input<'_
     assert_eq!(rt; engine.queue().len(), owed);
 }
 
+// Hands over what is owed, also what the wire refuses.
+fn hand_out(rt: &impl Abort, engine: &mut Engine<MemDisk>, told: &mut Told) {
+    assert_eq!(rt; engine.hand_out(&mut told.wire), told.refused);
+    told.refused = 0;
+}
+
 fn carry_out(
     rt: &impl Abort,
     alloc: Global,
@@ -122,7 +131,7 @@ fn carry_out(
             assert!(rt; is_seen(told));
             let from = *from;
             take(rt, engine, *now, Input::Datagram { from, bytes }, counts);
-            engine.hand_out(&mut told.wire);
+            hand_out(rt, engine, told);
         }
         Step::Keeps(now, from, bytes, counts) => {
             let from = *from;
@@ -134,7 +143,11 @@ fn carry_out(
         }
         Step::Ticks(now, made) => {
             take(rt, engine, *now, Input::Tick, &[*made, 0, 0]);
-            engine.hand_out(&mut told.wire);
+            hand_out(rt, engine, told);
+        }
+        Step::Refuses(k) => {
+            told.wire.refuse(*k);
+            told.refused = 1;
         }
         Step::Answers(to, address, numbers) => {
             expect(rt, told, *to, &reply(alloc, address, numbers)?)?;
@@ -155,8 +168,9 @@ fn follow(
     let mut told = Told {
         wire: MemWire::new(alloc),
         seen: 0,
+        refused: 0,
     };
-    engine.hand_out(&mut told.wire);
+    hand_out(rt, engine, &mut told);
     for steps in parts {
         for step in *steps {
             carry_out(rt, alloc, engine, &mut told, step)?;

@@ -34,6 +34,7 @@ impl<D: Disk> Engine<D> {
         ensures empty { D.is_honest first → D.is_honest second → OnOk result (NeitherHas (D.held first).bytes (D.held second).bytes) }
         ensures not_empty { D.is_honest first → D.is_honest second → RefusedAs StoreFault.NotEmpty (SomeIsThere (D.held first).bytes (D.held second).bytes) result }
         ensures first_kept { D.is_honest first → RefusedAs StoreFault.NotEmpty (LeavesOnly D.moment D.held_at first (first_after first_of result) (IsImage (D.held first))) result }
+        ensures first_bytes { D.is_honest first → RefusedAs StoreFault.NotEmpty ((D.held (first_after first_of result)).bytes ≡ (D.held first).bytes) result }
         ensures memory { RefusedAs StoreFault.Memory ((first_after first_of result ≡ first) × (second_after second_of result ≡ second)) result }
         ensures disk { RefusedAs StoreFault.Disk (MoreFailures (D.failures first) (D.failures (first_after first_of result)) ⊎ MoreFailures (D.failures second) (D.failures (second_after second_of result))) result }
         ensures no_other { RefusedAs StoreFault.Unformed ⊥ result × RefusedAs StoreFault.Damaged ⊥ result × RefusedAs StoreFault.Version ⊥ result × RefusedAs StoreFault.Malformed ⊥ result × RefusedAs StoreFault.Full ⊥ result × RefusedAs StoreFault.Exhausted ⊥ result }
@@ -41,6 +42,9 @@ impl<D: Disk> Engine<D> {
         // Up to the barrier a stop leaves what one at entry might have left, from then on no area or the first state.
         ensures any_moment { D.is_honest first → D.is_honest second → AfterBarrier D.moment D.held_at first second (first_after first_of result) (second_after second_of result)
             (IsUnformedOrStands empty_state (D.held first) (D.held second)) }
+        // The second disk is synced, and no more.
+        ensures second_kept { D.is_honest second → LeavesOnly D.moment D.held_at second (second_after second_of result) (IsImage (D.held second)) }
+        ensures second_bytes { D.is_honest second → (D.held (second_after second_of result)).bytes ≡ (D.held second).bytes }
         ensures first_failures { D.failures first ≤ D.failures (first_after first_of result) }
         ensures second_failures { D.failures second ≤ D.failures (second_after second_of result) }
         ensures first_honest { D.is_honest (first_after first_of result) ↔ D.is_honest first }

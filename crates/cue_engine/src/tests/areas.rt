@@ -233,22 +233,27 @@ fn turning_over(rt: HostRuntime) -> Result<(), Fail> {
     Ok(())
 }
 
+// Recovers a show from two disks, and closes it.
+fn recover(alloc: Global, disks: Disks) -> Result<Disks, StoreFault> {
+    let Disks { first, second } = disks;
+    match Engine::recover(alloc, first, second) {
+        Err((fault, _, _)) => Err(fault),
+        Ok(engine) => {
+            let (first, second) = engine.close();
+            Ok(Disks { first, second })
+        }
+    }
+}
+
 // Why two disks with these bytes are not recovered, and not formed.
 fn refused(
     alloc: Global,
     first: &[u8],
     second: &[u8],
 ) -> Result<[Option<StoreFault>; 2], AllocError> {
-    let disks = stored(alloc, first, second)?;
-    let recovered = match Engine::recover(alloc, disks.first, disks.second) {
-        Err((fault, _, _)) => Some(fault),
-        Ok(engine) => {
-            engine.close();
-            None
-        }
-    };
-    let disks = stored(alloc, first, second)?;
-    let formed = form(alloc, disks.first, disks.second).err();
+    let recovered = recover(alloc, stored(alloc, first, second)?).err();
+    let Disks { first, second } = stored(alloc, first, second)?;
+    let formed = form(alloc, first, second).err();
     Ok([recovered, formed])
 }
 

@@ -153,6 +153,11 @@ const BEFORE_DEADLINE: [Step; 1] = [Step::Ticks(10999, 0)];
 
 const DEADLINE: [Step; 1] = [Step::Ticks(11000, 1)];
 
+// The second send is refused: a tick sends what is pending again.
+const REFUSED: [Step; 1] = [Step::Refuses(2)];
+
+const TICK: [Step; 1] = [Step::Ticks(1001, 0)];
+
 // The clock at its end.
 const CLOCK: [Step; 4] = [
     Step::Hears(18446744073709551615, 8000, STANDBY_1, [0, 0, 1]),
@@ -161,36 +166,53 @@ const CLOCK: [Step; 4] = [
     Step::Answers(8000, b"/cue/1/standby", [1, 0, 0, 0]),
 ];
 
+// The records of an attempt that its device aborts, and of one that is given up at once.
+const ABORTED: &[u8] = b"\0\x02\x0a\0\0\0\x01\x03\x0c\0\0\0\x01\x03\0";
+
+const STARTED_AND_CANCELLED: &[u8] =
+    b"\0\x02\x06\0\0\0\x01\x011\0\0\0\0\0\0\x2a\xf8\x0a\0\0\0\x01\x01\0";
+
 #[test]
 fn attempts(rt: HostRuntime) -> Result<(), Fail> {
     let alloc = rt.alloc();
-    let rows: [&[&[Step]]; 6] = [
-        &[
-            &SHOW,
-            &STANDBY,
-            &STANDBYS,
-            &ONE_READY,
-            &OTHER_READY,
-            &GO,
-            &GOES,
-            &COMPLETE,
-        ],
-        &[&SHOW, &STANDBY, &STANDBYS, &ONE_READY, &NOT_READY],
-        &[&SHOW, &ABORT],
-        &[&SHOW, &GIVEN_UP, &CANCELS],
-        &[
-            &SHOW,
-            &STANDBY,
-            &STANDBYS,
-            &BEFORE_DEADLINE,
-            &STANDBYS,
-            &DEADLINE,
-            &CANCELS,
-        ],
-        &[&SHOW, &CLOCK, &STANDBYS],
+    let rows: [(&[&[Step]], &[u8]); 7] = [
+        (
+            &[
+                &SHOW,
+                &STANDBY,
+                &STANDBYS,
+                &ONE_READY,
+                &OTHER_READY,
+                &GO,
+                &GOES,
+                &COMPLETE,
+            ],
+            b"",
+        ),
+        (&[&SHOW, &STANDBY, &STANDBYS, &ONE_READY, &NOT_READY], b""),
+        (&[&SHOW, &ABORT], ABORTED),
+        (&[&SHOW, &GIVEN_UP, &CANCELS], STARTED_AND_CANCELLED),
+        (
+            &[
+                &SHOW,
+                &STANDBY,
+                &STANDBYS,
+                &BEFORE_DEADLINE,
+                &STANDBYS,
+                &DEADLINE,
+                &CANCELS,
+            ],
+            b"",
+        ),
+        (&[&SHOW, &CLOCK, &STANDBYS], b""),
+        (
+            &[&SHOW, &REFUSED, &STANDBY, &STANDBYS, &TICK, &STANDBYS],
+            b"",
+        ),
     ];
-    for row in rows {
-        show(&rt, alloc, row)?;
+    for (row, end) in rows {
+        let disks = show(&rt, alloc, row)?;
+        assert!(rt; disks.first.bytes().ends_with(end));
     }
     Ok(())
 }

@@ -1,5 +1,7 @@
 //! Laws of every datagram and every packet, each the contract of a function that does nothing.
 
+ghost use Rattle.std.specs.Prelude.{◌≡◌};
+ghost use Rattle.cue_osc.specs.declared.packet.TheConstants.{MAX_DEPTH, MAX_LEN};
 ghost use Rattle.cue_osc.specs.Laws.{ReadingIsTheGrammar, OnePacket, WrittenIsSpelled, WrittenIsRead, MessagesHaveAddresses, MemoryIsNoFault};
 
 /// Reading from front to back finds a packet exactly where the grammar has one, and that one.
@@ -31,4 +33,10 @@ pub fn messages_have_addresses()
 /// Whatever bytes come, `Fault::Memory` is not what is wrong with them.
 pub fn memory_is_no_fault()
     ensures { MemoryIsNoFault }
+{}
+
+/// The limits, as numbers: a datagram has at most 4,096 bytes, and at most 8 bundles stand one in the other.
+pub fn limits()
+    ensures bytes { MAX_LEN ≡ 4096 }
+    ensures depth { MAX_DEPTH ≡ 8 }
 {}

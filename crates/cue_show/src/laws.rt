@@ -1,4 +1,6 @@
 //! What the definitions of this crate come to, in other words. Each contract is a theorem; there is nothing to run.
+ghost use Rattle.std.specs.Prelude.{◌≡◌};
+ghost use Rattle.cue_show.specs.declared.limits.TheConstants.{LAST_DEVICE, LAST_PORT, MAX_CUE_BYTES, MAX_CUES, MAX_DEVICES, MAX_PART_BYTES, MAX_PARTS};
 ghost use Rattle.cue_show.specs.Laws.{CueNumbersAreRunsJoinedByPoints, FollowingStandsBehind, RemovalsKeepTheOrder};
 
 /// A text is a cue number exactly where it has at most 16 bytes and is one run of digits or more, with single points between them.
@@ -14,4 +16,16 @@ pub fn following_stands_behind()
 /// Taking a device or a cue out leaves all others, in their order.
 pub fn removals_keep_the_order()
     ensures { RemovalsKeepTheOrder }
+{}
+
+/// The limits, as numbers: 112 devices from 0 to 111 with ports to 65,535, 256 cues with numbers of at most 16 bytes, and 16 parts of at
+/// most 32 bytes.
+pub fn limits()
+    ensures last_device { LAST_DEVICE ≡ 111 }
+    ensures devices { MAX_DEVICES ≡ 112 }
+    ensures last_port { LAST_PORT ≡ 65535 }
+    ensures cue_bytes { MAX_CUE_BYTES ≡ 16 }
+    ensures cues { MAX_CUES ≡ 256 }
+    ensures parts { MAX_PARTS ≡ 16 }
+    ensures part_bytes { MAX_PART_BYTES ≡ 32 }
 {}

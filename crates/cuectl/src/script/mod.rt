@@ -4,6 +4,8 @@ pub mod line;
 pub mod play;
 pub mod print;
 pub mod stream;
+#[cfg(test)]
+mod tests;
 
 ghost use Rattle.std.specs.Prelude.{◌≡◌, ◌≢◌, ◌≤◌, IfOk, IfErr, OnOk, IfSome, MatchOption, [], length, ◌<◌, ◌-◌, ◌^◌};
 ghost use Rattle.std.specs.Io.KnownBytes.{Appends};

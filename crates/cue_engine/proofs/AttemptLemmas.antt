@@ -232,10 +232,10 @@ asked_before test past (x ∷ hs) h =
     let rest : P next = subst P (state-onto g.batch past) (asked_before test (onto g.batch past) hs) in
     let Q : Standing → Type 0 = λ s. asks test s ≡ true in
     let first : list_any p g.sends ≡ true → ever (asks test) (onto (joined (run next hs).batches) (onto g.batch past)) ≡ true =
-        λ k. ever_onto (asks test) (joined (run next hs).batches) (onto g.batch past) (ever_now (asks test) (onto g.batch past) (subst Q (sym (state-onto g.batch past)) (sent_asks test (state_of past) x k))) in
+    λ k. ever_onto (asks test) (joined (run next hs).batches) (onto g.batch past) (ever_now (asks test) (onto g.batch past) (subst Q (sym (state-onto g.batch past)) (sent_asks test (state_of past) x k))) in
     let R : List Event → Type 0 = λ xs. ever (asks test) xs ≡ true in
     let split : onto (joined (run next hs).batches) (onto g.batch past) ≡ onto (joined (with_batch g.batch (run next hs).batches)) past =
-        sym (onto-append g.batch (joined (run next hs).batches) past) ∙ ap (λ xs. onto xs past) (sym (joined-with g.batch (run next hs).batches)) in
+    sym (onto-append g.batch (joined (run next hs).batches) past) ∙ ap (λ xs. onto xs past) (sym (joined-with g.batch (run next hs).batches)) in
     subst R split (either (list_any p g.sends) (list_any p (run next hs).sends) _ first rest (sym (any-append p g.sends (run next hs).sends) ∙ h))
 
 not_both : (a b c d : Bool) → (a ≡ true → c ≡ true) → (b ≡ true → d ≡ true) → not (c && d) ≡ true → not (a && b) ≡ true

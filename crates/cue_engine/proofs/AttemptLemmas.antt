@@ -19,7 +19,7 @@ use Rattle.cue_outbox.specs.Sending.{Send, order, all_pending}
 use Rattle.cue_engine.specs.Given.{Given}
 use Rattle.cue_engine.specs.Runs.{Happening, run, joined, given_at, with_batch}
 use Rattle.cue_engine.specs.Attempts.{accepted, IsDecidedInOrder, DecidedInOrder, NumberNamesOne, is_command, was_sent, NeverSentBoth}
-use Rattle.cue_engine.proofs.Tests.{or_left, or_right, either, itself, same, any-append, any-mapped, all_implied}
+use Rattle.cue_engine.proofs.Truth.{or_left, or_right, either, itself, same, any-append, any-mapped, all_implied}
 use Rattle.cue_engine.proofs.Histories.{state-onto, onto-append, inputs_make_histories, inputs_in_order}
 use Rattle.cue_engine.proofs.Resting.{joined-with}
 use Rattle.cue_engine.proofs.SentLemmas.{Each, HoldsElsewhere, happening-each}

@@ -23,7 +23,7 @@ use Rattle.cue_outbox.proofs.Writable.{IsWritableOrder, all_writable}
 use Rattle.cue_engine.specs.Given.{Given}
 use Rattle.cue_engine.specs.Runs.{Happening, run, joined, given_at, is_live_in, is_decided_in, order_rests, send_rests, rests}
 use Rattle.cue_engine.specs.InBytes.{AreReadAs, BytesRest, BytesOfEachRest}
-use Rattle.cue_engine.proofs.Tests.{itself}
+use Rattle.cue_engine.proofs.Truth.{itself}
 use Rattle.cue_engine.proofs.Histories.{state-folded, happening-ok}
 use Rattle.cue_engine.proofs.Resting.{each_rests}
 use Rattle.cue_engine.proofs.SentLemmas.{Each, HoldsElsewhere, happening-each}

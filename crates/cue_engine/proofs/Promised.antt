@@ -1,24 +1,31 @@
 -- Whatever happens to a store, whole batches are kept, and what was handed over rests on them.
-use Rattle.std.proofs.Common.{◌≡◌, ◌⊎◌, inl, inr, ℕ, zero, suc, Bool, true, false, ◌&&◌, List, [], ◌∷◌, ◌++◌, take, refl, sym, ap, ◌∙◌, subst, append_assoc, append-nil}
-use Rattle.std.specs.List.{list_all}
+use Rattle.std.proofs.Common.{◌≡◌, ◌⊎◌, inl, inr, ℕ, zero, suc, Bool, true, false, ◌&&◌, List, [], ◌∷◌, ◌++◌, take, refl, sym, ap, ◌∙◌, subst, append_assoc, append-nil, IsTrue}
+use Rattle.std.specs.List.{AllByRecursion, list_all}
 use Rattle.cue_core.specs.declared.event.Event.{Event}
-use Rattle.cue_core.specs.State.{Standing}
-use Rattle.cue_core.specs.Steps.{folded}
+use Rattle.cue_core.specs.State.{Standing, is_state}
+use Rattle.cue_core.specs.Steps.{folded, are_acceptable}
 use Rattle.cue_core.proofs.Conditions.{both, join}
 use Rattle.cue_core.proofs.Folding.{folded-append}
 use Rattle.cue_keeper.specs.Stands.{Stands, StandsEither}
 use Rattle.cue_keeper.proofs.Standing.{one_state}
 use Rattle.cue_outbox.specs.Sending.{Send, all_pending}
 use Rattle.cue_engine.specs.Given.{Input, given, given_recovery, closed}
-use Rattle.cue_engine.specs.Runs.{with_batch, joined, rests}
-use Rattle.cue_engine.specs.Headline.{Incident, taken, handed_out, stopped, stopped_in_take, recovered, stopped_in_recovery, Store, running, at_rest, begun, RecoversTo, LeavesClosing, Permits, left_by, Happens, left_by_all, owed_by, handed_in, all_handed, batch_of, is_cut_off, AreKept, StandsAt, CameTo, WhateverHappens, IsPromised, RecoveryGivesAPrefix}
+use Rattle.cue_engine.specs.Runs.{took, with_batch, joined, rests}
+use Rattle.cue_engine.specs.Runs as runs
+use Rattle.cue_engine.specs.Headline.{Incident, taken, handed_out, stopped, stopped_in_take, recovered, stopped_in_recovery, Store, running, at_rest, begun, LeavesClosing, Permits, left_by, Happens, left_by_all, owed_by, handed_in, all_handed, batch_of, is_cut_off, AreKept, StandsAt, CameTo, WhateverHappens, IsPromised, RecoveryGivesAPrefix}
 use Rattle.cue_engine.proofs.Truth.{all-append, all_implied}
 use Rattle.cue_engine.proofs.Resting.{more, earlier, input_rests, all_pending_rest, joined-with}
+use Rattle.cue_engine.proofs.Histories.{state-folded, input-ok, happening-ok}
+use Rattle.cue_engine.proofs.SentLemmas.{Each}
+use Rattle.cue_engine.proofs.BytesLemmas.{IsReadable, pending_readable, given_readable, all_say}
+use Rattle.cue_outbox.proofs.Lists.{each_append}
 
--- what the store stands for after these events, and that what is owed rests on them
+-- what the store stands for after these events, and that what is owed rests on them and can be read again
 record IsOn (s : Standing) (es : List Event) (store : Store) : Type 0 where
   stands : StandsAt store (folded s es)
   owed : list_all (rests s es) (owed_by store) ≡ true
+  readable : Each IsReadable (owed_by store)
+  rules : IsTrue (is_state (folded s es))
 
 -- ---- what rests
 
@@ -42,6 +49,23 @@ handed_rests s es store (stopped_in_take now input n x y) h = all_taken (rests s
 handed_rests s es store (recovered t) h = refl
 handed_rests s es store (stopped_in_recovery x y) h = refl
 
+each_taken : {A : Type 0} (P : A → Type 0) (n : ℕ) (xs : List A) → AllByRecursion P xs → AllByRecursion P (take n xs)
+each_taken P zero xs h = tt
+each_taken P (suc n) [] h = tt
+each_taken P (suc n) (x ∷ xs) h = (h.0, each_taken P n xs h.1)
+
+handed_readable : (store : Store) (i : Incident) → Each IsReadable (owed_by store) → Each IsReadable (handed_in store i)
+handed_readable store (taken now input) h = tt
+handed_readable store handed_out h = h
+handed_readable store (stopped n x y) h = each_taken (λ (m : ℕ × Send). IsReadable m.1) n (owed_by store) h
+handed_readable store (stopped_in_take now input n x y) h = each_taken (λ (m : ℕ × Send). IsReadable m.1) n (owed_by store) h
+handed_readable store (recovered t) h = tt
+handed_readable store (stopped_in_recovery x y) h = tt
+
+-- the rules of a state hold after an acceptable batch
+rules_after : (s : Standing) (es batch : List Event) → IsTrue (is_state (folded s es)) → IsTrue (are_acceptable (folded s es) batch) → IsTrue (is_state (folded s (es ++ batch)))
+rules_after s es batch h ok = let P : Standing → Type 0 = λ t. IsTrue (is_state t) in subst P (sym (folded-append s es batch)) (state-folded (folded s es) batch h ok)
+
 -- ---- one incident
 
 -- the batch is kept whole, or, where its call was cut off, not at all
@@ -52,65 +76,77 @@ Goes s es store i = IsOn s (es ++ batch_of (folded s es) i) (left_by store i) �
 as_before : (s : Standing) (es : List Event) (store : Store) → IsOn s es store → IsOn s (es ++ []) store
 as_before s es store on = let P : List Event → Type 0 = λ fs. IsOn s fs store in subst P (sym (append-nil es)) on
 
-resting_at : (s : Standing) (es : List Event) (x y : List ℕ) → Stands x y (folded s es) → IsOn s es (at_rest x y)
-resting_at s es x y h = record { stands = h; owed = refl }
+resting_at : (s : Standing) (es : List Event) (x y : List ℕ) → IsTrue (is_state (folded s es)) → Stands x y (folded s es) → IsOn s es (at_rest x y)
+resting_at s es x y rules h = record { stands = h; owed = refl; readable = tt; rules = rules }
 
 -- a stop leaves the state from before or the one after the batch
-resting_either : (s : Standing) (es batch : List Event) (x y : List ℕ) → StandsEither (folded s es) (folded (folded s es) batch) x y → IsOn s (es ++ batch) (at_rest x y) ⊎ IsOn s es (at_rest x y)
-resting_either s es batch x y (inl h) = inr (resting_at s es x y h)
-resting_either s es batch x y (inr h) = let P : Standing → Type 0 = λ t. Stands x y t in inl (resting_at s (es ++ batch) x y (subst P (sym (folded-append s es batch)) h))
+resting_either : (s : Standing) (es batch : List Event) (x y : List ℕ) → IsTrue (is_state (folded s es)) → IsTrue (are_acceptable (folded s es) batch) → StandsEither (folded s es) (folded (folded s es) batch) x y
+    → IsOn s (es ++ batch) (at_rest x y) ⊎ IsOn s es (at_rest x y)
+resting_either s es batch x y rules ok (inl h) = inr (resting_at s es x y rules h)
+resting_either s es batch x y rules ok (inr h) =
+    let P : Standing → Type 0 = λ t. Stands x y t in
+    inl (resting_at s (es ++ batch) x y (rules_after s es batch rules ok) (subst P (sym (folded-append s es batch)) h))
 
 with_cut : {A B : Type 0} → A ⊎ B → A ⊎ ((true ≡ true) × B)
 with_cut (inl a) = inl a
 with_cut (inr b) = inr (refl, b)
 
-goes_taken : (s : Standing) (es : List Event) (owed : List (ℕ × Send)) (now : ℕ) (input : Input) → list_all (rests s es) owed ≡ true → Goes s es (running (folded s es) owed) (taken now input)
-goes_taken s es owed now input h =
+goes_taken : (s : Standing) (es : List Event) (owed : List (ℕ × Send)) (now : ℕ) (input : Input) → IsOn s es (running (folded s es) owed) → Goes s es (running (folded s es) owed) (taken now input)
+goes_taken s es owed now input on =
     let batch : List Event = (given (folded s es) now input).batch in
     let sends : List (ℕ × Send) = (given (folded s es) now input).sends in
     inl (record {
       stands = sym (folded-append s es batch);
-      owed = all-append (rests s (es ++ batch)) owed sends (all_more s es batch owed h) (all_earlier s es batch sends (input_rests (folded s es) now input));
+      owed = all-append (rests s (es ++ batch)) owed sends (all_more s es batch owed on.owed) (all_earlier s es batch sends (input_rests (folded s es) now input));
+      readable = each_append (λ (m : ℕ × Send). IsReadable m.1) owed sends on.readable (given_readable (folded s es) (took now input) on.rules);
+      rules = rules_after s es batch on.rules (input-ok (folded s es) now input on.rules);
     })
 
-goes_running : (s : Standing) (es : List Event) (owed : List (ℕ × Send)) (i : Incident) → list_all (rests s es) owed ≡ true → Permits (running (folded s es) owed) i → Goes s es (running (folded s es) owed) i
-goes_running s es owed (taken now input) h ok = goes_taken s es owed now input h
-goes_running s es owed handed_out h ok = inl (as_before s es (running (folded s es) []) (record { stands = refl; owed = refl }))
-goes_running s es owed (stopped n x y) h ok = inl (as_before s es (at_rest x y) (resting_at s es x y ok))
-goes_running s es owed (stopped_in_take now input n x y) h ok = with_cut (resting_either s es (given (folded s es) now input).batch x y ok)
-goes_running s es owed (recovered t) h ok = absurd ok
-goes_running s es owed (stopped_in_recovery x y) h ok = absurd ok
+goes_running : (s : Standing) (es : List Event) (owed : List (ℕ × Send)) (i : Incident) → IsOn s es (running (folded s es) owed) → Permits (running (folded s es) owed) i → Goes s es (running (folded s es) owed) i
+goes_running s es owed (taken now input) on ok = goes_taken s es owed now input on
+goes_running s es owed handed_out on ok = inl (as_before s es (running (folded s es) []) (record { stands = refl; owed = refl; readable = tt; rules = on.rules }))
+goes_running s es owed (stopped n x y) on ok = inl (as_before s es (at_rest x y) (resting_at s es x y on.rules ok))
+goes_running s es owed (stopped_in_take now input n x y) on ok = with_cut (resting_either s es (given (folded s es) now input).batch x y on.rules (input-ok (folded s es) now input on.rules) ok)
+goes_running s es owed (recovered t) on ok = absurd ok
+goes_running s es owed (stopped_in_recovery x y) on ok = absurd ok
 
-goes_recovered : (s : Standing) (es : List Event) (x y : List ℕ) → Goes s es (at_rest x y) (recovered (closed (folded s es)))
+goes_recovered : (s : Standing) (es : List Event) (x y : List ℕ) → IsTrue (is_state (folded s es)) → Goes s es (at_rest x y) (recovered (closed (folded s es)))
 unfolding closed
-goes_recovered s es x y =
+goes_recovered s es x y rules =
     let batch : List Event = (given_recovery (folded s es)).batch in
+    let ok = happening-ok (folded s es) runs.recovered rules in
     inl (record {
       stands = sym (folded-append s es batch);
       owed = all_earlier s es batch (all_pending (closed (folded s es))) (all_pending_rest (folded s es) batch);
+      readable = pending_readable (closed (folded s es)) (state-folded (folded s es) batch rules ok);
+      rules = rules_after s es batch rules ok;
     })
 
-goes_stopped : (s : Standing) (es : List Event) (x y u v : List ℕ) → StandsEither (folded s es) (closed (folded s es)) u v → Goes s es (at_rest x y) (stopped_in_recovery u v)
+goes_stopped : (s : Standing) (es : List Event) (x y u v : List ℕ) → IsTrue (is_state (folded s es)) → StandsEither (folded s es) (closed (folded s es)) u v → Goes s es (at_rest x y) (stopped_in_recovery u v)
 unfolding closed
-goes_stopped s es x y u v h = with_cut (resting_either s es (given_recovery (folded s es)).batch u v h)
+goes_stopped s es x y u v rules h = with_cut (resting_either s es (given_recovery (folded s es)).batch u v rules (happening-ok (folded s es) runs.recovered rules) h)
 
-goes_at_rest : (s : Standing) (es : List Event) (x y : List ℕ) (i : Incident) → Stands x y (folded s es) → Permits (at_rest x y) i → Goes s es (at_rest x y) i
-goes_at_rest s es x y (taken now input) h ok = absurd ok
-goes_at_rest s es x y handed_out h ok = absurd ok
-goes_at_rest s es x y (stopped n u v) h ok = absurd ok
-goes_at_rest s es x y (stopped_in_take now input n u v) h ok = absurd ok
-goes_at_rest s es x y (recovered t) h ok =
+goes_at_rest : (s : Standing) (es : List Event) (x y : List ℕ) (i : Incident) → IsTrue (is_state (folded s es)) → Stands x y (folded s es) → Permits (at_rest x y) i → Goes s es (at_rest x y) i
+goes_at_rest s es x y (taken now input) rules h ok = absurd ok
+goes_at_rest s es x y handed_out rules h ok = absurd ok
+goes_at_rest s es x y (stopped n u v) rules h ok = absurd ok
+goes_at_rest s es x y (stopped_in_take now input n u v) rules h ok = absurd ok
+goes_at_rest s es x y (recovered t) rules h ok =
     let P : Standing → Type 0 = λ u. Goes s es (at_rest x y) (recovered u) in
-    subst P (sym (ok.1.1 ∙ ap closed (one_state x y ok.0 (folded s es) ok.1.0 h))) (goes_recovered s es x y)
-goes_at_rest s es x y (stopped_in_recovery u v) h ok =
+    subst P (sym (ok.is ∙ ap closed (one_state x y ok.before (folded s es) ok.stood h))) (goes_recovered s es x y rules)
+goes_at_rest s es x y (stopped_in_recovery u v) rules h ok =
     let P : Standing → Type 0 = λ c. StandsEither c (closed c) u v in
-    goes_stopped s es x y u v (subst P (one_state x y ok.0 (folded s es) ok.1.0 h) ok.1.1)
+    goes_stopped s es x y u v rules (subst P (one_state x y ok.0 (folded s es) ok.1.0 h) ok.1.1)
+
+-- an engine runs with the state that it stands for
+goes_on : (s : Standing) (es : List Event) (t : Standing) (owed : List (ℕ × Send)) (i : Incident) → t ≡ folded s es → IsOn s es (running (folded s es) owed) → Permits (running t owed) i → Goes s es (running t owed) i
+goes_on s es t owed i same on ok =
+    let P : Standing → Type 0 = λ u. Permits (running u owed) i → Goes s es (running u owed) i in
+    subst P (sym same) (goes_running s es owed i on) ok
 
 goes : (s : Standing) (es : List Event) (store : Store) (i : Incident) → IsOn s es store → Permits store i → Goes s es store i
-goes s es (running t owed) i on ok =
-    let P : Standing → Type 0 = λ u. Permits (running u owed) i → Goes s es (running u owed) i in
-    subst P (sym on.stands) (goes_running s es owed i on.owed) ok
-goes s es (at_rest x y) i on ok = goes_at_rest s es x y i on.stands ok
+goes s es (running t owed) i on ok = goes_on s es t owed i on.stands (record { stands = refl; owed = on.owed; readable = on.readable; rules = on.rules }) ok
+goes s es (at_rest x y) i on ok = goes_at_rest s es x y i on.rules on.stands ok
 
 -- ---- all of them
 
@@ -119,9 +155,10 @@ record Found (s : Standing) (es : List Event) (store : Store) (is : List Inciden
   prefix : AreKept (folded s es) is kept
   stands : StandsAt (left_by_all store is) (folded s (es ++ joined kept))
   decided : list_all (rests s (es ++ joined kept)) (all_handed store is) ≡ true
+  readable : Each IsReadable (all_handed store is)
 
 found_none : (s : Standing) (es : List Event) (store : Store) → IsOn s es store → Found s es store []
-found_none s es store on = record { kept = []; prefix = refl; stands = (as_before s es store on).stands; decided = refl }
+found_none s es store on = record { kept = []; prefix = refl; stands = (as_before s es store on).stands; decided = refl; readable = tt }
 
 found_whole : (s : Standing) (es : List Event) (store : Store) (i : Incident) (is : List Incident) → IsOn s es store → Found s (es ++ batch_of (folded s es) i) (left_by store i) is → Found s es store (i ∷ is)
 found_whole s es store i is on f =
@@ -136,6 +173,7 @@ found_whole s es store i is on f =
       stands = subst Q same f.stands;
       decided = all-append (rests s (es ++ joined (with_batch batch f.kept))) (handed_in store i) (all_handed (left_by store i) is)
           (all_more s es (joined (with_batch batch f.kept)) (handed_in store i) (handed_rests s es store i on.owed)) (subst R same f.decided);
+      readable = each_append (λ (m : ℕ × Send). IsReadable m.1) (handed_in store i) (all_handed (left_by store i) is) (handed_readable store i on.readable) f.readable;
     }
 
 found_cut : (s : Standing) (es : List Event) (store : Store) (i : Incident) (is : List Incident) → IsOn s es store → is_cut_off i ≡ true → Found s es (left_by store i) is → Found s es store (i ∷ is)
@@ -145,6 +183,7 @@ found_cut s es store i is on cut f = record {
   stands = f.stands;
   decided = all-append (rests s (es ++ joined f.kept)) (handed_in store i) (all_handed (left_by store i) is)
       (all_more s es (joined f.kept) (handed_in store i) (handed_rests s es store i on.owed)) f.decided;
+  readable = each_append (λ (m : ℕ × Send). IsReadable m.1) (handed_in store i) (all_handed (left_by store i) is) (handed_readable store i on.readable) f.readable;
 }
 
 found_either : (s : Standing) (es : List Event) (store : Store) (i : Incident) (is : List Incident) → IsOn s es store
@@ -162,20 +201,29 @@ found s es store (i ∷ is) on ok =
     (λ h. found s es (left_by store i) is h ok.1)
     (goes s es store i on ok.0)
 
-begins : (s : Standing) → IsOn s [] (begun s)
-begins s = record { stands = refl; owed = all_pending_rest s [] }
+begins : (s : Standing) → IsTrue (is_state s) → IsOn s [] (begun s)
+begins s h = record { stands = refl; owed = all_pending_rest s []; readable = pending_readable s h; rules = h }
 
 pub whatever_happens : WhateverHappens
-whatever_happens s is ok = let f = found s [] (begun s) is (begins s) ok in record { kept = f.kept; prefix = f.prefix; stands = f.stands; decided = f.decided }
+whatever_happens s is h ok =
+    let f = found s [] (begun s) is (begins s h) ok in
+    record {
+      kept = f.kept;
+      prefix = f.prefix;
+      stands = f.stands;
+      decided = f.decided;
+      in_bytes = all_say s (joined f.kept) (all_handed (begun s) is) f.readable f.decided;
+    }
 
 pub recovery_gives_a_prefix : RecoveryGivesAPrefix
-recovery_gives_a_prefix s t is x y ok end gives =
-    let f = whatever_happens s is ok in
+recovery_gives_a_prefix s t is x y h ok end gives =
+    let f = whatever_happens s is h ok in
     let P : Store → Type 0 = λ store. StandsAt store (folded s (joined f.kept)) in
     let stands : Stands x y (folded s (joined f.kept)) = subst P end f.stands in
     record {
       kept = f.kept;
       prefix = f.prefix;
-      gives = gives.1.1 ∙ ap closed (one_state x y gives.0 (folded s (joined f.kept)) gives.1.0 stands);
+      gives = gives.is ∙ ap closed (one_state x y gives.before (folded s (joined f.kept)) gives.stood stands);
       decided = f.decided;
+      in_bytes = f.in_bytes;
     }

@@ -13,7 +13,8 @@ use Rattle.cue_outbox.proofs.Lists.{each_append, each_flat, each_map}
 use Rattle.cue_engine.specs.declared.refusal.Refusal.{Refusal}
 use Rattle.cue_engine.specs.declared.refusal.Refusal.TheVariants as refusal
 use Rattle.cue_engine.specs.Heard.{Step, Heard, refused, carried, all_counts, hear_all, all_events, replies_to, replies_or_one, shown_by, sent_to}
-use Rattle.cue_engine.specs.Given.{Input, datagram, tick, Given, given, given_by, given_heard, given_refused, are_too_many, messages_in, newly_pending, is_new, closed}
+use Rattle.cue_engine.specs.Given.{Input, datagram, tick, Given, given, given_by, given_heard, given_refused, are_too_many, messages_in, closed}
+use Rattle.cue_outbox.specs.New.{newly_pending, is_new}
 use Rattle.cue_engine.specs.Runs.{Happening, took, given_at}
 use Rattle.cue_engine.specs.Runs as runs
 

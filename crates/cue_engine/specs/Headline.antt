@@ -4,14 +4,16 @@
 -- of each incident what the contract of its call says of the bytes that the two disks are left with, and nothing else; the promise is
 -- proved of all lists of incidents that the contracts permit.
 use Rattle.std.specs.Prelude.{◌≡◌, ◌⊎◌, ℕ, Bool, true, false, List, [], ◌∷◌, ◌++◌, take, IsTrue}
-use Rattle.std.specs.List.{list_all}
+use Rattle.std.specs.List.{AllByRecursion, list_all}
 use Rattle.cue_core.specs.declared.event.Event.{Event}
-use Rattle.cue_core.specs.State.{Standing}
+use Rattle.cue_core.specs.State.{Standing, is_state}
 use Rattle.cue_core.specs.Steps.{folded}
 use Rattle.cue_keeper.specs.Stands.{Stands, StandsEither}
-use Rattle.cue_outbox.specs.Sending.{Send, all_pending}
+use Rattle.cue_outbox.specs.Sending.{Send, all_pending, datagrams}
 use Rattle.cue_engine.specs.Given.{Input, given, given_recovery, closed}
+use Rattle.cue_engine.specs.Recovery.{ClosedFrom}
 use Rattle.cue_engine.specs.Runs.{with_batch, joined, rests}
+use Rattle.cue_engine.specs.InBytes.{BytesRest}
 
 -- What may happen to a store.
 pub data Incident : Type 0 where
@@ -39,15 +41,14 @@ begun s = running s (all_pending s)
 
 -- ---- what the contracts say
 
--- Recovery gives the closed state of a state that the disks stood for.
-abbrev pub RecoversTo : List ℕ → List ℕ → Standing → Type 0
-RecoversTo x y t = (s : Standing) × (Stands x y s × (t ≡ closed s))
-
 -- A stop within recovery leaves a state that the disks stood for, or its closed state.
 abbrev pub LeavesClosing : List ℕ → List ℕ → List ℕ → List ℕ → Type 0
 LeavesClosing x y u v = (s : Standing) × (Stands x y s × StandsEither s (closed s) u v)
 
--- What the contracts permit an engine over a state, or two disks at rest, to come to.
+-- What the contracts permit an engine over a state, or two disks at rest, to come to. While no call writes, whatever a crash leaves stands for
+-- the state (`accepted` of `take`, `stands` of `recover`). A stop within `take` leaves the state from before or the one after the whole batch
+-- (`any_moment`). Recovery gives the closed state of one that the disks stood for (`stood`), and a stop within it leaves that state or its
+-- closed one (`any_moment`).
 abbrev pub Permits : Store → Incident → Type 0
 Permits (running s owed) (taken now input) = Unit {0}
 Permits (running s owed) handed_out = Unit {0}
@@ -59,7 +60,7 @@ Permits (at_rest x y) (taken now input) = ⊥
 Permits (at_rest x y) handed_out = ⊥
 Permits (at_rest x y) (stopped n u v) = ⊥
 Permits (at_rest x y) (stopped_in_take now input n u v) = ⊥
-Permits (at_rest x y) (recovered t) = RecoversTo x y t
+Permits (at_rest x y) (recovered t) = ClosedFrom x y t
 Permits (at_rest x y) (stopped_in_recovery u v) = LeavesClosing x y u v
 
 -- an engine that took an input has the state after the batch, and owes what is sent for it, too
@@ -146,16 +147,18 @@ StandsAt (running t owed) s = t ≡ s
 StandsAt (at_rest x y) s = Stands x y s
 
 -- What a store came to from a state on: whole batches are kept, a prefix with every acknowledged one; they make the state that it stands for;
--- and each datagram that was handed to the network rests on them: a GO_2PC on the Go of its attempt, a STANDBY or CANCEL on its Start.
+-- and each datagram that was handed to the network rests on them, down to its bytes: a GO_2PC on the Go of its attempt, a STANDBY or CANCEL on its
+-- Start.
 pub record CameTo (s : Standing) (is : List Incident) : Type 0 where
   pub kept : List (List Event)
   pub prefix : AreKept s is kept
   pub stands : StandsAt (left_by_all (begun s) is) (folded s (joined kept))
   pub decided : IsTrue (list_all (rests s (joined kept)) (all_handed (begun s) is))
+  pub in_bytes : AllByRecursion (λ d. BytesRest s (joined kept) d.1) (datagrams (all_handed (begun s) is))
 
 -- Whatever happens to a store, it comes to that.
 abbrev pub WhateverHappens : Type 0
-WhateverHappens = (s : Standing) (is : List Incident) → Happens (begun s) is → CameTo s is
+WhateverHappens = (s : Standing) (is : List Incident) → IsTrue (is_state s) → Happens (begun s) is → CameTo s is
 
 -- What recovery gives after a stop: the state of a prefix of the accepted batches, each whole, that holds every acknowledged one, with its
 -- undecided attempts cancelled; and no GO_2PC was handed to the network for an attempt whose decision that prefix lacks.
@@ -164,9 +167,10 @@ pub record IsPromised (s : Standing) (is : List Incident) (given_state : Standin
   pub prefix : AreKept s is kept
   pub gives : given_state ≡ closed (folded s (joined kept))
   pub decided : IsTrue (list_all (rests s (joined kept)) (all_handed (begun s) is))
+  pub in_bytes : AllByRecursion (λ d. BytesRest s (joined kept) d.1) (datagrams (all_handed (begun s) is))
 
 -- The promise: for every list of inputs, and stops before, within or after any write, also within recovery, one after the other.
 abbrev pub RecoveryGivesAPrefix : Type 0
 RecoveryGivesAPrefix =
     (s t : Standing) (is : List Incident) (x y : List ℕ)
-    → Happens (begun s) is → left_by_all (begun s) is ≡ at_rest x y → RecoversTo x y t → IsPromised s is t
+    → IsTrue (is_state s) → Happens (begun s) is → left_by_all (begun s) is ≡ at_rest x y → ClosedFrom x y t → IsPromised s is t

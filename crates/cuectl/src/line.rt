@@ -1,15 +1,13 @@
 //! The command line, read over `clap`.
-ghost use Rattle.std.specs.Prelude.{◌≡◌, ◌≤◌, IfOk, false, map, string_bytes, codes};
-ghost use Rattle.clap.specs.Words.{app_of, rule_of, subcommand_of, found_of, rows_of, first_of};
+ghost use Rattle.std.specs.Prelude.{◌≡◌, ◌≤◌, IfOk, false, string_bytes, codes};
+ghost use Rattle.clap.specs.Words.{rule_of, found_of, rows_of, first_of};
 ghost use Rattle.cuectl.specs.Lines.{
-  cuectl_app,
   dir_rule,
   port_rule,
   turns_rule,
   IsNumberIn,
   IsDirIn,
   IsLine,
-  IsLineOf,
 };
 
 pub mod words;
@@ -58,7 +56,6 @@ fn turns<'a>(alloc: Global) -> Arg<'a>
 
 // All commands.
 fn cuectl<'a>(alloc: Global) -> Result<Command<'a>, AllocError>
-    ensures { IfOk result (λ command. app_of command ≡ cuectl_app) }
 {
     let form = Command::new(alloc, "form")
         .about("Make an empty show in a folder that has none")
@@ -151,7 +148,6 @@ fn fault_of(alloc: Global, error: &Error) -> LineFault {
 
 /// Reads a command line, the program's name first, as `clap` matches it.
 pub fn line(alloc: Global, words: &[String]) -> Result<words::Line, LineFault>
-    ensures { IfOk result (λ line. IsLineOf (subcommand_of cuectl_app (map string_bytes words.now)) line) }
 {
     let command = cuectl(alloc)?;
     match command.try_get_matches_from(words) {

@@ -1,5 +1,11 @@
 //! The run of a show: it takes what a source gives, and hands out what that owes.
-ghost use Rattle.std.specs.Prelude.{◌≤◌};
+ghost use Rattle.std.specs.Prelude.{◌≡◌, ◌≤◌, ◌++◌, [], IfOk, OnOk, OnErr};
+ghost use Rattle.cue_core.specs.Steps.{folded};
+ghost use Rattle.cue_outbox.specs.Sending.{datagrams};
+ghost use Rattle.cue_engine.specs.Given.{given};
+ghost use Rattle.cue_engine.specs.Inputs.{input_view};
+ghost use Rattle.cue_engine.specs.Words.{state_of, queue_of};
+ghost use Rattle.cue_engine.specs.Wires.{AllHanded};
 
 pub mod source;
 
@@ -38,7 +44,14 @@ fn take_one<D: Disk, W: Wire>(
     wire: &mut W,
     now: u64,
     input: Input<'_>,
-) -> Result<u64, RunFault> {
+) -> Result<u64, RunFault>
+    ensures state { OnOk result (state_of engine.new ≡ folded (state_of engine.old) (given (state_of engine.old) now (input_view input.entry)).batch) }
+    ensures handed { IfOk result (λ refused. AllHanded (W.told wire.old) (queue_of engine.old ++ datagrams (given (state_of engine.old) now (input_view input.entry)).sends) refused (W.told wire.new)) }
+    ensures emptied { OnOk result (queue_of engine.new ≡ []) }
+    ensures same_state { OnErr result (state_of engine.new ≡ state_of engine.old) }
+    ensures same_queue { OnErr result (queue_of engine.new ≡ queue_of engine.old) }
+    ensures nothing_told { OnErr result (W.told wire.new ≡ W.told wire.old) }
+{
     match engine.take(now, input) {
         Ok(_) => Ok(engine.hand_out(wire)),
         Err(fault) => Err(RunFault::Engine(fault)),

@@ -55,8 +55,7 @@ fn turns<'a>(alloc: Global) -> Arg<'a>
 }
 
 // All commands.
-fn cuectl<'a>(alloc: Global) -> Result<Command<'a>, AllocError>
-{
+fn cuectl<'a>(alloc: Global) -> Result<Command<'a>, AllocError> {
     let form = Command::new(alloc, "form")
         .about("Make an empty show in a folder that has none")
         .arg(dir(alloc))?;
@@ -147,8 +146,7 @@ fn fault_of(alloc: Global, error: &Error) -> LineFault {
 }
 
 /// Reads a command line, the program's name first, as `clap` matches it.
-pub fn line(alloc: Global, words: &[String]) -> Result<words::Line, LineFault>
-{
+pub fn line(alloc: Global, words: &[String]) -> Result<words::Line, LineFault> {
     let command = cuectl(alloc)?;
     match command.try_get_matches_from(words) {
         Ok(matches) => match matches.subcommand() {

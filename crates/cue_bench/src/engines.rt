@@ -1,5 +1,5 @@
 //! Whole inputs, on two disks in memory.
-use crate::shows;
+use crate::shows::{self, let_go};
 use crate::timing::{Work, time};
 use cue_disk::MemDisk;
 use cue_engine::{Engine, Input, Wire, WireFault};
@@ -25,7 +25,7 @@ impl Wire for Nowhere {
 // Takes two datagrams in turn, and hands out what is owed.
 #[derive(Drop)]
 struct TakeInTurn<'a> {
-    engine: Engine<MemDisk>,
+    engine: &'a mut Engine<MemDisk>,
     one: &'a [u8],
     other: &'a [u8],
     is_other: bool,
@@ -67,41 +67,47 @@ const TAKES: [(&str, &[u8], &[u8], u32); 4] = [
     ),
 ];
 
+// Measures this over a show, and drops the show.
+fn measure_over<R: Clock + Print + AllocGlobal>(
+    rt: &R,
+    made: Option<Engine<MemDisk>>,
+    name: &str,
+    datagrams: (&[u8], &[u8]),
+    calls: u32,
+) -> io::Result<()> {
+    match made {
+        Some(mut engine) => {
+            let (one, other) = datagrams;
+            let is_other = false;
+            let measured = time(
+                rt,
+                name,
+                calls,
+                &mut TakeInTurn {
+                    engine: &mut engine,
+                    one,
+                    other,
+                    is_other,
+                },
+            );
+            let_go(engine);
+            measured
+        }
+        None => Ok(()),
+    }
+}
+
 /// Prints the measures that this word names: of whole inputs over a full show, and `take_goto_small` over one of two cues.
 pub fn measure<R: Clock + Print + AllocGlobal>(rt: &R, name: &str) -> io::Result<()> {
     let alloc = rt.alloc();
     for (take, one, other, calls) in TAKES {
         if name == "all" || name == take {
-            if let Some(engine) = shows::full(alloc)? {
-                time(
-                    rt,
-                    take,
-                    calls,
-                    &mut TakeInTurn {
-                        engine,
-                        one,
-                        other,
-                        is_other: false,
-                    },
-                )?;
-            }
+            measure_over(rt, shows::full(alloc), take, (one, other), calls)?;
         }
     }
     if name == "all" || name == "take_goto_small" {
-        if let Some(engine) = shows::small(alloc)? {
-            let (one, other) = (b"/cue/100/goto\0\0\0,\0\0\0", b"/cue/212/goto\0\0\0,\0\0\0");
-            time(
-                rt,
-                "take_goto_small",
-                5_000,
-                &mut TakeInTurn {
-                    engine,
-                    one,
-                    other,
-                    is_other: false,
-                },
-            )?;
-        }
+        let gotos: (&[u8], &[u8]) = (b"/cue/100/goto\0\0\0,\0\0\0", b"/cue/212/goto\0\0\0,\0\0\0");
+        measure_over(rt, shows::small(alloc), "take_goto_small", gotos, 5_000)?;
     }
     Ok(())
 }

@@ -1,9 +1,7 @@
 //! Reading packets and finding commands.
-use crate::shows;
+use crate::shows::{self, let_go};
 use crate::timing::{Work, time};
 use cue_core::{Command, ReplyKind, State, judge};
-use cue_disk::MemDisk;
-use cue_engine::Engine;
 use cue_operator::commands;
 use cue_osc::{Packet, read};
 use cue_pattern::Pattern;
@@ -219,16 +217,34 @@ fn measure_judging<R: Clock + Print + AllocGlobal>(
     Ok(())
 }
 
+// What is measured over the state of a full show.
+fn measure_over<R: Clock + Print + AllocGlobal>(
+    rt: &R,
+    name: &str,
+    empty: &State,
+    full: &State,
+) -> io::Result<()> {
+    measure_finding(rt, name, empty, full)?;
+    measure_judging(rt, name, full)
+}
+
+// The same, with the shows: they are dropped behind it.
+fn measure_shows<R: Clock + Print + AllocGlobal>(rt: &R, name: &str) -> io::Result<()> {
+    let alloc = rt.alloc();
+    match (shows::empty(alloc), shows::full(alloc)) {
+        (Some(empty), Some(full)) => {
+            let measured = measure_over(rt, name, empty.state(), full.state());
+            let_go(empty);
+            let_go(full);
+            measured
+        }
+        _ => Ok(()),
+    }
+}
+
 /// Prints the measures that this word names: of reading, comparing, finding commands and judging.
 pub fn measure<R: Clock + Print + AllocGlobal>(rt: &R, name: &str) -> io::Result<()> {
-    let alloc = rt.alloc();
     measure_reading(rt, name)?;
     measure_comparing(rt, name)?;
-    let empty = State::empty(alloc);
-    let full: Engine<MemDisk> = match shows::full(alloc)? {
-        Some(full) => full,
-        None => return Ok(()),
-    };
-    measure_finding(rt, name, &empty, full.state())?;
-    measure_judging(rt, name, full.state())
+    measure_shows(rt, name)
 }

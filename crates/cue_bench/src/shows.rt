@@ -65,34 +65,67 @@ fn take(engine: &mut Engine<MemDisk>, bytes: &[u8]) -> bool {
 
 /// A show without a device, on two disks in memory.
 pub fn empty(alloc: Global) -> Option<Engine<MemDisk>> {
-    Engine::form(alloc, MemDisk::new(alloc), MemDisk::new(alloc)).ok()
+    match Engine::form(alloc, MemDisk::new(alloc), MemDisk::new(alloc)) {
+        Ok(engine) => Some(engine),
+        Err(_) => None,
+    }
 }
 
-/// A show of 112 devices and 256 cues.
-pub fn full(alloc: Global) -> Result<Option<Engine<MemDisk>>, AllocError> {
-    let Some(mut engine) = empty(alloc) else {
-        return Ok(None);
-    };
+// Drops a show. It stands apart, since what is dropped fills the goals of the function around it.
+pub fn let_go(_engine: Engine<MemDisk>) {}
+
+// Adds the devices below this number, and then the cues.
+fn fill(alloc: Global, engine: &mut Engine<MemDisk>) -> Result<bool, AllocError> {
+    let mut all = true;
     for device in 0..DEVICES {
-        if !take(&mut engine, &add_device(alloc, device)?) {
-            return Ok(None);
+        if !take(engine, &add_device(alloc, device)?) {
+            all = false;
         }
     }
     for cue in 0..CUES {
-        if !take(&mut engine, &add_cue(alloc, cue)?) {
-            return Ok(None);
+        if !take(engine, &add_cue(alloc, cue)?) {
+            all = false;
         }
     }
-    Ok(Some(engine))
+    Ok(all)
 }
 
-/// A show of one device and two cues.
-pub fn small(alloc: Global) -> Result<Option<Engine<MemDisk>>, AllocError> {
-    let Some(mut engine) = empty(alloc) else {
-        return Ok(None);
-    };
-    let took = take(&mut engine, &add_device(alloc, 0)?)
-        && take(&mut engine, &add_cue(alloc, 0)?)
-        && take(&mut engine, &add_cue(alloc, 112)?);
-    Ok(if took { Some(engine) } else { None })
+// Adds one device and two cues.
+fn fill_little(alloc: Global, engine: &mut Engine<MemDisk>) -> Result<bool, AllocError> {
+    let device = take(engine, &add_device(alloc, 0)?);
+    let first = take(engine, &add_cue(alloc, 0)?);
+    let second = take(engine, &add_cue(alloc, 112)?);
+    Ok(device && first && second)
+}
+
+// The show, where it was filled.
+fn if_filled(engine: Engine<MemDisk>, filled: bool) -> Option<Engine<MemDisk>> {
+    if filled {
+        Some(engine)
+    } else {
+        let_go(engine);
+        None
+    }
+}
+
+/// A show of 112 devices and 256 cues; None where it was not made.
+pub fn full(alloc: Global) -> Option<Engine<MemDisk>> {
+    match empty(alloc) {
+        Some(mut engine) => {
+            let filled = fill(alloc, &mut engine);
+            if_filled(engine, filled == Ok(true))
+        }
+        None => None,
+    }
+}
+
+/// A show of one device and two cues; None where it was not made.
+pub fn small(alloc: Global) -> Option<Engine<MemDisk>> {
+    match empty(alloc) {
+        Some(mut engine) => {
+            let filled = fill_little(alloc, &mut engine);
+            if_filled(engine, filled == Ok(true))
+        }
+        None => None,
+    }
 }

@@ -22,7 +22,7 @@ fn round<R: Clock, W: Work>(rt: &R, calls: u32, work: &mut W) -> io::Result<Opti
             went = false;
         }
     }
-    let nanos = start.elapsed(rt)?.as_nanos() as u64;
+    let nanos = u64::try_from(start.elapsed(rt)?.as_nanos()).unwrap_or(u64::MAX);
     if went && calls > 0 {
         Ok(Some(nanos / u64::from(calls)))
     } else {

@@ -1,3 +1,5 @@
 mod LineLemmas
+mod RunLemmas
 mod ScriptLemmas
 mod ScriptLineLemmas
+mod StandLemmas

@@ -1,6 +1,7 @@
 pub mod Endings
 pub mod Lines
 pub mod Playing
+pub mod Running
 pub mod Script
 pub mod ScriptLines
 pub mod ScriptViews

@@ -1,11 +1,11 @@
 //! The run of a show: it takes what a source gives, and hands out what that owes.
-ghost use Rattle.std.specs.Prelude.{◌≡◌, ◌≤◌, ◌++◌, [], IfOk, OnOk, OnErr};
+ghost use Rattle.std.specs.Prelude.{◌≡◌, ◌≤◌, ◌↔◌, [], length, Some, IfOk, OnOk, OnErr, IfErr, IsErrOf};
 ghost use Rattle.cue_core.specs.Steps.{folded};
-ghost use Rattle.cue_outbox.specs.Sending.{datagrams};
+ghost use Rattle.cue_keeper.specs.Stands.{StandsAs};
 ghost use Rattle.cue_engine.specs.Given.{given};
 ghost use Rattle.cue_engine.specs.Inputs.{input_view};
-ghost use Rattle.cue_engine.specs.Words.{state_of, queue_of};
-ghost use Rattle.cue_engine.specs.Wires.{AllHanded};
+ghost use Rattle.cue_engine.specs.Words.{state_of, queue_of, first_of, second_of};
+ghost use Rattle.cuectl.specs.Running.{IsTaken, Turned, Ran, LeavesEither};
 
 pub mod source;
 
@@ -44,17 +44,22 @@ fn take_one<D: Disk, W: Wire>(
     wire: &mut W,
     now: u64,
     input: Input<'_>,
-) -> Result<u64, RunFault>
-    ensures state { OnOk result (state_of engine.new ≡ folded (state_of engine.old) (given (state_of engine.old) now (input_view input.entry)).batch) }
-    ensures handed { IfOk result (λ refused. AllHanded (W.told wire.old) (queue_of engine.old ++ datagrams (given (state_of engine.old) now (input_view input.entry)).sends) refused (W.told wire.new)) }
-    ensures emptied { OnOk result (queue_of engine.new ≡ []) }
+) -> Result<u64, Fault>
+    requires { queue_of engine.old ≡ [] }
+    ensures taken { IfOk result (λ refused. IsTaken (state_of engine.old) now (input_view input.entry) (W.told wire.old) refused (state_of engine.new) (W.told wire.new)) }
     ensures same_state { OnErr result (state_of engine.new ≡ state_of engine.old) }
-    ensures same_queue { OnErr result (queue_of engine.new ≡ queue_of engine.old) }
     ensures nothing_told { OnErr result (W.told wire.new ≡ W.told wire.old) }
+    ensures emptied { queue_of engine.new ≡ [] }
+    ensures first_honest { D.is_honest (first_of engine.new) ↔ D.is_honest (first_of engine.old) }
+    ensures second_honest { D.is_honest (second_of engine.new) ↔ D.is_honest (second_of engine.old) }
+    ensures stands { D.is_honest (first_of engine.old) → D.is_honest (second_of engine.old) → StandsAs (D.held (first_of engine.old)) (D.held (second_of engine.old)) (state_of engine.old)
+        → (IsErrOf result Fault.Disk → ⊥) → StandsAs (D.held (first_of engine.new)) (D.held (second_of engine.new)) (state_of engine.new) }
+    ensures leaves { D.is_honest (first_of engine.old) → D.is_honest (second_of engine.old) → StandsAs (D.held (first_of engine.old)) (D.held (second_of engine.old)) (state_of engine.old)
+        → OnErr result (LeavesEither (D.held (first_of engine.new)) (D.held (second_of engine.new)) (state_of engine.old) (folded (state_of engine.old) (given (state_of engine.old) now (input_view input.entry)).batch)) }
 {
     match engine.take(now, input) {
         Ok(_) => Ok(engine.hand_out(wire)),
-        Err(fault) => Err(RunFault::Engine(fault)),
+        Err(fault) => Err(fault),
     }
 }
 
@@ -64,34 +69,52 @@ fn turn_once<D: Disk, S: Source, W: Wire>(
     source: &mut S,
     wire: &mut W,
     buffer: &mut [u8],
-) -> Result<Option<u64>, RunFault> {
+) -> Result<Option<u64>, RunFault>
+    requires { queue_of engine.old ≡ [] }
+    ensures turned { Turned (length buffer.old) (S.left source.old) (S.left source.new) (state_of engine.old) (state_of engine.new) (W.told wire.old) (W.told wire.new)
+        (λ after. D.is_honest (first_of engine.old) → D.is_honest (second_of engine.old) → StandsAs (D.held (first_of engine.old)) (D.held (second_of engine.old)) (state_of engine.old)
+        → LeavesEither (D.held (first_of engine.new)) (D.held (second_of engine.new)) (state_of engine.old) after) result }
+    ensures emptied { queue_of engine.new ≡ [] }
+    ensures first_honest { D.is_honest (first_of engine.new) ↔ D.is_honest (first_of engine.old) }
+    ensures second_honest { D.is_honest (second_of engine.new) ↔ D.is_honest (second_of engine.old) }
+    ensures stands { D.is_honest (first_of engine.old) → D.is_honest (second_of engine.old) → StandsAs (D.held (first_of engine.old)) (D.held (second_of engine.old)) (state_of engine.old)
+        → (IsErrOf result (RunFault.Engine Fault.Disk) → ⊥) → StandsAs (D.held (first_of engine.new)) (D.held (second_of engine.new)) (state_of engine.new) }
+{
     match source.next(buffer) {
         Ok(Turn::End) => Ok(None),
-        Ok(Turn::Tick { now }) => {
-            let refused = take_one(engine, wire, now, Input::Tick)?;
-            Ok(Some(refused))
-        }
+        Ok(Turn::Tick { now }) => match take_one(engine, wire, now, Input::Tick) {
+            Ok(refused) => Ok(Some(refused)),
+            Err(fault) => Err(RunFault::Engine(fault)),
+        },
         Ok(Turn::Datagram { now, from, n }) => {
             let bytes = &buffer[..n];
-            let refused = take_one(engine, wire, now, Input::Datagram { from, bytes })?;
-            Ok(Some(refused))
+            match take_one(engine, wire, now, Input::Datagram { from, bytes }) {
+                Ok(refused) => Ok(Some(refused)),
+                Err(fault) => Err(RunFault::Engine(fault)),
+            }
         }
         Err(_) => Err(RunFault::Source),
     }
 }
 
-// Turns in order, where so many sends were refused before.
+// Hands out what is owed, and then takes turns in order.
 fn run_turns<D: Disk, S: Source, W: Wire>(
     engine: &mut Engine<D>,
     source: &mut S,
     wire: &mut W,
     buffer: &mut [u8],
     turns: u64,
-    before: u64,
 ) -> Ended
-    ensures { result.turns ≤ turns }
+    ensures ran { Ran (length buffer.old) (S.left source.old) (state_of engine.old) (queue_of engine.old) (W.told wire.old) turns result.turns result.unsent result.fault
+        (S.left source.new) (state_of engine.new) (W.told wire.new)
+        (λ after. D.is_honest (first_of engine.old) → D.is_honest (second_of engine.old) → StandsAs (D.held (first_of engine.old)) (D.held (second_of engine.old)) (state_of engine.old)
+        → LeavesEither (D.held (first_of engine.new)) (D.held (second_of engine.new)) (state_of engine.new) after) }
+    ensures at_most { result.turns ≤ turns }
+    ensures emptied { queue_of engine.new ≡ [] }
+    ensures stands { D.is_honest (first_of engine.old) → D.is_honest (second_of engine.old) → StandsAs (D.held (first_of engine.old)) (D.held (second_of engine.old)) (state_of engine.old)
+        → (result.fault ≡ Some (RunFault.Engine Fault.Disk) → ⊥) → StandsAs (D.held (first_of engine.new)) (D.held (second_of engine.new)) (state_of engine.new) }
 {
-    let mut unsent = before;
+    let mut unsent = engine.hand_out(wire);
     for taken in 0..turns {
         match turn_once(engine, source, wire, buffer) {
             Ok(Some(refused)) => unsent = unsent.saturating_add(refused),
@@ -127,15 +150,26 @@ pub fn run<D: Disk, S: Source, W: Wire>(
     wire: &mut W,
     turns: u64,
 ) -> Ended
-    ensures { result.turns ≤ turns }
+    // What was taken is what the source gave first, the state and the wire are what the definition makes of it, and it ended for its reason.
+    ensures ran { Ran BUFFER (S.left source.old) (state_of engine.old) (queue_of engine.old) (W.told wire.old) turns result.turns result.unsent result.fault
+        (S.left source.new) (state_of engine.new) (W.told wire.new)
+        (λ after. D.is_honest (first_of engine.old) → D.is_honest (second_of engine.old) → StandsAs (D.held (first_of engine.old)) (D.held (second_of engine.old)) (state_of engine.old)
+        → LeavesEither (D.held (first_of engine.new)) (D.held (second_of engine.new)) (state_of engine.new) after) }
+    ensures at_most { result.turns ≤ turns }
+    ensures emptied { queue_of engine.new ≡ [] }
+    // Whatever a crash leaves of the disks then stands for that state alone, but where a disk failed.
+    ensures stands { D.is_honest (first_of engine.old) → D.is_honest (second_of engine.old) → StandsAs (D.held (first_of engine.old)) (D.held (second_of engine.old)) (state_of engine.old)
+        → (result.fault ≡ Some (RunFault.Engine Fault.Disk) → ⊥) → StandsAs (D.held (first_of engine.new)) (D.held (second_of engine.new)) (state_of engine.new) }
 {
-    let unsent = engine.hand_out(wire);
     match vec![in alloc; 0u8; BUFFER] {
-        Ok(mut buffer) => run_turns(engine, source, wire, &mut buffer, turns, unsent),
-        Err(_) => Ended {
-            turns: 0,
-            unsent,
-            fault: Some(RunFault::Engine(Fault::Memory)),
-        },
+        Ok(mut buffer) => run_turns(engine, source, wire, &mut buffer, turns),
+        Err(_) => {
+            let unsent = engine.hand_out(wire);
+            Ended {
+                turns: 0,
+                unsent,
+                fault: Some(RunFault::Engine(Fault::Memory)),
+            }
+        }
     }
 }

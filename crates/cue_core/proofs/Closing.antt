@@ -8,13 +8,13 @@ use Rattle.cue_exchange.specs.declared.attempt.Attempt.{Attempt}
 use Rattle.cue_exchange.specs.Answers.{is_preparing}
 use Rattle.cue_exchange.specs.Steps.{changed, moves_to, holds}
 use Rattle.cue_core.proofs.Conditions.{join}
-use Rattle.cue_core.proofs.Tests.{all_implied, all_mapped}
+use Rattle.cue_core.proofs.Truth.{all_implied, all_mapped}
 use Rattle.cue_core.specs.declared.event.Event.{Event}
 use Rattle.cue_core.specs.declared.event.Event.TheVariants.{Cancel}
 use Rattle.cue_core.specs.State.{Standing}
 use Rattle.cue_core.specs.Steps.{after, folded}
 use Rattle.cue_core.specs.Batches.{closed, ClosedStays}
-use Rattle.cue_core.proofs.Tests.{or_left, or_right, either, gives, given, itself, same, none-filtered}
+use Rattle.cue_core.proofs.Truth.{or_left, or_right, either, gives, given, itself, same, none-filtered}
 
 abbrev cancel : Reason → Attempt → Event
 cancel r a = Cancel a.seq r

@@ -12,7 +12,7 @@ pub mod Safety
 pub mod ReplyLaws
 pub mod Commute
 pub mod Folding
-pub mod Tests
+pub mod Truth
 pub mod Closing
 pub mod Batches
 pub mod Resting

@@ -13,7 +13,7 @@ use Rattle.cue_core.specs.State.{Standing}
 use Rattle.cue_core.specs.Steps.{after, folded}
 use Rattle.cue_core.specs.Batches.{is_live_in, is_decided_in, LiveByStart, DecidedByGo}
 use Rattle.cue_core.proofs.Conditions.{both, join}
-use Rattle.cue_core.proofs.Tests.{or_left, or_right, or_assoc, either, same, any-append, any-mapped, any-kept}
+use Rattle.cue_core.proofs.Truth.{or_left, or_right, or_assoc, either, same, any-append, any-mapped, any-kept}
 
 -- ---- one event
 

@@ -50,7 +50,7 @@ const TAKES: [(&str, &[u8], &[u8], u32); 4] = [
         "take_goto",
         b"/cue/100/goto\0\0\0,\0\0\0",
         b"/cue/101/goto\0\0\0,\0\0\0",
-        5_000,
+        10_000,
     ),
     ("take_status", b"/status\0", b"/status\0", 100_000),
     (
@@ -107,7 +107,7 @@ pub fn measure<R: Clock + Print + AllocGlobal>(rt: &R, name: &str) -> io::Result
     }
     if name == "all" || name == "take_goto_small" {
         let gotos: (&[u8], &[u8]) = (b"/cue/100/goto\0\0\0,\0\0\0", b"/cue/212/goto\0\0\0,\0\0\0");
-        measure_over(rt, shows::small(alloc), "take_goto_small", gotos, 5_000)?;
+        measure_over(rt, shows::small(alloc), "take_goto_small", gotos, 10_000)?;
     }
     Ok(())
 }

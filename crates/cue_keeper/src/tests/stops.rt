@@ -45,7 +45,7 @@ fn leave(rt: &impl Abort, alloc: Global, kept: &Answered) -> Result<(), Fail> {
     let one = Some(cue(b"1")?);
     let two = Some(cue(b"2")?);
     for extra in [0, 1, u64::MAX] {
-        for junk in [0u8, 1, 2, 255] {
+        for junk in 0..=255u8 {
             let first = kept.first.crash(extra, &[junk])?;
             let second = kept.second.crash(extra, &[junk])?;
             let found = place(alloc, first, second)?;

@@ -1,7 +1,7 @@
 -- Events that are acceptable in turn, one list behind another, and as a history.
 use Rattle.std.proofs.Common.{◌≡◌, List, [], ◌∷◌, ◌++◌, IsTrue, refl}
 use Rattle.cue_core.specs.declared.event.Event.{Event}
-use Rattle.cue_core.specs.State.{Standing}
+use Rattle.cue_core.specs.State.{ShowState}
 use Rattle.cue_core.specs.Steps.{acceptable, after, are_acceptable, folded}
 use Rattle.cue_core.specs.Happenings.{onto}
 use Rattle.cue_core.specs.Batches.{HistoriesFold, AcceptableAreHistories, EventsKeepRules}
@@ -9,14 +9,14 @@ use Rattle.cue_core.proofs.Conditions.{both, join}
 use Rattle.cue_core.proofs.Rules.{is_state-after}
 use Rattle.cue_core.proofs.Cancels.{history-onto}
 
-pub acceptable-append : (s : Standing) (xs ys : List Event) → IsTrue (are_acceptable s xs) → IsTrue (are_acceptable (folded s xs) ys) → IsTrue (are_acceptable s (xs ++ ys))
+pub acceptable-append : (s : ShowState) (xs ys : List Event) → IsTrue (are_acceptable s xs) → IsTrue (are_acceptable (folded s xs) ys) → IsTrue (are_acceptable s (xs ++ ys))
 acceptable-append s [] ys h k = k
 acceptable-append s (e ∷ xs) ys h k =
     let p = both (acceptable s e) (are_acceptable (after s e) xs) h in
     join (acceptable s e) (are_acceptable (after s e) (xs ++ ys)) p.0 (acceptable-append (after s e) xs ys p.1 k)
 
 -- and back
-pub acceptable-parts : (s : Standing) (xs ys : List Event) → IsTrue (are_acceptable s (xs ++ ys)) → IsTrue (are_acceptable s xs) × IsTrue (are_acceptable (folded s xs) ys)
+pub acceptable-parts : (s : ShowState) (xs ys : List Event) → IsTrue (are_acceptable s (xs ++ ys)) → IsTrue (are_acceptable s xs) × IsTrue (are_acceptable (folded s xs) ys)
 acceptable-parts s [] ys h = (refl, h)
 acceptable-parts s (e ∷ xs) ys h =
     let p = both (acceptable s e) (are_acceptable (after s e) (xs ++ ys)) h in

@@ -13,7 +13,7 @@ use Rattle.cue_exchange.specs.Steps.{holds, changed, moves_to, moved, can_cancel
 use Rattle.cue_exchange.proofs.Lists.{pairwise_filter}
 use Rattle.cue_core.specs.declared.event.Event.{Event}
 use Rattle.cue_core.specs.declared.event.Event.TheVariants.{Cancel}
-use Rattle.cue_core.specs.State.{Standing}
+use Rattle.cue_core.specs.State.{ShowState}
 use Rattle.cue_core.specs.Steps.{acceptable, after, are_acceptable}
 use Rattle.cue_core.specs.History.{state_of, is_history}
 use Rattle.cue_core.specs.Happenings.{Happening, commanded, ticked, recovered, can_come, cancels, is_undecided, events_at, onto, history_of, CommandsMakeHistories, CommandsInOrder}
@@ -36,7 +36,7 @@ holds-others p q test f keeps n (a ∷ live) = rw (holds-others p q test f keeps
     at false e = refl
 
 -- cancels of distinct numbers, each of which may be cancelled
-in_turn : (r : Reason) (xs : List Attempt) (s : Standing) → IsTrue (rising xs) → IsTrue (list_all (λ b. can_cancel b.seq s.live) xs) → IsTrue (are_acceptable s (map (λ a. Cancel a.seq r) xs))
+in_turn : (r : Reason) (xs : List Attempt) (s : ShowState) → IsTrue (rising xs) → IsTrue (list_all (λ b. can_cancel b.seq s.live) xs) → IsTrue (are_acceptable s (map (λ a. Cancel a.seq r) xs))
 in_turn r [] s h g = refl
 in_turn r (a ∷ xs) s h g =
     let p = both (list_all (λ b. nat_lt a.seq b.seq) xs) (rising xs) h in
@@ -62,7 +62,7 @@ each_holds pass test f (a ∷ live) = at (pass a) refl (all_from (λ b. holds b.
     at true e h = join (holds a.seq test (a ∷ live)) (list_all (λ x. holds x.seq test (a ∷ live)) (filter pass live)) (rw (same_self a.seq, f a e) refl) h
     at false e h = h
 
-pub cancels-acceptable : (pass : Attempt → Bool) (r : Reason) (s : Standing) → ((a : Attempt) → IsTrue (pass a) → IsTrue (is_preparing a.stage)) → IsTrue (rising s.live) → IsTrue (are_acceptable s (cancels pass r s))
+pub cancels-acceptable : (pass : Attempt → Bool) (r : Reason) (s : ShowState) → ((a : Attempt) → IsTrue (pass a) → IsTrue (is_preparing a.stage)) → IsTrue (rising s.live) → IsTrue (are_acceptable s (cancels pass r s))
 cancels-acceptable pass r s f h = in_turn r (filter pass s.live) s (pairwise_filter (λ a b. nat_lt a.seq b.seq) pass s.live h) (each_holds pass (λ a. is_preparing a.stage) f s.live)
 
 -- events that are acceptable in turn carry a history on

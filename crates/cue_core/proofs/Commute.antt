@@ -17,7 +17,7 @@ use Rattle.cue_exchange.specs.Steps.{changed, answers_as, moves_to, answered, mo
 use Rattle.cue_core.specs.declared.command.Code.TheVariants as code
 use Rattle.cue_core.specs.declared.command.ReplyKind.{ReplyKind}
 use Rattle.cue_core.specs.declared.command.ReplyKind.TheVariants as reply
-use Rattle.cue_core.specs.State.{Standing, with_live, is_state}
+use Rattle.cue_core.specs.State.{ShowState, with_live, is_state}
 use Rattle.cue_core.specs.Steps.{folded, settled, ended_as}
 use Rattle.cue_core.specs.Judge.{Judged, refused, on_reply, on_reply_to, on_reply_in, is_from_another}
 use Rattle.cue_core.specs.Replies.{Said, is_made, is_reply_made, after_reply, RepliesCommute}
@@ -121,7 +121,7 @@ all_go_on q a (b ∷ live) h e w =
     at true n k f g = let same : b ≡ a = cc in join (goes_on q b) (list_all (goes_on q) live) (open_one (nat_eq b.seq q) (some_waits b.answers) (ap (λ (c : Attempt). some_waits c.answers) same ∙ w)) (f n)
     at false n k f g = join (goes_on q b) (list_all (goes_on q) live) (rw n refl) (g k)
 
-settled_open : (s : Standing) (q : ℕ) (live : List Attempt) (a : Attempt) → IsTrue (rising live) → attempt_of live q ≡ Some a → some_waits a.answers ≡ true → settled s q live ≡ with_live s live
+settled_open : (s : ShowState) (q : ℕ) (live : List Attempt) (a : Attempt) → IsTrue (rising live) → attempt_of live q ≡ Some a → some_waits a.answers ≡ true → settled s q live ≡ with_live s live
 settled_open s q live a h e w =
     let open_one : if_closed a ≡ None = rw w refl in
     let none : find (λ (b : Attempt). not (goes_on q b)) live ≡ None = found-closed q live h ∙ (ap (λ (o : Option Attempt). option_and_then if_closed o) e ∙ open_one) in
@@ -169,10 +169,10 @@ answer_of-entered stage e x (z ∷ zs) h = at (nat_eq z.device e) h (answer_of-e
 -- ---- what a reply makes
 
 -- the reply is for a device of the table, from its port, with a number that was drawn
-abbrev comes : Standing → Said → Bool
+abbrev comes : ShowState → Said → Bool
 comes s r = has_device s.show r.device && (not (is_from_another s r.device r.from) && not (nat_lt s.last_seq r.number))
 
-comes_made : (s : Standing) (r : Said) → IsTrue (is_reply_made s r) → IsTrue (comes s r)
+comes_made : (s : ShowState) (r : Said) → IsTrue (is_reply_made s r) → IsTrue (comes s r)
 comes_made s r h = at (has_device s.show r.device) (is_from_another s r.device r.from) (nat_lt s.last_seq r.number) h
   where
     at : (b p l : Bool) → IsTrue (is_made (if not b then refused code.NoMethod else if p then refused code.WrongPort else if l then refused code.Early else option_map_or (on_reply_to r.kind r.device) (attempt_of s.live r.number) (refused code.Stale)).0) → IsTrue (b && (not p && not l))
@@ -181,7 +181,7 @@ comes_made s r h = at (has_device s.show r.device) (is_from_another s r.device r
     at true false true k = cc
     at true false false k = refl
 
-reply_of : (s : Standing) (r : Said) (o : Option Attempt) → IsTrue (comes s r) → attempt_of s.live r.number ≡ o → on_reply s r.from r.kind r.device r.number ≡ option_map_or (on_reply_to r.kind r.device) o (refused code.Stale)
+reply_of : (s : ShowState) (r : Said) (o : Option Attempt) → IsTrue (comes s r) → attempt_of s.live r.number ≡ o → on_reply s r.from r.kind r.device r.number ≡ option_map_or (on_reply_to r.kind r.device) o (refused code.Stale)
 reply_of s r o h e =
     let p = both (has_device s.show r.device) (not (is_from_another s r.device r.from) && not (nat_lt s.last_seq r.number)) h in
     let q = both (not (is_from_another s r.device r.from)) (not (nat_lt s.last_seq r.number)) p.1 in
@@ -194,20 +194,20 @@ reply_of s r o h e =
     at false f l j k m = cc
 
 -- the cell that the reply falls into
-cell_at : (s : Standing) (r : Said) (a : Attempt) (x : Answer) → IsTrue (comes s r) → attempt_of s.live r.number ≡ Some a → answer_of a.answers r.device ≡ Some x → on_reply s r.from r.kind r.device r.number ≡ on_reply_in r.kind r.number r.device a.stage x
+cell_at : (s : ShowState) (r : Said) (a : Attempt) (x : Answer) → IsTrue (comes s r) → attempt_of s.live r.number ≡ Some a → answer_of a.answers r.device ≡ Some x → on_reply s r.from r.kind r.device r.number ≡ on_reply_in r.kind r.number r.device a.stage x
 cell_at s r a x h e g =
     reply_of s r (Some a) h e
     ∙ (ap (λ o. option_map_or (on_reply_in r.kind a.seq r.device a.stage) o (refused code.NotPart)) g
     ∙ ap (λ n. on_reply_in r.kind n r.device a.stage x) (same_number a.seq r.number (found_passes (has_number r.number) s.live a e)))
 
 -- where it is made, there is an attempt and an answer
-pub record Falls (s : Standing) (r : Said) : Type 0 where
+pub record Falls (s : ShowState) (r : Said) : Type 0 where
   pub attempt : Attempt
   pub found : attempt_of s.live r.number ≡ Some attempt
   pub given : Answer
   pub answered : answer_of attempt.answers r.device ≡ Some given
 
-falls : (s : Standing) (r : Said) → IsTrue (is_reply_made s r) → Falls s r
+falls : (s : ShowState) (r : Said) → IsTrue (is_reply_made s r) → Falls s r
 falls s r h = at (attempt_of s.live r.number) refl (let P : Judged → Type 0 = λ j. IsTrue (is_made j.0) in subst P (reply_of s r (attempt_of s.live r.number) (comes_made s r h) refl) h)
   where
     within : (a : Attempt) (o : Option Answer) → answer_of a.answers r.device ≡ o → attempt_of s.live r.number ≡ Some a → IsTrue (is_made (option_map_or (on_reply_in r.kind a.seq r.device a.stage) o (refused code.NotPart)).0) → Falls s r
@@ -222,7 +222,7 @@ falls s r h = at (attempt_of s.live r.number) refl (let P : Judged → Type 0 = 
 pub record Ends (kind : ReplyKind) (q d : ℕ) (stage : Stage) (x : Answer) : Type 0 where
   pub last : Answer
   pub waited : IsTrue (is_waiting x)
-  pub makes : (s : Standing) → folded s (on_reply_in kind q d stage x).1 ≡ settled s q (answered q d last s.live)
+  pub makes : (s : ShowState) → folded s (on_reply_in kind q d stage x).1 ≡ settled s q (answered q d last s.live)
 
 ends : (kind : ReplyKind) (q d : ℕ) (stage : Stage) (x : Answer) → is_preparing stage ≡ false → IsTrue (is_made (on_reply_in kind q d stage x).0) → Ends kind q d stage x
 ends kind q d Preparing x p h = absurd (cc)
@@ -257,13 +257,13 @@ ends reply.Abort q d (Cancelling r) answer.Failed p h = absurd (cc)
 
 -- an attempt that is Preparing: the device stands by, and is too late once the attempt is given up
 pub record Readies (kind : ReplyKind) (q d : ℕ) (stage : Stage) (x : Answer) : Type 0 where
-  pub makes : (s : Standing) → folded s (on_reply_in kind q d stage x).1 ≡ with_live s (answered q d answer.Ready s.live)
-  pub late : (s : Standing) (n : ℕ) (y : Answer) → folded s (on_reply_in kind n d (Cancelling Abort) y).1 ≡ s
+  pub makes : (s : ShowState) → folded s (on_reply_in kind q d stage x).1 ≡ with_live s (answered q d answer.Ready s.live)
+  pub late : (s : ShowState) (n : ℕ) (y : Answer) → folded s (on_reply_in kind n d (Cancelling Abort) y).1 ≡ s
 
 -- or it aborts: the attempt is given up, and the device has failed
 pub record Aborts (kind : ReplyKind) (q d : ℕ) (stage : Stage) (x : Answer) : Type 0 where
-  pub makes : (s : Standing) → folded s (on_reply_in kind q d stage x).1 ≡ settled s q (answered q d answer.Failed (moved q (Cancelling Abort) s.live))
-  pub later : (s : Standing) → folded s (on_reply_in kind q d (Cancelling Abort) answer.Waiting).1 ≡ settled s q (answered q d answer.Failed s.live)
+  pub makes : (s : ShowState) → folded s (on_reply_in kind q d stage x).1 ≡ settled s q (answered q d answer.Failed (moved q (Cancelling Abort) s.live))
+  pub later : (s : ShowState) → folded s (on_reply_in kind q d (Cancelling Abort) answer.Waiting).1 ≡ settled s q (answered q d answer.Failed s.live)
 
 prepares : (kind : ReplyKind) (q d : ℕ) (stage : Stage) (x : Answer) → is_preparing stage ≡ true → IsTrue (is_made (on_reply_in kind q d stage x).0) → Readies kind q d stage x ⊎ Aborts kind q d stage x
 prepares kind q d Decided x p h = absurd (cc)
@@ -288,7 +288,7 @@ given_number d x a = refl
 moved_to_number : (stage : Stage) (a : Attempt) → (moves_to stage a).seq ≡ a.seq
 moved_to_number stage a = refl
 
-module _ (s : Standing) (q : ℕ) (a : Attempt) (rises : IsTrue (rising s.live)) (here : attempt_of s.live q ≡ Some a) where
+module _ (s : ShowState) (q : ℕ) (a : Attempt) (rises : IsTrue (rising s.live)) (here : attempt_of s.live q ≡ Some a) where
   -- the first reply, and then the second, where both are last answers
   ends_then : (f g : ℕ) (k m : ReplyKind) (d e : ℕ) (x y : Answer) → nat_eq d e ≡ false → IsTrue (comes s (says f k d q)) → IsTrue (comes s (says g m e q)) → answer_of a.answers d ≡ Some x → answer_of a.answers e ≡ Some y
       → (u : Ends k q d a.stage x) (v : Ends m q e a.stage y)
@@ -391,7 +391,7 @@ unlike d e n = at (nat_eq d e) refl
     at false k = refl
 
 -- the two replies name one attempt
-one_number : (s : Standing) (f g : ℕ) (k m : ReplyKind) (d e q : ℕ) → IsTrue (is_state s) → d ≢ e → IsTrue (is_reply_made s (says f k d q)) → IsTrue (is_reply_made s (says g m e q))
+one_number : (s : ShowState) (f g : ℕ) (k m : ReplyKind) (d e q : ℕ) → IsTrue (is_state s) → d ≢ e → IsTrue (is_reply_made s (says f k d q)) → IsTrue (is_reply_made s (says g m e q))
     → after_reply (after_reply s (says f k d q)) (says g m e q) ≡ after_reply (after_reply s (says g m e q)) (says f k d q)
 one_number s f g k m d e q h n hr ht =
     let r : Said = says f k d q in

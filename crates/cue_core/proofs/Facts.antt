@@ -11,11 +11,11 @@ use Rattle.cue_exchange.specs.Steps.{can_go_now, can_start}
 use Rattle.cue_show.specs.Show.{has_cue}
 use Rattle.cue_core.specs.declared.event.Event.{Event}
 use Rattle.cue_core.specs.declared.event.Event.TheVariants as event
-use Rattle.cue_core.specs.State.{Standing, cue_parts}
+use Rattle.cue_core.specs.State.{ShowState, cue_parts}
 use Rattle.cue_core.specs.Steps.{acceptable, after}
 use Rattle.cue_core.specs.Events.{is_start, is_start_of, is_ready_of, is_go_of, is_cancel_of, is_end_of}
 use Rattle.cue_core.specs.History.{state_of, is_history, devices_by, is_live_by, stood_by, FactsByHistory}
-use Rattle.cue_core.specs.Order.{keeps_order, is_in_order, GoAfterReady}
+use Rattle.cue_core.specs.InOrder.{keeps_order, is_in_order, GoAfterReady}
 use Rattle.cue_core.proofs.Conditions.{both, join, cases, agrees, same-agrees, all_zip, all_mapped, any_not, same_number}
 use Rattle.cue_core.proofs.Finding.{found, found_has}
 use Rattle.cue_core.proofs.Tells.{not_decided, Tells, is_last, last_by, ready_by}
@@ -24,7 +24,7 @@ use Rattle.cue_core.proofs.Sound.{kept-history, sound-history}
 
 -- ---- the last number
 
-last_counts : (s : Standing) (e : Event) → IsTrue (acceptable s e) → (after s e).last_seq ≡ (if is_start e then 1 + s.last_seq else s.last_seq)
+last_counts : (s : ShowState) (e : Event) → IsTrue (acceptable s e) → (after s e).last_seq ≡ (if is_start e then 1 + s.last_seq else s.last_seq)
 last_counts s (event.Device d port) g = refl
 last_counts s (event.NoDevice d) g = refl
 last_counts s (event.Cue c parts) g = refl

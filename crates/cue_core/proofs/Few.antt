@@ -14,7 +14,7 @@ use Rattle.cue_core.specs.declared.command.Command.TheVariants as command
 use Rattle.cue_core.specs.declared.command.ReplyKind.{ReplyKind}
 use Rattle.cue_core.specs.declared.command.ReplyKind.TheVariants as reply
 use Rattle.cue_core.specs.declared.command.Verdict.TheVariants.{Made, Known, No}
-use Rattle.cue_core.specs.State.{Standing}
+use Rattle.cue_core.specs.State.{ShowState}
 use Rattle.cue_core.specs.Judge.{Judged, judged, on_reply_in, on_reply_to}
 
 pub record HasItsEvents (j : Judged) : Type 0 where
@@ -95,7 +95,7 @@ reply_to-has : (kind : ReplyKind) (d : ℕ) (a : Attempt) → HasItsEvents (on_r
 reply_to-has kind d a = or-has (on_reply_in kind a.seq d a.stage) (answer_of a.answers d) _ (λ x. reply-has kind a.seq d a.stage x) none-refused
 
 -- each verdict has its events
-pub judged-has : (s : Standing) (now from : ℕ) (c : Command) → HasItsEvents (judged s now from c)
+pub judged-has : (s : ShowState) (now from : ℕ) (c : Command) → HasItsEvents (judged s now from c)
 judged-has s now from command.Status = none-known
 judged-has s now from (command.AddDevice d p) = search (if-has, or-has, none-known, none-refused, one, two)
 judged-has s now from (command.AddCue c ps) = search (if-has, or-has, none-known, none-refused, one, two)

@@ -3,21 +3,21 @@ use Rattle.std.proofs.Common.{◌≡◌, ℕ, ◌+◌, ◌<◌, List, [], ◌∷
 use Rattle.std.specs.Prelude.{IsTrue}
 use Rattle.std.proofs.lemmas.List.{take_more, drop_more}
 use Rattle.cue_core.specs.declared.event.Event.{Event}
-use Rattle.cue_core.specs.State.{Standing}
+use Rattle.cue_core.specs.State.{ShowState}
 use Rattle.cue_core.specs.Steps.{acceptable, after, are_acceptable, folded}
 use Rattle.cue_core.proofs.Conditions.{both}
 
 -- first the ones, then the others
-pub folded-append : (s : Standing) (xs ys : List Event) → folded s (xs ++ ys) ≡ folded (folded s xs) ys
+pub folded-append : (s : ShowState) (xs ys : List Event) → folded s (xs ++ ys) ≡ folded (folded s xs) ys
 folded-append s [] ys = refl
 folded-append s (e ∷ xs) ys = folded-append (after s e) xs ys
 
 -- one event more
-pub folded-more : (s : Standing) (es : List Event) (i : ℕ) (e : Event) → i < length es → e ≡ get_or es i e → folded s (take (i + 1) es) ≡ after (folded s (take i es)) e
+pub folded-more : (s : ShowState) (es : List Event) (i : ℕ) (e : Event) → i < length es → e ≡ get_or es i e → folded s (take (i + 1) es) ≡ after (folded s (take i es)) e
 folded-more s es i e l h = ap (λ xs. folded s xs) (take_more es i e l) ∙ (folded-append s (take i es) (get_or es i e ∷ []) ∙ ap (λ x. after (folded s (take i es)) x) (sym h))
 
 -- of events that are acceptable in turn the first is, and then the others
-pub acceptable-next : (s : Standing) (es : List Event) (i : ℕ) (e : Event) → i < length es → e ≡ get_or es i e → IsTrue (are_acceptable s (drop i es)) → IsTrue (acceptable s e) × IsTrue (are_acceptable (after s e) (drop (i + 1) es))
+pub acceptable-next : (s : ShowState) (es : List Event) (i : ℕ) (e : Event) → i < length es → e ≡ get_or es i e → IsTrue (are_acceptable s (drop i es)) → IsTrue (acceptable s e) × IsTrue (are_acceptable (after s e) (drop (i + 1) es))
 acceptable-next s es i e l h g =
     let cut : drop i es ≡ e ∷ drop (i + 1) es = drop_more es i e l ∙ ap (λ x. x ∷ drop (i + 1) es) (sym h) in
     let P : List Event → Type 0 = λ xs. IsTrue (are_acceptable s xs) in

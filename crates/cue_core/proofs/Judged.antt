@@ -35,22 +35,22 @@ use Rattle.cue_core.specs.declared.command.ReplyKind.TheVariants as reply
 use Rattle.cue_core.specs.declared.command.Code.TheVariants as code
 use Rattle.cue_core.specs.declared.command.Command.{Command}
 use Rattle.cue_core.specs.declared.command.Command.TheVariants as command
-use Rattle.cue_core.specs.State.{Standing, cue_parts, is_state}
+use Rattle.cue_core.specs.State.{ShowState, cue_parts, is_state}
 use Rattle.cue_core.specs.Steps.{acceptable, after, are_acceptable}
 use Rattle.cue_core.specs.Judge.{made, known, refused, judged, is_fit, on_add_device, on_remove_device, on_add_cue, on_new_cue, on_goto, on_remove_cue, on_standby, on_standby_of, prepares, on_go, on_go_of, on_cancel, on_cancel_of, on_release, on_release_of, on_reply, on_reply_to, on_reply_in, is_from_another}
 use Rattle.cue_core.proofs.Conditions.{both, join, all_from, same_self}
 use Rattle.cue_core.proofs.Finding.{found_passes}
 use Rattle.cue_core.proofs.Rules.{Rules, rules_of}
 
-one : (s : Standing) (e : Event) → IsTrue (acceptable s e) → IsTrue (are_acceptable s (e ∷ []))
+one : (s : ShowState) (e : Event) → IsTrue (acceptable s e) → IsTrue (are_acceptable s (e ∷ []))
 one s e g = join (acceptable s e) true g refl
 
-two : (s : Standing) (e f : Event) → IsTrue (acceptable s e) → IsTrue (acceptable (after s e) f) → IsTrue (are_acceptable s (e ∷ f ∷ []))
+two : (s : ShowState) (e f : Event) → IsTrue (acceptable s e) → IsTrue (acceptable (after s e) f) → IsTrue (are_acceptable s (e ∷ f ∷ []))
 two s e f g h = join (acceptable s e) (acceptable (after s e) f && true) g (join (acceptable (after s e) f) true h refl)
 
 -- ---- the device table and the cue stack
 
-add_device_fits : (s : Standing) (d port : ℕ) → IsTrue (is_device d && is_port port) → IsTrue (are_acceptable s (on_add_device s d port).1)
+add_device_fits : (s : ShowState) (d port : ℕ) → IsTrue (is_device d && is_port port) → IsTrue (are_acceptable s (on_add_device s d port).1)
 add_device_fits s d port fit = by (port_of s.show d) refl
   where
     at : (b : Bool) → IsTrue (are_acceptable s (if b then known else refused code.Duplicate).1)
@@ -61,7 +61,7 @@ add_device_fits s d port fit = by (port_of s.show d) refl
     by None e = one s (event.Device d port) (join (not (has_device s.show d)) (is_device d && is_port port) (rw e refl) fit)
     by (Some p) e = at (nat_eq p port)
 
-remove_device_fits : (s : Standing) (d : ℕ) → IsTrue (are_acceptable s (on_remove_device s d).1)
+remove_device_fits : (s : ShowState) (d : ℕ) → IsTrue (are_acceptable s (on_remove_device s d).1)
 remove_device_fits s d = by (has_device s.show d) (is_used s.show d) refl refl
   where
     by : (b u : Bool) → has_device s.show d ≡ b → is_used s.show d ≡ u → IsTrue (are_acceptable s (if not b then refused code.NoMethod else if u then refused code.InUse else made (event.NoDevice d ∷ [])).1)
@@ -69,7 +69,7 @@ remove_device_fits s d = by (has_device s.show d) (is_used s.show d) refl refl
     by true true e f = refl
     by true false e f = one s (event.NoDevice d) (join (has_device s.show d) (not (is_used s.show d)) e (rw f refl))
 
-new_cue_fits : (s : Standing) (c : List ℕ) (parts : List Part) → IsTrue (is_cue_number c && are_parts parts) → IsTrue (are_known s.show parts) → IsTrue (are_acceptable s (on_new_cue s c parts).1)
+new_cue_fits : (s : ShowState) (c : List ℕ) (parts : List Part) → IsTrue (is_cue_number c && are_parts parts) → IsTrue (are_known s.show parts) → IsTrue (are_acceptable s (on_new_cue s c parts).1)
 new_cue_fits s c parts fit there = by (parts_of s.show c) refl
   where
     at : (b : Bool) → IsTrue (are_acceptable s (if b then known else refused code.Duplicate).1)
@@ -89,14 +89,14 @@ new_cue_fits s c parts fit there = by (parts_of s.show c) refl
     by None e = new (is_full s.show) refl e
     by (Some old) e = at (same_parts old parts)
 
-add_cue_fits : (s : Standing) (c : List ℕ) (parts : List Part) → IsTrue (is_cue_number c && are_parts parts) → IsTrue (are_acceptable s (on_add_cue s c parts).1)
+add_cue_fits : (s : ShowState) (c : List ℕ) (parts : List Part) → IsTrue (is_cue_number c && are_parts parts) → IsTrue (are_acceptable s (on_add_cue s c parts).1)
 add_cue_fits s c parts fit = by (are_known s.show parts) refl
   where
     by : (b : Bool) → are_known s.show parts ≡ b → IsTrue (are_acceptable s (if not b then refused code.UnknownDevice else on_new_cue s c parts).1)
     by false e = refl
     by true e = new_cue_fits s c parts fit e
 
-goto_fits : (s : Standing) (c : List ℕ) → IsTrue (are_acceptable s (on_goto s c).1)
+goto_fits : (s : ShowState) (c : List ℕ) → IsTrue (are_acceptable s (on_goto s c).1)
 goto_fits s c = by (has_cue s.show c) (is_place c s.show.place) refl
   where
     by : (b p : Bool) → has_cue s.show c ≡ b → IsTrue (are_acceptable s (if not b then refused code.NoMethod else if p then known else made (event.Place c ∷ [])).1)
@@ -104,7 +104,7 @@ goto_fits s c = by (has_cue s.show c) (is_place c s.show.place) refl
     by true true e = refl
     by true false e = one s (event.Place c) e
 
-remove_cue_fits : (s : Standing) (c : List ℕ) → IsTrue (are_acceptable s (on_remove_cue s c).1)
+remove_cue_fits : (s : ShowState) (c : List ℕ) → IsTrue (are_acceptable s (on_remove_cue s c).1)
 remove_cue_fits s c = by (has_cue s.show c) (is_some (attempt_of_cue s.live c)) refl refl
   where
     by : (b l : Bool) → has_cue s.show c ≡ b → is_some (attempt_of_cue s.live c) ≡ l → IsTrue (are_acceptable s (if not b then refused code.NoMethod else if l then refused code.Busy else made (event.NoCue c ∷ [])).1)
@@ -132,7 +132,7 @@ sound_parts parts h =
     let r = both (distinct (devices_in parts)) (list_all is_part parts) q.1 in
     join (nat_le 1 (length (devices_in parts))) (distinct (devices_in parts)) (rw (length-map parts (λ p. p.device)) p.0) r.0
 
-start_fits : (s : Standing) (c : List ℕ) (t : ℕ) (parts : List Part) → Rules s → parts_of s.show c ≡ Some parts → IsTrue (are_free (devices_in parts) s.live) → IsTrue (has_room s.live) → nat_le LAST_NUMBER s.last_seq ≡ false → IsTrue (is_moment t)
+start_fits : (s : ShowState) (c : List ℕ) (t : ℕ) (parts : List Part) → Rules s → parts_of s.show c ≡ Some parts → IsTrue (are_free (devices_in parts) s.live) → IsTrue (has_room s.live) → nat_le LAST_NUMBER s.last_seq ≡ false → IsTrue (is_moment t)
     → IsTrue (acceptable s (event.Start (s.last_seq + 1) c t))
 start_fits s c t parts r e free room below moment =
     join (nat_eq (s.last_seq + 1) (s.last_seq + 1)) (has_cue s.show c && can_start (s.last_seq + 1) t (cue_parts s.show c) s.live) (same_self (s.last_seq + 1))
@@ -150,7 +150,7 @@ start_fits s c t parts r e free room below moment =
     above : (n : ℕ) → IsTrue (nat_le n s.last_seq) → IsTrue (nat_lt n (s.last_seq + 1))
     above n k = Prim.grind (arith, nat_tests, k)
 
-standby_of_fits : (s : Standing) (now : ℕ) (c : List ℕ) (parts : List Part) → Rules s → parts_of s.show c ≡ Some parts → IsTrue (are_acceptable s (on_standby_of s now c parts).1)
+standby_of_fits : (s : ShowState) (now : ℕ) (c : List ℕ) (parts : List Part) → Rules s → parts_of s.show c ≡ Some parts → IsTrue (are_acceptable s (on_standby_of s now c parts).1)
 standby_of_fits s now c parts r e = by (prepares s c) (are_free (devices_in parts) s.live) (has_room s.live) (nat_le LAST_NUMBER s.last_seq) (is_moment (now + STANDBY_MS)) refl refl refl refl
   where
     by : (p f h l m : Bool) → are_free (devices_in parts) s.live ≡ f → has_room s.live ≡ h → nat_le LAST_NUMBER s.last_seq ≡ l → is_moment (now + STANDBY_MS) ≡ m
@@ -162,7 +162,7 @@ standby_of_fits s now c parts r e = by (prepares s c) (are_free (devices_in part
     by false true true false false a b d g = refl
     by false true true false true a b d g = one s (event.Start (s.last_seq + 1) c (now + STANDBY_MS)) (start_fits s c (now + STANDBY_MS) parts r e a b d g)
 
-standby_fits : (s : Standing) (now : ℕ) (c : List ℕ) → Rules s → IsTrue (are_acceptable s (on_standby s now c).1)
+standby_fits : (s : ShowState) (now : ℕ) (c : List ℕ) → Rules s → IsTrue (are_acceptable s (on_standby s now c).1)
 standby_fits s now c r = by (parts_of s.show c) refl
   where
     by : (o : Option (List Part)) → parts_of s.show c ≡ o → IsTrue (are_acceptable s (option_map_or (on_standby_of s now c) o (refused code.NoMethod)).1)
@@ -212,7 +212,7 @@ found_holds_changed t test f keeps (x ∷ live) a e k = at (t x) e (found_holds_
     at true e g = let same : x ≡ a = cc in or_left (nat_eq (changed a.seq f x).seq a.seq && test (changed a.seq f x)) (holds a.seq test (map (changed a.seq f) live)) (here (changed a.seq f x) (ap (changed a.seq f) same ∙ changed_itself f a))
     at false e g = or_right (nat_eq (changed a.seq f x).seq a.seq && test (changed a.seq f x)) (holds a.seq test (map (changed a.seq f) live)) (g e k)
 
-go_of_fits : (s : Standing) (t : Attempt → Bool) (a : Attempt) → find t s.live ≡ Some a → IsTrue (are_acceptable s (on_go_of a).1)
+go_of_fits : (s : ShowState) (t : Attempt → Bool) (a : Attempt) → find t s.live ≡ Some a → IsTrue (are_acceptable s (on_go_of a).1)
 go_of_fits s t a e = by (is_decided a.stage) (can_go_now a) refl
   where
     by : (b g : Bool) → can_go_now a ≡ g → IsTrue (are_acceptable s (if b then known else if g then made (event.Go a.seq ∷ []) else refused code.NotReady).1)
@@ -220,7 +220,7 @@ go_of_fits s t a e = by (is_decided a.stage) (can_go_now a) refl
     by false true k = one s (event.Go a.seq) (found_holds t can_go_now s.live a e k)
     by false false k = refl
 
-go_fits : (s : Standing) (c : List ℕ) → IsTrue (are_acceptable s (on_go s c).1)
+go_fits : (s : ShowState) (c : List ℕ) → IsTrue (are_acceptable s (on_go s c).1)
 go_fits s c = by (has_cue s.show c) (attempt_of_cue s.live c) refl
   where
     by : (b : Bool) (o : Option Attempt) → attempt_of_cue s.live c ≡ o → IsTrue (are_acceptable s (if not b then refused code.NoMethod else option_map_or on_go_of o (refused code.NotLive)).1)
@@ -233,7 +233,7 @@ undecided Preparing a b = refl
 undecided Decided a b = cc
 undecided (Cancelling r) a b = cc
 
-cancel_of_fits : (s : Standing) (t : Attempt → Bool) (a : Attempt) → find t s.live ≡ Some a → IsTrue (are_acceptable s (on_cancel_of a).1)
+cancel_of_fits : (s : ShowState) (t : Attempt → Bool) (a : Attempt) → find t s.live ≡ Some a → IsTrue (are_acceptable s (on_cancel_of a).1)
 cancel_of_fits s t a e = by (is_decided a.stage) (is_cancelling a.stage) refl refl
   where
     by : (b g : Bool) → is_decided a.stage ≡ b → is_cancelling a.stage ≡ g → IsTrue (are_acceptable s (if b then refused code.Decided else if g then known else made (event.Cancel a.seq Operator ∷ [])).1)
@@ -241,7 +241,7 @@ cancel_of_fits s t a e = by (is_decided a.stage) (is_cancelling a.stage) refl re
     by false true k l = refl
     by false false k l = one s (event.Cancel a.seq Operator) (found_holds t (λ b. is_preparing b.stage) s.live a e (undecided a.stage k l))
 
-cancel_fits : (s : Standing) (c : List ℕ) → IsTrue (are_acceptable s (on_cancel s c).1)
+cancel_fits : (s : ShowState) (c : List ℕ) → IsTrue (are_acceptable s (on_cancel s c).1)
 cancel_fits s c = by (has_cue s.show c) (attempt_of_cue s.live c) refl
   where
     by : (b : Bool) (o : Option Attempt) → attempt_of_cue s.live c ≡ o → IsTrue (are_acceptable s (if not b then refused code.NoMethod else option_map_or on_cancel_of o (refused code.NotLive)).1)
@@ -259,7 +259,7 @@ asked_anew stage d (x ∷ xs) h = at (nat_eq x.device d) h (asked_anew stage d x
     at false k f = f k
 
 -- Cancel, and then an answer to it
-cancelled_then : (s : Standing) (t : Attempt → Bool) (a : Attempt) (r : Reason) (d : ℕ) (stage : Stage → Bool) → find t s.live ≡ Some a → IsTrue (is_preparing a.stage) → IsTrue (is_among d (devices_of a.answers)) → IsTrue (stage (Cancelling r))
+cancelled_then : (s : ShowState) (t : Attempt → Bool) (a : Attempt) (r : Reason) (d : ℕ) (stage : Stage → Bool) → find t s.live ≡ Some a → IsTrue (is_preparing a.stage) → IsTrue (is_among d (devices_of a.answers)) → IsTrue (stage (Cancelling r))
     → IsTrue (acceptable s (event.Cancel a.seq r)) × IsTrue (holds a.seq (waits_in stage d) (moved a.seq (Cancelling r) s.live))
 cancelled_then s t a r d stage e p m k = (
   found_holds t (λ b. is_preparing b.stage) s.live a e p,
@@ -285,7 +285,7 @@ among_of d (x ∷ xs) h = at (nat_eq x.device d) h (among_of d xs)
     at true k f = refl
     at false k f = f k
 
-release_of_fits : (s : Standing) (d : ℕ) (a : Attempt) → attempt_of_device s.live d ≡ Some a → IsTrue (are_acceptable s (on_release_of d a).1)
+release_of_fits : (s : ShowState) (d : ℕ) (a : Attempt) → attempt_of_device s.live d ≡ Some a → IsTrue (are_acceptable s (on_release_of d a).1)
 release_of_fits s d a e = by (is_preparing a.stage) (answer_passes is_waiting d a.answers) (is_decided a.stage) refl refl refl
   where
     by : (p w b : Bool) → is_preparing a.stage ≡ p → answer_passes is_waiting d a.answers ≡ w → is_decided a.stage ≡ b
@@ -295,7 +295,7 @@ release_of_fits s d a e = by (is_preparing a.stage) (answer_passes is_waiting d 
     by false true true k l m = one s (event.Failed a.seq d) (found_holds (is_of_device d) (waits_in is_concluding d) s.live a e (join (is_concluding a.stage) (answer_passes is_waiting d a.answers) (decided_closes a.stage m) l))
     by false true false k l m = one s (event.LetGo a.seq d) (found_holds (is_of_device d) (waits_in is_cancelling d) s.live a e (join (is_cancelling a.stage) (answer_passes is_waiting d a.answers) (gives_up a.stage k m) l))
 
-release_fits : (s : Standing) (d : ℕ) → IsTrue (are_acceptable s (on_release s d).1)
+release_fits : (s : ShowState) (d : ℕ) → IsTrue (are_acceptable s (on_release s d).1)
 release_fits s d = by (has_device s.show d) (attempt_of_device s.live d) refl
   where
     by : (b : Bool) (o : Option Attempt) → attempt_of_device s.live d ≡ o → IsTrue (are_acceptable s (if not b then refused code.NoMethod else option_map_or (on_release_of d) o (refused code.NotLive)).1)
@@ -317,7 +317,7 @@ answer_told d (y ∷ ys) x e = at (nat_eq y.device d) e (answer_told d ys x)
     at false e f = f e
 
 -- what is said of an attempt that was found, and of an answer of it
-module _ (s : Standing) (t : Attempt → Bool) (a : Attempt) (d : ℕ) (e : find t s.live ≡ Some a) where
+module _ (s : ShowState) (t : Attempt → Bool) (a : Attempt) (d : ℕ) (e : find t s.live ≡ Some a) where
   waits_fits : (stage : Stage) (test : Stage → Bool) (x : Answer) → a.stage ≡ stage → answer_of a.answers d ≡ Some x → IsTrue (test stage) → IsTrue (is_waiting x) → IsTrue (holds a.seq (waits_in test d) s.live)
   waits_fits stage test x f g h k = found_holds t (waits_in test d) s.live a e (join (test a.stage) (answer_passes is_waiting d a.answers) (rw f h) ((answer_told d a.answers x g).1 is_waiting k))
 
@@ -366,7 +366,7 @@ module _ (s : Standing) (t : Attempt → Bool) (a : Attempt) (d : ℕ) (e : find
       by None g = refl
       by (Some x) g = reply_in_fits kind a.stage x refl g
 
-reply_fits : (s : Standing) (from : ℕ) (kind : ReplyKind) (d q : ℕ) → IsTrue (are_acceptable s (on_reply s from kind d q).1)
+reply_fits : (s : ShowState) (from : ℕ) (kind : ReplyKind) (d q : ℕ) → IsTrue (are_acceptable s (on_reply s from kind d q).1)
 reply_fits s from kind d q = by (has_device s.show d) (is_from_another s d from) (nat_lt s.last_seq q) (attempt_of s.live q) refl
   where
     by : (b p l : Bool) (o : Option Attempt) → attempt_of s.live q ≡ o
@@ -379,7 +379,7 @@ reply_fits s from kind d q = by (has_device s.show d) (is_from_another s d from)
 
 -- ---- all commands
 
-pub judged-acceptable : (s : Standing) (now from : ℕ) (c : Command) → IsTrue (is_state s) → IsTrue (is_fit c) → IsTrue (are_acceptable s (judged s now from c).1)
+pub judged-acceptable : (s : ShowState) (now from : ℕ) (c : Command) → IsTrue (is_state s) → IsTrue (is_fit c) → IsTrue (are_acceptable s (judged s now from c).1)
 judged-acceptable s now from command.Status h fit = refl
 judged-acceptable s now from (command.AddDevice d port) h fit = add_device_fits s d port fit
 judged-acceptable s now from (command.AddCue c parts) h fit = add_cue_fits s c parts fit

@@ -17,7 +17,7 @@ use Rattle.cue_exchange.specs.Steps.{holds, waits_in, answers_as, moves_to, new_
 use Rattle.cue_show.specs.Show.{has_cue}
 use Rattle.cue_core.specs.declared.event.Event.{Event}
 use Rattle.cue_core.specs.declared.event.Event.TheVariants as event
-use Rattle.cue_core.specs.State.{Standing, cue_parts}
+use Rattle.cue_core.specs.State.{ShowState, cue_parts}
 use Rattle.cue_core.specs.Steps.{acceptable, after, can_begin}
 use Rattle.cue_core.specs.Events.{is_ready_of, is_go_of, is_cancel_of, is_end_of, is_about}
 use Rattle.cue_core.specs.History.{devices_by, state_of}
@@ -26,7 +26,7 @@ use Rattle.cue_core.proofs.Finding.{rising, lacks-below, attempt_of-lacks, attem
 use Rattle.cue_core.proofs.Tells.{Tells, IsQuiet, quiet, tells-on, devices_by-on, tells-start, tells-ready, tells-go, tells-cancel, IsLastAnswer, tells-end, is_last, gone_by}
 
 -- what the rules of a state say that is used here
-pub record IsSound (s : Standing) : Type 0 where
+pub record IsSound (s : ShowState) : Type 0 where
   pub rises : IsTrue (rising s.live)
   pub stand : IsTrue (list_all (λ a. list_all (stands a.stage) a.answers) s.live)
   pub within : IsTrue (list_all (λ a. nat_le a.seq s.last_seq) s.live)
@@ -37,7 +37,7 @@ abbrev pub Settles : List Event → ℕ → Option Attempt → Type 0
 Settles h q None = IsTrue (list_all (λ d. list_any (is_end_of q d) h) (devices_by h q))
 Settles h q (Some a) = Tells h q a
 
-pub record Kept (h : List Event) (s : Standing) : Type 0 where
+pub record Kept (h : List Event) (s : ShowState) : Type 0 where
   pub settles : (q : ℕ) → Settles h q (attempt_of s.live q)
   pub unused : (q : ℕ) → s.last_seq < q → list_any (is_about q) h ≡ false
 
@@ -68,7 +68,7 @@ started_other q a live n = find-append (has_number q) live (a ∷ []) ∙ at (at
 ended_other : (p q d : ℕ) (given : Answer) (live : List Attempt) → nat_eq p q ≡ false → attempt_of (without_ended p (answered p d given live)) q ≡ attempt_of live q
 ended_other p q d given live n = attempt_of-without_ended_other p q (answered p d given live) n ∙ found-others p q (answers_as d given) (kept_number d given) live n
 
-pub attempt_of-after_other : (s : Standing) (q : ℕ) (e : Event) → is_about q e ≡ false → attempt_of (after s e).live q ≡ attempt_of s.live q
+pub attempt_of-after_other : (s : ShowState) (q : ℕ) (e : Event) → is_about q e ≡ false → attempt_of (after s e).live q ≡ attempt_of s.live q
 attempt_of-after_other s q (event.Device d port) n = refl
 attempt_of-after_other s q (event.NoDevice d) n = refl
 attempt_of-after_other s q (event.Cue c parts) n = refl
@@ -82,7 +82,7 @@ attempt_of-after_other s q (event.Cancel p r) n = found-others p q (moves_to (Ca
 attempt_of-after_other s q (event.LetGo p d) n = ended_other p q d answer.LetGo s.live n
 attempt_of-after_other s q (event.Failed p d) n = ended_other p q d answer.Failed s.live n
 
-step_other : (h : List Event) (s : Standing) (q : ℕ) (e : Event) → Kept h s → is_about q e ≡ false → Settles (e ∷ h) q (attempt_of (after s e).live q)
+step_other : (h : List Event) (s : ShowState) (q : ℕ) (e : Event) → Kept h s → is_about q e ≡ false → Settles (e ∷ h) q (attempt_of (after s e).live q)
 step_other h s q e k n = rw (attempt_of-after_other s q e n) (settles-on q e h (attempt_of s.live q) (quiet q e n) (k.settles q))
 
 -- ---- events of the number itself
@@ -110,24 +110,24 @@ step_start h q c t k above below =
     (rw (same_self q) refl))
 
 -- the stage of the attempt, and how its devices stand
-stands_at : (s : Standing) (q : ℕ) (a : Attempt) → IsSound s → attempt_of s.live q ≡ Some a → IsTrue (list_all (stands a.stage) a.answers)
+stands_at : (s : ShowState) (q : ℕ) (a : Attempt) → IsSound s → attempt_of s.live q ≡ Some a → IsTrue (list_all (stands a.stage) a.answers)
 stands_at s q a i e = found_has (λ b. list_all (stands b.stage) b.answers) (has_number q) s.live a i.stand e
 
-step_ready : (h : List Event) (s : Standing) (q d : ℕ) → Kept h s → IsSound s → IsTrue (can_ready q d s.live) → Settles (event.Ready q d ∷ h) q (attempt_of (answered q d answer.Ready s.live) q)
+step_ready : (h : List Event) (s : ShowState) (q d : ℕ) → Kept h s → IsSound s → IsTrue (can_ready q d s.live) → Settles (event.Ready q d ∷ h) q (attempt_of (answered q d answer.Ready s.live) q)
 step_ready h s q d k i g =
     let f = found q (waits_in is_preparing d) s.live i.rises g in
     let p = both (is_preparing f.0.stage) (answer_passes is_waiting d f.0.answers) f.2 in
     rw (found-changed q (answers_as d answer.Ready) (kept_number d answer.Ready) s.live f.0 f.1)
     (tells-ready q d h f.0 p.0 (stands_at s q f.0 i f.1) (told_at h q (attempt_of s.live q) f.0 f.1 (k.settles q)))
 
-step_go : (h : List Event) (s : Standing) (q : ℕ) → Kept h s → IsSound s → IsTrue (can_go q s.live) → Settles (event.Go q ∷ h) q (attempt_of (moved q Decided s.live) q)
+step_go : (h : List Event) (s : ShowState) (q : ℕ) → Kept h s → IsSound s → IsTrue (can_go q s.live) → Settles (event.Go q ∷ h) q (attempt_of (moved q Decided s.live) q)
 step_go h s q k i g =
     let f = found q can_go_now s.live i.rises g in
     let p = both (is_preparing f.0.stage) (all_may_go f.0.answers) f.2 in
     rw (found-changed q (moves_to Decided) (moved_number Decided) s.live f.0 f.1)
     (tells-go q h f.0 p.0 (stands_at s q f.0 i f.1) (told_at h q (attempt_of s.live q) f.0 f.1 (k.settles q)))
 
-step_cancel : (h : List Event) (s : Standing) (q : ℕ) (r : Reason) → Kept h s → IsSound s → IsTrue (can_cancel q s.live) → Settles (event.Cancel q r ∷ h) q (attempt_of (moved q (Cancelling r) s.live) q)
+step_cancel : (h : List Event) (s : ShowState) (q : ℕ) (r : Reason) → Kept h s → IsSound s → IsTrue (can_cancel q s.live) → Settles (event.Cancel q r ∷ h) q (attempt_of (moved q (Cancelling r) s.live) q)
 step_cancel h s q r k i g =
     let f = found q (λ a. is_preparing a.stage) s.live i.rises g in
     rw (found-changed q (moves_to (Cancelling r)) (moved_number (Cancelling r)) s.live f.0 f.1)
@@ -148,7 +148,7 @@ settles_if_open h q a p k t = at (some_waits a.answers) refl
     at true e = t
     at false e = gone_by q h a p k e t
 
-step_end : (h : List Event) (s : Standing) (q d : ℕ) (given : Answer) (e : Event) (a : Attempt) → Kept h s → IsSound s → attempt_of s.live q ≡ Some a → is_preparing a.stage ≡ false → IsTrue (is_known_in a.stage given) → IsTrue (is_last given) → IsLastAnswer q d e
+step_end : (h : List Event) (s : ShowState) (q d : ℕ) (given : Answer) (e : Event) (a : Attempt) → Kept h s → IsSound s → attempt_of s.live q ≡ Some a → is_preparing a.stage ≡ false → IsTrue (is_known_in a.stage given) → IsTrue (is_last given) → IsLastAnswer q d e
     → Settles (e ∷ h) q (attempt_of (without_ended q (answered q d given s.live)) q)
 step_end h s q d given e a k i f p known l n =
     rw (attempt_of-without_ended q (answered q d given s.live) (rising-changed q (answers_as d given) (kept_number d given) s.live i.rises))
@@ -174,19 +174,19 @@ closing_knows Preparing p = cc
 closing_knows Decided p = (refl, refl)
 closing_knows (Cancelling r) p = (refl, refl)
 
-step_done : (h : List Event) (s : Standing) (q d : ℕ) → Kept h s → IsSound s → IsTrue (can_done q d s.live) → Settles (event.Done q d ∷ h) q (attempt_of (without_ended q (answered q d answer.Done s.live)) q)
+step_done : (h : List Event) (s : ShowState) (q d : ℕ) → Kept h s → IsSound s → IsTrue (can_done q d s.live) → Settles (event.Done q d ∷ h) q (attempt_of (without_ended q (answered q d answer.Done s.live)) q)
 step_done h s q d k i g =
     let f = found q (waits_in is_decided d) s.live i.rises g in
     let p = decided_knows f.0.stage (both (is_decided f.0.stage) (answer_passes is_waiting d f.0.answers) f.2).0 in
     step_end h s q d answer.Done (event.Done q d) f.0 k i f.1 p.0 p.1 refl (record { start = refl; go = refl; cancel = refl; end = λ n. last_answer q d n })
 
-step_let_go : (h : List Event) (s : Standing) (q d : ℕ) → Kept h s → IsSound s → IsTrue (can_let_go q d s.live) → Settles (event.LetGo q d ∷ h) q (attempt_of (without_ended q (answered q d answer.LetGo s.live)) q)
+step_let_go : (h : List Event) (s : ShowState) (q d : ℕ) → Kept h s → IsSound s → IsTrue (can_let_go q d s.live) → Settles (event.LetGo q d ∷ h) q (attempt_of (without_ended q (answered q d answer.LetGo s.live)) q)
 step_let_go h s q d k i g =
     let f = found q (waits_in is_cancelling d) s.live i.rises g in
     let p = cancelling_knows f.0.stage (both (is_cancelling f.0.stage) (answer_passes is_waiting d f.0.answers) f.2).0 in
     step_end h s q d answer.LetGo (event.LetGo q d) f.0 k i f.1 p.0 p.1 refl (record { start = refl; go = refl; cancel = refl; end = λ n. last_answer q d n })
 
-step_failed : (h : List Event) (s : Standing) (q d : ℕ) → Kept h s → IsSound s → IsTrue (can_fail q d s.live) → Settles (event.Failed q d ∷ h) q (attempt_of (without_ended q (answered q d answer.Failed s.live)) q)
+step_failed : (h : List Event) (s : ShowState) (q d : ℕ) → Kept h s → IsSound s → IsTrue (can_fail q d s.live) → Settles (event.Failed q d ∷ h) q (attempt_of (without_ended q (answered q d answer.Failed s.live)) q)
 step_failed h s q d k i g =
     let f = found q (waits_in is_concluding d) s.live i.rises g in
     let p = closing_knows f.0.stage (both (is_concluding f.0.stage) (answer_passes is_waiting d f.0.answers) f.2).0 in
@@ -204,7 +204,7 @@ below_of last q live l h = all_from (λ a. nat_le a.seq last) (λ a. nat_lt a.se
     at : (n : ℕ) → IsTrue (nat_le n last) → IsTrue (nat_lt n q)
     at n k = Prim.grind (arith, nat_tests, k, l)
 
-next_above : (s : Standing) (q : ℕ) (c : List ℕ) (t : ℕ) → IsTrue (can_begin s.show s.live s.last_seq q c t) → s.last_seq < q
+next_above : (s : ShowState) (q : ℕ) (c : List ℕ) (t : ℕ) → IsTrue (can_begin s.show s.live s.last_seq q c t) → s.last_seq < q
 next_above s q c t g = at q (same_number q (s.last_seq + 1) (both (nat_eq q (s.last_seq + 1)) (has_cue s.show c && can_start q t (cue_parts s.show c) s.live) g).0)
   where
     at : (n : ℕ) → n ≡ s.last_seq + 1 → s.last_seq < n
@@ -232,7 +232,7 @@ step_settles h q e k i g = elim (cases (is_about q e)) [ inl n ↦ step_same h q
 -- ---- no event is of a number above the last
 
 -- the number of a live attempt is at most the last
-at_most_last : (s : Standing) (q : ℕ) (test : Attempt → Bool) → IsSound s → IsTrue (holds q test s.live) → q ≤ s.last_seq
+at_most_last : (s : ShowState) (q : ℕ) (test : Attempt → Bool) → IsSound s → IsTrue (holds q test s.live) → q ≤ s.last_seq
 at_most_last s q test i g =
     let f = found q test s.live i.rises g in
     at f.0.seq (found_passes (has_number q) s.live f.0 f.1) (found_has (λ a. nat_le a.seq s.last_seq) (has_number q) s.live f.0 i.within f.1)
@@ -243,7 +243,7 @@ at_most_last s q test i g =
 below_other : (p last q : ℕ) → p ≤ last → last < q → nat_eq p q ≡ false
 below_other p last q a b = Prim.grind (arith, nat_tests)
 
-pub last-after : (s : Standing) (e : Event) → IsTrue (acceptable s e) → s.last_seq ≤ (after s e).last_seq
+pub last-after : (s : ShowState) (e : Event) → IsTrue (acceptable s e) → s.last_seq ≤ (after s e).last_seq
 last-after s (event.Device d port) g = omega arith
 last-after s (event.NoDevice d) g = omega arith
 last-after s (event.Cue c parts) g = omega arith
@@ -257,7 +257,7 @@ last-after s (event.Cancel p r) g = omega arith
 last-after s (event.LetGo p d) g = omega arith
 last-after s (event.Failed p d) g = omega arith
 
-above_other : (s : Standing) (q : ℕ) (e : Event) → IsSound s → IsTrue (acceptable s e) → (after s e).last_seq < q → is_about q e ≡ false
+above_other : (s : ShowState) (q : ℕ) (e : Event) → IsSound s → IsTrue (acceptable s e) → (after s e).last_seq < q → is_about q e ≡ false
 above_other s q (event.Device d port) i g l = refl
 above_other s q (event.NoDevice d) i g l = refl
 above_other s q (event.Cue c parts) i g l = refl

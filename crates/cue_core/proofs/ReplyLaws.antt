@@ -16,7 +16,7 @@ use Rattle.cue_core.specs.declared.event.Event.TheVariants as event
 use Rattle.cue_core.specs.declared.command.Code.TheVariants as code
 use Rattle.cue_core.specs.declared.command.ReplyKind.{ReplyKind}
 use Rattle.cue_core.specs.declared.command.ReplyKind.TheVariants as reply
-use Rattle.cue_core.specs.State.{Standing}
+use Rattle.cue_core.specs.State.{ShowState}
 use Rattle.cue_core.specs.Steps.{after, folded}
 use Rattle.cue_core.specs.Judge.{refused, on_reply, on_reply_to, on_reply_in, is_from_another}
 use Rattle.cue_core.specs.Replies.{Said, LeavesOthers, RepliesLeaveOthers}
@@ -46,7 +46,7 @@ other_number n q p e other = at (nat_eq n p) refl
     at true k = absurd (other (sym (same_number n p k) ∙ same_number n q e))
     at false k = refl
 
-leaves_one : (s : Standing) (q : ℕ) (e : Event) → IsTrue (of_reply q e) → LeavesOthers q s (after s e)
+leaves_one : (s : ShowState) (q : ℕ) (e : Event) → IsTrue (of_reply q e) → LeavesOthers q s (after s e)
 leaves_one s q (event.Device d port) h = absurd (cc)
 leaves_one s q (event.NoDevice d) h = absurd (cc)
 leaves_one s q (event.Cue c parts) h = absurd (cc)
@@ -60,7 +60,7 @@ leaves_one s q (event.Cancel n r) h = record { show = refl; last = refl; others 
 leaves_one s q (event.LetGo n d) h = record { show = refl; last = refl; others = λ p k. attempt_of-after_other s p (event.LetGo n d) (other_number n q p h k) }
 leaves_one s q (event.Failed n d) h = record { show = refl; last = refl; others = λ p k. attempt_of-after_other s p (event.Failed n d) (other_number n q p h k) }
 
-leaves_all : (q : ℕ) (es : List Event) (s : Standing) → IsTrue (list_all (of_reply q) es) → LeavesOthers q s (folded s es)
+leaves_all : (q : ℕ) (es : List Event) (s : ShowState) → IsTrue (list_all (of_reply q) es) → LeavesOthers q s (folded s es)
 leaves_all q [] s h = record { show = refl; last = refl; others = λ p k. refl }
 leaves_all q (e ∷ es) s h =
     let p = both (of_reply q e) (list_all (of_reply q) es) h in
@@ -120,7 +120,7 @@ to_attempt kind d q a e = rw (← e) (at (answer_of a.answers d))
     at None = refl
     at (Some x) = cell_of kind a.seq d a.stage x
 
-of_attempt : (s : Standing) (r : Said) → IsTrue (list_all (of_reply r.number) (on_reply s r.from r.kind r.device r.number).1)
+of_attempt : (s : ShowState) (r : Said) → IsTrue (list_all (of_reply r.number) (on_reply s r.from r.kind r.device r.number).1)
 of_attempt s r = at (has_device s.show r.device) (is_from_another s r.device r.from) (nat_lt s.last_seq r.number) (attempt_of s.live r.number) refl
   where
     at : (b p l : Bool) (o : Option Attempt) → attempt_of s.live r.number ≡ o

@@ -9,7 +9,7 @@ use Rattle.cue_exchange.specs.Steps.{changed, answers_as, moves_to, moved, answe
 use Rattle.cue_core.specs.declared.event.Event.{Event}
 use Rattle.cue_core.specs.declared.event.Event.TheVariants as event
 use Rattle.cue_core.specs.Events.{is_go_of, is_start_of}
-use Rattle.cue_core.specs.State.{Standing}
+use Rattle.cue_core.specs.State.{ShowState}
 use Rattle.cue_core.specs.Steps.{after, folded}
 use Rattle.cue_core.specs.Batches.{is_live_in, is_decided_in, LiveByStart, DecidedByGo}
 use Rattle.cue_core.proofs.Conditions.{both, join}
@@ -57,7 +57,7 @@ decided-gone p q (a ∷ rest) h =
     by true e m = or_right ((nat_eq a.seq q && is_decided a.stage) || holds q (λ a. is_decided a.stage) rest) _ (rw (same a.seq p e) at (both (nat_eq a.seq q) _ m).0)
     by false e m = first (nat_eq a.seq q && is_decided a.stage) _ _ m
 
-pub live-back : (s : Standing) (e : Event) (q : ℕ) → is_live_in (after s e) q ≡ true → (is_live_in s q || is_start_of q e) ≡ true
+pub live-back : (s : ShowState) (e : Event) (q : ℕ) → is_live_in (after s e) q ≡ true → (is_live_in s q || is_start_of q e) ≡ true
 live-back s (event.Device d p) q h = or_left (is_live_in s q) _ h
 live-back s (event.NoDevice d) q h = or_left (is_live_in s q) _ h
 live-back s (event.Cue c ps) q h = or_left (is_live_in s q) _ h
@@ -75,7 +75,7 @@ live-back s (event.Cancel p r) q h = or_left (is_live_in s q) _ (live-changed p 
 live-back s (event.LetGo p d) q h = or_left (is_live_in s q) _ (live-changed p q (answers_as d answers.LetGo) (λ a. refl) s.live (any-kept (λ a. nat_eq a.seq q && true) (goes_on p) (answered p d answers.LetGo s.live) h))
 live-back s (event.Failed p d) q h = or_left (is_live_in s q) _ (live-changed p q (answers_as d answers.Failed) (λ a. refl) s.live (any-kept (λ a. nat_eq a.seq q && true) (goes_on p) (answered p d answers.Failed s.live) h))
 
-pub decided-back : (s : Standing) (e : Event) (q : ℕ) → is_decided_in (after s e) q ≡ true → (is_decided_in s q || is_go_of q e) ≡ true
+pub decided-back : (s : ShowState) (e : Event) (q : ℕ) → is_decided_in (after s e) q ≡ true → (is_decided_in s q || is_go_of q e) ≡ true
 decided-back s (event.Device d p) q h = or_left (is_decided_in s q) _ h
 decided-back s (event.NoDevice d) q h = or_left (is_decided_in s q) _ h
 decided-back s (event.Cue c ps) q h = or_left (is_decided_in s q) _ h

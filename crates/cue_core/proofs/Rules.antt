@@ -28,12 +28,12 @@ use Rattle.cue_exchange.proofs.Lists.{all_push, all_filter}
 use Rattle.cue_core.specs.declared.event.Ended.{Ended}
 use Rattle.cue_core.specs.declared.event.Event.{Event}
 use Rattle.cue_core.specs.declared.event.Event.TheVariants as event
-use Rattle.cue_core.specs.State.{Standing, cue_parts, is_at_cue, is_ended, are_tied, is_state}
+use Rattle.cue_core.specs.State.{ShowState, cue_parts, is_at_cue, is_ended, are_tied, is_state}
 use Rattle.cue_core.specs.Steps.{acceptable, after, can_begin, place_after, ended_as, settled}
 use Rattle.cue_core.proofs.Conditions.{both, join, all_zip, all_from, all_mapped, same_number, pairwise_from}
 use Rattle.cue_core.proofs.Finding.{rising, rising-changed, attempt_of-changed, attempt_of-without_ended, if_open, found-closed, found, found-changed, found_none_kept, found_has, found_passes, passes_none}
 
-pub record Rules (s : Standing) : Type 0 where
+pub record Rules (s : ShowState) : Type 0 where
   pub show : IsTrue (is_show s.show)
   pub live : IsTrue (are_live s.live)
   pub at : IsTrue (list_all (is_at_cue s.show) s.live)
@@ -41,7 +41,7 @@ pub record Rules (s : Standing) : Type 0 where
   pub last : IsTrue (nat_le s.last_seq LAST_NUMBER)
   pub ended : IsTrue (is_ended s.live s.last_seq s.ended)
 
-pub rules_of : (s : Standing) → IsTrue (is_state s) → Rules s
+pub rules_of : (s : ShowState) → IsTrue (is_state s) → Rules s
 rules_of s h =
     let p = both (is_show s.show) (are_live s.live && are_tied s) h in
     let q = both (are_live s.live) (are_tied s) p.1 in
@@ -50,7 +50,7 @@ rules_of s h =
     let x = both (nat_le s.last_seq LAST_NUMBER) (is_ended s.live s.last_seq s.ended) w.1 in
     record { show = p.0; live = q.0; at = u.0; within = w.0; last = x.0; ended = x.1 }
 
-pub is_state-from : (s : Standing) → Rules s → IsTrue (is_state s)
+pub is_state-from : (s : ShowState) → Rules s → IsTrue (is_state s)
 is_state-from s r =
     join (is_show s.show) (are_live s.live && are_tied s) r.show
     (join (are_live s.live) (are_tied s) r.live
@@ -144,7 +144,7 @@ ended-from live new last next grew (Some e) stays h =
 none-changed : (p q : ℕ) (f : Attempt → Attempt) → KeepsCue f → (live : List Attempt) → attempt_of live q ≡ None → attempt_of (map (changed p f) live) q ≡ None
 none-changed p q f k live n = attempt_of-changed p q f k.seq live ∙ ap (λ o. option_map (changed p f) o) n
 
-ended-changed : (s : Standing) (p : ℕ) (f : Attempt → Attempt) → KeepsCue f → IsTrue (is_ended s.live s.last_seq s.ended) → IsTrue (is_ended (map (changed p f) s.live) s.last_seq s.ended)
+ended-changed : (s : ShowState) (p : ℕ) (f : Attempt → Attempt) → KeepsCue f → IsTrue (is_ended s.live s.last_seq s.ended) → IsTrue (is_ended (map (changed p f) s.live) s.last_seq s.ended)
 ended-changed s p f k h = ended-from s.live (map (changed p f) s.live) s.last_seq s.last_seq (omega arith) s.ended (λ q l n. none-changed p q f k s.live n) h
 
 rises_of : (live : List Attempt) → IsTrue (are_live live) → IsTrue (rising live)
@@ -152,18 +152,18 @@ rises_of live h = pairwise_from goes_before (λ a b. nat_lt a.seq b.seq) live (�
 
 -- ---- each event
 
-rules-show : (s : Standing) (show : ShowLists) → Rules s → IsTrue (is_show show) → ((a : Attempt) → IsTrue (is_at_cue s.show a) → IsTrue (is_at_cue show a)) → Rules (record { show = show; live = s.live; last_seq = s.last_seq; ended = s.ended })
+rules-show : (s : ShowState) (show : ShowLists) → Rules s → IsTrue (is_show show) → ((a : Attempt) → IsTrue (is_at_cue s.show a) → IsTrue (is_at_cue show a)) → Rules (record { show = show; live = s.live; last_seq = s.last_seq; ended = s.ended })
 rules-show s show r h f = record { show = h; live = r.live; at = all_from (is_at_cue s.show) (is_at_cue show) s.live f r.at; within = r.within; last = r.last; ended = r.ended }
 
 -- no live attempt is at the cue
-free_of : (s : Standing) (c : List ℕ) → IsTrue (not (is_some (attempt_of_cue s.live c))) → IsTrue (list_all (λ a. not (same_text a.cue c)) s.live)
+free_of : (s : ShowState) (c : List ℕ) → IsTrue (not (is_some (attempt_of_cue s.live c))) → IsTrue (list_all (λ a. not (same_text a.cue c)) s.live)
 free_of s c h = passes_none (is_of_cue c) s.live (none (attempt_of_cue s.live c) h)
   where
     none : (o : Option Attempt) → IsTrue (not (is_some o)) → o ≡ None
     none None k = refl
     none (Some a) k = cc
 
-rules-no_cue : (s : Standing) (c : List ℕ) → Rules s → IsTrue (acceptable s (event.NoCue c)) → Rules (after s (event.NoCue c))
+rules-no_cue : (s : ShowState) (c : List ℕ) → Rules s → IsTrue (acceptable s (event.NoCue c)) → Rules (after s (event.NoCue c))
 rules-no_cue s c r g = record {
   show = is_show-without_cue s.show c r.show;
   live = r.live;
@@ -174,7 +174,7 @@ rules-no_cue s c r g = record {
 }
 
 -- a change of the attempts that keeps each at its cue
-rules-changed : (s : Standing) (q : ℕ) (f : Attempt → Attempt) → KeepsCue f → Rules s → IsTrue (are_live (map (changed q f) s.live)) → Rules (record { show = s.show; live = map (changed q f) s.live; last_seq = s.last_seq; ended = s.ended })
+rules-changed : (s : ShowState) (q : ℕ) (f : Attempt → Attempt) → KeepsCue f → Rules s → IsTrue (are_live (map (changed q f) s.live)) → Rules (record { show = s.show; live = map (changed q f) s.live; last_seq = s.last_seq; ended = s.ended })
 rules-changed s q f k r h = record {
   show = r.show;
   live = h;
@@ -192,7 +192,7 @@ is_place_of-after show live q = by (attempt_of live q)
     by None = refl
     by (Some a) = is_place_of-following show a.cue
 
-rules-go : (s : Standing) (q : ℕ) → Rules s → IsTrue (acceptable s (event.Go q)) → Rules (after s (event.Go q))
+rules-go : (s : ShowState) (q : ℕ) → Rules s → IsTrue (acceptable s (event.Go q)) → Rules (after s (event.Go q))
 rules-go s q r g = record {
   show = is_show-with_place s.show (place_after s.show s.live q) r.show (is_place_of-after s.show s.live q);
   live = are_live-go q s.live r.live g;
@@ -204,13 +204,13 @@ rules-go s q r g = record {
 
 -- ---- a start
 
-pub record Begins (s : Standing) (q : ℕ) (c : List ℕ) (t : ℕ) : Type 0 where
+pub record Begins (s : ShowState) (q : ℕ) (c : List ℕ) (t : ℕ) : Type 0 where
   pub next : q ≡ s.last_seq + 1
   pub cue : IsTrue (has_cue s.show c)
   pub start : IsTrue (can_start q t (cue_parts s.show c) s.live)
   pub number : IsTrue (is_number q)
 
-pub begins : (s : Standing) (q : ℕ) (c : List ℕ) (t : ℕ) → IsTrue (can_begin s.show s.live s.last_seq q c t) → Begins s q c t
+pub begins : (s : ShowState) (q : ℕ) (c : List ℕ) (t : ℕ) → IsTrue (can_begin s.show s.live s.last_seq q c t) → Begins s q c t
 begins s q c t g =
     let p = both (nat_eq q (s.last_seq + 1)) (has_cue s.show c && can_start q t (cue_parts s.show c) s.live) g in
     let u = both (has_cue s.show c) (can_start q t (cue_parts s.show c) s.live) p.1 in
@@ -226,7 +226,7 @@ at-new show q c t h = by (parts_of show c) h
 none-started : (q : ℕ) (a : Attempt) (live : List Attempt) → attempt_of live q ≡ None → nat_eq a.seq q ≡ false → attempt_of (live ++ a ∷ []) q ≡ None
 none-started q a live n e = find-append (has_number q) live (a ∷ []) ∙ rw (n, e) refl
 
-rules-start : (s : Standing) (q : ℕ) (c : List ℕ) (t : ℕ) → Rules s → IsTrue (acceptable s (event.Start q c t)) → Rules (after s (event.Start q c t))
+rules-start : (s : ShowState) (q : ℕ) (c : List ℕ) (t : ℕ) → Rules s → IsTrue (acceptable s (event.Start q c t)) → Rules (after s (event.Start q c t))
 rules-start s q c t r g =
     let b = begins s q c t g in
     record {
@@ -250,7 +250,7 @@ rules-start s q c t r g =
 -- ---- a last answer
 
 -- after a last answer q is either live with a device that is to answer, or has ended
-settled-ended : (s : Standing) (q : ℕ) (live : List Attempt) (a : Attempt) → IsTrue (rising live) → attempt_of live q ≡ Some a → IsTrue (is_number q) → IsTrue (nat_le q s.last_seq) → IsTrue (is_ended live s.last_seq s.ended)
+settled-ended : (s : ShowState) (q : ℕ) (live : List Attempt) (a : Attempt) → IsTrue (rising live) → attempt_of live q ≡ Some a → IsTrue (is_number q) → IsTrue (nat_le q s.last_seq) → IsTrue (is_ended live s.last_seq s.ended)
     → IsTrue (is_ended (without_ended q live) s.last_seq (ended_as q (ended_in q live) s.ended))
 settled-ended s q live a rises e number most h = by (some_waits a.answers) refl
   where
@@ -261,7 +261,7 @@ settled-ended s q live a rises e number most h = by (some_waits a.answers) refl
     by true w = rw (found-closed q live rises, e, w) (ended-from live (without_ended q live) s.last_seq s.last_seq (omega arith) s.ended (λ p l n. found_none_kept (has_number p) (goes_on q) live n) h)
     by false w = rw (found-closed q live rises, e, w) (join (is_number q) (nat_le q s.last_seq && not (is_some (attempt_of (without_ended q live) q))) number (join (nat_le q s.last_seq) (not (is_some (attempt_of (without_ended q live) q))) most (rw (gone w) refl)))
 
-rules-settled : (s : Standing) (q d : ℕ) (given : Answer) (test : Attempt → Bool) → Rules s → IsTrue (holds q test s.live) → IsTrue (are_live (without_ended q (answered q d given s.live))) → Rules (settled s q (answered q d given s.live))
+rules-settled : (s : ShowState) (q d : ℕ) (given : Answer) (test : Attempt → Bool) → Rules s → IsTrue (holds q test s.live) → IsTrue (are_live (without_ended q (answered q d given s.live))) → Rules (settled s q (answered q d given s.live))
 rules-settled s q d given test r g h =
     let f = found q test s.live (rises_of s.live r.live) g in
     let same = same_number f.0.seq q (found_passes (has_number q) s.live f.0 f.1) in
@@ -282,7 +282,7 @@ rules-settled s q d given test r g h =
     number_of : (a : Attempt) → IsTrue (is_attempt a) → IsTrue (is_number a.seq)
     number_of a k = (both (is_number a.seq) (is_moment a.deadline && (are_sound_devices (devices_of a.answers) && list_all (stands a.stage) a.answers)) (is_sound-of_attempt a k)).0
 
-rules-after : (s : Standing) (e : Event) → Rules s → IsTrue (acceptable s e) → Rules (after s e)
+rules-after : (s : ShowState) (e : Event) → Rules s → IsTrue (acceptable s e) → Rules (after s e)
 rules-after s (event.Device d port) r g = rules-show s (with_device s.show d port) r (is_show-with_device s.show d port r.show g) (λ a h. h)
 rules-after s (event.NoDevice d) r g = rules-show s (without_device s.show d) r (is_show-without_device s.show d r.show g) (λ a h. h)
 rules-after s (event.Cue c parts) r g = rules-show s (with_cue s.show c parts) r (is_show-with_cue s.show c parts r.show g) (λ a h. at-with_cue s.show c parts a h)
@@ -296,13 +296,13 @@ rules-after s (event.Cancel q reason) r g = rules-changed s q (moves_to (Cancell
 rules-after s (event.LetGo q d) r g = rules-settled s q d answer.LetGo (waits_in is_cancelling d) r g (are_live-let_go q d s.live r.live g)
 rules-after s (event.Failed q d) r g = rules-settled s q d answer.Failed (waits_in is_concluding d) r g (are_live-failed q d s.live r.live g)
 
-pub is_state-after : (s : Standing) (e : Event) → IsTrue (is_state s) → IsTrue (acceptable s e) → IsTrue (is_state (after s e))
+pub is_state-after : (s : ShowState) (e : Event) → IsTrue (is_state s) → IsTrue (acceptable s e) → IsTrue (is_state (after s e))
 is_state-after s e h g = is_state-from (after s e) (rules-after s e (rules_of s h) g)
 
 -- the fields of a state after the event keep the rules
-pub kept : (s old : Standing) (e : Event) → s ≡ old → IsTrue (is_state s) → IsTrue (acceptable old e) → IsTrue (is_state (after s e))
-kept s old e v i g = let P : Standing → Type 0 = λ t. IsTrue (acceptable t e) in is_state-after s e i (subst P (sym v) g)
+pub kept : (s old : ShowState) (e : Event) → s ≡ old → IsTrue (is_state s) → IsTrue (acceptable old e) → IsTrue (is_state (after s e))
+kept s old e v i g = let P : ShowState → Type 0 = λ t. IsTrue (acceptable t e) in is_state-after s e i (subst P (sym v) g)
 
 -- and so do fields that are those of the state after the event
-pub kept_as : (s old new : Standing) (e : Event) → new ≡ after s e → s ≡ old → IsTrue (is_state s) → IsTrue (acceptable old e) → IsTrue (is_state new)
-kept_as s old new e n v i g = let P : Standing → Type 0 = λ t. IsTrue (is_state t) in subst P (sym n) (kept s old e v i g)
+pub kept_as : (s old new : ShowState) (e : Event) → new ≡ after s e → s ≡ old → IsTrue (is_state s) → IsTrue (acceptable old e) → IsTrue (is_state new)
+kept_as s old new e n v i g = let P : ShowState → Type 0 = λ t. IsTrue (is_state t) in subst P (sym n) (kept s old e v i g)

@@ -13,11 +13,11 @@ use Rattle.cue_exchange.specs.Steps.{holds}
 use Rattle.cue_exchange.proofs.LiveRules.{order_of}
 use Rattle.cue_core.specs.declared.event.Event.{Event}
 use Rattle.cue_core.specs.declared.event.Event.TheVariants as event
-use Rattle.cue_core.specs.State.{Standing, cue_parts}
+use Rattle.cue_core.specs.State.{ShowState, cue_parts}
 use Rattle.cue_core.specs.Steps.{acceptable}
 use Rattle.cue_core.specs.Events.{is_start_of, is_go_of, is_cancel_of}
 use Rattle.cue_core.specs.History.{state_of, is_history, stood_by, devices_by}
-use Rattle.cue_core.specs.Order.{keeps_order, is_in_order}
+use Rattle.cue_core.specs.InOrder.{keeps_order, is_in_order}
 use Rattle.cue_core.specs.Pending.{Order, order_at, order_for, bytes_for}
 use Rattle.cue_core.specs.Safety.{is_go_to, is_cancel_to, asks_to_go, asks_to_cancel, ever, NeverAskedBoth, OneHolder, DecidedStays}
 use Rattle.cue_core.proofs.Conditions.{both, join, same_number, pairwise_from}
@@ -28,7 +28,7 @@ use Rattle.cue_core.proofs.Facts.{facts-by-history, go-after-ready, told_of}
 
 -- an order of an attempt that passes says of what stage the attempt is
 pub order_says : (pick : Order → Bool) (stage : Stage → Bool) (q : ℕ) → ((t : Stage) (p e : ℕ) (c b : List ℕ) → IsTrue (pick (order_at t p e c b)) → IsTrue (nat_eq p q && stage t))
-    → (s : Standing) (a : Attempt) (xs : List DeviceAnswer) → IsTrue (list_any (λ (o : ℕ × Order). pick o.1) (filter_map (order_for s a) xs)) → IsTrue (nat_eq a.seq q && stage a.stage)
+    → (s : ShowState) (a : Attempt) (xs : List DeviceAnswer) → IsTrue (list_any (λ (o : ℕ × Order). pick o.1) (filter_map (order_for s a) xs)) → IsTrue (nat_eq a.seq q && stage a.stage)
 order_says pick stage q f s a [] h = cc
 order_says pick stage q f s a (x ∷ xs) h = at (waits x) h (order_says pick stage q f s a xs)
   where
@@ -51,7 +51,7 @@ any_append P (x ∷ xs) ys = at (P x) (any_append P xs ys)
 
 -- so does one of the pending orders
 pub pending_says : (pick : Order → Bool) (stage : Stage → Bool) (q : ℕ) → ((t : Stage) (p e : ℕ) (c b : List ℕ) → IsTrue (pick (order_at t p e c b)) → IsTrue (nat_eq p q && stage t))
-    → (s : Standing) (live : List Attempt) → IsTrue (list_any (λ (o : ℕ × Order). pick o.1) (flat_map (λ a. filter_map (order_for s a) a.answers) live)) → IsTrue (holds q (λ a. stage a.stage) live)
+    → (s : ShowState) (live : List Attempt) → IsTrue (list_any (λ (o : ℕ × Order). pick o.1) (flat_map (λ a. filter_map (order_for s a) a.answers) live)) → IsTrue (holds q (λ a. stage a.stage) live)
 pending_says pick stage q f s [] h = h
 pending_says pick stage q f s (a ∷ live) h =
     at (list_any (λ (o : ℕ × Order). pick o.1) (filter_map (order_for s a) a.answers)) (list_any (λ (o : ℕ × Order). pick o.1) (flat_map (λ b. filter_map (order_for s b) b.answers) live)) (order_says pick stage q f s a a.answers) (pending_says pick stage q f s live)
@@ -93,7 +93,7 @@ asked_cancel h q d p k =
     rw (← t.cancelled) f.2
 
 -- what some state of the history asks, its history has
-ever_told : (test : Standing → Bool) (P : Event → Bool) → ((h : List Event) → IsTrue (is_history h) → IsTrue (test (state_of h)) → IsTrue (list_any P h)) → (h : List Event) → IsTrue (is_history h) → IsTrue (ever test h) → IsTrue (list_any P h)
+ever_told : (test : ShowState → Bool) (P : Event → Bool) → ((h : List Event) → IsTrue (is_history h) → IsTrue (test (state_of h)) → IsTrue (list_any P h)) → (h : List Event) → IsTrue (is_history h) → IsTrue (ever test h) → IsTrue (list_any P h)
 ever_told test P f [] p k = f [] refl k
 ever_told test P f (e ∷ past) p k = at (test (state_of (e ∷ past))) (f (e ∷ past) p) (ever_told test P f past (both (acceptable (state_of past) e) (is_history past) p).1) k
   where

@@ -13,7 +13,7 @@ use Rattle.cue_exchange.specs.Answers.{is_waiting, is_preparing, stands, some_wa
 use Rattle.cue_exchange.specs.Live.{are_live, is_attempt, is_sound, is_open, is_number, is_moment, are_sound_devices, pairwise, goes_before, disjoint, distinct}
 use Rattle.cue_show.specs.Show.{is_show}
 use Rattle.cue_core.specs.declared.event.Event.{Event}
-use Rattle.cue_core.specs.State.{Standing, is_state, are_tied, is_at_cue, is_ended}
+use Rattle.cue_core.specs.State.{ShowState, is_state, are_tied, is_at_cue, is_ended}
 use Rattle.cue_core.specs.Steps.{acceptable}
 use Rattle.cue_core.specs.History.{state_of, is_history}
 use Rattle.cue_core.proofs.Conditions.{both, all_from, pairwise_from}
@@ -71,7 +71,7 @@ attempt_rules a h =
     let u = both (nat_le 1 (length (devices_of a.answers))) (distinct (devices_of a.answers)) t.0 in
     record { number = q.0; moment = r.0; some = u.0; distinct = u.1; stand = t.1; open_one = p.1 }
 
-pub sound_of : (s : Standing) → IsTrue (is_state s) → IsSound s
+pub sound_of : (s : ShowState) → IsTrue (is_state s) → IsSound s
 sound_of s h =
     let p = both (is_show s.show) (are_live s.live && are_tied s) h in
     let q = both (are_live s.live) (are_tied s) p.1 in

@@ -9,10 +9,10 @@ use Rattle.cue_exchange.specs.Live.{is_due}
 use Rattle.cue_core.specs.declared.event.Event.{Event}
 use Rattle.cue_core.specs.declared.event.Event.TheVariants.{Cancel}
 use Rattle.cue_core.specs.declared.command.Command.{Command}
-use Rattle.cue_core.specs.State.{Standing}
+use Rattle.cue_core.specs.State.{ShowState}
 use Rattle.cue_core.specs.Judge.{judged, is_fit}
 use Rattle.cue_core.specs.History.{state_of, is_history}
-use Rattle.cue_core.specs.Order.{is_in_order}
+use Rattle.cue_core.specs.InOrder.{is_in_order}
 
 -- what may come: a command at a moment from a port, a tick of the clock, or a recovery from power loss
 pub data Happening : Type 0 where
@@ -27,7 +27,7 @@ can_come (ticked now) = true
 can_come recovered = true
 
 -- a Cancel for each live attempt that passes the test, by rising number
-abbrev pub cancels : (Attempt → Bool) → Reason → Standing → List Event
+abbrev pub cancels : (Attempt → Bool) → Reason → ShowState → List Event
 cancels test reason s = map (λ a. Cancel a.seq reason) (filter test s.live)
 
 -- the attempt is Preparing
@@ -35,7 +35,7 @@ abbrev pub is_undecided : Attempt → Bool
 is_undecided a = is_preparing a.stage
 
 -- the events that are accepted
-abbrev pub events_at : Standing → Happening → List Event
+abbrev pub events_at : ShowState → Happening → List Event
 events_at s (commanded now from command) = (judged s now from command).1
 events_at s (ticked now) = cancels (is_due now) Deadline s
 events_at s recovered = cancels is_undecided Power s

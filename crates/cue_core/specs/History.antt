@@ -6,12 +6,12 @@ use Rattle.cue_exchange.specs.Answers.{devices_of, is_preparing, is_decided, is_
 use Rattle.cue_exchange.specs.Live.{attempt_of, devices_in, is_among}
 use Rattle.cue_core.specs.declared.event.Event.{Event}
 use Rattle.cue_core.specs.declared.event.Event.TheVariants.{Start}
-use Rattle.cue_core.specs.State.{Standing, empty_state, cue_parts}
+use Rattle.cue_core.specs.State.{ShowState, empty_state, cue_parts}
 use Rattle.cue_core.specs.Steps.{acceptable, after}
 use Rattle.cue_core.specs.Events.{is_start, is_start_of, is_ready_of, is_go_of, is_end_of}
 
 -- the state that a history leads to from the empty one
-abbrev pub state_of : List Event → Standing
+abbrev pub state_of : List Event → ShowState
 state_of [] = empty_state
 state_of (e ∷ past) = after (state_of past) e
 
@@ -21,7 +21,7 @@ is_history [] = true
 is_history (e ∷ past) = acceptable (state_of past) e && is_history past
 
 -- the devices of the cue at which an attempt starts
-abbrev pub devices_started : Standing → Event → List ℕ
+abbrev pub devices_started : ShowState → Event → List ℕ
 devices_started s (Start q c t) = devices_in (cue_parts s.show c)
 devices_started s _ = []
 
@@ -43,7 +43,7 @@ abbrev pub stood_by : List Event → ℕ → ℕ → Bool
 stood_by h q d = list_any (is_ready_of q d) h
 
 -- the state is what its history says
-pub record IsByHistory (h : List Event) (s : Standing) : Type 0 where
+pub record IsByHistory (h : List Event) (s : ShowState) : Type 0 where
   -- the last number is the count of Starts
   pub last : s.last_seq ≡ count_by is_start h
   pub live : (q : ℕ) → is_some (attempt_of s.live q) ≡ is_live_by h q

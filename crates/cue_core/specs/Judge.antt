@@ -27,7 +27,7 @@ use Rattle.cue_core.specs.declared.command.Command.{Command}
 use Rattle.cue_core.specs.declared.command.Command.TheVariants as command
 use Rattle.cue_core.specs.declared.command.Verdict.{Verdict}
 use Rattle.cue_core.specs.declared.command.Verdict.TheVariants.{Made, Known, No}
-use Rattle.cue_core.specs.State.{Standing}
+use Rattle.cue_core.specs.State.{ShowState}
 
 -- ---- what can be asked
 
@@ -71,11 +71,11 @@ first_line (l ∷ ls) last = if l.0 then l.1 else first_line ls last
 
 -- ---- the device table and the cue stack
 
-abbrev pub on_add_device : Standing → ℕ → ℕ → Judged
+abbrev pub on_add_device : ShowState → ℕ → ℕ → Judged
 on_add_device s d port =
     option_map_or (λ p. if nat_eq p port then known else refused code.Duplicate) (port_of s.show d) (made (event.Device d port ∷ []))
 
-abbrev pub on_remove_device : Standing → ℕ → Judged
+abbrev pub on_remove_device : ShowState → ℕ → Judged
 on_remove_device s d =
     first_line (
     (not (has_device s.show d), refused code.NoMethod)
@@ -84,15 +84,15 @@ on_remove_device s d =
     (made (event.NoDevice d ∷ []))
 
 -- a cue that is in the stack is known where its parts are the same
-abbrev pub on_new_cue : Standing → List ℕ → List Part → Judged
+abbrev pub on_new_cue : ShowState → List ℕ → List Part → Judged
 on_new_cue s c parts =
     option_map_or (λ old. if same_parts old parts then known else refused code.Duplicate) (parts_of s.show c)
     (if is_full s.show then refused code.Full else made (event.Cue c parts ∷ []))
 
-abbrev pub on_add_cue : Standing → List ℕ → List Part → Judged
+abbrev pub on_add_cue : ShowState → List ℕ → List Part → Judged
 on_add_cue s c parts = if not (are_known s.show parts) then refused code.UnknownDevice else on_new_cue s c parts
 
-abbrev pub on_goto : Standing → List ℕ → Judged
+abbrev pub on_goto : ShowState → List ℕ → Judged
 on_goto s c =
     first_line (
     (not (has_cue s.show c), refused code.NoMethod)
@@ -100,7 +100,7 @@ on_goto s c =
     ∷ [])
     (made (event.Place c ∷ []))
 
-abbrev pub on_remove_cue : Standing → List ℕ → Judged
+abbrev pub on_remove_cue : ShowState → List ℕ → Judged
 on_remove_cue s c =
     first_line (
     (not (has_cue s.show c), refused code.NoMethod)
@@ -111,11 +111,11 @@ on_remove_cue s c =
 -- ---- an attempt at a cue
 
 -- the attempt at the cue is Preparing
-abbrev pub prepares : Standing → List ℕ → Bool
+abbrev pub prepares : ShowState → List ℕ → Bool
 prepares s c = option_map_or (λ a. is_preparing a.stage) (attempt_of_cue s.live c) false
 
 -- a cue of these parts is to be prepared
-abbrev pub on_standby_of : Standing → ℕ → List ℕ → List Part → Judged
+abbrev pub on_standby_of : ShowState → ℕ → List ℕ → List Part → Judged
 on_standby_of s now c parts =
     first_line (
     (prepares s c, known)
@@ -126,7 +126,7 @@ on_standby_of s now c parts =
     ∷ [])
     (made (event.Start (s.last_seq + 1) c (now + STANDBY_MS) ∷ []))
 
-abbrev pub on_standby : Standing → ℕ → List ℕ → Judged
+abbrev pub on_standby : ShowState → ℕ → List ℕ → Judged
 on_standby s now c = option_map_or (on_standby_of s now c) (parts_of s.show c) (refused code.NoMethod)
 
 abbrev pub on_go_of : Attempt → Judged
@@ -137,7 +137,7 @@ on_go_of a =
     ∷ [])
     (refused code.NotReady)
 
-abbrev pub on_go : Standing → List ℕ → Judged
+abbrev pub on_go : ShowState → List ℕ → Judged
 on_go s c = if not (has_cue s.show c) then refused code.NoMethod else option_map_or on_go_of (attempt_of_cue s.live c) (refused code.NotLive)
 
 abbrev pub on_cancel_of : Attempt → Judged
@@ -148,7 +148,7 @@ on_cancel_of a =
     ∷ [])
     (made (event.Cancel a.seq Operator ∷ []))
 
-abbrev pub on_cancel : Standing → List ℕ → Judged
+abbrev pub on_cancel : ShowState → List ℕ → Judged
 on_cancel s c = if not (has_cue s.show c) then refused code.NoMethod else option_map_or on_cancel_of (attempt_of_cue s.live c) (refused code.NotLive)
 
 -- a device is let go of by the operator
@@ -161,7 +161,7 @@ on_release_of d a =
     ∷ [])
     (made (event.LetGo a.seq d ∷ []))
 
-abbrev pub on_release : Standing → ℕ → Judged
+abbrev pub on_release : ShowState → ℕ → Judged
 on_release s d = if not (has_device s.show d) then refused code.NoMethod else option_map_or (on_release_of d) (attempt_of_device s.live d) (refused code.NotLive)
 
 -- ---- the table of replies: the attempt, the device, the stage, and the device's answer so far
@@ -207,10 +207,10 @@ abbrev pub on_reply_to : ReplyKind → ℕ → Attempt → Judged
 on_reply_to kind d a = option_map_or (on_reply_in kind a.seq d a.stage) (answer_of a.answers d) (refused code.NotPart)
 
 -- a reply that came from the port of another
-abbrev pub is_from_another : Standing → ℕ → ℕ → Bool
+abbrev pub is_from_another : ShowState → ℕ → ℕ → Bool
 is_from_another s d from = option_map_or (λ port. not (nat_eq port from)) (port_of s.show d) true
 
-abbrev pub on_reply : Standing → ℕ → ReplyKind → ℕ → ℕ → Judged
+abbrev pub on_reply : ShowState → ℕ → ReplyKind → ℕ → ℕ → Judged
 on_reply s from kind d q =
     first_line (
     (not (has_device s.show d), refused code.NoMethod)
@@ -222,7 +222,7 @@ on_reply s from kind d q =
 -- ---- all commands
 
 -- what becomes of the command in the state, at the moment now, from a port
-abbrev pub judged : Standing → ℕ → ℕ → Command → Judged
+abbrev pub judged : ShowState → ℕ → ℕ → Command → Judged
 judged s now from command.Status = known
 judged s now from (command.AddDevice d port) = on_add_device s d port
 judged s now from (command.AddCue c parts) = on_add_cue s c parts

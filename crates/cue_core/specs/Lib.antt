@@ -5,7 +5,7 @@ pub mod Steps
 pub mod Judge
 pub mod EventList
 pub mod History
-pub mod Order
+pub mod InOrder
 pub mod Happenings
 pub mod Replies
 pub mod Pending

@@ -8,7 +8,7 @@ use Rattle.cue_exchange.specs.declared.attempt.Stage.TheVariants.{Preparing, Dec
 use Rattle.cue_exchange.specs.declared.attempt.DeviceAnswer.{DeviceAnswer}
 use Rattle.cue_exchange.specs.declared.attempt.Attempt.{Attempt}
 use Rattle.cue_exchange.specs.Answers.{waits}
-use Rattle.cue_core.specs.State.{Standing, cue_parts}
+use Rattle.cue_core.specs.State.{ShowState, cue_parts}
 
 -- what a device is told
 pub data Order : Type 0 where
@@ -28,12 +28,12 @@ order_at Decided q d cue bytes = go_2pc q d
 order_at (Cancelling r) q d cue bytes = cancel q d
 
 -- the port of the device, and its order, where it is still to answer
-abbrev pub order_for : Standing → Attempt → DeviceAnswer → Option (ℕ × Order)
+abbrev pub order_for : ShowState → Attempt → DeviceAnswer → Option (ℕ × Order)
 order_for s a x =
     if waits x
     then Some (unwrap_or (port_of s.show x.device) 0, order_at a.stage a.seq x.device a.cue (bytes_for x.device (cue_parts s.show a.cue)))
     else None
 
 -- for each live attempt by rising number, for each device that is still to answer, in part order
-abbrev pub pending : Standing → List (ℕ × Order)
+abbrev pub pending : ShowState → List (ℕ × Order)
 pending s = flat_map (λ a. filter_map (order_for s a) a.answers) s.live

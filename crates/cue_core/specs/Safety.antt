@@ -5,7 +5,7 @@ use Rattle.cue_exchange.specs.declared.attempt.Attempt.{Attempt}
 use Rattle.cue_exchange.specs.Answers.{devices_of, is_decided}
 use Rattle.cue_exchange.specs.Live.{attempt_of, disjoint, pairwise}
 use Rattle.cue_core.specs.declared.event.Event.{Event}
-use Rattle.cue_core.specs.State.{Standing}
+use Rattle.cue_core.specs.State.{ShowState}
 use Rattle.cue_core.specs.History.{state_of, is_history, is_decided_by}
 use Rattle.cue_core.specs.Pending.{Order, standby, go_2pc, cancel, pending}
 
@@ -22,14 +22,14 @@ is_cancel_to q d (go_2pc p e) = false
 is_cancel_to q d (cancel p e) = nat_eq p q && nat_eq e d
 
 -- the state asks the device to go, or to cancel
-abbrev pub asks_to_go : ℕ → ℕ → Standing → Bool
+abbrev pub asks_to_go : ℕ → ℕ → ShowState → Bool
 asks_to_go q d s = list_any (λ (o : ℕ × Order). is_go_to q d o.1) (pending s)
 
-abbrev pub asks_to_cancel : ℕ → ℕ → Standing → Bool
+abbrev pub asks_to_cancel : ℕ → ℕ → ShowState → Bool
 asks_to_cancel q d s = list_any (λ (o : ℕ × Order). is_cancel_to q d o.1) (pending s)
 
 -- some state of the history passes the test
-abbrev pub ever : (Standing → Bool) → List Event → Bool
+abbrev pub ever : (ShowState → Bool) → List Event → Bool
 ever test [] = test (state_of [])
 ever test (e ∷ past) = test (state_of (e ∷ past)) || ever test past
 

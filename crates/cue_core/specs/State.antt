@@ -12,22 +12,22 @@ use Rattle.cue_exchange.specs.Live.{devices_in, attempt_of, are_live, is_number}
 use Rattle.cue_core.specs.declared.event.Ended.{Ended}
 
 -- the show, the live attempts, the last number that was drawn, and the attempt that ended last
-pub record Standing : Type 0 where
+pub record ShowState : Type 0 where
   pub show : ShowLists
   pub live : List Attempt
   pub last_seq : ℕ
   pub ended : Option Ended
 
 -- no device, no cue, no place, and no attempt yet
-abbrev pub empty_state : Standing
+abbrev pub empty_state : ShowState
 empty_state = record { show = empty_show; live = []; last_seq = 0; ended = None }
 
 -- the state with another show
-abbrev pub with_show : Standing → ShowLists → Standing
+abbrev pub with_show : ShowState → ShowLists → ShowState
 with_show s show = record { show = show; live = s.live; last_seq = s.last_seq; ended = s.ended }
 
 -- the state with other live attempts
-abbrev pub with_live : Standing → List Attempt → Standing
+abbrev pub with_live : ShowState → List Attempt → ShowState
 with_live s live = record { show = s.show; live = live; last_seq = s.last_seq; ended = s.ended }
 
 -- the parts of a cue; none where it is not in the stack
@@ -46,12 +46,12 @@ is_ended live last None = true
 is_ended live last (Some e) = is_number e.seq && (nat_le e.seq last && not (is_some (attempt_of live e.seq)))
 
 -- the rules that tie the parts of a state to each other
-abbrev pub are_tied : Standing → Bool
+abbrev pub are_tied : ShowState → Bool
 are_tied s =
     list_all (is_at_cue s.show) s.live
     && (list_all (λ a. nat_le a.seq s.last_seq) s.live
     && (nat_le s.last_seq LAST_NUMBER && is_ended s.live s.last_seq s.ended))
 
 -- the rules of a state: those of its show, those of its live attempts, and those that tie them
-abbrev pub is_state : Standing → Bool
+abbrev pub is_state : ShowState → Bool
 is_state s = is_show s.show && (are_live s.live && are_tied s)

@@ -10,14 +10,14 @@ use Rattle.cue_exchange.specs.Steps.{can_start, can_ready, can_go, can_cancel, c
 use Rattle.cue_core.specs.declared.event.Ended.{Ended}
 use Rattle.cue_core.specs.declared.event.Event.{Event}
 use Rattle.cue_core.specs.declared.event.Event.TheVariants.{Device, NoDevice, Cue, NoCue, Place, Start, Ready, Go, Done, Cancel, LetGo, Failed}
-use Rattle.cue_core.specs.State.{Standing, with_show, with_live, cue_parts}
+use Rattle.cue_core.specs.State.{ShowState, with_show, with_live, cue_parts}
 
 -- the number is the one after the last, the cue is in the stack, and an attempt with its devices may start
 abbrev pub can_begin : ShowLists → List Attempt → ℕ → ℕ → List ℕ → ℕ → Bool
 can_begin show live last q c t = nat_eq q (last + 1) && (has_cue show c && can_start q t (cue_parts show c) live)
 
 -- the event may happen in the state
-abbrev pub acceptable : Standing → Event → Bool
+abbrev pub acceptable : ShowState → Event → Bool
 acceptable s (Device d port) = can_add_device s.show d port
 acceptable s (NoDevice d) = can_remove_device s.show d
 acceptable s (Cue c parts) = can_add_cue s.show c parts
@@ -37,7 +37,7 @@ ended_as q None old = old
 ended_as q (Some o) old = Some (record { seq = q; outcome = o })
 
 -- a device of q has answered for the last time: q ends where it was the last
-abbrev pub settled : Standing → ℕ → List Attempt → Standing
+abbrev pub settled : ShowState → ℕ → List Attempt → ShowState
 settled s q live = record { show = s.show; live = without_ended q live; last_seq = s.last_seq; ended = ended_as q (ended_in q live) s.ended }
 
 -- the cue that follows that of q, or none
@@ -45,7 +45,7 @@ abbrev pub place_after : ShowLists → List Attempt → ℕ → Option (List ℕ
 place_after show live q = option_and_then (λ a. following show a.cue) (attempt_of live q)
 
 -- the state after the event
-abbrev pub after : Standing → Event → Standing
+abbrev pub after : ShowState → Event → ShowState
 after s (Device d port) = with_show s (with_device s.show d port)
 after s (NoDevice d) = with_show s (without_device s.show d)
 after s (Cue c parts) = with_show s (with_cue s.show c parts)
@@ -60,15 +60,15 @@ after s (LetGo q d) = settled s q (answered q d answer.LetGo s.live)
 after s (Failed q d) = settled s q (answered q d answer.Failed s.live)
 
 -- each event is acceptable, in turn
-abbrev pub are_acceptable : Standing → List Event → Bool
+abbrev pub are_acceptable : ShowState → List Event → Bool
 are_acceptable s [] = true
 are_acceptable s (e ∷ es) = acceptable s e && are_acceptable (after s e) es
 
 -- the state after the events, in turn
-abbrev pub folded : Standing → List Event → Standing
+abbrev pub folded : ShowState → List Event → ShowState
 folded s [] = s
 folded s (e ∷ es) = folded (after s e) es
 
 -- the new state is the old one after some of the events, from the first on
-abbrev pub AppliesFirst : Standing → List Event → Standing → Type 0
+abbrev pub AppliesFirst : ShowState → List Event → ShowState → Type 0
 AppliesFirst old events new = (n : ℕ) × (new ≡ folded old (take n events))

@@ -5,7 +5,7 @@ ghost use Rattle.cue_core.specs.declared.limits.TheConstants.{STANDBY_MS};
 ghost use Rattle.cue_core.specs.Batches.{AcceptableAreHistories, ClosedStays, DecidedByGo, EventsKeepRules, HistoriesFold, LiveByStart};
 ghost use Rattle.cue_core.specs.History.{FactsByHistory};
 ghost use Rattle.cue_core.specs.Happenings.{CommandsInOrder, CommandsMakeHistories};
-ghost use Rattle.cue_core.specs.Order.{GoAfterReady};
+ghost use Rattle.cue_core.specs.InOrder.{GoAfterReady};
 ghost use Rattle.cue_core.specs.Replies.{RepliesCommute, RepliesLeaveOthers};
 ghost use Rattle.cue_core.specs.Safety.{DecidedStays, NeverAskedBoth, OneHolder};
 

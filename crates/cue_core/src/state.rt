@@ -27,9 +27,9 @@ pub struct State {
 
 impl Model for State {
     ghost use Rattle.std.specs.Prelude.{IsTrue};
-    ghost use Rattle.cue_core.specs.State.{Standing, is_state};
+    ghost use Rattle.cue_core.specs.State.{ShowState, is_state};
 
-    ghost Value = { Standing };
+    ghost Value = { ShowState };
 
     ghost view = { λ s. record { show = s.show; live = s.live; last_seq = s.last_seq; ended = s.ended } };
 

@@ -5,10 +5,10 @@ use Rattle.std.specs.List.{AllByRecursion, list_any, list_all}
 use Rattle.cue_core.specs.declared.event.Event.{Event}
 use Rattle.cue_core.specs.declared.event.Event.TheVariants as event
 use Rattle.cue_core.specs.Events.{is_start_of, is_ready_of, is_go_of, is_cancel_of, is_about}
-use Rattle.cue_core.specs.State.{Standing, empty_state}
+use Rattle.cue_core.specs.State.{ShowState, empty_state}
 use Rattle.cue_core.specs.Steps.{acceptable, folded}
 use Rattle.cue_core.specs.History.{state_of, is_history, devices_by, stood_by}
-use Rattle.cue_core.specs.Order.{keeps_order, is_in_order}
+use Rattle.cue_core.specs.InOrder.{keeps_order, is_in_order}
 use Rattle.cue_core.specs.Happenings.{onto}
 use Rattle.cue_core.specs.Pending.{Order, pending}
 use Rattle.cue_core.specs.Safety.{is_go_to, is_cancel_to, ever}
@@ -186,16 +186,16 @@ number_names_one hs q c t before later e =
 
 -- ---- never both
 
-ever_now : (test : Standing → Bool) (past : List Event) → test (state_of past) ≡ true → ever test past ≡ true
+ever_now : (test : ShowState → Bool) (past : List Event) → test (state_of past) ≡ true → ever test past ≡ true
 ever_now test [] h = h
 ever_now test (e ∷ past) h = or_left (test (state_of (e ∷ past))) _ h
 
-ever_onto : (test : Standing → Bool) (es past : List Event) → ever test past ≡ true → ever test (onto es past) ≡ true
+ever_onto : (test : ShowState → Bool) (es past : List Event) → ever test past ≡ true → ever test (onto es past) ≡ true
 ever_onto test [] past h = h
 ever_onto test (e ∷ es) past h = ever_onto test es (e ∷ past) (or_right (test (state_of (e ∷ past))) _ h)
 
 -- such a command is pending in the state
-abbrev asks : (Order → Bool) → Standing → Bool
+abbrev asks : (Order → Bool) → ShowState → Bool
 asks test s = list_any (λ (o : ℕ × Order). test o.1) (pending s)
 
 -- what passes the test makes this true
@@ -213,24 +213,24 @@ any_says : (test : Order → Bool) (b : Bool) (ms : List (ℕ × Send)) → Each
 any_says test b [] h k = absurd (true≢false (sym k))
 any_says test b (m ∷ ms) h k = either (is_command test m.1) _ _ h.0 (any_says test b ms h.1) k
 
-pending_asks : (test : Order → Bool) (s : Standing) → list_any (λ (m : ℕ × Send). is_command test m.1) (all_pending s) ≡ true → asks test s ≡ true
+pending_asks : (test : Order → Bool) (s : ShowState) → list_any (λ (m : ℕ × Send). is_command test m.1) (all_pending s) ≡ true → asks test s ≡ true
 pending_asks test s h = any-mapped (λ (o : ℕ × Order). (o.0, order o.1)) (λ (m : ℕ × Send). is_command test m.1) (λ (o : ℕ × Order). test o.1) (λ o k. k) (pending s) h
 
 -- what is sent for an input is pending after its batch
-sent_asks : (test : Order → Bool) (s : Standing) (x : Happening) → list_any (λ (m : ℕ × Send). is_command test m.1) (given_at s x).sends ≡ true → asks test (folded s (given_at s x).batch) ≡ true
+sent_asks : (test : Order → Bool) (s : ShowState) (x : Happening) → list_any (λ (m : ℕ × Send). is_command test m.1) (given_at s x).sends ≡ true → asks test (folded s (given_at s x).batch) ≡ true
 sent_asks test s x h =
-    let t : Standing = folded s (given_at s x).batch in
+    let t : ShowState = folded s (given_at s x).batch in
     any_says test (asks test t) (given_at s x).sends (happening-each (Says test (asks test t)) (says_elsewhere test (asks test t)) s x (each_is_there test (asks test t) (all_pending t) (pending_asks test t))) h
 
 asked_before : (test : Order → Bool) (past : List Event) (hs : List Happening) → list_any (λ (m : ℕ × Send). is_command test m.1) (run (state_of past) hs).sends ≡ true → ever (asks test) (onto (joined (run (state_of past) hs).batches) past) ≡ true
 asked_before test past [] h = absurd (true≢false (sym h))
 asked_before test past (x ∷ hs) h =
     let g : Given = given_at (state_of past) x in
-    let next : Standing = folded (state_of past) g.batch in
+    let next : ShowState = folded (state_of past) g.batch in
     let p : ℕ × Send → Bool = λ m. is_command test m.1 in
-    let P : Standing → Type 0 = λ s. list_any p (run s hs).sends ≡ true → ever (asks test) (onto (joined (run s hs).batches) (onto g.batch past)) ≡ true in
+    let P : ShowState → Type 0 = λ s. list_any p (run s hs).sends ≡ true → ever (asks test) (onto (joined (run s hs).batches) (onto g.batch past)) ≡ true in
     let rest : P next = subst P (state-onto g.batch past) (asked_before test (onto g.batch past) hs) in
-    let Q : Standing → Type 0 = λ s. asks test s ≡ true in
+    let Q : ShowState → Type 0 = λ s. asks test s ≡ true in
     let first : list_any p g.sends ≡ true → ever (asks test) (onto (joined (run next hs).batches) (onto g.batch past)) ≡ true =
     λ k. ever_onto (asks test) (joined (run next hs).batches) (onto g.batch past) (ever_now (asks test) (onto g.batch past) (subst Q (sym (state-onto g.batch past)) (sent_asks test (state_of past) x k))) in
     let R : List Event → Type 0 = λ xs. ever (asks test) xs ≡ true in

@@ -13,7 +13,7 @@ use Rattle.cue_osc.proofs.Fields.{string_again}
 use Rattle.cue_osc.proofs.Starts.{message_start}
 use Rattle.cue_core.specs.declared.event.Event.{Event}
 use Rattle.cue_core.specs.Events.{is_go_of, is_start_of}
-use Rattle.cue_core.specs.State.{Standing, is_state}
+use Rattle.cue_core.specs.State.{ShowState, is_state}
 use Rattle.cue_core.specs.Steps.{folded}
 use Rattle.cue_core.specs.Pending.{Order, standby, go_2pc, cancel, pending}
 use Rattle.cue_outbox.specs.Sending.{Send, answer, status, order, number, order_content, send_content, datagram, datagrams, all_pending}
@@ -87,7 +87,7 @@ not_read a b rest q is_text starts apart read = let P : Result Content Fault →
 
 -- ---- no answer and no status is read as a command
 
-answer_rests : (s : Standing) (es : List Event) (a : List ℕ) (m k r c : ℕ) → BytesRest s es (text_of (send_content (answer a m k r c)))
+answer_rests : (s : ShowState) (es : List Event) (a : List ℕ) (m k r c : ℕ) → BytesRest s es (text_of (send_content (answer a m k r c)))
 unfolding send_content
 answer_rests s es a m k r c = record {
   go_2pc = λ q read. not_read (codes "/reply") (codes "/msc/go_2pc") _ q (search rules) refl refl read;
@@ -95,7 +95,7 @@ answer_rests s es a m k r c = record {
   cancel = λ q read. not_read (codes "/reply") (codes "/msc/cancel") _ q (search rules) refl refl read;
 }
 
-status_rests : (s : Standing) (es : List Event) (l : ℕ) (p : List ℕ) (v e o : ℕ) → BytesRest s es (text_of (send_content (status l p v e o)))
+status_rests : (s : ShowState) (es : List Event) (l : ℕ) (p : List ℕ) (v e o : ℕ) → BytesRest s es (text_of (send_content (status l p v e o)))
 unfolding send_content
 status_rests s es l p v e o = record {
   go_2pc = λ q read. not_read (codes "/status") (codes "/msc/go_2pc") _ q (search rules) refl refl read;
@@ -113,19 +113,19 @@ abbrev first_number : Content → ℕ
 first_number (message a (x ∷ xs)) = number_in x
 first_number _ = 0
 
-go_says : (s : Standing) (es : List Event) (o : Order) (q : ℕ) (xs : List Argument) → order_rests s es o ≡ true → order_content o ≡ message (codes "/msc/go_2pc") (number q ∷ xs) → (is_decided_in s q || list_any (is_go_of q) es) ≡ true
+go_says : (s : ShowState) (es : List Event) (o : Order) (q : ℕ) (xs : List Argument) → order_rests s es o ≡ true → order_content o ≡ message (codes "/msc/go_2pc") (number q ∷ xs) → (is_decided_in s q || list_any (is_go_of q) es) ≡ true
 unfolding order_content
 go_says s es (go_2pc p d) q xs h e = let P : ℕ → Type 0 = λ n. (is_decided_in s n || list_any (is_go_of n) es) ≡ true in subst P (ap first_number e) h
 go_says s es (standby p d c b) q xs h e = differ (codes "/msc/standby") (codes "/msc/go_2pc") refl (ap address_in e)
 go_says s es (cancel p d) q xs h e = differ (codes "/msc/cancel") (codes "/msc/go_2pc") refl (ap address_in e)
 
-standby_says : (s : Standing) (es : List Event) (o : Order) (q : ℕ) (xs : List Argument) → order_rests s es o ≡ true → order_content o ≡ message (codes "/msc/standby") (number q ∷ xs) → (is_live_in s q || list_any (is_start_of q) es) ≡ true
+standby_says : (s : ShowState) (es : List Event) (o : Order) (q : ℕ) (xs : List Argument) → order_rests s es o ≡ true → order_content o ≡ message (codes "/msc/standby") (number q ∷ xs) → (is_live_in s q || list_any (is_start_of q) es) ≡ true
 unfolding order_content
 standby_says s es (standby p d c b) q xs h e = let P : ℕ → Type 0 = λ n. (is_live_in s n || list_any (is_start_of n) es) ≡ true in subst P (ap first_number e) h
 standby_says s es (go_2pc p d) q xs h e = differ (codes "/msc/go_2pc") (codes "/msc/standby") refl (ap address_in e)
 standby_says s es (cancel p d) q xs h e = differ (codes "/msc/cancel") (codes "/msc/standby") refl (ap address_in e)
 
-cancel_says : (s : Standing) (es : List Event) (o : Order) (q : ℕ) (xs : List Argument) → order_rests s es o ≡ true → order_content o ≡ message (codes "/msc/cancel") (number q ∷ xs) → (is_live_in s q || list_any (is_start_of q) es) ≡ true
+cancel_says : (s : ShowState) (es : List Event) (o : Order) (q : ℕ) (xs : List Argument) → order_rests s es o ≡ true → order_content o ≡ message (codes "/msc/cancel") (number q ∷ xs) → (is_live_in s q || list_any (is_start_of q) es) ≡ true
 unfolding order_content
 cancel_says s es (cancel p d) q xs h e = let P : ℕ → Type 0 = λ n. (is_live_in s n || list_any (is_start_of n) es) ≡ true in subst P (ap first_number e) h
 cancel_says s es (go_2pc p d) q xs h e = differ (codes "/msc/go_2pc") (codes "/msc/cancel") refl (ap address_in e)
@@ -138,7 +138,7 @@ content_or c (Err f) = c
 read_as : (c : Content) (a : List ℕ) (q : ℕ) → IsWritable c → (read : AreReadAs (text_of c) a q) → c ≡ message a (number q ∷ read.0)
 read_as c a q w read = ap (content_or c) (sym (read_back c w) ∙ read.1)
 
-order_says : (s : Standing) (es : List Event) (o : Order) → IsWritable (order_content o) → order_rests s es o ≡ true → BytesRest s es (text_of (send_content (order o)))
+order_says : (s : ShowState) (es : List Event) (o : Order) → IsWritable (order_content o) → order_rests s es o ≡ true → BytesRest s es (text_of (send_content (order o)))
 unfolding send_content
 order_says s es o w h = record {
   go_2pc = λ q read. go_says s es o q read.0 h (read_as (order_content o) (codes "/msc/go_2pc") q w read);
@@ -157,24 +157,24 @@ IsReadable (order o) = IsWritable (order_content o)
 readable_elsewhere : HoldsElsewhere IsReadable
 readable_elsewhere = record { answers = λ a m k r c. tt; statuses = λ l p v e o. tt }
 
-pub pending_readable : (s : Standing) → IsTrue (is_state s) → Each IsReadable (all_pending s)
+pub pending_readable : (s : ShowState) → IsTrue (is_state s) → Each IsReadable (all_pending s)
 pending_readable s h = each_map (λ (m : ℕ × Send). IsReadable m.1) (λ (o : ℕ × Order). (o.0, order o.1)) (pending s) (all_writable s h)
 
-pub given_readable : (s : Standing) (x : Happening) → IsTrue (is_state s) → Each IsReadable (given_at s x).sends
+pub given_readable : (s : ShowState) (x : Happening) → IsTrue (is_state s) → Each IsReadable (given_at s x).sends
 given_readable s x h = happening-each IsReadable readable_elsewhere s x (pending_readable (folded s (given_at s x).batch) (state-folded s (given_at s x).batch h (happening-ok s x h)))
 
-run_readable : (s : Standing) (hs : List Happening) → IsTrue (is_state s) → Each IsReadable (run s hs).sends
+run_readable : (s : ShowState) (hs : List Happening) → IsTrue (is_state s) → Each IsReadable (run s hs).sends
 run_readable s [] h = tt
 run_readable s (x ∷ hs) h =
-    let next : Standing = folded s (given_at s x).batch in
+    let next : ShowState = folded s (given_at s x).batch in
     each_append (λ (m : ℕ × Send). IsReadable m.1) (given_at s x).sends (run next hs).sends (given_readable s x h) (run_readable next hs (state-folded s (given_at s x).batch h (happening-ok s x h)))
 
-says : (s : Standing) (es : List Event) (m : Send) → IsReadable m → send_rests s es m ≡ true → BytesRest s es (text_of (send_content m))
+says : (s : ShowState) (es : List Event) (m : Send) → IsReadable m → send_rests s es m ≡ true → BytesRest s es (text_of (send_content m))
 says s es (answer a m k r c) w h = answer_rests s es a m k r c
 says s es (status l p v e o) w h = status_rests s es l p v e o
 says s es (order o) w h = order_says s es o w h
 
-pub all_say : (s : Standing) (es : List Event) (ms : List (ℕ × Send)) → Each IsReadable ms → IsTrue (list_all (rests s es) ms) → AllByRecursion (λ d. BytesRest s es d.1) (datagrams ms)
+pub all_say : (s : ShowState) (es : List Event) (ms : List (ℕ × Send)) → Each IsReadable ms → IsTrue (list_all (rests s es) ms) → AllByRecursion (λ d. BytesRest s es d.1) (datagrams ms)
 unfolding datagram
 all_say s es [] w h = tt
 all_say s es (m ∷ ms) w h = let k = each_passes (rests s es) (m ∷ ms) h in (says s es m.1 w.0 k.0, all_say s es ms w.1 (tail (rests s es m) (list_all (rests s es) ms) h))

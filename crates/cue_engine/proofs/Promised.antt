@@ -2,7 +2,7 @@
 use Rattle.std.proofs.Common.{◌≡◌, ◌⊎◌, inl, inr, ℕ, zero, suc, Bool, true, false, ◌&&◌, List, [], ◌∷◌, ◌++◌, take, refl, sym, ap, ◌∙◌, subst, append_assoc, append-nil, IsTrue}
 use Rattle.std.specs.List.{AllByRecursion, list_all}
 use Rattle.cue_core.specs.declared.event.Event.{Event}
-use Rattle.cue_core.specs.State.{Standing, is_state}
+use Rattle.cue_core.specs.State.{ShowState, is_state}
 use Rattle.cue_core.specs.Steps.{folded, are_acceptable}
 use Rattle.cue_core.proofs.Conditions.{both, join}
 use Rattle.cue_core.proofs.Folding.{folded-append}
@@ -21,7 +21,7 @@ use Rattle.cue_engine.proofs.BytesLemmas.{IsReadable, pending_readable, given_re
 use Rattle.cue_outbox.proofs.Lists.{each_append}
 
 -- what the store stands for after these events, and that what is owed rests on them and can be read again
-record IsOn (s : Standing) (es : List Event) (store : Store) : Type 0 where
+record IsOn (s : ShowState) (es : List Event) (store : Store) : Type 0 where
   stands : StandsAt store (folded s es)
   owed : list_all (rests s es) (owed_by store) ≡ true
   readable : Each IsReadable (owed_by store)
@@ -29,10 +29,10 @@ record IsOn (s : Standing) (es : List Event) (store : Store) : Type 0 where
 
 -- ---- what rests
 
-all_more : (s : Standing) (es fs : List Event) (xs : List (ℕ × Send)) → list_all (rests s es) xs ≡ true → list_all (rests s (es ++ fs)) xs ≡ true
+all_more : (s : ShowState) (es fs : List Event) (xs : List (ℕ × Send)) → list_all (rests s es) xs ≡ true → list_all (rests s (es ++ fs)) xs ≡ true
 all_more s es fs xs h = all_implied (rests s es) (rests s (es ++ fs)) (λ m k. more s es fs m.1 k) xs h
 
-all_earlier : (s : Standing) (es fs : List Event) (xs : List (ℕ × Send)) → list_all (rests (folded s es) fs) xs ≡ true → list_all (rests s (es ++ fs)) xs ≡ true
+all_earlier : (s : ShowState) (es fs : List Event) (xs : List (ℕ × Send)) → list_all (rests (folded s es) fs) xs ≡ true → list_all (rests s (es ++ fs)) xs ≡ true
 all_earlier s es fs xs h = all_implied (rests (folded s es) fs) (rests s (es ++ fs)) (λ m k. earlier s es fs m.1 k) xs h
 
 all_taken : (p : ℕ × Send → Bool) (n : ℕ) (xs : List (ℕ × Send)) → list_all p xs ≡ true → list_all p (take n xs) ≡ true
@@ -41,7 +41,7 @@ all_taken p (suc n) [] h = refl
 all_taken p (suc n) (x ∷ xs) h = let w = both (p x) (list_all p xs) h in join (p x) (list_all p (take n xs)) w.0 (all_taken p n xs w.1)
 
 -- what is handed over was owed
-handed_rests : (s : Standing) (es : List Event) (store : Store) (i : Incident) → list_all (rests s es) (owed_by store) ≡ true → list_all (rests s es) (handed_in store i) ≡ true
+handed_rests : (s : ShowState) (es : List Event) (store : Store) (i : Incident) → list_all (rests s es) (owed_by store) ≡ true → list_all (rests s es) (handed_in store i) ≡ true
 handed_rests s es store (taken now input) h = refl
 handed_rests s es store handed_out h = h
 handed_rests s es store (stopped n x y) h = all_taken (rests s es) n (owed_by store) h
@@ -63,35 +63,35 @@ handed_readable store (recovered t) h = tt
 handed_readable store (stopped_in_recovery x y) h = tt
 
 -- the rules of a state hold after an acceptable batch
-rules_after : (s : Standing) (es batch : List Event) → IsTrue (is_state (folded s es)) → IsTrue (are_acceptable (folded s es) batch) → IsTrue (is_state (folded s (es ++ batch)))
-rules_after s es batch h ok = let P : Standing → Type 0 = λ t. IsTrue (is_state t) in subst P (sym (folded-append s es batch)) (state-folded (folded s es) batch h ok)
+rules_after : (s : ShowState) (es batch : List Event) → IsTrue (is_state (folded s es)) → IsTrue (are_acceptable (folded s es) batch) → IsTrue (is_state (folded s (es ++ batch)))
+rules_after s es batch h ok = let P : ShowState → Type 0 = λ t. IsTrue (is_state t) in subst P (sym (folded-append s es batch)) (state-folded (folded s es) batch h ok)
 
 -- ---- one incident
 
 -- the batch is kept whole, or, where its call was cut off, not at all
-abbrev Goes : Standing → List Event → Store → Incident → Type 0
+abbrev Goes : ShowState → List Event → Store → Incident → Type 0
 Goes s es store i = IsOn s (es ++ batch_of (folded s es) i) (left_by store i) ⊎ ((is_cut_off i ≡ true) × IsOn s es (left_by store i))
 
 -- nothing is added
-as_before : (s : Standing) (es : List Event) (store : Store) → IsOn s es store → IsOn s (es ++ []) store
+as_before : (s : ShowState) (es : List Event) (store : Store) → IsOn s es store → IsOn s (es ++ []) store
 as_before s es store on = let P : List Event → Type 0 = λ fs. IsOn s fs store in subst P (sym (append-nil es)) on
 
-resting_at : (s : Standing) (es : List Event) (x y : List ℕ) → IsTrue (is_state (folded s es)) → Stands x y (folded s es) → IsOn s es (at_rest x y)
+resting_at : (s : ShowState) (es : List Event) (x y : List ℕ) → IsTrue (is_state (folded s es)) → Stands x y (folded s es) → IsOn s es (at_rest x y)
 resting_at s es x y rules h = record { stands = h; owed = refl; readable = tt; rules = rules }
 
 -- a stop leaves the state from before or the one after the batch
-resting_either : (s : Standing) (es batch : List Event) (x y : List ℕ) → IsTrue (is_state (folded s es)) → IsTrue (are_acceptable (folded s es) batch) → StandsEither (folded s es) (folded (folded s es) batch) x y
+resting_either : (s : ShowState) (es batch : List Event) (x y : List ℕ) → IsTrue (is_state (folded s es)) → IsTrue (are_acceptable (folded s es) batch) → StandsEither (folded s es) (folded (folded s es) batch) x y
     → IsOn s (es ++ batch) (at_rest x y) ⊎ IsOn s es (at_rest x y)
 resting_either s es batch x y rules ok (inl h) = inr (resting_at s es x y rules h)
 resting_either s es batch x y rules ok (inr h) =
-    let P : Standing → Type 0 = λ t. Stands x y t in
+    let P : ShowState → Type 0 = λ t. Stands x y t in
     inl (resting_at s (es ++ batch) x y (rules_after s es batch rules ok) (subst P (sym (folded-append s es batch)) h))
 
 with_cut : {A B : Type 0} → A ⊎ B → A ⊎ ((true ≡ true) × B)
 with_cut (inl a) = inl a
 with_cut (inr b) = inr (refl, b)
 
-goes_taken : (s : Standing) (es : List Event) (owed : List (ℕ × Send)) (now : ℕ) (input : Input) → IsOn s es (running (folded s es) owed) → Goes s es (running (folded s es) owed) (taken now input)
+goes_taken : (s : ShowState) (es : List Event) (owed : List (ℕ × Send)) (now : ℕ) (input : Input) → IsOn s es (running (folded s es) owed) → Goes s es (running (folded s es) owed) (taken now input)
 goes_taken s es owed now input on =
     let batch : List Event = (given (folded s es) now input).batch in
     let sends : List (ℕ × Send) = (given (folded s es) now input).sends in
@@ -102,7 +102,7 @@ goes_taken s es owed now input on =
       rules = rules_after s es batch on.rules (input-ok (folded s es) now input on.rules);
     })
 
-goes_running : (s : Standing) (es : List Event) (owed : List (ℕ × Send)) (i : Incident) → IsOn s es (running (folded s es) owed) → Permits (running (folded s es) owed) i → Goes s es (running (folded s es) owed) i
+goes_running : (s : ShowState) (es : List Event) (owed : List (ℕ × Send)) (i : Incident) → IsOn s es (running (folded s es) owed) → Permits (running (folded s es) owed) i → Goes s es (running (folded s es) owed) i
 goes_running s es owed (taken now input) on ok = goes_taken s es owed now input on
 goes_running s es owed handed_out on ok = inl (as_before s es (running (folded s es) []) (record { stands = refl; owed = refl; readable = tt; rules = on.rules }))
 goes_running s es owed (stopped n x y) on ok = inl (as_before s es (at_rest x y) (resting_at s es x y on.rules ok))
@@ -110,7 +110,7 @@ goes_running s es owed (stopped_in_take now input n x y) on ok = with_cut (resti
 goes_running s es owed (recovered t) on ok = absurd ok
 goes_running s es owed (stopped_in_recovery x y) on ok = absurd ok
 
-goes_recovered : (s : Standing) (es : List Event) (x y : List ℕ) → IsTrue (is_state (folded s es)) → Goes s es (at_rest x y) (recovered (closed (folded s es)))
+goes_recovered : (s : ShowState) (es : List Event) (x y : List ℕ) → IsTrue (is_state (folded s es)) → Goes s es (at_rest x y) (recovered (closed (folded s es)))
 unfolding closed
 goes_recovered s es x y rules =
     let batch : List Event = (given_recovery (folded s es)).batch in
@@ -122,48 +122,48 @@ goes_recovered s es x y rules =
       rules = rules_after s es batch rules ok;
     })
 
-goes_stopped : (s : Standing) (es : List Event) (x y u v : List ℕ) → IsTrue (is_state (folded s es)) → StandsEither (folded s es) (closed (folded s es)) u v → Goes s es (at_rest x y) (stopped_in_recovery u v)
+goes_stopped : (s : ShowState) (es : List Event) (x y u v : List ℕ) → IsTrue (is_state (folded s es)) → StandsEither (folded s es) (closed (folded s es)) u v → Goes s es (at_rest x y) (stopped_in_recovery u v)
 unfolding closed
 goes_stopped s es x y u v rules h = with_cut (resting_either s es (given_recovery (folded s es)).batch u v rules (happening-ok (folded s es) runs.recovered rules) h)
 
-goes_at_rest : (s : Standing) (es : List Event) (x y : List ℕ) (i : Incident) → IsTrue (is_state (folded s es)) → Stands x y (folded s es) → Permits (at_rest x y) i → Goes s es (at_rest x y) i
+goes_at_rest : (s : ShowState) (es : List Event) (x y : List ℕ) (i : Incident) → IsTrue (is_state (folded s es)) → Stands x y (folded s es) → Permits (at_rest x y) i → Goes s es (at_rest x y) i
 goes_at_rest s es x y (taken now input) rules h ok = absurd ok
 goes_at_rest s es x y handed_out rules h ok = absurd ok
 goes_at_rest s es x y (stopped n u v) rules h ok = absurd ok
 goes_at_rest s es x y (stopped_in_take now input n u v) rules h ok = absurd ok
 goes_at_rest s es x y (recovered t) rules h ok =
-    let P : Standing → Type 0 = λ u. Goes s es (at_rest x y) (recovered u) in
+    let P : ShowState → Type 0 = λ u. Goes s es (at_rest x y) (recovered u) in
     subst P (sym (ok.is ∙ ap closed (one_state x y ok.before (folded s es) ok.stood h))) (goes_recovered s es x y rules)
 goes_at_rest s es x y (stopped_in_recovery u v) rules h ok =
-    let P : Standing → Type 0 = λ c. StandsEither c (closed c) u v in
+    let P : ShowState → Type 0 = λ c. StandsEither c (closed c) u v in
     goes_stopped s es x y u v rules (subst P (one_state x y ok.0 (folded s es) ok.1.0 h) ok.1.1)
 
 -- an engine runs with the state that it stands for
-goes_on : (s : Standing) (es : List Event) (t : Standing) (owed : List (ℕ × Send)) (i : Incident) → t ≡ folded s es → IsOn s es (running (folded s es) owed) → Permits (running t owed) i → Goes s es (running t owed) i
+goes_on : (s : ShowState) (es : List Event) (t : ShowState) (owed : List (ℕ × Send)) (i : Incident) → t ≡ folded s es → IsOn s es (running (folded s es) owed) → Permits (running t owed) i → Goes s es (running t owed) i
 goes_on s es t owed i same on ok =
-    let P : Standing → Type 0 = λ u. Permits (running u owed) i → Goes s es (running u owed) i in
+    let P : ShowState → Type 0 = λ u. Permits (running u owed) i → Goes s es (running u owed) i in
     subst P (sym same) (goes_running s es owed i on) ok
 
-goes : (s : Standing) (es : List Event) (store : Store) (i : Incident) → IsOn s es store → Permits store i → Goes s es store i
+goes : (s : ShowState) (es : List Event) (store : Store) (i : Incident) → IsOn s es store → Permits store i → Goes s es store i
 goes s es (running t owed) i on ok = goes_on s es t owed i on.stands (record { stands = refl; owed = on.owed; readable = on.readable; rules = on.rules }) ok
 goes s es (at_rest x y) i on ok = goes_at_rest s es x y i on.rules on.stands ok
 
 -- ---- all of them
 
-record Found (s : Standing) (es : List Event) (store : Store) (is : List Incident) : Type 0 where
+record Found (s : ShowState) (es : List Event) (store : Store) (is : List Incident) : Type 0 where
   kept : List (List Event)
   prefix : AreKept (folded s es) is kept
   stands : StandsAt (left_by_all store is) (folded s (es ++ joined kept))
   decided : list_all (rests s (es ++ joined kept)) (all_handed store is) ≡ true
   readable : Each IsReadable (all_handed store is)
 
-found_none : (s : Standing) (es : List Event) (store : Store) → IsOn s es store → Found s es store []
+found_none : (s : ShowState) (es : List Event) (store : Store) → IsOn s es store → Found s es store []
 found_none s es store on = record { kept = []; prefix = refl; stands = (as_before s es store on).stands; decided = refl; readable = tt }
 
-found_whole : (s : Standing) (es : List Event) (store : Store) (i : Incident) (is : List Incident) → IsOn s es store → Found s (es ++ batch_of (folded s es) i) (left_by store i) is → Found s es store (i ∷ is)
+found_whole : (s : ShowState) (es : List Event) (store : Store) (i : Incident) (is : List Incident) → IsOn s es store → Found s (es ++ batch_of (folded s es) i) (left_by store i) is → Found s es store (i ∷ is)
 found_whole s es store i is on f =
     let batch : List Event = batch_of (folded s es) i in
-    let P : Standing → Type 0 = λ u. AreKept u is f.kept in
+    let P : ShowState → Type 0 = λ u. AreKept u is f.kept in
     let same : (es ++ batch) ++ joined f.kept ≡ es ++ joined (with_batch batch f.kept) = append_assoc es batch (joined f.kept) ∙ ap (λ (xs : List Event). es ++ xs) (sym (joined-with batch f.kept)) in
     let Q : List Event → Type 0 = λ xs. StandsAt (left_by_all (left_by store i) is) (folded s xs) in
     let R : List Event → Type 0 = λ xs. list_all (rests s xs) (all_handed (left_by store i) is) ≡ true in
@@ -176,7 +176,7 @@ found_whole s es store i is on f =
       readable = each_append (λ (m : ℕ × Send). IsReadable m.1) (handed_in store i) (all_handed (left_by store i) is) (handed_readable store i on.readable) f.readable;
     }
 
-found_cut : (s : Standing) (es : List Event) (store : Store) (i : Incident) (is : List Incident) → IsOn s es store → is_cut_off i ≡ true → Found s es (left_by store i) is → Found s es store (i ∷ is)
+found_cut : (s : ShowState) (es : List Event) (store : Store) (i : Incident) (is : List Incident) → IsOn s es store → is_cut_off i ≡ true → Found s es (left_by store i) is → Found s es store (i ∷ is)
 found_cut s es store i is on cut f = record {
   kept = f.kept;
   prefix = inr (cut, f.prefix);
@@ -186,14 +186,14 @@ found_cut s es store i is on cut f = record {
   readable = each_append (λ (m : ℕ × Send). IsReadable m.1) (handed_in store i) (all_handed (left_by store i) is) (handed_readable store i on.readable) f.readable;
 }
 
-found_either : (s : Standing) (es : List Event) (store : Store) (i : Incident) (is : List Incident) → IsOn s es store
+found_either : (s : ShowState) (es : List Event) (store : Store) (i : Incident) (is : List Incident) → IsOn s es store
     → (IsOn s (es ++ batch_of (folded s es) i) (left_by store i) → Found s (es ++ batch_of (folded s es) i) (left_by store i) is)
     → (IsOn s es (left_by store i) → Found s es (left_by store i) is)
     → Goes s es store i → Found s es store (i ∷ is)
 found_either s es store i is on whole cut (inl h) = found_whole s es store i is on (whole h)
 found_either s es store i is on whole cut (inr h) = found_cut s es store i is on h.0 (cut h.1)
 
-found : (s : Standing) (es : List Event) (store : Store) (is : List Incident) → IsOn s es store → Happens store is → Found s es store is
+found : (s : ShowState) (es : List Event) (store : Store) (is : List Incident) → IsOn s es store → Happens store is → Found s es store is
 found s es store [] on ok = found_none s es store on
 found s es store (i ∷ is) on ok =
     found_either s es store i is on
@@ -201,7 +201,7 @@ found s es store (i ∷ is) on ok =
     (λ h. found s es (left_by store i) is h ok.1)
     (goes s es store i on ok.0)
 
-begins : (s : Standing) → IsTrue (is_state s) → IsOn s [] (begun s)
+begins : (s : ShowState) → IsTrue (is_state s) → IsOn s [] (begun s)
 begins s h = record { stands = refl; owed = all_pending_rest s []; readable = pending_readable s h; rules = h }
 
 pub whatever_happens : WhateverHappens

@@ -4,7 +4,7 @@ use Rattle.cue_disk.specs.Disk.{Contents, IsImage}
 use Rattle.cue_log.specs.Area.{area_text}
 use Rattle.cue_log.specs.declared.area.TheConstants.{AREA_LIMIT}
 use Rattle.cue_snap.specs.Words.{first_after, second_after}
-use Rattle.cue_core.specs.State.{Standing}
+use Rattle.cue_core.specs.State.{ShowState}
 use Rattle.cue_records.specs.State.{state_text}
 use Rattle.cue_keeper.specs.Due.{is_due}
 use Rattle.cue_keeper.specs.Stands.{Stands, StandsEither, IsKept}
@@ -13,7 +13,7 @@ use Rattle.cue_engine.specs.Recovery.{IsLeftOrStands, NeedsArea, NoGenerationLef
 
 -- ---- what a crash leaves
 
-pub left_or_stands : (then_a then_b : Contents) (first second : List ℕ) (s : Standing) → IsImage then_a first → IsImage then_b second → Stands first second s → (x y : List ℕ) → StandsEither s (closed s) x y → IsLeftOrStands then_a then_b x y
+pub left_or_stands : (then_a then_b : Contents) (first second : List ℕ) (s : ShowState) → IsImage then_a first → IsImage then_b second → Stands first second s → (x y : List ℕ) → StandsEither s (closed s) x y → IsLeftOrStands then_a then_b x y
 left_or_stands then_a then_b first second s left_first left_second stood x y stands = inr (record {
   first = first;
   second = second;
@@ -26,14 +26,14 @@ left_or_stands then_a then_b first second s left_first left_second stood x y sta
 
 -- ---- why the cancels are not accepted
 
-needs_area : (one other : Contents) (s : Standing) (generation count end : ℕ) (kept : IsKept one other s generation count end) → IsImage one one.bytes → IsImage other other.bytes → IsTrue (is_due count end (cancels_length s)) → NeedsArea one.bytes other.bytes kept.area s
+needs_area : (one other : Contents) (s : ShowState) (generation count end : ℕ) (kept : IsKept one other s generation count end) → IsImage one one.bytes → IsImage other other.bytes → IsTrue (is_due count end (cancels_length s)) → NeedsArea one.bytes other.bytes kept.area s
 needs_area one other s generation count end kept first second due = record {
   reads = kept.leaves one.bytes other.bytes first second;
   stands = kept.stands;
   due = subst (λ (n : ℕ). IsTrue (is_due n (length (area_text kept.area)) (cancels_length s))) kept.same_count (subst (λ (n : ℕ). IsTrue (is_due count n (cancels_length s))) kept.same_end due);
 }
 
-pub no_generation : (one other : Contents) (s : Standing) (generation count end : ℕ) → IsKept one other s generation count end → IsImage one one.bytes → IsImage other other.bytes → IsTrue (is_due count end (cancels_length s)) → generation ≡ 2 ^ 64 - 1 → NoGenerationLeft one.bytes other.bytes
+pub no_generation : (one other : Contents) (s : ShowState) (generation count end : ℕ) → IsKept one other s generation count end → IsImage one one.bytes → IsImage other other.bytes → IsTrue (is_due count end (cancels_length s)) → generation ≡ 2 ^ 64 - 1 → NoGenerationLeft one.bytes other.bytes
 no_generation one other s generation count end kept first second due last = record {
   area = kept.area;
   state = s;
@@ -41,7 +41,7 @@ no_generation one other s generation count end kept first second due last = reco
   last = sym kept.same_generation ∙ last;
 }
 
-pub no_room : (one other : Contents) (s : Standing) (generation count end : ℕ) → IsKept one other s generation count end → IsImage one one.bytes → IsImage other other.bytes → IsTrue (is_due count end (cancels_length s)) → AREA_LIMIT < 19 + length (state_text s) + cancels_length s → NoRoomLeft one.bytes other.bytes
+pub no_room : (one other : Contents) (s : ShowState) (generation count end : ℕ) → IsKept one other s generation count end → IsImage one one.bytes → IsImage other other.bytes → IsTrue (is_due count end (cancels_length s)) → AREA_LIMIT < 19 + length (state_text s) + cancels_length s → NoRoomLeft one.bytes other.bytes
 no_room one other s generation count end kept first second due long = record {
   area = kept.area;
   state = s;

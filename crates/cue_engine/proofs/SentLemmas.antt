@@ -4,7 +4,7 @@ use Rattle.std.specs.List.{AllByRecursion, list_any, list_all}
 use Rattle.cue_core.specs.declared.event.Event.{Event}
 use Rattle.cue_core.specs.declared.command.Command.{Command}
 use Rattle.cue_core.specs.declared.command.Command.TheVariants as command
-use Rattle.cue_core.specs.State.{Standing}
+use Rattle.cue_core.specs.State.{ShowState}
 use Rattle.cue_core.specs.Steps.{folded}
 use Rattle.cue_core.specs.Happenings.{ticked, events_at}
 use Rattle.cue_osc.specs.Content.{Content}
@@ -28,7 +28,7 @@ abbrev pub Each : (Send → Type 0) → List (ℕ × Send) → Type 0
 Each R ms = AllByRecursion (λ (m : ℕ × Send). R m.1) ms
 
 -- of all that is sent it holds where it holds of all that is pending after the batch
-abbrev pub HoldsOfSent : (Send → Type 0) → Standing → Given → Type 0
+abbrev pub HoldsOfSent : (Send → Type 0) → ShowState → Given → Type 0
 HoldsOfSent R s g = Each R (all_pending (folded s g.batch)) → Each R g.sends
 
 each : {A : Type 0} (xs : List A) → AllByRecursion (λ x. Unit {0}) xs
@@ -44,7 +44,7 @@ each_kept P p (x ∷ xs) h = by (p x) h.0 (each_kept P p xs h.1)
     by false k r = r
 
 module _ (R : Send → Type 0) (els : HoldsElsewhere R) where
-  shown-each : (c : Command) (t : Standing) → AllByRecursion R (shown_by c t)
+  shown-each : (c : Command) (t : ShowState) → AllByRecursion R (shown_by c t)
   unfolding status_of
   shown-each command.Status t = (els.statuses _ _ _ _ _, tt)
   shown-each (command.AddDevice device port) t = tt
@@ -70,14 +70,14 @@ module _ (R : Send → Type 0) (els : HoldsElsewhere R) where
   sent-each : (from : ℕ) (ms : List Send) → AllByRecursion R ms → Each R (sent_to from ms)
   sent-each from ms h = each_map (λ (m : ℕ × Send). R m.1) (λ m. (from, m)) ms h
 
-  newly-each : (s t : Standing) → Each R (all_pending t) → Each R (newly_pending s t)
+  newly-each : (s t : ShowState) → Each R (all_pending t) → Each R (newly_pending s t)
   unfolding newly_pending
   newly-each s t h = each_kept (λ (m : ℕ × Send). R m.1) (is_new (datagrams (all_pending s))) (all_pending t) h
 
-  refused-each : (s : Standing) (from : ℕ) (why : Refusal) → HoldsOfSent R s (given_refused from why)
+  refused-each : (s : ShowState) (from : ℕ) (why : Refusal) → HoldsOfSent R s (given_refused from why)
   refused-each s from why h = (els.answers _ _ _ _ _, tt)
 
-  heard-each : (s : Standing) (from : ℕ) (hs : List Heard) → HoldsOfSent R s (given_heard s from hs)
+  heard-each : (s : ShowState) (from : ℕ) (hs : List Heard) → HoldsOfSent R s (given_heard s from hs)
   unfolding given_heard
   heard-each s from hs = by (are_too_many hs)
     where
@@ -89,16 +89,16 @@ module _ (R : Send → Type 0) (els : HoldsElsewhere R) where
       by false = λ h. each_append (λ (m : ℕ × Send). R m.1) (sent_to from (replies_or_one hs)) (newly_pending s (folded s (all_events hs)))
           (sent-each from (replies_or_one hs) (replies-each hs)) (newly-each s (folded s (all_events hs)) h)
 
-  datagram-each : (s : Standing) (now from : ℕ) (r : Result (List Content) Refusal) → HoldsOfSent R s (given_by s now from r)
+  datagram-each : (s : ShowState) (now from : ℕ) (r : Result (List Content) Refusal) → HoldsOfSent R s (given_by s now from r)
   datagram-each s now from (Err why) = refused-each s from why
   datagram-each s now from (Ok ms) = heard-each s from (hear_all s now from ms)
 
-  input-each : (s : Standing) (now : ℕ) (i : Input) → HoldsOfSent R s (given s now i)
+  input-each : (s : ShowState) (now : ℕ) (i : Input) → HoldsOfSent R s (given s now i)
   unfolding given
   input-each s now (datagram from bytes) = datagram-each s now from (messages_in now bytes)
   input-each s now tick = λ h. h
 
-  pub happening-each : (s : Standing) (x : Happening) → HoldsOfSent R s (given_at s x)
+  pub happening-each : (s : ShowState) (x : Happening) → HoldsOfSent R s (given_at s x)
   unfolding closed
   happening-each s (took now input) = input-each s now input
   happening-each s runs.recovered = λ h. h

@@ -6,7 +6,7 @@
 use Rattle.std.specs.Prelude.{◌≡◌, ◌⊎◌, ℕ, Bool, true, false, List, [], ◌∷◌, ◌++◌, take, IsTrue}
 use Rattle.std.specs.List.{AllByRecursion, list_all}
 use Rattle.cue_core.specs.declared.event.Event.{Event}
-use Rattle.cue_core.specs.State.{Standing, is_state}
+use Rattle.cue_core.specs.State.{ShowState, is_state}
 use Rattle.cue_core.specs.Steps.{folded}
 use Rattle.cue_keeper.specs.Stands.{Stands, StandsEither}
 use Rattle.cue_outbox.specs.Sending.{Send, all_pending, datagrams}
@@ -26,24 +26,24 @@ pub data Incident : Type 0 where
   -- Power was lost within `take`, or a disk failed there. Of what was owed before it n datagrams may still be handed over.
   stopped_in_take : (now : ℕ) (input : Input) (n : ℕ) (x y : List ℕ) → Incident
   -- `recover` answered Ok, with this state.
-  recovered : (state : Standing) → Incident
+  recovered : (state : ShowState) → Incident
   -- Power was lost within `recover`, or a disk failed there.
   stopped_in_recovery : (x y : List ℕ) → Incident
 
 -- A store: an engine runs with this state and owes these datagrams, or no engine runs and the disks read as x and y.
 pub data Store : Type 0 where
-  running : (state : Standing) (owed : List (ℕ × Send)) → Store
+  running : (state : ShowState) (owed : List (ℕ × Send)) → Store
   at_rest : (x y : List ℕ) → Store
 
 -- an engine that was formed or recovered with this state: it owes what is pending
-abbrev pub begun : Standing → Store
+abbrev pub begun : ShowState → Store
 begun s = running s (all_pending s)
 
 -- ---- what the contracts say
 
 -- A stop within recovery leaves a state that the disks stood for, or its closed state.
 abbrev pub LeavesClosing : List ℕ → List ℕ → List ℕ → List ℕ → Type 0
-LeavesClosing x y u v = (s : Standing) × (Stands x y s × StandsEither s (closed s) u v)
+LeavesClosing x y u v = (s : ShowState) × (Stands x y s × StandsEither s (closed s) u v)
 
 -- What the contracts permit an engine over a state, or two disks at rest, to come to. While no call writes, whatever a crash leaves stands for
 -- the state (`accepted` of `take`, `stands` of `recover`). A stop within `take` leaves the state from before or the one after the whole batch
@@ -113,7 +113,7 @@ all_handed store (i ∷ is) = handed_in store i ++ all_handed (left_by store i) 
 -- ---- which batches are kept
 
 -- the batch that an incident brings to the state before it
-abbrev pub batch_of : Standing → Incident → List Event
+abbrev pub batch_of : ShowState → Incident → List Event
 batch_of s (taken now input) = (given s now input).batch
 batch_of s handed_out = []
 batch_of s (stopped n x y) = []
@@ -133,7 +133,7 @@ is_cut_off (stopped_in_recovery x y) = true
 -- These are the kept ones of the batches that came to the state, in their order. Each is kept whole; only one whose call was cut off may
 -- not be kept at all, and a recovery comes behind it. So between two recoveries they are a prefix of the accepted batches that holds
 -- every acknowledged one.
-abbrev pub AreKept : Standing → List Incident → List (List Event) → Type 0
+abbrev pub AreKept : ShowState → List Incident → List (List Event) → Type 0
 AreKept s [] kept = kept ≡ []
 AreKept s (i ∷ is) kept =
     ((others : List (List Event)) × ((kept ≡ with_batch (batch_of s i) others) × AreKept (folded s (batch_of s i)) is others))
@@ -142,14 +142,14 @@ AreKept s (i ∷ is) kept =
 -- ---- the promise
 
 -- the disks, or the engine over them, stand for the state
-abbrev pub StandsAt : Store → Standing → Type 0
+abbrev pub StandsAt : Store → ShowState → Type 0
 StandsAt (running t owed) s = t ≡ s
 StandsAt (at_rest x y) s = Stands x y s
 
 -- What a store came to from a state on: whole batches are kept, a prefix with every acknowledged one; they make the state that it stands for;
 -- and each datagram that was handed to the network rests on them, down to its bytes: a GO_2PC on the Go of its attempt, a STANDBY or CANCEL on its
 -- Start.
-pub record CameTo (s : Standing) (is : List Incident) : Type 0 where
+pub record CameTo (s : ShowState) (is : List Incident) : Type 0 where
   pub kept : List (List Event)
   pub prefix : AreKept s is kept
   pub stands : StandsAt (left_by_all (begun s) is) (folded s (joined kept))
@@ -158,11 +158,11 @@ pub record CameTo (s : Standing) (is : List Incident) : Type 0 where
 
 -- Whatever happens to a store, it comes to that.
 abbrev pub WhateverHappens : Type 0
-WhateverHappens = (s : Standing) (is : List Incident) → IsTrue (is_state s) → Happens (begun s) is → CameTo s is
+WhateverHappens = (s : ShowState) (is : List Incident) → IsTrue (is_state s) → Happens (begun s) is → CameTo s is
 
 -- What recovery gives after a stop: the state of a prefix of the accepted batches, each whole, that holds every acknowledged one, with its
 -- undecided attempts cancelled; and no GO_2PC was handed to the network for an attempt whose decision that prefix lacks.
-pub record IsPromised (s : Standing) (is : List Incident) (given_state : Standing) : Type 0 where
+pub record IsPromised (s : ShowState) (is : List Incident) (given_state : ShowState) : Type 0 where
   pub kept : List (List Event)
   pub prefix : AreKept s is kept
   pub gives : given_state ≡ closed (folded s (joined kept))
@@ -172,5 +172,5 @@ pub record IsPromised (s : Standing) (is : List Incident) (given_state : Standin
 -- The promise: for every list of inputs, and stops before, within or after any write, also within recovery, one after the other.
 abbrev pub RecoveryGivesAPrefix : Type 0
 RecoveryGivesAPrefix =
-    (s t : Standing) (is : List Incident) (x y : List ℕ)
+    (s t : ShowState) (is : List Incident) (x y : List ℕ)
     → IsTrue (is_state s) → Happens (begun s) is → left_by_all (begun s) is ≡ at_rest x y → ClosedFrom x y t → IsPromised s is t

@@ -4,7 +4,7 @@ use Rattle.cue_disk.specs.Disk.{Contents, IsImage}
 use Rattle.cue_log.specs.Area.{Area, area_text}
 use Rattle.cue_log.specs.declared.area.TheConstants.{AREA_LIMIT}
 use Rattle.cue_snap.specs.Pair.{PairReads}
-use Rattle.cue_core.specs.State.{Standing}
+use Rattle.cue_core.specs.State.{ShowState}
 use Rattle.cue_core.specs.Happenings.{events_at, recovered}
 use Rattle.cue_records.specs.Batch.{batch_text}
 use Rattle.cue_records.specs.State.{state_text}
@@ -13,8 +13,8 @@ use Rattle.cue_keeper.specs.Stands.{StandsFor, Stands, StandsEither}
 use Rattle.cue_engine.specs.Given.{closed}
 
 -- The two stand for a state, and closed it is this one.
-pub record ClosedFrom (x y : List ℕ) (s : Standing) : Type 0 where
-  pub before : Standing
+pub record ClosedFrom (x y : List ℕ) (s : ShowState) : Type 0 where
+  pub before : ShowState
   pub stood : Stands x y before
   pub is : s ≡ closed before
 
@@ -24,7 +24,7 @@ pub record StandsSince (then_a then_b : Contents) (x y : List ℕ) : Type 0 wher
   pub second : List ℕ
   pub left_first : IsImage then_a first
   pub left_second : IsImage then_b second
-  pub before : Standing
+  pub before : ShowState
   pub stood : Stands first second before
   pub stands : StandsEither before (closed before) x y
 
@@ -33,11 +33,11 @@ abbrev pub IsLeftOrStands : Contents → Contents → List ℕ → List ℕ → 
 IsLeftOrStands then_a then_b x y = (IsImage then_a x × IsImage then_b y) ⊎ StandsSince then_a then_b x y
 
 -- how long the text of the cancels is
-abbrev pub cancels_length : Standing → ℕ
+abbrev pub cancels_length : ShowState → ℕ
 cancels_length s = length (batch_text (events_at s recovered))
 
 -- The two read as an area that stands for the state, and its cancels need a new area.
-pub record NeedsArea (x y : List ℕ) (area : Area) (s : Standing) : Type 0 where
+pub record NeedsArea (x y : List ℕ) (area : Area) (s : ShowState) : Type 0 where
   pub reads : PairReads area x y
   pub stands : StandsFor area s
   pub due : IsTrue (is_due (length area.payloads) (length (area_text area)) (cancels_length s))
@@ -45,14 +45,14 @@ pub record NeedsArea (x y : List ℕ) (area : Area) (s : Standing) : Type 0 wher
 -- A new area is needed, and no generation is left for it.
 pub record NoGenerationLeft (x y : List ℕ) : Type 0 where
   pub area : Area
-  pub state : Standing
+  pub state : ShowState
   pub needs : NeedsArea x y area state
   pub last : area.generation ≡ 2 ^ 64 - 1
 
 -- A new area is needed, and the state and its cancels together do not fit into one.
 pub record NoRoomLeft (x y : List ℕ) : Type 0 where
   pub area : Area
-  pub state : Standing
+  pub state : ShowState
   pub needs : NeedsArea x y area state
   pub long : AREA_LIMIT < 19 + length (state_text state) + cancels_length state
 

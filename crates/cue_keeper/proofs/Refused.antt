@@ -2,14 +2,14 @@
 use Rattle.std.proofs.Common.{◌≡◌, false, refl, sym, ◌∙◌, ap, subst}
 use Rattle.cue_log.specs.Area.{Area}
 use Rattle.cue_snap.proofs.Reader.{one_of_a_pair, good_pair}
-use Rattle.cue_core.specs.State.{Standing}
+use Rattle.cue_core.specs.State.{ShowState}
 use Rattle.cue_records.specs.State.{state_text, is_other_version}
 use Rattle.cue_keeper.specs.Stands.{StandsFor}
 use Rattle.cue_keeper.specs.Laws.{WhatStandsIsOpened, WhatIsClosedIsOpened}
 use Rattle.cue_keeper.proofs.Standing.{one_state}
 
 -- the text of a state begins with this version
-own_version : (s : Standing) → is_other_version (state_text s) ≡ false
+own_version : (s : ShowState) → is_other_version (state_text s) ≡ false
 own_version s = refl
 
 pub is_opened : WhatStandsIsOpened

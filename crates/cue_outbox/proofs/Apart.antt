@@ -13,7 +13,7 @@ use Rattle.cue_exchange.specs.declared.attempt.Attempt.{Attempt}
 use Rattle.cue_exchange.specs.Answers.{devices_of, waits}
 use Rattle.cue_exchange.specs.Live.{disjoint, pairwise, goes_before}
 use Rattle.cue_exchange.proofs.LiveRules.{order_of}
-use Rattle.cue_core.specs.State.{Standing, cue_parts, is_state}
+use Rattle.cue_core.specs.State.{ShowState, cue_parts, is_state}
 use Rattle.cue_core.specs.Pending.{Order, standby, go_2pc, cancel, bytes_for, order_at, order_for, pending}
 use Rattle.cue_core.proofs.Rules.{rules_of}
 use Rattle.cue_outbox.specs.Sending.{order, order_content, send_content, datagram, datagrams, orders, all_pending}
@@ -34,14 +34,14 @@ key_at Preparing q d cue bytes = refl
 key_at Decided q d cue bytes = refl
 key_at (Cancelling r) q d cue bytes = refl
 
-key_sent : (s : Standing) (a : Attempt) (x : DeviceAnswer) → key (sent s a x).1 ≡ (a.seq, x.device)
+key_sent : (s : ShowState) (a : Attempt) (x : DeviceAnswer) → key (sent s a x).1 ≡ (a.seq, x.device)
 key_sent s a x = key_at a.stage a.seq x.device a.cue (bytes_for x.device (cue_parts s.show a.cue))
 
 abbrev pub Apart : ℕ × Order → ℕ × Order → Type 0
 Apart o p = key o.1 ≡ key p.1 → ⊥
 
 -- the commands to some devices of the attempt
-abbrev told_to : Standing → Attempt → List DeviceAnswer → List (ℕ × Order)
+abbrev told_to : ShowState → Attempt → List DeviceAnswer → List (ℕ × Order)
 told_to s a xs = filter_map (order_for s a) xs
 
 -- ---- within an attempt
@@ -51,19 +51,19 @@ every [] = tt
 every (x ∷ xs) = (tt, every xs)
 
 -- they carry its number
-numbers_told : (s : Standing) (a : Attempt) (xs : List DeviceAnswer) → AllByRecursion (λ (o : ℕ × Order). (key o.1).0 ≡ a.seq) (told_to s a xs)
+numbers_told : (s : ShowState) (a : Attempt) (xs : List DeviceAnswer) → AllByRecursion (λ (o : ℕ × Order). (key o.1).0 ≡ a.seq) (told_to s a xs)
 numbers_told s a xs =
     each_found (λ x. Unit {0}) (λ (o : ℕ × Order). (key o.1).0 ≡ a.seq) (order_for s a)
     (λ x h. if_waits (waits x) (sent s a x) (λ (o : ℕ × Order). (key o.1).0 ≡ a.seq) (ap (λ (k : ℕ × ℕ). k.0) (key_sent s a x))) xs (every xs)
 
 -- a device that is none of them is told nothing
-others_told : (s : Standing) (a : Attempt) (d : ℕ) (xs : List DeviceAnswer) → list_any (λ e. nat_eq e d) (devices_of xs) ≡ false → AllByRecursion (λ (o : ℕ × Order). (key o.1).1 ≡ d → ⊥) (told_to s a xs)
+others_told : (s : ShowState) (a : Attempt) (d : ℕ) (xs : List DeviceAnswer) → list_any (λ e. nat_eq e d) (devices_of xs) ≡ false → AllByRecursion (λ (o : ℕ × Order). (key o.1).1 ≡ d → ⊥) (told_to s a xs)
 others_told s a d xs h =
     each_found (λ (x : DeviceAnswer). nat_eq x.device d ≡ false) (λ (o : ℕ × Order). (key o.1).1 ≡ d → ⊥) (order_for s a)
     (λ x other. if_waits (waits x) (sent s a x) (λ (o : ℕ × Order). (key o.1).1 ≡ d → ⊥) (λ same. eqb-false x.device d other (sym (ap (λ (k : ℕ × ℕ). k.1) (key_sent s a x)) ∙ same)))
     xs (each_mapped (λ e. nat_eq e d ≡ false) (λ (x : DeviceAnswer). x.device) xs (each_fails (λ e. nat_eq e d) (devices_of xs) h))
 
-apart_within : (s : Standing) (a : Attempt) (xs : List DeviceAnswer) → IsTrue (distinct (devices_of xs)) → Pairs Apart (told_to s a xs)
+apart_within : (s : ShowState) (a : Attempt) (xs : List DeviceAnswer) → IsTrue (distinct (devices_of xs)) → Pairs Apart (told_to s a xs)
 apart_within s a [] h = tt
 apart_within s a (x ∷ xs) h =
     let k = and_parts (not (list_any (λ e. nat_eq e x.device) (devices_of xs))) (distinct (devices_of xs)) h in
@@ -80,20 +80,20 @@ apart_within s a (x ∷ xs) h =
 -- ---- between attempts
 
 -- the commands of later attempts carry higher numbers
-higher_told : (s : Standing) (a : Attempt) (rest : List Attempt) → IsTrue (list_all (goes_before a) rest) → AllByRecursion (λ (o : ℕ × Order). a.seq < (key o.1).0) (flat_map (λ b. told_to s b b.answers) rest)
+higher_told : (s : ShowState) (a : Attempt) (rest : List Attempt) → IsTrue (list_all (goes_before a) rest) → AllByRecursion (λ (o : ℕ × Order). a.seq < (key o.1).0) (flat_map (λ b. told_to s b b.answers) rest)
 higher_told s a rest h =
     each_flat (λ b. IsTrue (goes_before a b)) (λ (o : ℕ × Order). a.seq < (key o.1).0) (λ b. told_to s b b.answers)
     (λ b before. let lt : a.seq < b.seq = ltb-true a.seq b.seq (and_parts (nat_lt a.seq b.seq) (disjoint (devices_of a.answers) (devices_of b.answers)) before).0 in
     each_weaker (λ (o : ℕ × Order). (key o.1).0 ≡ b.seq) (λ (o : ℕ × Order). a.seq < (key o.1).0) (λ o same. omega (arith, same)) (told_to s b b.answers) (numbers_told s b b.answers))
     rest (each_passes (goes_before a) rest h)
 
-apart_across : (s : Standing) (a : Attempt) (ys : List (ℕ × Order)) → AllByRecursion (λ (o : ℕ × Order). a.seq < (key o.1).0) ys → AllByRecursion (λ o. AllByRecursion (Apart o) ys) (told_to s a a.answers)
+apart_across : (s : ShowState) (a : Attempt) (ys : List (ℕ × Order)) → AllByRecursion (λ (o : ℕ × Order). a.seq < (key o.1).0) ys → AllByRecursion (λ o. AllByRecursion (Apart o) ys) (told_to s a a.answers)
 apart_across s a ys higher =
     each_weaker (λ (o : ℕ × Order). (key o.1).0 ≡ a.seq) (λ o. AllByRecursion (Apart o) ys)
     (λ o here. each_weaker (λ (p : ℕ × Order). a.seq < (key p.1).0) (Apart o) (λ p above same. let e : (key o.1).0 ≡ (key p.1).0 = ap (λ (k : ℕ × ℕ). k.0) same in omega arith) ys higher)
     (told_to s a a.answers) (numbers_told s a a.answers)
 
-apart_all : (s : Standing) (live : List Attempt) → AllByRecursion (IsTold s) live → IsTrue (pairwise goes_before live) → Pairs Apart (flat_map (λ a. told_to s a a.answers) live)
+apart_all : (s : ShowState) (live : List Attempt) → AllByRecursion (IsTold s) live → IsTrue (pairwise goes_before live) → Pairs Apart (flat_map (λ a. told_to s a a.answers) live)
 apart_all s [] t h = tt
 apart_all s (a ∷ rest) t h =
     let k = and_parts (list_all (goes_before a) rest) (pairwise goes_before rest) h in
@@ -134,7 +134,7 @@ all_other [] ws h = tt
 all_other (o ∷ os) ws h = (each_other o os ws.0 ws.1 h.0, all_other os ws.1 h.1)
 
 -- no two of the pending commands are for the same device in the same attempt
-pub apart_pending : (s : Standing) → IsTrue (is_state s) → Pairs Apart (pending s)
+pub apart_pending : (s : ShowState) → IsTrue (is_state s) → Pairs Apart (pending s)
 apart_pending s h = apart_all s s.live (live_told s h) (order_of s.live (rules_of s h).live)
 
 pub commands-differ : CommandsDiffer

@@ -4,7 +4,7 @@ use Rattle.std.specs.List.{AllByRecursion, flat_map}
 use Rattle.std.proofs.lemmas.List.{drop_more}
 use Rattle.cue_show.specs.Devices.{is_among}
 use Rattle.cue_exchange.specs.declared.attempt.Attempt.{Attempt}
-use Rattle.cue_core.specs.State.{Standing}
+use Rattle.cue_core.specs.State.{ShowState}
 use Rattle.cue_core.specs.Pending.{Order}
 use Rattle.cue_outbox.specs.Sending.{order, datagram, datagrams, orders}
 use Rattle.cue_outbox.specs.Asked.{number_of}
@@ -25,7 +25,7 @@ sent-append [] ys = refl
 sent-append (x ∷ xs) ys = ap (λ (ds : List (ℕ × List ℕ)). datagram (x.0, order x.1) ∷ ds) (sent-append xs ys)
 
 -- those of the first attempt, where it has one of the numbers, and then those of the others
-owed-first : (s : Standing) (numbers : List ℕ) (a : Attempt) (rest : List Attempt) → datagrams_of s numbers (a ∷ rest) ≡ cond (is_among a.seq numbers) (datagrams_for s a a.answers) [] ++ datagrams_of s numbers rest
+owed-first : (s : ShowState) (numbers : List ℕ) (a : Attempt) (rest : List Attempt) → datagrams_of s numbers (a ∷ rest) ≡ cond (is_among a.seq numbers) (datagrams_for s a a.answers) [] ++ datagrams_of s numbers rest
 owed-first s numbers a rest =
     let test : ℕ × Order → Bool = λ o. is_among (number_of o.1) numbers in
     let here : filter test (told s a) ≡ cond (is_among a.seq numbers) (told s a) [] =
@@ -41,7 +41,7 @@ owed-first s numbers a rest =
     either false = refl
 
 -- one attempt more
-pub owed-more : (s : Standing) (numbers : List ℕ) (live : List Attempt) (i : ℕ) (a : Attempt) (outs news all : List (ℕ × List ℕ)) → i < length live → a ≡ get_or live i a
+pub owed-more : (s : ShowState) (numbers : List ℕ) (live : List Attempt) (i : ℕ) (a : Attempt) (outs news all : List (ℕ × List ℕ)) → i < length live → a ≡ get_or live i a
     → news ≡ outs ++ cond (is_among a.seq numbers) (datagrams_for s a a.answers) [] → outs ++ datagrams_of s numbers (drop i live) ≡ all → news ++ datagrams_of s numbers (drop (i + 1) live) ≡ all
 owed-more s numbers live i a outs news all lt is new old =
     let cut : drop i live ≡ a ∷ drop (i + 1) live = drop_more live i a lt ∙ ap (λ x. x ∷ drop (i + 1) live) (sym is) in

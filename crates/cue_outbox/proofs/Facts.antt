@@ -13,7 +13,7 @@ use Rattle.cue_exchange.specs.declared.limits.TheConstants.{LAST_NUMBER, MAX_LIV
 use Rattle.cue_exchange.specs.Live.{is_number, are_live}
 use Rattle.cue_exchange.proofs.LiveRules.{room_of}
 use Rattle.cue_core.specs.declared.event.Ended.{Ended}
-use Rattle.cue_core.specs.State.{Standing, is_state, is_ended}
+use Rattle.cue_core.specs.State.{ShowState, is_state, is_ended}
 use Rattle.cue_core.proofs.Rules.{rules_of}
 use Rattle.cue_outbox.specs.Sending.{ended_number}
 
@@ -47,7 +47,7 @@ number_fits : (q : ℕ) → IsTrue (is_number q) → q ≤ LAST_NUMBER
 number_fits q h = leb-true q LAST_NUMBER (and_parts (nat_le 1 q) (nat_le q LAST_NUMBER) h).1
 
 -- the last number that was drawn is one
-pub last_fits : (s : Standing) → IsTrue (is_state s) → s.last_seq ≤ LAST_NUMBER
+pub last_fits : (s : ShowState) → IsTrue (is_state s) → s.last_seq ≤ LAST_NUMBER
 last_fits s h = leb-true s.last_seq LAST_NUMBER (rules_of s h).last
 
 -- few attempts are live
@@ -59,5 +59,5 @@ ended_is_number live last None h = omega arith
 ended_is_number live last (Some e) h = number_fits e.seq (and_parts (is_number e.seq) _ h).0
 
 -- the attempt that ended last has a number
-pub ended_fits : (s : Standing) → IsTrue (is_state s) → ended_number s.ended ≤ LAST_NUMBER
+pub ended_fits : (s : ShowState) → IsTrue (is_state s) → ended_number s.ended ≤ LAST_NUMBER
 ended_fits s h = ended_is_number s.live s.last_seq s.ended (rules_of s h).ended

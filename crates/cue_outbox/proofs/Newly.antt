@@ -15,7 +15,7 @@ use Rattle.cue_exchange.specs.Answers.{is_preparing, waits}
 use Rattle.cue_exchange.specs.Live.{attempt_of, has_number}
 use Rattle.cue_exchange.proofs.LiveRules.{order_of}
 use Rattle.cue_core.specs.declared.event.Event.{Event}
-use Rattle.cue_core.specs.State.{Standing, cue_parts, is_state}
+use Rattle.cue_core.specs.State.{ShowState, cue_parts, is_state}
 use Rattle.cue_core.specs.Steps.{are_acceptable, folded}
 use Rattle.cue_core.specs.Pending.{Order, standby, go_2pc, cancel, bytes_for, order_at, order_for, pending}
 use Rattle.cue_core.proofs.Conditions.{both, join, same_number, same_self}
@@ -141,7 +141,7 @@ pub record IsOf (a : Attempt) (o : ℕ × Order) : Type 0 where
   pub number : number_of o.1 ≡ a.seq
   pub kind : is_standby o.1 ≡ is_preparing a.stage
 
-pub told_of : (s : Standing) (a : Attempt) → AllByRecursion (IsOf a) (told s a)
+pub told_of : (s : ShowState) (a : Attempt) → AllByRecursion (IsOf a) (told s a)
 told_of s a =
     each_found (λ x. Unit {0}) (IsOf a) (order_for s a)
     (λ x h. if_waits (waits x) (sent s a x) (IsOf a)
@@ -172,7 +172,7 @@ each_itself (a ∷ live) h =
 -- ---- whether a command is new
 
 -- a test that all pending commands pass is passed by those of each attempt
-pending_all : (s : Standing) (test : ℕ × Order → Bool) (live : List Attempt) → IsTrue (list_all test (flat_map (λ a. told s a) live)) → IsTrue (list_all (λ a. list_all test (told s a)) live)
+pending_all : (s : ShowState) (test : ℕ × Order → Bool) (live : List Attempt) → IsTrue (list_all test (flat_map (λ a. told s a) live)) → IsTrue (list_all (λ a. list_all test (told s a)) live)
 pending_all s test [] h = refl
 pending_all s test (a ∷ live) h =
     let k = all_split (told s a) (flat_map (λ b. told s b) live) h in
@@ -183,7 +183,7 @@ pending_all s test (a ∷ live) h =
     all_split (x ∷ xs) ys k = let p = both (test x) (list_all test (xs ++ ys)) k in let q = all_split xs ys p.1 in (join (test x) (list_all test xs) p.0 q.0, q.1)
 
 -- the old commands differ from one of an attempt that was begun, or moved on
-olds_differ : (s : Standing) (b : Attempt) (p : ℕ × Order) → number_of p.1 ≡ b.seq → ((a : Attempt) → attempt_of s.live a.seq ≡ Some a → a.seq ≡ b.seq → IsTrue (is_preparing a.stage) × (is_standby p.1 ≡ false)) → IsTrue (rising s.live)
+olds_differ : (s : ShowState) (b : Attempt) (p : ℕ × Order) → number_of p.1 ≡ b.seq → ((a : Attempt) → attempt_of s.live a.seq ≡ Some a → a.seq ≡ b.seq → IsTrue (is_preparing a.stage) × (is_standby p.1 ≡ false)) → IsTrue (rising s.live)
     → AllByRecursion (λ o. Differs o p) (pending s)
 olds_differ s b p number f rises =
     each_flat (λ (a : Attempt). attempt_of s.live a.seq ≡ Some a) (λ o. Differs o p) (λ a. told s a)
@@ -192,15 +192,15 @@ olds_differ s b p number f rises =
     s.live (each_itself s.live rises)
 
 -- an attempt with its commands in the new state
-record IsNow (t : Standing) (b : Attempt) : Type 0 where
+record IsNow (t : ShowState) (b : Attempt) : Type 0 where
   there : attempt_of t.live b.seq ≡ Some b
   writable : AllByRecursion IsWritableOrder (told t b)
 
 -- the test of newness of the commands of the attempt
-abbrev AreNew : Standing → Bool → List (ℕ × Order) → Type 0
+abbrev AreNew : ShowState → Bool → List (ℕ × Order) → Type 0
 AreNew s asked os = AllByRecursion (λ (o : ℕ × Order). is_new (datagrams (all_pending s)) (o.0, order o.1) ≡ asked) os
 
-begun_new : (s t : Standing) (b : Attempt) → IsTrue (is_state s) → IsNow t b → s.last_seq < b.seq → AreNew s true (told t b)
+begun_new : (s t : ShowState) (b : Attempt) → IsTrue (is_state s) → IsNow t b → s.last_seq < b.seq → AreNew s true (told t b)
 begun_new s t b i n lt =
     each_both IsWritableOrder (IsOf b) (λ (o : ℕ × Order). is_new (datagrams (all_pending s)) (o.0, order o.1) ≡ true)
     (λ o w k. new_beside o (pending s) w (all_writable s i)
@@ -209,7 +209,7 @@ begun_new s t b i n lt =
     (sound_of s i).rises))
     (told t b) n.writable (told_of t b)
 
-moved_new : (s t : Standing) (b a : Attempt) → IsTrue (is_state s) → IsNow t b → attempt_of s.live b.seq ≡ Some a → IsTrue (is_preparing a.stage) → is_preparing b.stage ≡ false → AreNew s true (told t b)
+moved_new : (s t : ShowState) (b a : Attempt) → IsTrue (is_state s) → IsNow t b → attempt_of s.live b.seq ≡ Some a → IsTrue (is_preparing a.stage) → is_preparing b.stage ≡ false → AreNew s true (told t b)
 moved_new s t b a i n f prepares ends =
     each_both IsWritableOrder (IsOf b) (λ (o : ℕ × Order). is_new (datagrams (all_pending s)) (o.0, order o.1) ≡ true)
     (λ o w k. new_beside o (pending s) w (all_writable s i)
@@ -223,7 +223,7 @@ moved_new s t b a i n f prepares ends =
     (sound_of s i).rises))
     (told t b) n.writable (told_of t b)
 
-stayed_old : (s t : Standing) (b a : Attempt) → attempt_of s.live b.seq ≡ Some a → Stays s a t b → AreNew s false (told t b)
+stayed_old : (s t : ShowState) (b a : Attempt) → attempt_of s.live b.seq ≡ Some a → Stays s a t b → AreNew s false (told t b)
 stayed_old s t b a f h =
     let old = datagrams (all_pending s) in
     let there = found_has (λ x. list_all (is_old (datagrams (all_pending s))) (told s x)) (has_number b.seq) s.live a (pending_all s (is_old (datagrams (all_pending s))) s.live (all_old (pending s))) f in
@@ -235,7 +235,7 @@ stayed_old s t b a f h =
     by true k = absurd cc
     by false k = refl
 
-new_as_asked : (s t : Standing) (b : Attempt) (asked : Bool) → IsTrue (is_state s) → IsNow t b → Since s t b.seq b asked → AreNew s asked (told t b)
+new_as_asked : (s t : ShowState) (b : Attempt) (asked : Bool) → IsTrue (is_state s) → IsNow t b → Since s t b.seq b asked → AreNew s asked (told t b)
 new_as_asked s t b asked i n (begun k lt) = let P : Bool → Type 0 = λ z. AreNew s z (told t b) in subst P (sym k) (begun_new s t b i n lt)
 new_as_asked s t b asked i n (moved_on k a f prepares ends) = let P : Bool → Type 0 = λ z. AreNew s z (told t b) in subst P (sym k) (moved_new s t b a i n f prepares ends)
 new_as_asked s t b asked i n (stayed k a f h) = let P : Bool → Type 0 = λ z. AreNew s z (told t b) in subst P (sym k) (stayed_old s t b a f h)

@@ -22,7 +22,7 @@ use Rattle.cue_show.specs.Show.{parts_of, are_known, is_place_of, is_cue_of}
 use Rattle.cue_show.proofs.ChangeLemmas.{is_cue_of-parts_of}
 use Rattle.cue_show.proofs.ShowLemmas.{show_rules}
 use Rattle.cue_core.specs.declared.event.Ended.{Ended}
-use Rattle.cue_core.specs.State.{Standing, is_state}
+use Rattle.cue_core.specs.State.{ShowState, is_state}
 use Rattle.cue_core.proofs.Rules.{rules_of}
 use Rattle.cue_outbox.specs.Sending.{answer, status, order_content, send_content, status_of, ended_number, ended_outcome, outcome_number}
 use Rattle.cue_outbox.specs.Laws.{RepliesAreRead, StatusIsRead}
@@ -103,7 +103,7 @@ replies-are-read address made known refused code is_text m k r c = reply_read 64
 -- ---- the status
 
 -- a cue of the stack has a number
-place_number : (s : Standing) (c : List ℕ) → IsTrue (is_state s) → IsTrue (is_place_of s.show (Some c)) → IsTrue (is_cue_number c)
+place_number : (s : ShowState) (c : List ℕ) → IsTrue (is_state s) → IsTrue (is_place_of s.show (Some c)) → IsTrue (is_cue_number c)
 place_number s c h place = by (parts_of s.show c) (is_cue_of-parts_of s.show c (rules_of s h).show) place
   where
     by : (o : Option (List Part)) → IfSome o (λ parts. IsTrue (is_cue_of s.show (c, parts))) → IsTrue (is_some o) → IsTrue (is_cue_number c)
@@ -111,7 +111,7 @@ place_number s c h place = by (parts_of s.show c) (is_cue_of-parts_of s.show c (
     by (Some parts) cue there = (and_parts (is_cue_number c) (are_parts parts && are_known s.show parts) cue).0
 
 -- a place is none, or a cue number
-place_parts : (s : Standing) → IsTrue (is_state s) → IsText (unwrap_or s.show.place []) × (length (unwrap_or s.show.place []) ≤ 16)
+place_parts : (s : ShowState) → IsTrue (is_state s) → IsText (unwrap_or s.show.place []) × (length (unwrap_or s.show.place []) ≤ 16)
 place_parts s h = by s.show.place (show_rules s.show (rules_of s h).show).place
   where
     by : (o : Option (List ℕ)) → IsTrue (is_place_of s.show o) → IsText (unwrap_or o []) × (length (unwrap_or o []) ≤ 16)

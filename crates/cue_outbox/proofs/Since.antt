@@ -28,7 +28,7 @@ use Rattle.cue_exchange.specs.Live.{attempt_of, has_number}
 use Rattle.cue_exchange.specs.Steps.{changed, answers_as, moves_to, answered, moved, started, new_attempt, without_ended, can_go_now}
 use Rattle.cue_core.specs.declared.event.Event.{Event}
 use Rattle.cue_core.specs.declared.event.Event.TheVariants as event
-use Rattle.cue_core.specs.State.{Standing, cue_parts, is_at_cue, is_state}
+use Rattle.cue_core.specs.State.{ShowState, cue_parts, is_at_cue, is_state}
 use Rattle.cue_core.specs.Steps.{acceptable, after, are_acceptable, folded, can_begin}
 use Rattle.cue_core.specs.Pending.{Order, order_at, order_for, bytes_for}
 use Rattle.cue_core.proofs.Conditions.{both, join, same_number, same_self}
@@ -39,7 +39,7 @@ use Rattle.cue_outbox.specs.Asked.{number_asked, is_asked}
 use Rattle.cue_outbox.proofs.Told.{devices_each}
 
 -- what the devices of the attempt are still to be told
-abbrev pub told : Standing → Attempt → List (ℕ × Order)
+abbrev pub told : ShowState → Attempt → List (ℕ × Order)
 told s a = filter_map (order_for s a) a.answers
 
 -- the new ones are among the old: each test that all of these pass is passed by all of those
@@ -47,12 +47,12 @@ pub record AreAmong (olds news : List (ℕ × Order)) : Type 0 where
   pub each : (test : ℕ × Order → Bool) → IsTrue (list_all test olds) → IsTrue (list_all test news)
 
 -- the attempt has its stage, and its devices are to be told no more than before
-pub record Stays (s : Standing) (a : Attempt) (t : Standing) (b : Attempt) : Type 0 where
+pub record Stays (s : ShowState) (a : Attempt) (t : ShowState) (b : Attempt) : Type 0 where
   pub stage : b.stage ≡ a.stage
   pub among : AreAmong (told s a) (told t b)
 
 -- how the attempt p is live as b in the state t that came of s: it was begun, it was moved on, or it stays
-pub data Since (s t : Standing) (p : ℕ) (b : Attempt) (asked : Bool) : Type 0 where
+pub data Since (s t : ShowState) (p : ℕ) (b : Attempt) (asked : Bool) : Type 0 where
   begun : asked ≡ true → s.last_seq < p → Since s t p b asked
   moved_on : asked ≡ true → (a : Attempt) → attempt_of s.live p ≡ Some a → IsTrue (is_preparing a.stage) → is_preparing b.stage ≡ false → Since s t p b asked
   stayed : asked ≡ false → (a : Attempt) → attempt_of s.live p ≡ Some a → Stays s a t b → Since s t p b asked
@@ -63,12 +63,12 @@ asks q e = option_map_or (λ p. nat_eq p q) (number_asked e) false
 
 -- ---- the same ports and parts
 
-order_same : (s t : Standing) (a : Attempt) (x : DeviceAnswer) → port_of t.show x.device ≡ port_of s.show x.device → cue_parts t.show a.cue ≡ cue_parts s.show a.cue → order_for t a x ≡ order_for s a x
+order_same : (s t : ShowState) (a : Attempt) (x : DeviceAnswer) → port_of t.show x.device ≡ port_of s.show x.device → cue_parts t.show a.cue ≡ cue_parts s.show a.cue → order_for t a x ≡ order_for s a x
 order_same s t a x port parts =
     ap (λ (o : Option ℕ). cond (waits x) (Some (unwrap_or o 0, order_at a.stage a.seq x.device a.cue (bytes_for x.device (cue_parts t.show a.cue)))) None) port
     ∙ ap (λ (ps : List Part). cond (waits x) (Some (unwrap_or (port_of s.show x.device) 0, order_at a.stage a.seq x.device a.cue (bytes_for x.device ps))) None) parts
 
-told_same : (s t : Standing) (a : Attempt) (xs : List DeviceAnswer) → cue_parts t.show a.cue ≡ cue_parts s.show a.cue → AllByRecursion (λ (x : DeviceAnswer). port_of t.show x.device ≡ port_of s.show x.device) xs
+told_same : (s t : ShowState) (a : Attempt) (xs : List DeviceAnswer) → cue_parts t.show a.cue ≡ cue_parts s.show a.cue → AllByRecursion (λ (x : DeviceAnswer). port_of t.show x.device ≡ port_of s.show x.device) xs
     → filter_map (order_for t a) xs ≡ filter_map (order_for s a) xs
 told_same s t a [] parts ports = refl
 told_same s t a (x ∷ xs) parts ports =
@@ -76,12 +76,12 @@ told_same s t a (x ∷ xs) parts ports =
     ∙ ap (λ (os : List (ℕ × Order)). cons_option (order_for s a x) os) (told_same s t a xs parts ports.1)
 
 -- no event of the attempts, and the commands of the attempt as they were
-same_since : (s t : Standing) (p : ℕ) (b : Attempt) → told t b ≡ told s b → attempt_of s.live p ≡ Some b → Since s t p b false
+same_since : (s t : ShowState) (p : ℕ) (b : Attempt) → told t b ≡ told s b → attempt_of s.live p ≡ Some b → Since s t p b false
 same_since s t p b e h =
     stayed refl b h
     (record { stage = refl; among = record { each = λ test k. let P : List (ℕ × Order) → Type 0 = λ os. IsTrue (list_all test os) in subst P (sym e) k } })
 
-ports_each : (s t : Standing) → ((d : ℕ) → IsTrue (has_device s.show d) → port_of t.show d ≡ port_of s.show d) → (xs : List DeviceAnswer) → AllByRecursion (λ (x : DeviceAnswer). IsTrue (has_device s.show x.device)) xs
+ports_each : (s t : ShowState) → ((d : ℕ) → IsTrue (has_device s.show d) → port_of t.show d ≡ port_of s.show d) → (xs : List DeviceAnswer) → AllByRecursion (λ (x : DeviceAnswer). IsTrue (has_device s.show x.device)) xs
     → AllByRecursion (λ (x : DeviceAnswer). port_of t.show x.device ≡ port_of s.show x.device) xs
 ports_each s t f [] h = tt
 ports_each s t f (x ∷ xs) h = (f x.device h.0, ports_each s t f xs h.1)
@@ -106,7 +106,7 @@ cue_there show a at = by (parts_of show a.cue) at
     by None same = absurd cc
     by (Some parts) same = refl
 
-at_of : (s : Standing) (p : ℕ) (b : Attempt) → Rules s → attempt_of s.live p ≡ Some b → IsTrue (is_at_cue s.show b)
+at_of : (s : ShowState) (p : ℕ) (b : Attempt) → Rules s → attempt_of s.live p ≡ Some b → IsTrue (is_at_cue s.show b)
 at_of s p b r h = found_has (is_at_cue s.show) (has_number p) s.live b r.at h
 
 is_kept : {A : Type 0} (b : Bool) (o : Option A) → IsTrue (is_some (cond b None o)) → cond b None o ≡ o
@@ -161,7 +161,7 @@ kept_or_gone test o olds news true false k f h = f (both (test o) (list_all test
 kept_or_gone test o olds news false true k f h = let e : false ≡ true = k refl in absurd cc
 kept_or_gone test o olds news false false k f h = f h
 
-fewer_told : (s : Standing) (a : Attempt) (d : ℕ) (given : Answer) (test : ℕ × Order → Bool) (xs : List DeviceAnswer) → is_waiting given ≡ false
+fewer_told : (s : ShowState) (a : Attempt) (d : ℕ) (given : Answer) (test : ℕ × Order → Bool) (xs : List DeviceAnswer) → is_waiting given ≡ false
     → IsTrue (list_all test (filter_map (order_for s a) xs)) → IsTrue (list_all test (filter_map (order_for s a) (with_answer d given xs)))
 fewer_told s a d given test [] w h = refl
 fewer_told s a d given test (x ∷ xs) w h =
@@ -173,7 +173,7 @@ fewer_told s a d given test (x ∷ xs) w h =
     by true k = absurd cc
     by false k = k
 
-answered_stays : (s : Standing) (q d : ℕ) (given : Answer) (a : Attempt) → is_waiting given ≡ false → Stays s a s (changed q (answers_as d given) a)
+answered_stays : (s : ShowState) (q d : ℕ) (given : Answer) (a : Attempt) → is_waiting given ≡ false → Stays s a s (changed q (answers_as d given) a)
 answered_stays s q d given a w = by (nat_eq a.seq q)
   where
     by : (b : Bool) → Stays s a s (cond b (answers_as d given a) a)
@@ -190,10 +190,10 @@ changed_was : (q p : ℕ) (f : Attempt → Attempt) → ((a : Attempt) → (f a)
 changed_was q p f keeps live b h = was (changed q f) (attempt_of live p) b (sym (attempt_of-changed q p f keeps live) ∙ h)
 
 -- the commands in t are those in s
-carried : (s t : Standing) (a b : Attempt) → told t b ≡ told s b → Stays s a s b → Stays s a t b
+carried : (s t : ShowState) (a b : Attempt) → told t b ≡ told s b → Stays s a s b → Stays s a t b
 carried s t a b e h = record { stage = h.stage; among = record { each = λ test k. let P : List (ℕ × Order) → Type 0 = λ os. IsTrue (list_all test os) in subst P (sym e) (h.among.each test k) } }
 
-answered_since : (s t : Standing) (q d p : ℕ) (given : Answer) (b : Attempt) → is_waiting given ≡ false → told t b ≡ told s b → attempt_of (answered q d given s.live) p ≡ Some b → Since s t p b false
+answered_since : (s t : ShowState) (q d p : ℕ) (given : Answer) (b : Attempt) → is_waiting given ≡ false → told t b ≡ told s b → attempt_of (answered q d given s.live) p ≡ Some b → Since s t p b false
 answered_since s t q d p given b w same h =
     let c = changed_was q p (answers_as d given) (λ a. refl) s.live b h in
     let P : Attempt → Type 0 = λ x. Stays s c.0 s x in
@@ -218,12 +218,12 @@ left_was q p live b r h = by (nat_eq q p) refl
         open_was (attempt_of live p) b (sym (attempt_of-without_ended p live r) ∙ subst P same h)
     by false k = sym (attempt_of-without_ended_other q p live k) ∙ h
 
-settled_since : (s t : Standing) (q d p : ℕ) (given : Answer) (b : Attempt) → is_waiting given ≡ false → told t b ≡ told s b → IsTrue (rising s.live) → attempt_of (without_ended q (answered q d given s.live)) p ≡ Some b → Since s t p b false
+settled_since : (s t : ShowState) (q d p : ℕ) (given : Answer) (b : Attempt) → is_waiting given ≡ false → told t b ≡ told s b → IsTrue (rising s.live) → attempt_of (without_ended q (answered q d given s.live)) p ≡ Some b → Since s t p b false
 settled_since s t q d p given b w same r h = answered_since s t q d p given b w same (left_was q p (answered q d given s.live) b (rising-changed q (answers_as d given) (λ a. refl) s.live r) h)
 
 -- ---- an attempt enters a stage
 
-moved_since : (s t : Standing) (q p : ℕ) (stage : Stage) (b : Attempt) → is_preparing stage ≡ false → (x : Attempt) → attempt_of s.live q ≡ Some x → IsTrue (is_preparing x.stage)
+moved_since : (s t : ShowState) (q p : ℕ) (stage : Stage) (b : Attempt) → is_preparing stage ≡ false → (x : Attempt) → attempt_of s.live q ≡ Some x → IsTrue (is_preparing x.stage)
     → ((a : Attempt) → told t a ≡ told s a) → attempt_of (moved q stage s.live) p ≡ Some b → Since s t p b (nat_eq q p)
 moved_since s t q p stage b ends x e prepares same h =
     let c = changed_was q p (moves_to stage) (λ a. refl) s.live b h in
@@ -247,7 +247,7 @@ moved_since s t q p stage b ends x e prepares same h =
 
 -- ---- an attempt begins
 
-started_since : (s t : Standing) (q p : ℕ) (c : List ℕ) (d : ℕ) (b : Attempt) → Rules s → q ≡ s.last_seq + 1 → ((a : Attempt) → told t a ≡ told s a)
+started_since : (s t : ShowState) (q p : ℕ) (c : List ℕ) (d : ℕ) (b : Attempt) → Rules s → q ≡ s.last_seq + 1 → ((a : Attempt) → told t a ≡ told s a)
     → attempt_of (started q c d (cue_parts s.show c) s.live) p ≡ Some b → Since s t p b (nat_eq q p)
 started_since s t q p c d b r next same h = by (attempt_of s.live p) refl (sym (find-append (has_number p) s.live (new_attempt q c d (cue_parts s.show c) ∷ [])) ∙ h)
   where
@@ -268,7 +268,7 @@ started_since s t q p c d b r next same h = by (attempt_of s.live p) refl (sym (
 
 -- ---- each event
 
-since_event : (s : Standing) (e : Event) (p : ℕ) (b : Attempt) → IsTrue (is_state s) → IsTrue (acceptable s e) → attempt_of (after s e).live p ≡ Some b → Since s (after s e) p b (asks p e)
+since_event : (s : ShowState) (e : Event) (p : ℕ) (b : Attempt) → IsTrue (is_state s) → IsTrue (acceptable s e) → attempt_of (after s e).live p ≡ Some b → Since s (after s e) p b (asks p e)
 since_event s (event.Device d port) p b i g h =
     let r = rules_of s i in
     same_since s (after s (event.Device d port)) p b
@@ -310,7 +310,7 @@ since_event s (event.Failed q d) p b i g h = settled_since s (after s (event.Fai
 
 -- ---- events in turn
 
-grows : (s : Standing) (e : Event) → IsTrue (acceptable s e) → s.last_seq ≤ (after s e).last_seq
+grows : (s : ShowState) (e : Event) → IsTrue (acceptable s e) → s.last_seq ≤ (after s e).last_seq
 grows s (event.Device d port) g = omega arith
 grows s (event.NoDevice d) g = omega arith
 grows s (event.Cue c parts) g = omega arith
@@ -327,7 +327,7 @@ grows s (event.Failed q d) g = omega arith
 among-trans : (xs ys zs : List (ℕ × Order)) → AreAmong xs ys → AreAmong ys zs → AreAmong xs zs
 among-trans xs ys zs h k = record { each = λ test t. k.each test (h.each test t) }
 
-stays-trans : (s t u : Standing) (a b c : Attempt) → Stays s a t b → Stays t b u c → Stays s a u c
+stays-trans : (s t u : ShowState) (a b c : Attempt) → Stays s a t b → Stays t b u c → Stays s a u c
 stays-trans s t u a b c h k = record { stage = k.stage ∙ h.stage; among = among-trans (told s a) (told t b) (told u c) h.among k.among }
 
 asked_first : (x y : Bool) → x ≡ true → (x || y) ≡ true
@@ -343,7 +343,7 @@ asked_never true y e k = absurd cc
 asked_never false y e k = k
 
 -- what came first, and then what came since
-joined : (s t u : Standing) (p : ℕ) (c : Attempt) (x y : Bool) → s.last_seq ≤ t.last_seq → ((b : Attempt) → attempt_of t.live p ≡ Some b → Since s t p b x) → Since t u p c y → Since s u p c (x || y)
+joined : (s t u : ShowState) (p : ℕ) (c : Attempt) (x y : Bool) → s.last_seq ≤ t.last_seq → ((b : Attempt) → attempt_of t.live p ≡ Some b → Since s t p b x) → Since t u p c y → Since s u p c (x || y)
 joined s t u p c x y grown before (begun k lt) = begun (asked_later x y k) (omega arith)
 joined s t u p c x y grown before (moved_on k b e prepares ends) = by (before b e)
   where
@@ -366,7 +366,7 @@ asked-next q e events = by (number_asked e)
     by (Some p) = refl
 
 -- how each attempt that is live after the events came to be so
-pub since : (s : Standing) (events : List Event) (p : ℕ) (b : Attempt) → IsTrue (is_state s) → IsTrue (are_acceptable s events) → attempt_of (folded s events).live p ≡ Some b → Since s (folded s events) p b (is_asked p events)
+pub since : (s : ShowState) (events : List Event) (p : ℕ) (b : Attempt) → IsTrue (is_state s) → IsTrue (are_acceptable s events) → attempt_of (folded s events).live p ≡ Some b → Since s (folded s events) p b (is_asked p events)
 since s [] p b i g h = same_since s s p b refl h
 since s (e ∷ events) p b i g h =
     let k = both (acceptable s e) (are_acceptable (after s e) events) g in
@@ -376,6 +376,6 @@ since s (e ∷ events) p b i g h =
     (since (after s e) events p b (is_state-after s e i k.0) k.1 h))
 
 -- the state after the events keeps its rules
-pub is_state-folded : (s : Standing) (events : List Event) → IsTrue (is_state s) → IsTrue (are_acceptable s events) → IsTrue (is_state (folded s events))
+pub is_state-folded : (s : ShowState) (events : List Event) → IsTrue (is_state s) → IsTrue (are_acceptable s events) → IsTrue (is_state (folded s events))
 is_state-folded s [] i g = i
 is_state-folded s (e ∷ events) i g = let k = both (acceptable s e) (are_acceptable (after s e) events) g in is_state-folded (after s e) events (is_state-after s e i k.0) k.1

@@ -22,14 +22,14 @@ use Rattle.cue_exchange.specs.Answers.{devices_of, stands}
 use Rattle.cue_exchange.specs.Live.{is_number, is_moment, is_open, is_sound, are_sound_devices, is_attempt}
 use Rattle.cue_exchange.proofs.LiveRules.{attempts_of}
 use Rattle.cue_exchange.proofs.Lists.{all_weaker, all_map}
-use Rattle.cue_core.specs.State.{Standing, cue_parts, is_at_cue, is_state}
+use Rattle.cue_core.specs.State.{ShowState, cue_parts, is_at_cue, is_state}
 use Rattle.cue_core.specs.Pending.{bytes_for}
 use Rattle.cue_core.proofs.Rules.{rules_of}
 use Rattle.cue_outbox.proofs.Facts.{number_text, number_short}
 use Rattle.cue_outbox.proofs.Lists.{each_weaker, each_passes, each_mapped}
 
 -- what the rules say of a live attempt
-pub record IsTold (s : Standing) (a : Attempt) : Type 0 where
+pub record IsTold (s : ShowState) (a : Attempt) : Type 0 where
   pub number : a.seq < 2 ^ 31
   pub text : IsText a.cue
   pub short : length a.cue ≤ 16
@@ -93,7 +93,7 @@ numbered a h =
       distinct = (and_parts (nat_le 1 (length (devices_of a.answers))) (distinct (devices_of a.answers)) sound.0).1;
     }
 
-told : (s : Standing) (a : Attempt) → IsTrue (is_show s.show) → IsTrue (is_attempt a) → IsTrue (is_at_cue s.show a) → IsTold s a
+told : (s : ShowState) (a : Attempt) → IsTrue (is_show s.show) → IsTrue (is_attempt a) → IsTrue (is_at_cue s.show a) → IsTold s a
 told s a rules attempt at = by (parts_of s.show a.cue) refl (is_cue_of-parts_of s.show a.cue rules) at
   where
     by : (o : Option (List Part)) → parts_of s.show a.cue ≡ o → IfSome o (λ parts. IsTrue (is_cue_of s.show (a.cue, parts)))
@@ -119,12 +119,12 @@ told s a rules attempt at = by (parts_of s.show a.cue) refl (is_cue_of-parts_of 
           distinct = n.distinct;
         }
 
-all_told : (s : Standing) (live : List Attempt) → IsTrue (is_show s.show) → IsTrue (list_all is_attempt live) → IsTrue (list_all (is_at_cue s.show) live) → AllByRecursion (IsTold s) live
+all_told : (s : ShowState) (live : List Attempt) → IsTrue (is_show s.show) → IsTrue (list_all is_attempt live) → IsTrue (list_all (is_at_cue s.show) live) → AllByRecursion (IsTold s) live
 all_told s [] rules attempts at = tt
 all_told s (a ∷ live) rules attempts at =
     let first = and_parts (is_attempt a) (list_all is_attempt live) attempts in
     let here = and_parts (is_at_cue s.show a) (list_all (is_at_cue s.show) live) at in
     (told s a rules first.0 here.0, all_told s live rules first.1 here.1)
 
-pub live_told : (s : Standing) → IsTrue (is_state s) → AllByRecursion (IsTold s) s.live
+pub live_told : (s : ShowState) → IsTrue (is_state s) → AllByRecursion (IsTold s) s.live
 live_told s h = let r = rules_of s h in all_told s s.live r.show (attempts_of s.live r.live) r.at

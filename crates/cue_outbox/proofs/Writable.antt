@@ -10,7 +10,7 @@ use Rattle.cue_exchange.specs.declared.attempt.Stage.TheVariants.{Preparing, Dec
 use Rattle.cue_exchange.specs.declared.attempt.DeviceAnswer.{DeviceAnswer}
 use Rattle.cue_exchange.specs.declared.attempt.Attempt.{Attempt}
 use Rattle.cue_exchange.specs.Answers.{waits}
-use Rattle.cue_core.specs.State.{Standing, cue_parts, is_state}
+use Rattle.cue_core.specs.State.{ShowState, cue_parts, is_state}
 use Rattle.cue_core.specs.Pending.{Order, bytes_for, order_at, order_for, pending}
 use Rattle.cue_outbox.specs.Sending.{Send, order, order_content, send_content}
 use Rattle.cue_outbox.specs.Owed.{order_to}
@@ -20,7 +20,7 @@ use Rattle.cue_outbox.proofs.Lists.{each_weaker, each_map, each_found, each_flat
 use Rattle.cue_outbox.proofs.Told.{IsTold, live_told}
 
 -- the port of a device of the attempt, and what it is told
-abbrev pub sent : Standing → Attempt → DeviceAnswer → ℕ × Order
+abbrev pub sent : ShowState → Attempt → DeviceAnswer → ℕ × Order
 sent s a x = (unwrap_or (port_of s.show x.device) 0, order_to s.show a x.device)
 
 -- what holds of it holds of it also where the device is to be told nothing
@@ -36,14 +36,14 @@ writable_at (Cancelling r) q d cue bytes m k is_text short part = cancel_writabl
 abbrev pub IsWritableOrder : ℕ × Order → Type 0
 IsWritableOrder o = IsWritable (order_content o.1)
 
-pub writable_for : (s : Standing) (a : Attempt) → IsTold s a → AllByRecursion IsWritableOrder (filter_map (order_for s a) a.answers)
+pub writable_for : (s : ShowState) (a : Attempt) → IsTold s a → AllByRecursion IsWritableOrder (filter_map (order_for s a) a.answers)
 writable_for s a t =
     each_found (λ (x : DeviceAnswer). x.device < 2 ^ 31) IsWritableOrder (order_for s a)
     (λ x small. if_waits (waits x) (sent s a x) IsWritableOrder
     (writable_at a.stage a.seq x.device a.cue (bytes_for x.device (cue_parts s.show a.cue)) t.number small t.text t.short (t.part x.device)))
     a.answers t.devices
 
-pub all_writable : (s : Standing) → IsTrue (is_state s) → AllByRecursion IsWritableOrder (pending s)
+pub all_writable : (s : ShowState) → IsTrue (is_state s) → AllByRecursion IsWritableOrder (pending s)
 all_writable s h = each_flat (IsTold s) IsWritableOrder (λ a. filter_map (order_for s a) a.answers) (λ a t. writable_for s a t) s.live (live_told s h)
 
 order_read : (o : ℕ × Order) → IsWritableOrder o → IsReadBack (order o.1)
@@ -55,7 +55,7 @@ commands-are-read s h = each_map (λ x. IsReadBack x.1) (λ (o : ℕ × Order). 
 
 -- ---- each goes to a port
 
-port_for : (s : Standing) (a : Attempt) → IsTold s a → AllByRecursion (λ (o : ℕ × Order). IsTrue (is_port o.0)) (filter_map (order_for s a) a.answers)
+port_for : (s : ShowState) (a : Attempt) → IsTold s a → AllByRecursion (λ (o : ℕ × Order). IsTrue (is_port o.0)) (filter_map (order_for s a) a.answers)
 port_for s a t =
     each_found (λ (x : DeviceAnswer). IsTrue (is_port (unwrap_or (port_of s.show x.device) 0))) (λ (o : ℕ × Order). IsTrue (is_port o.0)) (order_for s a)
     (λ x port. if_waits (waits x) (sent s a x) (λ (o : ℕ × Order). IsTrue (is_port o.0)) port) a.answers t.ports

@@ -4,7 +4,7 @@ use Rattle.std.specs.List.{AllPairs, filter_map}
 use Rattle.cue_show.specs.Devices.{is_among}
 use Rattle.cue_core.specs.declared.event.Event.{Event}
 use Rattle.cue_core.specs.declared.event.Event.TheVariants.{Device, NoDevice, Cue, NoCue, Place, Start, Ready, Go, Done, Cancel, LetGo, Failed}
-use Rattle.cue_core.specs.State.{Standing, is_state}
+use Rattle.cue_core.specs.State.{ShowState, is_state}
 use Rattle.cue_core.specs.Steps.{are_acceptable, folded}
 use Rattle.cue_core.specs.Pending.{Order, standby, go_2pc, cancel, pending}
 use Rattle.cue_outbox.specs.Sending.{Send, datagrams, orders}
@@ -36,15 +36,15 @@ abbrev pub is_asked : ℕ → List Event → Bool
 is_asked q events = is_among q (filter_map number_asked events)
 
 -- the pending commands of the attempts with these numbers, in the order of all
-abbrev pub pending_of : List ℕ → Standing → List (ℕ × Send)
+abbrev pub pending_of : List ℕ → ShowState → List (ℕ × Send)
 pending_of numbers s = orders (filter (λ o. is_among (number_of o.1) numbers) (pending s))
 
 -- After events that are acceptable in turn, the newly pending commands are those of the attempts that the events ask anew.
 abbrev pub NewlyPendingAreAsked : Type 0
 NewlyPendingAreAsked =
-    (s : Standing) (events : List Event) (numbers : List ℕ) → IsTrue (is_state s) → IsTrue (are_acceptable s events) → ((q : ℕ) → is_among q numbers ≡ is_asked q events)
+    (s : ShowState) (events : List Event) (numbers : List ℕ) → IsTrue (is_state s) → IsTrue (are_acceptable s events) → ((q : ℕ) → is_among q numbers ≡ is_asked q events)
     → newly_pending s (folded s events) ≡ pending_of numbers (folded s events)
 
 -- no two pending commands of some attempts are the same datagram
 abbrev pub AskedCommandsDiffer : Type 0
-AskedCommandsDiffer = (s : Standing) (numbers : List ℕ) → IsTrue (is_state s) → AllPairs (λ x y. x ≢ y) (datagrams (pending_of numbers s))
+AskedCommandsDiffer = (s : ShowState) (numbers : List ℕ) → IsTrue (is_state s) → AllPairs (λ x y. x ≢ y) (datagrams (pending_of numbers s))

@@ -5,7 +5,7 @@ use Rattle.cue_osc.specs.Spelling.{IsText}
 use Rattle.cue_osc.specs.Reading.{datagram_at}
 use Rattle.cue_osc.specs.Writing.{text_of}
 use Rattle.cue_show.specs.DeviceNumber.{is_port}
-use Rattle.cue_core.specs.State.{Standing, is_state}
+use Rattle.cue_core.specs.State.{ShowState, is_state}
 use Rattle.cue_outbox.specs.Sending.{Send, answer, send_content, datagrams, status_of, all_pending}
 
 -- the bytes are read as what was meant
@@ -19,16 +19,16 @@ RepliesAreRead = (address : List ℕ) (made known refused code : ℕ) → IsText
 
 -- the status of each state is read as what was meant
 abbrev pub StatusIsRead : Type 0
-StatusIsRead = (s : Standing) → IsTrue (is_state s) → IsReadBack (status_of s)
+StatusIsRead = (s : ShowState) → IsTrue (is_state s) → IsReadBack (status_of s)
 
 -- each pending command is read as what was meant
 abbrev pub CommandsAreRead : Type 0
-CommandsAreRead = (s : Standing) → IsTrue (is_state s) → AllByRecursion (λ (x : ℕ × Send). IsReadBack x.1) (all_pending s)
+CommandsAreRead = (s : ShowState) → IsTrue (is_state s) → AllByRecursion (λ (x : ℕ × Send). IsReadBack x.1) (all_pending s)
 
 -- each pending command goes to a port of 1 to 65,535
 abbrev pub CommandsHavePorts : Type 0
-CommandsHavePorts = (s : Standing) → IsTrue (is_state s) → AllByRecursion (λ (x : ℕ × Send). IsTrue (is_port x.0)) (all_pending s)
+CommandsHavePorts = (s : ShowState) → IsTrue (is_state s) → AllByRecursion (λ (x : ℕ × Send). IsTrue (is_port x.0)) (all_pending s)
 
 -- no two pending commands are the same datagram
 abbrev pub CommandsDiffer : Type 0
-CommandsDiffer = (s : Standing) → IsTrue (is_state s) → AllPairs (λ x y. x ≢ y) (datagrams (all_pending s))
+CommandsDiffer = (s : ShowState) → IsTrue (is_state s) → AllPairs (λ x y. x ≢ y) (datagrams (all_pending s))

@@ -7,7 +7,7 @@ use Rattle.cue_osc.specs.Writing.{text_of}
 use Rattle.cue_exchange.specs.declared.attempt.Outcome.{Outcome}
 use Rattle.cue_exchange.specs.declared.attempt.Outcome.TheVariants as outcome
 use Rattle.cue_core.specs.declared.event.Ended.{Ended}
-use Rattle.cue_core.specs.State.{Standing}
+use Rattle.cue_core.specs.State.{ShowState}
 use Rattle.cue_core.specs.Pending.{Order, standby, go_2pc, cancel, pending}
 
 -- a datagram that is sent: the answer to a message, the status, or a command to a device
@@ -55,7 +55,7 @@ abbrev pub ended_outcome : Option Ended → ℕ
 ended_outcome e = option_map_or (λ (e : Ended). outcome_number e.outcome) e 0
 
 -- the state as the status shows it
-unfoldable pub status_of : Standing → Send
+unfoldable pub status_of : ShowState → Send
 status_of s = status s.last_seq (unwrap_or s.show.place []) (length s.live) (ended_number s.ended) (ended_outcome s.ended)
 
 -- commands as what is sent, each to its port
@@ -63,5 +63,5 @@ abbrev pub orders : List (ℕ × Order) → List (ℕ × Send)
 orders os = map (λ o. (o.0, order o.1)) os
 
 -- the commands that the devices are still to answer
-abbrev pub all_pending : Standing → List (ℕ × Send)
+abbrev pub all_pending : ShowState → List (ℕ × Send)
 all_pending s = orders (pending s)

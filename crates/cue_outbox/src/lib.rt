@@ -10,14 +10,14 @@ mod message;
 mod out;
 mod queue;
 mod replies;
-mod standing;
+mod status;
 
 pub use asked::numbers_asked;
 pub use commands::{pending, pending_of};
 pub use out::{Bytes, Out};
 pub use queue::Queue;
 pub use replies::reply;
-pub use standing::status;
+pub use status::status;
 
 #[cfg(test)]
 mod tests;

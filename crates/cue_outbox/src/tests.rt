@@ -12,7 +12,7 @@ mod commands;
 mod held;
 mod many;
 mod replies;
-mod standing;
+mod status;
 
 // The device of a part, and its bytes.
 type Task = (u8, &'static [u8]);

@@ -25,7 +25,7 @@ use Rattle.cue_exchange.proofs.LiveRules.{attempts_of, can_start_parts}
 use Rattle.cue_exchange.proofs.Lists.{all_given, all_map}
 use Rattle.cue_core.specs.declared.event.Event.{Event}
 use Rattle.cue_core.specs.declared.event.Event.TheVariants as event
-use Rattle.cue_core.specs.State.{Standing, cue_parts, is_at_cue}
+use Rattle.cue_core.specs.State.{ShowState, cue_parts, is_at_cue}
 use Rattle.cue_core.specs.Steps.{acceptable, after, are_acceptable}
 use Rattle.cue_core.proofs.Conditions.{both, join, all_from, same_number}
 use Rattle.cue_core.proofs.Rules.{Rules, rules_of, begins, is_state-after}
@@ -85,7 +85,7 @@ attempt_cue_fits show a rules at = by (parts_of show a.cue) (is_cue_of-parts_of 
     by None cue at = absurd cc
     by (Some parts) cue at = (both (is_cue_number a.cue) (are_parts parts && are_known show parts) cue).0
 
-live_fit : (s : Standing) → Rules s → IsTrue (list_all is_ranged s.live)
+live_fit : (s : ShowState) → Rules s → IsTrue (list_all is_ranged s.live)
 live_fit s r =
     all_given is_attempt (is_at_cue s.show) is_ranged
     (λ a attempt at. join (is_number a.seq) (list_all is_device (devices_of a.answers)) (attempt_rules a attempt).number (devices_fit s.show a r.show at))
@@ -103,7 +103,7 @@ some_fits goal q test (a ∷ live) fits use_it h = by (has_number q a && test a)
         use_it a (both (is_ranged a) (list_all is_ranged live) fits).0 (same_number a.seq q p.0) p.1
     by false e h others = others h
 
-number_fits : (s : Standing) (q : ℕ) (test : Attempt → Bool) → Rules s → IsTrue (holds q test s.live) → IsTrue (is_number q)
+number_fits : (s : ShowState) (q : ℕ) (test : Attempt → Bool) → Rules s → IsTrue (holds q test s.live) → IsTrue (is_number q)
 number_fits s q test r h =
     some_fits (is_number q) q test s.live (live_fit s r) (λ a fits same passes. subst (λ n. IsTrue (is_number n)) same (both (is_number a.seq) (list_all is_device (devices_of a.answers)) fits).0) h
 
@@ -116,7 +116,7 @@ answered_fits test d (x ∷ answers) fits h = by (nat_eq x.device d && test x.an
     by true e h others = subst (λ n. IsTrue (is_device n)) (same_number x.device d (both (nat_eq x.device d) (test x.answer) e).0) (both (is_device x.device) (list_all is_device (devices_of answers)) fits).0
     by false e h others = others h
 
-answer_fits : (s : Standing) (q d : ℕ) (stage : Stage → Bool) → Rules s → IsTrue (holds q (waits_in stage d) s.live) → IsTrue (is_number q && is_device d)
+answer_fits : (s : ShowState) (q d : ℕ) (stage : Stage → Bool) → Rules s → IsTrue (holds q (waits_in stage d) s.live) → IsTrue (is_number q && is_device d)
 answer_fits s q d stage r h =
     some_fits (is_number q && is_device d) q (waits_in stage d) s.live (live_fit s r)
     (λ a fits same passes.
@@ -126,19 +126,19 @@ answer_fits s q d stage r h =
 
 -- ---- events
 
-start_fits : (s : Standing) (q : ℕ) (c : List ℕ) (t : ℕ) → Rules s → IsTrue (acceptable s (event.Start q c t)) → IsTrue (is_number q && (is_cue_number c && is_moment t))
+start_fits : (s : ShowState) (q : ℕ) (c : List ℕ) (t : ℕ) → Rules s → IsTrue (acceptable s (event.Start q c t)) → IsTrue (is_number q && (is_cue_number c && is_moment t))
 start_fits s q c t r g =
     let b = begins s q c t g in
     join (is_number q) (is_cue_number c && is_moment t) b.number
     (join (is_cue_number c) (is_moment t) (cue_fits s.show c r.show b.cue) (can_start_parts q t (cue_parts s.show c) s.live b.start).moment)
 
-new_cue_fits : (s : Standing) (c : List ℕ) (parts : List Part) → IsTrue (acceptable s (event.Cue c parts)) → IsTrue (is_cue_number c && are_parts parts)
+new_cue_fits : (s : ShowState) (c : List ℕ) (parts : List Part) → IsTrue (acceptable s (event.Cue c parts)) → IsTrue (is_cue_number c && are_parts parts)
 new_cue_fits s c parts g =
     let p = both (not (has_cue s.show c)) (not (is_full s.show) && is_cue_of s.show (c, parts)) g in
     let k = both (is_cue_number c) (are_parts parts && are_known s.show parts) (both (not (is_full s.show)) (is_cue_of s.show (c, parts)) p.1).1 in
     join (is_cue_number c) (are_parts parts) k.0 (both (are_parts parts) (are_known s.show parts) k.1).0
 
-event_fits : (s : Standing) (e : Event) → Rules s → IsTrue (acceptable s e) → IsTrue (is_event e)
+event_fits : (s : ShowState) (e : Event) → Rules s → IsTrue (acceptable s e) → IsTrue (is_event e)
 event_fits s (event.Device d port) r g = (both (not (has_device s.show d)) (is_device d && is_port port) g).1
 event_fits s (event.NoDevice d) r g = device_fits s.show d r.show (both (has_device s.show d) (not (is_used s.show d)) g).0
 event_fits s (event.Cue c parts) r g = new_cue_fits s c parts g

@@ -16,7 +16,7 @@ use Rattle.cue_exchange.specs.declared.limits.TheConstants.{LAST_NUMBER}
 use Rattle.cue_exchange.proofs.Lists.{all_given}
 use Rattle.cue_exchange.proofs.LiveRules.{attempts_of}
 use Rattle.cue_core.specs.declared.event.Ended.{Ended}
-use Rattle.cue_core.specs.State.{Standing, is_at_cue, is_ended, is_state}
+use Rattle.cue_core.specs.State.{ShowState, is_at_cue, is_ended, is_state}
 use Rattle.cue_core.proofs.Conditions.{both, join}
 use Rattle.cue_core.proofs.Rules.{Rules, rules_of}
 use Rattle.cue_core.proofs.Sound.{attempt_rules}
@@ -123,21 +123,21 @@ tail_again show last ended live h k few all =
 -- ---- states
 
 -- what stands behind the version
-abbrev body_of : Standing → List ℕ
+abbrev body_of : ShowState → List ℕ
 body_of s = show_text s.show ++ (number_text s.last_seq ++ (ended_text s.ended ++ live_text s.live))
 
-standing_takes : (bytes : List ℕ) (s : Standing) → IsTrue (are_bytes bytes) → standing_of bytes ≡ Some s → IsTrue (is_state s) × (bytes ≡ body_of s)
+standing_takes : (bytes : List ℕ) (s : ShowState) → IsTrue (are_bytes bytes) → standing_of bytes ≡ Some s → IsTrue (is_state s) × (bytes ≡ body_of s)
 unfolding standing_of
 standing_takes bytes s b e =
     let a = bind_some (show_at empty_show bytes) (λ show. tail_of show.0 [] show.1 >>= λ t. checked (record { show = show.0; live = t.1.1; last_seq = t.0; ended = t.1.0 })) s e in
     let c = bind_some (tail_of a.0.0 [] a.0.1) (λ t. checked (record { show = a.0.0; live = t.1.1; last_seq = t.0; ended = t.1.0 })) s a.2 in
-    let made : Standing = record { show = a.0.0; live = c.0.1.1; last_seq = c.0.0; ended = c.0.1.0 } in
+    let made : ShowState = record { show = a.0.0; live = c.0.1.1; last_seq = c.0.0; ended = c.0.1.0 } in
     let w = where_some (is_state made) made s c.2 in
     let t = show_takes bytes a.0 b a.1 in
     let u = tail_takes a.0.0 a.0.1 c.0 (bytes_behind bytes (show_text a.0.0) a.0.1 t b) c.1 in
     subst (λ z. IsTrue (is_state z) × (bytes ≡ body_of z)) w.1 (w.0, t ∙ ap (λ bs. show_text a.0.0 ++ bs) u)
 
-live_fits : (s : Standing) → Rules s → IsTrue (are_live_at s.show s.live)
+live_fits : (s : ShowState) → Rules s → IsTrue (are_live_at s.show s.live)
 live_fits s r =
     join (are_live s.live) (list_all (attempt_fits s.show) s.live) r.live
     (all_given is_attempt (is_at_cue s.show) (attempt_fits s.show)
@@ -157,7 +157,7 @@ ended_in_range live last (Some e) h =
     let p = both (is_number e.seq) (nat_le e.seq last && not (is_some (attempt_of live e.seq))) h in
     last_fits e.seq (both (nat_le 1 e.seq) (nat_le e.seq LAST_NUMBER) p.0).1
 
-standing_again : (s : Standing) → IsTrue (is_state s) → standing_of (body_of s) ≡ Some s
+standing_again : (s : ShowState) → IsTrue (is_state s) → standing_of (body_of s) ≡ Some s
 unfolding standing_of
 standing_again s h =
     let r = rules_of s h in
@@ -167,7 +167,7 @@ standing_again s h =
     let keeps : is_state s ≡ true = h in
     rw (show, rest, keeps) refl
 
-state_takes : (bytes : List ℕ) (s : Standing) → IsTrue (are_bytes bytes) → state_of bytes ≡ Some s → IsTrue (is_state s) × (bytes ≡ state_text s)
+state_takes : (bytes : List ℕ) (s : ShowState) → IsTrue (are_bytes bytes) → state_of bytes ≡ Some s → IsTrue (is_state s) × (bytes ≡ state_text s)
 unfolding state_of
 state_takes [] s b e = absurd cc
 state_takes (v ∷ bytes) s b e = by (v == VERSION) refl e
@@ -179,15 +179,15 @@ state_takes (v ∷ bytes) s b e = by (v == VERSION) refl e
         (t.0, ap (λ n. n ∷ bytes) version ∙ ap (λ bs. VERSION ∷ bs) t.1)
     by false other e = absurd cc
 
-state_again : (s : Standing) → IsTrue (is_state s) → state_of (state_text s) ≡ Some s
+state_again : (s : ShowState) → IsTrue (is_state s) → state_of (state_text s) ≡ Some s
 unfolding state_of
 state_again s h = standing_again s h
 
-pub is_found : (bytes : List ℕ) (r : Result Standing StateFault) → IsTrue (are_bytes bytes) → GivesState r (state_of bytes) → IfOk r (λ s. IsTrue (is_state s) × (bytes ≡ state_text s))
+pub is_found : (bytes : List ℕ) (r : Result ShowState StateFault) → IsTrue (are_bytes bytes) → GivesState r (state_of bytes) → IfOk r (λ s. IsTrue (is_state s) × (bytes ≡ state_text s))
 is_found bytes (Ok s) b e = state_takes bytes s b e
 is_found bytes (Err fault) b e = tt
 
-pub is_only : (bytes : List ℕ) (r : Result Standing StateFault) → GivesState r (state_of bytes) → IsErrOf r Malformed → IsNoState bytes
+pub is_only : (bytes : List ℕ) (r : Result ShowState StateFault) → GivesState r (state_of bytes) → IsErrOf r Malformed → IsNoState bytes
 is_only bytes (Ok s) e malformed = absurd cc
 is_only bytes (Err Memory) e malformed = absurd cc
 is_only bytes (Err Version) e malformed = absurd cc

@@ -1,7 +1,7 @@
 -- What the texts come to.
 use Rattle.std.specs.Prelude.{◌≡◌, ◌≤◌, List, Some, length, IsTrue}
 use Rattle.cue_core.specs.declared.event.Event.{Event}
-use Rattle.cue_core.specs.State.{Standing, is_state}
+use Rattle.cue_core.specs.State.{ShowState, is_state}
 use Rattle.cue_core.specs.Steps.{are_acceptable}
 use Rattle.std.specs.List.{list_all}
 use Rattle.cue_records.specs.Batch.{batch_text, is_batch, is_event}
@@ -21,19 +21,19 @@ BatchTextsDiffer = (one other : List Event) → IsTrue (is_batch one) → IsTrue
 
 -- what may happen to a state, event after event, is within the ranges
 abbrev pub AcceptableEventsFit : Type 0
-AcceptableEventsFit = (s : Standing) (events : List Event) → IsTrue (is_state s) → IsTrue (are_acceptable s events) → IsTrue (list_all is_event events)
+AcceptableEventsFit = (s : ShowState) (events : List Event) → IsTrue (is_state s) → IsTrue (are_acceptable s events) → IsTrue (list_all is_event events)
 
 -- the text of a state reads back as the state
 abbrev pub StatesAreReadBack : Type 0
-StatesAreReadBack = (s : Standing) → IsTrue (is_state s) → state_of (state_text s) ≡ Some s
+StatesAreReadBack = (s : ShowState) → IsTrue (is_state s) → state_of (state_text s) ≡ Some s
 
 -- states with one text are one state
 abbrev pub StateTextsDiffer : Type 0
-StateTextsDiffer = (one other : Standing) → IsTrue (is_state one) → IsTrue (is_state other) → state_text one ≡ state_text other → one ≡ other
+StateTextsDiffer = (one other : ShowState) → IsTrue (is_state one) → IsTrue (is_state other) → state_text one ≡ state_text other → one ≡ other
 
 -- the text of a state is no longer than the most that the limits of its fields allow
 abbrev pub StateTextsAreBounded : Type 0
-StateTextsAreBounded = (s : Standing) → IsTrue (is_state s) → length (state_text s) ≤ MAX_STATE_BYTES
+StateTextsAreBounded = (s : ShowState) → IsTrue (is_state s) → length (state_text s) ≤ MAX_STATE_BYTES
 
 -- the limits as numbers: the most events of a batch, the version of a state's text, and the most bytes of one
 abbrev pub LimitsOfTexts : Type 0

@@ -11,7 +11,7 @@ use Rattle.cue_exchange.specs.declared.attempt.Outcome.TheVariants as outcome
 use Rattle.cue_exchange.specs.declared.attempt.Stage.{Stage}
 use Rattle.cue_exchange.specs.declared.attempt.Stage.TheVariants.{Preparing, Decided, Cancelling}
 use Rattle.cue_core.specs.declared.event.Ended.{Ended}
-use Rattle.cue_core.specs.State.{Standing, is_state}
+use Rattle.cue_core.specs.State.{ShowState, is_state}
 use Rattle.cue_records.specs.declared.state.TheConstants.{VERSION}
 use Rattle.cue_records.specs.Fields.{byte_text, short_text, number_text, moment_text, text_text, entry_text, new_cue_text, reason_number}
 
@@ -76,7 +76,7 @@ live_text live = byte_text (length live) ++ flat_map attempt_text live
 -- ---- the state
 
 -- the version, the show, the last number, the attempt that ended last, and the live ones
-abbrev pub state_text : Standing → List ℕ
+abbrev pub state_text : ShowState → List ℕ
 state_text s = byte_text VERSION ++ (show_text s.show ++ (number_text s.last_seq ++ (ended_text s.ended ++ live_text s.live)))
 
 -- the bytes begin with another version
@@ -86,4 +86,4 @@ is_other_version (b ∷ bytes) = not (b == VERSION)
 
 -- the bytes are the text of no state
 abbrev pub IsNoState : List ℕ → Type 0
-IsNoState bytes = (s : Standing) → IsTrue (is_state s) → bytes ≢ state_text s
+IsNoState bytes = (s : ShowState) → IsTrue (is_state s) → bytes ≢ state_text s

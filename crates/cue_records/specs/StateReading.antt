@@ -15,14 +15,14 @@ use Rattle.cue_exchange.specs.declared.attempt.Reason.TheVariants.{Operator, Dea
 use Rattle.cue_exchange.specs.declared.attempt.Stage.{Stage}
 use Rattle.cue_exchange.specs.declared.attempt.Stage.TheVariants.{Preparing, Decided, Cancelling}
 use Rattle.cue_core.specs.declared.event.Ended.{Ended}
-use Rattle.cue_core.specs.State.{Standing, is_state}
+use Rattle.cue_core.specs.State.{ShowState, is_state}
 use Rattle.cue_records.specs.declared.fault.StateFault.{StateFault}
 use Rattle.cue_records.specs.declared.fault.StateFault.TheVariants as fault
 use Rattle.cue_records.specs.Reading.{◌>>=◌, Reads, where_it, made_at, both_at, byte_at, number_at, text_at, sequence_at, cue_at, entry_at, new_cue_at}
 use Rattle.cue_records.specs.State.{is_other_version}
 
 -- what a function returned is what reading gives, unless memory ran out
-abbrev pub GivesState : Result Standing StateFault → Option Standing → Type 0
+abbrev pub GivesState : Result ShowState StateFault → Option ShowState → Type 0
 GivesState (Ok s) read = read ≡ Some s
 GivesState (Err fault.Version) read = read ≡ None
 GivesState (Err fault.Malformed) read = read ≡ None
@@ -141,14 +141,14 @@ tail_of show live bytes =
 -- ---- the state
 
 -- the state, where it keeps the rules
-abbrev pub checked : Standing → Option Standing
+abbrev pub checked : ShowState → Option ShowState
 checked s = where_it (is_state s) s
 
 -- what stands behind the version
-unfoldable pub standing_of : List ℕ → Option Standing
+unfoldable pub standing_of : List ℕ → Option ShowState
 standing_of bytes = show_at empty_show bytes >>= λ show. tail_of show.0 [] show.1 >>= λ t. checked (record { show = show.0; live = t.1.1; last_seq = t.0; ended = t.1.0 })
 
 -- the state whose text the bytes are
-unfoldable pub state_of : List ℕ → Option Standing
+unfoldable pub state_of : List ℕ → Option ShowState
 state_of [] = None
 state_of (b ∷ bytes) = if is_other_version (b ∷ bytes) then None else standing_of bytes

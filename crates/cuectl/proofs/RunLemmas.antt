@@ -1,6 +1,6 @@
 -- One turn more.
 use Rattle.std.proofs.Common.{◌≡◌, ℕ, ◌+◌, ◌-◌, ◌^◌, ◌≤◌, Bool, List, [], ◌∷◌, ◌++◌, length, map, min, Option, Some, None, Result, Ok, Err, refl, sym, ap, ◌∙◌, subst, inl, inr, arith, length-append, append_assoc, append-nil}
-use Rattle.cue_core.specs.State.{Standing}
+use Rattle.cue_core.specs.State.{ShowState}
 use Rattle.cue_core.specs.Steps.{folded}
 use Rattle.cue_outbox.specs.Sending.{datagram, datagrams, Send}
 use Rattle.cue_engine.specs.Given.{Input, given}
@@ -27,11 +27,11 @@ answers_more : (is : List (ℕ × Input)) (t : ℕ × Input) → given_answers i
 answers_more [] t = refl
 answers_more (i ∷ is) t = ap (λ (others : List Answer). comes i.0 i.1 ∷ others) (answers_more is t)
 
-story_state : (s : Standing) (is : List (ℕ × Input)) (t : ℕ × Input) → (story s (is ++ t ∷ [])).state ≡ folded (story s is).state (given (story s is).state t.0 t.1).batch
+story_state : (s : ShowState) (is : List (ℕ × Input)) (t : ℕ × Input) → (story s (is ++ t ∷ [])).state ≡ folded (story s is).state (given (story s is).state t.0 t.1).batch
 story_state s [] t = refl
 story_state s (i ∷ is) t = story_state (folded s (given s i.0 i.1).batch) is t
 
-story_sends : (s : Standing) (is : List (ℕ × Input)) (t : ℕ × Input) → (story s (is ++ t ∷ [])).sends ≡ (story s is).sends ++ (given (story s is).state t.0 t.1).sends
+story_sends : (s : ShowState) (is : List (ℕ × Input)) (t : ℕ × Input) → (story s (is ++ t ∷ [])).sends ≡ (story s is).sends ++ (given (story s is).state t.0 t.1).sends
 story_sends s [] t = append-nil (given s t.0 t.1).sends
 story_sends s (i ∷ is) t =
     ap (λ (xs : List (ℕ × Send)). (given s i.0 i.1).sends ++ xs) (story_sends (folded s (given s i.0 i.1).batch) is t)
@@ -66,7 +66,7 @@ all_handed_both told mid new os ps n m a b = record {
 }
 
 -- nothing was taken yet, and what was owed at first was handed over
-pub begun : (size : ℕ) (left : Option (List Answer)) (s s_then : Standing) (owed : List (ℕ × List ℕ)) (told told_then : Option (List Handed)) (n : ℕ) → n ≤ 2 ^ 64 - 1 → s_then ≡ s → AllHanded told owed n told_then → HasRun size left s owed told 0 n left s_then told_then
+pub begun : (size : ℕ) (left : Option (List Answer)) (s s_then : ShowState) (owed : List (ℕ × List ℕ)) (told told_then : Option (List Handed)) (n : ℕ) → n ≤ 2 ^ 64 - 1 → s_then ≡ s → AllHanded told owed n told_then → HasRun size left s owed told 0 n left s_then told_then
 begun size left s s_then owed told told_then n fits same h = record {
   inputs = [];
   gave = none left;
@@ -82,7 +82,7 @@ begun size left s s_then owed told told_then n fits same h = record {
     none (Some answers) = refl
 
 -- one input more was taken
-pub run_more : (size now_size : ℕ) (left mid left_then : Option (List Answer)) (s now_s s_then : Standing) (owed : List (ℕ × List ℕ)) (told mid_told told_then : Option (List Handed)) (turns unsent more refused : ℕ)
+pub run_more : (size now_size : ℕ) (left mid left_then : Option (List Answer)) (s now_s s_then : ShowState) (owed : List (ℕ × List ℕ)) (told mid_told told_then : Option (List Handed)) (turns unsent more refused : ℕ)
     → now_size ≡ size
     → more ≡ min (unsent + refused) (2 ^ 64 - 1)
     → HasRun size left s owed told turns unsent mid now_s mid_told
@@ -95,7 +95,7 @@ run_more size now_size left mid left_then s now_s s_then owed told mid_told told
       inputs = h.inputs ++ t ∷ [];
       gave = subst (λ (xs : List Answer). GaveAll size left xs left_then) (answers_more h.inputs t) (gave_all_more size left (given_answers h.inputs) mid (comes t.0 t.1 ∷ []) left_then h.gave (subst (λ (n : ℕ). GaveAll n mid (comes t.0 t.1 ∷ []) left_then) same one.1));
       number = omega (arith, h.number, length-append h.inputs (t ∷ []));
-      state = taken.state ∙ (ap (λ (x : Standing). folded x (given x t.0 t.1).batch) h.state ∙ sym (story_state s h.inputs t));
+      state = taken.state ∙ (ap (λ (x : ShowState). folded x (given x t.0 t.1).batch) h.state ∙ sym (story_state s h.inputs t));
       refused = h.refused + refused;
       handed = subst (λ (os : List (ℕ × List ℕ)). AllHanded told os (h.refused + refused) told_then) (sends_are t) (all_handed_both told mid_told told_then (owed ++ datagrams (story s h.inputs).sends) (datagrams (given now_s t.0 t.1).sends) h.refused refused h.handed taken.handed);
       counted = omega (arith, is, h.counted);
@@ -107,17 +107,17 @@ run_more size now_size left mid left_then s now_s s_then owed told mid_told told
         ∙ ap (λ (os : List (ℕ × List ℕ)). owed ++ os)
         (datagrams_more (story s h.inputs).sends (given now_s t.0 t.1).sends
         ∙ ap (λ (xs : List (ℕ × Send)). datagrams xs)
-        (ap (λ (x : Standing). (story s h.inputs).sends ++ (given x t.0 t.1).sends) h.state ∙ sym (story_sends s h.inputs t)))
+        (ap (λ (x : ShowState). (story s h.inputs).sends ++ (given x t.0 t.1).sends) h.state ∙ sym (story_sends s h.inputs t)))
 
 -- what did not change was taken as it was
-still : (size : ℕ) (left mid : Option (List Answer)) (s now_s s_then : Standing) (owed : List (ℕ × List ℕ)) (told mid_told told_then : Option (List Handed)) (turns unsent : ℕ)
+still : (size : ℕ) (left mid : Option (List Answer)) (s now_s s_then : ShowState) (owed : List (ℕ × List ℕ)) (told mid_told told_then : Option (List Handed)) (turns unsent : ℕ)
     → HasRun size left s owed told turns unsent mid now_s mid_told → s_then ≡ now_s → told_then ≡ mid_told → HasRun size left s owed told turns unsent mid s_then told_then
 still size left mid s now_s s_then owed told mid_told told_then turns unsent h same_s same_told =
-    subst (λ (x : Standing). HasRun size left s owed told turns unsent mid x told_then) (sym same_s)
+    subst (λ (x : ShowState). HasRun size left s owed told turns unsent mid x told_then) (sym same_s)
     (subst (λ (x : Option (List Handed)). HasRun size left s owed told turns unsent mid now_s x) (sym same_told) h)
 
 -- the end of a source
-pub ran_to_end : (size now_size : ℕ) (left mid left_then : Option (List Answer)) (s now_s s_then : Standing) (owed : List (ℕ × List ℕ)) (told mid_told told_then : Option (List Handed)) (asked turns unsent : ℕ) (P : Standing → Type 0)
+pub ran_to_end : (size now_size : ℕ) (left mid left_then : Option (List Answer)) (s now_s s_then : ShowState) (owed : List (ℕ × List ℕ)) (told mid_told told_then : Option (List Handed)) (asked turns unsent : ℕ) (P : ShowState → Type 0)
     → now_size ≡ size
     → HasRun size left s owed told turns unsent mid now_s mid_told
     → GaveAll now_size mid (ends ∷ []) left_then × (s_then ≡ now_s) × (told_then ≡ mid_told)
@@ -129,9 +129,9 @@ ran_to_end size now_size left mid left_then s now_s s_then owed told mid_told to
 }
 
 -- a fault
-pub ran_to_fault : (size now_size : ℕ) (left mid left_then : Option (List Answer)) (s now_s s_then : Standing) (owed : List (ℕ × List ℕ)) (told mid_told told_then : Option (List Handed)) (asked turns unsent : ℕ) (P Q : Standing → Type 0) (why : RunFault)
+pub ran_to_fault : (size now_size : ℕ) (left mid left_then : Option (List Answer)) (s now_s s_then : ShowState) (owed : List (ℕ × List ℕ)) (told mid_told told_then : Option (List Handed)) (asked turns unsent : ℕ) (P Q : ShowState → Type 0) (why : RunFault)
     → now_size ≡ size
-    → (s_then ≡ now_s → (x : Standing) → Q x → P x)
+    → (s_then ≡ now_s → (x : ShowState) → Q x → P x)
     → HasRun size left s owed told turns unsent mid now_s mid_told
     → Turned now_size mid left_then now_s s_then mid_told told_then Q (Err why)
     → Ran size left s owed told asked turns unsent (Some why) left_then s_then told_then P
@@ -148,12 +148,12 @@ ran_to_fault size now_size left mid left_then s now_s s_then owed told mid_told 
       ended = inr (
         t,
         subst (λ (n : ℕ). GaveAll n mid (comes t.0 t.1 ∷ []) left_then) same turn.1,
-        subst (λ (x : Standing). P (folded x (given x t.0 t.1).batch)) (sym turn.2) (leaves turn.2 (folded now_s (given now_s t.0 t.1).batch) turn.4),
+        subst (λ (x : ShowState). P (folded x (given x t.0 t.1).batch)) (sym turn.2) (leaves turn.2 (folded now_s (given now_s t.0 t.1).batch) turn.4),
       );
     }
 
 -- all turns were had
-pub ran_all : (size : ℕ) (left mid : Option (List Answer)) (s s_then : Standing) (owed : List (ℕ × List ℕ)) (told told_then : Option (List Handed)) (asked turns unsent : ℕ) (P : Standing → Type 0)
+pub ran_all : (size : ℕ) (left mid : Option (List Answer)) (s s_then : ShowState) (owed : List (ℕ × List ℕ)) (told told_then : Option (List Handed)) (asked turns unsent : ℕ) (P : ShowState → Type 0)
     → turns ≡ asked
     → HasRun size left s owed told turns unsent mid s_then told_then
     → Ran size left s owed told asked asked unsent None mid s_then told_then P
@@ -164,7 +164,7 @@ ran_all size left mid s s_then owed told told_then asked turns unsent P same h =
 }
 
 -- no memory, before the first turn
-pub ran_none : (size : ℕ) (left : Option (List Answer)) (s s_then : Standing) (owed : List (ℕ × List ℕ)) (told told_then : Option (List Handed)) (asked unsent : ℕ) (P : Standing → Type 0)
+pub ran_none : (size : ℕ) (left : Option (List Answer)) (s s_then : ShowState) (owed : List (ℕ × List ℕ)) (told told_then : Option (List Handed)) (asked unsent : ℕ) (P : ShowState → Type 0)
     → HasRun size left s owed told 0 unsent left s_then told_then
     → Ran size left s owed told asked 0 unsent (Some (fault.Engine Memory)) left s_then told_then P
 ran_none size left s s_then owed told told_then asked unsent P h = record {

@@ -5,7 +5,7 @@ use Rattle.std.specs.Io.KnownBytes.{Appends}
 use Rattle.std.proofs.Common.{ap, refl, arith, sym, ◌∙◌, append_assoc, subst, lit≤}
 use Rattle.std.proofs.lemmas.Grind.{flat_map-append}
 use Rattle.std.proofs.lemmas.List.{append-nil, map-append, take_more, take_all, length-take}
-use Rattle.cue_core.specs.State.{Standing}
+use Rattle.cue_core.specs.State.{ShowState}
 use Rattle.cue_core.specs.Steps.{folded}
 use Rattle.cue_keeper.specs.Stands.{Stands}
 use Rattle.cue_keeper.proofs.Standing.{one_state}
@@ -81,24 +81,24 @@ told_whole queue n (Some xs) (Some ys) all none each is =
 
 -- ---- what happened
 
-run-none : (s : Standing) → (run s []).state ≡ s
+run-none : (s : ShowState) → (run s []).state ≡ s
 run-none s = refl
 
-pub run-more-state : (s : Standing) (hs : List Happening) (h : Happening) → (run s (hs ++ h ∷ [])).state ≡ folded (run s hs).state (given_at (run s hs).state h).batch
+pub run-more-state : (s : ShowState) (hs : List Happening) (h : Happening) → (run s (hs ++ h ∷ [])).state ≡ folded (run s hs).state (given_at (run s hs).state h).batch
 run-more-state s [] h = refl
 run-more-state s (g ∷ gs) h = run-more-state (folded s (given_at s g).batch) gs h
 
-pub run-more-sends : (s : Standing) (hs : List Happening) (h : Happening) → (run s (hs ++ h ∷ [])).sends ≡ (run s hs).sends ++ (given_at (run s hs).state h).sends
+pub run-more-sends : (s : ShowState) (hs : List Happening) (h : Happening) → (run s (hs ++ h ∷ [])).sends ≡ (run s hs).sends ++ (given_at (run s hs).state h).sends
 run-more-sends s [] h = append-nil (given_at s h).sends
 run-more-sends s (g ∷ gs) h =
     ap (λ (xs : List (ℕ × Send)). (given_at s g).sends ++ xs) (run-more-sends (folded s (given_at s g).batch) gs h)
     ∙ sym (append_assoc (given_at s g).sends (run (folded s (given_at s g).batch) gs).sends (given_at (run (folded s (given_at s g).batch) gs).state h).sends)
 
-pub output-none : (s : Standing) → output s [] ≡ []
+pub output-none : (s : ShowState) → output s [] ≡ []
 unfolding output
 output-none s = refl
 
-pub output-more : (s : Standing) (hs : List Happening) (h : Happening) → output s (hs ++ h ∷ []) ≡ output s hs ++ printed (datagrams (given_at (run s hs).state h).sends)
+pub output-more : (s : ShowState) (hs : List Happening) (h : Happening) → output s (hs ++ h ∷ []) ≡ output s hs ++ printed (datagrams (given_at (run s hs).state h).sends)
 unfolding output
 output-more s hs h =
     ap (λ (xs : List (ℕ × Send)). printed (datagrams xs)) (run-more-sends s hs h)
@@ -106,17 +106,17 @@ output-more s hs h =
     ∙ printed-append (datagrams (run s hs).sends) (datagrams (given_at (run s hs).state h).sends)
 
 -- what recovery makes of bytes that stand for a state
-pub closed_state : (s t : Standing) (x y : List ℕ) → Stands x y s → ClosedFrom x y t → t ≡ folded s (given_at s recovered).batch
+pub closed_state : (s t : ShowState) (x y : List ℕ) → Stands x y s → ClosedFrom x y t → t ≡ folded s (given_at s recovered).batch
 unfolding closed
 closed_state s t x y stands from = from.is ∙ ap closed (one_state x y from.before s from.stood stands)
 
-pub closed_sends : (s t : Standing) (x y : List ℕ) (queue : List (ℕ × List ℕ)) → Stands x y s → ClosedFrom x y t → queue ≡ datagrams (all_pending t) → queue ≡ datagrams (given_at s recovered).sends
-closed_sends s t x y queue stands from owes = owes ∙ ap (λ (u : Standing). datagrams (all_pending u)) (from.is ∙ ap closed (one_state x y from.before s from.stood stands))
+pub closed_sends : (s t : ShowState) (x y : List ℕ) (queue : List (ℕ × List ℕ)) → Stands x y s → ClosedFrom x y t → queue ≡ datagrams (all_pending t) → queue ≡ datagrams (given_at s recovered).sends
+closed_sends s t x y queue stands from owes = owes ∙ ap (λ (u : ShowState). datagrams (all_pending u)) (from.is ∙ ap closed (one_state x y from.before s from.stood stands))
 
 -- ---- the lines of a text
 
 -- The first lines of a text were run, those of the rest are left, and this is the state.
-pub record IsRunning (first : Standing) (text rest : List ℕ) (state : Standing) (old new : Option (List ℕ)) : Type 0 where
+pub record IsRunning (first : ShowState) (text rest : List ℕ) (state : ShowState) (old new : Option (List ℕ)) : Type 0 where
   pub happened : List Happening
   pub lines : List (List ℕ)
   pub all : lines_of text ≡ lines ++ lines_of rest
@@ -124,29 +124,29 @@ pub record IsRunning (first : Standing) (text rest : List ℕ) (state : Standing
   pub is : state ≡ (run first happened).state
   pub wrote : Appends old new (output first happened)
 
-pub running_first : (first : Standing) (text : List ℕ) (old : Option (List ℕ)) → IsRunning first text text first old old
+pub running_first : (first : ShowState) (text : List ℕ) (old : Option (List ℕ)) → IsRunning first text text first old old
 running_first first text old =
     let P : List ℕ → Type 0 = λ t. Appends old old t in
     record { happened = []; lines = []; all = refl; each = refl; is = refl; wrote = subst P (sym (output-none first)) (appends_none old) }
 
 -- a line more was run
-pub running_more : (first : Standing) (text rest others line : List ℕ) (s t : Standing) (old mid new : Option (List ℕ)) →
+pub running_more : (first : ShowState) (text rest others line : List ℕ) (s t : ShowState) (old mid new : Option (List ℕ)) →
     IsRunning first text rest s old mid → lines_of rest ≡ line ∷ lines_of others → Goes line s t mid new → IsRunning first text others t old new
 running_more first text rest others line s t old mid new held split goes =
     let P : List ℕ → Type 0 = λ out. Appends old new out in
-    let Q : Standing → Type 0 = λ u. Appends mid new (printed (datagrams (given_at u goes.happening).sends)) in
+    let Q : ShowState → Type 0 = λ u. Appends mid new (printed (datagrams (given_at u goes.happening).sends)) in
     record {
       happened = held.happened ++ goes.happening ∷ [];
       lines = held.lines ++ line ∷ [];
       all = held.all ∙ ap (λ (xs : List (List ℕ)). held.lines ++ xs) split ∙ sym (append_assoc held.lines (line ∷ []) (lines_of others));
       each = map-append happening_in held.lines (line ∷ []) ∙ ap (λ (xs : List (Option Happening)). xs ++ happening_in line ∷ []) held.each
           ∙ ap (λ (x : Option Happening). map Some held.happened ++ x ∷ []) goes.tells ∙ sym (map-append Some held.happened (goes.happening ∷ []));
-      is = goes.is ∙ ap (λ (u : Standing). folded u (given_at u goes.happening).batch) held.is ∙ sym (run-more-state first held.happened goes.happening);
+      is = goes.is ∙ ap (λ (u : ShowState). folded u (given_at u goes.happening).batch) held.is ∙ sym (run-more-state first held.happened goes.happening);
       wrote = subst P (sym (output-more first held.happened goes.happening)) (appends_both old mid new _ _ held.wrote (subst Q held.is goes.wrote));
     }
 
 -- a line of which this is known went on
-pub goes_behind : {T E : Type 0} (r : Result T E) (state : T → Standing) (line : List ℕ) (h : Happening) (s : Standing) (old new : Option (List ℕ)) → happening_in line ≡ Some h →
+pub goes_behind : {T E : Type 0} (r : Result T E) (state : T → ShowState) (line : List ℕ) (h : Happening) (s : ShowState) (old new : Option (List ℕ)) → happening_in line ≡ Some h →
     IfOk r (λ next. state next ≡ folded s (given_at s h).batch) → OnOk r (Appends old new (printed (datagrams (given_at s h).sends))) → IfOk r (λ next. Goes line s (state next) old new)
 goes_behind (Ok next) state line h s old new tells is wrote = record { happening = h; tells = tells; is = is; wrote = wrote }
 goes_behind (Err ending) state line h s old new tells is wrote = tt
@@ -163,7 +163,7 @@ ends_behind (Ok next) line old new ends = tt
 ends_behind (Err ending) line old new ends = ends_one ending line old new ends
 
 -- the script stands where its first lines were run
-pub ran : (first : Standing) (text rest : List ℕ) (left : List (List ℕ)) (s : Standing) (old new : Option (List ℕ)) → IsRunning first text rest s old new → lines_of rest ≡ left → length text ≤ SCRIPT_LIMIT → Ran first text left [] old new
+pub ran : (first : ShowState) (text rest : List ℕ) (left : List (List ℕ)) (s : ShowState) (old new : Option (List ℕ)) → IsRunning first text rest s old new → lines_of rest ≡ left → length text ≤ SCRIPT_LIMIT → Ran first text left [] old new
 ran first text rest left s old new held is short =
     let P : List ℕ → Type 0 = λ out. Appends old new out in
     record {
@@ -176,7 +176,7 @@ ran first text rest left s old new held is short =
     }
 
 -- a line ended the script
-pub ran_until : (ending : Ending) (first : Standing) (text rest others line : List ℕ) (s : Standing) (old mid new : Option (List ℕ)) →
+pub ran_until : (ending : Ending) (first : ShowState) (text rest others line : List ℕ) (s : ShowState) (old mid new : Option (List ℕ)) →
     IsRunning first text rest s old mid → lines_of rest ≡ line ∷ lines_of others → length text ≤ SCRIPT_LIMIT → EndsAt ending line mid new → Wrote ending first text [] old new
 ran_until Done first text rest others line s old mid new held split short ends = absurd ends
 ran_until BadLine first text rest others line s old mid new held split short ends =
@@ -189,7 +189,7 @@ ran_until (Failed failure) first text rest others line s old mid new held split 
 ran_until (Stopped failure) first text rest others line s old mid new held split short ends = tt
 
 -- a last line behind it
-ran_with : (first : Standing) (text last : List ℕ) (left : List (List ℕ)) (old mid new : Option (List ℕ)) → Ran first text left [] old mid → Appends mid new last → Ran first text left last old new
+ran_with : (first : ShowState) (text last : List ℕ) (left : List (List ℕ)) (old mid new : Option (List ℕ)) → Ran first text left [] old mid → Appends mid new last → Ran first text left last old new
 ran_with first text last left old mid new held more =
     let P : List ℕ → Type 0 = λ out. Appends old mid out in
     record {
@@ -201,7 +201,7 @@ ran_with first text last left old mid new held more =
       wrote = appends_both old mid new _ _ (subst P (append-nil (output first held.happened)) held.wrote) more;
     }
 
-pub wrote_with : (ending : Ending) (first : Standing) (text last : List ℕ) (old mid new : Option (List ℕ)) → Wrote ending first text [] old mid → Appends mid new last → Wrote ending first text last old new
+pub wrote_with : (ending : Ending) (first : ShowState) (text last : List ℕ) (old mid new : Option (List ℕ)) → Wrote ending first text [] old mid → Appends mid new last → Wrote ending first text last old new
 wrote_with Done first text last old mid new held more = ran_with first text last [] old mid new held more
 wrote_with BadLine first text last old mid new held more = record { bad = held.bad; others = held.others; no_form = held.no_form; ran = ran_with first text last (held.bad ∷ held.others) old mid new held.ran more }
 wrote_with BadInput first text last old mid new held more = (held.0, appends_both old mid new [] last held.1 more)
@@ -227,26 +227,26 @@ of_known None limit bytes F read holds = tt
 of_known (Some text) limit bytes F read holds = subst F read.0 holds
 
 -- nothing was run of a text that is too long
-pub too_long : (known : Option (List ℕ)) (first : Standing) (old : Option (List ℕ)) → IfSome known (λ text. SCRIPT_LIMIT < length text) → IfSome known (λ text. Wrote BadInput first text [] old old)
+pub too_long : (known : Option (List ℕ)) (first : ShowState) (old : Option (List ℕ)) → IfSome known (λ text. SCRIPT_LIMIT < length text) → IfSome known (λ text. Wrote BadInput first text [] old old)
 too_long None first old long = tt
 too_long (Some text) first old long = (long, appends_none old)
 
 -- nothing was run where no engine was formed
-pub not_formed : (first : Standing) (text : List ℕ) (old : Option (List ℕ)) → length text ≤ SCRIPT_LIMIT → (left : List (List ℕ)) × Ran first text left [] old old
+pub not_formed : (first : ShowState) (text : List ℕ) (old : Option (List ℕ)) → length text ≤ SCRIPT_LIMIT → (left : List (List ℕ)) × Ran first text left [] old old
 not_formed first text old short = (lines_of text, ran first text text (lines_of text) first old old (running_first first text old) refl short)
 
-pub has_run : (known : Option (List ℕ)) (ending : Ending) (first : Standing) (line : List ℕ) (status : ℕ) (old mid new : Option (List ℕ)) → IfSome known (λ text. Wrote ending first text [] old mid) → line ≡ ending_line ending →
+pub has_run : (known : Option (List ℕ)) (ending : Ending) (first : ShowState) (line : List ℕ) (status : ℕ) (old mid new : Option (List ℕ)) → IfSome known (λ text. Wrote ending first text [] old mid) → line ≡ ending_line ending →
     Appends mid new line → status ≡ status_of ending → IfSome known (λ text. HasRun first text status old new)
 has_run None ending first line status old mid new wrote is last ends = tt
 has_run (Some text) ending first line status old mid new wrote is last ends =
     let P : List ℕ → Type 0 = λ l. Appends mid new l in
     record { ending = ending; is = ends; wrote = wrote_with ending first text (ending_line ending) old mid new wrote (subst P is last) }
 
-pub has_stopped : (known : Option (List ℕ)) (failure : StreamFailure) (first : Standing) (status : ℕ) (old new : Option (List ℕ)) → status ≡ status_of (Stopped failure) → IfSome known (λ text. HasRun first text status old new)
+pub has_stopped : (known : Option (List ℕ)) (failure : StreamFailure) (first : ShowState) (status : ℕ) (old new : Option (List ℕ)) → status ≡ status_of (Stopped failure) → IfSome known (λ text. HasRun first text status old new)
 has_stopped None failure first status old new ends = tt
 has_stopped (Some text) failure first status old new ends = record { ending = Stopped failure; is = ends; wrote = tt }
 
-pub stopped_known : (known : Option (List ℕ)) (failure : StreamFailure) (first : Standing) (old new : Option (List ℕ)) → IfSome known (λ text. Wrote (Stopped failure) first text [] old new)
+pub stopped_known : (known : Option (List ℕ)) (failure : StreamFailure) (first : ShowState) (old new : Option (List ℕ)) → IfSome known (λ text. Wrote (Stopped failure) first text [] old new)
 stopped_known None failure first old new = tt
 stopped_known (Some text) failure first old new = tt
 

@@ -1,7 +1,7 @@
 -- A script that is being run.
 use Rattle.std.specs.Prelude.{◌≡◌, ℕ, Bool, false, List, [], Option, Some, None}
 use Rattle.std.specs.Io.KnownBytes.{Appends}
-use Rattle.cue_core.specs.State.{Standing}
+use Rattle.cue_core.specs.State.{ShowState}
 use Rattle.cue_core.specs.Steps.{folded}
 use Rattle.cue_keeper.specs.Words.{is_broken}
 use Rattle.cue_outbox.specs.Sending.{datagrams}
@@ -19,13 +19,13 @@ pub record IsReady {D : Type 0} {disk : _} (engine : Engine D disk) : Type 0 whe
   pub owes_none : queue_of engine ≡ []
 
 -- an engine that works, after this happened in a state: it owes what is sent then
-pub record IsAfter {D : Type 0} {disk : _} (s : Standing) (h : Happening) (engine : Engine D disk) : Type 0 where
+pub record IsAfter {D : Type 0} {disk : _} (s : ShowState) (h : Happening) (engine : Engine D disk) : Type 0 where
   pub works : is_broken (keeper_of engine) ≡ false
   pub is : state_of engine ≡ folded s (given_at s h).batch
   pub owes : queue_of engine ≡ datagrams (given_at s h).sends
 
 -- A line told of what happened, the state is the one after it, and what is sent then was written.
-pub record Goes (line : List ℕ) (s t : Standing) (old new : Option (List ℕ)) : Type 0 where
+pub record Goes (line : List ℕ) (s t : ShowState) (old new : Option (List ℕ)) : Type 0 where
   pub happening : Happening
   pub tells : happening_in line ≡ Some happening
   pub is : t ≡ folded s (given_at s happening).batch

@@ -3,7 +3,7 @@ use Rattle.std.specs.Prelude.{◌≡◌, ℕ, ◌≤◌, ◌<◌, List, [], ◌�
 use Rattle.std.specs.Io.KnownBytes.{Appends}
 use Rattle.std.specs.List.{flat_map}
 use Rattle.hex.specs.Hex.{encode_lower}
-use Rattle.cue_core.specs.State.{Standing}
+use Rattle.cue_core.specs.State.{ShowState}
 use Rattle.cue_outbox.specs.Sending.{datagrams}
 use Rattle.cue_engine.specs.Runs.{Happening, run}
 use Rattle.cuectl.specs.declared.script.TheConstants.{SCRIPT_LIMIT}
@@ -20,11 +20,11 @@ abbrev pub printed : List (ℕ × List ℕ) → List ℕ
 printed sent = flat_map line_of sent
 
 -- what is written for what happens, from this state on: a line for each datagram that is sent
-unfoldable pub output : Standing → List Happening → List ℕ
+unfoldable pub output : ShowState → List Happening → List ℕ
 output first hs = printed (datagrams (run first hs).sends)
 
 -- The first lines of a text told of what happened, and the others are left; what is written is the output, and behind it this last line.
-pub record Ran (first : Standing) (text : List ℕ) (left : List (List ℕ)) (last : List ℕ) (old new : Option (List ℕ)) : Type 0 where
+pub record Ran (first : ShowState) (text : List ℕ) (left : List (List ℕ)) (last : List ℕ) (old new : Option (List ℕ)) : Type 0 where
   pub happened : List Happening
   pub lines : List (List ℕ)
   pub all : lines_of text ≡ lines ++ left
@@ -33,14 +33,14 @@ pub record Ran (first : Standing) (text : List ℕ) (left : List (List ℕ)) (la
   pub wrote : Appends old new (output first happened ++ last)
 
 -- The lines before one of no form were run.
-pub record RanToBadLine (first : Standing) (text last : List ℕ) (old new : Option (List ℕ)) : Type 0 where
+pub record RanToBadLine (first : ShowState) (text last : List ℕ) (old new : Option (List ℕ)) : Type 0 where
   pub bad : List ℕ
   pub others : List (List ℕ)
   pub no_form : happening_in bad ≡ None
   pub ran : Ran first text (bad ∷ others) last old new
 
 -- what is written of a text where a script ends so, its last line given: nothing is said where a call of the reader or the writer failed
-abbrev pub Wrote : Ending → Standing → List ℕ → List ℕ → Option (List ℕ) → Option (List ℕ) → Type 0
+abbrev pub Wrote : Ending → ShowState → List ℕ → List ℕ → Option (List ℕ) → Option (List ℕ) → Type 0
 Wrote Done first text last old new = Ran first text [] last old new
 Wrote BadLine first text last old new = RanToBadLine first text last old new
 Wrote BadInput first text last old new = (SCRIPT_LIMIT < length text) × Appends old new last
@@ -48,7 +48,7 @@ Wrote (Failed failure) first text last old new = (left : List (List ℕ)) × Ran
 Wrote (Stopped failure) first text last old new = Unit {0}
 
 -- A script was run from this state on, and ended with this status.
-pub record HasRun (first : Standing) (text : List ℕ) (status : ℕ) (old new : Option (List ℕ)) : Type 0 where
+pub record HasRun (first : ShowState) (text : List ℕ) (status : ℕ) (old new : Option (List ℕ)) : Type 0 where
   pub ending : Ending
   pub is : status ≡ status_of ending
   pub wrote : Wrote ending first text (ending_line ending) old new

@@ -3,7 +3,7 @@ ghost use Rattle.std.specs.Prelude.{◌≡◌, ◌≤◌, ◌⊎◌, ◌↔◌, 
 ghost use Rattle.cue_disk.specs.Disk.{LeavesOnly, IsImage, MoreFailures};
 ghost use Rattle.cue_snap.specs.Pair.{NeitherHas, SomeIsThere, IsSpoiled, AfterBarrier};
 ghost use Rattle.cue_snap.specs.Words.{first_after, second_after, RefusedAs};
-ghost use Rattle.cue_core.specs.State.{Standing, empty_state};
+ghost use Rattle.cue_core.specs.State.{ShowState, empty_state};
 ghost use Rattle.cue_keeper.specs.Pairs.{LeavesPairs};
 ghost use Rattle.cue_keeper.specs.Stands.{Stands, StandsEither, StandsAs};
 ghost use Rattle.cue_keeper.specs.Refusals.{HasOtherVersion, StandsForNone, IsUnformedOrStands};
@@ -80,7 +80,7 @@ impl<D: Disk> Engine<D> {
         ensures disk { RefusedAs StoreFault.Disk (MoreFailures (D.failures first) (D.failures (first_after first_of result)) ⊎ MoreFailures (D.failures second) (D.failures (second_after second_of result))) result }
         ensures no_other { RefusedAs StoreFault.NotEmpty ⊥ result }
         // A store that stands for a state is never called unformed, damaged, of another version or malformed.
-        ensures readable { D.is_honest first → D.is_honest second → (s : Standing) → Stands (D.held first).bytes (D.held second).bytes s
+        ensures readable { D.is_honest first → D.is_honest second → (s : ShowState) → Stands (D.held first).bytes (D.held second).bytes s
             → RefusedAs StoreFault.Unformed ⊥ result × RefusedAs StoreFault.Damaged ⊥ result × RefusedAs StoreFault.Version ⊥ result × RefusedAs StoreFault.Malformed ⊥ result }
 
         // Up to the barrier a stop leaves what one at entry might have left, from then on what stands for such a state or for that state closed.

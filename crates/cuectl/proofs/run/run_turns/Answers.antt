@@ -1,5 +1,5 @@
 use Rattle.std.proofs.Common.{◌≡◌, length, refl, sym, ◌∙◌, subst, arith}
-use Rattle.cue_core.specs.State.{Standing}
+use Rattle.cue_core.specs.State.{ShowState}
 use Rattle.cue_keeper.specs.Stands.{StandsAs}
 use Rattle.cue_engine.specs.Words.{state_of, queue_of, first_of, second_of}
 use Rattle.cuectl.specs.Running.{LeavesEither}
@@ -38,7 +38,7 @@ returns-in-Ok-None-clause-ran g c =
     let told = g.W.Wire.told in
     let left = g.S.Source.left in
     let now = c.loop-taken.invariant in
-    let may_leave : Standing → Type 0 = λ after. d.is_honest (first_of old) → d.is_honest (second_of old) → StandsAs (d.held (first_of old)) (d.held (second_of old)) (state_of old) → LeavesEither (d.held (first_of new)) (d.held (second_of new)) (state_of new) after in
+    let may_leave : ShowState → Type 0 = λ after. d.is_honest (first_of old) → d.is_honest (second_of old) → StandsAs (d.held (first_of old)) (d.held (second_of old)) (state_of old) → LeavesEither (d.held (first_of new)) (d.held (second_of new)) (state_of new) after in
     ran_to_end (length c.args.buffer.now) (length c.loop-taken.buffer) (left c.args.source.now) (left c.loop-taken.source) (left c.turn_once.new.source) (state_of old) (state_of mid) (state_of new) (queue_of old) (told c.args.wire.now) (told c.loop-taken.wire) (told c.turn_once.new.wire)
     c.args.turns c.loop-taken.taken c.loop-taken.unsent may_leave now.1 now.0 (rw c.in-Ok-None.field-0-is at c.in-Ok-None.ensures.turned)
 
@@ -56,11 +56,11 @@ returns-in-Err-clause-ran g c =
     let told = g.W.Wire.told in
     let left = g.S.Source.left in
     let now = c.loop-taken.invariant in
-    let may_leave : Standing → Type 0 = λ after. d.is_honest (first_of old) → d.is_honest (second_of old) → StandsAs (d.held (first_of old)) (d.held (second_of old)) (state_of old) → LeavesEither (d.held (first_of new)) (d.held (second_of new)) (state_of new) after in
-    let left_by_turn : Standing → Type 0 = λ after. d.is_honest (first_of mid) → d.is_honest (second_of mid) → StandsAs (d.held (first_of mid)) (d.held (second_of mid)) (state_of mid) → LeavesEither (d.held (first_of new)) (d.held (second_of new)) (state_of mid) after in
+    let may_leave : ShowState → Type 0 = λ after. d.is_honest (first_of old) → d.is_honest (second_of old) → StandsAs (d.held (first_of old)) (d.held (second_of old)) (state_of old) → LeavesEither (d.held (first_of new)) (d.held (second_of new)) (state_of new) after in
+    let left_by_turn : ShowState → Type 0 = λ after. d.is_honest (first_of mid) → d.is_honest (second_of mid) → StandsAs (d.held (first_of mid)) (d.held (second_of mid)) (state_of mid) → LeavesEither (d.held (first_of new)) (d.held (second_of new)) (state_of mid) after in
     ran_to_fault (length c.args.buffer.now) (length c.loop-taken.buffer) (left c.args.source.now) (left c.loop-taken.source) (left c.turn_once.new.source) (state_of old) (state_of mid) (state_of new) (queue_of old) (told c.args.wire.now) (told c.loop-taken.wire) (told c.turn_once.new.wire)
     c.args.turns c.loop-taken.taken c.loop-taken.unsent may_leave left_by_turn c.in-Err.fault now.1
-    (λ same after leaves. λ first second stands. subst (λ (s : Standing). LeavesEither (d.held (first_of new)) (d.held (second_of new)) s after) (sym same) (leaves (now.4.1 first) (now.5.1 second) (now.6 first second stands)))
+    (λ same after leaves. λ first second stands. subst (λ (s : ShowState). LeavesEither (d.held (first_of new)) (d.held (second_of new)) s after) (sym same) (leaves (now.4.1 first) (now.5.1 second) (now.6 first second stands)))
     now.0 c.in-Err.ensures.turned
 
 pub returns-in-Err-clause-stands : goal.returns-in-Err-clause-stands
@@ -96,7 +96,7 @@ returns-clause-ran g c =
     let told = g.W.Wire.told in
     let left = g.S.Source.left in
     let now = c.loop-taken.invariant in
-    let may_leave : Standing → Type 0 = λ after. d.is_honest (first_of old) → d.is_honest (second_of old) → StandsAs (d.held (first_of old)) (d.held (second_of old)) (state_of old) → LeavesEither (d.held (first_of new)) (d.held (second_of new)) (state_of new) after in
+    let may_leave : ShowState → Type 0 = λ after. d.is_honest (first_of old) → d.is_honest (second_of old) → StandsAs (d.held (first_of old)) (d.held (second_of old)) (state_of old) → LeavesEither (d.held (first_of new)) (d.held (second_of new)) (state_of new) after in
     ran_all (length c.args.buffer.now) (left c.args.source.now) (left c.loop-taken.source) (state_of old) (state_of new) (queue_of old) (told c.args.wire.now) (told c.loop-taken.wire)
     c.args.turns c.loop-taken.taken c.loop-taken.unsent may_leave (omega (arith, c.loop-taken-test.false, now.2)) now.0
 

@@ -1,13 +1,13 @@
 use Rattle.std.specs.Prelude.{[]}
 use Rattle.std.proofs.Common.{subst}
-use Rattle.cue_core.specs.State.{Standing, empty_state}
+use Rattle.cue_core.specs.State.{ShowState, empty_state}
 use Rattle.cuectl.specs.Script.{Wrote}
 use Rattle.cuectl.proofs.ScriptLemmas.{not_formed}
 use Rattle.cuectl.proofs.script.play_anew.Goals as goal
 
 pub returns-in-Ok-clause-wrote : goal.returns-in-Ok-clause-wrote
 returns-in-Ok-clause-wrote g c =
-    let P : Standing → Type 0 = λ s. Wrote c.play_lines.result s c.args.text.now [] (g.W.Write.contents c.args.writer.now) (g.W.Write.contents c.play_lines.new.writer) in
+    let P : ShowState → Type 0 = λ s. Wrote c.play_lines.result s c.args.text.now [] (g.W.Write.contents c.args.writer.now) (g.W.Write.contents c.play_lines.new.writer) in
     subst P c.in-Ok.ensures.state c.play_lines.ensures.wrote
 
 pub returns-clause-wrote : goal.returns-clause-wrote

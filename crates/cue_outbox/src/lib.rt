@@ -10,14 +10,14 @@ mod message;
 mod out;
 mod queue;
 mod replies;
-mod status;
+mod status_reply;
 
 pub use asked::numbers_asked;
 pub use commands::{pending, pending_of};
 pub use out::{Bytes, Out};
 pub use queue::Queue;
 pub use replies::reply;
-pub use status::status;
+pub use status_reply::status;
 
 #[cfg(test)]
 mod tests;

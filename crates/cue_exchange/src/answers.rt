@@ -102,8 +102,8 @@ impl Answers {
         self.items.iter().any(|x| x.answer.is_waiting())
     }
 
-    /// Whether, as far as the devices go, the cue may be carried out.
-    pub fn all_may_go(&self) -> bool
+    // Whether, as far as the devices go, the cue may be carried out.
+    pub(crate) fn all_may_go(&self) -> bool
         ensures { result ≡ all_may_go self.now }
     {
         self.items.iter().all(|x| x.answer.is_ready())

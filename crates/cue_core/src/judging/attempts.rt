@@ -8,8 +8,8 @@ use crate::events::Events;
 use crate::judging::verdicts::{known, made, made_by_two, refused};
 use crate::limits::STANDBY_MS;
 use crate::state::State;
-use cue_exchange::attempt::{Attempt, Reason};
 use cue_exchange::limits::LAST_NUMBER;
+use cue_exchange::{Attempt, Reason};
 use cue_show::{CueNo, DeviceNo, Parts};
 
 pub(crate) fn on_standby(state: &State, now: u64, cue: CueNo) -> (Verdict, Events)

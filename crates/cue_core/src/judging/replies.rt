@@ -8,7 +8,7 @@ use crate::event::Event;
 use crate::events::Events;
 use crate::judging::verdicts::{known, made, made_by_two, refused};
 use crate::state::State;
-use cue_exchange::attempt::{Answer, Attempt, Reason, Stage};
+use cue_exchange::{Answer, Attempt, Reason, Stage};
 use cue_show::DeviceNo;
 
 pub(crate) fn on_reply(

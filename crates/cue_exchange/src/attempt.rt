@@ -140,13 +140,13 @@ impl Stage {
     pub(crate) fn knows(self, answer: Answer) -> bool
         ensures { result ≡ is_known_in self answer }
     {
-        match self {
-            Stage::Preparing => matches!(answer, Answer::Waiting | Answer::Ready),
-            Stage::Decided => matches!(answer, Answer::Waiting | Answer::Done | Answer::Failed),
-            Stage::Cancelling(_) => matches!(
-                answer,
-                Answer::Waiting | Answer::LetGo | Answer::Failed
-            ),
+        match (self, answer) {
+            (Stage::Preparing, Answer::Waiting | Answer::Ready) => true,
+            (Stage::Preparing, Answer::Done | Answer::LetGo | Answer::Failed) => false,
+            (Stage::Decided, Answer::Waiting | Answer::Done | Answer::Failed) => true,
+            (Stage::Decided, Answer::Ready | Answer::LetGo) => false,
+            (Stage::Cancelling(_), Answer::Waiting | Answer::LetGo | Answer::Failed) => true,
+            (Stage::Cancelling(_), Answer::Ready | Answer::Done) => false,
         }
     }
 }

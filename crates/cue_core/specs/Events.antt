@@ -1,4 +1,4 @@
--- Tests of one event.
+-- Helper: tests of one event.
 use Rattle.std.specs.Prelude.{ℕ, Bool, true, false, ◌&&◌, nat_eq}
 use Rattle.cue_core.specs.declared.event.Event.{Event}
 use Rattle.cue_core.specs.declared.event.Event.TheVariants.{Device, NoDevice, Cue, NoCue, Place, Start, Ready, Go, Done, Cancel, LetGo, Failed}

@@ -10,8 +10,8 @@ use Rattle.cue_core.specs.Happenings.{ticked, events_at}
 use Rattle.cue_osc.specs.Content.{Content}
 use Rattle.cue_outbox.specs.Sending.{Send, order, answer, status, status_of, all_pending, datagrams}
 use Rattle.cue_outbox.proofs.Lists.{each_append, each_flat, each_map}
-use Rattle.cue_engine.specs.declared.refusal.Refusal.{Refusal}
-use Rattle.cue_engine.specs.declared.refusal.Refusal.TheVariants as refusal
+use Rattle.cue_core.specs.declared.refusal.Refusal.{Refusal}
+use Rattle.cue_core.specs.declared.refusal.Refusal.TheVariants as refusal
 use Rattle.cue_engine.specs.Heard.{Step, Heard, refused, carried, all_counts, hear_all, all_events, replies_to, replies_or_one, shown_by, sent_to}
 use Rattle.cue_engine.specs.Given.{Input, datagram, tick, Given, given, given_by, given_heard, given_refused, are_too_many, messages_in, closed}
 use Rattle.cue_outbox.specs.New.{newly_pending, is_new}

@@ -18,7 +18,7 @@ use crate::keeping::accept_batch;
 use crate::ticking::cancels;
 use cue_core::{Event, State, undecided};
 use cue_disk::Disk;
-use cue_exchange::attempt::Reason;
+use cue_exchange::Reason;
 use cue_keeper::{Fault, Keeper};
 use cue_outbox::{Queue, pending};
 use std::alloc::{AllocError, Global};

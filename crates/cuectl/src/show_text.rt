@@ -1,6 +1,6 @@
 //! The state as text.
 use cue_core::State;
-use cue_exchange::attempt::{Attempt, Outcome, Stage};
+use cue_exchange::{Attempt, Stage};
 use cue_show::{CueNo, Parts};
 use std::alloc::{AllocError, Global};
 use std::fmt::Write;
@@ -21,15 +21,6 @@ fn cue_text(cue: &CueNo) -> &str {
     }
 }
 
-// How an attempt ended, as a number.
-fn outcome_number(outcome: Outcome) -> u8 {
-    match outcome {
-        Outcome::Complete => 1,
-        Outcome::Cancelled => 2,
-        Outcome::Failed => 3,
-    }
-}
-
 // How far an attempt has come.
 fn stage_word(stage: Stage) -> &'static str {
     match stage {
@@ -47,12 +38,7 @@ fn print_head(state: &State, text: &mut String) -> Result<(), AllocError> {
         None => writeln!(text, "place -")?,
     }
     match state.ended() {
-        Some(ended) => writeln!(
-            text,
-            "ended {} {}",
-            ended.seq,
-            outcome_number(ended.outcome)
-        ),
+        Some(ended) => writeln!(text, "ended {} {}", ended.seq, ended.outcome.number()),
         None => writeln!(text, "ended 0 0"),
     }
 }

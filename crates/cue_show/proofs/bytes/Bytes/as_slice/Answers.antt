@@ -1,6 +1,6 @@
 use Rattle.std.proofs.Common.{ℕ, ◌≡◌, ◌≤◌, get_or, arith}
 use Rattle.cue_show.proofs.BytesLemmas.{are_bytes-from_each}
-use Rattle.cue_show.proofs.part.PartBytes.as_slice.Goals as goal
+use Rattle.cue_show.proofs.bytes.Bytes.as_slice.Goals as goal
 
 pub returns-clause-bytes : goal.returns-clause-bytes
 returns-clause-bytes c =

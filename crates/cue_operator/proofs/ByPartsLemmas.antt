@@ -20,8 +20,7 @@ use Rattle.cue_operator.specs.declared.method.DeviceVerb.{DeviceVerb}
 use Rattle.cue_operator.specs.declared.method.DeviceVerb.TheVariants as on_device
 use Rattle.cue_operator.specs.declared.method.Method.{Method}
 use Rattle.cue_operator.specs.declared.method.Method.TheVariants as method
-use Rattle.cue_operator.specs.Methods.{under, address_of, cue_verb_text, device_verb_text, cue_verbs, device_verbs, fixed_methods, methods_of_cue, methods_of_device, methods}
-use Rattle.cue_operator.specs.Commands.{methods_at}
+use Rattle.cue_operator.specs.Methods.{under, address_of, cue_verb_text, device_verb_text, cue_verbs, device_verbs, fixed_methods, methods_of_cue, methods_of_device, methods, methods_at}
 use Rattle.cue_operator.specs.ByParts.{methods_if, status_by, show_by, cues_by, devices_by, MatchedByParts}
 use Rattle.cue_operator.proofs.LookUps.{both, no_slash, filter-same, filter-none, filter-mapped, filter-flat, flat-same, flat-none, entries-no_slash, numbers-no_slash}
 

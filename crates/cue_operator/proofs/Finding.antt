@@ -26,10 +26,10 @@ use Rattle.cue_operator.specs.declared.method.CueVerb.{CueVerb}
 use Rattle.cue_operator.specs.declared.method.DeviceVerb.{DeviceVerb}
 use Rattle.cue_operator.specs.declared.method.Method.{Method}
 use Rattle.cue_operator.specs.declared.method.Method.TheVariants as method
-use Rattle.cue_operator.specs.Methods.{address_of, cue_verb_text, device_verb_text, cue_verbs, device_verbs, fixed_methods, methods_of_cue, methods_of_device, methods}
+use Rattle.cue_operator.specs.Methods.{address_of, cue_verb_text, device_verb_text, cue_verbs, device_verbs, fixed_methods, methods_of_cue, methods_of_device, methods, methods_at, OneMethodAtEach}
 use Rattle.cue_operator.specs.Arguments.{command_by}
-use Rattle.cue_operator.specs.Commands.{methods_at, unless_none, commands_matched, commands_of}
-use Rattle.cue_operator.specs.LookUp.{behind_front, cut_at_slash, name_and_verb, cue_verbs_at, device_verbs_at, cue_methods_at, device_methods_at, looked_up, number_at, device_written, device_named, OneMethodAtEach}
+use Rattle.cue_operator.specs.Commands.{unless_none, commands_matched, commands_of}
+use Rattle.cue_operator.specs.LookUp.{behind_front, cut_at_slash, name_and_verb, cue_verbs_at, device_verbs_at, cue_methods_at, device_methods_at, looked_up, number_at, device_written, device_named}
 use Rattle.cue_operator.proofs.Literals.{literal-pattern}
 use Rattle.cue_operator.proofs.LookUps.{both, text_sym, equal_text, all-cues, all-devices, literal-is-looked-up}
 

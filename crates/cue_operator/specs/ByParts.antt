@@ -13,9 +13,8 @@ use Rattle.cue_operator.specs.declared.method.CueVerb.{CueVerb}
 use Rattle.cue_operator.specs.declared.method.DeviceVerb.{DeviceVerb}
 use Rattle.cue_operator.specs.declared.method.Method.{Method}
 use Rattle.cue_operator.specs.declared.method.Method.TheVariants as method
-use Rattle.cue_operator.specs.Methods.{cue_verb_text, device_verb_text, cue_verbs, device_verbs, methods}
+use Rattle.cue_operator.specs.Methods.{cue_verb_text, device_verb_text, cue_verbs, device_verbs, methods, methods_at}
 use Rattle.cue_operator.specs.Arguments.{command_by}
-use Rattle.cue_operator.specs.Commands.{methods_at}
 
 -- the commands that these methods read of the arguments
 abbrev pub reads : List Argument → List Method → List Command

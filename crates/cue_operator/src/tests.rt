@@ -13,7 +13,7 @@ use std::test::Fail;
 /// A datagram, and what it asks for.
 type Row = (&'static str, &'static str);
 
-const ASKED: [Row; 29] = [
+const ASKED: [Row; 30] = [
     // each method once
     ("/status\0,\0\0\0", "status;"),
     (
@@ -38,6 +38,8 @@ const ASKED: [Row; 29] = [
     ("/device/3/abort\0,i\0\0\0\0\0\x04", "Abort 3 4;"),
     ("/device/11/release\0\0,\0\0\0", "release 11;"),
     ("/device/3/remove\0\0\0\0,\0\0\0", "remove device 3;"),
+    // without type tags there are no arguments
+    ("/status\0", "status;"),
     // patterns: cues in stack order, then devices in table order, and the verbs of each in their order
     ("/cue/1.*/cancel\0,\0\0\0", "cancel 1.1;cancel 1.2;"),
     ("/device/*/abort\0,i\0\0\0\0\0\x07", "Abort 3 7;Abort 11 7;"),
@@ -160,12 +162,19 @@ fn told(alloc: Global, answer: &Result<Vec<Command>, Refused>) -> Result<String,
     Ok(out)
 }
 
-// What the datagram asks for, in words.
+// What the messages of the datagram ask for, in words.
 fn asked(alloc: Global, state: &State, datagram: &[u8]) -> Result<String, Fail> {
-    match read(alloc, datagram)? {
-        Packet::Message(message) => Ok(told(alloc, &commands(alloc, state, &message))?),
-        _ => Err("no message")?,
+    let mut out = String::new(alloc);
+    let packet = read(alloc, datagram)?;
+    for item in packet.messages(alloc)? {
+        match item {
+            Packet::Message(message) => {
+                out.push_str(&told(alloc, &commands(alloc, state, message))?)?;
+            }
+            _ => Err("no message")?,
+        }
     }
+    Ok(out)
 }
 
 fn compare(rt: &impl Abort, alloc: Global, state: &State, rows: &[Row]) -> Result<(), Fail> {
@@ -175,12 +184,63 @@ fn compare(rt: &impl Abort, alloc: Global, state: &State, rows: &[Row]) -> Resul
     Ok(())
 }
 
+// A bundle of so many equal messages.
+fn bundle(alloc: Global, message: &str, count: u32) -> Result<Vec<u8>, Fail> {
+    let mut bytes = Vec::from_slice(alloc, b"#bundle\0\0\0\0\0\0\0\0\x01")?;
+    for _ in 0..count {
+        bytes.extend_from_slice(&u32::try_from(message.len())?.to_be_bytes())?;
+        bytes.extend_from_slice(message.as_bytes())?;
+    }
+    Ok(bytes)
+}
+
+// An address of a slash and 4,090 stars, without type tags.
+fn stars(alloc: Global) -> Result<Vec<u8>, AllocError> {
+    let mut bytes = Vec::from_slice(alloc, b"/")?;
+    for _ in 0..4090 {
+        bytes.push(b'*')?;
+    }
+    bytes.push(0)?;
+    Ok(bytes)
+}
+
+// The longest address, and the most messages that fit in a datagram.
+fn compare_longest(rt: &impl Abort, alloc: Global, state: &State) -> Result<(), Fail> {
+    assert_eq!(rt; asked(alloc, state, &stars(alloc)?)?.as_str(), "status;");
+    let datagram = bundle(alloc, "/status\0", 340)?;
+    assert_eq!(rt; datagram.len(), 4096);
+    assert_eq!(rt;
+        asked(alloc, state, &datagram)?.as_str(),
+        "status;".repeat(alloc, 340)?.as_str()
+    );
+    Ok(())
+}
+
+// Cues 1 to 256, and what a pattern that matches them all asks for, three times.
+fn compare_many(rt: &impl Abort, alloc: Global, state: &mut State) -> Result<(), Fail> {
+    let mut wanted = String::new(alloc);
+    add_device(rt, state, 3, 9001)?;
+    for number in 1..=256u16 {
+        add_cue(rt, alloc, state, &format!(in alloc; "{number}")?)?;
+        write!(&mut wanted, "goto {number};")?;
+    }
+    let datagram = bundle(alloc, "/cue/*/goto\0", 3)?;
+    assert_eq!(rt;
+        asked(alloc, state, &datagram)?.as_str(),
+        wanted.repeat(alloc, 3)?.as_str()
+    );
+    Ok(())
+}
+
 fn ask_each(rt: &impl Abort, alloc: Global, state: &mut State) -> Result<(), Fail> {
     make_show(rt, alloc, state)?;
-    compare(rt, alloc, state, &ASKED)
+    compare(rt, alloc, state, &ASKED)?;
+    compare_longest(rt, alloc, state)
 }
 
 #[test]
 fn messages_ask_for_commands(rt: HostRuntime) -> Result<(), Fail> {
-    ask_each(&rt, rt.alloc(), &mut State::empty(rt.alloc()))
+    let alloc = rt.alloc();
+    ask_each(&rt, alloc, &mut State::empty(alloc))?;
+    compare_many(&rt, alloc, &mut State::empty(alloc))
 }

@@ -287,7 +287,7 @@ module _ (s : ShowState) (t : Attempt → Bool) (a : Attempt) (w : DeviceAnswer)
   -- Cancel, and then an answer of the device to it
   cancel_fits_then : (r : Reason) (x : Answer) (last : Event) (stage : Stage → Bool) → a.stage ≡ Preparing → answer_of a.answers w.device ≡ Some x → IsTrue (stage (Cancelling r))
       → (IsTrue (holds a.seq (waits_in stage w.device) (moved a.seq (Cancelling r) s.live)) → IsTrue (acceptable (after s (event.Cancel a.seq r)) last)) → IsTrue (are_acceptable s (event.Cancel a.seq r ∷ last ∷ []))
-  cancel_fits_then r x last stage f g k then = let h = cancelled_then s t a r w.device stage e (rw f refl) (answer_told w.device a.answers x g).0 k in two s (event.Cancel a.seq r) last h.0 (then h.1)
+  cancel_fits_then r x last stage f g k fits = let h = cancelled_then s t a r w.device stage e (rw f refl) (answer_told w.device a.answers x g).0 k in two s (event.Cancel a.seq r) last h.0 (fits h.1)
 
   release_in_fits : (stage : Stage) (x : Answer) → a.stage ≡ stage → answer_of a.answers w.device ≡ Some x → IsTrue (are_acceptable s (on_release_in a.seq w stage x).1)
   release_in_fits Preparing answer.Waiting f g = cancel_fits_then Release answer.Waiting (event.LetGo a.seq w.device) is_cancelling f g refl (λ h. h)

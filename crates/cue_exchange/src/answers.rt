@@ -1,6 +1,7 @@
 //! The answers of an attempt: its devices in part order, each with what it has answered.
 ghost use Rattle.std.specs.Prelude.{◌≡◌, not};
 ghost use Rattle.std.specs.List.{list_all};
+ghost use Rattle.std.specs.Option.{option_copied};
 ghost use Rattle.cue_show.specs.Devices.{distinct, disjoint};
 ghost use Rattle.cue_exchange.specs.Live.{are_sound_devices};
 ghost use Rattle.cue_exchange.specs.Answers.{is_waiting, device_answer, answer_passes, is_one_of, some_waits, all_may_go, all_have_done, with_answer, answers_with, devices_of, stands, entered, enters};
@@ -49,10 +50,10 @@ impl Answers {
     }
 
     /// The device with its answer; none where it is not one of the attempt.
-    pub fn device_answer(&self, device: DeviceNo) -> Option<DeviceAnswer>
-        ensures { result ≡ device_answer self.now device }
+    pub fn device_answer(&self, device: DeviceNo) -> Option<&DeviceAnswer>
+        ensures { option_copied result ≡ device_answer self.now device }
     {
-        self.items.iter().find(|x| x.device == device).copied()
+        self.items.iter().find(|x| x.device == device)
     }
 
     // Whether the device is one of the attempt.

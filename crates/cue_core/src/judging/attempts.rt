@@ -120,7 +120,7 @@ fn on_release_of(attempt: &Attempt, device: DeviceNo) -> (Verdict, Events)
 {
     match attempt.answers.device_answer(device) {
         None => refused(Code::NotLive),
-        Some(told) => on_release_in(attempt.seq, told, attempt.stage),
+        Some(told) => on_release_in(attempt.seq, *told, attempt.stage),
     }
 }
 

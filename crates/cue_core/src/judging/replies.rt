@@ -52,7 +52,7 @@ fn on_reply_to(attempt: &Attempt, kind: ReplyKind, device: DeviceNo) -> (Verdict
 {
     match attempt.answers.device_answer(device) {
         None => refused(Code::NotPart),
-        Some(told) => on_reply_in(kind, attempt.seq, told, attempt.stage),
+        Some(told) => on_reply_in(kind, attempt.seq, *told, attempt.stage),
     }
 }
 

@@ -68,7 +68,7 @@ fn bytes_of_both_disks(rt: HostRuntime) -> Result<(), Fail> {
 }
 
 // Both disks with these areas.
-fn stored(alloc: Global, first: &[u8], second: &[u8]) -> Result<Disks, AllocError> {
+pub(super) fn stored(alloc: Global, first: &[u8], second: &[u8]) -> Result<Disks, AllocError> {
     Ok(Disks {
         first: MemDisk::from_bytes(alloc, first)?,
         second: MemDisk::from_bytes(alloc, second)?,
@@ -76,7 +76,12 @@ fn stored(alloc: Global, first: &[u8], second: &[u8]) -> Result<Disks, AllocErro
 }
 
 // An area of this generation: a snapshot, and the records behind it.
-fn area(alloc: Global, generation: u64, snapshot: &[u8], records: &[u8]) -> Result<Vec<u8>, Fail> {
+pub(super) fn area(
+    alloc: Global,
+    generation: u64,
+    snapshot: &[u8],
+    records: &[u8],
+) -> Result<Vec<u8>, Fail> {
     let mut bytes = Vec::from_slice(alloc, &[1])?;
     bytes.extend_from_slice(&generation.to_be_bytes())?;
     bytes.extend_from_slice(&u32::try_from(snapshot.len())?.to_be_bytes())?;
@@ -86,15 +91,14 @@ fn area(alloc: Global, generation: u64, snapshot: &[u8], records: &[u8]) -> Resu
     Ok(bytes)
 }
 
-// A state with device 3 and 256 cues of it, named 000 to 377.
-fn many_cues(alloc: Global) -> Result<Vec<u8>, AllocError> {
+// A state with device 3 and cues 1 to 256 of it.
+fn many_cues(alloc: Global) -> Result<Vec<u8>, Fail> {
     let mut text = Vec::from_slice(alloc, &[1, 1, 3, 0x23, 0x29, 1, 0])?;
-    for a in b'0'..b'4' {
-        for b in b'0'..b'8' {
-            for c in b'0'..b'8' {
-                text.extend_from_slice(&[3, a, b, c, 1, 3, 0])?;
-            }
-        }
+    for number in 1..=256u16 {
+        let name = format!(in alloc; "{number}")?;
+        text.push(u8::try_from(name.len())?)?;
+        text.extend_from_slice(name.as_bytes())?;
+        text.extend_from_slice(&[1, 3, 0])?;
     }
     text.extend_from_slice(&[0; 11])?;
     Ok(text)
@@ -126,6 +130,17 @@ const THREE_OF_ALL: &[u8] =
 const TWO_OF_ALL: &[u8] =
     b"#bundle\0\0\0\0\0\0\0\0\x01\0\0\0\x0c/cue/*/goto\0\0\0\0\x0c/cue/*/goto\0";
 
+// One cue more than a show has room for.
+const NO_ROOM: [Step; 2] = [
+    Step::Hears(
+        0,
+        8000,
+        b"/show/cue\0\0\0,sib\0\0\0\0257\0\0\0\0\x03\0\0\0\0",
+        [0, 0, 1],
+    ),
+    Step::Answers(8000, b"/show/cue", [0, 0, 1, 7]),
+];
+
 const TOO_MANY: [Step; 2] = [
     Step::Hears(0, 8000, THREE_OF_ALL, [0, 0, 1]),
     Step::Answers(8000, b"", [0, 0, 1, 33]),
@@ -142,11 +157,11 @@ fn commands_in_one_datagram(rt: HostRuntime) -> Result<(), Fail> {
     let alloc = rt.alloc();
     let bytes = area(alloc, 1, &many_cues(alloc)?, &[])?;
     let disks = stored(alloc, &bytes, &[])?;
-    let disks = play(&rt, alloc, disks, &[&TOO_MANY])?;
+    let disks = play(&rt, alloc, disks, &[&NO_ROOM, &TOO_MANY])?;
     assert_eq!(rt; disks.first.bytes(), bytes.as_slice());
     let disks = play(&rt, alloc, disks, &[&JUST_ENOUGH])?;
-    // One record: a gate, a length, a count and 512 places of five bytes.
-    assert_eq!(rt; disks.first.bytes().len(), bytes.len().saturating_add(2567));
+    // One record: a gate, a length, a count and 512 places of three to five bytes.
+    assert_eq!(rt; disks.first.bytes().len(), bytes.len().saturating_add(2351));
     Ok(())
 }
 

@@ -1,5 +1,6 @@
 pub mod Endings
 pub mod Lines
+pub mod MemSources
 pub mod Playing
 pub mod Running
 pub mod Script

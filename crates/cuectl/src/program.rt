@@ -1,4 +1,5 @@
 //! The program: what each command does, prints and answers.
+use crate::evening_log::LoggedWire;
 use crate::line::line;
 use crate::line::words::{Line, LineFault};
 use crate::run::{Ended, RunFault, run};
@@ -182,7 +183,7 @@ fn show<R: Files<File = File> + Eprint, W: Write>(
 }
 
 // Runs the show over a socket.
-fn serve_on<'a, R: Clock>(
+fn serve_on<'a, R: Clock + Eprint>(
     rt: &'a R,
     alloc: Global,
     engine: &mut Engine<FileDisk>,
@@ -191,7 +192,7 @@ fn serve_on<'a, R: Clock>(
     turns: u64,
 ) -> io::Result<Ended> {
     let mut source = UdpSource::new(rt, socket, port)?;
-    let mut wire = UdpWire::new(socket);
+    let mut wire = LoggedWire::new(rt, alloc, UdpWire::new(socket));
     Ok(run(alloc, engine, &mut source, &mut wire, turns))
 }
 

@@ -66,6 +66,11 @@ def free_port():
         return wire.getsockname()[1]
 
 
+def device_port(k):
+    """The k-th port for a device, k below 10; another one in each process, so that two tests may run at once."""
+    return 20000 + os.getpid() % 1200 * 10 + k
+
+
 class Serve:
     """`cuectl serve` of a folder, as a child."""
 

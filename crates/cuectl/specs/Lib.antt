@@ -6,6 +6,7 @@ pub mod Running
 pub mod Script
 pub mod ScriptLines
 pub mod ScriptViews
+pub mod ShowText
 pub mod Sources
 pub mod Streams
 pub mod Udp

@@ -1,4 +1,4 @@
--- A script that is being run.
+-- Helper: a script that is being run, step by step.
 use Rattle.std.specs.Prelude.{◌≡◌, ℕ, Bool, false, List, [], Option, Some, None}
 use Rattle.std.specs.Io.KnownBytes.{Appends}
 use Rattle.cue_core.specs.State.{ShowState}

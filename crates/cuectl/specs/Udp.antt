@@ -1,4 +1,4 @@
--- What came lies within the buffer.
+-- Helper: what came lies within the buffer; when a tick is due.
 use Rattle.std.specs.Prelude.{◌≤◌, ◌-◌, ◌||◌, ℕ, Bool, nat_le, nat_lt, Option, Some, None, Ok}
 use Rattle.cuectl.specs.declared.udp.Came.{Came}
 use Rattle.cuectl.specs.declared.udp.Came.TheVariants as came

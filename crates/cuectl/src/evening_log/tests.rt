@@ -64,7 +64,12 @@ const ORDERS: [(&str, bool); 5] = [
 ];
 
 // The line of a datagram; empty where it has none.
-fn told(alloc: Global, firsts: &mut Firsts, port: u16, digits: &str) -> Result<String, Fail> {
+fn line_or_none(
+    alloc: Global,
+    firsts: &mut Firsts,
+    port: u16,
+    digits: &str,
+) -> Result<String, Fail> {
     let datagram = hex::decode(alloc, digits)?;
     match line_of(alloc, firsts, port, &datagram) {
         Some(text) => Ok(text),
@@ -77,7 +82,7 @@ fn told(alloc: Global, firsts: &mut Firsts, port: u16, digits: &str) -> Result<S
 fn lines(rt: HostRuntime) -> Result<(), Fail> {
     for (port, digits, line) in LINES {
         let mut firsts = Firsts::new();
-        let text = told(rt.alloc(), &mut firsts, port, digits)?;
+        let text = line_or_none(rt.alloc(), &mut firsts, port, digits)?;
         assert!(rt; text.as_str() == line, "{text}");
     }
     Ok(())
@@ -88,7 +93,7 @@ fn lines(rt: HostRuntime) -> Result<(), Fail> {
 fn repeats(rt: HostRuntime) -> Result<(), Fail> {
     let mut firsts = Firsts::new();
     for (digits, told) in ORDERS {
-        let text = told(rt.alloc(), &mut firsts, 9001, digits)?;
+        let text = line_or_none(rt.alloc(), &mut firsts, 9001, digits)?;
         assert!(rt; text.is_empty() != told, "{digits}");
     }
     Ok(())

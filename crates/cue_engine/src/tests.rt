@@ -13,23 +13,23 @@ mod rows;
 mod stops;
 
 #[derive(Clone, Copy)]
-enum Step<'a> {
+enum Step {
     /// A datagram at a moment from a port, and how many commands were made, known and refused. All that is owed is then handed over.
-    Hears(u64, u16, &'a [u8], [u16; 3]),
+    Hears(u64, u16, &'static [u8], [u16; 3]),
     /// The same, but nothing is handed over.
-    Keeps(u64, u16, &'a [u8], [u16; 3]),
+    Keeps(u64, u16, &'static [u8], [u16; 3]),
     /// A datagram that meets a fault.
-    Fails(u64, u16, &'a [u8], Fault),
+    Fails(u64, u16, &'static [u8], Fault),
     /// A tick at a moment, and how many attempts it cancelled.
     Ticks(u64, u16),
     /// The k-th send from now is refused.
     Refuses(u64),
     /// A reply comes next: to a port, for an address, with four numbers.
-    Answers(u16, &'a [u8], [u32; 4]),
+    Answers(u16, &'static [u8], [u32; 4]),
     /// This datagram comes next.
-    Sends(u16, &'a [u8]),
+    Sends(u16, &'static [u8]),
     /// So many datagrams that begin with these bytes come next.
-    SendsMany(usize, &'a [u8]),
+    SendsMany(usize, &'static [u8]),
 }
 
 #[derive(Drop)]
@@ -125,7 +125,7 @@ fn carry_out(
     alloc: Global,
     engine: &mut Engine<MemDisk>,
     told: &mut Told,
-    step: &Step<'_>,
+    step: &Step,
 ) -> Result<(), Fail> {
     match step {
         Step::Hears(now, from, bytes, counts) => {
@@ -164,7 +164,7 @@ fn follow(
     rt: &impl Abort,
     alloc: Global,
     engine: &mut Engine<MemDisk>,
-    parts: &[&[Step<'_>]],
+    parts: &[&[Step]],
 ) -> Result<(), Fail> {
     let mut told = Told {
         wire: MemWire::new(alloc),
@@ -193,12 +193,7 @@ fn form(alloc: Global, first: MemDisk, second: MemDisk) -> Result<Disks, StoreFa
 }
 
 // Recovers a show from two disks, takes the steps in turn, and closes it.
-fn play(
-    rt: &impl Abort,
-    alloc: Global,
-    disks: Disks,
-    parts: &[&[Step<'_>]],
-) -> Result<Disks, Fail> {
+fn play(rt: &impl Abort, alloc: Global, disks: Disks, parts: &[&[Step]]) -> Result<Disks, Fail> {
     let Disks { first, second } = disks;
     match Engine::recover(alloc, first, second) {
         Err((fault, _, _)) => Err(fault.into()),
@@ -212,7 +207,7 @@ fn play(
 }
 
 // A store that was formed, and took these steps.
-fn show(rt: &impl Abort, alloc: Global, parts: &[&[Step<'_>]]) -> Result<Disks, Fail> {
+fn show(rt: &impl Abort, alloc: Global, parts: &[&[Step]]) -> Result<Disks, Fail> {
     let disks = form(alloc, MemDisk::new(alloc), MemDisk::new(alloc))?;
     play(rt, alloc, disks, parts)
 }

@@ -51,7 +51,7 @@ fn recover(
     alloc: Global,
     disks: &Disks,
     junk: u8,
-    wanted: &[Step<'_>],
+    wanted: &[Step],
 ) -> Result<(), Fail> {
     for extra in [0, 1, u64::MAX] {
         play(rt, alloc, crash(disks, extra, &[junk])?, &[wanted])?;

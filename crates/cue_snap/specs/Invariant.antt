@@ -2,7 +2,7 @@
 use Rattle.std.specs.Prelude.{◌≡◌, false}
 use Rattle.cue_disk.specs.Disk.{Contents}
 use Rattle.cue_log.specs.Log.{ReadsAs}
-use Rattle.cue_log.specs.Words.{disk_of, generation_of, is_broken, area_of}
+use Rattle.cue_log.specs.Observed.{disk_of, generation_of, is_broken, area_of}
 use Rattle.cue_log.specs.declared.log.Log.{Log}
 use Rattle.cue_snap.specs.Pair.{LeavesOlder}
 

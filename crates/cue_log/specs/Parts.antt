@@ -1,4 +1,4 @@
--- The area that was read.
+-- Helper: the area that was read.
 use Rattle.cue_log.specs.Area.{Area}
 use Rattle.cue_log.specs.declared.reading.Parts.{Parts}
 

@@ -1,4 +1,4 @@
--- What each of two disks was found to have, and what is chosen of the two.
+-- Helper: what each of two disks was found to have, and what is chosen of the two.
 use Rattle.std.specs.Prelude.{◌≡◌, Bool, false, length}
 use Rattle.cue_disk.specs.Disk.{Contents}
 use Rattle.cue_log.specs.Log.{ReadsAs, LeavesAbsent, IsDamaged}

@@ -1,4 +1,4 @@
--- What a pair keeps of its live log.
+-- Helper: what a pair that is not broken keeps of its live log and of its spare disk.
 use Rattle.std.specs.Prelude.{◌≡◌, false}
 use Rattle.cue_disk.specs.Disk.{Contents}
 use Rattle.cue_log.specs.Log.{ReadsAs}

@@ -3,7 +3,7 @@ use Rattle.std.proofs.Common.{◌≡◌, inr, ℕ, ◌+◌, ◌-◌, ◌^◌, �
 use Rattle.cue_disk.specs.Disk.{Contents, IsImage}
 use Rattle.cue_log.specs.Area.{area_text}
 use Rattle.cue_log.specs.declared.area.TheConstants.{AREA_LIMIT}
-use Rattle.cue_snap.specs.Words.{first_after, second_after}
+use Rattle.cue_snap.specs.Observed.{first_after, second_after}
 use Rattle.cue_core.specs.State.{ShowState}
 use Rattle.cue_records.specs.State.{state_text}
 use Rattle.cue_keeper.specs.Due.{is_due}

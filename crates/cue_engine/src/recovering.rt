@@ -5,9 +5,9 @@ ghost use Rattle.cue_log.specs.declared.area.TheConstants.{AREA_LIMIT};
 ghost use Rattle.cue_core.specs.Happenings.{events_at, recovered};
 ghost use Rattle.cue_core.specs.Steps.{are_acceptable};
 ghost use Rattle.cue_records.specs.State.{state_text};
-ghost use Rattle.cue_keeper.specs.Pairs.{LeavesPairs};
+ghost use Rattle.cue_keeper.specs.Pairs.{LeavesPairsAtEachMoment};
 ghost use Rattle.cue_keeper.specs.Stands.{StandsEither, StandsAs};
-ghost use Rattle.cue_keeper.specs.Words.{state_of, pair_of, first_of, second_of, is_broken, generation_of, is_due};
+ghost use Rattle.cue_keeper.specs.Observed.{state_of, pair_of, first_of, second_of, is_broken, generation_of, is_due};
 ghost use Rattle.cue_outbox.specs.Sending.{datagrams, all_pending};
 ghost use Rattle.cue_engine.specs.Given.{closed};
 ghost use Rattle.cue_engine.specs.Recovery.{cancels_length};
@@ -91,7 +91,7 @@ pub(crate) fn close_undecided<D: Disk>(
     ensures disk { IsErrOf result Fault.Disk → MoreFailures (D.failures (first_of keeper.old)) (D.failures (first_of keeper.new)) ⊎ MoreFailures (D.failures (second_of keeper.old)) (D.failures (second_of keeper.new)) }
     ensures works { OnOk result (is_broken keeper.new ≡ false) }
     ensures any_moment { D.is_honest (first_of keeper.old) → D.is_honest (second_of keeper.old)
-        → LeavesPairs D.moment D.held_at (first_of keeper.old) (second_of keeper.old) (first_of keeper.new) (second_of keeper.new) (StandsEither (state_of keeper.old) (closed (state_of keeper.old))) }
+        → LeavesPairsAtEachMoment D.moment D.held_at (first_of keeper.old) (second_of keeper.old) (first_of keeper.new) (second_of keeper.new) (StandsEither (state_of keeper.old) (closed (state_of keeper.old))) }
     ensures accepted { D.is_honest (first_of keeper.old) → D.is_honest (second_of keeper.old) → OnOk result (StandsAs (D.held (first_of keeper.new)) (D.held (second_of keeper.new)) (closed (state_of keeper.old))) }
     ensures first_failures { D.failures (first_of keeper.old) ≤ D.failures (first_of keeper.new) }
     ensures second_failures { D.failures (second_of keeper.old) ≤ D.failures (second_of keeper.new) }

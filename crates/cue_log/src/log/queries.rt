@@ -8,7 +8,7 @@ impl<D: Disk> Log<D> {
     ghost use Rattle.std.specs.Prelude.{◌≡◌, ◌≤◌, ◌+◌, ◌↔◌, false, length, IsTrue};
     ghost use Rattle.cue_log.specs.Area.{area_text};
     ghost use Rattle.cue_log.specs.Log.{ReadsAs};
-    ghost use Rattle.cue_log.specs.Words.{disk_of, generation_of, end_of, count_of, is_broken, area_of};
+    ghost use Rattle.cue_log.specs.Observed.{disk_of, generation_of, end_of, count_of, is_broken, area_of};
 
     /// Whether the area's text would stay within `AREA_LIMIT` with this record.
     pub fn has_room(&self, added: &Record) -> bool

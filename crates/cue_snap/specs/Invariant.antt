@@ -1,8 +1,8 @@
--- What a pair keeps of its live log.
+-- Helper: what a pair that is not broken keeps of its live log and of its spare disk.
 use Rattle.std.specs.Prelude.{◌≡◌, false}
 use Rattle.cue_disk.specs.Disk.{Contents}
 use Rattle.cue_log.specs.Log.{ReadsAs}
-use Rattle.cue_log.specs.Words.{disk_of, generation_of, is_broken, area_of}
+use Rattle.cue_log.specs.Observed.{disk_of, generation_of, is_broken, area_of}
 use Rattle.cue_log.specs.declared.log.Log.{Log}
 use Rattle.cue_snap.specs.Pair.{LeavesOlder}
 

@@ -8,7 +8,7 @@ impl<D: Disk> Snap<D> {
     ghost use Rattle.cue_log.specs.declared.area.TheConstants.{AREA_LIMIT};
     ghost use Rattle.cue_log.specs.Area.{area_text};
     ghost use Rattle.cue_snap.specs.Pair.{PairLeaves};
-    ghost use Rattle.cue_snap.specs.Words.{live_of, spare_of, first_of, second_of, generation_of, end_of, count_of, is_broken, area_of};
+    ghost use Rattle.cue_snap.specs.Observed.{live_of, spare_of, first_of, second_of, generation_of, end_of, count_of, is_broken, live_area_of};
 
     /// Whether the live area's text would stay within its limit with this record.
     pub fn has_room(&self, added: &Record) -> bool
@@ -20,7 +20,7 @@ impl<D: Disk> Snap<D> {
     /// The generation of the live area.
     pub fn generation(&self) -> u64
         ensures number { result ≡ generation_of self.now }
-        ensures area { D.is_honest (live_of self.now) → is_broken self.now ≡ false → result ≡ (area_of D.held self.now).generation }
+        ensures area { D.is_honest (live_of self.now) → is_broken self.now ≡ false → result ≡ (live_area_of D.held self.now).generation }
     {
         self.log.generation()
     }
@@ -28,7 +28,7 @@ impl<D: Disk> Snap<D> {
     /// How many records the live area has.
     pub fn count(&self) -> u64
         ensures number { result ≡ count_of self.now }
-        ensures area { D.is_honest (live_of self.now) → is_broken self.now ≡ false → result ≡ length (area_of D.held self.now).payloads }
+        ensures area { D.is_honest (live_of self.now) → is_broken self.now ≡ false → result ≡ length (live_area_of D.held self.now).payloads }
     {
         self.log.count()
     }
@@ -38,9 +38,9 @@ impl<D: Disk> Snap<D> {
         ensures broken { result ≡ is_broken self.now }
         // A pair that is not broken reads as its live area, whatever a stop leaves.
         ensures reads { D.is_honest (live_of self.now) → D.is_honest (spare_of self.now) → is_broken self.now ≡ false
-            → PairLeaves (D.held (live_of self.now)) (D.held (spare_of self.now)) (area_of D.held self.now) }
-        ensures numbered { D.is_honest (live_of self.now) → is_broken self.now ≡ false → generation_of self.now ≡ (area_of D.held self.now).generation }
-        ensures ends { D.is_honest (live_of self.now) → is_broken self.now ≡ false → end_of self.now ≡ length (area_text (area_of D.held self.now)) }
+            → PairLeaves (D.held (live_of self.now)) (D.held (spare_of self.now)) (live_area_of D.held self.now) }
+        ensures numbered { D.is_honest (live_of self.now) → is_broken self.now ≡ false → generation_of self.now ≡ (live_area_of D.held self.now).generation }
+        ensures ends { D.is_honest (live_of self.now) → is_broken self.now ≡ false → end_of self.now ≡ length (area_text (live_area_of D.held self.now)) }
     {
         let _broken = self.log.is_broken();
         self.broken
@@ -51,7 +51,7 @@ impl<D: Disk> Snap<D> {
         ensures first { result.0 ≡ first_of self }
         ensures second { result.1 ≡ second_of self }
         ensures reads { D.is_honest (live_of self) → D.is_honest (spare_of self) → is_broken self ≡ false
-            → PairLeaves (D.held result.0) (D.held result.1) (area_of D.held self) }
+            → PairLeaves (D.held result.0) (D.held result.1) (live_area_of D.held self) }
     {
         let Snap {
             log,

@@ -2,7 +2,7 @@
 use Rattle.std.specs.Prelude.{◌≡◌, ◌≢◌, ℕ, Bool, if◌then◌else◌, Result, Ok, Err}
 use Rattle.cue_disk.specs.Disk.{Contents}
 use Rattle.cue_log.specs.Area.{Area}
-use Rattle.cue_log.specs.Words as log
+use Rattle.cue_log.specs.Observed as log
 use Rattle.cue_snap.specs.declared.snap.Snap.{Snap}
 
 -- the disk with the area that counts, and the other one
@@ -40,8 +40,8 @@ abbrev pub is_broken : {D : Type 0} {disk : _} → Snap D disk → Bool
 is_broken snap = snap.broken
 
 -- the area that the live disk holds, over what the disk's type tells of it
-abbrev pub area_of : {D : Type 0} {disk : _} → (D → Contents) → Snap D disk → Area
-area_of held snap = log.area_of held snap.log
+abbrev pub live_area_of : {D : Type 0} {disk : _} → (D → Contents) → Snap D disk → Area
+live_area_of held snap = log.area_of held snap.log
 
 -- the disk that a turn-over writes: the spare one at entry, which is live after Ok
 abbrev pub turned : {E D : Type 0} {disk : _} {T : Type 0} → Result T E → Snap D disk → D

@@ -23,7 +23,8 @@ use Rattle.cue_core.specs.State.{is_at_cue}
 use Rattle.cue_core.proofs.Conditions.{both}
 use Rattle.cue_core.proofs.Rules.{rules_of}
 use Rattle.cue_records.specs.Fields.{byte_text, short_text, number_text, moment_text, text_text, part_text, parts_text, entry_text, new_cue_text}
-use Rattle.cue_records.specs.State.{table_text, stack_text, place_text, show_text, outcome_number, ended_text, stage_number, answer_number, answers_text, attempt_text, live_text}
+use Rattle.cue_exchange.specs.Outcomes.{outcome_number}
+use Rattle.cue_records.specs.State.{table_text, stack_text, place_text, show_text, ended_text, stage_number, answer_number, answers_text, attempt_text, live_text}
 use Rattle.cue_records.specs.Laws.{StateTextsAreBounded}
 use Rattle.cue_records.proofs.AttemptLaws.{parts_found}
 use Rattle.cue_records.proofs.Fitting.{cue_fits, attempt_cue_fits}

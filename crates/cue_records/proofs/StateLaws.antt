@@ -1,5 +1,5 @@
 -- States: what is read is spelled so and keeps the rules, and is read again.
-use Rattle.std.proofs.Common.{◌≡◌, ℕ, ◌≤◌, Bool, true, false, cond, not, ◌&&◌, ◌==◌, List, [], ◌∷◌, ◌++◌, length, Option, Some, None, Result, Ok, Err, IsTrue, nat_le, refl, sym, ap, subst, ◌∙◌, arith}
+use Rattle.std.proofs.Common.{◌≡◌, ℕ, ◌≤◌, Bool, true, false, cond, nat_eq, not, ◌&&◌, ◌==◌, List, [], ◌∷◌, ◌++◌, length, Option, Some, None, Result, Ok, Err, IsTrue, nat_le, refl, sym, ap, subst, ◌∙◌, arith}
 use Rattle.std.specs.Prelude.{IfOk, IsErrOf, is_some}
 use Rattle.std.specs.List.{list_all}
 use Rattle.std.specs.Int.{w32}
@@ -8,12 +8,14 @@ use Rattle.std.proofs.lemmas.List.{append-nil, nil_from_length}
 use Rattle.cue_show.specs.Bytes.{are_bytes}
 use Rattle.cue_show.specs.Number.{is_cue_number}
 use Rattle.cue_show.specs.Show.{ShowLists, empty_show}
+use Rattle.cue_exchange.specs.Outcomes.{outcome_number, outcome_numbered}
 use Rattle.cue_exchange.specs.Live.{is_number, is_moment, is_attempt, are_live, attempt_of}
 use Rattle.cue_exchange.specs.declared.attempt.Attempt.{Attempt}
 use Rattle.cue_exchange.specs.declared.attempt.Outcome.{Outcome}
 use Rattle.cue_exchange.specs.declared.attempt.Outcome.TheVariants as outcome
 use Rattle.cue_exchange.specs.declared.limits.TheConstants.{LAST_NUMBER}
 use Rattle.cue_exchange.proofs.Lists.{all_given}
+use Rattle.cue_exchange.proofs.LookUps.{find-passes}
 use Rattle.cue_exchange.proofs.LiveRules.{attempts_of}
 use Rattle.cue_core.specs.declared.event.Ended.{Ended}
 use Rattle.cue_core.specs.State.{ShowState, is_at_cue, is_ended, is_state}
@@ -24,12 +26,12 @@ use Rattle.cue_records.specs.declared.fault.StateFault.{StateFault}
 use Rattle.cue_records.specs.declared.fault.StateFault.TheVariants.{Version, Malformed, Memory}
 use Rattle.cue_records.specs.declared.state.TheConstants.{VERSION}
 use Rattle.cue_records.specs.Fields.{byte_text, number_text}
-use Rattle.cue_records.specs.State.{show_text, outcome_number, ended_text, live_text, state_text, IsNoState}
+use Rattle.cue_records.specs.State.{show_text, ended_text, live_text, state_text, IsNoState}
 use Rattle.cue_records.specs.Laws.{StatesAreReadBack, StateTextsDiffer}
 use Rattle.cue_records.specs.Reading.{◌>>=◌, where_it, number_at}
-use Rattle.cue_records.specs.StateReading.{GivesState, outcome_of, ended_of, ended_at, show_at, live_at, tail_of, checked, standing_of, state_of}
+use Rattle.cue_records.specs.StateReading.{GivesState, ended_of, ended_at, show_at, live_at, tail_of, checked, standing_of, state_of}
 use Rattle.cue_records.proofs.AttemptLaws.{attempt_fits, are_live_at, live_takes, live_again}
-use Rattle.cue_records.proofs.FieldLaws.{byte_field, step_number}
+use Rattle.cue_records.proofs.FieldLaws.{byte_field}
 use Rattle.cue_records.proofs.Fitting.{attempt_cue_fits}
 use Rattle.cue_records.proofs.Numbers.{field32}
 use Rattle.cue_records.proofs.Ranges.{live_short}
@@ -38,11 +40,8 @@ use Rattle.cue_records.proofs.Taking.{IsField, bind_some, where_some, some_is, b
 
 -- ---- the attempt that ended last
 
-outcome_numbered : (n : ℕ) (o : Outcome) → outcome_of n ≡ Some o → outcome_number o ≡ n
-outcome_numbered n =
-    step_number outcome_number n 1 outcome.Complete _ refl
-    (step_number outcome_number n 2 outcome.Cancelled _ refl
-    (step_number outcome_number n 3 outcome.Failed None refl (λ o e. absurd cc)))
+outcome_again : (n : ℕ) (o : Outcome) → outcome_numbered n ≡ Some o → outcome_number o ≡ n
+outcome_again n o e = eqb-true (outcome_number o) n (find-passes (λ k. nat_eq (outcome_number k) n) (outcome.Complete ∷ outcome.Cancelled ∷ outcome.Failed ∷ []) o e)
 
 -- the numbers of an attempt that ended
 abbrev ended_numbers : Option Ended → ℕ × ℕ
@@ -59,15 +58,15 @@ EndedIs x o = (ended_numbers o ≡ x) × IsTrue (ended_fits o)
 ended_numbered : (x : ℕ × ℕ) (o : Option Ended) → IsTrue (nat_le x.0 4294967295 && nat_le x.1 255) → ended_of x ≡ Some o → EndedIs x o
 ended_numbered x o h e = by (x.1 == 0) refl e
   where
-    by : (b : Bool) → (x.1 == 0) ≡ b → cond b (where_it (x.0 == 0) None) (outcome_of x.1 >>= λ k. Some (Some (record { seq = x.0; outcome = k }))) ≡ Some o → EndedIs x o
+    by : (b : Bool) → (x.1 == 0) ≡ b → cond b (where_it (x.0 == 0) None) (outcome_numbered x.1 >>= λ k. Some (Some (record { seq = x.0; outcome = k }))) ≡ Some o → EndedIs x o
     by true zero e =
         let w = where_some (x.0 == 0) None o e in
         let first : x.0 ≡ 0 = eqb-true x.0 0 w.0 in
         let second : x.1 ≡ 0 = eqb-true x.1 0 zero in
         subst (EndedIs x) w.1 (ap (λ n. (n, 0)) (sym first) ∙ ap (λ n. (x.0, n)) (sym second), refl)
     by false some e =
-        let s = bind_some (outcome_of x.1) (λ k. Some (Some (record { seq = x.0; outcome = k }))) o e in
-        subst (EndedIs x) (some_is (Some (record { seq = x.0; outcome = s.0 })) o s.2) (ap (λ n. (x.0, n)) (outcome_numbered x.1 s.0 s.1), (both (nat_le x.0 4294967295) (nat_le x.1 255) h).0)
+        let s = bind_some (outcome_numbered x.1) (λ k. Some (Some (record { seq = x.0; outcome = k }))) o e in
+        subst (EndedIs x) (some_is (Some (record { seq = x.0; outcome = s.0 })) o s.2) (ap (λ n. (x.0, n)) (outcome_again x.1 s.0 s.1), (both (nat_le x.0 4294967295) (nat_le x.1 255) h).0)
 
 ended_again : (o : Option Ended) → IsTrue (ended_fits o) → ended_of (ended_numbers o) ≡ Some o
 ended_again None h = refl

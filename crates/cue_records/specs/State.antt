@@ -7,7 +7,7 @@ use Rattle.cue_exchange.specs.declared.attempt.Answer.TheVariants as answer
 use Rattle.cue_exchange.specs.declared.attempt.Attempt.{Attempt}
 use Rattle.cue_exchange.specs.declared.attempt.DeviceAnswer.{DeviceAnswer}
 use Rattle.cue_exchange.specs.declared.attempt.Outcome.{Outcome}
-use Rattle.cue_exchange.specs.declared.attempt.Outcome.TheVariants as outcome
+use Rattle.cue_exchange.specs.Outcomes.{outcome_number}
 use Rattle.cue_exchange.specs.declared.attempt.Stage.{Stage}
 use Rattle.cue_exchange.specs.declared.attempt.Stage.TheVariants.{Preparing, Decided, Cancelling}
 use Rattle.cue_core.specs.declared.event.Ended.{Ended}
@@ -35,12 +35,6 @@ abbrev pub show_text : ShowLists → List ℕ
 show_text s = table_text s.devices ++ (stack_text s.cues ++ place_text s.place)
 
 -- ---- the attempts
-
--- the number of an outcome
-abbrev pub outcome_number : Outcome → ℕ
-outcome_number outcome.Complete = 1
-outcome_number outcome.Cancelled = 2
-outcome_number outcome.Failed = 3
 
 -- the attempt that ended last and how, or zeros where none has
 abbrev pub ended_text : Option Ended → List ℕ

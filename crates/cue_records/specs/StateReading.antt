@@ -9,8 +9,7 @@ use Rattle.cue_exchange.specs.declared.attempt.Answer.{Answer}
 use Rattle.cue_exchange.specs.declared.attempt.Answer.TheVariants as answer
 use Rattle.cue_exchange.specs.declared.attempt.Attempt.{Attempt}
 use Rattle.cue_exchange.specs.declared.attempt.DeviceAnswer.{DeviceAnswer}
-use Rattle.cue_exchange.specs.declared.attempt.Outcome.{Outcome}
-use Rattle.cue_exchange.specs.declared.attempt.Outcome.TheVariants as outcome
+use Rattle.cue_exchange.specs.Outcomes.{outcome_numbered}
 use Rattle.cue_exchange.specs.declared.attempt.Reason.TheVariants.{Operator, Deadline, Abort, Power, Release}
 use Rattle.cue_exchange.specs.declared.attempt.Stage.{Stage}
 use Rattle.cue_exchange.specs.declared.attempt.Stage.TheVariants.{Preparing, Decided, Cancelling}
@@ -76,13 +75,9 @@ show_at s bytes = table_at s bytes >>= λ t. stack_at t.0 t.1 >>= λ u. place_st
 
 -- ---- the attempts
 
--- the outcome with the number
-abbrev pub outcome_of : ℕ → Option Outcome
-outcome_of n = if n == 1 then Some outcome.Complete else if n == 2 then Some outcome.Cancelled else if n == 3 then Some outcome.Failed else None
-
 -- the attempt with the number that ended so; none for two zeros
 abbrev pub ended_of : ℕ × ℕ → Option (Option Ended)
-ended_of x = if x.1 == 0 then where_it (x.0 == 0) None else (outcome_of x.1 >>= λ o. Some (Some (record { seq = x.0; outcome = o })))
+ended_of x = if x.1 == 0 then where_it (x.0 == 0) None else (outcome_numbered x.1 >>= λ o. Some (Some (record { seq = x.0; outcome = o })))
 
 -- the attempt that ended last
 unfoldable pub ended_at : Reads (Option Ended)

@@ -9,9 +9,9 @@ mod length;
 mod reading;
 mod writing;
 
-use crate::bytes::Bytes;
 use crate::fault::ReadFault;
 use cue_core::Event;
+use cue_show::Bytes;
 use std::alloc::{AllocError, Global};
 use std::marker::Model;
 

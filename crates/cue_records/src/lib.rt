@@ -4,14 +4,12 @@
 #![tactic(auto)]
 
 mod batch;
-mod bytes;
 mod fault;
 mod fields;
 pub mod laws;
 mod state;
 
 pub use batch::{Batch, MAX_EVENTS, batch_len, read_batch, write_batch};
-pub use bytes::Bytes;
 pub use fault::{ReadFault, StateFault};
 pub use state::{MAX_STATE_BYTES, VERSION, read_state, write_state};
 

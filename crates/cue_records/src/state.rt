@@ -8,11 +8,11 @@ mod numbers;
 mod reading;
 mod writing;
 
-use crate::bytes::Bytes;
 use crate::fault::{ReadFault, StateFault};
 use crate::fields::{put_byte, put_u32};
 use cue_core::State;
 use cue_exchange::limits::MAX_LIVE;
+use cue_show::Bytes;
 use cue_show::limits::{MAX_CUE_BYTES, MAX_CUES, MAX_DEVICES, MAX_PART_BYTES, MAX_PARTS};
 use std::alloc::{AllocError, Global};
 

@@ -8,7 +8,7 @@ use crate::batch::{Batch, MAX_EVENTS};
 use crate::fault::ReadFault;
 use crate::fields::Reader;
 use cue_core::Event;
-use cue_exchange::attempt::Reason;
+use cue_exchange::Reason;
 use cue_show::{CueNo, DeviceNo};
 use std::alloc::Global;
 

@@ -4,7 +4,7 @@ ghost use Rattle.std.specs.Int.{w16, w32, w64};
 ghost use Rattle.cue_records.specs.Reading.{Gives, byte_at, bytes_at, number_at, text_at, device_at, port_at, sequence_at, cue_at, part_bytes_at, part_at, part_count_at, list_at, parts_at, entry_at, new_cue_at, reason_at, reason_of};
 
 use crate::fault::ReadFault;
-use cue_exchange::attempt::Reason;
+use cue_exchange::Reason;
 use cue_exchange::limits::LAST_NUMBER;
 use cue_show::limits::{MAX_PART_BYTES, MAX_PARTS};
 use cue_show::{CueNo, DeviceNo, Part, Parts};

@@ -4,7 +4,7 @@ ghost use Rattle.std.specs.List.{flat_map, list_all};
 ghost use Rattle.cue_show.specs.Parts.{is_part, are_parts};
 ghost use Rattle.cue_records.specs.Fields.{byte_text, number_text, text_text, part_text, parts_text, entry_text, new_cue_text, reason_number};
 
-use cue_exchange::attempt::Reason;
+use cue_exchange::Reason;
 use cue_show::{CueNo, DeviceNo, Part, Parts};
 use std::alloc::AllocError;
 

@@ -1,33 +1,10 @@
-//! The numbers of outcomes, stages and answers.
+//! The numbers of stages and answers.
 ghost use Rattle.std.specs.Prelude.{◌≡◌};
-ghost use Rattle.cue_records.specs.State.{outcome_number, stage_number, answer_number};
-ghost use Rattle.cue_records.specs.StateReading.{outcome_of, stage_of, answer_of};
+ghost use Rattle.cue_records.specs.State.{stage_number, answer_number};
+ghost use Rattle.cue_records.specs.StateReading.{stage_of, answer_of};
 
 use crate::fields::reason_number;
-use cue_exchange::attempt::{Answer, Outcome, Reason, Stage};
-
-/// The number of an outcome.
-pub fn outcome_number(outcome: Outcome) -> u8
-    ensures { result ≡ outcome_number outcome }
-{
-    match outcome {
-        Outcome::Complete => 1,
-        Outcome::Cancelled => 2,
-        Outcome::Failed => 3,
-    }
-}
-
-/// The outcome with the number.
-pub fn outcome_of(number: u8) -> Option<Outcome>
-    ensures { result ≡ outcome_of number }
-{
-    match number {
-        1 => Some(Outcome::Complete),
-        2 => Some(Outcome::Cancelled),
-        3 => Some(Outcome::Failed),
-        _ => None,
-    }
-}
+use cue_exchange::{Answer, Reason, Stage};
 
 /// The number of a stage.
 pub fn stage_number(stage: Stage) -> u8

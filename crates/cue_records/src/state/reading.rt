@@ -7,11 +7,9 @@ ghost use Rattle.cue_records.specs.StateReading.{fold_at, device_step, cue_step,
 
 use crate::fault::ReadFault;
 use crate::fields::Reader;
-use crate::state::numbers::{answer_of, outcome_of, stage_of};
+use crate::state::numbers::{answer_of, stage_of};
 use cue_core::{Ended, State};
-use cue_exchange::answers::Answers;
-use cue_exchange::attempt::{Answer, Attempt, DeviceAnswer, Stage};
-use cue_exchange::live::Live;
+use cue_exchange::{Answer, Answers, Attempt, DeviceAnswer, Live, Outcome, Stage};
 use cue_show::{CueNo, Part, Show};
 use std::alloc::Global;
 
@@ -271,7 +269,7 @@ fn ended_of(seq: u32, outcome: u8) -> Option<Option<Ended>>
     if outcome == 0 {
         return if seq == 0 { Some(None) } else { None };
     }
-    match outcome_of(outcome) {
+    match Outcome::of_number(outcome) {
         Some(outcome) => Some(Some(Ended { seq, outcome })),
         None => None,
     }

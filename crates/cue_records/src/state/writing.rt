@@ -6,10 +6,9 @@ ghost use Rattle.cue_records.specs.Fields.{entry_text, new_cue_text};
 ghost use Rattle.cue_records.specs.State.{table_text, stack_text, place_text, show_text, ended_text, answers_text, attempt_text, live_text};
 
 use crate::fields::{put_byte, put_cue, put_entry, put_new_cue, put_numbered, put_u32};
-use crate::state::numbers::{answer_number, outcome_number, stage_number};
+use crate::state::numbers::{answer_number, stage_number};
 use cue_core::Ended;
-use cue_exchange::attempt::{Attempt, DeviceAnswer};
-use cue_exchange::live::Live;
+use cue_exchange::{Attempt, DeviceAnswer, Live};
 use cue_show::{CueNo, Show};
 use std::alloc::AllocError;
 
@@ -69,7 +68,7 @@ pub fn put_ended(out: &mut Vec<u8>, ended: Option<Ended>) -> Result<(), AllocErr
     ensures { OnOk result (out.new.items ≡ out.old.items ++ ended_text ended) }
 {
     match ended {
-        Some(ended) => put_numbered(out, ended.seq, outcome_number(ended.outcome)),
+        Some(ended) => put_numbered(out, ended.seq, ended.outcome.number()),
         None => put_numbered(out, 0, 0),
     }
 }

@@ -2,9 +2,9 @@
 
 use super::{bytes, told};
 use crate::laws::acceptable_events_fit;
-use crate::{Batch, Bytes, ReadFault, batch_len, read_batch, write_batch};
+use crate::{Batch, ReadFault, batch_len, read_batch, write_batch};
 use cue_core::{Event, State};
-use cue_show::{DeviceNo, Part, Parts};
+use cue_show::{Bytes, DeviceNo, Part, Parts};
 use std::alloc::{AllocError, Global};
 use std::process::Abort;
 use std::test::Fail;

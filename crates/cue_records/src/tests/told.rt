@@ -2,8 +2,7 @@
 
 use crate::Batch;
 use cue_core::{Ended, Event, State};
-use cue_exchange::attempt::Attempt;
-use cue_exchange::live::Live;
+use cue_exchange::{Attempt, Live};
 use cue_show::{CueNo, Parts, Show};
 use std::alloc::{AllocError, Global};
 

@@ -5,6 +5,7 @@
 mod engines;
 mod packets;
 mod shows;
+mod sizes;
 mod timing;
 
 use std::{env, io};
@@ -14,6 +15,7 @@ fn main(rt: HostRuntime) -> io::Result<()> {
     for word in &words {
         packets::measure(&rt, word.as_str())?;
         engines::measure(&rt, word.as_str())?;
+        sizes::measure(&rt, word.as_str())?;
     }
     Ok(())
 }

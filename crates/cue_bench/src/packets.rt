@@ -113,7 +113,7 @@ fn measure_reading<R: Clock + Print + AllocGlobal>(rt: &R, name: &str) -> io::Re
         )?;
     }
     if all || name == "read_bundle" {
-        let bytes = shows::status_bundle(alloc)?;
+        let bytes = shows::bundle(alloc, b"/status\0", 340)?;
         time(
             rt,
             "read_bundle",

@@ -8,6 +8,9 @@ pub const DEVICES: u8 = 112;
 
 pub const CUES: u32 = 256;
 
+// How many devices a wide cue has.
+const WIDTH: u8 = 13;
+
 // A cue's number as text of three digits, 100 to 355.
 fn cue_text(alloc: Global, cue: u32) -> Result<String, AllocError> {
     let number = cue.saturating_add(100);
@@ -36,11 +39,27 @@ pub fn add_cue(alloc: Global, cue: u32) -> Result<Vec<u8>, AllocError> {
     Ok(bytes)
 }
 
-/// A bundle of 340 messages `/status`, 4,096 bytes.
-pub fn status_bundle(alloc: Global) -> Result<Vec<u8>, AllocError> {
+/// A bundle of so many equal messages, to be carried out at once.
+pub fn bundle(alloc: Global, message: &[u8], count: u32) -> Result<Vec<u8>, AllocError> {
+    let len = u32::try_from(message.len()).unwrap_or(u32::MAX);
     let mut bytes = Vec::from_slice(alloc, b"#bundle\0\0\0\0\0\0\0\0\x01")?;
-    for _ in 0..340 {
-        bytes.extend_from_slice(b"\0\0\0\x08/status\0")?;
+    for _ in 0..count {
+        bytes.extend_from_slice(&len.to_be_bytes())?;
+        bytes.extend_from_slice(message)?;
+    }
+    Ok(bytes)
+}
+
+// `/show/cue` with this number of one digit, and an empty part for each of 13 devices from this one on.
+fn add_wide_cue(alloc: Global, cue: u8, first: u32) -> Result<Vec<u8>, AllocError> {
+    let mut bytes = Vec::from_slice(
+        alloc,
+        b"/show/cue\0\0\0,sibibibibibibibibibibibibib\0\0\0\0",
+    )?;
+    bytes.extend_from_slice(&[b'0'.saturating_add(cue), 0, 0, 0])?;
+    for device in first..first.saturating_add(u32::from(WIDTH)) {
+        bytes.extend_from_slice(&device.to_be_bytes())?;
+        bytes.extend_from_slice(&[0, 0, 0, 0])?;
     }
     Ok(bytes)
 }
@@ -98,6 +117,24 @@ fn fill_little(alloc: Global, engine: &mut Engine<MemDisk>) -> Result<bool, Allo
     Ok(device && first && second)
 }
 
+// Adds so many cues of 13 devices each, and their devices before them.
+fn fill_wide(alloc: Global, engine: &mut Engine<MemDisk>, cues: u8) -> Result<bool, AllocError> {
+    let mut all = true;
+    let mut first = 0;
+    for device in 0..cues.saturating_mul(WIDTH) {
+        if !take(engine, &add_device(alloc, device)?) {
+            all = false;
+        }
+    }
+    for cue in 0..cues {
+        if !take(engine, &add_wide_cue(alloc, cue, first)?) {
+            all = false;
+        }
+        first = first.saturating_add(u32::from(WIDTH));
+    }
+    Ok(all)
+}
+
 // The show, where it was filled.
 fn if_filled(engine: Engine<MemDisk>, filled: bool) -> Option<Engine<MemDisk>> {
     if filled {
@@ -124,6 +161,17 @@ pub fn small(alloc: Global) -> Option<Engine<MemDisk>> {
     match empty(alloc) {
         Some(mut engine) => {
             let filled = fill_little(alloc, &mut engine);
+            if_filled(engine, filled == Ok(true))
+        }
+        None => None,
+    }
+}
+
+/// A show of so many cues, at most 8, of 13 devices each; None where it was not made.
+pub fn wide(alloc: Global, cues: u8) -> Option<Engine<MemDisk>> {
+    match empty(alloc) {
+        Some(mut engine) => {
+            let filled = fill_wide(alloc, &mut engine, cues);
             if_filled(engine, filled == Ok(true))
         }
         None => None,

@@ -12,14 +12,28 @@ mod tests;
 mod udp;
 
 use std::env;
-use std::io::{self, BufWriter};
+use std::io::{self, BufWriter, ErrorKind, Write};
 use std::process::ExitCode;
 
-fn main(rt: HostRuntime) -> io::Result<ExitCode> {
+// Carries out the words of the command line, and answers the exit status. It fails where there is no memory to begin.
+fn perform(rt: &HostRuntime) -> io::Result<u8> {
     let alloc = rt.alloc();
-    let words: Vec<String> = env::args(&rt)?.collect(alloc)?;
+    let words: Vec<String> = env::args(rt)?.collect(alloc)?;
     let mut reader = rt.reader();
-    let mut writer = BufWriter::new(alloc, io::writer(&rt))?;
-    let status = program::perform(&rt, &words, &mut reader, &mut writer);
-    Ok(ExitCode::from(status))
+    let mut writer = BufWriter::new(alloc, io::writer(rt))?;
+    Ok(program::perform(rt, &words, &mut reader, &mut writer))
+}
+
+fn main(rt: HostRuntime) -> ExitCode {
+    match perform(&rt) {
+        Ok(status) => ExitCode::from(status),
+        Err(error) => {
+            let name = match error.kind() {
+                ErrorKind::OutOfMemory => b"! Memory\n".as_slice(),
+                _ => b"! Io\n".as_slice(),
+            };
+            let _ = io::writer(&rt).write_all(name);
+            ExitCode::from(3)
+        }
+    }
 }

@@ -1,17 +1,15 @@
 //! Which commands were sent before.
 use super::entry::{Command, Order};
 use cue_show::DeviceNo;
-
-/// How many devices there can be.
-const DEVICES: usize = 112;
+use cue_show::limits::MAX_DEVICES;
 
 /// For each device the latest attempt of which an order was sent; 0 where none was.
 #[derive(Drop)]
-struct Latest([u32; DEVICES]);
+struct Latest([u32; MAX_DEVICES]);
 
 impl Latest {
     fn new() -> Latest {
-        Latest([0; DEVICES])
+        Latest([0; MAX_DEVICES])
     }
 
     // Keeps the attempt, and tells whether it is a new one.

@@ -73,6 +73,7 @@ impl<'a> Work for CompareAll<'a> {
 // Judges a device's answer.
 #[derive(Drop)]
 struct JudgeReply<'a> {
+    alloc: Global,
     state: &'a State,
     command: &'a Command,
 }
@@ -82,7 +83,7 @@ impl<'a> Work for JudgeReply<'a> {
         if !self.command.is_fit() {
             return false;
         }
-        judge(self.state, 0, 9003, self.command).is_ok()
+        judge(self.alloc, self.state, 0, 9003, self.command).is_ok()
     }
 }
 
@@ -209,6 +210,7 @@ fn measure_judging<R: Clock + Print + AllocGlobal>(
             "judge_reply",
             1_000_000,
             &mut JudgeReply {
+                alloc: rt.alloc(),
                 state: full,
                 command: &command,
             },

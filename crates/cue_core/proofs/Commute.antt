@@ -11,7 +11,7 @@ use Rattle.cue_exchange.specs.declared.attempt.Stage.{Stage}
 use Rattle.cue_exchange.specs.declared.attempt.Stage.TheVariants.{Preparing, Decided, Cancelling}
 use Rattle.cue_exchange.specs.declared.attempt.DeviceAnswer.{DeviceAnswer}
 use Rattle.cue_exchange.specs.declared.attempt.Attempt.{Attempt}
-use Rattle.cue_exchange.specs.Answers.{is_waiting, is_preparing, some_waits, answer_of, answers_with, with_answer, entering, enters, entered}
+use Rattle.cue_exchange.specs.Answers.{is_waiting, is_preparing, some_waits, answer_of, device_answer, answers_with, with_answer, entering, enters, entered}
 use Rattle.cue_exchange.specs.Live.{attempt_of, has_number}
 use Rattle.cue_exchange.specs.Steps.{changed, answers_as, moves_to, answered, moved, goes_on, without_ended, ended_in, outcome_of}
 use Rattle.cue_core.specs.declared.command.Code.TheVariants as code
@@ -193,12 +193,28 @@ reply_of s r o h e =
     at true true l j k m = cc
     at false f l j k m = cc
 
+-- a device with its answer
+abbrev recorded : ℕ → Answer → DeviceAnswer
+recorded d x = record { device = d; answer = x }
+
+device_found : (d : ℕ) (xs : List DeviceAnswer) (w : DeviceAnswer) → device_answer xs d ≡ Some w → w ≡ recorded d w.answer
+device_found d xs w g =
+    let same : w.device ≡ d = same_number w.device d (found_passes (λ x. nat_eq x.device d) xs w g) in
+    ap (λ (n : ℕ). recorded n w.answer) same
+
+device_told : (d : ℕ) (xs : List DeviceAnswer) (x : Answer) → answer_of xs d ≡ Some x → device_answer xs d ≡ Some (recorded d x)
+device_told d xs x e = by (device_answer xs d) refl e
+  where
+    by : (o : Option DeviceAnswer) → device_answer xs d ≡ o → option_map (λ (w : DeviceAnswer). w.answer) o ≡ Some x → o ≡ Some (recorded d x)
+    by None g k = absurd (cc)
+    by (Some w) g k = let same : w.answer ≡ x = cc in ap (λ (v : DeviceAnswer). Some v) (device_found d xs w g) ∙ ap (λ (y : Answer). Some (recorded d y)) same
+
 -- the cell that the reply falls into
-cell_at : (s : ShowState) (r : Said) (a : Attempt) (x : Answer) → IsTrue (comes s r) → attempt_of s.live r.number ≡ Some a → answer_of a.answers r.device ≡ Some x → on_reply s r.from r.kind r.device r.number ≡ on_reply_in r.kind r.number r.device a.stage x
+cell_at : (s : ShowState) (r : Said) (a : Attempt) (x : Answer) → IsTrue (comes s r) → attempt_of s.live r.number ≡ Some a → answer_of a.answers r.device ≡ Some x → on_reply s r.from r.kind r.device r.number ≡ on_reply_in r.kind r.number (recorded r.device x) a.stage x
 cell_at s r a x h e g =
     reply_of s r (Some a) h e
-    ∙ (ap (λ o. option_map_or (on_reply_in r.kind a.seq r.device a.stage) o (refused code.NotPart)) g
-    ∙ ap (λ n. on_reply_in r.kind n r.device a.stage x) (same_number a.seq r.number (found_passes (has_number r.number) s.live a e)))
+    ∙ (ap (λ o. option_map_or (λ w. on_reply_in r.kind a.seq w a.stage w.answer) o (refused code.NotPart)) (device_told r.device a.answers x g)
+    ∙ ap (λ n. on_reply_in r.kind n (recorded r.device x) a.stage x) (same_number a.seq r.number (found_passes (has_number r.number) s.live a e)))
 
 -- where it is made, there is an attempt and an answer
 pub record Falls (s : ShowState) (r : Said) : Type 0 where
@@ -210,35 +226,47 @@ pub record Falls (s : ShowState) (r : Said) : Type 0 where
 falls : (s : ShowState) (r : Said) → IsTrue (is_reply_made s r) → Falls s r
 falls s r h = at (attempt_of s.live r.number) refl (let P : Judged → Type 0 = λ j. IsTrue (is_made j.0) in subst P (reply_of s r (attempt_of s.live r.number) (comes_made s r h) refl) h)
   where
-    within : (a : Attempt) (o : Option Answer) → answer_of a.answers r.device ≡ o → attempt_of s.live r.number ≡ Some a → IsTrue (is_made (option_map_or (on_reply_in r.kind a.seq r.device a.stage) o (refused code.NotPart)).0) → Falls s r
+    within : (a : Attempt) (o : Option DeviceAnswer) → device_answer a.answers r.device ≡ o → attempt_of s.live r.number ≡ Some a → IsTrue (is_made (option_map_or (λ w. on_reply_in r.kind a.seq w a.stage w.answer) o (refused code.NotPart)).0) → Falls s r
     within a None g e k = absurd (cc)
-    within a (Some x) g e k = record { attempt = a; found = e; given = x; answered = g }
+    within a (Some w) g e k = record { attempt = a; found = e; given = w.answer; answered = ap (λ (o : Option DeviceAnswer). option_map (λ x. x.answer) o) g }
 
     at : (o : Option Attempt) → attempt_of s.live r.number ≡ o → IsTrue (is_made (option_map_or (on_reply_to r.kind r.device) o (refused code.Stale)).0) → Falls s r
     at None e k = absurd (cc)
-    at (Some a) e k = within a (answer_of a.answers r.device) refl e k
+    at (Some a) e k = within a (device_answer a.answers r.device) refl e k
 
 -- an attempt that is carried out or given up: the reply is the device's last answer
 pub record Ends (kind : ReplyKind) (q d : ℕ) (stage : Stage) (x : Answer) : Type 0 where
   pub last : Answer
   pub waited : IsTrue (is_waiting x)
-  pub makes : (s : ShowState) → folded s (on_reply_in kind q d stage x).1 ≡ settled s q (answered q d last s.live)
+  pub makes : (s : ShowState) → folded s (on_reply_in kind q (recorded d x) stage x).1 ≡ settled s q (answered q d last s.live)
 
-ends : (kind : ReplyKind) (q d : ℕ) (stage : Stage) (x : Answer) → is_preparing stage ≡ false → IsTrue (is_made (on_reply_in kind q d stage x).0) → Ends kind q d stage x
+ends : (kind : ReplyKind) (q d : ℕ) (stage : Stage) (x : Answer) → is_preparing stage ≡ false → IsTrue (is_made (on_reply_in kind q (recorded d x) stage x).0) → Ends kind q d stage x
 ends kind q d Preparing x p h = absurd (cc)
 ends reply.StandingBy q d Decided answer.Waiting p h = absurd (cc)
 ends reply.StandingBy q d Decided answer.Ready p h = absurd (cc)
 ends reply.StandingBy q d Decided answer.Done p h = absurd (cc)
 ends reply.StandingBy q d Decided answer.LetGo p h = absurd (cc)
 ends reply.StandingBy q d Decided answer.Failed p h = absurd (cc)
-ends reply.StandingBy q d (Cancelling r) x p h = absurd (cc)
+ends reply.StandingBy q d (Cancelling r) answer.Waiting p h = absurd (cc)
+ends reply.StandingBy q d (Cancelling r) answer.Ready p h = absurd (cc)
+ends reply.StandingBy q d (Cancelling r) answer.Done p h = absurd (cc)
+ends reply.StandingBy q d (Cancelling r) answer.LetGo p h = absurd (cc)
+ends reply.StandingBy q d (Cancelling r) answer.Failed p h = absurd (cc)
 ends reply.Complete q d Decided answer.Waiting p h = record { last = answer.Done; waited = refl; makes = λ s. refl }
 ends reply.Complete q d Decided answer.Ready p h = absurd (cc)
 ends reply.Complete q d Decided answer.Done p h = absurd (cc)
 ends reply.Complete q d Decided answer.LetGo p h = absurd (cc)
 ends reply.Complete q d Decided answer.Failed p h = absurd (cc)
-ends reply.Complete q d (Cancelling r) x p h = absurd (cc)
-ends reply.Cancelled q d Decided x p h = absurd (cc)
+ends reply.Complete q d (Cancelling r) answer.Waiting p h = absurd (cc)
+ends reply.Complete q d (Cancelling r) answer.Ready p h = absurd (cc)
+ends reply.Complete q d (Cancelling r) answer.Done p h = absurd (cc)
+ends reply.Complete q d (Cancelling r) answer.LetGo p h = absurd (cc)
+ends reply.Complete q d (Cancelling r) answer.Failed p h = absurd (cc)
+ends reply.Cancelled q d Decided answer.Waiting p h = absurd (cc)
+ends reply.Cancelled q d Decided answer.Ready p h = absurd (cc)
+ends reply.Cancelled q d Decided answer.Done p h = absurd (cc)
+ends reply.Cancelled q d Decided answer.LetGo p h = absurd (cc)
+ends reply.Cancelled q d Decided answer.Failed p h = absurd (cc)
 ends reply.Cancelled q d (Cancelling r) answer.Waiting p h = record { last = answer.LetGo; waited = refl; makes = λ s. refl }
 ends reply.Cancelled q d (Cancelling r) answer.Ready p h = absurd (cc)
 ends reply.Cancelled q d (Cancelling r) answer.Done p h = absurd (cc)
@@ -257,25 +285,44 @@ ends reply.Abort q d (Cancelling r) answer.Failed p h = absurd (cc)
 
 -- an attempt that is Preparing: the device stands by, and is too late once the attempt is given up
 pub record Readies (kind : ReplyKind) (q d : ℕ) (stage : Stage) (x : Answer) : Type 0 where
-  pub makes : (s : ShowState) → folded s (on_reply_in kind q d stage x).1 ≡ with_live s (answered q d answer.Ready s.live)
-  pub late : (s : ShowState) (n : ℕ) (y : Answer) → folded s (on_reply_in kind n d (Cancelling Abort) y).1 ≡ s
+  pub makes : (s : ShowState) → folded s (on_reply_in kind q (recorded d x) stage x).1 ≡ with_live s (answered q d answer.Ready s.live)
+  pub late : (s : ShowState) (n : ℕ) (w : DeviceAnswer) → folded s (on_reply_in kind n w (Cancelling Abort) w.answer).1 ≡ s
 
 -- or it aborts: the attempt is given up, and the device has failed
 pub record Aborts (kind : ReplyKind) (q d : ℕ) (stage : Stage) (x : Answer) : Type 0 where
-  pub makes : (s : ShowState) → folded s (on_reply_in kind q d stage x).1 ≡ settled s q (answered q d answer.Failed (moved q (Cancelling Abort) s.live))
-  pub later : (s : ShowState) → folded s (on_reply_in kind q d (Cancelling Abort) answer.Waiting).1 ≡ settled s q (answered q d answer.Failed s.live)
+  pub makes : (s : ShowState) → folded s (on_reply_in kind q (recorded d x) stage x).1 ≡ settled s q (answered q d answer.Failed (moved q (Cancelling Abort) s.live))
+  pub later : (s : ShowState) → folded s (on_reply_in kind q (recorded d answer.Waiting) (Cancelling Abort) answer.Waiting).1 ≡ settled s q (answered q d answer.Failed s.live)
 
-prepares : (kind : ReplyKind) (q d : ℕ) (stage : Stage) (x : Answer) → is_preparing stage ≡ true → IsTrue (is_made (on_reply_in kind q d stage x).0) → Readies kind q d stage x ⊎ Aborts kind q d stage x
+too_late : (s : ShowState) (n : ℕ) (w : DeviceAnswer) (x : Answer) → folded s (on_reply_in reply.StandingBy n w (Cancelling Abort) x).1 ≡ s
+too_late s n w answer.Waiting = refl
+too_late s n w answer.Ready = refl
+too_late s n w answer.Done = refl
+too_late s n w answer.LetGo = refl
+too_late s n w answer.Failed = refl
+
+prepares : (kind : ReplyKind) (q d : ℕ) (stage : Stage) (x : Answer) → is_preparing stage ≡ true → IsTrue (is_made (on_reply_in kind q (recorded d x) stage x).0) → Readies kind q d stage x ⊎ Aborts kind q d stage x
 prepares kind q d Decided x p h = absurd (cc)
 prepares kind q d (Cancelling r) x p h = absurd (cc)
-prepares reply.StandingBy q d Preparing answer.Waiting p h = inl (record { makes = λ s. refl; late = λ s n y. refl })
+prepares reply.StandingBy q d Preparing answer.Waiting p h = inl (record { makes = λ s. refl; late = λ s n w. too_late s n w w.answer })
 prepares reply.StandingBy q d Preparing answer.Ready p h = absurd (cc)
 prepares reply.StandingBy q d Preparing answer.Done p h = absurd (cc)
 prepares reply.StandingBy q d Preparing answer.LetGo p h = absurd (cc)
 prepares reply.StandingBy q d Preparing answer.Failed p h = absurd (cc)
-prepares reply.Complete q d Preparing x p h = absurd (cc)
-prepares reply.Cancelled q d Preparing x p h = absurd (cc)
-prepares reply.Abort q d Preparing x p h = inr (record { makes = λ s. refl; later = λ s. refl })
+prepares reply.Complete q d Preparing answer.Waiting p h = absurd (cc)
+prepares reply.Complete q d Preparing answer.Ready p h = absurd (cc)
+prepares reply.Complete q d Preparing answer.Done p h = absurd (cc)
+prepares reply.Complete q d Preparing answer.LetGo p h = absurd (cc)
+prepares reply.Complete q d Preparing answer.Failed p h = absurd (cc)
+prepares reply.Cancelled q d Preparing answer.Waiting p h = absurd (cc)
+prepares reply.Cancelled q d Preparing answer.Ready p h = absurd (cc)
+prepares reply.Cancelled q d Preparing answer.Done p h = absurd (cc)
+prepares reply.Cancelled q d Preparing answer.LetGo p h = absurd (cc)
+prepares reply.Cancelled q d Preparing answer.Failed p h = absurd (cc)
+prepares reply.Abort q d Preparing answer.Waiting p h = inr (record { makes = λ s. refl; later = λ s. refl })
+prepares reply.Abort q d Preparing answer.Ready p h = inr (record { makes = λ s. refl; later = λ s. refl })
+prepares reply.Abort q d Preparing answer.Done p h = inr (record { makes = λ s. refl; later = λ s. refl })
+prepares reply.Abort q d Preparing answer.LetGo p h = inr (record { makes = λ s. refl; later = λ s. refl })
+prepares reply.Abort q d Preparing answer.Failed p h = inr (record { makes = λ s. refl; later = λ s. refl })
 
 -- ---- the two orders
 
@@ -339,12 +386,12 @@ module _ (s : ShowState) (q : ℕ) (a : Attempt) (rises : IsTrue (rising s.live)
       let gone : attempt_of (without_ended q l) q ≡ if_open b = attempt_of-without_ended q l (rising-changed q (answers_as d answer.Failed) (given_number d answer.Failed) (moved q (Cancelling Abort) s.live) up) ∙ ap (λ o. option_and_then if_open o) eb in
       ap (λ z. after_reply z (says g m e q)) first ∙ (ap (λ (j : Judged). folded (settled s q l) j.1) (reply_of (settled s q l) (says g m e q) (if_open b) ct gone) ∙ at l b refl (some_waits b.answers))
     where
-      told : (l : List Attempt) (b : Attempt) (o : Option Answer) → folded (settled s q l) (option_map_or (on_reply_in m b.seq e (Cancelling Abort)) o (refused code.NotPart)).1 ≡ settled s q l
+      told : (l : List Attempt) (b : Attempt) (o : Option DeviceAnswer) → folded (settled s q l) (option_map_or (λ w. on_reply_in m b.seq w (Cancelling Abort) w.answer) o (refused code.NotPart)).1 ≡ settled s q l
       told l b None = refl
       told l b (Some z) = v.late (settled s q l) b.seq z
 
       staged : (l : List Attempt) (b : Attempt) → b.stage ≡ Cancelling Abort → folded (settled s q l) (on_reply_to m e b).1 ≡ settled s q l
-      staged l b p = ap (λ (t : Stage). folded (settled s q l) (option_map_or (on_reply_in m b.seq e t) (answer_of b.answers e) (refused code.NotPart)).1) p ∙ told l b (answer_of b.answers e)
+      staged l b p = ap (λ (t : Stage). folded (settled s q l) (option_map_or (λ w. on_reply_in m b.seq w t w.answer) (device_answer b.answers e) (refused code.NotPart)).1) p ∙ told l b (device_answer b.answers e)
 
       at : (l : List Attempt) (b : Attempt) → b.stage ≡ Cancelling Abort → (w : Bool) → folded (settled s q l) (option_map_or (on_reply_to m e) (if w then Some b else None) (refused code.Stale)).1 ≡ settled s q l
       at l b p true = staged l b p
@@ -366,7 +413,7 @@ module _ (s : ShowState) (q : ℕ) (a : Attempt) (rises : IsTrue (rising s.live)
 
   -- either order
   either_order : (f g : ℕ) (k m : ReplyKind) (d e : ℕ) (x y : Answer) → nat_eq d e ≡ false → nat_eq e d ≡ false → IsTrue (comes s (says f k d q)) → IsTrue (comes s (says g m e q)) → answer_of a.answers d ≡ Some x → answer_of a.answers e ≡ Some y
-      → IsTrue (is_made (on_reply_in k q d a.stage x).0) → IsTrue (is_made (on_reply_in m q e a.stage y).0)
+      → IsTrue (is_made (on_reply_in k q (recorded d x) a.stage x).0) → IsTrue (is_made (on_reply_in m q (recorded e y) a.stage y).0)
       → after_reply (after_reply s (says f k d q)) (says g m e q) ≡ after_reply (after_reply s (says g m e q)) (says f k d q)
   either_order f g k m d e x y n o cr ct gx gy hr ht = at (is_preparing a.stage) refl
     where

@@ -5,8 +5,9 @@ use Rattle.cue_exchange.specs.declared.attempt.Answer.{Answer}
 use Rattle.cue_exchange.specs.declared.attempt.Answer.TheVariants as answer
 use Rattle.cue_exchange.specs.declared.attempt.Stage.{Stage}
 use Rattle.cue_exchange.specs.declared.attempt.Stage.TheVariants.{Preparing, Decided, Cancelling}
+use Rattle.cue_exchange.specs.declared.attempt.DeviceAnswer.{DeviceAnswer}
 use Rattle.cue_exchange.specs.declared.attempt.Attempt.{Attempt}
-use Rattle.cue_exchange.specs.Answers.{answer_of}
+use Rattle.cue_exchange.specs.Answers.{device_answer}
 use Rattle.cue_core.specs.declared.event.Event.{Event}
 use Rattle.cue_core.specs.declared.command.Code.{Code}
 use Rattle.cue_core.specs.declared.command.Command.{Command}
@@ -15,7 +16,7 @@ use Rattle.cue_core.specs.declared.command.ReplyKind.{ReplyKind}
 use Rattle.cue_core.specs.declared.command.ReplyKind.TheVariants as reply
 use Rattle.cue_core.specs.declared.command.Verdict.TheVariants.{Made, Known, No}
 use Rattle.cue_core.specs.State.{ShowState}
-use Rattle.cue_core.specs.Judge.{Judged, judged, on_reply_in, on_reply_to}
+use Rattle.cue_core.specs.Judge.{Judged, judged, on_reply_in, on_reply_to, on_release_in, on_release_of}
 
 pub record HasItsEvents (j : Judged) : Type 0 where
   pub few : length j.1 ≤ 2
@@ -41,7 +42,7 @@ one = record { few = omega arith; made = (λ h k. cc, λ h. refl) }
 two : {e f : Event} → HasItsEvents (Made, e ∷ f ∷ [])
 two = record { few = omega arith; made = (λ h k. cc, λ h. refl) }
 
-standing_by-has : (q d : ℕ) (g : Stage) (x : Answer) → HasItsEvents (on_reply_in reply.StandingBy q d g x)
+standing_by-has : (q : ℕ) (d : DeviceAnswer) (g : Stage) (x : Answer) → HasItsEvents (on_reply_in reply.StandingBy q d g x)
 standing_by-has q d Preparing answer.Waiting = one
 standing_by-has q d Preparing answer.Ready = none-known
 standing_by-has q d Preparing answer.Done = none-known
@@ -52,28 +53,52 @@ standing_by-has q d Decided answer.Ready = none-known
 standing_by-has q d Decided answer.Done = none-known
 standing_by-has q d Decided answer.LetGo = none-known
 standing_by-has q d Decided answer.Failed = none-refused
-standing_by-has q d (Cancelling r) x = none-refused
+standing_by-has q d (Cancelling r) answer.Waiting = none-refused
+standing_by-has q d (Cancelling r) answer.Ready = none-refused
+standing_by-has q d (Cancelling r) answer.Done = none-refused
+standing_by-has q d (Cancelling r) answer.LetGo = none-refused
+standing_by-has q d (Cancelling r) answer.Failed = none-refused
 
-complete-has : (q d : ℕ) (g : Stage) (x : Answer) → HasItsEvents (on_reply_in reply.Complete q d g x)
-complete-has q d Preparing x = none-refused
+complete-has : (q : ℕ) (d : DeviceAnswer) (g : Stage) (x : Answer) → HasItsEvents (on_reply_in reply.Complete q d g x)
+complete-has q d Preparing answer.Waiting = none-refused
+complete-has q d Preparing answer.Ready = none-refused
+complete-has q d Preparing answer.Done = none-refused
+complete-has q d Preparing answer.LetGo = none-refused
+complete-has q d Preparing answer.Failed = none-refused
 complete-has q d Decided answer.Waiting = one
 complete-has q d Decided answer.Ready = none-refused
 complete-has q d Decided answer.Done = none-known
 complete-has q d Decided answer.LetGo = none-refused
 complete-has q d Decided answer.Failed = none-refused
-complete-has q d (Cancelling r) x = none-refused
+complete-has q d (Cancelling r) answer.Waiting = none-refused
+complete-has q d (Cancelling r) answer.Ready = none-refused
+complete-has q d (Cancelling r) answer.Done = none-refused
+complete-has q d (Cancelling r) answer.LetGo = none-refused
+complete-has q d (Cancelling r) answer.Failed = none-refused
 
-cancelled-has : (q d : ℕ) (g : Stage) (x : Answer) → HasItsEvents (on_reply_in reply.Cancelled q d g x)
-cancelled-has q d Preparing x = none-refused
-cancelled-has q d Decided x = none-refused
+cancelled-has : (q : ℕ) (d : DeviceAnswer) (g : Stage) (x : Answer) → HasItsEvents (on_reply_in reply.Cancelled q d g x)
+cancelled-has q d Preparing answer.Waiting = none-refused
+cancelled-has q d Preparing answer.Ready = none-refused
+cancelled-has q d Preparing answer.Done = none-refused
+cancelled-has q d Preparing answer.LetGo = none-refused
+cancelled-has q d Preparing answer.Failed = none-refused
+cancelled-has q d Decided answer.Waiting = none-refused
+cancelled-has q d Decided answer.Ready = none-refused
+cancelled-has q d Decided answer.Done = none-refused
+cancelled-has q d Decided answer.LetGo = none-refused
+cancelled-has q d Decided answer.Failed = none-refused
 cancelled-has q d (Cancelling r) answer.Waiting = one
 cancelled-has q d (Cancelling r) answer.Ready = none-refused
 cancelled-has q d (Cancelling r) answer.Done = none-refused
 cancelled-has q d (Cancelling r) answer.LetGo = none-known
 cancelled-has q d (Cancelling r) answer.Failed = none-refused
 
-abort-has : (q d : ℕ) (g : Stage) (x : Answer) → HasItsEvents (on_reply_in reply.Abort q d g x)
-abort-has q d Preparing x = two
+abort-has : (q : ℕ) (d : DeviceAnswer) (g : Stage) (x : Answer) → HasItsEvents (on_reply_in reply.Abort q d g x)
+abort-has q d Preparing answer.Waiting = two
+abort-has q d Preparing answer.Ready = two
+abort-has q d Preparing answer.Done = two
+abort-has q d Preparing answer.LetGo = two
+abort-has q d Preparing answer.Failed = two
 abort-has q d Decided answer.Waiting = one
 abort-has q d Decided answer.Ready = none-refused
 abort-has q d Decided answer.Done = none-refused
@@ -85,14 +110,34 @@ abort-has q d (Cancelling r) answer.Done = none-refused
 abort-has q d (Cancelling r) answer.LetGo = none-refused
 abort-has q d (Cancelling r) answer.Failed = none-known
 
-reply-has : (kind : ReplyKind) (q d : ℕ) (g : Stage) (x : Answer) → HasItsEvents (on_reply_in kind q d g x)
+release_in-has : (q : ℕ) (d : DeviceAnswer) (g : Stage) (x : Answer) → HasItsEvents (on_release_in q d g x)
+release_in-has q d Preparing answer.Waiting = two
+release_in-has q d Preparing answer.Ready = two
+release_in-has q d Preparing answer.Done = two
+release_in-has q d Preparing answer.LetGo = two
+release_in-has q d Preparing answer.Failed = two
+release_in-has q d Decided answer.Waiting = one
+release_in-has q d Decided answer.Ready = none-known
+release_in-has q d Decided answer.Done = none-known
+release_in-has q d Decided answer.LetGo = none-known
+release_in-has q d Decided answer.Failed = none-known
+release_in-has q d (Cancelling r) answer.Waiting = one
+release_in-has q d (Cancelling r) answer.Ready = none-known
+release_in-has q d (Cancelling r) answer.Done = none-known
+release_in-has q d (Cancelling r) answer.LetGo = none-known
+release_in-has q d (Cancelling r) answer.Failed = none-known
+
+reply-has : (kind : ReplyKind) (q : ℕ) (d : DeviceAnswer) (g : Stage) (x : Answer) → HasItsEvents (on_reply_in kind q d g x)
 reply-has reply.StandingBy q d g x = standing_by-has q d g x
 reply-has reply.Complete q d g x = complete-has q d g x
 reply-has reply.Cancelled q d g x = cancelled-has q d g x
 reply-has reply.Abort q d g x = abort-has q d g x
 
 reply_to-has : (kind : ReplyKind) (d : ℕ) (a : Attempt) → HasItsEvents (on_reply_to kind d a)
-reply_to-has kind d a = or-has (on_reply_in kind a.seq d a.stage) (answer_of a.answers d) _ (λ x. reply-has kind a.seq d a.stage x) none-refused
+reply_to-has kind d a = or-has (λ x. on_reply_in kind a.seq x a.stage x.answer) (device_answer a.answers d) _ (λ x. reply-has kind a.seq x a.stage x.answer) none-refused
+
+release_of-has : (d : ℕ) (a : Attempt) → HasItsEvents (on_release_of d a)
+release_of-has d a = or-has (λ x. on_release_in a.seq x a.stage x.answer) (device_answer a.answers d) _ (λ x. release_in-has a.seq x a.stage x.answer) none-refused
 
 -- each verdict has its events
 pub judged-has : (s : ShowState) (now from : ℕ) (c : Command) → HasItsEvents (judged s now from c)
@@ -105,6 +150,6 @@ judged-has s now from (command.Cancel c) = search (if-has, or-has, none-known, n
 judged-has s now from (command.Goto c) = search (if-has, or-has, none-known, none-refused, one, two)
 judged-has s now from (command.RemoveCue c) = search (if-has, or-has, none-known, none-refused, one, two)
 judged-has s now from (command.Reply k d q) = search (if-has, or-has, none-known, none-refused, reply_to-has) depth 12
-judged-has s now from (command.Release d) = search (if-has, or-has, none-known, none-refused, one, two) depth 12
+judged-has s now from (command.Release d) = search (if-has, or-has, none-known, none-refused, release_of-has) depth 12
 judged-has s now from (command.RemoveDevice d) = search (if-has, or-has, none-known, none-refused, one, two)
 judged-has s now from (command.Bad c) = none-refused

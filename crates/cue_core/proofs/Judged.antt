@@ -23,7 +23,7 @@ use Rattle.cue_exchange.specs.declared.attempt.Stage.{Stage}
 use Rattle.cue_exchange.specs.declared.attempt.Stage.TheVariants.{Preparing, Decided, Cancelling}
 use Rattle.cue_exchange.specs.declared.attempt.DeviceAnswer.{DeviceAnswer}
 use Rattle.cue_exchange.specs.declared.attempt.Attempt.{Attempt}
-use Rattle.cue_exchange.specs.Answers.{devices_of, is_waiting, is_preparing, is_decided, is_cancelling, is_concluding, entering, entered, answer_of, answer_passes}
+use Rattle.cue_exchange.specs.Answers.{devices_of, is_waiting, is_preparing, is_decided, is_cancelling, is_concluding, entering, entered, answer_of, device_answer, answer_passes}
 use Rattle.cue_exchange.specs.Live.{devices_in, attempt_of, attempt_of_cue, attempt_of_device, has_number, has_device as is_of_device, has_cue as is_of_cue, is_number, is_moment, are_sound_devices}
 use Rattle.cue_exchange.specs.Steps.{holds, waits_in, changed, moves_to, moved, can_go_now, are_free, has_room, are_below, can_start}
 use Rattle.cue_exchange.proofs.AnswerRules.{is_waiting-entering}
@@ -37,8 +37,8 @@ use Rattle.cue_core.specs.declared.command.Command.{Command}
 use Rattle.cue_core.specs.declared.command.Command.TheVariants as command
 use Rattle.cue_core.specs.State.{ShowState, cue_parts, is_state}
 use Rattle.cue_core.specs.Steps.{acceptable, after, are_acceptable}
-use Rattle.cue_core.specs.Judge.{made, known, refused, judged, is_fit, on_add_device, on_remove_device, on_add_cue, on_new_cue, on_goto, on_remove_cue, on_standby, on_standby_of, prepares, on_go, on_go_of, on_cancel, on_cancel_of, on_release, on_release_of, on_reply, on_reply_to, on_reply_in, is_from_another}
-use Rattle.cue_core.proofs.Conditions.{both, join, all_from, same_self}
+use Rattle.cue_core.specs.Judge.{made, known, refused, judged, is_fit, on_add_device, on_remove_device, on_add_cue, on_new_cue, on_goto, on_remove_cue, on_standby, on_standby_of, prepares, on_go, on_go_of, on_cancel, on_cancel_of, on_release, on_release_of, on_release_in, on_reply, on_reply_to, on_reply_in, is_from_another}
+use Rattle.cue_core.proofs.Conditions.{both, join, all_from, same_number, same_self}
 use Rattle.cue_core.proofs.Finding.{found_passes}
 use Rattle.cue_core.proofs.Rules.{Rules, rules_of}
 
@@ -266,44 +266,7 @@ cancelled_then s t a r d stage e p m k = (
   found_holds_changed t (waits_in stage d) (moves_to (Cancelling r)) (λ b. refl) s.live a e (join (stage (Cancelling r)) (answer_passes is_waiting d (entered (Cancelling r) a.answers)) k (asked_anew (Cancelling r) d a.answers m)),
 )
 
-decided_closes : (stage : Stage) → IsTrue (is_decided stage) → IsTrue (is_concluding stage)
-decided_closes Preparing h = cc
-decided_closes Decided h = refl
-decided_closes (Cancelling r) h = cc
-
-gives_up : (stage : Stage) → is_preparing stage ≡ false → is_decided stage ≡ false → IsTrue (is_cancelling stage)
-gives_up Preparing a b = cc
-gives_up Decided a b = cc
-gives_up (Cancelling r) a b = refl
-
--- a device that has an answer is among the devices
-among_of : (d : ℕ) (xs : List DeviceAnswer) → IsTrue (list_any (λ x. nat_eq x.device d) xs) → IsTrue (is_among d (devices_of xs))
-among_of d [] h = h
-among_of d (x ∷ xs) h = at (nat_eq x.device d) h (among_of d xs)
-  where
-    at : (b : Bool) → IsTrue (b || list_any (λ y. nat_eq y.device d) xs) → (IsTrue (list_any (λ y. nat_eq y.device d) xs) → IsTrue (is_among d (devices_of xs))) → IsTrue (b || is_among d (devices_of xs))
-    at true k f = refl
-    at false k f = f k
-
-release_of_fits : (s : ShowState) (d : ℕ) (a : Attempt) → attempt_of_device s.live d ≡ Some a → IsTrue (are_acceptable s (on_release_of d a).1)
-release_of_fits s d a e = by (is_preparing a.stage) (answer_passes is_waiting d a.answers) (is_decided a.stage) refl refl refl
-  where
-    by : (p w b : Bool) → is_preparing a.stage ≡ p → answer_passes is_waiting d a.answers ≡ w → is_decided a.stage ≡ b
-        → IsTrue (are_acceptable s (if p then made (event.Cancel a.seq Release ∷ event.LetGo a.seq d ∷ []) else if not w then known else if b then made (event.Failed a.seq d ∷ []) else made (event.LetGo a.seq d ∷ [])).1)
-    by true w b k l m = let h = cancelled_then s (is_of_device d) a Release d is_cancelling e k (among_of d a.answers (found_passes (is_of_device d) s.live a e)) refl in two s (event.Cancel a.seq Release) (event.LetGo a.seq d) h.0 h.1
-    by false false b k l m = refl
-    by false true true k l m = one s (event.Failed a.seq d) (found_holds (is_of_device d) (waits_in is_concluding d) s.live a e (join (is_concluding a.stage) (answer_passes is_waiting d a.answers) (decided_closes a.stage m) l))
-    by false true false k l m = one s (event.LetGo a.seq d) (found_holds (is_of_device d) (waits_in is_cancelling d) s.live a e (join (is_cancelling a.stage) (answer_passes is_waiting d a.answers) (gives_up a.stage k m) l))
-
-release_fits : (s : ShowState) (d : ℕ) → IsTrue (are_acceptable s (on_release s d).1)
-release_fits s d = by (has_device s.show d) (attempt_of_device s.live d) refl
-  where
-    by : (b : Bool) (o : Option Attempt) → attempt_of_device s.live d ≡ o → IsTrue (are_acceptable s (if not b then refused code.NoMethod else option_map_or (on_release_of d) o (refused code.NotLive)).1)
-    by false o e = refl
-    by true None e = refl
-    by true (Some a) e = release_of_fits s d a e
-
--- ---- replies
+-- ---- replies and release
 
 -- the device is one of the attempt, and its answer passes the tests that it passes
 answer_told : (d : ℕ) (xs : List DeviceAnswer) (x : Answer) → answer_of xs d ≡ Some x → IsTrue (is_among d (devices_of xs)) × ((test : Answer → Bool) → IsTrue (test x) → IsTrue (answer_passes test d xs))
@@ -316,13 +279,35 @@ answer_told d (y ∷ ys) x e = at (nat_eq y.device d) e (answer_told d ys x)
     at true e f = let same : y.answer ≡ x = cc in (refl, λ test k. rw (same, k) refl)
     at false e f = f e
 
--- what is said of an attempt that was found, and of an answer of it
-module _ (s : ShowState) (t : Attempt → Bool) (a : Attempt) (d : ℕ) (e : find t s.live ≡ Some a) where
-  waits_fits : (stage : Stage) (test : Stage → Bool) (x : Answer) → a.stage ≡ stage → answer_of a.answers d ≡ Some x → IsTrue (test stage) → IsTrue (is_waiting x) → IsTrue (holds a.seq (waits_in test d) s.live)
-  waits_fits stage test x f g h k = found_holds t (waits_in test d) s.live a e (join (test a.stage) (answer_passes is_waiting d a.answers) (rw f h) ((answer_told d a.answers x g).1 is_waiting k))
+-- what is said of an attempt that was found, and of a device of it with its answer
+module _ (s : ShowState) (t : Attempt → Bool) (a : Attempt) (w : DeviceAnswer) (e : find t s.live ≡ Some a) where
+  waits_fits : (stage : Stage) (test : Stage → Bool) (x : Answer) → a.stage ≡ stage → answer_of a.answers w.device ≡ Some x → IsTrue (test stage) → IsTrue (is_waiting x) → IsTrue (holds a.seq (waits_in test w.device) s.live)
+  waits_fits stage test x f g h k = found_holds t (waits_in test w.device) s.live a e (join (test a.stage) (answer_passes is_waiting w.device a.answers) (rw f h) ((answer_told w.device a.answers x g).1 is_waiting k))
 
-  reply_in_fits : (kind : ReplyKind) (stage : Stage) (x : Answer) → a.stage ≡ stage → answer_of a.answers d ≡ Some x → IsTrue (are_acceptable s (on_reply_in kind a.seq d stage x).1)
-  reply_in_fits reply.StandingBy Preparing answer.Waiting f g = one s (event.Ready a.seq d) (waits_fits Preparing is_preparing answer.Waiting f g refl refl)
+  -- Cancel, and then an answer of the device to it
+  cancel_fits_then : (r : Reason) (x : Answer) (last : Event) (stage : Stage → Bool) → a.stage ≡ Preparing → answer_of a.answers w.device ≡ Some x → IsTrue (stage (Cancelling r))
+      → (IsTrue (holds a.seq (waits_in stage w.device) (moved a.seq (Cancelling r) s.live)) → IsTrue (acceptable (after s (event.Cancel a.seq r)) last)) → IsTrue (are_acceptable s (event.Cancel a.seq r ∷ last ∷ []))
+  cancel_fits_then r x last stage f g k fits = let h = cancelled_then s t a r w.device stage e (rw f refl) (answer_told w.device a.answers x g).0 k in two s (event.Cancel a.seq r) last h.0 (fits h.1)
+
+  release_in_fits : (stage : Stage) (x : Answer) → a.stage ≡ stage → answer_of a.answers w.device ≡ Some x → IsTrue (are_acceptable s (on_release_in a.seq w stage x).1)
+  release_in_fits Preparing answer.Waiting f g = cancel_fits_then Release answer.Waiting (event.LetGo a.seq w.device) is_cancelling f g refl (λ h. h)
+  release_in_fits Preparing answer.Ready f g = cancel_fits_then Release answer.Ready (event.LetGo a.seq w.device) is_cancelling f g refl (λ h. h)
+  release_in_fits Preparing answer.Done f g = cancel_fits_then Release answer.Done (event.LetGo a.seq w.device) is_cancelling f g refl (λ h. h)
+  release_in_fits Preparing answer.LetGo f g = cancel_fits_then Release answer.LetGo (event.LetGo a.seq w.device) is_cancelling f g refl (λ h. h)
+  release_in_fits Preparing answer.Failed f g = cancel_fits_then Release answer.Failed (event.LetGo a.seq w.device) is_cancelling f g refl (λ h. h)
+  release_in_fits Decided answer.Waiting f g = one s (event.Failed a.seq w.device) (waits_fits Decided is_concluding answer.Waiting f g refl refl)
+  release_in_fits Decided answer.Ready f g = refl
+  release_in_fits Decided answer.Done f g = refl
+  release_in_fits Decided answer.LetGo f g = refl
+  release_in_fits Decided answer.Failed f g = refl
+  release_in_fits (Cancelling r) answer.Waiting f g = one s (event.LetGo a.seq w.device) (waits_fits (Cancelling r) is_cancelling answer.Waiting f g refl refl)
+  release_in_fits (Cancelling r) answer.Ready f g = refl
+  release_in_fits (Cancelling r) answer.Done f g = refl
+  release_in_fits (Cancelling r) answer.LetGo f g = refl
+  release_in_fits (Cancelling r) answer.Failed f g = refl
+
+  reply_in_fits : (kind : ReplyKind) (stage : Stage) (x : Answer) → a.stage ≡ stage → answer_of a.answers w.device ≡ Some x → IsTrue (are_acceptable s (on_reply_in kind a.seq w stage x).1)
+  reply_in_fits reply.StandingBy Preparing answer.Waiting f g = one s (event.Ready a.seq w.device) (waits_fits Preparing is_preparing answer.Waiting f g refl refl)
   reply_in_fits reply.StandingBy Preparing answer.Ready f g = refl
   reply_in_fits reply.StandingBy Preparing answer.Done f g = refl
   reply_in_fits reply.StandingBy Preparing answer.LetGo f g = refl
@@ -332,39 +317,84 @@ module _ (s : ShowState) (t : Attempt → Bool) (a : Attempt) (d : ℕ) (e : fin
   reply_in_fits reply.StandingBy Decided answer.Done f g = refl
   reply_in_fits reply.StandingBy Decided answer.LetGo f g = refl
   reply_in_fits reply.StandingBy Decided answer.Failed f g = refl
-  reply_in_fits reply.StandingBy (Cancelling r) x f g = refl
-  reply_in_fits reply.Complete Preparing x f g = refl
-  reply_in_fits reply.Complete Decided answer.Waiting f g = one s (event.Done a.seq d) (waits_fits Decided is_decided answer.Waiting f g refl refl)
+  reply_in_fits reply.StandingBy (Cancelling r) answer.Waiting f g = refl
+  reply_in_fits reply.StandingBy (Cancelling r) answer.Ready f g = refl
+  reply_in_fits reply.StandingBy (Cancelling r) answer.Done f g = refl
+  reply_in_fits reply.StandingBy (Cancelling r) answer.LetGo f g = refl
+  reply_in_fits reply.StandingBy (Cancelling r) answer.Failed f g = refl
+  reply_in_fits reply.Complete Preparing answer.Waiting f g = refl
+  reply_in_fits reply.Complete Preparing answer.Ready f g = refl
+  reply_in_fits reply.Complete Preparing answer.Done f g = refl
+  reply_in_fits reply.Complete Preparing answer.LetGo f g = refl
+  reply_in_fits reply.Complete Preparing answer.Failed f g = refl
+  reply_in_fits reply.Complete Decided answer.Waiting f g = one s (event.Done a.seq w.device) (waits_fits Decided is_decided answer.Waiting f g refl refl)
   reply_in_fits reply.Complete Decided answer.Ready f g = refl
   reply_in_fits reply.Complete Decided answer.Done f g = refl
   reply_in_fits reply.Complete Decided answer.LetGo f g = refl
   reply_in_fits reply.Complete Decided answer.Failed f g = refl
-  reply_in_fits reply.Complete (Cancelling r) x f g = refl
-  reply_in_fits reply.Cancelled Preparing x f g = refl
-  reply_in_fits reply.Cancelled Decided x f g = refl
-  reply_in_fits reply.Cancelled (Cancelling r) answer.Waiting f g = one s (event.LetGo a.seq d) (waits_fits (Cancelling r) is_cancelling answer.Waiting f g refl refl)
+  reply_in_fits reply.Complete (Cancelling r) answer.Waiting f g = refl
+  reply_in_fits reply.Complete (Cancelling r) answer.Ready f g = refl
+  reply_in_fits reply.Complete (Cancelling r) answer.Done f g = refl
+  reply_in_fits reply.Complete (Cancelling r) answer.LetGo f g = refl
+  reply_in_fits reply.Complete (Cancelling r) answer.Failed f g = refl
+  reply_in_fits reply.Cancelled Preparing answer.Waiting f g = refl
+  reply_in_fits reply.Cancelled Preparing answer.Ready f g = refl
+  reply_in_fits reply.Cancelled Preparing answer.Done f g = refl
+  reply_in_fits reply.Cancelled Preparing answer.LetGo f g = refl
+  reply_in_fits reply.Cancelled Preparing answer.Failed f g = refl
+  reply_in_fits reply.Cancelled Decided answer.Waiting f g = refl
+  reply_in_fits reply.Cancelled Decided answer.Ready f g = refl
+  reply_in_fits reply.Cancelled Decided answer.Done f g = refl
+  reply_in_fits reply.Cancelled Decided answer.LetGo f g = refl
+  reply_in_fits reply.Cancelled Decided answer.Failed f g = refl
+  reply_in_fits reply.Cancelled (Cancelling r) answer.Waiting f g = one s (event.LetGo a.seq w.device) (waits_fits (Cancelling r) is_cancelling answer.Waiting f g refl refl)
   reply_in_fits reply.Cancelled (Cancelling r) answer.Ready f g = refl
   reply_in_fits reply.Cancelled (Cancelling r) answer.Done f g = refl
   reply_in_fits reply.Cancelled (Cancelling r) answer.LetGo f g = refl
   reply_in_fits reply.Cancelled (Cancelling r) answer.Failed f g = refl
-  reply_in_fits reply.Abort Preparing x f g = let h = cancelled_then s t a Abort d is_concluding e (rw f refl) (answer_told d a.answers x g).0 refl in two s (event.Cancel a.seq Abort) (event.Failed a.seq d) h.0 h.1
-  reply_in_fits reply.Abort Decided answer.Waiting f g = one s (event.Failed a.seq d) (waits_fits Decided is_concluding answer.Waiting f g refl refl)
+  reply_in_fits reply.Abort Preparing answer.Waiting f g = cancel_fits_then Abort answer.Waiting (event.Failed a.seq w.device) is_concluding f g refl (λ h. h)
+  reply_in_fits reply.Abort Preparing answer.Ready f g = cancel_fits_then Abort answer.Ready (event.Failed a.seq w.device) is_concluding f g refl (λ h. h)
+  reply_in_fits reply.Abort Preparing answer.Done f g = cancel_fits_then Abort answer.Done (event.Failed a.seq w.device) is_concluding f g refl (λ h. h)
+  reply_in_fits reply.Abort Preparing answer.LetGo f g = cancel_fits_then Abort answer.LetGo (event.Failed a.seq w.device) is_concluding f g refl (λ h. h)
+  reply_in_fits reply.Abort Preparing answer.Failed f g = cancel_fits_then Abort answer.Failed (event.Failed a.seq w.device) is_concluding f g refl (λ h. h)
+  reply_in_fits reply.Abort Decided answer.Waiting f g = one s (event.Failed a.seq w.device) (waits_fits Decided is_concluding answer.Waiting f g refl refl)
   reply_in_fits reply.Abort Decided answer.Ready f g = refl
   reply_in_fits reply.Abort Decided answer.Done f g = refl
   reply_in_fits reply.Abort Decided answer.LetGo f g = refl
   reply_in_fits reply.Abort Decided answer.Failed f g = refl
-  reply_in_fits reply.Abort (Cancelling r) answer.Waiting f g = one s (event.Failed a.seq d) (waits_fits (Cancelling r) is_concluding answer.Waiting f g refl refl)
+  reply_in_fits reply.Abort (Cancelling r) answer.Waiting f g = one s (event.Failed a.seq w.device) (waits_fits (Cancelling r) is_concluding answer.Waiting f g refl refl)
   reply_in_fits reply.Abort (Cancelling r) answer.Ready f g = refl
   reply_in_fits reply.Abort (Cancelling r) answer.Done f g = refl
   reply_in_fits reply.Abort (Cancelling r) answer.LetGo f g = refl
   reply_in_fits reply.Abort (Cancelling r) answer.Failed f g = refl
 
-  reply_to_fits : (kind : ReplyKind) → IsTrue (are_acceptable s (on_reply_to kind d a).1)
-  reply_to_fits kind = by (answer_of a.answers d) refl
-    where
-      by : (o : Option Answer) → answer_of a.answers d ≡ o → IsTrue (are_acceptable s (option_map_or (on_reply_in kind a.seq d a.stage) o (refused code.NotPart)).1)
-      by None g = refl
-      by (Some x) g = reply_in_fits kind a.stage x refl g
+-- the device that is found is the one that was looked for, with its answer
+found_told : (d : ℕ) (xs : List DeviceAnswer) (w : DeviceAnswer) → device_answer xs d ≡ Some w → answer_of xs w.device ≡ Some w.answer
+found_told d xs w g =
+    let same : w.device ≡ d = same_number w.device d (found_passes (λ x. nat_eq x.device d) xs w g) in
+    rw same (ap (λ (o : Option DeviceAnswer). option_map (λ x. x.answer) o) g)
+
+release_of_fits : (s : ShowState) (d : ℕ) (a : Attempt) → attempt_of_device s.live d ≡ Some a → IsTrue (are_acceptable s (on_release_of d a).1)
+release_of_fits s d a e = by (device_answer a.answers d) refl
+  where
+    by : (o : Option DeviceAnswer) → device_answer a.answers d ≡ o → IsTrue (are_acceptable s (option_map_or (λ x. on_release_in a.seq x a.stage x.answer) o (refused code.NotLive)).1)
+    by None g = refl
+    by (Some w) g = release_in_fits s (is_of_device d) a w e a.stage w.answer refl (found_told d a.answers w g)
+
+reply_to_fits : (s : ShowState) (q d : ℕ) (a : Attempt) → attempt_of s.live q ≡ Some a → (kind : ReplyKind) → IsTrue (are_acceptable s (on_reply_to kind d a).1)
+reply_to_fits s q d a e kind = by (device_answer a.answers d) refl
+  where
+    by : (o : Option DeviceAnswer) → device_answer a.answers d ≡ o → IsTrue (are_acceptable s (option_map_or (λ x. on_reply_in kind a.seq x a.stage x.answer) o (refused code.NotPart)).1)
+    by None g = refl
+    by (Some w) g = reply_in_fits s (has_number q) a w e kind a.stage w.answer refl (found_told d a.answers w g)
+
+release_fits : (s : ShowState) (d : ℕ) → IsTrue (are_acceptable s (on_release s d).1)
+release_fits s d = by (has_device s.show d) (attempt_of_device s.live d) refl
+  where
+    by : (b : Bool) (o : Option Attempt) → attempt_of_device s.live d ≡ o → IsTrue (are_acceptable s (if not b then refused code.NoMethod else option_map_or (on_release_of d) o (refused code.NotLive)).1)
+    by false o e = refl
+    by true None e = refl
+    by true (Some a) e = release_of_fits s d a e
 
 reply_fits : (s : ShowState) (from : ℕ) (kind : ReplyKind) (d q : ℕ) → IsTrue (are_acceptable s (on_reply s from kind d q).1)
 reply_fits s from kind d q = by (has_device s.show d) (is_from_another s d from) (nat_lt s.last_seq q) (attempt_of s.live q) refl
@@ -375,7 +405,7 @@ reply_fits s from kind d q = by (has_device s.show d) (is_from_another s d from)
     by true true l o e = refl
     by true false true o e = refl
     by true false false None e = refl
-    by true false false (Some a) e = reply_to_fits s (has_number q) a d e kind
+    by true false false (Some a) e = reply_to_fits s q d a e kind
 
 -- ---- all commands
 

@@ -16,3 +16,4 @@ pub mod Truth
 pub mod Closing
 pub mod Batches
 pub mod Resting
+pub mod InTurn

@@ -8,8 +8,9 @@ use Rattle.cue_exchange.specs.declared.attempt.Answer.{Answer}
 use Rattle.cue_exchange.specs.declared.attempt.Answer.TheVariants as answer
 use Rattle.cue_exchange.specs.declared.attempt.Stage.{Stage}
 use Rattle.cue_exchange.specs.declared.attempt.Stage.TheVariants.{Preparing, Decided, Cancelling}
+use Rattle.cue_exchange.specs.declared.attempt.DeviceAnswer.{DeviceAnswer}
 use Rattle.cue_exchange.specs.declared.attempt.Attempt.{Attempt}
-use Rattle.cue_exchange.specs.Answers.{answer_of}
+use Rattle.cue_exchange.specs.Answers.{device_answer}
 use Rattle.cue_exchange.specs.Live.{attempt_of, has_number}
 use Rattle.cue_core.specs.declared.event.Event.{Event}
 use Rattle.cue_core.specs.declared.event.Event.TheVariants as event
@@ -75,7 +76,7 @@ itself_twice : (q : ℕ) → IsTrue (nat_eq q q && (nat_eq q q && true))
 itself_twice q = join (nat_eq q q) (nat_eq q q && true) (same_self q) (itself q)
 
 -- each cell of the table makes events of the attempt alone
-cell_of : (kind : ReplyKind) (q d : ℕ) (stage : Stage) (x : Answer) → IsTrue (list_all (of_reply q) (on_reply_in kind q d stage x).1)
+cell_of : (kind : ReplyKind) (q : ℕ) (d : DeviceAnswer) (stage : Stage) (x : Answer) → IsTrue (list_all (of_reply q) (on_reply_in kind q d stage x).1)
 cell_of reply.StandingBy q d Preparing answer.Waiting = itself q
 cell_of reply.StandingBy q d Preparing answer.Ready = refl
 cell_of reply.StandingBy q d Preparing answer.Done = refl
@@ -86,22 +87,46 @@ cell_of reply.StandingBy q d Decided answer.Ready = refl
 cell_of reply.StandingBy q d Decided answer.Done = refl
 cell_of reply.StandingBy q d Decided answer.LetGo = refl
 cell_of reply.StandingBy q d Decided answer.Failed = refl
-cell_of reply.StandingBy q d (Cancelling r) x = refl
-cell_of reply.Complete q d Preparing x = refl
+cell_of reply.StandingBy q d (Cancelling r) answer.Waiting = refl
+cell_of reply.StandingBy q d (Cancelling r) answer.Ready = refl
+cell_of reply.StandingBy q d (Cancelling r) answer.Done = refl
+cell_of reply.StandingBy q d (Cancelling r) answer.LetGo = refl
+cell_of reply.StandingBy q d (Cancelling r) answer.Failed = refl
+cell_of reply.Complete q d Preparing answer.Waiting = refl
+cell_of reply.Complete q d Preparing answer.Ready = refl
+cell_of reply.Complete q d Preparing answer.Done = refl
+cell_of reply.Complete q d Preparing answer.LetGo = refl
+cell_of reply.Complete q d Preparing answer.Failed = refl
 cell_of reply.Complete q d Decided answer.Waiting = itself q
 cell_of reply.Complete q d Decided answer.Ready = refl
 cell_of reply.Complete q d Decided answer.Done = refl
 cell_of reply.Complete q d Decided answer.LetGo = refl
 cell_of reply.Complete q d Decided answer.Failed = refl
-cell_of reply.Complete q d (Cancelling r) x = refl
-cell_of reply.Cancelled q d Preparing x = refl
-cell_of reply.Cancelled q d Decided x = refl
+cell_of reply.Complete q d (Cancelling r) answer.Waiting = refl
+cell_of reply.Complete q d (Cancelling r) answer.Ready = refl
+cell_of reply.Complete q d (Cancelling r) answer.Done = refl
+cell_of reply.Complete q d (Cancelling r) answer.LetGo = refl
+cell_of reply.Complete q d (Cancelling r) answer.Failed = refl
+cell_of reply.Cancelled q d Preparing answer.Waiting = refl
+cell_of reply.Cancelled q d Preparing answer.Ready = refl
+cell_of reply.Cancelled q d Preparing answer.Done = refl
+cell_of reply.Cancelled q d Preparing answer.LetGo = refl
+cell_of reply.Cancelled q d Preparing answer.Failed = refl
+cell_of reply.Cancelled q d Decided answer.Waiting = refl
+cell_of reply.Cancelled q d Decided answer.Ready = refl
+cell_of reply.Cancelled q d Decided answer.Done = refl
+cell_of reply.Cancelled q d Decided answer.LetGo = refl
+cell_of reply.Cancelled q d Decided answer.Failed = refl
 cell_of reply.Cancelled q d (Cancelling r) answer.Waiting = itself q
 cell_of reply.Cancelled q d (Cancelling r) answer.Ready = refl
 cell_of reply.Cancelled q d (Cancelling r) answer.Done = refl
 cell_of reply.Cancelled q d (Cancelling r) answer.LetGo = refl
 cell_of reply.Cancelled q d (Cancelling r) answer.Failed = refl
-cell_of reply.Abort q d Preparing x = itself_twice q
+cell_of reply.Abort q d Preparing answer.Waiting = itself_twice q
+cell_of reply.Abort q d Preparing answer.Ready = itself_twice q
+cell_of reply.Abort q d Preparing answer.Done = itself_twice q
+cell_of reply.Abort q d Preparing answer.LetGo = itself_twice q
+cell_of reply.Abort q d Preparing answer.Failed = itself_twice q
 cell_of reply.Abort q d Decided answer.Waiting = itself q
 cell_of reply.Abort q d Decided answer.Ready = refl
 cell_of reply.Abort q d Decided answer.Done = refl
@@ -114,11 +139,11 @@ cell_of reply.Abort q d (Cancelling r) answer.LetGo = refl
 cell_of reply.Abort q d (Cancelling r) answer.Failed = refl
 
 to_attempt : (kind : ReplyKind) (d q : ℕ) (a : Attempt) → a.seq ≡ q → IsTrue (list_all (of_reply q) (on_reply_to kind d a).1)
-to_attempt kind d q a e = rw (← e) (at (answer_of a.answers d))
+to_attempt kind d q a e = rw (← e) (at (device_answer a.answers d))
   where
-    at : (o : Option Answer) → IsTrue (list_all (of_reply a.seq) (option_map_or (on_reply_in kind a.seq d a.stage) o (refused code.NotPart)).1)
+    at : (o : Option DeviceAnswer) → IsTrue (list_all (of_reply a.seq) (option_map_or (λ x. on_reply_in kind a.seq x a.stage x.answer) o (refused code.NotPart)).1)
     at None = refl
-    at (Some x) = cell_of kind a.seq d a.stage x
+    at (Some x) = cell_of kind a.seq x a.stage x.answer
 
 of_attempt : (s : ShowState) (r : Said) → IsTrue (list_all (of_reply r.number) (on_reply s r.from r.kind r.device r.number).1)
 of_attempt s r = at (has_device s.show r.device) (is_from_another s r.device r.from) (nat_lt s.last_seq r.number) (attempt_of s.live r.number) refl

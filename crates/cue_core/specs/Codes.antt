@@ -1,7 +1,9 @@
--- The codes as they are sent.
+-- The codes as they are sent: those of a command, and those of a datagram that is refused whole.
 use Rattle.std.specs.Prelude.{ℕ}
 use Rattle.cue_core.specs.declared.command.Code.{Code}
 use Rattle.cue_core.specs.declared.command.Code.TheVariants.{Unread, BadPattern, NoMethod, Arguments, BadNumber, Duplicate, Full, BadParts, UnknownDevice, InUse, Busy, NotLive, NotReady, Decided, Stale, Early, WrongPort, Clock, Exhausted, NotPart}
+use Rattle.cue_core.specs.declared.refusal.Refusal.{Refusal}
+use Rattle.cue_core.specs.declared.refusal.Refusal.TheVariants as refusal
 
 -- the number of a code
 abbrev pub code_number : Code → ℕ
@@ -25,3 +27,10 @@ code_number WrongPort = 17
 code_number Clock = 18
 code_number Exhausted = 19
 code_number NotPart = 20
+
+-- the number of a refusal of a whole datagram
+abbrev pub refusal_number : Refusal → ℕ
+refusal_number refusal.BadPacket = 30
+refusal_number refusal.TooLong = 31
+refusal_number refusal.Later = 32
+refusal_number refusal.TooMany = 33

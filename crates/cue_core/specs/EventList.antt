@@ -1,4 +1,4 @@
--- At most two events, as a list.
+-- Helper: at most two events, as a list.
 use Rattle.std.specs.Prelude.{List, [], ◌∷◌}
 use Rattle.cue_core.specs.declared.event.Event.{Event}
 use Rattle.cue_core.specs.declared.events.Held.{Held}

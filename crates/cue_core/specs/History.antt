@@ -1,11 +1,12 @@
 -- What a history says by itself. A history is the list of the events that were accepted, the newest first.
 use Rattle.std.specs.Prelude.{◌≡◌, ℕ, Bool, true, not, ◌&&◌, if◌then◌else◌, List, [], ◌∷◌, Some, is_some, count_by, IsTrue}
 use Rattle.std.specs.List.{list_any}
+use Rattle.cue_show.specs.declared.part.Part.{Part}
 use Rattle.cue_exchange.specs.declared.attempt.Attempt.{Attempt}
 use Rattle.cue_exchange.specs.Answers.{devices_of, is_preparing, is_decided, is_ready, answer_passes}
 use Rattle.cue_exchange.specs.Live.{attempt_of, devices_in, is_among}
 use Rattle.cue_core.specs.declared.event.Event.{Event}
-use Rattle.cue_core.specs.declared.event.Event.TheVariants.{Start}
+use Rattle.cue_core.specs.declared.event.Event.TheVariants.{Device, NoDevice, Cue, NoCue, Place, Start, Ready, Go, Done, Cancel, LetGo, Failed}
 use Rattle.cue_core.specs.State.{ShowState, empty_state, cue_parts}
 use Rattle.cue_core.specs.Steps.{acceptable, after}
 use Rattle.cue_core.specs.Events.{is_start, is_start_of, is_ready_of, is_go_of, is_end_of}
@@ -20,15 +21,29 @@ abbrev pub is_history : List Event → Bool
 is_history [] = true
 is_history (e ∷ past) = acceptable (state_of past) e && is_history past
 
--- the devices of the cue at which an attempt starts
-abbrev pub devices_started : ShowState → Event → List ℕ
-devices_started s (Start q c t) = devices_in (cue_parts s.show c)
-devices_started s _ = []
+-- the parts of the cue at which an attempt starts
+abbrev pub parts_started : ShowState → Event → List Part
+parts_started s (Device d port) = []
+parts_started s (NoDevice d) = []
+parts_started s (Cue c parts) = []
+parts_started s (NoCue c) = []
+parts_started s (Place c) = []
+parts_started s (Start q c t) = cue_parts s.show c
+parts_started s (Ready q d) = []
+parts_started s (Go q) = []
+parts_started s (Done q d) = []
+parts_started s (Cancel q r) = []
+parts_started s (LetGo q d) = []
+parts_started s (Failed q d) = []
 
--- the devices of q are those of its cue at its Start
+-- the parts of q are those of its cue at its Start
+abbrev pub parts_by : List Event → ℕ → List Part
+parts_by [] q = []
+parts_by (e ∷ past) q = if is_start_of q e then parts_started (state_of past) e else parts_by past q
+
+-- and its devices are those of its parts
 abbrev pub devices_by : List Event → ℕ → List ℕ
-devices_by [] q = []
-devices_by (e ∷ past) q = if is_start_of q e then devices_started (state_of past) e else devices_by past q
+devices_by h q = devices_in (parts_by h q)
 
 -- q has started, and some device of it has not answered for the last time
 abbrev pub is_live_by : List Event → ℕ → Bool

@@ -12,8 +12,9 @@ use Rattle.cue_exchange.specs.declared.attempt.Answer.TheVariants as answer
 use Rattle.cue_exchange.specs.declared.attempt.Reason.TheVariants.{Operator, Abort, Release}
 use Rattle.cue_exchange.specs.declared.attempt.Stage.{Stage}
 use Rattle.cue_exchange.specs.declared.attempt.Stage.TheVariants.{Preparing, Decided, Cancelling}
+use Rattle.cue_exchange.specs.declared.attempt.DeviceAnswer.{DeviceAnswer}
 use Rattle.cue_exchange.specs.declared.attempt.Attempt.{Attempt}
-use Rattle.cue_exchange.specs.Answers.{is_preparing, is_decided, is_cancelling, is_waiting, answer_of, answer_passes}
+use Rattle.cue_exchange.specs.Answers.{is_preparing, is_decided, is_cancelling, device_answer}
 use Rattle.cue_exchange.specs.Live.{devices_in, attempt_of, attempt_of_cue, attempt_of_device, is_moment, is_number}
 use Rattle.cue_exchange.specs.Steps.{are_free, has_room, can_go_now}
 use Rattle.cue_core.specs.declared.limits.TheConstants.{STANDBY_MS}
@@ -151,52 +152,102 @@ on_cancel_of a =
 abbrev pub on_cancel : ShowState → List ℕ → Judged
 on_cancel s c = if not (has_cue s.show c) then refused code.NoMethod else option_map_or on_cancel_of (attempt_of_cue s.live c) (refused code.NotLive)
 
--- a device is let go of by the operator
+-- the operator waits no longer for the device: the attempt, the device as it is recorded, the stage, and the answer of the record
+abbrev pub on_release_in : ℕ → DeviceAnswer → Stage → Answer → Judged
+on_release_in q x Preparing answer.Waiting = made (event.Cancel q Release ∷ event.LetGo q x.device ∷ [])
+on_release_in q x Preparing answer.Ready = made (event.Cancel q Release ∷ event.LetGo q x.device ∷ [])
+on_release_in q x Preparing answer.Done = made (event.Cancel q Release ∷ event.LetGo q x.device ∷ [])
+on_release_in q x Preparing answer.LetGo = made (event.Cancel q Release ∷ event.LetGo q x.device ∷ [])
+on_release_in q x Preparing answer.Failed = made (event.Cancel q Release ∷ event.LetGo q x.device ∷ [])
+on_release_in q x Decided answer.Waiting = made (event.Failed q x.device ∷ [])
+on_release_in q x Decided answer.Ready = known
+on_release_in q x Decided answer.Done = known
+on_release_in q x Decided answer.LetGo = known
+on_release_in q x Decided answer.Failed = known
+on_release_in q x (Cancelling r) answer.Waiting = made (event.LetGo q x.device ∷ [])
+on_release_in q x (Cancelling r) answer.Ready = known
+on_release_in q x (Cancelling r) answer.Done = known
+on_release_in q x (Cancelling r) answer.LetGo = known
+on_release_in q x (Cancelling r) answer.Failed = known
+
+-- a device of a live attempt is let go of
 abbrev pub on_release_of : ℕ → Attempt → Judged
-on_release_of d a =
-    first_line (
-    (is_preparing a.stage, made (event.Cancel a.seq Release ∷ event.LetGo a.seq d ∷ []))
-    ∷ (not (answer_passes is_waiting d a.answers), known)
-    ∷ (is_decided a.stage, made (event.Failed a.seq d ∷ []))
-    ∷ [])
-    (made (event.LetGo a.seq d ∷ []))
+on_release_of d a = option_map_or (λ x. on_release_in a.seq x a.stage x.answer) (device_answer a.answers d) (refused code.NotLive)
 
 abbrev pub on_release : ShowState → ℕ → Judged
 on_release s d = if not (has_device s.show d) then refused code.NoMethod else option_map_or (on_release_of d) (attempt_of_device s.live d) (refused code.NotLive)
 
--- ---- the table of replies: the attempt, the device, the stage, and the device's answer so far
+-- ---- the table of replies: the attempt, the device as it is recorded, the stage, and the answer of the record
 
-abbrev pub on_standing_by : ℕ → ℕ → Stage → Answer → Judged
-on_standing_by q d Preparing answer.Waiting = made (event.Ready q d ∷ [])
-on_standing_by q d Preparing _ = known
-on_standing_by q d Decided answer.Failed = refused code.Stale
-on_standing_by q d Decided _ = known
-on_standing_by q d (Cancelling r) _ = refused code.Stale
+abbrev pub on_standing_by : ℕ → DeviceAnswer → Stage → Answer → Judged
+on_standing_by q x Preparing answer.Waiting = made (event.Ready q x.device ∷ [])
+on_standing_by q x Preparing answer.Ready = known
+on_standing_by q x Preparing answer.Done = known
+on_standing_by q x Preparing answer.LetGo = known
+on_standing_by q x Preparing answer.Failed = known
+on_standing_by q x Decided answer.Waiting = known
+on_standing_by q x Decided answer.Ready = known
+on_standing_by q x Decided answer.Done = known
+on_standing_by q x Decided answer.LetGo = known
+on_standing_by q x Decided answer.Failed = refused code.Stale
+on_standing_by q x (Cancelling r) answer.Waiting = refused code.Stale
+on_standing_by q x (Cancelling r) answer.Ready = refused code.Stale
+on_standing_by q x (Cancelling r) answer.Done = refused code.Stale
+on_standing_by q x (Cancelling r) answer.LetGo = refused code.Stale
+on_standing_by q x (Cancelling r) answer.Failed = refused code.Stale
 
-abbrev pub on_complete : ℕ → ℕ → Stage → Answer → Judged
-on_complete q d Preparing _ = refused code.Early
-on_complete q d Decided answer.Waiting = made (event.Done q d ∷ [])
-on_complete q d Decided answer.Done = known
-on_complete q d Decided _ = refused code.Stale
-on_complete q d (Cancelling r) _ = refused code.Stale
+abbrev pub on_complete : ℕ → DeviceAnswer → Stage → Answer → Judged
+on_complete q x Preparing answer.Waiting = refused code.Early
+on_complete q x Preparing answer.Ready = refused code.Early
+on_complete q x Preparing answer.Done = refused code.Early
+on_complete q x Preparing answer.LetGo = refused code.Early
+on_complete q x Preparing answer.Failed = refused code.Early
+on_complete q x Decided answer.Waiting = made (event.Done q x.device ∷ [])
+on_complete q x Decided answer.Ready = refused code.Stale
+on_complete q x Decided answer.Done = known
+on_complete q x Decided answer.LetGo = refused code.Stale
+on_complete q x Decided answer.Failed = refused code.Stale
+on_complete q x (Cancelling r) answer.Waiting = refused code.Stale
+on_complete q x (Cancelling r) answer.Ready = refused code.Stale
+on_complete q x (Cancelling r) answer.Done = refused code.Stale
+on_complete q x (Cancelling r) answer.LetGo = refused code.Stale
+on_complete q x (Cancelling r) answer.Failed = refused code.Stale
 
-abbrev pub on_cancelled : ℕ → ℕ → Stage → Answer → Judged
-on_cancelled q d Preparing _ = refused code.Early
-on_cancelled q d Decided _ = refused code.Decided
-on_cancelled q d (Cancelling r) answer.Waiting = made (event.LetGo q d ∷ [])
-on_cancelled q d (Cancelling r) answer.LetGo = known
-on_cancelled q d (Cancelling r) _ = refused code.Stale
+abbrev pub on_cancelled : ℕ → DeviceAnswer → Stage → Answer → Judged
+on_cancelled q x Preparing answer.Waiting = refused code.Early
+on_cancelled q x Preparing answer.Ready = refused code.Early
+on_cancelled q x Preparing answer.Done = refused code.Early
+on_cancelled q x Preparing answer.LetGo = refused code.Early
+on_cancelled q x Preparing answer.Failed = refused code.Early
+on_cancelled q x Decided answer.Waiting = refused code.Decided
+on_cancelled q x Decided answer.Ready = refused code.Decided
+on_cancelled q x Decided answer.Done = refused code.Decided
+on_cancelled q x Decided answer.LetGo = refused code.Decided
+on_cancelled q x Decided answer.Failed = refused code.Decided
+on_cancelled q x (Cancelling r) answer.Waiting = made (event.LetGo q x.device ∷ [])
+on_cancelled q x (Cancelling r) answer.Ready = refused code.Stale
+on_cancelled q x (Cancelling r) answer.Done = refused code.Stale
+on_cancelled q x (Cancelling r) answer.LetGo = known
+on_cancelled q x (Cancelling r) answer.Failed = refused code.Stale
 
-abbrev pub on_abort : ℕ → ℕ → Stage → Answer → Judged
-on_abort q d Preparing _ = made (event.Cancel q Abort ∷ event.Failed q d ∷ [])
-on_abort q d Decided answer.Waiting = made (event.Failed q d ∷ [])
-on_abort q d Decided answer.Failed = known
-on_abort q d Decided _ = refused code.Stale
-on_abort q d (Cancelling r) answer.Waiting = made (event.Failed q d ∷ [])
-on_abort q d (Cancelling r) answer.Failed = known
-on_abort q d (Cancelling r) _ = refused code.Stale
+abbrev pub on_abort : ℕ → DeviceAnswer → Stage → Answer → Judged
+on_abort q x Preparing answer.Waiting = made (event.Cancel q Abort ∷ event.Failed q x.device ∷ [])
+on_abort q x Preparing answer.Ready = made (event.Cancel q Abort ∷ event.Failed q x.device ∷ [])
+on_abort q x Preparing answer.Done = made (event.Cancel q Abort ∷ event.Failed q x.device ∷ [])
+on_abort q x Preparing answer.LetGo = made (event.Cancel q Abort ∷ event.Failed q x.device ∷ [])
+on_abort q x Preparing answer.Failed = made (event.Cancel q Abort ∷ event.Failed q x.device ∷ [])
+on_abort q x Decided answer.Waiting = made (event.Failed q x.device ∷ [])
+on_abort q x Decided answer.Ready = refused code.Stale
+on_abort q x Decided answer.Done = refused code.Stale
+on_abort q x Decided answer.LetGo = refused code.Stale
+on_abort q x Decided answer.Failed = known
+on_abort q x (Cancelling r) answer.Waiting = made (event.Failed q x.device ∷ [])
+on_abort q x (Cancelling r) answer.Ready = refused code.Stale
+on_abort q x (Cancelling r) answer.Done = refused code.Stale
+on_abort q x (Cancelling r) answer.LetGo = refused code.Stale
+on_abort q x (Cancelling r) answer.Failed = known
 
-abbrev pub on_reply_in : ReplyKind → ℕ → ℕ → Stage → Answer → Judged
+abbrev pub on_reply_in : ReplyKind → ℕ → DeviceAnswer → Stage → Answer → Judged
 on_reply_in reply.StandingBy = on_standing_by
 on_reply_in reply.Complete = on_complete
 on_reply_in reply.Cancelled = on_cancelled
@@ -204,7 +255,7 @@ on_reply_in reply.Abort = on_abort
 
 -- a reply to a live attempt
 abbrev pub on_reply_to : ReplyKind → ℕ → Attempt → Judged
-on_reply_to kind d a = option_map_or (on_reply_in kind a.seq d a.stage) (answer_of a.answers d) (refused code.NotPart)
+on_reply_to kind d a = option_map_or (λ x. on_reply_in kind a.seq x a.stage x.answer) (device_answer a.answers d) (refused code.NotPart)
 
 -- a reply that came from the port of another
 abbrev pub is_from_another : ShowState → ℕ → ℕ → Bool

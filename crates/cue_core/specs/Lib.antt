@@ -11,3 +11,4 @@ pub mod Replies
 pub mod Pending
 pub mod Safety
 pub mod Batches
+pub mod InTurn

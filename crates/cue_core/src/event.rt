@@ -1,7 +1,7 @@
 //! The twelve kinds of event: all that can happen to a state.
 ghost use Rattle.std.specs.Prelude.{◌≡◌};
 
-use cue_exchange::attempt::{Outcome, Reason};
+use cue_exchange::{Outcome, Reason};
 use cue_show::{CueNo, DeviceNo, Parts};
 use std::alloc::AllocError;
 

@@ -85,7 +85,7 @@ impl Events {
             (Held::One(event), 0) => Some(event),
             (Held::Two(first, _), 0) => Some(first),
             (Held::Two(_, second), 1) => Some(second),
-            _ => None,
+            (Held::None | Held::One(_) | Held::Two(_, _), _) => None,
         }
     }
 

@@ -11,14 +11,15 @@ mod verdicts;
 use crate::command::{Command, Verdict};
 use crate::events::Events;
 use crate::state::State;
-use std::alloc::AllocError;
+use std::alloc::{AllocError, Global};
 use verdicts::{known, refused};
 
 /// Judges a command on a state, at the moment `now` in milliseconds since 1970, where it came from the port `from` of this machine.
 ///
 /// The events that come with the verdict are acceptable in turn. Only the parts of a new
-/// cue take memory, from the allocator that the command's own parts keep.
+/// cue take memory.
 pub fn judge(
+    alloc: Global,
     state: &State,
     now: u64,
     from: u16,
@@ -33,10 +34,11 @@ pub fn judge(
     ensures made { IfOk result (λ r. (r.0 ≡ Verdict.Made) ↔ (r.1 ≢ [])) }
 {
     let _last = state.last_seq();
-    judged(state, now, from, command)
+    judged(alloc, state, now, from, command)
 }
 
 fn judged(
+    alloc: Global,
     state: &State,
     now: u64,
     from: u16,
@@ -47,7 +49,7 @@ fn judged(
     Ok(match command {
         Command::Status => known(),
         Command::AddDevice(device, port) => shows::on_add_device(state, *device, *port),
-        Command::AddCue(cue, parts) => return shows::on_add_cue(state, *cue, parts),
+        Command::AddCue(cue, parts) => return shows::on_add_cue(alloc, state, *cue, parts),
         Command::Standby(cue) => attempts::on_standby(state, now, *cue),
         Command::Go(cue) => attempts::on_go(state, *cue),
         Command::Cancel(cue) => attempts::on_cancel(state, *cue),

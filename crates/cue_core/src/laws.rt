@@ -6,6 +6,7 @@ ghost use Rattle.cue_core.specs.Batches.{AcceptableAreHistories, ClosedStays, De
 ghost use Rattle.cue_core.specs.History.{FactsByHistory};
 ghost use Rattle.cue_core.specs.Happenings.{CommandsInOrder, CommandsMakeHistories};
 ghost use Rattle.cue_core.specs.InOrder.{GoAfterReady};
+ghost use Rattle.cue_core.specs.InTurn.{StepsAreAcceptable, StepsGoOn, StepsMakeHistories};
 ghost use Rattle.cue_core.specs.Replies.{RepliesCommute, RepliesLeaveOthers};
 ghost use Rattle.cue_core.specs.Safety.{DecidedStays, NeverAskedBoth, OneHolder};
 
@@ -87,6 +88,22 @@ pub fn live_by_start()
 /// An attempt that is Decided after events was Decided before, or its Go is one of them.
 pub fn decided_by_go()
     ensures { DecidedByGo }
+{}
+
+/// The events of commands that are judged in turn are acceptable in turn: a datagram makes one batch.
+pub fn steps_are_acceptable()
+    ensures { StepsAreAcceptable }
+{}
+
+/// Of commands that are judged in turn the later ones are judged on the state that the events of the earlier ones lead to.
+pub fn steps_go_on()
+    ensures { StepsGoOn }
+{}
+
+/// Commands that come together carry the history on by the events that they make in turn: so each law on commands, ticks and recoveries
+/// holds of datagrams of many commands.
+pub fn steps_make_histories()
+    ensures { StepsMakeHistories }
 {}
 
 /// The limit, as a number: a device has 10 seconds to stand by.

@@ -10,12 +10,14 @@ pub mod events;
 pub mod judging;
 pub mod laws;
 pub mod limits;
+pub mod refusal;
 pub mod state;
 
 pub use command::{Code, Command, ReplyKind, Verdict};
 pub use event::{Ended, Event};
 pub use events::Events;
 pub use judging::judge;
+pub use refusal::Refusal;
 pub use state::{State, undecided};
 
 #[cfg(test)]

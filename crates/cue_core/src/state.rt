@@ -9,9 +9,8 @@ ghost use Rattle.cue_core.specs.State.{empty_state, is_state, are_tied, is_at_cu
 mod apply;
 
 use crate::event::Ended;
-use cue_exchange::attempt::{Attempt, DeviceAnswer};
 use cue_exchange::limits::LAST_NUMBER;
-use cue_exchange::live::Live;
+use cue_exchange::{Attempt, DeviceAnswer, Live};
 use cue_show::{Part, Show};
 use std::alloc::{AllocError, Global};
 use std::marker::Model;

@@ -6,7 +6,7 @@
 //! is asked for: `state`, `live` or `undecided`.
 
 use crate::{Ended, Event, Events, State, judge, undecided};
-use cue_exchange::attempt::Reason;
+use cue_exchange::Reason;
 use reading::Request;
 use std::alloc::{AllocError, Global};
 use std::process::Abort;
@@ -36,7 +36,7 @@ fn judge_only(
     asked: &Request,
 ) -> Result<String, Fail> {
     assert!(rt; asked.command.is_fit());
-    let (verdict, events) = judge(state, asked.now, asked.from, &asked.command)?;
+    let (verdict, events) = judge(alloc, state, asked.now, asked.from, &asked.command)?;
     Ok(told::of_judged(alloc, verdict, &events)?)
 }
 
@@ -48,7 +48,7 @@ fn carry_out(
     asked: &Request,
 ) -> Result<String, Fail> {
     assert!(rt; asked.command.is_fit());
-    let (verdict, events) = judge(state, asked.now, asked.from, &asked.command)?;
+    let (verdict, events) = judge(alloc, state, asked.now, asked.from, &asked.command)?;
     apply_each(rt, state, &events)?;
     Ok(told::of_judged(alloc, verdict, &events)?)
 }

@@ -64,7 +64,7 @@ pub record Elapses (before now : ℕ) (past since : ℕ → Contents) (present :
   pub rest : (k : ℕ) → before < k → k ≤ now → since k ≡ present
 
 -- A crash at any moment from `old` on up to `new` leaves only what has P. What was held up to `old` is as it was.
-pub record LeavesOnly {D : Type 0} (moment : D → ℕ) (held_at : D → ℕ → Contents) (old new : D) (P : List ℕ → Type 0) : Type 0 where
+pub record LeavesAtEachMoment {D : Type 0} (moment : D → ℕ) (held_at : D → ℕ → Contents) (old new : D) (P : List ℕ → Type 0) : Type 0 where
   pub later : moment old ≤ moment new
   pub same : (k : ℕ) → k ≤ moment old → held_at new k ≡ held_at old k
   pub each : (k : ℕ) → moment old ≤ k → k ≤ moment new → (image : List ℕ) → IsImage (held_at new k) image → P image

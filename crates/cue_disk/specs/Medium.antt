@@ -1,4 +1,4 @@
--- What a memory disk holds, and what it held before each write and each sync.
+-- Helper: what a memory disk holds, and what it held before each write and each sync.
 use Rattle.std.specs.Prelude.{◌≡◌, ◌≤◌, ℕ, nat_le, nat_lt, ◌||◌, List, [], ◌∷◌, length, take, drop, slice_index_or}
 use Rattle.cue_disk.specs.Disk.{Contents, overwritten}
 use Rattle.cue_disk.specs.declared.medium.Medium.{Medium}

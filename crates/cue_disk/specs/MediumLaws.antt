@@ -1,4 +1,4 @@
--- What holds of every medium: what it held at the present moment is what it holds, and its bytes are an image.
+-- Helper: what a medium held at the present moment is what it holds, and its bytes are an image.
 use Rattle.std.specs.Prelude.{◌≡◌, List, length}
 use Rattle.std.proofs.Common.{refl, ap, arith}
 use Rattle.std.proofs.lemmas.List.{drop_all}

@@ -3,12 +3,12 @@ use Rattle.std.proofs.Common.{◌≡◌, inr, ℕ, ◌+◌, ◌-◌, ◌^◌, �
 use Rattle.cue_disk.specs.Disk.{Contents, IsImage}
 use Rattle.cue_log.specs.Area.{area_text}
 use Rattle.cue_log.specs.declared.area.TheConstants.{AREA_LIMIT}
-use Rattle.cue_snap.specs.Words.{first_after, second_after}
+use Rattle.cue_snap.specs.Observed.{first_after, second_after}
 use Rattle.cue_core.specs.State.{ShowState}
 use Rattle.cue_records.specs.State.{state_text}
 use Rattle.cue_keeper.specs.Due.{is_due}
 use Rattle.cue_keeper.specs.Stands.{Stands, StandsEither, IsKept}
-use Rattle.cue_engine.specs.Given.{closed}
+use Rattle.cue_core.specs.Batches.{closed}
 use Rattle.cue_engine.specs.Recovery.{IsLeftOrStands, NeedsArea, NoGenerationLeft, NoRoomLeft, RefusedBut, cancels_length}
 
 -- ---- what a crash leaves

@@ -6,7 +6,7 @@ use Rattle.cue_core.specs.State.{ShowState}
 use Rattle.cue_records.specs.Batch.{batch_text}
 use Rattle.cue_records.specs.State.{state_text}
 use Rattle.cue_keeper.specs.declared.keeper.Keeper.{Keeper}
-use Rattle.cue_keeper.specs.Words.{generation_of, is_due}
+use Rattle.cue_keeper.specs.Observed.{generation_of, is_due}
 
 -- the batch has an event, and the live area has its records, or no room for the batch
 abbrev pub NeedsNewArea : {D : Type 0} {disk : _} → Keeper D disk → List Event → Type 0

@@ -5,11 +5,11 @@ ghost use Rattle.cue_log.specs.declared.area.TheConstants.{AREA_LIMIT};
 ghost use Rattle.cue_core.specs.Happenings.{events_at, recovered};
 ghost use Rattle.cue_core.specs.Steps.{are_acceptable};
 ghost use Rattle.cue_records.specs.State.{state_text};
-ghost use Rattle.cue_keeper.specs.Pairs.{LeavesPairs};
+ghost use Rattle.cue_keeper.specs.Pairs.{LeavesPairsAtEachMoment};
 ghost use Rattle.cue_keeper.specs.Stands.{StandsEither, StandsAs};
-ghost use Rattle.cue_keeper.specs.Words.{state_of, pair_of, first_of, second_of, is_broken, generation_of, is_due};
+ghost use Rattle.cue_keeper.specs.Observed.{state_of, pair_of, first_of, second_of, is_broken, generation_of, is_due};
 ghost use Rattle.cue_outbox.specs.Sending.{datagrams, all_pending};
-ghost use Rattle.cue_engine.specs.Given.{closed};
+ghost use Rattle.cue_core.specs.Batches.{closed};
 ghost use Rattle.cue_engine.specs.Recovery.{cancels_length};
 ghost use Rattle.cue_engine.specs.Takes.{FitsRecord, CanFollow, Follows};
 
@@ -18,7 +18,7 @@ use crate::keeping::accept_batch;
 use crate::ticking::cancels;
 use cue_core::{Event, State, undecided};
 use cue_disk::Disk;
-use cue_exchange::attempt::Reason;
+use cue_exchange::Reason;
 use cue_keeper::{Fault, Keeper};
 use cue_outbox::{Queue, pending};
 use std::alloc::{AllocError, Global};
@@ -44,7 +44,7 @@ fn queue_pending(alloc: Global, state: &State) -> Result<Queue, AllocError>
 }
 
 // Closes the state on the draft: the cancels, and what is owed then. From here on the draft is of no use, until it is put in step again.
-#[tactic(auto, unfolding(crate::specs::Given::closed))]
+#[tactic(auto, unfolding(cue_core::specs::Batches::closed))]
 fn close_on(
     alloc: Global,
     kept: &State,
@@ -68,7 +68,7 @@ fn close_on(
 
 /// Cancels what is undecided, and answers what is owed then. All memory is taken before the first device call; where nothing is undecided none
 /// is made.
-#[tactic(auto, unfolding(crate::specs::Given::closed))]
+#[tactic(auto, unfolding(cue_core::specs::Batches::closed))]
 pub(crate) fn close_undecided<D: Disk>(
     alloc: Global,
     keeper: &mut Keeper<D>,
@@ -91,7 +91,7 @@ pub(crate) fn close_undecided<D: Disk>(
     ensures disk { IsErrOf result Fault.Disk → MoreFailures (D.failures (first_of keeper.old)) (D.failures (first_of keeper.new)) ⊎ MoreFailures (D.failures (second_of keeper.old)) (D.failures (second_of keeper.new)) }
     ensures works { OnOk result (is_broken keeper.new ≡ false) }
     ensures any_moment { D.is_honest (first_of keeper.old) → D.is_honest (second_of keeper.old)
-        → LeavesPairs D.moment D.held_at (first_of keeper.old) (second_of keeper.old) (first_of keeper.new) (second_of keeper.new) (StandsEither (state_of keeper.old) (closed (state_of keeper.old))) }
+        → LeavesPairsAtEachMoment D.moment D.held_at (first_of keeper.old) (second_of keeper.old) (first_of keeper.new) (second_of keeper.new) (StandsEither (state_of keeper.old) (closed (state_of keeper.old))) }
     ensures accepted { D.is_honest (first_of keeper.old) → D.is_honest (second_of keeper.old) → OnOk result (StandsAs (D.held (first_of keeper.new)) (D.held (second_of keeper.new)) (closed (state_of keeper.old))) }
     ensures first_failures { D.failures (first_of keeper.old) ≤ D.failures (first_of keeper.new) }
     ensures second_failures { D.failures (second_of keeper.old) ≤ D.failures (second_of keeper.new) }

@@ -1,4 +1,4 @@
--- Which attempt each device is in.
+-- Helper: which attempt each device is in.
 use Rattle.std.specs.Prelude.{◌≡◌, ℕ, ◌≤◌, List, slice_index}
 use Rattle.std.specs.Option.{option_map_or}
 use Rattle.cue_show.specs.declared.limits.TheConstants.{LAST_DEVICE}

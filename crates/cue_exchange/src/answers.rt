@@ -1,9 +1,10 @@
 //! The answers of an attempt: its devices in part order, each with what it has answered.
 ghost use Rattle.std.specs.Prelude.{◌≡◌, not};
 ghost use Rattle.std.specs.List.{list_all};
+ghost use Rattle.std.specs.Option.{option_copied};
 ghost use Rattle.cue_show.specs.Devices.{distinct, disjoint};
 ghost use Rattle.cue_exchange.specs.Live.{are_sound_devices};
-ghost use Rattle.cue_exchange.specs.Answers.{is_waiting, answer_of, answer_passes, is_one_of, some_waits, all_may_go, all_have_done, with_answer, answers_with, devices_of, stands, entered, enters};
+ghost use Rattle.cue_exchange.specs.Answers.{is_waiting, device_answer, answer_passes, is_one_of, some_waits, all_may_go, all_have_done, with_answer, answers_with, devices_of, stands, entered, enters};
 
 use crate::attempt::{Answer, DeviceAnswer, Stage};
 use cue_show::DeviceNo;
@@ -48,14 +49,11 @@ impl Answers {
         &self.items
     }
 
-    /// What the device has answered; none where it is not one of the attempt.
-    pub fn answer_of(&self, device: DeviceNo) -> Option<Answer>
-        ensures { result ≡ answer_of self.now device }
+    /// The device with its answer; none where it is not one of the attempt.
+    pub fn device_answer(&self, device: DeviceNo) -> Option<&DeviceAnswer>
+        ensures { option_copied result ≡ device_answer self.now device }
     {
-        self.items
-            .iter()
-            .find(|x| x.device == device)
-            .map(|x| x.answer)
+        self.items.iter().find(|x| x.device == device)
     }
 
     // Whether the device is one of the attempt.
@@ -102,8 +100,8 @@ impl Answers {
         self.items.iter().any(|x| x.answer.is_waiting())
     }
 
-    /// Whether, as far as the devices go, the cue may be carried out.
-    pub fn all_may_go(&self) -> bool
+    // Whether, as far as the devices go, the cue may be carried out.
+    pub(crate) fn all_may_go(&self) -> bool
         ensures { result ≡ all_may_go self.now }
     {
         self.items.iter().all(|x| x.answer.is_ready())

@@ -1,7 +1,8 @@
 //! One try at a cue: its stage, what its devices have answered, and how it ends.
-ghost use Rattle.std.specs.Prelude.{◌≡◌};
+ghost use Rattle.std.specs.Prelude.{◌≡◌, ◌≤◌};
 ghost use Rattle.cue_exchange.specs.Live.{is_attempt, is_due, is_number, is_open, is_sound};
 ghost use Rattle.cue_exchange.specs.Steps.{can_go_now, is_apart, outcome_of};
+ghost use Rattle.cue_exchange.specs.Outcomes.{outcome_number, outcome_numbered};
 ghost use Rattle.cue_exchange.specs.Answers.{is_waiting, is_ready, is_done, is_preparing, is_decided, is_cancelling, is_concluding, is_known_in, entering};
 
 use crate::answers::Answers;
@@ -35,8 +36,8 @@ impl Answer {
         }
     }
 
-    /// Whether the device stands by.
-    pub fn is_ready(self) -> bool
+    // Whether the device stands by.
+    pub(crate) fn is_ready(self) -> bool
         ensures { result ≡ is_ready self }
     {
         match self {
@@ -45,8 +46,8 @@ impl Answer {
         }
     }
 
-    /// Whether the device has carried the cue out.
-    pub fn is_done(self) -> bool
+    // Whether the device has carried the cue out.
+    pub(crate) fn is_done(self) -> bool
         ensures { result ≡ is_done self }
     {
         match self {
@@ -125,8 +126,8 @@ impl Stage {
         }
     }
 
-    /// Whether the cue is carried out or given up.
-    pub fn is_concluding(self) -> bool
+    // Whether the cue is carried out or given up.
+    pub(crate) fn is_concluding(self) -> bool
         ensures { result ≡ is_concluding self }
     {
         match self {
@@ -139,13 +140,13 @@ impl Stage {
     pub(crate) fn knows(self, answer: Answer) -> bool
         ensures { result ≡ is_known_in self answer }
     {
-        match self {
-            Stage::Preparing => matches!(answer, Answer::Waiting | Answer::Ready),
-            Stage::Decided => matches!(answer, Answer::Waiting | Answer::Done | Answer::Failed),
-            Stage::Cancelling(_) => matches!(
-                answer,
-                Answer::Waiting | Answer::LetGo | Answer::Failed
-            ),
+        match (self, answer) {
+            (Stage::Preparing, Answer::Waiting | Answer::Ready) => true,
+            (Stage::Preparing, Answer::Done | Answer::LetGo | Answer::Failed) => false,
+            (Stage::Decided, Answer::Waiting | Answer::Done | Answer::Failed) => true,
+            (Stage::Decided, Answer::Ready | Answer::LetGo) => false,
+            (Stage::Cancelling(_), Answer::Waiting | Answer::LetGo | Answer::Failed) => true,
+            (Stage::Cancelling(_), Answer::Ready | Answer::Done) => false,
         }
     }
 }
@@ -159,6 +160,30 @@ pub enum Outcome {
     Cancelled,
     /// Some device failed to carry the cue out.
     Failed,
+}
+
+impl Outcome {
+    /// The number that the outcome is sent and stored as, 1 to 3; 0 stands for none.
+    pub fn number(self) -> u8
+        ensures value { result ≡ outcome_number self }
+        ensures range { result ≤ 3 }
+    {
+        match self {
+            Outcome::Complete => 1,
+            Outcome::Cancelled => 2,
+            Outcome::Failed => 3,
+        }
+    }
+
+    /// The outcome with the number. For who reads a stored one.
+    pub fn of_number(number: u8) -> Option<Outcome>
+        ensures { result ≡ outcome_numbered number }
+    {
+        let all = [Outcome::Complete, Outcome::Cancelled, Outcome::Failed];
+        all.iter()
+            .copied()
+            .find(|outcome| outcome.number() == number)
+    }
 }
 
 /// A device of an attempt, with its answer.

@@ -121,8 +121,8 @@ impl Live {
         })
     }
 
-    /// Whether the device is in no live attempt.
-    pub fn is_free(&self, device: DeviceNo) -> bool
+    // Whether the device is in no live attempt.
+    pub(crate) fn is_free(&self, device: DeviceNo) -> bool
         ensures { result ≡ is_none (attempt_of_device self.now device) }
     {
         self.of_device(device).is_none()

@@ -10,6 +10,7 @@ use std::process::Abort;
 use std::test::Fail;
 
 mod areas;
+mod damage;
 mod refusals;
 mod stops;
 
@@ -22,6 +23,12 @@ const FORMED: [u8; 29] = [
 const ACCEPTED: [u8; 40] = [
     1, 0, 0, 0, 0, 0, 0, 0, 1, 0, 0, 0, 15, 1, 0, 0, 0, 0, 0, 0, 0, 0, 0, 0, 0, 0, 0, 0, 1, 0, 0,
     0, 6, 0x00, 0x01, 0x01, 0x03, 0x23, 0x29, 0,
+];
+
+// The area of generation 2 with device 3, cues 1 and 2 and the place 1, and a record that moves to cue 2.
+const TURNED: [u8; 53] = [
+    1, 0, 0, 0, 0, 0, 0, 0, 2, 0, 0, 0, 0x1d, 1, 1, 3, 0x23, 0x29, 0, 2, 1, 0x31, 1, 3, 0, 1, 0x32,
+    1, 3, 0, 1, 0x31, 0, 0, 0, 0, 0, 0, 0, 0, 0, 0, 1, 0, 0, 0, 5, 0, 1, 5, 1, 0x32, 0,
 ];
 
 // A snapshot of the first state, and three records behind it: device 3 at port 9001, and cues 1 and 2, each with an

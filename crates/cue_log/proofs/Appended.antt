@@ -1,6 +1,6 @@
 -- The four device calls of an append, one after another: what a crash leaves at any moment of them.
 use Rattle.std.proofs.Common.{◌≡◌, inl, ℕ, ◌+◌, ◌≤◌, List, [], ◌∷◌, length, sym, ◌∙◌, ap, subst, arith, length-append}
-use Rattle.cue_disk.specs.Disk.{Contents, IsImage, IsStable, Writes, overwritten, LeavesOnly, Elapses, Torn}
+use Rattle.cue_disk.specs.Disk.{Contents, IsImage, IsStable, Writes, overwritten, LeavesAtEachMoment, Elapses, Torn}
 use Rattle.cue_disk.proofs.Crash.{image_torn}
 use Rattle.cue_disk.proofs.Moments.{started, goes_on}
 use Rattle.cue_log.specs.declared.area.TheConstants.{AREA_LIMIT}
@@ -27,14 +27,14 @@ module _ {D : Type 0} (moment : D → ℕ) (held : D → Contents) (held_at : D 
         (image_torn (end + 1) (length stored) (held d0) (held d1) image (omega (arith, settled.is.ends, settled.same_end)) settled.stable writes left))
 
     -- the record behind the closed gate
-    pub body_leaves : LeavesOnly moment held_at d0 d1 Either
+    pub body_leaves : LeavesAtEachMoment moment held_at d0 d1 Either
     body_leaves =
         goes_on moment held_at d0 d0 d1 Either (held d1)
         (started moment held_at d0 (held d0) Either now (λ image left. inl (settled_reads (held d0) end settled image left))) time body_image
 
     module _ (d2 : D) (fewer : (image : List ℕ) → IsImage (held d2) image → IsImage (held d1) image) (time2 : Elapses (moment d1) (moment d2) (held_at d1) (held_at d2) (held d2)) where
       -- and synced
-      pub sync_leaves : LeavesOnly moment held_at d0 d2 Either
+      pub sync_leaves : LeavesAtEachMoment moment held_at d0 d2 Either
       sync_leaves = goes_on moment held_at d0 d1 d2 Either (held d2) body_leaves time2 (λ image left. body_image image (fewer image left))
 
       module _ (d3 : D) (written : (held d1).bytes ≡ overwritten (held d0).bytes (end + 1) stored) (same : (held d2).bytes ≡ (held d1).bytes) (stable : IsStable (held d2)) (writes3 : Writes end 1 (held d2) (held d3)) (time3 : Elapses (moment d2) (moment d3) (held_at d2) (held_at d3) (held d3)) where
@@ -46,12 +46,12 @@ module _ {D : Type 0} (moment : D → ℕ) (held : D → Contents) (held_at : D 
             (image_torn end 1 (held d2) (held d3) image (omega (arith, ap length bytes, length-behind_gate area (held d0).bytes stored end settled.is frame settled.same_end room)) stable writes3 left))
 
         -- the gate open
-        pub gate_leaves : LeavesOnly moment held_at d0 d3 Either
+        pub gate_leaves : LeavesAtEachMoment moment held_at d0 d3 Either
         gate_leaves = goes_on moment held_at d0 d2 d3 Either (held d3) sync_leaves time3 gate_image
 
         module _ (d4 : D) (fewer4 : (image : List ℕ) → IsImage (held d4) image → IsImage (held d3) image) (time4 : Elapses (moment d3) (moment d4) (held_at d3) (held_at d4) (held d4)) where
           -- and synced
-          pub last_leaves : LeavesOnly moment held_at d0 d4 Either
+          pub last_leaves : LeavesAtEachMoment moment held_at d0 d4 Either
           last_leaves = goes_on moment held_at d0 d3 d4 Either (held d4) gate_leaves time4 (λ image left. gate_image image (fewer4 image left))
 
           module _ (written3 : (held d3).bytes ≡ overwritten (held d2).bytes end (1 ∷ [])) (same4 : (held d4).bytes ≡ (held d3).bytes) where

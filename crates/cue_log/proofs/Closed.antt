@@ -1,7 +1,7 @@
 -- What a crash leaves while a head gate is closed.
 use Rattle.std.proofs.Common.{◌≡◌, ◌≢◌, inl, inr, ℕ, ◌<◌, List, [], ◌∷◌, length, get_or, take, sym, ◌∙◌, ap, subst, arith}
 use Rattle.std.proofs.lemmas.Bool.{cases_eq, cases_lt}
-use Rattle.cue_disk.specs.Disk.{Contents, IsImage, IsStable, Writes, Elapses, LeavesOnly}
+use Rattle.cue_disk.specs.Disk.{Contents, IsImage, IsStable, Writes, Elapses, LeavesAtEachMoment}
 use Rattle.cue_disk.proofs.Crash.{image_stable, torn_elsewhere}
 use Rattle.cue_disk.proofs.Moments.{started, goes_on}
 use Rattle.cue_log.specs.Log.{IsOldOrAbsent, LeavesAbsent}
@@ -38,7 +38,7 @@ module _ {D : Type 0} (moment : D → ℕ) (held : D → Contents) (held_at : D 
   gate_image : (image : List ℕ) → IsImage (held d3) image → P image
   gate_image = gate_torn (held d0) (held d3) was_open some (subst (λ (c : Contents). Writes 0 1 c (held d3)) (same2 ∙ same1) writes)
 
-  pub gate_leaves : LeavesOnly moment held_at d0 d3 P
+  pub gate_leaves : LeavesAtEachMoment moment held_at d0 d3 P
   gate_leaves =
       goes_on moment held_at d0 d2 d3 P (held d3)
       (goes_on moment held_at d0 d1 d2 P (held d2)
@@ -48,5 +48,5 @@ module _ {D : Type 0} (moment : D → ℕ) (held : D → Contents) (held_at : D 
       time2 (λ image left. inl (subst (λ (c : Contents). IsImage c image) (same2 ∙ same1) left)))
       time3 gate_image
 
-  pub last_leaves : (d4 : D) → ((image : List ℕ) → IsImage (held d4) image → IsImage (held d3) image) → Elapses (moment d3) (moment d4) (held_at d3) (held_at d4) (held d4) → LeavesOnly moment held_at d0 d4 P
+  pub last_leaves : (d4 : D) → ((image : List ℕ) → IsImage (held d4) image → IsImage (held d3) image) → Elapses (moment d3) (moment d4) (held_at d3) (held_at d4) (held d4) → LeavesAtEachMoment moment held_at d0 d4 P
   last_leaves d4 fewer time4 = goes_on moment held_at d0 d3 d4 P (held d4) gate_leaves time4 (λ image left. gate_image image (fewer image left))

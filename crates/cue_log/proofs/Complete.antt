@@ -8,7 +8,7 @@ use borrow.Author.Tests.{leb-true}
 use Rattle.std.proofs.lemmas.List.{length-take, take_at, drop_at, take-take, get_or-take}
 use Rattle.cue_log.specs.declared.area.TheConstants.{AREA_LIMIT, PAYLOAD_LIMIT}
 use Rattle.cue_log.specs.Area.{Area, IsArea, area_text, records_text, are_records, framed, body_text, four_bytes, eight_bytes}
-use Rattle.cue_log.specs.Reading.{four_at, eight_at, frame_at, in_front, payloads_after, payloads_at, area_of, area_after, area_at, read_area, area_in, or_empty}
+use Rattle.cue_log.specs.Reading.{four_at, eight_at, frame_at, in_front, payloads_after, payloads_at, area_with, area_after, area_at, read_area, area_in, or_empty}
 use Rattle.cue_log.proofs.Texts.{length-four_bytes, length-eight_bytes, length-framed, split_at}
 
 -- the number that stands in front
@@ -55,8 +55,8 @@ payloads_read (payload ∷ payloads) (suc most) gate rest enough shut records =
     ap (payloads_after (payloads_at most)) read ∙ ap (in_front payload) (payloads_read payloads most gate rest (omega (arith, enough)) shut parts.1)
 
 -- a head gate, a generation, a snapshot, and payloads
-pub area_read : (area : Area) (gate : ℕ) (rest : List ℕ) → gate ≢ 1 → length area.snapshot ≤ AREA_LIMIT → area.generation < 2 ^ 64 → are_records area.payloads ≡ true → area_at (area_text area ++ gate ∷ rest) ≡ Some area
-area_read area gate rest shut short generation records =
+pub area_found : (area : Area) (gate : ℕ) (rest : List ℕ) → gate ≢ 1 → length area.snapshot ≤ AREA_LIMIT → area.generation < 2 ^ 64 → are_records area.payloads ≡ true → area_at (area_text area ++ gate ∷ rest) ≡ Some area
+area_found area gate rest shut short generation records =
     let number : List ℕ = eight_bytes area.generation in
     let tail : List ℕ = records_text area.payloads ++ gate ∷ rest in
     let text : List ℕ = ((number ++ framed area.snapshot) ++ records_text area.payloads) ++ gate ∷ rest in
@@ -69,7 +69,7 @@ area_read area gate rest shut short generation records =
     payloads_read area.payloads (length tail) gate rest (omega (arith, length-append (records_text area.payloads) (gate ∷ rest), length-records_text area.payloads)) shut records in
     ap (λ (b : Bool). if b then None else area_after (eight_at text) (frame_at AREA_LIMIT (drop 8 text))) long
     ∙ (λ i. area_after (first i) (frame i))
-    ∙ ap (area_of area.generation area.snapshot) payloads
+    ∙ ap (area_with area.generation area.snapshot) payloads
 
 -- Bytes that read as an area are read as it.
 pub complete : (area : Area) (bytes : List ℕ) → IsArea area bytes → read_area bytes ≡ Some area
@@ -83,7 +83,7 @@ complete area bytes is =
     let split : cut ≡ area_text area ++ get_or cut end 0 ∷ drop (end + 1) cut = split_at cut end within ∙ ap (λ (l : List ℕ). l ++ get_or cut end 0 ∷ drop (end + 1) cut) front in
     let short : length area.snapshot ≤ AREA_LIMIT =
     omega (arith, is.fits, length-append (body_text area.generation area.snapshot) (records_text area.payloads), length-append (eight_bytes area.generation) (framed area.snapshot), length-framed area.snapshot) in
-    ap area_at split ∙ area_read area (get_or cut end 0) (drop (end + 1) cut) (λ opened. is.closed (sym gate ∙ opened)) short is.generation is.records
+    ap area_at split ∙ area_found area (get_or cut end 0) (drop (end + 1) cut) (λ opened. is.closed (sym gate ∙ opened)) short is.generation is.records
 
 -- At most one area belongs to the same bytes.
 pub unique : (a b : Area) (bytes : List ℕ) → IsArea a bytes → IsArea b bytes → a ≡ b

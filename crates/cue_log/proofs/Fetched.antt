@@ -2,7 +2,7 @@
 use Rattle.std.proofs.Common.{◌≡◌, ◌⊎◌, inl, inr, ℕ, min, ◌+◌, ◌≤◌, Result, Ok, Err, get_or, List, ◌++◌, length, take, drop, sym, ◌∙◌, ap, subst, arith, take-append-drop}
 use Rattle.std.specs.Prelude.{IfOk, IsSome}
 use Rattle.std.proofs.lemmas.List.{take-take, drop-take, take_min}
-use Rattle.cue_disk.specs.Disk.{Contents, IsImage, LeavesOnly, Elapses}
+use Rattle.cue_disk.specs.Disk.{Contents, IsImage, LeavesAtEachMoment, Elapses}
 use Rattle.cue_disk.proofs.Moments.{started, goes_on, and_then, weaker}
 use Rattle.cue_log.specs.declared.area.TheConstants.{AREA_LIMIT}
 use Rattle.cue_log.specs.Reading.{area_at}
@@ -12,7 +12,7 @@ use Rattle.cue_log.specs.Log.{OnlyReads, IsFront}
 pub reads_next : {D : Type 0} (moment : D → ℕ) (held : D → Contents) (held_at : D → ℕ → Contents) (old mid new : D) → OnlyReads moment held held_at old mid → OnlyReads moment held held_at mid new → OnlyReads moment held held_at old new
 reads_next moment held held_at old mid new first second = record {
   same = second.same ∙ first.same;
-  leaves = and_then moment held_at old mid new (IsImage (held old)) first.leaves (subst (λ (c : Contents). LeavesOnly moment held_at mid new (IsImage c)) first.same second.leaves);
+  leaves = and_then moment held_at old mid new (IsImage (held old)) first.leaves (subst (λ (c : Contents). LeavesAtEachMoment moment held_at mid new (IsImage c)) first.same second.leaves);
 }
 
 -- the front of a list in two parts
@@ -26,7 +26,7 @@ front_more bytes text next more front is long =
     is ∙ ap (λ (l : List ℕ). l ++ take more (drop (length text) bytes)) front ∙ sym (take_both (length text) more bytes) ∙ ap (λ (n : ℕ). take n bytes) (sym long)
 
 -- A sync, and then only reads: a crash leaves what it might have left before.
-pub synced_reads : {D : Type 0} (moment : D → ℕ) (held : D → Contents) (held_at : D → ℕ → Contents) (d0 d1 d2 d3 d4 : D) → held_at d0 (moment d0) ≡ held d0 → ((image : List ℕ) → IsImage (held d1) image → IsImage (held d0) image) → Elapses (moment d0) (moment d1) (held_at d0) (held_at d1) (held d1) → held d2 ≡ held d1 → Elapses (moment d1) (moment d2) (held_at d1) (held_at d2) (held d2) → held d3 ≡ held d2 → Elapses (moment d2) (moment d3) (held_at d2) (held_at d3) (held d3) → OnlyReads moment held held_at d3 d4 → LeavesOnly moment held_at d0 d4 (IsImage (held d0))
+pub synced_reads : {D : Type 0} (moment : D → ℕ) (held : D → Contents) (held_at : D → ℕ → Contents) (d0 d1 d2 d3 d4 : D) → held_at d0 (moment d0) ≡ held d0 → ((image : List ℕ) → IsImage (held d1) image → IsImage (held d0) image) → Elapses (moment d0) (moment d1) (held_at d0) (held_at d1) (held d1) → held d2 ≡ held d1 → Elapses (moment d1) (moment d2) (held_at d1) (held_at d2) (held d2) → held d3 ≡ held d2 → Elapses (moment d2) (moment d3) (held_at d2) (held_at d3) (held d3) → OnlyReads moment held held_at d3 d4 → LeavesAtEachMoment moment held_at d0 d4 (IsImage (held d0))
 synced_reads moment held held_at d0 d1 d2 d3 d4 now fewer time1 same2 time2 same3 time3 reads4 =
     let P : List ℕ → Type 0 = IsImage (held d0) in
     let second : (image : List ℕ) → IsImage (held d2) image → P image = λ image left. fewer image (subst (λ (c : Contents). IsImage c image) same2 left) in

@@ -2,7 +2,7 @@
 use Rattle.std.proofs.Common.{◌≡◌, ◌≢◌, inl, inr, ℕ, ◌+◌, ◌<◌, ◌≤◌, ◌^◌, List, [], ◌∷◌, ◌++◌, length, get_or, take, drop, refl, sym, ◌∙◌, ap, subst, arith, append_assoc, length-append, length-drop}
 use Rattle.std.proofs.lemmas.Bool.{cases_eq}
 use Rattle.std.proofs.lemmas.List.{append-nil, length-take, take_at, drop_at}
-use Rattle.cue_disk.specs.Disk.{Contents, IsImage, IsStable, Torn, Writes, overwritten, LeavesOnly, Elapses}
+use Rattle.cue_disk.specs.Disk.{Contents, IsImage, IsStable, Torn, Writes, overwritten, LeavesAtEachMoment, Elapses}
 use Rattle.cue_disk.proofs.Crash.{image_stable, image_torn, torn_elsewhere}
 use Rattle.cue_disk.proofs.Moments.{started, goes_on}
 use Rattle.cue_log.specs.declared.area.TheConstants.{AREA_LIMIT}
@@ -31,7 +31,7 @@ shut_stays at n old new behind writes shut = (
 )
 
 -- so far there is no area, and none after a call that leaves the gate shut
-pub shut_leaves : {D : Type 0} (moment : D → ℕ) (held : D → Contents) (held_at : D → ℕ → Contents) (old mid new : D) → LeavesOnly moment held_at old mid IsAbsent → IsShut (held new) → Elapses (moment mid) (moment new) (held_at mid) (held_at new) (held new) → LeavesOnly moment held_at old new IsAbsent
+pub shut_leaves : {D : Type 0} (moment : D → ℕ) (held : D → Contents) (held_at : D → ℕ → Contents) (old mid new : D) → LeavesAtEachMoment moment held_at old mid IsAbsent → IsShut (held new) → Elapses (moment mid) (moment new) (held_at mid) (held_at new) (held new) → LeavesAtEachMoment moment held_at old new IsAbsent
 shut_leaves moment held held_at old mid new so_far shut time = goes_on moment held_at old mid new IsAbsent (held new) so_far time (λ image left. shut_absent (held new) image shut left)
 
 -- what stands up to the end of a write
@@ -112,12 +112,12 @@ module _ (held : Contents) (generation : ℕ) (snapshot : List ℕ) (filled : Is
     gate_image : (image : List ℕ) → IsImage (all_held d1) image → IsNoneOr area image
     gate_image image left = gate_torn image (image_torn 0 1 held (all_held d1) image (omega arith) filled.stable writes left)
 
-    pub gate_leaves : LeavesOnly moment held_at d0 d1 (IsNoneOr area)
+    pub gate_leaves : LeavesAtEachMoment moment held_at d0 d1 (IsNoneOr area)
     gate_leaves =
         goes_on moment held_at d0 d0 d1 (IsNoneOr area) (all_held d1)
         (started moment held_at d0 held (IsNoneOr area) now
         (λ image left. inl (not_open image (λ opened_. filled.shut (sym (ap (λ (l : List ℕ). get_or l 0 0) (image_stable held image filled.stable left)) ∙ opened_)))))
         time gate_image
 
-    pub last_leaves : (d2 : D) → ((image : List ℕ) → IsImage (all_held d2) image → IsImage (all_held d1) image) → Elapses (moment d1) (moment d2) (held_at d1) (held_at d2) (all_held d2) → LeavesOnly moment held_at d0 d2 (IsNoneOr area)
+    pub last_leaves : (d2 : D) → ((image : List ℕ) → IsImage (all_held d2) image → IsImage (all_held d1) image) → Elapses (moment d1) (moment d2) (held_at d1) (held_at d2) (all_held d2) → LeavesAtEachMoment moment held_at d0 d2 (IsNoneOr area)
     last_leaves d2 fewer time2 = goes_on moment held_at d0 d1 d2 (IsNoneOr area) (all_held d2) gate_leaves time2 (λ image left. gate_image image (fewer image left))

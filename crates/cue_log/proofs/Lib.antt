@@ -9,3 +9,4 @@ pub mod Steps
 pub mod Sound
 pub mod Fetched
 pub mod Overwritten
+pub mod RecordsRead

@@ -5,7 +5,7 @@ use Rattle.cue_disk.specs.Disk.{Contents, IsStable}
 use Rattle.cue_disk.proofs.Crash.{image_stable}
 use Rattle.cue_log.specs.Area.{Area, IsArea, area_text}
 use Rattle.cue_log.specs.Reading.{area_in}
-use Rattle.cue_log.specs.Log.{IsSettled, IsCounted, ReadsAs}
+use Rattle.cue_log.specs.Log.{IsSettled, IsNumbered, ReadsAs}
 use Rattle.cue_log.proofs.Complete.{area_in_is}
 
 -- Whatever a crash leaves of it reads as its area.
@@ -37,7 +37,7 @@ settled_on held area end is stable ends =
     }
 
 -- and its numbers are the area's
-pub counted_on : (held : Contents) (area : Area) → IsArea area held.bytes → IsCounted held area.generation (length area.payloads)
+pub counted_on : (held : Contents) (area : Area) → IsArea area held.bytes → IsNumbered held area.generation (length area.payloads)
 counted_on held area is =
     let same : area ≡ area_in held.bytes = sym (area_in_is area held.bytes is) in
     record { same_generation = ap (λ (a : Area). a.generation) same; same_count = ap (λ (a : Area). length a.payloads) same }

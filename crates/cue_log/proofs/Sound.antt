@@ -8,7 +8,7 @@ use Rattle.std.proofs.lemmas.List.{length-take, drop-drop, get_or-drop, get_or-t
 use Rattle.std.proofs.lemmas.Nat.{be_bytes_4, be_bytes_8}
 use Rattle.cue_log.specs.declared.area.TheConstants.{AREA_LIMIT, PAYLOAD_LIMIT}
 use Rattle.cue_log.specs.Area.{Area, IsArea, IsAbsent, area_text, framed, records_text, are_records, four_bytes, eight_bytes}
-use Rattle.cue_log.specs.Reading.{frame_at, four_at, eight_at, in_front, payloads_after, payloads_at, area_of, area_after, area_at, read_area, bytes_behind}
+use Rattle.cue_log.specs.Reading.{frame_at, four_at, eight_at, in_front, payloads_after, payloads_at, area_with, area_after, area_at, read_area, bytes_behind}
 use Rattle.cue_log.specs.Log.{IsFront, IsDamaged}
 use Rattle.cue_log.specs.Laws.{AreBytes, AnyBytesAnswer, NoAreaIsAbsent}
 use Rattle.cue_log.proofs.Complete.{complete, length-records_text}
@@ -170,7 +170,7 @@ record Behind (bytes : List ℕ) (area : Area) : Type 0 where
   read : payloads_at (length tail) tail ≡ Some payloads
   is : record { generation = eight_at bytes; snapshot = snapshot; payloads = payloads } ≡ area
 
-records_behind : (bytes snapshot tail : List ℕ) (area : Area) (payloads : Option (List (List ℕ))) → frame_at AREA_LIMIT (drop 8 bytes) ≡ Some (snapshot, tail) → payloads_at (length tail) tail ≡ payloads → area_of (eight_at bytes) snapshot payloads ≡ Some area → Behind bytes area
+records_behind : (bytes snapshot tail : List ℕ) (area : Area) (payloads : Option (List (List ℕ))) → frame_at AREA_LIMIT (drop 8 bytes) ≡ Some (snapshot, tail) → payloads_at (length tail) tail ≡ payloads → area_with (eight_at bytes) snapshot payloads ≡ Some area → Behind bytes area
 records_behind bytes snapshot tail area None frame read is = absurd (cc (is))
 records_behind bytes snapshot tail area (Some payloads) frame read is =
     let whole : Area = record { generation = eight_at bytes; snapshot = snapshot; payloads = payloads } in

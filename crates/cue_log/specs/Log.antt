@@ -1,6 +1,6 @@
 -- What a log knows of its disk.
 use Rattle.std.specs.Prelude.{◌≡◌, ◌≢◌, ◌⊎◌, ◌<◌, ◌≤◌, ℕ, false, List, [], ◌∷◌, ◌++◌, length, take, drop, slice_index, IsSome, ◌==◌, if◌then◌else◌}
-use Rattle.cue_disk.specs.Disk.{Contents, IsImage, IsStable, LeavesOnly}
+use Rattle.cue_disk.specs.Disk.{Contents, IsImage, IsStable, LeavesAtEachMoment}
 use Rattle.cue_log.specs.declared.area.TheConstants.{AREA_LIMIT}
 use Rattle.cue_log.specs.Area.{Area, IsArea, IsAbsent, area_text, body_text}
 use Rattle.cue_log.specs.Reading.{area_in, area_at}
@@ -12,7 +12,7 @@ pub record IsSettled (held : Contents) (end : ℕ) : Type 0 where
   pub same_end : end ≡ length (area_text (area_in held.bytes))
 
 -- the numbers that a log keeps beside it
-pub record IsCounted (held : Contents) (generation count : ℕ) : Type 0 where
+pub record IsNumbered (held : Contents) (generation count : ℕ) : Type 0 where
   pub same_generation : generation ≡ (area_in held.bytes).generation
   pub same_count : count ≡ length (area_in held.bytes).payloads
 
@@ -68,7 +68,7 @@ closed_bytes (gate ∷ bytes) = (if gate == 1 then 0 else gate) ∷ bytes
 -- Calls that only read: the disk holds what it held, and a crash at any moment of them leaves what it might have left before.
 pub record OnlyReads {D : Type 0} (moment : D → ℕ) (held : D → Contents) (held_at : D → ℕ → Contents) (old new : D) : Type 0 where
   pub same : held new ≡ held old
-  pub leaves : LeavesOnly moment held_at old new (IsImage (held old))
+  pub leaves : LeavesAtEachMoment moment held_at old new (IsImage (held old))
 
 -- a front of the bytes, long enough that an area is there in whole, behind an open head gate
 pub record IsFront (text bytes : List ℕ) : Type 0 where

@@ -1,7 +1,7 @@
 -- What callers see of an area that was opened.
 use Rattle.std.specs.Prelude.{◌≡◌, ◌≢◌, ℕ, Result, Ok, Err}
 use Rattle.cue_log.specs.Area.{Area}
-use Rattle.cue_log.specs.Words.{disk_of, generation_of}
+use Rattle.cue_log.specs.Observed.{disk_of, generation_of}
 use Rattle.cue_log.specs.declared.opening.Opened.{Opened}
 use Rattle.cue_log.specs.declared.opening.OpenFault.{OpenFault}
 

@@ -1,6 +1,6 @@
--- The area that was read.
+-- Helper: the area that was read.
 use Rattle.cue_log.specs.Area.{Area}
 use Rattle.cue_log.specs.declared.reading.Parts.{Parts}
 
 abbrev pub parts_area : Parts → Area
-parts_area parts = record { generation = parts.generation; snapshot = parts.snapshot.items; payloads = parts.records.items }
+parts_area parts = record { generation = parts.generation; snapshot = parts.snapshot.items; payloads = parts.records }

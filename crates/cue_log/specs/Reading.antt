@@ -1,5 +1,5 @@
 -- Reading an area from the front.
-use Rattle.std.specs.Prelude.{◌+◌, ◌-◌, ℕ, zero, suc, nat_lt, ◌||◌, ◌==◌, if◌then◌else◌, List, [], ◌∷◌, ◌++◌, length, take, drop, Option, Some, None}
+use Rattle.std.specs.Prelude.{◌+◌, ◌-◌, ℕ, zero, suc, nat_lt, ◌||◌, ◌==◌, if◌then◌else◌, List, [], ◌∷◌, ◌++◌, length, take, drop, Option, Some, None, IsSome}
 use Rattle.std.specs.Int.{from_be_bytes, w32, w64}
 use Rattle.cue_log.specs.declared.area.TheConstants.{AREA_LIMIT, PAYLOAD_LIMIT}
 use Rattle.std.specs.Option.{option_map}
@@ -37,13 +37,25 @@ abbrev pub behind : List (List ℕ) → Option (List (List ℕ)) → Option (Lis
 behind front None = None
 behind front (Some payloads) = Some (front ++ payloads)
 
-abbrev pub area_of : ℕ → List ℕ → Option (List (List ℕ)) → Option Area
-area_of generation snapshot None = None
-area_of generation snapshot (Some payloads) = Some (record { generation = generation; snapshot = snapshot; payloads = payloads })
+-- the payloads up to the last gate; none where these bytes are no records
+abbrev pub or_none : Option (List (List ℕ)) → List (List ℕ)
+or_none None = []
+or_none (Some payloads) = payloads
+
+abbrev pub payloads_in : List ℕ → List (List ℕ)
+payloads_in bytes = or_none (payloads_at (length bytes) bytes)
+
+-- records stand here, up to a gate that is not open
+abbrev pub HasRecords : List ℕ → Type 0
+HasRecords bytes = IsSome (payloads_at (length bytes) bytes)
+
+abbrev pub area_with : ℕ → List ℕ → Option (List (List ℕ)) → Option Area
+area_with generation snapshot None = None
+area_with generation snapshot (Some payloads) = Some (record { generation = generation; snapshot = snapshot; payloads = payloads })
 
 abbrev pub area_after : ℕ → Option (List ℕ × List ℕ) → Option Area
 area_after generation None = None
-area_after generation (Some frame) = area_of generation frame.0 (payloads_at (length frame.1) frame.1)
+area_after generation (Some frame) = area_with generation frame.0 (payloads_at (length frame.1) frame.1)
 
 -- the area in bytes that are cut to the largest one
 abbrev pub area_at : List ℕ → Option Area

@@ -1,6 +1,6 @@
 // How a record comes to be: it is on the disk behind a closed gate before that gate is opened.
 ghost use Rattle.std.specs.Prelude.{◌≡◌, ◌≤◌, ◌+◌, ◌↔◌, ◌∷◌, length, OnOk};
-ghost use Rattle.cue_disk.specs.Disk.{LeavesOnly, CountsFailure, overwritten};
+ghost use Rattle.cue_disk.specs.Disk.{LeavesAtEachMoment, CountsFailure, overwritten};
 ghost use Rattle.cue_log.specs.Area.{with_payload};
 ghost use Rattle.cue_log.specs.Reading.{area_in};
 ghost use Rattle.cue_log.specs.Record.{IsFramed, payload_in};
@@ -14,7 +14,7 @@ pub(crate) fn commit<D: Disk>(disk: &mut D, end: u64, framed: &[u8]) -> Result<(
     requires framed { IsFramed framed.now }
     requires room { end + 1 + length framed.now ≤ AREA_LIMIT }
     requires settled { D.is_honest disk.old → IsSettled (D.held disk.old) end }
-    ensures any_moment { D.is_honest disk.old → LeavesOnly D.moment D.held_at disk.old disk.new
+    ensures any_moment { D.is_honest disk.old → LeavesAtEachMoment D.moment D.held_at disk.old disk.new
         (IsEither (area_in (D.held disk.old).bytes) (with_payload (area_in (D.held disk.old).bytes) (payload_in framed.now))) }
     ensures settled { D.is_honest disk.old → OnOk result (IsSettled (D.held disk.new) (end + length framed.now)) }
     ensures area { D.is_honest disk.old → OnOk result (area_in (D.held disk.new).bytes ≡ with_payload (area_in (D.held disk.old).bytes) (payload_in framed.now)) }

@@ -1,6 +1,6 @@
 // What an area is to the device: its limits, its gates, and how its head gate is closed.
 ghost use Rattle.std.specs.Prelude.{◌≡◌, ◌↔◌, IfOk, IsTrue, OnOk};
-ghost use Rattle.cue_disk.specs.Disk.{LeavesOnly, CountsFailure, IsImage, IsStable};
+ghost use Rattle.cue_disk.specs.Disk.{LeavesAtEachMoment, CountsFailure, IsImage, IsStable};
 ghost use Rattle.cue_log.specs.Area.{IsAbsent};
 ghost use Rattle.cue_log.specs.Log.{IsOldOrAbsent, IsClosed, LeavesAbsent, closed_bytes};
 
@@ -23,7 +23,7 @@ pub(crate) const CLOSED: u8 = 0;
 /// within such a write could open it.
 pub fn close<D: Disk>(disk: &mut D) -> Result<(), DiskFault>
     // A stop at any moment leaves what one at entry might have left, or no area.
-    ensures any_moment { D.is_honest disk.old → LeavesOnly D.moment D.held_at disk.old disk.new (IsOldOrAbsent (D.held disk.old)) }
+    ensures any_moment { D.is_honest disk.old → LeavesAtEachMoment D.moment D.held_at disk.old disk.new (IsOldOrAbsent (D.held disk.old)) }
     ensures absent { D.is_honest disk.old → OnOk result (LeavesAbsent (D.held disk.new)) }
     ensures closed { D.is_honest disk.old → OnOk result (IsClosed (D.held disk.new)) }
     ensures bytes { D.is_honest disk.old → OnOk result ((D.held disk.new).bytes ≡ closed_bytes (D.held disk.old).bytes) }
@@ -49,7 +49,7 @@ pub fn is_absent<D: Disk>(disk: &mut D) -> Result<bool, DiskFault>
     ensures stable { D.is_honest disk.old → OnOk result (IsStable (D.held disk.new)) }
     ensures bytes { D.is_honest disk.old → (D.held disk.new).bytes ≡ (D.held disk.old).bytes }
     // A stop at any moment leaves what one at entry might have left.
-    ensures any_moment { D.is_honest disk.old → LeavesOnly D.moment D.held_at disk.old disk.new (IsImage (D.held disk.old)) }
+    ensures any_moment { D.is_honest disk.old → LeavesAtEachMoment D.moment D.held_at disk.old disk.new (IsImage (D.held disk.old)) }
     ensures count { CountsFailure result (D.failures disk.old) (D.failures disk.new) }
     ensures honest { D.is_honest disk.new ↔ D.is_honest disk.old }
 {

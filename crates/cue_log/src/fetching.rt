@@ -1,6 +1,6 @@
 // How the text of an area comes from the device: from the front, until the area is there in whole.
 ghost use Rattle.std.specs.Prelude.{◌≡◌, ◌⊎◌, ◌+◌, ◌<◌, ◌≤◌, ◌↔◌, ◌++◌, length, take, drop, IsSome, IfOk, OnOk, IsErrOf};
-ghost use Rattle.cue_disk.specs.Disk.{LeavesOnly, IsImage, IsStable, MoreFailures};
+ghost use Rattle.cue_disk.specs.Disk.{LeavesAtEachMoment, IsImage, IsStable, MoreFailures};
 ghost use Rattle.cue_log.specs.Area.{IsArea, IsAbsent, area_text};
 ghost use Rattle.cue_log.specs.Reading.{area_at};
 ghost use Rattle.cue_log.specs.Log.{OnlyReads, IsFront, IsDamaged, LeavesAbsent};
@@ -62,7 +62,7 @@ fn read_text<D: Disk>(alloc: Global, disk: &mut D, most: usize) -> Result<Vec<u8
 
 /// Makes the disk stable, and reads the front of it that has the area, where there is one.
 pub(crate) fn fetch<D: Disk>(alloc: Global, disk: &mut D) -> Result<Vec<u8>, OpenFault>
-    ensures any_moment { D.is_honest disk.old → LeavesOnly D.moment D.held_at disk.old disk.new (IsImage (D.held disk.old)) }
+    ensures any_moment { D.is_honest disk.old → LeavesAtEachMoment D.moment D.held_at disk.old disk.new (IsImage (D.held disk.old)) }
     ensures bytes { D.is_honest disk.old → (D.held disk.new).bytes ≡ (D.held disk.old).bytes }
     ensures stable { D.is_honest disk.old → OnOk result (IsStable (D.held disk.new)) }
     ensures front { D.is_honest disk.old → IfOk result (λ text. IsFront text.items (D.held disk.old).bytes) }
@@ -90,13 +90,13 @@ pub(crate) fn fetch<D: Disk>(alloc: Global, disk: &mut D) -> Result<Vec<u8>, Ope
 
 /// Reads the area of a disk: what is answered stands there, and stays.
 pub(crate) fn read_area<D: Disk>(alloc: Global, disk: &mut D) -> Result<Parts, OpenFault>
-    ensures any_moment { D.is_honest disk.old → LeavesOnly D.moment D.held_at disk.old disk.new (IsImage (D.held disk.old)) }
+    ensures any_moment { D.is_honest disk.old → LeavesAtEachMoment D.moment D.held_at disk.old disk.new (IsImage (D.held disk.old)) }
     ensures bytes { D.is_honest disk.old → (D.held disk.new).bytes ≡ (D.held disk.old).bytes }
     ensures stable { D.is_honest disk.old → OnOk result (IsStable (D.held disk.new)) }
     ensures stood { D.is_honest disk.old → IfOk result (λ parts. IsArea (parts_area parts) (D.held disk.old).bytes) }
     ensures end { IfOk result (λ parts. parts.end ≡ length (area_text (parts_area parts))) }
     ensures within { IfOk result (λ parts. parts.end < AREA_LIMIT) }
-    ensures few { IfOk result (λ parts. length parts.records.items ≤ parts.end) }
+    ensures few { IfOk result (λ parts. length parts.records ≤ parts.end) }
     ensures absent { D.is_honest disk.old → IsErrOf result OpenFault.Absent → IsAbsent (D.held disk.old).bytes }
     ensures stays_absent { D.is_honest disk.old → IsErrOf result OpenFault.Absent → LeavesAbsent (D.held disk.new) }
     ensures damaged { D.is_honest disk.old → IsErrOf result OpenFault.Damaged → IsDamaged (D.held disk.old).bytes }

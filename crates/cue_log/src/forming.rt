@@ -1,6 +1,6 @@
 // How an area comes to be: its body is on the disk, behind a closed head gate, before that gate is opened.
 ghost use Rattle.std.specs.Prelude.{◌≡◌, ◌≤◌, ◌+◌, ◌↔◌, [], ◌∷◌, ◌++◌, length, OnOk};
-ghost use Rattle.cue_disk.specs.Disk.{LeavesOnly, CountsFailure, overwritten};
+ghost use Rattle.cue_disk.specs.Disk.{LeavesAtEachMoment, CountsFailure, overwritten};
 ghost use Rattle.cue_log.specs.Area.{IsAbsent, fresh, body_text, formed_text, eight_bytes, four_bytes};
 ghost use Rattle.cue_log.specs.Reading.{area_in};
 ghost use Rattle.cue_log.specs.Log.{IsClosed, IsShut, IsFilled, IsNoneOr, IsSettled, ReadsAs, prepared};
@@ -11,7 +11,7 @@ use cue_disk::{Disk, DiskFault};
 // Writes a closed head gate where the disk is empty.
 fn prepare<D: Disk>(disk: &mut D) -> Result<(), DiskFault>
     requires { D.is_honest disk.old → IsClosed (D.held disk.old) }
-    ensures any_moment { D.is_honest disk.old → LeavesOnly D.moment D.held_at disk.old disk.new IsAbsent }
+    ensures any_moment { D.is_honest disk.old → LeavesAtEachMoment D.moment D.held_at disk.old disk.new IsAbsent }
     ensures shut { D.is_honest disk.old → OnOk result (IsShut (D.held disk.new)) }
     ensures bytes { D.is_honest disk.old → OnOk result ((D.held disk.new).bytes ≡ prepared (D.held disk.old).bytes) }
     ensures count { CountsFailure result (D.failures disk.old) (D.failures disk.new) }
@@ -38,7 +38,7 @@ fn header_of(generation: u64, len: u32) -> [u8; 12]
 fn fill<D: Disk>(disk: &mut D, generation: u64, snapshot: &[u8]) -> Result<(), DiskFault>
     requires room { 14 + length snapshot.now ≤ AREA_LIMIT }
     requires shut { D.is_honest disk.old → IsShut (D.held disk.old) }
-    ensures any_moment { D.is_honest disk.old → LeavesOnly D.moment D.held_at disk.old disk.new IsAbsent }
+    ensures any_moment { D.is_honest disk.old → LeavesAtEachMoment D.moment D.held_at disk.old disk.new IsAbsent }
     ensures filled { D.is_honest disk.old → OnOk result (IsFilled (D.held disk.new) generation snapshot.now) }
     ensures bytes { D.is_honest disk.old → OnOk result ((D.held disk.new).bytes ≡ overwritten (D.held disk.old).bytes 1 (body_text generation snapshot.now ++ 0 ∷ [])) }
     ensures count { CountsFailure result (D.failures disk.old) (D.failures disk.new) }
@@ -55,7 +55,7 @@ fn fill<D: Disk>(disk: &mut D, generation: u64, snapshot: &[u8]) -> Result<(), D
 fn open_gate<D: Disk>(disk: &mut D, generation: u64, snapshot: &[u8]) -> Result<(), DiskFault>
     requires room { 14 + length snapshot.now ≤ AREA_LIMIT }
     requires filled { D.is_honest disk.old → IsFilled (D.held disk.old) generation snapshot.now }
-    ensures any_moment { D.is_honest disk.old → LeavesOnly D.moment D.held_at disk.old disk.new (IsNoneOr (fresh generation snapshot.now)) }
+    ensures any_moment { D.is_honest disk.old → LeavesAtEachMoment D.moment D.held_at disk.old disk.new (IsNoneOr (fresh generation snapshot.now)) }
     ensures settled { D.is_honest disk.old → OnOk result (IsSettled (D.held disk.new) (13 + length snapshot.now)) }
     ensures area { D.is_honest disk.old → OnOk result (area_in (D.held disk.new).bytes ≡ fresh generation snapshot.now) }
     ensures bytes { D.is_honest disk.old → OnOk result ((D.held disk.new).bytes ≡ overwritten (D.held disk.old).bytes 0 (1 ∷ [])) }
@@ -74,7 +74,7 @@ pub(crate) fn form_on<D: Disk>(
 ) -> Result<(), DiskFault>
     requires room { 14 + length snapshot.now ≤ AREA_LIMIT }
     requires closed { D.is_honest disk.old → IsClosed (D.held disk.old) }
-    ensures any_moment { D.is_honest disk.old → LeavesOnly D.moment D.held_at disk.old disk.new (IsNoneOr (fresh generation snapshot.now)) }
+    ensures any_moment { D.is_honest disk.old → LeavesAtEachMoment D.moment D.held_at disk.old disk.new (IsNoneOr (fresh generation snapshot.now)) }
     ensures settled { D.is_honest disk.old → OnOk result (IsSettled (D.held disk.new) (13 + length snapshot.now)) }
     ensures area { D.is_honest disk.old → OnOk result (area_in (D.held disk.new).bytes ≡ fresh generation snapshot.now) }
     ensures bytes { D.is_honest disk.old → OnOk result ((D.held disk.new).bytes ≡ overwritten (D.held disk.old).bytes 0 (formed_text generation snapshot.now)) }

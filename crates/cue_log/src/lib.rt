@@ -9,14 +9,16 @@ mod forming;
 pub mod laws;
 mod log;
 mod opening;
-mod parts;
 mod reading;
 mod record;
+mod records;
+mod snapshot;
 #[cfg(test)]
 mod tests;
 
 pub use area::{AREA_LIMIT, PAYLOAD_LIMIT, close, is_absent};
 pub use log::{AppendFault, Log};
 pub use opening::{OpenFault, Opened};
-pub use parts::{Records, Snapshot};
 pub use record::{Record, RecordFault};
+pub use records::{Payloads, Records};
+pub use snapshot::Snapshot;

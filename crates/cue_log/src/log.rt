@@ -1,9 +1,9 @@
 // A log: one area that is open, and the disk that holds it.
 ghost use Rattle.std.specs.Prelude.{◌≡◌, ◌<◌, ◌≤◌, false};
 ghost use Rattle.cue_log.specs.declared.area.TheConstants.{AREA_LIMIT};
-ghost use Rattle.cue_log.specs.Log.{IsSettled, IsCounted};
+ghost use Rattle.cue_log.specs.Log.{IsSettled, IsNumbered};
 
-mod looking;
+mod queries;
 
 use crate::appending::commit;
 use crate::area::AREA_LIMIT;
@@ -42,15 +42,15 @@ pub struct Log<D: Disk> {
     ghost fits: { end < AREA_LIMIT },
     ghost few: { count ≤ end },
     ghost settled: { D.is_honest disk → broken ≡ false → IsSettled (D.held disk) end },
-    ghost counted: { D.is_honest disk → broken ≡ false → IsCounted (D.held disk) generation count },
+    ghost counted: { D.is_honest disk → broken ≡ false → IsNumbered (D.held disk) generation count },
 }
 
 impl<D: Disk> Log<D> {
     ghost use Rattle.std.specs.Prelude.{◌≡◌, ◌≤◌, ◌<◌, ◌+◌, ◌⊎◌, ◌↔◌, false, true, length, OnOk, OnErr, IfOk, IsErrOf};
-    ghost use Rattle.cue_disk.specs.Disk.{LeavesOnly, CountsFailure, MoreFailures, overwritten};
+    ghost use Rattle.cue_disk.specs.Disk.{LeavesAtEachMoment, CountsFailure, MoreFailures, overwritten};
     ghost use Rattle.cue_log.specs.Area.{fresh, with_payload, formed_text, record_text};
-    ghost use Rattle.cue_log.specs.Log.{IsClosed, IsEither, IsNoneOr, IsSettled, IsCounted, ReadsAs};
-    ghost use Rattle.cue_log.specs.Words.{disk_of, generation_of, end_of, count_of, is_broken, area_of, disk_after, formed_disk};
+    ghost use Rattle.cue_log.specs.Log.{IsClosed, IsEither, IsNoneOr, IsSettled, IsNumbered, ReadsAs};
+    ghost use Rattle.cue_log.specs.Observed.{disk_of, generation_of, end_of, count_of, is_broken, area_of, disk_after, formed_disk};
 
     /// Forms an area with this generation and snapshot and no record, on a disk that is empty or was closed. It takes
     /// no memory; a refusal hands the disk back, which then has no area or this one.
@@ -65,7 +65,7 @@ impl<D: Disk> Log<D> {
         ensures works { IfOk result (λ log. is_broken log ≡ false) }
 
         // A stop at any moment leaves no area, or this one.
-        ensures any_moment { D.is_honest disk → LeavesOnly D.moment D.held_at disk (disk_after disk_of result) (IsNoneOr (fresh generation snapshot.now)) }
+        ensures any_moment { D.is_honest disk → LeavesAtEachMoment D.moment D.held_at disk (disk_after disk_of result) (IsNoneOr (fresh generation snapshot.now)) }
         ensures count { CountsFailure result (D.failures disk) (D.failures (disk_after disk_of result)) }
         ensures honest { D.is_honest (disk_after disk_of result) ↔ D.is_honest disk }
     {
@@ -87,7 +87,7 @@ impl<D: Disk> Log<D> {
         requires fits { end < AREA_LIMIT }
         requires few { count ≤ end }
         requires settled { D.is_honest disk → IsSettled (D.held disk) end }
-        requires counted { D.is_honest disk → IsCounted (D.held disk) generation count }
+        requires counted { D.is_honest disk → IsNumbered (D.held disk) generation count }
         ensures disk { disk_of result ≡ disk }
         ensures numbers { (generation_of result ≡ generation) × (count_of result ≡ count) × (end_of result ≡ end) }
         ensures works { is_broken result ≡ false }
@@ -123,7 +123,7 @@ impl<D: Disk> Log<D> {
         ensures generation { generation_of self.new ≡ generation_of self.old }
 
         // A stop at any moment leaves the area as it was, or with the record.
-        ensures any_moment { D.is_honest (disk_of self.old) → is_broken self.old ≡ false → LeavesOnly D.moment D.held_at (disk_of self.old) (disk_of self.new)
+        ensures any_moment { D.is_honest (disk_of self.old) → is_broken self.old ≡ false → LeavesAtEachMoment D.moment D.held_at (disk_of self.old) (disk_of self.new)
             (IsEither (area_of D.held self.old) (with_payload (area_of D.held self.old) added.now)) }
         ensures honest { D.is_honest (disk_of self.new) ↔ D.is_honest (disk_of self.old) }
     {
@@ -165,7 +165,7 @@ impl<D: Disk> Log<D> {
         ensures unchanged { OnErr result (self.new ≡ self.old) }
 
         // A stop at any moment leaves no area on the other disk, or this one.
-        ensures any_moment { D.is_honest spare.old → LeavesOnly D.moment D.held_at spare.old (formed_disk result (disk_of self.new) spare.new) (IsNoneOr (fresh generation snapshot.now)) }
+        ensures any_moment { D.is_honest spare.old → LeavesAtEachMoment D.moment D.held_at spare.old (formed_disk result (disk_of self.new) spare.new) (IsNoneOr (fresh generation snapshot.now)) }
         ensures count { CountsFailure result (D.failures spare.old) (D.failures (formed_disk result (disk_of self.new) spare.new)) }
         ensures honest { D.is_honest (formed_disk result (disk_of self.new) spare.new) ↔ D.is_honest spare.old }
     {

@@ -1,7 +1,8 @@
 // How an area is read: first a sync, so that what is read stays, and then from the front to the last gate.
 use crate::fetching::read_area;
 use crate::log::Log;
-use crate::parts::{Records, Snapshot};
+use crate::records::Records;
+use crate::snapshot::Snapshot;
 use cue_disk::{Disk, DiskFault};
 use std::alloc::{AllocError, Global};
 use thiserror::Error;
@@ -55,10 +56,10 @@ pub struct Opened<D: Disk> {
 
 impl<D: Disk> Log<D> {
     ghost use Rattle.std.specs.Prelude.{◌≡◌, ◌≤◌, ◌↔◌, IfOk, length, false};
-    ghost use Rattle.cue_disk.specs.Disk.{LeavesOnly, IsImage, MoreFailures};
+    ghost use Rattle.cue_disk.specs.Disk.{LeavesAtEachMoment, IsImage, MoreFailures};
     ghost use Rattle.cue_log.specs.Area.{IsArea, IsAbsent};
     ghost use Rattle.cue_log.specs.Log.{IsDamaged, LeavesAbsent, ReadsAs};
-    ghost use Rattle.cue_log.specs.Words.{disk_of, is_broken, count_of, area_of, disk_after};
+    ghost use Rattle.cue_log.specs.Observed.{disk_of, is_broken, count_of, area_of, disk_after};
     ghost use Rattle.cue_log.specs.Opened.{area_read, opened_disk, FailsAs, CountsOnlyAs};
 
     /// Opens the area of a disk, pending writes included: from Ok on whatever a stop leaves reads as what is answered. It
@@ -81,7 +82,7 @@ impl<D: Disk> Log<D> {
         ensures memory { CountsOnlyAs OpenFault.Disk (D.failures disk) (D.failures (disk_after opened_disk result)) result }
 
         // A stop at any moment leaves what one at entry might have left.
-        ensures any_moment { D.is_honest disk → LeavesOnly D.moment D.held_at disk (disk_after opened_disk result) (IsImage (D.held disk)) }
+        ensures any_moment { D.is_honest disk → LeavesAtEachMoment D.moment D.held_at disk (disk_after opened_disk result) (IsImage (D.held disk)) }
         ensures bytes { D.is_honest disk → (D.held (disk_after opened_disk result)).bytes ≡ (D.held disk).bytes }
         ensures failures { D.failures disk ≤ D.failures (disk_after opened_disk result) }
         ensures honest { D.is_honest (disk_after opened_disk result) ↔ D.is_honest disk }
@@ -90,11 +91,11 @@ impl<D: Disk> Log<D> {
         match read_area(alloc, &mut disk) {
             Err(fault) => Err((fault, disk)),
             Ok(parts) => {
-                let count = parts.records.len() as u64;
+                let count = parts.records.count();
                 Ok(Opened {
                     log: Log::settled(disk, parts.generation, parts.end, count),
                     snapshot: Snapshot::from_vec(parts.snapshot),
-                    records: Records::from_vec(parts.records),
+                    records: parts.records,
                 })
             }
         }

@@ -3,10 +3,10 @@ ghost use Rattle.std.specs.Prelude.{◌≡◌, ◌<◌, ◌≤◌, ◌+◌, ◌�
 ghost use Rattle.std.specs.Option.{option_map};
 ghost use Rattle.cue_log.specs.Area.{IsArea, area_text};
 ghost use Rattle.cue_log.specs.Parts.{parts_area};
-ghost use Rattle.cue_log.specs.Reading.{frame_at, payloads_at, area_of, area_at, bytes_behind};
+ghost use Rattle.cue_log.specs.Reading.{frame_at, payloads_at, area_with, area_at, bytes_behind};
 
 use crate::area::{AREA_LIMIT, OPEN, PAYLOAD_LIMIT};
-use crate::record::Record;
+use crate::records::Records;
 use std::alloc::{AllocError, Global};
 
 /// What stands in front of the records of an area, and the bytes from the first of their gates on.
@@ -17,9 +17,9 @@ pub(crate) struct Front<'a> {
     pub tail: &'a [u8],
 }
 
-// A length of at most `most` and so many bytes: those, and what follows them.
+/// A length of at most `most` and so many bytes: those, and what follows them.
 #[tactic(auto, unfolding(crate::specs::Reading::frame_at, crate::specs::Reading::four_at))]
-fn frame(bytes: &[u8], most: usize) -> Option<(&[u8], &[u8])>
+pub(crate) fn frame(bytes: &[u8], most: usize) -> Option<(&[u8], &[u8])>
     ensures frame { MatchOption result (frame_at most bytes.now ≡ None) (λ parts. frame_at most bytes.now ≡ Some (parts.0.now, parts.1.now)) }
     ensures len { IfSome result (λ parts. 4 + length parts.0.now + length parts.1.now ≡ length bytes.now) }
     ensures short { IfSome result (λ parts. length parts.0.now ≤ most) }
@@ -39,7 +39,7 @@ fn frame(bytes: &[u8], most: usize) -> Option<(&[u8], &[u8])>
 #[tactic(auto, unfolding(crate::specs::Reading::eight_at))]
 fn split_front(text: &[u8]) -> Option<Front<'_>>
     ensures front { MatchOption result (area_at text.now ≡ None)
-        (λ front. area_at text.now ≡ area_of front.generation front.snapshot.now (payloads_at (length front.tail.now) front.tail.now)) }
+        (λ front. area_at text.now ≡ area_with front.generation front.snapshot.now (payloads_at (length front.tail.now) front.tail.now)) }
     ensures len { IfSome result (λ front. 13 + length front.snapshot.now + length front.tail.now ≡ length text.now) }
 {
     let (gate, after) = text.split_first()?;
@@ -71,24 +71,6 @@ fn len_behind(tail: &[u8]) -> Option<usize>
     None
 }
 
-// The records up to the last gate.
-fn read_records(alloc: Global, tail: &[u8]) -> Result<Vec<Record>, AllocError>
-    requires { IsSome (payloads_at (length tail.now) tail.now) }
-    ensures { IfOk result (λ records. payloads_at (length tail.now) tail.now ≡ Some records.items) }
-{
-    let mut records = Vec::new(alloc);
-    let mut rest = tail;
-    while let Some((gate, after)) = rest.split_first() {
-        if *gate != OPEN {
-            return Ok(records);
-        }
-        let (payload, behind) = frame(after, PAYLOAD_LIMIT).unwrap();
-        records.push(Record::of_short(alloc, payload)?)?;
-        rest = behind;
-    }
-    unreachable!()
-}
-
 /// Whether the text of an area stands in front of these bytes, whole.
 pub(crate) fn is_whole(text: &[u8]) -> bool
     ensures { IsTrue result ↔ IsSome (area_at text.now) }
@@ -104,7 +86,7 @@ pub(crate) fn is_whole(text: &[u8]) -> bool
 pub(crate) struct Parts {
     pub generation: u64,
     pub snapshot: Vec<u8>,
-    pub records: Vec<Record>,
+    pub records: Records,
     pub end: u64,
 }
 
@@ -113,7 +95,7 @@ pub(crate) fn read_parts(alloc: Global, text: &[u8]) -> Result<Option<Parts>, Al
     requires { length text.now ≤ AREA_LIMIT }
     ensures area { IfOk result (λ parts. option_map parts_area parts ≡ area_at text.now) }
     ensures found { IfOk result (λ parts. IfSome parts (λ whole. IsArea (parts_area whole) text.now)) }
-    ensures few { IfOk result (λ parts. IfSome parts (λ whole. length whole.records.items ≤ whole.end)) }
+    ensures few { IfOk result (λ parts. IfSome parts (λ whole. length whole.records ≤ whole.end)) }
     ensures end { IfOk result (λ parts. IfSome parts (λ whole. whole.end ≡ length (area_text (parts_area whole)))) }
     ensures within { IfOk result (λ parts. IfSome parts (λ whole. whole.end < length text.now)) }
 {
@@ -123,7 +105,7 @@ pub(crate) fn read_parts(alloc: Global, text: &[u8]) -> Result<Option<Parts>, Al
     let Some(behind) = len_behind(front.tail) else {
         return Ok(None);
     };
-    let records = read_records(alloc, front.tail)?;
+    let records = Records::of(alloc, front.tail)?;
     let snapshot = front.snapshot.to_vec(alloc)?;
     Ok(Some(Parts {
         generation: front.generation,

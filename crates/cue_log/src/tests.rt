@@ -56,8 +56,10 @@ fn has(rt: &impl Abort, area: &Opened<MemDisk>, snapshot: &[u8], payloads: &[&[u
     assert_eq!(rt; area.log.generation(), 1);
     assert_eq!(rt; area.log.count(), payloads.len() as u64);
     assert_eq!(rt; area.snapshot.as_slice(), snapshot);
-    assert_eq!(rt; area.records.as_slice().len(), payloads.len());
-    for (record, payload) in area.records.as_slice().iter().zip(payloads) {
-        assert_eq!(rt; record.payload(), *payload);
+    assert_eq!(rt; area.records.count(), payloads.len() as u64);
+    let mut found = area.records.payloads();
+    for payload in payloads {
+        assert_eq!(rt; found.next(), Some(*payload));
     }
+    assert_eq!(rt; found.next(), None);
 }

@@ -64,17 +64,23 @@ const ASKED: [Row; 30] = [
 ];
 
 // Judges the command, which has to be a fit one that makes an event, and carries it out.
-fn make(rt: &impl Abort, state: &mut State, command: &Command) -> Result<(), Fail> {
+fn make(rt: &impl Abort, alloc: Global, state: &mut State, command: &Command) -> Result<(), Fail> {
     assert!(rt; command.is_fit());
-    let (_, mut events) = judge(state, 0, 8000, command)?;
+    let (_, mut events) = judge(alloc, state, 0, 8000, command)?;
     let event = events.take_first().ok_or("no event")?;
     assert!(rt; state.can_apply(&event));
     Ok(state.apply(&event)?)
 }
 
-fn add_device(rt: &impl Abort, state: &mut State, number: i32, port: u16) -> Result<(), Fail> {
+fn add_device(
+    rt: &impl Abort,
+    alloc: Global,
+    state: &mut State,
+    number: i32,
+    port: u16,
+) -> Result<(), Fail> {
     let device = DeviceNo::of(number).ok_or("no device number")?;
-    make(rt, state, &Command::AddDevice(device, port))
+    make(rt, alloc, state, &Command::AddDevice(device, port))
 }
 
 // Adds a cue with one part, for device 3.
@@ -83,13 +89,13 @@ fn add_cue(rt: &impl Abort, alloc: Global, state: &mut State, text: &str) -> Res
     let device = DeviceNo::of(3).ok_or("no device number")?;
     let mut parts = Parts::new(alloc);
     parts.push(Part::of(alloc, device, b"")?)?;
-    make(rt, state, &Command::AddCue(cue, parts))
+    make(rt, alloc, state, &Command::AddCue(cue, parts))
 }
 
 // Devices 3 and 11, and three cues.
 fn make_show(rt: &impl Abort, alloc: Global, state: &mut State) -> Result<(), Fail> {
-    add_device(rt, state, 3, 9001)?;
-    add_device(rt, state, 11, 9002)?;
+    add_device(rt, alloc, state, 3, 9001)?;
+    add_device(rt, alloc, state, 11, 9002)?;
     add_cue(rt, alloc, state, "1.1")?;
     add_cue(rt, alloc, state, "1.2")?;
     add_cue(rt, alloc, state, "21")

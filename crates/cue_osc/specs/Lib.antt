@@ -2,6 +2,7 @@ pub mod Argument
 pub mod Content
 pub mod Spelling
 pub mod Reading
+pub mod Understood
 pub mod Plain
 pub mod Walking
 pub mod Writing

@@ -18,13 +18,15 @@ use Rattle.cue_core.specs.declared.event.Event.{Event}
 use Rattle.cue_core.specs.State.{ShowState, cue_parts, is_state}
 use Rattle.cue_core.specs.Steps.{are_acceptable, folded}
 use Rattle.cue_core.specs.Pending.{Order, standby, go_2pc, cancel, bytes_for, order_at, order_for, pending}
+use Rattle.cue_core.specs.InTurn.{steps, events_of}
+use Rattle.cue_core.proofs.InTurn.{steps-acceptable}
 use Rattle.cue_core.proofs.Conditions.{both, join, same_number, same_self}
 use Rattle.cue_core.proofs.Finding.{rising, found_has}
 use Rattle.cue_core.proofs.Rules.{rules_of}
 use Rattle.cue_core.proofs.Sound.{sound_of}
 use Rattle.cue_outbox.specs.Sending.{Send, order, order_content, send_content, datagram, datagrams, orders, all_pending}
 use Rattle.cue_outbox.specs.New.{same_datagram, is_new, newly_pending}
-use Rattle.cue_outbox.specs.Asked.{number_of, is_asked, pending_of, NewlyPendingAreAsked, AskedCommandsDiffer}
+use Rattle.cue_outbox.specs.Asked.{number_of, is_asked, pending_of, NewlyPendingAreAsked, StepsAskAnew, AskedCommandsDiffer}
 use Rattle.cue_outbox.proofs.Lists.{Pairs, pairs_all, each_append, each_weaker, each_passes, each_found, each_flat, each_filter}
 use Rattle.cue_outbox.proofs.ReadBack.{read_back}
 use Rattle.cue_outbox.proofs.Told.{IsTold, live_told}
@@ -265,6 +267,10 @@ newly-pending-are-asked s events numbers i g asked =
     (folded s events).live
     (each_both (λ (b : Attempt). attempt_of (folded s events).live b.seq ≡ Some b) (IsTold (folded s events)) (IsNow (folded s events)) (λ b e told_b. record { there = e; writable = writable_for (folded s events) b told_b })
     (folded s events).live (each_itself (folded s events).live (sound_of (folded s events) j).rises) (live_told (folded s events) j)))
+
+pub steps-ask-anew : StepsAskAnew
+steps-ask-anew s now from commands numbers h fit asked =
+    newly-pending-are-asked s (events_of (steps s now from commands)) numbers h (steps-acceptable s now from commands h fit) asked
 
 -- ---- no two are the same
 

@@ -1,11 +1,14 @@
 -- The attempts whose devices are asked anew by events, and the commands to them.
 use Rattle.std.specs.Prelude.{◌≡◌, ◌≢◌, ℕ, Bool, List, filter, Option, None, Some, IsTrue}
-use Rattle.std.specs.List.{AllPairs, filter_map}
+use Rattle.std.specs.List.{AllPairs, filter_map, list_all}
 use Rattle.cue_show.specs.Devices.{is_among}
 use Rattle.cue_core.specs.declared.event.Event.{Event}
 use Rattle.cue_core.specs.declared.event.Event.TheVariants.{Device, NoDevice, Cue, NoCue, Place, Start, Ready, Go, Done, Cancel, LetGo, Failed}
 use Rattle.cue_core.specs.State.{ShowState, is_state}
+use Rattle.cue_core.specs.declared.command.Command.{Command}
 use Rattle.cue_core.specs.Steps.{are_acceptable, folded}
+use Rattle.cue_core.specs.Judge.{is_fit}
+use Rattle.cue_core.specs.InTurn.{steps, events_of}
 use Rattle.cue_core.specs.Pending.{Order, standby, go_2pc, cancel, pending}
 use Rattle.cue_outbox.specs.Sending.{Send, datagrams, orders}
 use Rattle.cue_outbox.specs.New.{newly_pending}
@@ -44,6 +47,13 @@ abbrev pub NewlyPendingAreAsked : Type 0
 NewlyPendingAreAsked =
     (s : ShowState) (events : List Event) (numbers : List ℕ) → IsTrue (is_state s) → IsTrue (are_acceptable s events) → ((q : ℕ) → is_among q numbers ≡ is_asked q events)
     → newly_pending s (folded s events) ≡ pending_of numbers (folded s events)
+
+-- And so after the commands of a datagram, judged in turn: the newly pending are those of the attempts that their events ask anew.
+abbrev pub StepsAskAnew : Type 0
+StepsAskAnew =
+    (s : ShowState) (now from : ℕ) (commands : List Command) (numbers : List ℕ) → IsTrue (is_state s) → IsTrue (list_all is_fit commands)
+    → ((q : ℕ) → is_among q numbers ≡ is_asked q (events_of (steps s now from commands)))
+    → newly_pending s (folded s (events_of (steps s now from commands))) ≡ pending_of numbers (folded s (events_of (steps s now from commands)))
 
 -- no two pending commands of some attempts are the same datagram
 abbrev pub AskedCommandsDiffer : Type 0

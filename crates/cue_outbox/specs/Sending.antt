@@ -4,8 +4,7 @@ use Rattle.std.specs.Option.{option_map_or}
 use Rattle.cue_osc.specs.Argument.{Argument, int, text, blob}
 use Rattle.cue_osc.specs.Content.{Content, message}
 use Rattle.cue_osc.specs.Writing.{text_of}
-use Rattle.cue_exchange.specs.declared.attempt.Outcome.{Outcome}
-use Rattle.cue_exchange.specs.declared.attempt.Outcome.TheVariants as outcome
+use Rattle.cue_exchange.specs.Outcomes.{outcome_number}
 use Rattle.cue_core.specs.declared.event.Ended.{Ended}
 use Rattle.cue_core.specs.State.{ShowState}
 use Rattle.cue_core.specs.Pending.{Order, standby, go_2pc, cancel, pending}
@@ -39,12 +38,6 @@ datagram send = (send.0, text_of (send_content send.1))
 -- each with its port and its bytes
 abbrev pub datagrams : List (ℕ × Send) → List (ℕ × List ℕ)
 datagrams sends = map datagram sends
-
--- an outcome as the number that is sent
-abbrev pub outcome_number : Outcome → ℕ
-outcome_number outcome.Complete = 1
-outcome_number outcome.Cancelled = 2
-outcome_number outcome.Failed = 3
 
 -- the number of the attempt that ended last; 0 before the first
 abbrev pub ended_number : Option Ended → ℕ

@@ -17,7 +17,7 @@ ghost use Rattle.cue_outbox.specs.Views.{out_view, outs_view};
 use crate::message::{int, written};
 use crate::out::Out;
 use cue_core::State;
-use cue_exchange::attempt::{Attempt, DeviceAnswer, Stage};
+use cue_exchange::{Attempt, DeviceAnswer, Stage};
 use cue_osc::Arg;
 use cue_show::{CueNo, DeviceNo, Part, Show};
 use std::alloc::{AllocError, Global};

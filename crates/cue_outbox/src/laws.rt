@@ -1,5 +1,5 @@
 //! Laws of what is sent, each the contract of a function that does nothing.
-ghost use Rattle.cue_outbox.specs.Asked.{AskedCommandsDiffer, NewlyPendingAreAsked};
+ghost use Rattle.cue_outbox.specs.Asked.{AskedCommandsDiffer, NewlyPendingAreAsked, StepsAskAnew};
 ghost use Rattle.cue_outbox.specs.Laws.{CommandsAreRead, CommandsDiffer, CommandsHavePorts, RepliesAreRead, StatusIsRead};
 
 /// Each reply that `reply` gives is read by `cue_osc` as what was meant.
@@ -31,6 +31,11 @@ pub fn commands_differ()
 /// devices the events ask anew, in the new state: by their Start, Go or Cancel.
 pub fn newly_pending_are_asked()
     ensures { NewlyPendingAreAsked }
+{}
+
+/// After the commands of a datagram, judged in turn, the newly pending are those of the attempts whose devices their events ask anew.
+pub fn steps_ask_anew()
+    ensures { StepsAskAnew }
 {}
 
 /// No two of the commands that `pending_of` gives are the same datagram.

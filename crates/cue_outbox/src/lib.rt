@@ -14,7 +14,7 @@ mod status_reply;
 
 pub use asked::numbers_asked;
 pub use commands::{pending, pending_of};
-pub use out::{Bytes, Out};
+pub use out::Out;
 pub use queue::Queue;
 pub use replies::reply;
 pub use status_reply::status;

@@ -6,8 +6,9 @@ ghost use Rattle.cue_osc.specs.Plain.{IsPlain};
 ghost use Rattle.cue_osc.specs.Writing.{text_of};
 ghost use Rattle.cue_outbox.specs.Sending.{number as number_of};
 
-use crate::out::{Bytes, Out};
+use crate::out::Out;
 use cue_osc::{Arg, Args, Message, Packet, WriteFault};
+use cue_show::Bytes;
 use std::alloc::{AllocError, Global};
 
 // The datagram of a message that is known to be short.

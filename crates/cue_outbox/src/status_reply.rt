@@ -3,13 +3,12 @@ ghost use Rattle.std.specs.Prelude.{◌≡◌, ◌≤◌, [], IfOk, length, unwr
 ghost use Rattle.cue_osc.specs.Spelling.{IsText};
 ghost use Rattle.cue_show.specs.declared.limits.TheConstants.{MAX_CUE_BYTES};
 ghost use Rattle.cue_exchange.specs.declared.limits.TheConstants.{LAST_NUMBER, MAX_LIVE};
-ghost use Rattle.cue_outbox.specs.Sending.{datagram, ended_number, ended_outcome, outcome_number, status_of};
+ghost use Rattle.cue_outbox.specs.Sending.{datagram, ended_number, ended_outcome, status_of};
 ghost use Rattle.cue_outbox.specs.Views.{out_view};
 
 use crate::message::{int, written};
 use crate::out::Out;
 use cue_core::{Ended, State};
-use cue_exchange::attempt::Outcome;
 use cue_osc::Arg;
 use cue_show::CueNo;
 use std::alloc::{AllocError, Global};
@@ -81,18 +80,7 @@ fn ended_outcome(ended: Option<Ended>) -> u32
     ensures range { result ≤ 3 }
 {
     match ended {
-        Some(ended) => outcome_number(ended.outcome),
+        Some(ended) => u32::from(ended.outcome.number()),
         None => 0,
-    }
-}
-
-fn outcome_number(outcome: Outcome) -> u32
-    ensures value { result ≡ outcome_number outcome }
-    ensures range { result ≤ 3 }
-{
-    match outcome {
-        Outcome::Complete => 1,
-        Outcome::Cancelled => 2,
-        Outcome::Failed => 3,
     }
 }

@@ -1,4 +1,4 @@
--- What the steps of reading and matching give each other.
+-- Helper: what the steps of reading and matching give each other.
 use Rattle.std.specs.Prelude.{◌≡◌, ℕ, ◌+◌, ◌<◌, ◌≤◌, Bool, false, List, [], ◌∷◌, ◌++◌, ◌&&◌, nat_eq, length, drop, Option, None, Some, IfSome, slice_index_or}
 use Rattle.std.specs.List.{starts_with}
 use Rattle.std.specs.Option.{option_map}

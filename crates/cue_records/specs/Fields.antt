@@ -1,4 +1,4 @@
--- The fields of a text: how each is spelled. All numbers stand with the highest byte first.
+-- Helper: the fields of a text, how each is spelled. All numbers stand with the highest byte first.
 use Rattle.std.specs.Prelude.{ℕ, List, [], ◌∷◌, ◌++◌, length}
 use Rattle.std.specs.List.{flat_map}
 use Rattle.std.specs.Int.{w16, w32, w64, to_be_bytes}

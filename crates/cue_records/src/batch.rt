@@ -35,18 +35,10 @@ impl Model for Batch {
 
 impl Batch {
     /// The events, kept in the memory that they have.
-    pub fn from_vec(events: Vec<Event>) -> Batch
+    pub(crate) fn from_vec(events: Vec<Event>) -> Batch
         ensures { result ≡ events.items }
     {
         Batch { events }
-    }
-
-    /// Gives the memory of the events back.
-    pub fn into_vec(self) -> Vec<Event>
-        ensures { result.items ≡ self }
-    {
-        let Batch { events } = self;
-        events
     }
 
     /// The events.

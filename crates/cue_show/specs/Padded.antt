@@ -1,4 +1,4 @@
--- How a cue number lies in its sixteen bytes: the text first, and zeros behind it.
+-- Helper: how a cue number lies in its sixteen bytes, the text first and zeros behind it.
 use Rattle.std.specs.Prelude.{◌≡◌, ℕ, ◌-◌, List, ◌++◌, length, take, replicate, IsTrue}
 use Rattle.cue_show.specs.Number.{is_cue_number}
 use Rattle.cue_show.specs.declared.limits.TheConstants.{MAX_CUE_BYTES}

@@ -1,88 +1,22 @@
 //! The parts of a cue: what each of its devices is told to do.
-ghost use Rattle.std.specs.Prelude.{◌≡◌, ◌+◌, [], ◌∷◌, ◌++◌, nat_eq, IsTrue, IfOk, OnOk, OnErr, length};
+ghost use Rattle.std.specs.Prelude.{◌≡◌, ◌+◌, [], ◌∷◌, ◌++◌, IsTrue, IfOk, OnOk, OnErr, length};
 ghost use Rattle.std.specs.Cmp.{partial_equiv_from_equiv};
-ghost use Rattle.std.specs.Cmp.Lexicographic.{nat_list_eq_equiv, pointwise};
 ghost use Rattle.std.specs.List.{list_all};
-ghost use Rattle.cue_show.specs.Bytes.{are_bytes};
 ghost use Rattle.cue_show.specs.Devices.{distinct, devices_in};
 ghost use Rattle.cue_show.specs.Parts.{is_part, are_parts, uses, same_parts, same_parts_equiv};
 
+use crate::bytes::Bytes;
 use crate::device::DeviceNo;
 use crate::limits::{MAX_DEVICES, MAX_PART_BYTES, MAX_PARTS};
 use std::alloc::{AllocError, Global};
 use std::marker::Model;
 
-/// The bytes of a part, which mean something to its device alone.
-#[derive(Debug, Drop)]
-pub struct PartBytes {
-    bytes: Vec<u8>,
-}
-
-impl Model for PartBytes {
-    ghost use Rattle.std.specs.Prelude.{ℕ, List};
-
-    ghost Value = { List ℕ };
-
-    ghost view = { λ p. p.bytes.items };
-}
-
-impl PartBytes {
-    /// The bytes, kept in the memory that they have.
-    pub fn of(bytes: Vec<u8>) -> PartBytes
-        ensures { result ≡ bytes.items }
-    {
-        PartBytes { bytes }
-    }
-
-    /// Gives the memory of the bytes back.
-    pub fn into_vec(self) -> Vec<u8>
-        ensures { result.items ≡ self }
-    {
-        let PartBytes { bytes } = self;
-        bytes
-    }
-
-    /// The bytes.
-    pub fn as_slice(&self) -> &[u8]
-        ensures value { result.now ≡ self.now }
-        ensures bytes { IsTrue (are_bytes self.now) }
-    {
-        let bytes = self.bytes.as_slice();
-        // A use of the slice shows the proof that its items are bytes.
-        let _len = bytes.len();
-        bytes
-    }
-}
-
-impl Clone for PartBytes {
-    ghost is_clone = { λ bytes copy. copy ≡ bytes };
-
-    fn clone(&self) -> Result<PartBytes, AllocError> {
-        Ok(PartBytes {
-            bytes: self.bytes.clone()?,
-        })
-    }
-}
-
-impl PartialEq for PartBytes {
-    ghost eq = { pointwise nat_eq };
-
-    ghost laws = { partial_equiv_from_equiv nat_list_eq_equiv };
-
-    fn eq(&self, other: &PartBytes) -> bool {
-        self.bytes == other.bytes
-    }
-}
-
-impl Eq for PartBytes {
-    ghost laws = { nat_list_eq_equiv };
-}
-
 /// What one device of a cue is told: the bytes go to it with the message that asks it to stand by.
 #[derive(Clone, Debug, Drop, PartialEq, Eq)]
 pub struct Part {
     pub device: DeviceNo,
-    pub bytes: PartBytes,
+    /// They mean something to the device alone.
+    pub bytes: Bytes,
 }
 
 impl Part {
@@ -90,7 +24,7 @@ impl Part {
     pub fn of(alloc: Global, device: DeviceNo, bytes: &[u8]) -> Result<Part, AllocError>
         ensures { IfOk result (λ p. p ≡ record { device = device; bytes = bytes.now }) }
     {
-        let bytes = PartBytes::of(Vec::from_slice(alloc, bytes)?);
+        let bytes = Bytes::from_vec(Vec::from_slice(alloc, bytes)?);
         Ok(Part { device, bytes })
     }
 
@@ -136,6 +70,15 @@ impl Parts {
         Parts { parts }
     }
 
+    /// A copy of the parts. It fails only where memory ran out.
+    pub fn from_slice(alloc: Global, parts: &[Part]) -> Result<Parts, AllocError>
+        ensures { IfOk result (λ copy. copy ≡ parts.now) }
+    {
+        let mut copy = Vec::new(alloc);
+        copy.extend_with_clones(parts)?;
+        Ok(Parts { parts: copy })
+    }
+
     /// Gives the memory of the parts back.
     pub fn into_vec(self) -> Vec<Part>
         ensures { result.items ≡ self }
@@ -166,8 +109,8 @@ impl Parts {
         true
     }
 
-    /// Whether one of the parts is for the device.
-    pub fn uses(&self, device: DeviceNo) -> bool
+    // Whether one of the parts is for the device.
+    pub(crate) fn uses(&self, device: DeviceNo) -> bool
         ensures { result ≡ uses device self.now }
     {
         self.parts

@@ -1,6 +1,6 @@
 -- What a crash leaves of two disks around a barrier on both.
 use Rattle.std.proofs.Common.{◌≡◌, inl, inr, ℕ, List, ◌∙◌, sym, ap, subst, arith}
-use Rattle.cue_disk.specs.Disk.{Contents, IsImage, IsStable, LeavesOnly}
+use Rattle.cue_disk.specs.Disk.{Contents, IsImage, IsStable, LeavesAtEachMoment}
 use Rattle.cue_disk.proofs.Crash.{image_stable}
 use Rattle.cue_log.specs.Area.{Area, IsAbsent}
 use Rattle.cue_log.specs.Log.{IsNoneOr, IsOldOrAbsent, LeavesAbsent}
@@ -17,7 +17,7 @@ old_absent held absent image (inr is) = is
 
 module _ {D : Type 0} (moment : D → ℕ) (held : D → Contents) (held_at : D → ℕ → Contents) where
   -- Both disks leave only what they might have left at entry.
-  pub entry_pairs : (a b new_a new_b : D) (P : List ℕ → List ℕ → Type 0) → LeavesOnly moment held_at a new_a (IsImage (held a)) → LeavesOnly moment held_at b new_b (IsImage (held b)) → ((x y : List ℕ) → IsImage (held a) x → IsImage (held b) y → P x y) → AfterBarrier moment held_at a b new_a new_b P
+  pub entry_pairs : (a b new_a new_b : D) (P : List ℕ → List ℕ → Type 0) → LeavesAtEachMoment moment held_at a new_a (IsImage (held a)) → LeavesAtEachMoment moment held_at b new_b (IsImage (held b)) → ((x y : List ℕ) → IsImage (held a) x → IsImage (held b) y → P x y) → AfterBarrier moment held_at a b new_a new_b P
   entry_pairs a b new_a new_b P first second here = record {
     at_a = moment a;
     at_b = moment b;
@@ -37,9 +37,9 @@ module _ {D : Type 0} (moment : D → ℕ) (held : D → Contents) (held_at : D 
   }
 
   -- The barrier, and then calls on the first disk alone, beside whatever is left of the second one.
-  pub barrier_runs : (a b mid_a new_a new_b : D) (P : List ℕ → List ℕ → Type 0) → held_at a (moment a) ≡ held a → held_at b (moment b) ≡ held b → held_at new_b (moment new_b) ≡ held new_b → IsImage (held new_b) (held new_b).bytes → LeavesOnly moment held_at a mid_a (IsImage (held a)) → LeavesOnly moment held_at b new_b (IsImage (held b)) → ((y : List ℕ) → IsImage (held new_b) y → LeavesOnly moment held_at mid_a new_a (λ x. P x y)) → AfterBarrier moment held_at a b new_a new_b P
+  pub barrier_runs : (a b mid_a new_a new_b : D) (P : List ℕ → List ℕ → Type 0) → held_at a (moment a) ≡ held a → held_at b (moment b) ≡ held b → held_at new_b (moment new_b) ≡ held new_b → IsImage (held new_b) (held new_b).bytes → LeavesAtEachMoment moment held_at a mid_a (IsImage (held a)) → LeavesAtEachMoment moment held_at b new_b (IsImage (held b)) → ((y : List ℕ) → IsImage (held new_b) y → LeavesAtEachMoment moment held_at mid_a new_a (λ x. P x y)) → AfterBarrier moment held_at a b new_a new_b P
   barrier_runs a b mid_a new_a new_b P now_a now_b now_new image_b first second rest =
-      let run : LeavesOnly moment held_at mid_a new_a (λ x. P x (held new_b).bytes) = rest (held new_b).bytes image_b in
+      let run : LeavesAtEachMoment moment held_at mid_a new_a (λ x. P x (held new_b).bytes) = rest (held new_b).bytes image_b in
       record {
         at_a = moment mid_a;
         at_b = moment new_b;

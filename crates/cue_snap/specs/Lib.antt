@@ -1,7 +1,7 @@
 pub mod Pair
 pub mod Reading
-pub mod Kept
-pub mod Words
+pub mod Invariant
+pub mod Observed
 pub mod Opened
 pub mod Found
 pub mod Laws

@@ -1,14 +1,14 @@
 // Which of two areas counts: the one with the higher generation, or the only one.
 ghost use Rattle.std.specs.Prelude.{◌≡◌, IfOk};
 ghost use Rattle.cue_log.specs.Log.{LeavesAbsent, IsDamaged};
-ghost use Rattle.cue_log.specs.Opened.{opened_disk, area_read as log_area_read};
+ghost use Rattle.cue_log.specs.Opened.{opened_disk, area_read};
 ghost use Rattle.cue_snap.specs.Found.{disk_in, IsFound, FoundWorks, IsOpened, OpenedWorks, IsPairOf, PairWorks, IsChosen};
-ghost use Rattle.cue_snap.specs.Kept.{SpareIsOlder};
-ghost use Rattle.cue_snap.specs.Opened.{area_read, first_opened, second_opened};
+ghost use Rattle.cue_snap.specs.Invariant.{SpareIsOlder};
+ghost use Rattle.cue_snap.specs.Opened.{live_area_read, first_opened, second_opened};
 ghost use Rattle.cue_snap.specs.Pair.{NeitherHas, IsSpoiled, OneGeneration};
-ghost use Rattle.cue_snap.specs.Words.{first_after, second_after, RefusedAs};
+ghost use Rattle.cue_snap.specs.Observed.{first_after, second_after, RefusedAs};
 
-use crate::opening::OpenedPair;
+use crate::opening::Opened2;
 use crate::snap::Snap;
 use cue_disk::Disk;
 use cue_log::Opened;
@@ -47,12 +47,12 @@ impl<D: Disk> Found<D> {
 }
 
 // A pair of an area that was opened and a disk whose area is older.
-fn pair_of<D: Disk>(opened: Opened<D>, spare: D, first_is_live: bool) -> OpenedPair<D>
+fn pair_of<D: Disk>(opened: Opened<D>, spare: D, first_is_live: bool) -> Opened2<D>
     requires works { OpenedWorks opened }
     requires opened { D.is_honest (opened_disk opened) → IsOpened D.held opened }
     requires older { D.is_honest spare → SpareIsOlder D.held opened.log spare }
     ensures snap { IsPairOf opened.log spare first_is_live result.snap }
-    ensures read { area_read result ≡ log_area_read opened }
+    ensures read { live_area_read result ≡ area_read opened }
     ensures tail { result.tail ≡ opened.records }
 {
     let Opened {
@@ -60,7 +60,7 @@ fn pair_of<D: Disk>(opened: Opened<D>, spare: D, first_is_live: bool) -> OpenedP
         snapshot,
         records,
     } = opened;
-    OpenedPair {
+    Opened2 {
         snap: Snap::over(log, spare, first_is_live),
         base: snapshot,
         tail: records,
@@ -68,7 +68,7 @@ fn pair_of<D: Disk>(opened: Opened<D>, spare: D, first_is_live: bool) -> OpenedP
 }
 
 // What counts of two areas.
-fn newer<D: Disk>(first: Opened<D>, second: Opened<D>) -> Result<OpenedPair<D>, (Unfit, D, D)>
+fn newer<D: Disk>(first: Opened<D>, second: Opened<D>) -> Result<Opened2<D>, (Unfit, D, D)>
     requires first_works { OpenedWorks first }
     requires second_works { OpenedWorks second }
     requires first_opened { D.is_honest (opened_disk first) → IsOpened D.held first }
@@ -93,7 +93,7 @@ fn newer<D: Disk>(first: Opened<D>, second: Opened<D>) -> Result<OpenedPair<D>, 
 }
 
 // An area on the first disk, beside what the second one has.
-fn beside_area<D: Disk>(first: Opened<D>, second: Found<D>) -> Result<OpenedPair<D>, (Unfit, D, D)>
+fn beside_area<D: Disk>(first: Opened<D>, second: Found<D>) -> Result<Opened2<D>, (Unfit, D, D)>
     requires first_works { OpenedWorks first }
     requires second_works { FoundWorks second }
     requires first_opened { D.is_honest (opened_disk first) → IsOpened D.held first }
@@ -114,7 +114,7 @@ fn beside_area<D: Disk>(first: Opened<D>, second: Found<D>) -> Result<OpenedPair
 }
 
 // No area on the first disk, beside what the second one has.
-fn beside_none<D: Disk>(first: D, second: Found<D>) -> Result<OpenedPair<D>, (Unfit, D, D)>
+fn beside_none<D: Disk>(first: D, second: Found<D>) -> Result<Opened2<D>, (Unfit, D, D)>
     requires second_works { FoundWorks second }
     requires first_absent { D.is_honest first → LeavesAbsent (D.held first) }
     requires second_found { D.is_honest (disk_in second) → IsFound D.held second }
@@ -136,7 +136,7 @@ fn beside_none<D: Disk>(first: D, second: Found<D>) -> Result<OpenedPair<D>, (Un
 pub(crate) fn choose<D: Disk>(
     first: Found<D>,
     second: Found<D>,
-) -> Result<OpenedPair<D>, (Unfit, D, D)>
+) -> Result<Opened2<D>, (Unfit, D, D)>
     requires first_works { FoundWorks first }
     requires second_works { FoundWorks second }
     requires first_found { D.is_honest (disk_in first) → IsFound D.held first }

@@ -1,9 +1,9 @@
 // How a pair comes to be: both disks are looked at and synced, and then the first one gets an area.
 ghost use Rattle.std.specs.Prelude.{◌≡◌, ◌⊎◌, ◌≤◌, ◌+◌, ◌↔◌, false, length, IfOk, OnOk, IsErrOf};
-ghost use Rattle.cue_disk.specs.Disk.{LeavesOnly, IsImage, IsStable, CountsFailure, MoreFailures, overwritten};
+ghost use Rattle.cue_disk.specs.Disk.{LeavesAtEachMoment, IsImage, IsStable, CountsFailure, MoreFailures, overwritten};
 ghost use Rattle.cue_log.specs.Area.{fresh, formed_text};
 ghost use Rattle.cue_log.specs.Log.{IsNoneOr, LeavesAbsent, ReadsAs};
-ghost use Rattle.cue_log.specs.Words.{disk_of, disk_after, generation_of, end_of, count_of, is_broken, area_of};
+ghost use Rattle.cue_log.specs.Observed.{disk_of, disk_after, generation_of, end_of, count_of, is_broken, area_of};
 ghost use Rattle.cue_log.specs.declared.area.TheConstants.{AREA_LIMIT};
 ghost use Rattle.cue_snap.specs.Pair.{NeitherHas, SomeIsThere};
 
@@ -45,8 +45,8 @@ pub(crate) fn look<D: Disk>(first: &mut D, second: &mut D) -> Result<(), FormFau
     ensures second_synced { D.is_honest second.old → IsErrOf result FormFault.NotEmpty → IsStable (D.held second.new) }
     ensures first_stays { D.is_honest first.old → OnOk result (LeavesAbsent (D.held first.new)) }
     ensures second_stays { D.is_honest second.old → OnOk result (LeavesAbsent (D.held second.new)) }
-    ensures first_moments { D.is_honest first.old → LeavesOnly D.moment D.held_at first.old first.new (IsImage (D.held first.old)) }
-    ensures second_moments { D.is_honest second.old → LeavesOnly D.moment D.held_at second.old second.new (IsImage (D.held second.old)) }
+    ensures first_moments { D.is_honest first.old → LeavesAtEachMoment D.moment D.held_at first.old first.new (IsImage (D.held first.old)) }
+    ensures second_moments { D.is_honest second.old → LeavesAtEachMoment D.moment D.held_at second.old second.new (IsImage (D.held second.old)) }
     ensures first_bytes { D.is_honest first.old → (D.held first.new).bytes ≡ (D.held first.old).bytes }
     ensures second_bytes { D.is_honest second.old → (D.held second.new).bytes ≡ (D.held second.old).bytes }
     ensures first_failures { D.failures first.old ≤ D.failures first.new }
@@ -74,7 +74,7 @@ pub(crate) fn form_first<D: Disk>(disk: D, snapshot: &[u8]) -> Result<Log<D>, (D
     ensures bytes { D.is_honest disk → IfOk result (λ log. (D.held (disk_of log)).bytes ≡ overwritten (D.held disk).bytes 0 (formed_text 1 snapshot.now)) }
     ensures numbers { IfOk result (λ log. (generation_of log ≡ 1) × (count_of log ≡ 0) × (end_of log ≡ 13 + length snapshot.now)) }
     ensures works { IfOk result (λ log. is_broken log ≡ false) }
-    ensures any_moment { D.is_honest disk → LeavesOnly D.moment D.held_at disk (disk_after disk_of result) (IsNoneOr (fresh 1 snapshot.now)) }
+    ensures any_moment { D.is_honest disk → LeavesAtEachMoment D.moment D.held_at disk (disk_after disk_of result) (IsNoneOr (fresh 1 snapshot.now)) }
     ensures count { CountsFailure result (D.failures disk) (D.failures (disk_after disk_of result)) }
     ensures honest { D.is_honest (disk_after disk_of result) ↔ D.is_honest disk }
 {

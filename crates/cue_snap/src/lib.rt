@@ -12,5 +12,5 @@ mod tests;
 mod turning;
 
 pub use forming::FormFault;
-pub use opening::{OpenFault, OpenedPair};
+pub use opening::{OpenFault, Opened2};
 pub use snap::{Snap, TurnOverFault};

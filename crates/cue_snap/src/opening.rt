@@ -1,9 +1,9 @@
 // How a pair is read: each disk for itself, and then the one that counts.
 ghost use Rattle.std.specs.Prelude.{◌≡◌, ◌≤◌, ◌↔◌, IfOk};
-ghost use Rattle.cue_disk.specs.Disk.{LeavesOnly, IsImage, MoreFailures};
-ghost use Rattle.cue_log.specs.Words.{disk_after};
+ghost use Rattle.cue_disk.specs.Disk.{LeavesAtEachMoment, IsImage, MoreFailures};
+ghost use Rattle.cue_log.specs.Observed.{disk_after};
 ghost use Rattle.cue_snap.specs.Found.{disk_in, IsFound, FoundWorks};
-ghost use Rattle.cue_snap.specs.Words.{FailsAs, CountsOnlyAs};
+ghost use Rattle.cue_snap.specs.Observed.{FailsAs, CountsOnlyAs};
 
 use crate::choosing::{Found, Unfit, choose};
 use crate::snap::Snap;
@@ -31,7 +31,7 @@ pub enum OpenFault {
 
 /// A pair that was opened, and what its live area held.
 #[derive(Drop)]
-pub struct OpenedPair<D: Disk> {
+pub struct Opened2<D: Disk> {
     pub snap: Snap<D>,
     pub base: Snapshot,
     pub tail: Records,
@@ -45,7 +45,7 @@ fn find<D: Disk>(alloc: Global, disk: D) -> Result<Found<D>, (OpenFault, D)>
     ensures memory { CountsOnlyAs OpenFault.Disk (D.failures disk) (D.failures (disk_after disk_in result)) result }
     ensures damaged { FailsAs OpenFault.Damaged ⊥ result }
     ensures unformed { FailsAs OpenFault.Unformed ⊥ result }
-    ensures any_moment { D.is_honest disk → LeavesOnly D.moment D.held_at disk (disk_after disk_in result) (IsImage (D.held disk)) }
+    ensures any_moment { D.is_honest disk → LeavesAtEachMoment D.moment D.held_at disk (disk_after disk_in result) (IsImage (D.held disk)) }
     ensures bytes { D.is_honest disk → (D.held (disk_after disk_in result)).bytes ≡ (D.held disk).bytes }
     ensures failures { D.failures disk ≤ D.failures (disk_after disk_in result) }
     ensures honest { D.is_honest (disk_after disk_in result) ↔ D.is_honest disk }
@@ -61,18 +61,18 @@ fn find<D: Disk>(alloc: Global, disk: D) -> Result<Found<D>, (OpenFault, D)>
 
 impl<D: Disk> Snap<D> {
     ghost use Rattle.std.specs.Prelude.{◌≡◌, ◌⊎◌, ◌≤◌, ◌↔◌, IfOk, length, false};
-    ghost use Rattle.cue_disk.specs.Disk.{LeavesOnly, IsImage, MoreFailures};
-    ghost use Rattle.cue_snap.specs.Opened.{area_read, first_opened, second_opened};
+    ghost use Rattle.cue_disk.specs.Disk.{LeavesAtEachMoment, IsImage, MoreFailures};
+    ghost use Rattle.cue_snap.specs.Opened.{live_area_read, first_opened, second_opened};
     ghost use Rattle.cue_snap.specs.Pair.{PairReads, PairLeaves, NeitherHas, IsSpoiled};
-    ghost use Rattle.cue_snap.specs.Words.{count_of, is_broken, area_of, first_after, second_after, RefusedAs};
+    ghost use Rattle.cue_snap.specs.Observed.{count_of, is_broken, live_area_of, first_after, second_after, RefusedAs};
 
     /// Opens a pair, pending writes included: from Ok on whatever a stop leaves reads as what is answered. It writes
     /// nothing, and takes memory in proportion to the areas. A refusal hands both disks back.
-    pub fn open(alloc: Global, first: D, second: D) -> Result<OpenedPair<D>, (OpenFault, D, D)>
+    pub fn open(alloc: Global, first: D, second: D) -> Result<Opened2<D>, (OpenFault, D, D)>
         // What is answered stood on the disks, and stays.
-        ensures stood { D.is_honest first → D.is_honest second → IfOk result (λ opened. PairReads (area_read opened) (D.held first).bytes (D.held second).bytes) }
-        ensures reads { D.is_honest first → D.is_honest second → IfOk result (λ opened. PairLeaves (D.held (first_opened opened)) (D.held (second_opened opened)) (area_read opened)) }
-        ensures area { D.is_honest first → D.is_honest second → IfOk result (λ opened. area_of D.held opened.snap ≡ area_read opened) }
+        ensures stood { D.is_honest first → D.is_honest second → IfOk result (λ opened. PairReads (live_area_read opened) (D.held first).bytes (D.held second).bytes) }
+        ensures reads { D.is_honest first → D.is_honest second → IfOk result (λ opened. PairLeaves (D.held (first_opened opened)) (D.held (second_opened opened)) (live_area_read opened)) }
+        ensures area { D.is_honest first → D.is_honest second → IfOk result (λ opened. live_area_of D.held opened.snap ≡ live_area_read opened) }
         ensures works { IfOk result (λ opened. is_broken opened.snap ≡ false) }
         ensures counted { IfOk result (λ opened. count_of opened.snap ≡ length opened.tail) }
 
@@ -84,8 +84,8 @@ impl<D: Disk> Snap<D> {
         ensures memory { RefusedAs OpenFault.Memory ((D.failures (first_after first_opened result) ≡ D.failures first) × (D.failures (second_after second_opened result) ≡ D.failures second)) result }
 
         // A stop at any moment leaves of each disk what one at entry might have left.
-        ensures first_moments { D.is_honest first → LeavesOnly D.moment D.held_at first (first_after first_opened result) (IsImage (D.held first)) }
-        ensures second_moments { D.is_honest second → LeavesOnly D.moment D.held_at second (second_after second_opened result) (IsImage (D.held second)) }
+        ensures first_moments { D.is_honest first → LeavesAtEachMoment D.moment D.held_at first (first_after first_opened result) (IsImage (D.held first)) }
+        ensures second_moments { D.is_honest second → LeavesAtEachMoment D.moment D.held_at second (second_after second_opened result) (IsImage (D.held second)) }
         ensures first_bytes { D.is_honest first → (D.held (first_after first_opened result)).bytes ≡ (D.held first).bytes }
         ensures second_bytes { D.is_honest second → (D.held (second_after second_opened result)).bytes ≡ (D.held second).bytes }
         ensures first_failures { D.failures first ≤ D.failures (first_after first_opened result) }

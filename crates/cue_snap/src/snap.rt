@@ -1,9 +1,9 @@
 // A pair of areas: the live one, which is a log, and the spare disk, which the next turn-over writes.
 ghost use Rattle.std.specs.Prelude.{◌≡◌, false};
-ghost use Rattle.cue_log.specs.Words.{disk_of};
-ghost use Rattle.cue_snap.specs.Kept.{LogWorks, LogReads, LogIsNumbered, SpareIsOlder};
+ghost use Rattle.cue_log.specs.Observed.{disk_of};
+ghost use Rattle.cue_snap.specs.Invariant.{LogWorks, LogReads, LogIsNumbered, SpareIsOlder};
 
-mod looking;
+mod queries;
 
 use crate::forming::{FormFault, form_first, look};
 use crate::turning::turn;
@@ -43,12 +43,12 @@ pub struct Snap<D: Disk> {
 
 impl<D: Disk> Snap<D> {
     ghost use Rattle.std.specs.Prelude.{◌≡◌, ◌≤◌, ◌<◌, ◌+◌, ◌-◌, ◌^◌, ◌⊎◌, ◌↔◌, ℕ, List, false, true, not, length, IfOk, OnOk, OnErr, IsErrOf};
-    ghost use Rattle.cue_disk.specs.Disk.{LeavesOnly, IsImage, IsStable, MoreFailures, overwritten};
+    ghost use Rattle.cue_disk.specs.Disk.{LeavesAtEachMoment, IsImage, IsStable, MoreFailures, overwritten};
     ghost use Rattle.cue_log.specs.Area.{fresh, with_payload, formed_text, record_text};
     ghost use Rattle.cue_log.specs.declared.area.TheConstants.{AREA_LIMIT};
     ghost use Rattle.cue_snap.specs.Pair.{PairIsEither, PairLeaves, NeitherHas, SomeIsThere, IsUnformedOr, AfterBarrier};
     ghost use Rattle.cue_snap.specs.Found.{IsPairOf};
-    ghost use Rattle.cue_snap.specs.Words.{live_of, spare_of, is_first_live, generation_of, end_of, count_of, is_broken, area_of, turned, first_of, second_of, first_after, second_after, RefusedAs};
+    ghost use Rattle.cue_snap.specs.Observed.{live_of, spare_of, is_first_live, generation_of, end_of, count_of, is_broken, live_area_of, turned, first_of, second_of, first_after, second_after, RefusedAs};
 
     /// A pair of a log that works and a disk whose area is older.
     pub(crate) fn over(log: Log<D>, spare: D, first_is_live: bool) -> Snap<D>
@@ -73,7 +73,7 @@ impl<D: Disk> Snap<D> {
 
         ensures formed { D.is_honest first → D.is_honest second
             → IfOk result (λ snap. PairLeaves (D.held (first_of snap)) (D.held (second_of snap)) (fresh 1 snapshot.now)) }
-        ensures area { D.is_honest first → IfOk result (λ snap. area_of D.held snap ≡ fresh 1 snapshot.now) }
+        ensures area { D.is_honest first → IfOk result (λ snap. live_area_of D.held snap ≡ fresh 1 snapshot.now) }
         ensures bytes { D.is_honest first → IfOk result (λ snap. (D.held (first_of snap)).bytes ≡ overwritten (D.held first).bytes 0 (formed_text 1 snapshot.now)) }
         ensures numbers { IfOk result (λ snap. (generation_of snap ≡ 1) × (count_of snap ≡ 0) × (end_of snap ≡ 13 + length snapshot.now)) }
         ensures works { IfOk result (λ snap. is_broken snap ≡ false) }
@@ -82,7 +82,7 @@ impl<D: Disk> Snap<D> {
         // It goes on only where neither disk has an area; NotEmpty leaves all as it was, but for the sync.
         ensures empty { D.is_honest first → D.is_honest second → OnOk result (NeitherHas (D.held first).bytes (D.held second).bytes) }
         ensures not_empty { D.is_honest first → D.is_honest second → RefusedAs FormFault.NotEmpty (SomeIsThere (D.held first).bytes (D.held second).bytes) result }
-        ensures first_kept { D.is_honest first → RefusedAs FormFault.NotEmpty (LeavesOnly D.moment D.held_at first (first_after first_of result) (IsImage (D.held first))) result }
+        ensures first_kept { D.is_honest first → RefusedAs FormFault.NotEmpty (LeavesAtEachMoment D.moment D.held_at first (first_after first_of result) (IsImage (D.held first))) result }
         ensures first_bytes { D.is_honest first → RefusedAs FormFault.NotEmpty ((D.held (first_after first_of result)).bytes ≡ (D.held first).bytes) result }
         // NotEmpty is answered once both disks are synced, so what was found stays.
         ensures first_synced { D.is_honest first → RefusedAs FormFault.NotEmpty (IsStable (D.held (first_after first_of result))) result }
@@ -93,7 +93,7 @@ impl<D: Disk> Snap<D> {
         ensures any_moment { D.is_honest first → D.is_honest second → AfterBarrier D.moment D.held_at first second (first_after first_of result) (second_after second_of result)
             (IsUnformedOr (fresh 1 snapshot.now) (D.held first) (D.held second)) }
         // The second disk is synced, and no more.
-        ensures second_kept { D.is_honest second → LeavesOnly D.moment D.held_at second (second_after second_of result) (IsImage (D.held second)) }
+        ensures second_kept { D.is_honest second → LeavesAtEachMoment D.moment D.held_at second (second_after second_of result) (IsImage (D.held second)) }
         ensures second_bytes { D.is_honest second → (D.held (second_after second_of result)).bytes ≡ (D.held second).bytes }
 
         ensures first_failures { D.failures first ≤ D.failures (first_after first_of result) }
@@ -132,8 +132,8 @@ impl<D: Disk> Snap<D> {
 
         // What is there after Ok, whatever a stop leaves.
         ensures appended { D.is_honest (live_of self.old) → D.is_honest (spare_of self.old)
-            → OnOk result (PairLeaves (D.held (live_of self.new)) (D.held (spare_of self.new)) (with_payload (area_of D.held self.old) added.now)) }
-        ensures area { D.is_honest (live_of self.old) → OnOk result (area_of D.held self.new ≡ with_payload (area_of D.held self.old) added.now) }
+            → OnOk result (PairLeaves (D.held (live_of self.new)) (D.held (spare_of self.new)) (with_payload (live_area_of D.held self.old) added.now)) }
+        ensures area { D.is_honest (live_of self.old) → OnOk result (live_area_of D.held self.new ≡ with_payload (live_area_of D.held self.old) added.now) }
         ensures bytes { D.is_honest (live_of self.old) → OnOk result ((D.held (live_of self.new)).bytes ≡ overwritten (D.held (live_of self.old)).bytes (end_of self.old) (record_text added.now)) }
         ensures works { OnOk result (is_broken self.new ≡ false) }
         ensures numbers { OnOk result ((count_of self.new ≡ count_of self.old + 1) × (end_of self.new ≡ end_of self.old + 5 + length added.now)) }
@@ -144,8 +144,8 @@ impl<D: Disk> Snap<D> {
         ensures spare { spare_of self.new ≡ spare_of self.old }
         ensures sides { is_first_live self.new ≡ is_first_live self.old }
         ensures any_moment { D.is_honest (live_of self.old) → D.is_honest (spare_of self.old) → is_broken self.old ≡ false
-            → (y : List ℕ) → IsImage (D.held (spare_of self.old)) y → LeavesOnly D.moment D.held_at (live_of self.old) (live_of self.new)
-            (λ x. PairIsEither (area_of D.held self.old) (with_payload (area_of D.held self.old) added.now) x y) }
+            → (y : List ℕ) → IsImage (D.held (spare_of self.old)) y → LeavesAtEachMoment D.moment D.held_at (live_of self.old) (live_of self.new)
+            (λ x. PairIsEither (live_area_of D.held self.old) (with_payload (live_area_of D.held self.old) added.now) x y) }
         ensures honest { D.is_honest (live_of self.new) ↔ D.is_honest (live_of self.old) }
     {
         if self.broken {
@@ -177,7 +177,7 @@ impl<D: Disk> Snap<D> {
         // What is there after Ok, whatever a stop leaves.
         ensures formed { D.is_honest (live_of self.old) → D.is_honest (spare_of self.old)
             → OnOk result (PairLeaves (D.held (live_of self.new)) (D.held (spare_of self.new)) (fresh (generation_of self.old + 1) snapshot.now)) }
-        ensures area { D.is_honest (spare_of self.old) → OnOk result (area_of D.held self.new ≡ fresh (generation_of self.old + 1) snapshot.now) }
+        ensures area { D.is_honest (spare_of self.old) → OnOk result (live_area_of D.held self.new ≡ fresh (generation_of self.old + 1) snapshot.now) }
         ensures bytes { D.is_honest (spare_of self.old) → OnOk result ((D.held (live_of self.new)).bytes ≡ overwritten (D.held (spare_of self.old)).bytes 0 (formed_text (generation_of self.old + 1) snapshot.now)) }
         ensures works { OnOk result (is_broken self.new ≡ false) }
         ensures numbers { OnOk result ((generation_of self.new ≡ generation_of self.old + 1) × (count_of self.new ≡ 0) × (end_of self.new ≡ 13 + length snapshot.now)) }
@@ -190,8 +190,8 @@ impl<D: Disk> Snap<D> {
 
         // A stop at any moment leaves the area as it was, or the new one.
         ensures any_moment { D.is_honest (live_of self.old) → D.is_honest (spare_of self.old) → is_broken self.old ≡ false
-            → (x : List ℕ) → IsImage (D.held (live_of self.old)) x → LeavesOnly D.moment D.held_at (spare_of self.old) (turned result self.new)
-            (PairIsEither (area_of D.held self.old) (fresh (generation_of self.old + 1) snapshot.now) x) }
+            → (x : List ℕ) → IsImage (D.held (live_of self.old)) x → LeavesAtEachMoment D.moment D.held_at (spare_of self.old) (turned result self.new)
+            (PairIsEither (live_area_of D.held self.old) (fresh (generation_of self.old + 1) snapshot.now) x) }
         ensures honest { D.is_honest (turned result self.new) ↔ D.is_honest (spare_of self.old) }
     {
         if self.broken {

@@ -41,11 +41,7 @@ fn formed(first: MemDisk, second: MemDisk) -> Result<Snap<MemDisk>, FormFault> {
 }
 
 // Opens a pair; a refusal drops the disks.
-fn opened(
-    alloc: Global,
-    first: MemDisk,
-    second: MemDisk,
-) -> Result<OpenedPair<MemDisk>, OpenFault> {
+fn opened(alloc: Global, first: MemDisk, second: MemDisk) -> Result<Opened2<MemDisk>, OpenFault> {
     match Snap::open(alloc, first, second) {
         Ok(opened) => Ok(opened),
         Err((fault, _, _)) => Err(fault),
@@ -53,7 +49,7 @@ fn opened(
 }
 
 // Opens a pair of these bytes.
-fn opened_bytes(alloc: Global, first: &[u8], second: &[u8]) -> Result<OpenedPair<MemDisk>, Fail> {
+fn opened_bytes(alloc: Global, first: &[u8], second: &[u8]) -> Result<Opened2<MemDisk>, Fail> {
     let first = MemDisk::from_bytes(alloc, first)?;
     let second = MemDisk::from_bytes(alloc, second)?;
     Ok(opened(alloc, first, second)?)

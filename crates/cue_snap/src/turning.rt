@@ -1,9 +1,9 @@
 // How the other area comes to count: the spare disk is closed and formed anew, and the log goes on there.
 ghost use Rattle.std.specs.Prelude.{◌≡◌, ◌≤◌, ◌+◌, ◌↔◌, false, length, OnOk, OnErr};
-ghost use Rattle.cue_disk.specs.Disk.{LeavesOnly, CountsFailure, overwritten};
+ghost use Rattle.cue_disk.specs.Disk.{LeavesAtEachMoment, CountsFailure, overwritten};
 ghost use Rattle.cue_log.specs.Area.{fresh, formed_text};
 ghost use Rattle.cue_log.specs.Log.{ReadsAs};
-ghost use Rattle.cue_log.specs.Words.{disk_of, generation_of, end_of, count_of, is_broken, area_of, formed_disk};
+ghost use Rattle.cue_log.specs.Observed.{disk_of, generation_of, end_of, count_of, is_broken, area_of, formed_disk};
 ghost use Rattle.cue_log.specs.declared.area.TheConstants.{AREA_LIMIT};
 ghost use Rattle.cue_snap.specs.Pair.{IsOldOrNew};
 
@@ -26,7 +26,7 @@ pub(crate) fn turn<D: Disk>(
     ensures works { OnOk result (is_broken log.new ≡ false) }
     ensures swapped { OnOk result (spare.new ≡ disk_of log.old) }
     ensures unchanged { OnErr result (log.new ≡ log.old) }
-    ensures any_moment { D.is_honest spare.old → LeavesOnly D.moment D.held_at spare.old (formed_disk result (disk_of log.new) spare.new)
+    ensures any_moment { D.is_honest spare.old → LeavesAtEachMoment D.moment D.held_at spare.old (formed_disk result (disk_of log.new) spare.new)
         (IsOldOrNew (D.held spare.old) (fresh generation snapshot.now)) }
     ensures count { CountsFailure result (D.failures spare.old) (D.failures (formed_disk result (disk_of log.new) spare.new)) }
     ensures honest { D.is_honest (formed_disk result (disk_of log.new) spare.new) ↔ D.is_honest spare.old }

@@ -1,10 +1,14 @@
 -- Reading what clap matched.
-use Rattle.std.proofs.Common.{◌≡◌, ℕ, Bool, true, false, ◌||◌, List, Option, Some, None, Result, Ok, Err, ◌∙◌, sym, refl, ap}
+use Rattle.std.proofs.Common.{◌≡◌, ℕ, Bool, true, false, ◌||◌, List, Option, Some, None, Result, Ok, Err, ◌∙◌, sym, refl, ap, subst, ◌⊎◌, inl, inr, OnOk}
 use Rattle.std.specs.Str.Parse.{ParsesUnsigned, IsNumeral, digits_value, without_leading_plus}
-use Rattle.clap.specs.Words.{ReadsOne, one_text, one_of, rows_of, Text}
+use Rattle.clap.specs.Words.{ReadsOne, one_text, one_of, rows_of, Text, Kinds, IsAmong}
 use Rattle.clap.specs.declared.parser.matches.Found.{Found}
 use Rattle.clap.proofs.WalkLemmas.{one_text-rows}
-use Rattle.cuectl.specs.Lines.{IsNumberIn}
+use Rattle.clap.specs.declared.error.kind.ErrorKind.{ErrorKind}
+use Rattle.clap.specs.declared.error.kind.ErrorKind.TheVariants.{DisplayHelp, DisplayVersion, OutOfMemory}
+use Rattle.cuectl.specs.declared.line.words.LineFault.{LineFault}
+use Rattle.cuectl.specs.declared.line.words.LineFault.TheVariants.{Help, Usage, Memory}
+use Rattle.cuectl.specs.Lines.{IsNumberIn, IsFaultOf, IsHelp, AsksForText}
 
 -- what a getter read is the number that stands there
 pub number_in : {E : Type 0} (gives : List ℕ → Result ℕ E → Type 0) (k : ℕ) (f : Found) (id : Text) (r : Option ℕ) (n : ℕ)
@@ -25,8 +29,20 @@ number_in {E} gives k f id r n parses none value is = go (one_text f id) refl
         let h = parses t (Ok n) (read t (value t e)) in
         record { text = t; stands = sym (one_text-rows f id) ∙ e; numeral = h.0.0; value = h.1 }
 
--- a command with an argument that is not global has none that is
-pub neither : (a b g : Bool) → g ≡ (a || b) → a ≡ false → b ≡ false → g ≡ false
-neither false false g e x y = e
-neither true b g e x y = cc
-neither false true g e x y = cc
+-- whatever holds, holds on Ok
+pub on_ok : {T E : Type 0} {P : Type 0} (r : Result T E) → P → OnOk r P
+on_ok (Ok v) p = p
+on_ok (Err e) p = tt
+
+-- the text is given only where the help or the version is asked for
+pub asks : (kinds : Kinds) (kind : ErrorKind) (fault : LineFault) → IsFaultOf kind fault → (kind ≡ OutOfMemory) ⊎ IsAmong kind kinds → IsHelp fault → AsksForText kinds
+asks kinds kind (Help text) (inl is) (inl no_memory) h =
+    let bad : DisplayHelp ≡ OutOfMemory = sym is ∙ no_memory in
+    cc
+asks kinds kind (Help text) (inr is) (inl no_memory) h =
+    let bad : DisplayVersion ≡ OutOfMemory = sym is ∙ no_memory in
+    cc
+asks kinds kind (Help text) (inl is) (inr among) h = inl (subst (λ (k : ErrorKind). IsAmong k kinds) is among)
+asks kinds kind (Help text) (inr is) (inr among) h = inr (subst (λ (k : ErrorKind). IsAmong k kinds) is among)
+asks kinds kind Usage is has h = absurd h
+asks kinds kind Memory is has h = absurd h

@@ -1,10 +1,12 @@
 pub mod Endings
 pub mod Lines
+pub mod MemSources
 pub mod Playing
 pub mod Running
 pub mod Script
 pub mod ScriptLines
 pub mod ScriptViews
+pub mod ShowText
 pub mod Sources
 pub mod Streams
 pub mod Udp

@@ -1,11 +1,16 @@
 -- The commands as clap knows them, and what a line says of the one that it matched.
-use Rattle.std.specs.Prelude.{◌≡◌, ℕ, ◌≤◌, pos, List, ◌∷◌, [], Option, Some, None, true, codes, string_bytes}
+use Rattle.std.specs.Prelude.{◌≡◌, ◌⊎◌, ℕ, ◌≤◌, pos, List, ◌∷◌, [], Option, Some, None, true, codes, string_bytes}
 use Rattle.std.specs.Str.Parse.{IsNumeral, digits_value, without_leading_plus}
 use Rattle.clap.specs.Words.{App, Rule, Row, Text, new_app, new_rule, with_rule, with_subcommand, first_of, one_of}
+use Rattle.clap.specs.Words.{Kinds, IsAmong}
+use Rattle.clap.specs.declared.error.kind.ErrorKind.{ErrorKind}
+use Rattle.clap.specs.declared.error.kind.ErrorKind.TheVariants.{DisplayHelp, DisplayVersion}
 use Rattle.clap.specs.declared.builder.ArgAction.TheVariants.{Set}
 use Rattle.clap.specs.declared.builder.value_parser.ValueParser.TheVariants.{Signed, Unsigned}
 use Rattle.cuectl.specs.declared.line.words.Line.{Line}
 use Rattle.cuectl.specs.declared.line.words.Line.TheVariants.{Form, Serve, Show, Script}
+use Rattle.cuectl.specs.declared.line.words.LineFault.{LineFault}
+use Rattle.cuectl.specs.declared.line.words.LineFault.TheVariants.{Help, Usage, Memory}
 
 abbrev pub dir_rule : Rule
 dir_rule = record (new_rule (codes "DIR")) { required = true; action = Some Set }
@@ -25,13 +30,16 @@ serve_app = with_rule (with_rule (with_rule (new_app (codes "serve")) dir_rule) 
 abbrev pub show_app : App
 show_app = with_rule (new_app (codes "show")) dir_rule
 
+abbrev pub script_app : App
+script_app = new_app (codes "script")
+
 -- a command line without commands, which tells its version
 abbrev pub bare_app : App
 bare_app = let bare = new_app (codes "cuectl") in record bare { top = record bare.top { has_version = true } }
 
 -- all commands
 abbrev pub cuectl_app : App
-cuectl_app = with_subcommand (with_subcommand (with_subcommand (with_subcommand bare_app form_app.top) serve_app.top) show_app.top) (new_app (codes "script")).top
+cuectl_app = with_subcommand (with_subcommand (with_subcommand (with_subcommand bare_app form_app.top) serve_app.top) show_app.top) script_app.top
 
 -- the decimal number that stands behind an option
 pub record IsNumberIn (id : Text) (rows : List Row) (n : ℕ) : Type 0 where
@@ -56,3 +64,19 @@ IsLine found Script = found.0 ≡ codes "script"
 abbrev pub IsLineOf : Option (Text × List Row) → Line → Type 0
 IsLineOf (Some found) line = IsLine found line
 IsLineOf None line = ⊥
+
+-- it is the text that was asked for
+abbrev pub IsHelp : LineFault → Type 0
+IsHelp (Help text) = Unit {0}
+IsHelp Usage = ⊥
+IsHelp Memory = ⊥
+
+-- the help or the version is asked for
+abbrev pub AsksForText : Kinds → Type 0
+AsksForText kinds = IsAmong DisplayHelp kinds ⊎ IsAmong DisplayVersion kinds
+
+-- what the program makes of an error of clap
+abbrev pub IsFaultOf : ErrorKind → LineFault → Type 0
+IsFaultOf kind (Help text) = (kind ≡ DisplayHelp) ⊎ (kind ≡ DisplayVersion)
+IsFaultOf kind Usage = Unit {0}
+IsFaultOf kind Memory = Unit {0}

@@ -1,9 +1,9 @@
--- A script that is being run.
+-- Helper: a script that is being run, step by step.
 use Rattle.std.specs.Prelude.{◌≡◌, ℕ, Bool, false, List, [], Option, Some, None}
 use Rattle.std.specs.Io.KnownBytes.{Appends}
 use Rattle.cue_core.specs.State.{ShowState}
 use Rattle.cue_core.specs.Steps.{folded}
-use Rattle.cue_keeper.specs.Words.{is_broken}
+use Rattle.cue_keeper.specs.Observed.{is_broken}
 use Rattle.cue_outbox.specs.Sending.{datagrams}
 use Rattle.cue_engine.specs.declared.engine.Engine.{Engine}
 use Rattle.cue_engine.specs.Runs.{Happening, given_at}

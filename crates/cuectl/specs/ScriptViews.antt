@@ -1,4 +1,4 @@
--- Values of the code as the definitions see them.
+-- Helper: values of the code as the definitions see them.
 use Rattle.std.specs.Prelude.{ℕ, List}
 use Rattle.std.specs.Borrow.{Bor}
 use Rattle.cue_engine.specs.declared.mem_wire.Sent.{Sent}

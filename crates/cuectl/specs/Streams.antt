@@ -1,4 +1,4 @@
--- What callers see of the calls of the reader and the writer.
+-- Helper: what callers see of the calls of the reader and the writer.
 use Rattle.std.specs.Prelude.{◌≡◌, ℕ, Option, Some, Result, Ok, Err}
 use Rattle.std.specs.declared.io.Error.{Error}
 use Rattle.cue_disk.specs.Disk.{MoreFailures}

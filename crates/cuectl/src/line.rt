@@ -1,6 +1,6 @@
 //! The command line, read over `clap`.
-ghost use Rattle.std.specs.Prelude.{◌≡◌, ◌≤◌, IfOk, false, string_bytes, codes};
-ghost use Rattle.clap.specs.Words.{rule_of, found_of, rows_of, first_of};
+ghost use Rattle.std.specs.Prelude.{◌≡◌, ◌≤◌, [], map, IfOk, IfErr, OnOk, false, string_bytes, codes};
+ghost use Rattle.clap.specs.Words.{rule_of, found_of, rows_of, app_of, fault_of, kind_of, subcommand_of};
 ghost use Rattle.cuectl.specs.Lines.{
   dir_rule,
   port_rule,
@@ -8,6 +8,11 @@ ghost use Rattle.cuectl.specs.Lines.{
   IsNumberIn,
   IsDirIn,
   IsLine,
+  IsLineOf,
+  IsFaultOf,
+  IsHelp,
+  AsksForText,
+  cuectl_app,
 };
 
 pub mod words;
@@ -55,7 +60,9 @@ fn turns<'a>(alloc: Global) -> Arg<'a>
 }
 
 // All commands.
-fn cuectl<'a>(alloc: Global) -> Result<Command<'a>, AllocError> {
+fn cuectl<'a>(alloc: Global) -> Result<Command<'a>, AllocError>
+    ensures { IfOk result (λ command. app_of command ≡ cuectl_app) }
+{
     let form = Command::new(alloc, "form")
         .about("Make an empty show in a folder that has none")
         .arg(dir(alloc))?;
@@ -81,7 +88,8 @@ fn cuectl<'a>(alloc: Global) -> Result<Command<'a>, AllocError> {
 
 // The folder that stands there.
 fn dir_in(alloc: Global, found: &ArgMatches<'_>) -> Result<String, LineFault>
-    ensures { IfOk result (λ dir. IsDirIn (rows_of (found_of found.now)) (string_bytes dir)) }
+    ensures dir { IfOk result (λ dir. IsDirIn (rows_of (found_of found.now)) (string_bytes dir)) }
+    ensures no_help { IfErr result (λ fault. IsHelp fault → ⊥) }
 {
     match found.get_str("DIR") {
         Some(dir) => Ok(String::from_str(alloc, dir)?),
@@ -91,7 +99,8 @@ fn dir_in(alloc: Global, found: &ArgMatches<'_>) -> Result<String, LineFault>
 
 // The port that stands there, where it is one.
 fn port_in(found: &ArgMatches<'_>) -> Result<u16, LineFault>
-    ensures { IfOk result (λ port. IsNumberIn (codes "port") (rows_of (found_of found.now)) port × (1 ≤ port)) }
+    ensures port { IfOk result (λ port. IsNumberIn (codes "port") (rows_of (found_of found.now)) port × (1 ≤ port)) }
+    ensures no_help { IfErr result (λ fault. IsHelp fault → ⊥) }
 {
     match found.get_one::<u16>("port") {
         Some(port) if port >= 1 => Ok(port),
@@ -101,7 +110,8 @@ fn port_in(found: &ArgMatches<'_>) -> Result<u16, LineFault>
 
 // The number of turns that stands there.
 fn turns_in(found: &ArgMatches<'_>) -> Result<u64, LineFault>
-    ensures { IfOk result (λ turns. IsNumberIn (codes "turns") (rows_of (found_of found.now)) turns) }
+    ensures turns { IfOk result (λ turns. IsNumberIn (codes "turns") (rows_of (found_of found.now)) turns) }
+    ensures no_help { IfErr result (λ fault. IsHelp fault → ⊥) }
 {
     match found.get_one::<u64>("turns") {
         Some(turns) => Ok(turns),
@@ -111,7 +121,8 @@ fn turns_in(found: &ArgMatches<'_>) -> Result<u64, LineFault>
 
 // The command that was matched.
 fn line_in(alloc: Global, name: &str, found: &ArgMatches<'_>) -> Result<words::Line, LineFault>
-    ensures { IfOk result (λ line. IsLine (name.now, rows_of (found_of found.now)) line) }
+    ensures line { IfOk result (λ line. IsLine (name.now, rows_of (found_of found.now)) line) }
+    ensures no_help { IfErr result (λ fault. IsHelp fault → ⊥) }
 {
     if name == "form" {
         let dir = dir_in(alloc, found)?;
@@ -134,7 +145,9 @@ fn line_in(alloc: Global, name: &str, found: &ArgMatches<'_>) -> Result<words::L
 }
 
 // Why there is no match: the text of the help and of the version is clap's.
-fn fault_of(alloc: Global, error: &Error) -> LineFault {
+fn fault_of(alloc: Global, error: &Error) -> LineFault
+    ensures { IsFaultOf (kind_of error.now) result }
+{
     match error.kind() {
         ErrorKind::DisplayHelp | ErrorKind::DisplayVersion => match error.to_string(alloc) {
             Ok(text) => LineFault::Help(text),
@@ -146,7 +159,13 @@ fn fault_of(alloc: Global, error: &Error) -> LineFault {
 }
 
 /// Reads a command line, the program's name first, as `clap` matches it.
-pub fn line(alloc: Global, words: &[String]) -> Result<words::Line, LineFault> {
+pub fn line(alloc: Global, words: &[String]) -> Result<words::Line, LineFault>
+    // The line is the command that the words name, with what stands behind it there.
+    ensures line { IfOk result (λ line. IsLineOf (subcommand_of cuectl_app (map string_bytes words.now)) line) }
+    // Words at which clap stops are no command, and words that ask for help or for the version are told apart.
+    ensures taken { OnOk result (fault_of cuectl_app (map string_bytes words.now) ≡ []) }
+    ensures help { IfErr result (λ fault. IsHelp fault → AsksForText (fault_of cuectl_app (map string_bytes words.now))) }
+{
     let command = cuectl(alloc)?;
     match command.try_get_matches_from(words) {
         Ok(matches) => match matches.subcommand() {

@@ -1,6 +1,7 @@
 //! `cuectl`: a two-phase cue controller for theatre machinery.
 #![tactic(auto)]
 
+mod evening_log;
 mod line;
 mod program;
 mod run;

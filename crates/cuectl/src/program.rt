@@ -1,4 +1,5 @@
 //! The program: what each command does, prints and answers.
+use crate::evening_log::LoggedWire;
 use crate::line::line;
 use crate::line::words::{Line, LineFault};
 use crate::run::{Ended, RunFault, run};
@@ -144,8 +145,8 @@ fn say_failures<R: Eprint>(rt: &R, first: &FileDisk, second: &FileDisk) {
 }
 
 // Prints, and sees that all of it left.
-fn print<W: Write>(writer: &mut W, text: &str) -> Result<(), Refusal> {
-    match writer.write_all(text.as_bytes()) {
+fn print<W: Write>(writer: &mut W, text: &[u8]) -> Result<(), Refusal> {
+    match writer.write_all(text) {
         Ok(()) => writer.flush().map_err(|_| IO),
         Err(_) => Err(IO),
     }
@@ -161,7 +162,7 @@ fn form<R: Files<File = File> + Eprint, W: Write>(
     let first = create_one(rt, a.as_str())?;
     let second = create_one(rt, b.as_str())?;
     match Engine::form(alloc, first, second) {
-        Ok(_) => print(writer, "formed\n"),
+        Ok(_) => print(writer, b"formed\n"),
         Err((fault, first, second)) => Err(refused_store(rt, dir, fault, &first, &second)),
     }
 }
@@ -176,13 +177,13 @@ fn show<R: Files<File = File> + Eprint, W: Write>(
     let first = open_one(rt, a.as_str())?;
     let second = open_one(rt, b.as_str())?;
     match Keeper::open(alloc, first, second) {
-        Ok(keeper) => print(writer, show_text(alloc, keeper.state())?.as_str()),
+        Ok(keeper) => print(writer, &show_text(alloc, keeper.state())?),
         Err((fault, first, second)) => Err(refused_store(rt, dir, fault, &first, &second)),
     }
 }
 
 // Runs the show over a socket.
-fn serve_on<'a, R: Clock>(
+fn serve_on<'a, R: Clock + Eprint>(
     rt: &'a R,
     alloc: Global,
     engine: &mut Engine<FileDisk>,
@@ -191,7 +192,7 @@ fn serve_on<'a, R: Clock>(
     turns: u64,
 ) -> io::Result<Ended> {
     let mut source = UdpSource::new(rt, socket, port)?;
-    let mut wire = UdpWire::new(socket);
+    let mut wire = LoggedWire::new(rt, alloc, UdpWire::new(socket));
     Ok(run(alloc, engine, &mut source, &mut wire, turns))
 }
 
@@ -213,7 +214,7 @@ fn finish<R: Eprint, W: Write>(
     match ended.fault {
         None => {
             let text = format!(in alloc; "turns {} unsent {}\n", ended.turns, ended.unsent)?;
-            print(writer, text.as_str())
+            print(writer, text.as_bytes())
         }
         Some(RunFault::Source) => {
             say(rt, "127.0.0.1", "the socket or the clock failed");
@@ -274,7 +275,7 @@ fn refused_line<R: Eprint, W: Write>(
     writer: &mut W,
 ) -> Result<(), Refusal> {
     match fault {
-        LineFault::Help(text) => print(writer, text.as_str()),
+        LineFault::Help(text) => print(writer, text.as_bytes()),
         LineFault::Usage => {
             say(
                 rt,

@@ -7,6 +7,7 @@ ghost use Rattle.cue_engine.specs.Inputs.{input_view};
 ghost use Rattle.cue_engine.specs.Words.{state_of, queue_of, first_of, second_of};
 ghost use Rattle.cuectl.specs.Running.{IsTaken, Turned, Ran, LeavesEither};
 
+pub mod mem_source;
 pub mod source;
 
 use cue_disk::Disk;

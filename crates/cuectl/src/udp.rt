@@ -1,6 +1,6 @@
 //! The network: one UDP socket on 127.0.0.1.
-ghost use Rattle.std.specs.Prelude.{◌≤◌, None, length, IfOk};
-ghost use Rattle.cuectl.specs.Udp.{CameWithin, NextWithin};
+ghost use Rattle.std.specs.Prelude.{◌≡◌, ◌≤◌, None, length, IfOk};
+ghost use Rattle.cuectl.specs.Udp.{CameWithin, NextWithin, is_tick_due};
 
 use crate::run::source::{Source, SourceFault, Turn};
 use cue_engine::{Wire, WireFault};
@@ -8,7 +8,7 @@ use std::io::{self, ErrorKind};
 use std::net::{IpAddr, Ipv4Addr, SocketAddr, UdpSocket};
 use std::time::{Clock, Duration};
 
-/// How long nothing comes until there is a tick, in milliseconds.
+/// The time between two ticks, in milliseconds.
 const TICK: u64 = 250;
 
 /// How many datagrams of the own port are dropped in one call, before the call is a fault.
@@ -36,8 +36,15 @@ enum Came {
     Datagram { from: u16, n: usize },
 }
 
-/// The datagrams of a socket, and ticks between them: one where the clock shows 250 ms since the last tick, or where
-/// 250 ms bring no datagram. It tells nothing.
+// Whether a tick is due: 250 ms after the last one, or where the clock was put back.
+fn is_tick_due(last: u64, now: u64) -> bool
+    ensures { result ≡ is_tick_due last now }
+{
+    now < last || now - last >= TICK
+}
+
+/// The datagrams of a socket, and ticks between them: one where the clock shows 250 ms since the last tick or was put
+/// back, or where 250 ms bring no datagram. It tells nothing.
 #[derive(Drop)]
 pub struct UdpSource<'a, C: Clock> {
     clock: &'a C,
@@ -86,7 +93,7 @@ impl<'a, C: Clock> UdpSource<'a, C> {
         ensures { IfOk result (λ next. NextWithin next (length buffer.old)) }
     {
         let now = moment(self.clock)?;
-        if now.saturating_sub(self.last_tick) >= TICK {
+        if is_tick_due(self.last_tick, now) {
             self.last_tick = now;
             return Ok(Some(Turn::Tick { now }));
         }

@@ -1,6 +1,8 @@
 //! Commands of the operator on the attempt at a cue, and on the one that a device is in.
-ghost use Rattle.std.specs.Prelude.{◌≡◌};
-ghost use Rattle.cue_core.specs.Judge.{prepares, on_standby, on_standby_of, on_go, on_go_of, on_cancel, on_cancel_of, on_release, on_release_of};
+ghost use Rattle.std.specs.Prelude.{◌≡◌, [], ◌∷◌};
+ghost use Rattle.cue_exchange.specs.declared.attempt.Reason.TheVariants as reason;
+ghost use Rattle.cue_core.specs.declared.event.Event.TheVariants as event;
+ghost use Rattle.cue_core.specs.Judge.{made, prepares, on_standby, on_standby_of, on_go, on_go_of, on_cancel, on_cancel_of, on_release, on_release_of, on_release_in};
 
 use crate::command::{Code, Verdict};
 use crate::event::Event;
@@ -8,8 +10,8 @@ use crate::events::Events;
 use crate::judging::verdicts::{known, made, made_by_two, refused};
 use crate::limits::STANDBY_MS;
 use crate::state::State;
-use cue_exchange::attempt::{Attempt, Reason};
 use cue_exchange::limits::LAST_NUMBER;
+use cue_exchange::{Answer, Attempt, DeviceAnswer, Reason, Stage};
 use cue_show::{CueNo, DeviceNo, Parts};
 
 pub(crate) fn on_standby(state: &State, now: u64, cue: CueNo) -> (Verdict, Events)
@@ -116,18 +118,33 @@ pub(crate) fn on_release(state: &State, device: DeviceNo) -> (Verdict, Events)
 fn on_release_of(attempt: &Attempt, device: DeviceNo) -> (Verdict, Events)
     ensures { result ≡ on_release_of device attempt.now }
 {
-    let seq = attempt.seq;
-    if attempt.stage.is_preparing() {
-        return made_by_two(
-            Event::Cancel(seq, Reason::Release),
-            Event::LetGo(seq, device),
-        );
+    match attempt.answers.device_answer(device) {
+        None => refused(Code::NotLive),
+        Some(told) => on_release_in(attempt.seq, *told, attempt.stage),
     }
-    if !attempt.answers.waits_for(device) {
-        return known();
+}
+
+fn on_release_in(seq: u32, told: DeviceAnswer, stage: Stage) -> (Verdict, Events)
+    ensures { result ≡ on_release_in seq told stage told.answer }
+{
+    match (stage, told.answer) {
+        (Stage::Preparing, Answer::Waiting | Answer::Ready | Answer::Done) => given_up(seq, told),
+        (Stage::Preparing, Answer::LetGo | Answer::Failed) => given_up(seq, told),
+        (Stage::Decided, Answer::Waiting) => made(Event::Failed(seq, told.device)),
+        (Stage::Decided, Answer::Ready | Answer::Done) => known(),
+        (Stage::Decided, Answer::LetGo | Answer::Failed) => known(),
+        (Stage::Cancelling(_), Answer::Waiting) => made(Event::LetGo(seq, told.device)),
+        (Stage::Cancelling(_), Answer::Ready | Answer::Done) => known(),
+        (Stage::Cancelling(_), Answer::LetGo | Answer::Failed) => known(),
     }
-    if attempt.stage.is_decided() {
-        return made(Event::Failed(seq, device));
-    }
-    made(Event::LetGo(seq, device))
+}
+
+// The preparation is given up, and the device with it.
+fn given_up(seq: u32, told: DeviceAnswer) -> (Verdict, Events)
+    ensures { result ≡ made (event.Cancel seq reason.Release ∷ event.LetGo seq told.device ∷ []) }
+{
+    made_by_two(
+        Event::Cancel(seq, Reason::Release),
+        Event::LetGo(seq, told.device),
+    )
 }

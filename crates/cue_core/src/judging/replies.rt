@@ -1,14 +1,16 @@
 //! Replies of devices: what each makes of the stage of its attempt and of what the device has answered so far.
-ghost use Rattle.std.specs.Prelude.{◌≡◌};
+ghost use Rattle.std.specs.Prelude.{◌≡◌, [], ◌∷◌};
+ghost use Rattle.cue_exchange.specs.declared.attempt.Reason.TheVariants as reason;
+ghost use Rattle.cue_core.specs.declared.event.Event.TheVariants as event;
 ghost use Rattle.cue_core.specs.declared.command.Code.TheVariants as code;
-ghost use Rattle.cue_core.specs.Judge.{refused, on_reply, on_reply_to, on_reply_in, is_from_another, on_standing_by, on_complete, on_cancelled, on_abort};
+ghost use Rattle.cue_core.specs.Judge.{made, refused, on_reply, on_reply_to, on_reply_in, is_from_another, on_standing_by, on_complete, on_cancelled, on_abort};
 
 use crate::command::{Code, ReplyKind, Verdict};
 use crate::event::Event;
 use crate::events::Events;
 use crate::judging::verdicts::{known, made, made_by_two, refused};
 use crate::state::State;
-use cue_exchange::attempt::{Answer, Attempt, Reason, Stage};
+use cue_exchange::{Answer, Attempt, DeviceAnswer, Reason, Stage};
 use cue_show::DeviceNo;
 
 pub(crate) fn on_reply(
@@ -48,80 +50,103 @@ fn is_from_another(state: &State, device: DeviceNo, from: u16) -> bool
 fn on_reply_to(attempt: &Attempt, kind: ReplyKind, device: DeviceNo) -> (Verdict, Events)
     ensures { result ≡ on_reply_to kind device attempt.now }
 {
-    match attempt.answers.answer_of(device) {
+    match attempt.answers.device_answer(device) {
         None => refused(Code::NotPart),
-        Some(answer) => on_reply_in(kind, attempt.seq, device, attempt.stage, answer),
+        Some(told) => on_reply_in(kind, attempt.seq, *told, attempt.stage),
     }
 }
 
-fn on_reply_in(
-    kind: ReplyKind,
-    seq: u32,
-    device: DeviceNo,
-    stage: Stage,
-    answer: Answer,
-) -> (Verdict, Events)
-    ensures { result ≡ on_reply_in kind seq device stage answer }
+fn on_reply_in(kind: ReplyKind, seq: u32, told: DeviceAnswer, stage: Stage) -> (Verdict, Events)
+    ensures { result ≡ on_reply_in kind seq told stage told.answer }
 {
     match kind {
-        ReplyKind::StandingBy => on_standing_by(seq, device, stage, answer),
-        ReplyKind::Complete => on_complete(seq, device, stage, answer),
-        ReplyKind::Cancelled => on_cancelled(seq, device, stage, answer),
-        ReplyKind::Abort => on_abort(seq, device, stage, answer),
+        ReplyKind::StandingBy => on_standing_by(seq, told, stage),
+        ReplyKind::Complete => on_complete(seq, told, stage),
+        ReplyKind::Cancelled => on_cancelled(seq, told, stage),
+        ReplyKind::Abort => on_abort(seq, told, stage),
     }
 }
 
-fn on_standing_by(seq: u32, device: DeviceNo, stage: Stage, answer: Answer) -> (Verdict, Events)
-    ensures { result ≡ on_standing_by seq device stage answer }
+fn on_standing_by(seq: u32, told: DeviceAnswer, stage: Stage) -> (Verdict, Events)
+    ensures { result ≡ on_standing_by seq told stage told.answer }
 {
-    match (stage, answer) {
-        (Stage::Preparing, Answer::Waiting) => made(Event::Ready(seq, device)),
-        (Stage::Preparing, _) => known(),
-        (Stage::Decided, Answer::Failed) => refused(Code::Stale),
-        (Stage::Decided, _) => known(),
-        (Stage::Cancelling(_), _) => refused(Code::Stale),
+    match (stage, told.answer) {
+        (Stage::Preparing, Answer::Waiting) => made(Event::Ready(seq, told.device)),
+        (Stage::Preparing, Answer::Ready | Answer::Done) => known(),
+        (Stage::Preparing, Answer::LetGo | Answer::Failed) => known(),
+        (Stage::Decided, Answer::Waiting | Answer::Ready) => known(),
+        (Stage::Decided, Answer::Done | Answer::LetGo) => known(),
+        (Stage::Decided, Answer::Failed) => stale(),
+        (Stage::Cancelling(_), Answer::Waiting | Answer::Ready | Answer::Done) => stale(),
+        (Stage::Cancelling(_), Answer::LetGo | Answer::Failed) => stale(),
     }
 }
 
-fn on_complete(seq: u32, device: DeviceNo, stage: Stage, answer: Answer) -> (Verdict, Events)
-    ensures { result ≡ on_complete seq device stage answer }
+fn on_complete(seq: u32, told: DeviceAnswer, stage: Stage) -> (Verdict, Events)
+    ensures { result ≡ on_complete seq told stage told.answer }
 {
-    match (stage, answer) {
-        (Stage::Preparing, _) => refused(Code::Early),
-        (Stage::Decided, Answer::Waiting) => made(Event::Done(seq, device)),
+    match (stage, told.answer) {
+        (Stage::Preparing, Answer::Waiting | Answer::Ready | Answer::Done) => early(),
+        (Stage::Preparing, Answer::LetGo | Answer::Failed) => early(),
+        (Stage::Decided, Answer::Waiting) => made(Event::Done(seq, told.device)),
         (Stage::Decided, Answer::Done) => known(),
-        (Stage::Decided, _) => refused(Code::Stale),
-        (Stage::Cancelling(_), _) => refused(Code::Stale),
+        (Stage::Decided, Answer::Ready | Answer::LetGo | Answer::Failed) => stale(),
+        (Stage::Cancelling(_), Answer::Waiting | Answer::Ready | Answer::Done) => stale(),
+        (Stage::Cancelling(_), Answer::LetGo | Answer::Failed) => stale(),
     }
 }
 
-fn on_cancelled(seq: u32, device: DeviceNo, stage: Stage, answer: Answer) -> (Verdict, Events)
-    ensures { result ≡ on_cancelled seq device stage answer }
+fn on_cancelled(seq: u32, told: DeviceAnswer, stage: Stage) -> (Verdict, Events)
+    ensures { result ≡ on_cancelled seq told stage told.answer }
 {
-    match (stage, answer) {
-        (Stage::Preparing, _) => refused(Code::Early),
-        (Stage::Decided, _) => refused(Code::Decided),
-        (Stage::Cancelling(_), Answer::Waiting) => made(Event::LetGo(seq, device)),
+    match (stage, told.answer) {
+        (Stage::Preparing, Answer::Waiting | Answer::Ready | Answer::Done) => early(),
+        (Stage::Preparing, Answer::LetGo | Answer::Failed) => early(),
+        (Stage::Decided, Answer::Waiting | Answer::Ready | Answer::Done) => decided(),
+        (Stage::Decided, Answer::LetGo | Answer::Failed) => decided(),
+        (Stage::Cancelling(_), Answer::Waiting) => made(Event::LetGo(seq, told.device)),
         (Stage::Cancelling(_), Answer::LetGo) => known(),
-        (Stage::Cancelling(_), _) => refused(Code::Stale),
+        (Stage::Cancelling(_), Answer::Ready | Answer::Done | Answer::Failed) => stale(),
     }
 }
 
-fn on_abort(seq: u32, device: DeviceNo, stage: Stage, answer: Answer) -> (Verdict, Events)
-    ensures { result ≡ on_abort seq device stage answer }
+fn on_abort(seq: u32, told: DeviceAnswer, stage: Stage) -> (Verdict, Events)
+    ensures { result ≡ on_abort seq told stage told.answer }
 {
-    match (stage, answer) {
-        (Stage::Preparing, _) => made_by_two(
-            Event::Cancel(seq, Reason::Abort),
-            Event::Failed(seq, device),
-        ),
-        (Stage::Decided, Answer::Waiting) => made(Event::Failed(seq, device)),
+    match (stage, told.answer) {
+        (Stage::Preparing, Answer::Waiting | Answer::Ready | Answer::Done) => given_up(seq, told),
+        (Stage::Preparing, Answer::LetGo | Answer::Failed) => given_up(seq, told),
+        (Stage::Decided, Answer::Waiting) => made(Event::Failed(seq, told.device)),
         (Stage::Decided, Answer::Failed) => known(),
         (Stage::Decided, Answer::Ready | Answer::Done | Answer::LetGo) => stale(),
-        (Stage::Cancelling(_), Answer::Waiting) => made(Event::Failed(seq, device)),
+        (Stage::Cancelling(_), Answer::Waiting) => made(Event::Failed(seq, told.device)),
         (Stage::Cancelling(_), Answer::Failed) => known(),
         (Stage::Cancelling(_), Answer::Ready | Answer::Done | Answer::LetGo) => stale(),
     }
+}
+
+// The preparation is given up, since the device cannot go on.
+fn given_up(seq: u32, told: DeviceAnswer) -> (Verdict, Events)
+    ensures { result ≡ made (event.Cancel seq reason.Abort ∷ event.Failed seq told.device ∷ []) }
+{
+    made_by_two(
+        Event::Cancel(seq, Reason::Abort),
+        Event::Failed(seq, told.device),
+    )
+}
+
+// The attempt has not come as far as the reply says.
+fn early() -> (Verdict, Events)
+    ensures { result ≡ refused code.Early }
+{
+    refused(Code::Early)
+}
+
+// The attempt was decided, and that is not taken back.
+fn decided() -> (Verdict, Events)
+    ensures { result ≡ refused code.Decided }
+{
+    refused(Code::Decided)
 }
 
 // The attempt has gone past what the reply says.

@@ -8,7 +8,7 @@ use crate::events::Events;
 use crate::judging::verdicts::{known, made, refused};
 use crate::state::State;
 use cue_show::{CueNo, DeviceNo, Parts};
-use std::alloc::AllocError;
+use std::alloc::{AllocError, Global};
 
 pub(crate) fn on_add_device(state: &State, device: DeviceNo, port: u16) -> (Verdict, Events)
     ensures { result ≡ on_add_device state.now device port }
@@ -39,6 +39,7 @@ pub(crate) fn on_remove_device(state: &State, device: DeviceNo) -> (Verdict, Eve
 }
 
 pub(crate) fn on_add_cue(
+    alloc: Global,
     state: &State,
     cue: CueNo,
     parts: &Parts,
@@ -48,10 +49,15 @@ pub(crate) fn on_add_cue(
     if !state.show().has_devices_of(parts) {
         return Ok(refused(Code::UnknownDevice));
     }
-    on_new_cue(state, cue, parts)
+    on_new_cue(alloc, state, cue, parts)
 }
 
-fn on_new_cue(state: &State, cue: CueNo, parts: &Parts) -> Result<(Verdict, Events), AllocError>
+fn on_new_cue(
+    alloc: Global,
+    state: &State,
+    cue: CueNo,
+    parts: &Parts,
+) -> Result<(Verdict, Events), AllocError>
     ensures { IfOk result (λ r. r ≡ on_new_cue state.now cue parts.now) }
 {
     let show = state.show();
@@ -65,7 +71,8 @@ fn on_new_cue(state: &State, cue: CueNo, parts: &Parts) -> Result<(Verdict, Even
             if show.is_full() {
                 return Ok(refused(Code::Full));
             }
-            Ok(made(Event::Cue(cue, parts.clone()?)))
+            let copy = Parts::from_slice(alloc, parts.as_slice())?;
+            Ok(made(Event::Cue(cue, copy)))
         }
     }
 }

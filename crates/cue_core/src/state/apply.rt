@@ -7,8 +7,7 @@ ghost use Rattle.cue_core.specs.declared.event.Event.TheVariants as event;
 
 use crate::event::{Ended, Event};
 use crate::state::State;
-use cue_exchange::attempt::{Outcome, Reason};
-use cue_exchange::live::Live;
+use cue_exchange::{Live, Outcome, Reason};
 use cue_show::{CueNo, DeviceNo, Parts, Show};
 use std::alloc::AllocError;
 

@@ -7,7 +7,7 @@ use super::reading::Request;
 use super::{SHOW, judge_only, remade, run, run_both, run_each, told};
 use crate::event::Ended;
 use crate::{Code, Command, Event, Events, State, Verdict, judge};
-use cue_exchange::attempt::{Outcome, Reason};
+use cue_exchange::{Outcome, Reason};
 use cue_show::DeviceNo;
 use std::alloc::{AllocError, Global};
 use std::process::Abort;
@@ -180,6 +180,7 @@ fn release(rt: &impl Abort, alloc: Global, state: &mut State) -> Result<(), Fail
         "standby 1 1000 = made Start 1 1 11000",
     )?;
     let (_, events) = judge(
+        alloc,
         state,
         0,
         8000,

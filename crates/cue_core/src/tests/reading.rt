@@ -1,7 +1,7 @@
 //! Commands and events from their words.
 
 use crate::{Command, Event, ReplyKind};
-use cue_exchange::attempt::Reason;
+use cue_exchange::Reason;
 use cue_show::{CueNo, DeviceNo, Part, Parts};
 use std::alloc::Global;
 use std::test::Fail;

@@ -1,8 +1,7 @@
 //! Verdicts, events and states in words.
 
 use crate::{Ended, Event, Events, State, Verdict};
-use cue_exchange::attempt::Attempt;
-use cue_exchange::live::Live;
+use cue_exchange::{Attempt, Live};
 use cue_show::{CueNo, Parts, Show};
 use std::alloc::{AllocError, Global};
 

@@ -1,15 +1,15 @@
 // How an engine comes to be: over a store that is formed, or over one that is recovered.
 ghost use Rattle.std.specs.Prelude.{◌≡◌, ◌≤◌, ◌⊎◌, ◌↔◌, [], false, IfOk, OnOk};
-ghost use Rattle.cue_disk.specs.Disk.{LeavesOnly, IsImage, MoreFailures};
+ghost use Rattle.cue_disk.specs.Disk.{LeavesAtEachMoment, IsImage, MoreFailures};
 ghost use Rattle.cue_snap.specs.Pair.{NeitherHas, SomeIsThere, IsSpoiled, AfterBarrier};
-ghost use Rattle.cue_snap.specs.Words.{first_after, second_after, RefusedAs};
+ghost use Rattle.cue_snap.specs.Observed.{first_after, second_after, RefusedAs};
 ghost use Rattle.cue_core.specs.State.{ShowState, empty_state};
-ghost use Rattle.cue_keeper.specs.Pairs.{LeavesPairs};
+ghost use Rattle.cue_keeper.specs.Pairs.{LeavesPairsAtEachMoment};
 ghost use Rattle.cue_keeper.specs.Stands.{Stands, StandsEither, StandsAs};
 ghost use Rattle.cue_keeper.specs.Refusals.{HasOtherVersion, StandsForNone, IsUnformedOrStands};
-ghost use Rattle.cue_keeper.specs.Words as kept;
+ghost use Rattle.cue_keeper.specs.Observed as kept;
 ghost use Rattle.cue_outbox.specs.Sending.{datagrams, all_pending};
-ghost use Rattle.cue_engine.specs.Given.{closed};
+ghost use Rattle.cue_core.specs.Batches.{closed};
 ghost use Rattle.cue_engine.specs.Recovery.{ClosedFrom, IsLeftOrStands, NoGenerationLeft, NoRoomLeft, RefusedBut};
 ghost use Rattle.cue_engine.specs.Words.{keeper_of, state_of, queue_of, first_of, second_of};
 
@@ -33,7 +33,7 @@ impl<D: Disk> Engine<D> {
         // It goes on only where neither disk has an area.
         ensures empty { D.is_honest first → D.is_honest second → OnOk result (NeitherHas (D.held first).bytes (D.held second).bytes) }
         ensures not_empty { D.is_honest first → D.is_honest second → RefusedAs StoreFault.NotEmpty (SomeIsThere (D.held first).bytes (D.held second).bytes) result }
-        ensures first_kept { D.is_honest first → RefusedAs StoreFault.NotEmpty (LeavesOnly D.moment D.held_at first (first_after first_of result) (IsImage (D.held first))) result }
+        ensures first_kept { D.is_honest first → RefusedAs StoreFault.NotEmpty (LeavesAtEachMoment D.moment D.held_at first (first_after first_of result) (IsImage (D.held first))) result }
         ensures first_bytes { D.is_honest first → RefusedAs StoreFault.NotEmpty ((D.held (first_after first_of result)).bytes ≡ (D.held first).bytes) result }
         ensures memory { RefusedAs StoreFault.Memory ((first_after first_of result ≡ first) × (second_after second_of result ≡ second)) result }
         ensures disk { RefusedAs StoreFault.Disk (MoreFailures (D.failures first) (D.failures (first_after first_of result)) ⊎ MoreFailures (D.failures second) (D.failures (second_after second_of result))) result }
@@ -43,7 +43,7 @@ impl<D: Disk> Engine<D> {
         ensures any_moment { D.is_honest first → D.is_honest second → AfterBarrier D.moment D.held_at first second (first_after first_of result) (second_after second_of result)
             (IsUnformedOrStands empty_state (D.held first) (D.held second)) }
         // The second disk is synced, and no more.
-        ensures second_kept { D.is_honest second → LeavesOnly D.moment D.held_at second (second_after second_of result) (IsImage (D.held second)) }
+        ensures second_kept { D.is_honest second → LeavesAtEachMoment D.moment D.held_at second (second_after second_of result) (IsImage (D.held second)) }
         ensures second_bytes { D.is_honest second → (D.held (second_after second_of result)).bytes ≡ (D.held second).bytes }
         ensures first_failures { D.failures first ≤ D.failures (first_after first_of result) }
         ensures second_failures { D.failures second ≤ D.failures (second_after second_of result) }
@@ -88,7 +88,7 @@ impl<D: Disk> Engine<D> {
             (IsLeftOrStands (D.held first) (D.held second)) }
         // Any refusal but that of a device has written nothing.
         ensures unwritten { D.is_honest first → D.is_honest second → RefusedBut StoreFault.Disk
-            (LeavesOnly D.moment D.held_at first (first_after first_of result) (IsImage (D.held first)) × LeavesOnly D.moment D.held_at second (second_after second_of result) (IsImage (D.held second))) result }
+            (LeavesAtEachMoment D.moment D.held_at first (first_after first_of result) (IsImage (D.held first)) × LeavesAtEachMoment D.moment D.held_at second (second_after second_of result) (IsImage (D.held second))) result }
         ensures first_failures { D.failures first ≤ D.failures (first_after first_of result) }
         ensures second_failures { D.failures second ≤ D.failures (second_after second_of result) }
         ensures first_honest { D.is_honest (first_after first_of result) ↔ D.is_honest first }
@@ -112,7 +112,7 @@ fn close_opened<D: Disk>(alloc: Global, keeper: Keeper<D>) -> Result<Engine<D>, 
     ensures disk { RefusedAs StoreFault.Disk (MoreFailures (D.failures (kept.first_of keeper)) (D.failures (first_after first_of result)) ⊎ MoreFailures (D.failures (kept.second_of keeper)) (D.failures (second_after second_of result))) result }
     ensures no_other { RefusedAs StoreFault.NotEmpty ⊥ result × RefusedAs StoreFault.Unformed ⊥ result × RefusedAs StoreFault.Damaged ⊥ result × RefusedAs StoreFault.Version ⊥ result × RefusedAs StoreFault.Malformed ⊥ result }
     ensures any_moment { D.is_honest (kept.first_of keeper) → D.is_honest (kept.second_of keeper)
-        → LeavesPairs D.moment D.held_at (kept.first_of keeper) (kept.second_of keeper) (first_after first_of result) (second_after second_of result) (StandsEither (kept.state_of keeper) (closed (kept.state_of keeper))) }
+        → LeavesPairsAtEachMoment D.moment D.held_at (kept.first_of keeper) (kept.second_of keeper) (first_after first_of result) (second_after second_of result) (StandsEither (kept.state_of keeper) (closed (kept.state_of keeper))) }
     ensures unwritten { RefusedBut StoreFault.Disk ((first_after first_of result ≡ kept.first_of keeper) × (second_after second_of result ≡ kept.second_of keeper)) result }
     ensures stands { D.is_honest (kept.first_of keeper) → D.is_honest (kept.second_of keeper) → IfOk result (λ engine. StandsAs (D.held (first_of engine)) (D.held (second_of engine)) (state_of engine)) }
     ensures first_failures { D.failures (kept.first_of keeper) ≤ D.failures (first_after first_of result) }

@@ -119,8 +119,11 @@ fn answers_are_read(rt: HostRuntime) -> Result<(), Fail> {
     let attempt = stored(rt.alloc(), 1, 3, Stage::Preparing, Answer::Ready)?;
     assert!(rt; attempt.can_go());
     assert!(rt; attempt.answers.all_may_go());
-    assert_eq!(rt; attempt.answers.answer_of(device(3)?), Some(Answer::Ready));
-    assert_eq!(rt; attempt.answers.answer_of(device(4)?), None);
+    assert_eq!(rt;
+        attempt.answers.device_answer(device(3)?).map(|x| x.answer),
+        Some(Answer::Ready)
+    );
+    assert_eq!(rt; attempt.answers.device_answer(device(4)?), None);
     assert_eq!(rt;
         attempt.answers.into_vec().as_slice(),
         [DeviceAnswer {

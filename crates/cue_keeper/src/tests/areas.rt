@@ -1,6 +1,6 @@
 // The bytes of both disks.
 ghost use Rattle.std.specs.Prelude.{◌≡◌};
-ghost use Rattle.cue_keeper.specs.Words.{state_of};
+ghost use Rattle.cue_keeper.specs.Observed.{state_of};
 
 use super::*;
 use cue_core::State;
@@ -41,12 +41,6 @@ fn fill(alloc: Global, keeper: &mut Keeper<MemDisk>) -> Result<(), Fail> {
     }
     Ok(())
 }
-
-// The area of generation 2 with device 3, cues 1 and 2 and the place 1, and a record that moves to cue 2.
-const TURNED: [u8; 53] = [
-    1, 0, 0, 0, 0, 0, 0, 0, 2, 0, 0, 0, 0x1d, 1, 1, 3, 0x23, 0x29, 0, 2, 1, 0x31, 1, 3, 0, 1, 0x32,
-    1, 3, 0, 1, 0x31, 0, 0, 0, 0, 0, 0, 0, 0, 0, 0, 1, 0, 0, 0, 5, 0, 1, 5, 1, 0x32, 0,
-];
 
 #[test]
 fn the_65th_batch_turns_over(rt: HostRuntime) -> Result<(), Fail> {

@@ -22,12 +22,15 @@ fn changed(at: usize, byte: u8) -> [u8; 29]
 #[test]
 fn a_store_that_is_not_opened(rt: HostRuntime) -> Result<(), Fail> {
     let alloc = rt.alloc();
-    let table: [(&[u8], &[u8], StoreFault); 7] = [
+    let mut other_version = TURNED;
+    other_version[13] = 3;
+    let table: [(&[u8], &[u8], StoreFault); 8] = [
         (&[], &[], StoreFault::Unformed),
         (&[1], &[], StoreFault::Unformed),
         (&[1, 0, 0, 0, 0], &[], StoreFault::Damaged),
         (&FORMED, &FORMED, StoreFault::Damaged),
         (&changed(13, 2), &[], StoreFault::Version),
+        (&FORMED, &other_version, StoreFault::Version),
         (&changed(14, 9), &[], StoreFault::Malformed),
         (&TAKEN_OUT, &[], StoreFault::Malformed),
     ];

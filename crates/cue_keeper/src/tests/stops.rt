@@ -1,10 +1,37 @@
-// A stop or a fault at each device call of a batch, and what a crash then leaves.
+// A stop or a fault at each device call of each disk, and what a crash then leaves.
 use super::*;
 
 #[derive(Clone, Copy, Debug)]
 enum Trouble {
     Fails,
     Stops,
+}
+
+// The disk that has the trouble.
+#[derive(Clone, Copy, Debug)]
+enum Side {
+    First,
+    Second,
+}
+
+// What stands on the two disks before a batch.
+#[derive(Clone, Copy)]
+struct Scene<'a> {
+    first: &'a [u8],
+    second: &'a [u8],
+}
+
+// How many calls opening a store makes on each disk.
+fn calls_at_opening(alloc: Global, scene: Scene) -> Result<(u64, u64), Fail> {
+    let first = MemDisk::from_bytes(alloc, scene.first)?;
+    let second = MemDisk::from_bytes(alloc, scene.second)?;
+    match Keeper::open(alloc, first, second) {
+        Err((fault, _, _)) => Err(fault.into()),
+        Ok(keeper) => {
+            let (first, second) = keeper.close();
+            Ok((first.calls(), second.calls()))
+        }
+    }
 }
 
 // Plans trouble for the k-th call from now.
@@ -15,54 +42,80 @@ fn plan(disk: &mut MemDisk, trouble: Trouble, k: u64) {
     }
 }
 
-// How many calls opening a store makes on each disk, where its first area is this one.
-fn calls_at_opening(alloc: Global, bytes: &[u8]) -> Result<(u64, u64), Fail> {
-    match Keeper::open(
-        alloc,
-        MemDisk::from_bytes(alloc, bytes)?,
-        MemDisk::new(alloc),
-    ) {
-        Err((fault, _, _)) => Err(fault.into()),
-        Ok(keeper) => {
-            let (first, second) = keeper.close();
-            Ok((first.calls(), second.calls()))
-        }
+// A move to cue 2, with trouble at the k-th call that it makes on a disk.
+fn troubled(
+    alloc: Global,
+    scene: Scene,
+    side: Side,
+    trouble: Trouble,
+    k: u64,
+) -> Result<Answered, Fail> {
+    let calls = calls_at_opening(alloc, scene)?;
+    let mut first = MemDisk::from_bytes(alloc, scene.first)?;
+    let mut second = MemDisk::from_bytes(alloc, scene.second)?;
+    match side {
+        Side::First => plan(&mut first, trouble, calls.0.saturating_add(k)),
+        Side::Second => plan(&mut second, trouble, calls.1.saturating_add(k)),
     }
-}
-
-// A move to cue 2, with trouble at the k-th call that it makes on both disks, each counted for itself.
-fn troubled(alloc: Global, bytes: &[u8], trouble: Trouble, k: u64) -> Result<Answered, Fail> {
-    let calls = calls_at_opening(alloc, bytes)?;
-    let mut first = MemDisk::from_bytes(alloc, bytes)?;
-    plan(&mut first, trouble, calls.0.saturating_add(k));
-    let mut second = MemDisk::new(alloc);
-    plan(&mut second, trouble, calls.1.saturating_add(k));
     accept_on(alloc, first, second, Event::Place(cue(b"2")?))
 }
 
-// Whatever a crash leaves of the two disks stands at cue 1 or at cue 2, after Ok at cue 2.
-fn leave(rt: &impl Abort, alloc: Global, kept: &Answered) -> Result<(), Fail> {
-    let one = Some(cue(b"1")?);
-    let two = Some(cue(b"2")?);
+// What a crash leaves of the two disks stands at cue 1 or at cue 2, after Ok at cue 2.
+fn leaves(
+    rt: &impl Abort,
+    alloc: Global,
+    kept: &Answered,
+    extra: u64,
+    junk: &[u8],
+) -> Result<(), Fail> {
+    let first = kept.first.crash(extra, junk)?;
+    let second = kept.second.crash(extra, junk)?;
+    let found = place(alloc, first, second)?;
+    let was = found == Some(cue(b"1")?);
+    let is = found == Some(cue(b"2")?);
+    assert!(rt;
+        is || (was && kept.answer.is_err()),
+        "{extra} bytes more, {junk:?}"
+    );
+    Ok(())
+}
+
+// Each byte as the first one that the crash may change.
+fn leaves_each_first(rt: &impl Abort, alloc: Global, kept: &Answered) -> Result<(), Fail> {
     for extra in [0, 1, u64::MAX] {
-        for junk in 0..=255u8 {
-            let first = kept.first.crash(extra, &[junk])?;
-            let second = kept.second.crash(extra, &[junk])?;
-            let found = place(alloc, first, second)?;
-            assert!(rt;
-                found == two || (kept.answer.is_err() && found == one),
-                "{extra} bytes more, {junk}"
-            );
+        for first in 0..=255u8 {
+            leaves(rt, alloc, kept, extra, &[first])?;
         }
     }
     Ok(())
 }
 
-// At how many calls of a batch trouble comes up.
-fn troubles(rt: &impl Abort, alloc: Global, bytes: &[u8], trouble: Trouble) -> Result<u64, Fail> {
+// One byte at all others.
+fn leaves_each_other(rt: &impl Abort, alloc: Global, kept: &Answered) -> Result<(), Fail> {
+    for extra in [0, 1, u64::MAX] {
+        for other in [0u8, 1, 255] {
+            let mut junk = [other; 64];
+            for first in [0u8, 1, 2, 255] {
+                junk[0] = first;
+                leaves(rt, alloc, kept, extra, &junk)?;
+            }
+        }
+    }
+    Ok(())
+}
+
+// At how many calls of a batch trouble comes up on a disk.
+fn troubles(
+    rt: &impl Abort,
+    alloc: Global,
+    scene: Scene,
+    side: Side,
+    trouble: Trouble,
+) -> Result<u64, Fail> {
     for k in 1..40u64 {
-        let kept = troubled(alloc, bytes, trouble, k)?;
-        leave(rt, alloc, &kept)?;
+        let kept = troubled(alloc, scene, side, trouble, k)?;
+        leaves_each_first(rt, alloc, &kept)?;
+        leaves_each_other(rt, alloc, &kept)?;
         if kept.answer.is_ok() {
             return Ok(k - 1);
         }
@@ -71,14 +124,143 @@ fn troubles(rt: &impl Abort, alloc: Global, bytes: &[u8], trouble: Trouble) -> R
     Err("a batch makes fewer calls".into())
 }
 
+// A batch makes so many calls on each disk, and trouble at each of them loses nothing.
+fn has_calls(
+    rt: &impl Abort,
+    alloc: Global,
+    scene: Scene,
+    first: u64,
+    second: u64,
+) -> Result<(), Fail> {
+    for trouble in [Trouble::Fails, Trouble::Stops] {
+        assert_eq!(rt; troubles(rt, alloc, scene, Side::First, trouble)?, first);
+        assert_eq!(rt; troubles(rt, alloc, scene, Side::Second, trouble)?, second);
+    }
+    Ok(())
+}
+
 #[test]
-fn trouble_at_each_call(rt: HostRuntime) -> Result<(), Fail> {
+fn a_batch_with_trouble_at_each_call(rt: HostRuntime) -> Result<(), Fail> {
+    let alloc = rt.alloc();
+    let live = area(alloc, 1, 59)?;
+    let scene = Scene {
+        first: &live,
+        second: &[],
+    };
+    // the record, a sync, its gate, a sync
+    has_calls(&rt, alloc, scene, 4, 0)
+}
+
+#[test]
+fn a_turn_over_with_trouble_at_each_call(rt: HostRuntime) -> Result<(), Fail> {
+    let alloc = rt.alloc();
+    let live = area(alloc, 1, 61)?;
+    let scene = Scene {
+        first: &live,
+        second: &[],
+    };
+    // what closes and forms an area comes before those four
+    has_calls(&rt, alloc, scene, 0, 14)
+}
+
+#[test]
+fn a_second_turn_over_with_trouble_at_each_call(rt: HostRuntime) -> Result<(), Fail> {
+    let alloc = rt.alloc();
+    // The older area stands at no cue, and is not taken, also where closing it is torn.
+    let older = area(alloc, 1, 0)?;
+    let live = area(alloc, 2, 61)?;
+    let scene = Scene {
+        first: &older,
+        second: &live,
+    };
+    has_calls(&rt, alloc, scene, 15, 0)
+}
+
+// What a crash left of a first turn-over: a torn body behind a gate that is not open.
+const TORN: [u8; 16] = [0, 1, 1, 1, 1, 0xff, 0xff, 0, 1, 1, 0, 0, 0, 0, 1, 1];
+
+#[test]
+fn a_turn_over_after_a_torn_one(rt: HostRuntime) -> Result<(), Fail> {
+    let alloc = rt.alloc();
+    let live = area(alloc, 1, 61)?;
+    let scene = Scene {
+        first: &live,
+        second: &TORN,
+    };
+    has_calls(&rt, alloc, scene, 0, 14)
+}
+
+// Forms a store on two disks of which one has trouble at the k-th call, and hands them back.
+fn formed_on(
+    alloc: Global,
+    side: Side,
+    trouble: Trouble,
+    k: u64,
+) -> (Option<StoreFault>, MemDisk, MemDisk) {
+    let mut first = MemDisk::new(alloc);
+    let mut second = MemDisk::new(alloc);
+    match side {
+        Side::First => plan(&mut first, trouble, k),
+        Side::Second => plan(&mut second, trouble, k),
+    }
+    match Keeper::form(alloc, first, second) {
+        Ok(keeper) => {
+            let (first, second) = keeper.close();
+            (None, first, second)
+        }
+        Err((fault, first, second)) => (Some(fault), first, second),
+    }
+}
+
+// Whatever a crash leaves of two disks has no area or the first one, and that alone where a store was formed.
+fn leave_first(
+    rt: &impl Abort,
+    alloc: Global,
+    formed: bool,
+    first: &MemDisk,
+    second: &MemDisk,
+) -> Result<(), Fail> {
+    for extra in [0, 1, u64::MAX] {
+        for junk in 0..=255u8 {
+            let found = place(
+                alloc,
+                first.crash(extra, &[junk])?,
+                second.crash(extra, &[junk])?,
+            );
+            assert!(rt;
+                found == Ok(None) || (!formed && found == Err(StoreFault::Unformed)),
+                "{extra} bytes more, {junk}"
+            );
+        }
+    }
+    Ok(())
+}
+
+// At how many calls of forming a store trouble comes up on a disk.
+fn form_troubles(
+    rt: &impl Abort,
+    alloc: Global,
+    side: Side,
+    trouble: Trouble,
+) -> Result<u64, Fail> {
+    for k in 1..40u64 {
+        let (fault, first, second) = formed_on(alloc, side, trouble, k);
+        leave_first(rt, alloc, fault.is_none(), &first, &second)?;
+        match fault {
+            None => return Ok(k - 1),
+            Some(fault) => assert_eq!(rt; fault, StoreFault::Disk),
+        }
+    }
+    Err("forming a store makes fewer calls".into())
+}
+
+#[test]
+fn forming_with_trouble_at_each_call(rt: HostRuntime) -> Result<(), Fail> {
     let alloc = rt.alloc();
     for trouble in [Trouble::Fails, Trouble::Stops] {
-        // the record, a sync, its gate, a sync
-        assert_eq!(rt; troubles(&rt, alloc, &area(alloc, 1, 59)?, trouble)?, 4);
-        // what closes and forms an area comes before them
-        assert!(rt; troubles(&rt, alloc, &area(alloc, 1, 61)?, trouble)? > 4);
+        // a sync and the length; the length; the length, a gate, a sync; three writes, a sync; a gate, a sync
+        assert_eq!(rt; form_troubles(&rt, alloc, Side::First, trouble)?, 12);
+        assert_eq!(rt; form_troubles(&rt, alloc, Side::Second, trouble)?, 2);
     }
     Ok(())
 }

@@ -35,10 +35,7 @@ fn an_area_that_is_filled(rt: HostRuntime) -> Result<(), Fail> {
     let disk = log.retire();
     assert_eq!(rt; disk.bytes().len(), 4_194_304);
     let area = opened(alloc, disk)?;
-    assert_eq!(rt;
-        (area.log.count(), area.records.as_slice().len()),
-        (128, 128)
-    );
+    assert_eq!(rt; (area.log.count(), area.records.count()), (128, 128));
     Ok(())
 }
 

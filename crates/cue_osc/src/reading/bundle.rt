@@ -1,6 +1,6 @@
 //! Packets: a message, or a bundle of packets down to a depth.
 
-ghost use Rattle.std.specs.Prelude.{◌≡◌, map, length};
+ghost use Rattle.std.specs.Prelude.{◌≡◌, ◌≤◌, map, length};
 ghost use Rattle.cue_osc.specs.Content.{view, contents_of};
 ghost use Rattle.cue_osc.specs.Reading.{Gives, element_at, elements_by, bundle_by, packet_at, is_size as is_element_size, is_message_start as begins_message, is_bundle_start as begins_bundle};
 
@@ -41,8 +41,20 @@ fn element(bytes: &[u8]) -> Result<(&[u8], &[u8]), Fault>
     Ok(rest.split_at(size as usize))
 }
 
-/// A packet, all of the bytes, with bundles at most so deep.
+/// How many elements there are where each is as long as the first. Room is made for so many at once.
+fn likely_count(bytes: &[u8]) -> usize
+    ensures { result ≤ length bytes.now }
+{
+    match element(bytes) {
+        Ok((first, _)) => bytes.len() / (first.len() + 4),
+        Err(_) => 0,
+    }
+}
+
+/// A packet, all of the bytes, with bundles at most so deep. It is inlined where elements are
+/// read, so that a message is made in its place.
 #[cycle(nested)]
+#[inline(always)]
 pub fn packet<'a>(alloc: Global, bytes: &'a [u8], depth: u8) -> Result<Packet<'a>, Fault>
     ensures { Gives view result (packet_at depth bytes.now) }
 {
@@ -60,6 +72,7 @@ pub fn packet<'a>(alloc: Global, bytes: &'a [u8], depth: u8) -> Result<Packet<'a
 
 /// What stands behind a bundle's head, with bundles at most so deep inside.
 #[cycle(nested)]
+#[inline(always)]
 fn bundle<'a>(alloc: Global, bytes: &'a [u8], depth: u8) -> Result<Packet<'a>, Fault>
     ensures { Gives view result (bundle_by (packet_at depth) bytes.now) }
 {
@@ -70,10 +83,11 @@ fn bundle<'a>(alloc: Global, bytes: &'a [u8], depth: u8) -> Result<Packet<'a>, F
 
 /// The elements of a bundle, all of the bytes.
 #[cycle(nested)]
+#[inline(never)]
 fn elements<'a>(alloc: Global, bytes: &'a [u8], depth: u8) -> Result<Vec<Packet<'a>>, Fault>
     ensures { Gives (λ v. contents_of (map view v.items)) result (elements_by (packet_at depth) (length bytes.now) bytes.now) }
 {
-    let mut items = Vec::new(alloc);
+    let mut items = Vec::with_capacity(alloc, likely_count(bytes))?;
     let mut rest = bytes;
     while !rest.is_empty() {
         let (front, after) = element(rest)?;

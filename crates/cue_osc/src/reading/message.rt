@@ -1,11 +1,12 @@
 //! A message: an address, a type tag string, and one argument for each tag.
 
-ghost use Rattle.std.specs.Prelude.{◌≡◌, map};
+ghost use Rattle.std.specs.Prelude.{◌≡◌, ℕ, List, map};
 ghost use Rattle.std.specs.List.{list_all};
 ghost use Rattle.cue_osc.specs.Argument.{arg_view};
 ghost use Rattle.cue_osc.specs.Content.{view};
 ghost use Rattle.cue_osc.specs.Spelling.{is_known_tag};
 ghost use Rattle.cue_osc.specs.Reading.{Gives, all_args_at, behind_address, tagged_at, message_at};
+ghost use Rattle.cue_osc.specs.Understood.{message_with};
 
 use super::fields::{arg, string};
 use crate::fault::Fault;
@@ -35,10 +36,11 @@ fn all_args<'a>(alloc: Global, kinds: &[u8], bytes: &'a [u8]) -> Result<Vec<Arg<
     Ok(args)
 }
 
-/// What stands behind an address, beginning with a type tag string.
+/// The arguments of a message, beginning with its type tag string; None where a tag is not known.
 #[tactic(auto, unfolding(crate::specs::Reading::tagged_at))]
-fn tagged<'a>(alloc: Global, address: &'a [u8], bytes: &'a [u8]) -> Result<Packet<'a>, Fault>
-    ensures { Gives view result (tagged_at address.now bytes.now) }
+#[inline(never)]
+fn tagged<'a>(alloc: Global, bytes: &'a [u8]) -> Result<Option<Args<'a>>, Fault>
+    ensures { (address : List ℕ) → Gives (message_with address) result (tagged_at address bytes.now) }
 {
     let (tags, values) = string(bytes)?;
     let kinds = match tags {
@@ -46,17 +48,15 @@ fn tagged<'a>(alloc: Global, address: &'a [u8], bytes: &'a [u8]) -> Result<Packe
         [] => tags,
     };
     if !are_known(kinds) {
-        return Ok(Packet::Discarded { address });
+        return Ok(None);
     }
     let args = all_args(alloc, kinds, values)?;
-    Ok(Packet::Message(Message {
-        address,
-        args: Args::from_vec(args),
-    }))
+    Ok(Some(Args::from_vec(args)))
 }
 
-/// A message, all of the bytes.
+/// A message, all of the bytes. It is inlined where elements are read, so that it is made in its place.
 #[tactic(auto, unfolding(crate::specs::Reading::message_at, crate::specs::Reading::behind_address))]
+#[inline(always)]
 pub fn message<'a>(alloc: Global, bytes: &'a [u8]) -> Result<Packet<'a>, Fault>
     ensures { Gives view result (message_at bytes.now) }
 {
@@ -66,7 +66,10 @@ pub fn message<'a>(alloc: Global, bytes: &'a [u8]) -> Result<Packet<'a>, Fault>
             address,
             args: Args::from_vec(Vec::new(alloc)),
         })),
-        [b',', ..] => tagged(alloc, address, rest),
+        [b',', ..] => match tagged(alloc, rest)? {
+            Some(args) => Ok(Packet::Message(Message { address, args })),
+            None => Ok(Packet::Discarded { address }),
+        },
         _ => Ok(Packet::Discarded { address }),
     }
 }

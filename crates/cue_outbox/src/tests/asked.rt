@@ -2,7 +2,7 @@
 use super::{SHOW, Step, Wanted, event, expect_all, run};
 use crate::{numbers_asked, pending_of};
 use cue_core::State;
-use cue_exchange::attempt::Reason;
+use cue_exchange::Reason;
 use std::alloc::Global;
 use std::process::Abort;
 use std::test::Fail;

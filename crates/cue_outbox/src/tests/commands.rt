@@ -1,7 +1,7 @@
 //! The commands that the devices are still to answer.
 use super::{Step, Wanted, expect_pending};
 use cue_core::State;
-use cue_exchange::attempt::Reason;
+use cue_exchange::Reason;
 use std::test::Fail;
 
 const STANDBY_3: Wanted = (

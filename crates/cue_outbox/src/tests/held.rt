@@ -1,5 +1,6 @@
 //! Datagrams in a queue, and their bytes.
-use crate::{Bytes, Out, Queue};
+use crate::{Out, Queue};
+use cue_show::Bytes;
 use std::alloc::Global;
 use std::process::Abort;
 use std::test::Fail;

@@ -2,7 +2,7 @@
 use super::{apply, bytes, cue, device, expect};
 use crate::{Out, pending};
 use cue_core::{Event, State};
-use cue_exchange::attempt::Reason;
+use cue_exchange::Reason;
 use cue_show::{Part, Parts};
 use std::alloc::Global;
 use std::process::Abort;

@@ -1,7 +1,7 @@
 //! The status of a state.
 use super::{Step, expect_status};
 use cue_core::State;
-use cue_exchange::attempt::Reason;
+use cue_exchange::Reason;
 use std::test::Fail;
 
 // Events after the show, and what the status says then.

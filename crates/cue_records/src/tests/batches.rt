@@ -74,8 +74,6 @@ fn an_event_that_may_happen(rt: HostRuntime) -> Result<(), Fail> {
     let device = DeviceNo::of_byte(3).ok_or("a device number")?;
     let text = text_of(alloc, &State::empty(alloc), Event::Device(device, 9001))?;
     assert_eq!(rt; text.as_slice(), [0, 1, 1, 3, 0x23, 0x29].as_slice());
-    let text = Bytes::from_vec(text.into_vec());
-    assert_eq!(rt; text.as_slice().len(), 6);
     Ok(())
 }
 
@@ -117,6 +115,5 @@ fn events_out_of_range_are_measured(rt: HostRuntime) -> Result<(), Fail> {
     let cue = cue_show::CueNo::read(b"1").ok_or("a cue number")?;
     let batch = Batch::from_vec(vec![in alloc; Event::Cue(cue, parts)]?);
     assert_eq!(rt; batch_len(batch.as_slice()), 2 + 1 + 2 + 1 + 300 * 302);
-    assert_eq!(rt; batch.into_vec().len(), 1);
     Ok(())
 }

@@ -1,6 +1,6 @@
 //! Parts and lists of parts, with their limits.
 
-use crate::{DeviceNo, Part, PartBytes, Parts};
+use crate::{Bytes, DeviceNo, Part, Parts};
 use std::alloc::{AllocError, Global};
 use std::process::Abort;
 use std::test::Fail;
@@ -34,7 +34,7 @@ fn a_part_holds_its_bytes(rt: HostRuntime) -> Result<(), Fail> {
     assert!(rt; copy == first);
     assert!(rt; part(&rt, rt.alloc(), 4, &[10, 11]) != first);
     assert!(rt; part(&rt, rt.alloc(), 3, &[10]) != first);
-    let bytes = PartBytes::of(first.bytes.into_vec());
+    let bytes = Bytes::from_vec(first.bytes.into_vec());
     assert!(rt; bytes == copy.bytes);
     Ok(())
 }

@@ -81,13 +81,13 @@ fn a_pair_goes_on_after_a_turn_over(rt: HostRuntime) -> Result<(), Fail> {
 }
 
 // The pair is of this generation, with this base and so many records.
-fn has(rt: &impl Abort, pair: &OpenedPair<MemDisk>, generation: u64, base: &[u8], tail: u64) {
+fn has(rt: &impl Abort, pair: &Opened2<MemDisk>, generation: u64, base: &[u8], tail: u64) {
     assert_eq!(rt;
         (pair.snap.generation(), pair.snap.count()),
         (generation, tail)
     );
     assert_eq!(rt; pair.base.as_slice(), base);
-    assert_eq!(rt; pair.tail.as_slice().len() as u64, tail);
+    assert_eq!(rt; pair.tail.count(), tail);
 }
 
 #[test]
@@ -105,9 +105,7 @@ fn the_higher_generation_counts(rt: HostRuntime) -> Result<(), Fail> {
     );
 
     let pair = opened_bytes(alloc, &[], &APPENDED)?;
-    for record in pair.tail.as_slice() {
-        assert_eq!(rt; record.payload(), PAYLOAD.as_slice());
-    }
+    assert_eq!(rt; pair.tail.payloads().next(), Some(PAYLOAD.as_slice()));
     // Both disks come back in their order.
     holds(&rt, pair.snap, &[], &APPENDED);
     Ok(())

@@ -45,10 +45,10 @@ struct Want<'a> {
 }
 
 // The pair was opened as that.
-fn is(pair: &OpenedPair<MemDisk>, want: Want) -> bool {
+fn is(pair: &Opened2<MemDisk>, want: Want) -> bool {
     pair.snap.generation() == want.generation
         && pair.base.as_slice() == want.base
-        && pair.tail.as_slice().len() as u64 == want.tail
+        && pair.tail.count() == want.tail
 }
 
 // Whatever a crash leaves of two disks is opened as the one or as the other.

@@ -8,7 +8,7 @@ ghost use Rattle.cue_engine.specs.Runs.{took, recovered, given_at};
 ghost use Rattle.cue_engine.specs.Words.{state_of, queue_of, keeper_of};
 ghost use Rattle.cue_disk.specs.Memory.{memory_bytes};
 ghost use Rattle.cue_keeper.specs.Stands.{Stands};
-ghost use Rattle.cue_keeper.specs.Words.{is_broken};
+ghost use Rattle.cue_keeper.specs.Observed.{is_broken};
 ghost use Rattle.cuectl.specs.ScriptViews.{line_view};
 ghost use Rattle.cuectl.specs.Playing.{IsReady, IsAfter, Goes, EndsAt, EndsUnheard};
 ghost use Rattle.cuectl.specs.Script.{printed, Wrote};

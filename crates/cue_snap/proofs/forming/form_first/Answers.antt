@@ -4,7 +4,7 @@ use Rattle.cue_log.specs.Area.{fresh}
 use Rattle.cue_log.specs.Log.{IsNoneOr, IsOldOrAbsent}
 use Rattle.cue_snap.proofs.Barrier.{old_absent}
 use Rattle.cue_log.specs.Area.{body_text}
-use Rattle.cue_log.specs.Words.{disk_of}
+use Rattle.cue_log.specs.Observed.{disk_of}
 use Rattle.std.proofs.Common.{[], ◌∷◌, ◌++◌}
 use Rattle.cue_snap.proofs.Anew.{over_closed, at_made}
 use Rattle.cue_snap.proofs.forming.form_first.Goals as goal

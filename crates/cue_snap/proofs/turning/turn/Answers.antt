@@ -1,5 +1,5 @@
 use Rattle.cue_log.specs.Area.{body_text}
-use Rattle.cue_log.specs.Words.{disk_of}
+use Rattle.cue_log.specs.Observed.{disk_of}
 use Rattle.std.proofs.Common.{[], ◌∷◌, ◌++◌}
 use Rattle.cue_log.proofs.Settled.{if_ok}
 use Rattle.cue_snap.proofs.Anew.{over_closed}

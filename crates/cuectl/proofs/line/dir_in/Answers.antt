@@ -4,8 +4,8 @@ use Rattle.clap.specs.Words.{found_of}
 use Rattle.clap.proofs.WalkLemmas.{first_value-rows}
 use Rattle.cuectl.proofs.line.dir_in.Goals as goal
 
-pub returns-in_ok-from_str-in-Some : goal.returns-in_ok-from_str-in-Some
-returns-in_ok-from_str-in-Some c =
+pub returns-in_ok-from_str-in-Some-clause-dir : goal.returns-in_ok-from_str-in-Some-clause-dir
+returns-in_ok-from_str-in-Some-clause-dir c =
     let read : option_map (λ s. s.now) c.get_str.result ≡ _ = c.get_str.ensures in
     let found : Some c.in-Some.dir.now ≡ _ = ap (option_map (λ s. s.now)) (sym c.in-Some.is) ∙ read in
     sym (found ∙ first_value-rows (found_of c.args.found.now) (codes "DIR")) ∙ ap Some (sym c.in_ok-from_str-in-Some.ensures.ok)

@@ -1,7 +1,7 @@
 use Rattle.std.proofs.Common.{ℕ, refl, inl}
 use Rattle.cue_core.specs.Steps.{folded}
 use Rattle.cue_keeper.specs.Stands.{StandsAs}
-use Rattle.cue_keeper.specs.Words as kept
+use Rattle.cue_keeper.specs.Observed as kept
 use Rattle.cue_engine.specs.declared.taken.Taken.{Taken}
 use Rattle.cue_engine.specs.Given.{given}
 use Rattle.cue_engine.specs.Inputs.{input_view}

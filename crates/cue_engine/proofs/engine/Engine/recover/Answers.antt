@@ -1,13 +1,13 @@
 use Rattle.std.proofs.Common.{inl}
-use Rattle.cue_disk.specs.Disk.{IsImage, LeavesOnly}
-use Rattle.cue_snap.specs.Words.{first_after, second_after}
+use Rattle.cue_disk.specs.Disk.{IsImage, LeavesAtEachMoment}
+use Rattle.cue_snap.specs.Observed.{first_after, second_after}
 use Rattle.cue_snap.proofs.Barrier.{entry_pairs}
 use Rattle.cue_keeper.specs.declared.fault.StoreFault.TheVariants as fault
 use Rattle.cue_keeper.specs.Stands.{StandsEither}
-use Rattle.cue_keeper.specs.Words as kept
+use Rattle.cue_keeper.specs.Observed as kept
 use Rattle.cue_keeper.proofs.Moving.{opened_then, leaves_weaker}
 use Rattle.cue_keeper.proofs.Refused.{is_opened}
-use Rattle.cue_engine.specs.Given.{closed}
+use Rattle.cue_core.specs.Batches.{closed}
 use Rattle.cue_engine.specs.Recovery.{IsLeftOrStands}
 use Rattle.cue_engine.specs.Words.{first_of, second_of}
 use Rattle.cue_engine.proofs.Reopened.{left_or_stands, unwritten}
@@ -33,7 +33,7 @@ returns-in-Ok-clause-unwritten g c = λ first second.
     let d = g.D.Disk in
     let a = c.args.first in
     let b = c.args.second in
-    unwritten fault.Disk first_of second_of (λ new. LeavesOnly d.moment d.held_at a new (IsImage (d.held a))) (λ new. LeavesOnly d.moment d.held_at b new (IsImage (d.held b)))
+    unwritten fault.Disk first_of second_of (λ new. LeavesAtEachMoment d.moment d.held_at a new (IsImage (d.held a))) (λ new. LeavesAtEachMoment d.moment d.held_at b new (IsImage (d.held b)))
     (kept.first_of c.in-Ok.keeper) (kept.second_of c.in-Ok.keeper) c.close_opened.result c.close_opened.ensures.unwritten (c.in-Ok.ensures.first_moments first) (c.in-Ok.ensures.second_moments second)
 
 pub returns-in-Err-clause-readable : goal.returns-in-Err-clause-readable

@@ -1,5 +1,5 @@
 use Rattle.std.proofs.Common.{Err, ap}
-use Rattle.cue_keeper.specs.Words.{state_of, first_of, second_of, generation_of, count_of, end_of}
+use Rattle.cue_keeper.specs.Observed.{state_of, first_of, second_of, generation_of, count_of, end_of}
 use Rattle.cue_engine.proofs.Reopened.{no_generation, no_room}
 use Rattle.cue_engine.proofs.engine.opening.close_opened.Goals as goal
 

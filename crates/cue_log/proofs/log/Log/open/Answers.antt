@@ -23,15 +23,15 @@ settled-requires-clause-counted g c = λ honest1.
     let counted = counted_on (g.D.Disk.held c.read_area.new.disk) area there in
     record {
       same_generation = counted.same_generation;
-      same_count = omega (arith, c.len-count.ensures, counted.same_count, c.in-Ok.parts.records.ok);
+      same_count = omega (arith, c.count-count.ensures, counted.same_count);
     }
 
 pub returns-in-Ok-clause-reads : goal.returns-in-Ok-clause-reads
 returns-in-Ok-clause-reads g c = λ honest image left.
     let area = parts_area c.in-Ok.parts in
     let there = subst (λ (l : List ℕ). IsArea area l) (sym (c.read_area.ensures.bytes honest)) (c.in-Ok.ensures.stood honest) in
-    let same : area_read record { log = c.settled.result; snapshot = c.from_vec.result; records = c.from_vec-in-Ok.result } ≡ area =
-    λ i. record { generation = c.settled.ensures.numbers.0 i; snapshot = c.from_vec.ensures i; payloads = c.from_vec-in-Ok.ensures i } in
+    let same : area_read record { log = c.settled.result; snapshot = c.from_vec.result; records = c.in-Ok.parts.records } ≡ area =
+    λ i. record { generation = c.settled.ensures.numbers.0 i; snapshot = c.from_vec.ensures i; payloads = c.in-Ok.parts.records } in
     subst (λ (a : Area). IsArea a image) (sym same)
     (stable_reads (g.D.Disk.held c.read_area.new.disk) area there (c.in-Ok.ensures.stable honest) image
     (subst (λ (d : _). IsImage (g.D.Disk.held d) image) c.settled.ensures.disk left))
@@ -40,6 +40,6 @@ pub returns-in-Ok-clause-area : goal.returns-in-Ok-clause-area
 returns-in-Ok-clause-area g c = λ honest.
     let area = parts_area c.in-Ok.parts in
     let there = subst (λ (l : List ℕ). IsArea area l) (sym (c.read_area.ensures.bytes honest)) (c.in-Ok.ensures.stood honest) in
-    let same : area_read record { log = c.settled.result; snapshot = c.from_vec.result; records = c.from_vec-in-Ok.result } ≡ area =
-    λ i. record { generation = c.settled.ensures.numbers.0 i; snapshot = c.from_vec.ensures i; payloads = c.from_vec-in-Ok.ensures i } in
+    let same : area_read record { log = c.settled.result; snapshot = c.from_vec.result; records = c.in-Ok.parts.records } ≡ area =
+    λ i. record { generation = c.settled.ensures.numbers.0 i; snapshot = c.from_vec.ensures i; payloads = c.in-Ok.parts.records } in
     ap (λ (d : _). area_in (g.D.Disk.held d).bytes) c.settled.ensures.disk ∙ area_in_is area (g.D.Disk.held c.read_area.new.disk).bytes there ∙ sym same

@@ -38,7 +38,7 @@ bundle-returns t c =
 
 pub elements-returns-in_err-front : goal.elements-returns-in_err-front
 elements-returns-in_err-front t c =
-    let p = err_from_is_err_and c.from_residual.result c.from_residual.ensures.1 in
+    let p = err_from_is_err_and c.from_residual-in_err-front.result c.from_residual-in_err-front.ensures.1 in
     let ne = eqb-false (length c.loop-rest.rest.now) 0 (sym c.is_empty.ensures ∙ c.loop-rest-test.true) in
     let some : 0 < length c.loop-rest.rest.now = omega (arith, ne) in
     rw (p.1, p.2) (element_cut c.in_err-front.field-0.0 (packet_at c.args.depth) (map view c.loop-rest.items.items) c.loop-rest.rest.now (elements_by (packet_at c.args.depth) (length c.args.bytes.now) c.args.bytes.now) some c.in_err-front.ensures c.loop-rest.invariant)

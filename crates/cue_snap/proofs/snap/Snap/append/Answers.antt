@@ -1,7 +1,7 @@
 use Rattle.std.proofs.Common.{inl}
 use Rattle.cue_disk.proofs.Moments.{started, weaker}
 use Rattle.cue_log.specs.Area.{with_payload}
-use Rattle.cue_log.specs.Words as log
+use Rattle.cue_log.specs.Observed as log
 use Rattle.cue_log.specs.Log.{IsEither}
 use Rattle.cue_snap.specs.Pair.{PairIsEither}
 use Rattle.cue_snap.proofs.Pairs.{older_of, either_reads}

@@ -2,7 +2,7 @@ use Rattle.std.proofs.Common.{inl}
 use Rattle.cue_disk.proofs.Moments.{weaker}
 use Rattle.cue_log.specs.Area.{fresh}
 use Rattle.cue_log.specs.Log.{IsNoneOr}
-use Rattle.cue_log.specs.Words.{disk_of}
+use Rattle.cue_log.specs.Observed.{disk_of}
 use Rattle.cue_snap.specs.Pair.{IsUnformedOr}
 use Rattle.cue_snap.proofs.Barrier.{entry_pairs, barrier_runs, formed_pair}
 use Rattle.cue_snap.proofs.snap.Snap.form.Goals as goal

@@ -1,8 +1,8 @@
 use Rattle.std.proofs.Common.{◌≡◌, ◌+◌, ◌<◌, ℕ, inl, sym, subst, arith}
 use Rattle.cue_disk.proofs.Moments.{started, weaker}
-use Rattle.cue_disk.specs.Disk.{LeavesOnly}
+use Rattle.cue_disk.specs.Disk.{LeavesAtEachMoment}
 use Rattle.cue_log.specs.Area.{fresh}
-use Rattle.cue_log.specs.Words as log
+use Rattle.cue_log.specs.Observed as log
 use Rattle.cue_snap.specs.Pair.{PairIsEither, LeavesOlder, IsOldOrNew}
 use Rattle.cue_snap.proofs.Pairs.{turn_reads, area_leaves_older}
 use Rattle.cue_snap.proofs.snap.Snap.turn_over.Goals as goal
@@ -27,7 +27,7 @@ returns-in-Err-clause-any_moment g c = λ live spare works x left.
     weaker g.D.Disk.moment g.D.Disk.held_at pair.spare c.turn.new.spare (IsOldOrNew held (fresh (generation + 1) c.args.snapshot.now))
     (PairIsEither area (fresh (generation + 1) c.args.snapshot.now) x)
     (λ y is. turn_reads held area generation c.args.snapshot.now x y (pair.numbered live works) (pair.reads live works x left) (pair.older spare works) is)
-    (subst (λ (n : ℕ). LeavesOnly g.D.Disk.moment g.D.Disk.held_at pair.spare c.turn.new.spare (IsOldOrNew held (fresh n c.args.snapshot.now))) next (c.in-Err.ensures.any_moment spare))
+    (subst (λ (n : ℕ). LeavesAtEachMoment g.D.Disk.moment g.D.Disk.held_at pair.spare c.turn.new.spare (IsOldOrNew held (fresh n c.args.snapshot.now))) next (c.in-Err.ensures.any_moment spare))
 
 pub returns-clause-any_moment : goal.returns-clause-any_moment
 returns-clause-any_moment g c = λ live spare works x left.
@@ -39,7 +39,7 @@ returns-clause-any_moment g c = λ live spare works x left.
     weaker g.D.Disk.moment g.D.Disk.held_at pair.spare (log.disk_of c.turn.new.log) (IsOldOrNew held (fresh (generation + 1) c.args.snapshot.now))
     (PairIsEither area (fresh (generation + 1) c.args.snapshot.now) x)
     (λ y is. turn_reads held area generation c.args.snapshot.now x y (pair.numbered live works) (pair.reads live works x left) (pair.older spare works) is)
-    (subst (λ (n : ℕ). LeavesOnly g.D.Disk.moment g.D.Disk.held_at pair.spare (log.disk_of c.turn.new.log) (IsOldOrNew held (fresh n c.args.snapshot.now))) next (c.in_default-turn.ensures.any_moment spare))
+    (subst (λ (n : ℕ). LeavesAtEachMoment g.D.Disk.moment g.D.Disk.held_at pair.spare (log.disk_of c.turn.new.log) (IsOldOrNew held (fresh n c.args.snapshot.now))) next (c.in_default-turn.ensures.any_moment spare))
 
 -- the area that was live is older than the new one
 pub invariant_of-self-2-clause-older : goal.invariant_of-self-2-clause-older

@@ -1,0 +1,40 @@
+-- Commands that are judged in turn.
+use Rattle.std.proofs.Common.{◌≡◌, ℕ, List, [], ◌∷◌, ◌++◌, IsTrue, refl, sym, ◌∙◌, ap}
+use Rattle.std.specs.List.{list_all}
+use Rattle.cue_core.specs.declared.event.Event.{Event}
+use Rattle.cue_core.specs.declared.command.Command.{Command}
+use Rattle.cue_core.specs.State.{ShowState}
+use Rattle.cue_core.specs.Steps.{folded}
+use Rattle.cue_core.specs.Judge.{judged, is_fit}
+use Rattle.cue_core.specs.History.{state_of}
+use Rattle.cue_core.specs.Happenings.{Happening, commanded, history_of, onto}
+use Rattle.cue_core.specs.InTurn.{step_of, steps, events_of, StepsAreAcceptable, StepsGoOn, StepsMakeHistories}
+use Rattle.cue_core.proofs.Conditions.{both}
+use Rattle.cue_core.proofs.Judged.{judged-acceptable}
+use Rattle.cue_core.proofs.Folding.{folded-append}
+use Rattle.cue_core.proofs.Batches.{acceptable-append, is_state-folded, state-onto, onto-append}
+
+pub steps-acceptable : StepsAreAcceptable
+steps-acceptable s now from [] h f = refl
+steps-acceptable s now from (c ∷ cs) h f =
+    let w = both (is_fit c) (list_all is_fit cs) f in
+    let made : List Event = (judged s now from c).1 in
+    let ok = judged-acceptable s now from c h w.0 in
+    acceptable-append s made (events_of (steps (folded s made) now from cs)) ok (steps-acceptable (folded s made) now from cs (is_state-folded s made h ok) w.1)
+
+pub steps-go-on : StepsGoOn
+steps-go-on s now from [] others = refl
+steps-go-on s now from (c ∷ cs) others =
+    let made : List Event = (judged s now from c).1 in
+    ap (λ xs. step_of s now from c ∷ xs)
+    (steps-go-on (folded s made) now from cs others
+    ∙ ap (λ t. steps (folded s made) now from cs ++ steps t now from others) (sym (folded-append s made (events_of (steps (folded s made) now from cs)))))
+
+pub steps-make-histories : StepsMakeHistories
+steps-make-histories before now from [] = refl
+steps-make-histories before now from (c ∷ cs) =
+    let past : List Event = history_of before in
+    let made : List Event = (judged (state_of past) now from c).1 in
+    steps-make-histories (commanded now from c ∷ before) now from cs
+    ∙ (ap (λ s. onto (events_of (steps s now from cs)) (onto made past)) (state-onto past made)
+    ∙ sym (onto-append made (events_of (steps (folded (state_of past) made) now from cs)) past))

@@ -1,0 +1,5 @@
+use Rattle.cue_core.proofs.InTurn.{steps-go-on}
+use Rattle.cue_core.proofs.laws.steps_go_on.Goals as goal
+
+pub returns : goal.returns
+returns c = steps-go-on

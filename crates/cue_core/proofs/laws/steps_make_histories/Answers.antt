@@ -1,0 +1,5 @@
+use Rattle.cue_core.proofs.InTurn.{steps-make-histories}
+use Rattle.cue_core.proofs.laws.steps_make_histories.Goals as goal
+
+pub returns : goal.returns
+returns c = steps-make-histories

@@ -1,0 +1,54 @@
+// What a log tells of itself. None of it makes a device call.
+use super::Log;
+use crate::area::AREA_LIMIT;
+use crate::record::Record;
+use cue_disk::Disk;
+
+impl<D: Disk> Log<D> {
+    ghost use Rattle.std.specs.Prelude.{◌≡◌, ◌≤◌, ◌+◌, ◌↔◌, false, length, IsTrue};
+    ghost use Rattle.cue_log.specs.Area.{area_text};
+    ghost use Rattle.cue_log.specs.Log.{ReadsAs};
+    ghost use Rattle.cue_log.specs.Observed.{disk_of, generation_of, end_of, count_of, is_broken, area_of};
+
+    /// Whether the area's text would stay within `AREA_LIMIT` with this record.
+    pub fn has_room(&self, added: &Record) -> bool
+        ensures { IsTrue result ↔ (end_of self.now + 6 + length added.now ≤ AREA_LIMIT) }
+    {
+        self.end + 1 + added.framed().len() as u64 <= AREA_LIMIT
+    }
+
+    /// The generation that the area was formed with.
+    pub fn generation(&self) -> u64
+        ensures number { result ≡ generation_of self.now }
+        ensures area { D.is_honest (disk_of self.now) → is_broken self.now ≡ false → result ≡ (area_of D.held self.now).generation }
+    {
+        self.generation
+    }
+
+    /// How many records the area has.
+    pub fn count(&self) -> u64
+        ensures number { result ≡ count_of self.now }
+        ensures area { D.is_honest (disk_of self.now) → is_broken self.now ≡ false → result ≡ length (area_of D.held self.now).payloads }
+    {
+        self.count
+    }
+
+    /// Whether a device call has failed: every `append` is then refused, until the area is opened again.
+    pub fn is_broken(&self) -> bool
+        ensures broken { result ≡ is_broken self.now }
+        // A log that is not broken reads as its area, whatever a stop leaves.
+        ensures reads { D.is_honest (disk_of self.now) → is_broken self.now ≡ false → ReadsAs (D.held (disk_of self.now)) (area_of D.held self.now) }
+        ensures ends { D.is_honest (disk_of self.now) → is_broken self.now ≡ false → end_of self.now ≡ length (area_text (area_of D.held self.now)) }
+    {
+        self.broken
+    }
+
+    /// Gives the disk back, as it is. It makes no device call.
+    pub fn retire(self) -> D
+        ensures disk { result ≡ disk_of self }
+        ensures reads { D.is_honest (disk_of self) → is_broken self ≡ false → ReadsAs (D.held result) (area_of D.held self) }
+    {
+        let Log { disk, .. } = self;
+        disk
+    }
+}

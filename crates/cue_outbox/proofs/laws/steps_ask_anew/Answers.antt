@@ -1,0 +1,5 @@
+use Rattle.cue_outbox.proofs.Newly.{steps-ask-anew}
+use Rattle.cue_outbox.proofs.laws.steps_ask_anew.Goals as goal
+
+pub returns : goal.returns
+returns c = steps-ask-anew

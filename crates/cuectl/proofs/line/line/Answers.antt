@@ -1,0 +1,25 @@
+use Rattle.std.proofs.Common.{◌≡◌, ◌∙◌, List, [], Option, ap, sym, subst, refl, true, ◌⊎◌}
+use Rattle.std.specs.Prelude.{map, string_bytes}
+use Rattle.clap.specs.Words.{App, Text, IsAmong, app_of, fault_of, kind_of, is_simple_and_free}
+use Rattle.clap.specs.declared.error.kind.ErrorKind.TheVariants.{OutOfMemory}
+use Rattle.clap.proofs.OnLiterals.{clap_on_literals}
+use Rattle.cuectl.specs.Lines.{cuectl_app}
+use Rattle.cuectl.proofs.LineLemmas.{on_ok, asks}
+use Rattle.cuectl.proofs.line.line.Goals as goal
+
+is_plain : is_simple_and_free cuectl_app ≡ true
+unfolding clap_on_literals
+is_plain = refl
+
+pub returns-in-Some-clause-taken : goal.returns-in-Some-clause-taken
+returns-in-Some-clause-taken c =
+    let is : app_of c.in_ok-command.command ≡ cuectl_app = c.in_ok-command.ensures in
+    let none = c.in-Ok.ensures.kinds (ap is_simple_and_free is ∙ is_plain) in
+    on_ok c.line_in.result (ap (λ (a : App). fault_of a (map string_bytes c.args.words.now)) (sym is) ∙ none)
+
+pub returns-clause-help : goal.returns-clause-help
+returns-clause-help c =
+    let is : app_of c.in_ok-command.command ≡ cuectl_app = c.in_ok-command.ensures in
+    let has = c.in-Err.ensures.kinds (ap is_simple_and_free is ∙ is_plain) in
+    asks (fault_of cuectl_app (map string_bytes c.args.words.now)) (kind_of c.in-Err.error) c.fault_of.result c.fault_of.ensures
+    (subst (λ (a : App). (kind_of c.in-Err.error ≡ OutOfMemory) ⊎ IsAmong (kind_of c.in-Err.error) (fault_of a (map string_bytes c.args.words.now))) is has)

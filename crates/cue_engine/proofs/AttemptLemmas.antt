@@ -1,11 +1,11 @@
 -- What an attempt may count on, out of the laws on histories.
 use Rattle.std.proofs.Common.{◌≡◌, ℕ, ◌+◌, ◌<◌, Bool, true, false, not, ◌&&◌, ◌||◌, List, [], ◌∷◌, ◌++◌, nat_eq, refl, sym, ap, ◌∙◌, subst, arith, true≢false, IsTrue}
 use Rattle.std.proofs.lemmas.Bool.Decides.{nat_tests}
-use Rattle.std.specs.List.{AllByRecursion, list_any, list_all}
+use Rattle.std.specs.List.{list_any, list_all}
 use Rattle.cue_core.specs.declared.event.Event.{Event}
 use Rattle.cue_core.specs.declared.event.Event.TheVariants as event
 use Rattle.cue_core.specs.Events.{is_start_of, is_ready_of, is_go_of, is_cancel_of, is_about}
-use Rattle.cue_core.specs.State.{ShowState, empty_state}
+use Rattle.cue_core.specs.State.{ShowState}
 use Rattle.cue_core.specs.Steps.{acceptable, folded}
 use Rattle.cue_core.specs.History.{state_of, is_history, devices_by, stood_by}
 use Rattle.cue_core.specs.InOrder.{keeps_order, is_in_order}
@@ -19,8 +19,9 @@ use Rattle.cue_outbox.specs.Sending.{Send, order, all_pending}
 use Rattle.cue_engine.specs.Given.{Given}
 use Rattle.cue_engine.specs.Runs.{Happening, run, joined, given_at, with_batch}
 use Rattle.cue_engine.specs.Attempts.{accepted, IsDecidedInOrder, DecidedInOrder, NumberNamesOne, is_command, was_sent, NeverSentBoth}
-use Rattle.cue_engine.proofs.Truth.{or_left, or_right, either, itself, same, any-append, any-mapped, all_implied}
-use Rattle.cue_engine.proofs.Histories.{state-onto, onto-append, inputs_make_histories, inputs_in_order}
+use Rattle.cue_core.proofs.Truth.{or_left, or_right, either, itself, same, any-append, any-mapped, all_implied}
+use Rattle.cue_engine.proofs.Histories.{inputs_make_histories, inputs_in_order}
+use Rattle.cue_core.proofs.Batches.{state-onto, onto-append}
 use Rattle.cue_engine.proofs.Resting.{joined-with}
 use Rattle.cue_engine.proofs.SentLemmas.{Each, HoldsElsewhere, happening-each}
 
@@ -229,10 +230,10 @@ asked_before test past (x ∷ hs) h =
     let next : ShowState = folded (state_of past) g.batch in
     let p : ℕ × Send → Bool = λ m. is_command test m.1 in
     let P : ShowState → Type 0 = λ s. list_any p (run s hs).sends ≡ true → ever (asks test) (onto (joined (run s hs).batches) (onto g.batch past)) ≡ true in
-    let rest : P next = subst P (state-onto g.batch past) (asked_before test (onto g.batch past) hs) in
+    let rest : P next = subst P (state-onto past g.batch) (asked_before test (onto g.batch past) hs) in
     let Q : ShowState → Type 0 = λ s. asks test s ≡ true in
     let first : list_any p g.sends ≡ true → ever (asks test) (onto (joined (run next hs).batches) (onto g.batch past)) ≡ true =
-    λ k. ever_onto (asks test) (joined (run next hs).batches) (onto g.batch past) (ever_now (asks test) (onto g.batch past) (subst Q (sym (state-onto g.batch past)) (sent_asks test (state_of past) x k))) in
+    λ k. ever_onto (asks test) (joined (run next hs).batches) (onto g.batch past) (ever_now (asks test) (onto g.batch past) (subst Q (sym (state-onto past g.batch)) (sent_asks test (state_of past) x k))) in
     let R : List Event → Type 0 = λ xs. ever (asks test) xs ≡ true in
     let split : onto (joined (run next hs).batches) (onto g.batch past) ≡ onto (joined (with_batch g.batch (run next hs).batches)) past =
     sym (onto-append g.batch (joined (run next hs).batches) past) ∙ ap (λ xs. onto xs past) (sym (joined-with g.batch (run next hs).batches)) in

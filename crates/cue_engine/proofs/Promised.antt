@@ -1,5 +1,5 @@
 -- Whatever happens to a store, whole batches are kept, and what was handed over rests on them.
-use Rattle.std.proofs.Common.{◌≡◌, ◌⊎◌, inl, inr, ℕ, zero, suc, Bool, true, false, ◌&&◌, List, [], ◌∷◌, ◌++◌, take, refl, sym, ap, ◌∙◌, subst, append_assoc, append-nil, IsTrue}
+use Rattle.std.proofs.Common.{◌≡◌, ◌⊎◌, inl, inr, ℕ, zero, suc, Bool, true, List, [], ◌∷◌, ◌++◌, take, refl, sym, ap, ◌∙◌, subst, append_assoc, append-nil, IsTrue}
 use Rattle.std.specs.List.{AllByRecursion, list_all}
 use Rattle.cue_core.specs.declared.event.Event.{Event}
 use Rattle.cue_core.specs.State.{ShowState, is_state}
@@ -9,13 +9,15 @@ use Rattle.cue_core.proofs.Folding.{folded-append}
 use Rattle.cue_keeper.specs.Stands.{Stands, StandsEither}
 use Rattle.cue_keeper.proofs.Standing.{one_state}
 use Rattle.cue_outbox.specs.Sending.{Send, all_pending}
-use Rattle.cue_engine.specs.Given.{Input, given, given_recovery, closed}
+use Rattle.cue_engine.specs.Given.{Input, given, given_recovery}
+use Rattle.cue_core.specs.Batches.{closed}
 use Rattle.cue_engine.specs.Runs.{took, with_batch, joined, rests}
 use Rattle.cue_engine.specs.Runs as runs
-use Rattle.cue_engine.specs.Headline.{Incident, taken, handed_out, stopped, stopped_in_take, recovered, stopped_in_recovery, Store, running, at_rest, begun, LeavesClosing, Permits, left_by, Happens, left_by_all, owed_by, handed_in, all_handed, batch_of, is_cut_off, AreKept, StandsAt, CameTo, WhateverHappens, IsPromised, RecoveryGivesAPrefix}
-use Rattle.cue_engine.proofs.Truth.{all-append, all_implied}
+use Rattle.cue_engine.specs.Headline.{Incident, taken, handed_out, stopped, stopped_in_take, recovered, stopped_in_recovery, Store, running, at_rest, begun, Permits, left_by, Happens, left_by_all, owed_by, handed_in, all_handed, batch_of, is_cut_off, AreKept, StandsAt, WhateverHappens, RecoveryGivesAPrefix}
+use Rattle.cue_core.proofs.Truth.{all-append, all_implied}
 use Rattle.cue_engine.proofs.Resting.{more, earlier, input_rests, all_pending_rest, joined-with}
-use Rattle.cue_engine.proofs.Histories.{state-folded, input-ok, happening-ok}
+use Rattle.cue_engine.proofs.Histories.{input-ok, happening-ok}
+use Rattle.cue_core.proofs.Batches.{is_state-folded}
 use Rattle.cue_engine.proofs.SentLemmas.{Each}
 use Rattle.cue_engine.proofs.BytesLemmas.{IsReadable, pending_readable, given_readable, all_say}
 use Rattle.cue_outbox.proofs.Lists.{each_append}
@@ -64,7 +66,7 @@ handed_readable store (stopped_in_recovery x y) h = tt
 
 -- the rules of a state hold after an acceptable batch
 rules_after : (s : ShowState) (es batch : List Event) → IsTrue (is_state (folded s es)) → IsTrue (are_acceptable (folded s es) batch) → IsTrue (is_state (folded s (es ++ batch)))
-rules_after s es batch h ok = let P : ShowState → Type 0 = λ t. IsTrue (is_state t) in subst P (sym (folded-append s es batch)) (state-folded (folded s es) batch h ok)
+rules_after s es batch h ok = let P : ShowState → Type 0 = λ t. IsTrue (is_state t) in subst P (sym (folded-append s es batch)) (is_state-folded (folded s es) batch h ok)
 
 -- ---- one incident
 
@@ -118,7 +120,7 @@ goes_recovered s es x y rules =
     inl (record {
       stands = sym (folded-append s es batch);
       owed = all_earlier s es batch (all_pending (closed (folded s es))) (all_pending_rest (folded s es) batch);
-      readable = pending_readable (closed (folded s es)) (state-folded (folded s es) batch rules ok);
+      readable = pending_readable (closed (folded s es)) (is_state-folded (folded s es) batch rules ok);
       rules = rules_after s es batch rules ok;
     })
 

@@ -8,7 +8,7 @@ use Rattle.cue_core.specs.State.{ShowState}
 use Rattle.cue_records.specs.State.{state_text}
 use Rattle.cue_keeper.specs.Due.{is_due}
 use Rattle.cue_keeper.specs.Stands.{Stands, StandsEither, IsKept}
-use Rattle.cue_engine.specs.Given.{closed}
+use Rattle.cue_core.specs.Batches.{closed}
 use Rattle.cue_engine.specs.Recovery.{IsLeftOrStands, NeedsArea, NoGenerationLeft, NoRoomLeft, RefusedBut, cancels_length}
 
 -- ---- what a crash leaves

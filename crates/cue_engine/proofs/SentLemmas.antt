@@ -1,19 +1,19 @@
 -- What holds of answers, of status and of all that is pending holds of all that is sent.
-use Rattle.std.proofs.Common.{◌≡◌, ℕ, Bool, true, false, not, cond, List, [], ◌∷◌, ◌++◌, Result, Ok, Err, map, filter, if◌then◌else◌, refl, sym, subst}
-use Rattle.std.specs.List.{AllByRecursion, list_any, list_all}
-use Rattle.cue_core.specs.declared.event.Event.{Event}
+use Rattle.std.proofs.Common.{ℕ, Bool, true, false, cond, List, [], ◌∷◌, ◌++◌, Result, Ok, Err, filter, if◌then◌else◌}
+use Rattle.std.specs.List.{AllByRecursion}
 use Rattle.cue_core.specs.declared.command.Command.{Command}
 use Rattle.cue_core.specs.declared.command.Command.TheVariants as command
 use Rattle.cue_core.specs.State.{ShowState}
 use Rattle.cue_core.specs.Steps.{folded}
-use Rattle.cue_core.specs.Happenings.{ticked, events_at}
 use Rattle.cue_osc.specs.Content.{Content}
-use Rattle.cue_outbox.specs.Sending.{Send, order, answer, status, status_of, all_pending, datagrams}
+use Rattle.cue_outbox.specs.Sending.{Send, answer, status, status_of, all_pending, datagrams}
 use Rattle.cue_outbox.proofs.Lists.{each_append, each_flat, each_map}
 use Rattle.cue_core.specs.declared.refusal.Refusal.{Refusal}
 use Rattle.cue_core.specs.declared.refusal.Refusal.TheVariants as refusal
-use Rattle.cue_engine.specs.Heard.{Step, Heard, refused, carried, all_counts, hear_all, all_events, replies_to, replies_or_one, shown_by, sent_to}
-use Rattle.cue_engine.specs.Given.{Input, datagram, tick, Given, given, given_by, given_heard, given_refused, are_too_many, messages_in, closed}
+use Rattle.cue_engine.specs.Heard.{Heard, refused, carried, all_counts, hear_all, all_events, replies_to, replies_or_one, shown_by, sent_to}
+use Rattle.cue_core.specs.InTurn.{Step}
+use Rattle.cue_engine.specs.Given.{Input, datagram, tick, Given, given, given_by, given_heard, given_refused, are_too_many, messages_in}
+use Rattle.cue_core.specs.Batches.{closed}
 use Rattle.cue_outbox.specs.New.{newly_pending, is_new}
 use Rattle.cue_engine.specs.Runs.{Happening, took, given_at}
 use Rattle.cue_engine.specs.Runs as runs

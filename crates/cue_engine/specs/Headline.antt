@@ -10,7 +10,8 @@ use Rattle.cue_core.specs.State.{ShowState, is_state}
 use Rattle.cue_core.specs.Steps.{folded}
 use Rattle.cue_keeper.specs.Stands.{Stands, StandsEither}
 use Rattle.cue_outbox.specs.Sending.{Send, all_pending, datagrams}
-use Rattle.cue_engine.specs.Given.{Input, given, given_recovery, closed}
+use Rattle.cue_engine.specs.Given.{Input, given, given_recovery}
+use Rattle.cue_core.specs.Batches.{closed}
 use Rattle.cue_engine.specs.Recovery.{ClosedFrom}
 use Rattle.cue_engine.specs.Runs.{with_batch, joined, rests}
 use Rattle.cue_engine.specs.InBytes.{BytesRest}

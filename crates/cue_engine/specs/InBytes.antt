@@ -8,7 +8,8 @@ use Rattle.cue_core.specs.declared.event.Event.{Event}
 use Rattle.cue_core.specs.Events.{is_go_of, is_start_of}
 use Rattle.cue_core.specs.State.{ShowState, is_state}
 use Rattle.cue_outbox.specs.Sending.{number, datagrams}
-use Rattle.cue_engine.specs.Runs.{Happening, run, joined, is_live_in, is_decided_in}
+use Rattle.cue_engine.specs.Runs.{Happening, run, joined}
+use Rattle.cue_core.specs.Batches.{is_live_in, is_decided_in}
 
 -- the bytes are read as a message to this address about the attempt with this number
 abbrev pub AreReadAs : List ℕ → List ℕ → ℕ → Type 0

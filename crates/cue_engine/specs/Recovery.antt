@@ -10,7 +10,7 @@ use Rattle.cue_records.specs.Batch.{batch_text}
 use Rattle.cue_records.specs.State.{state_text}
 use Rattle.cue_keeper.specs.Due.{is_due}
 use Rattle.cue_keeper.specs.Stands.{StandsFor, Stands, StandsEither}
-use Rattle.cue_engine.specs.Given.{closed}
+use Rattle.cue_core.specs.Batches.{closed}
 
 -- The two stand for a state, and closed it is this one.
 pub record ClosedFrom (x y : List ℕ) (s : ShowState) : Type 0 where

@@ -9,7 +9,7 @@ ghost use Rattle.cue_keeper.specs.Pairs.{LeavesPairsAtEachMoment};
 ghost use Rattle.cue_keeper.specs.Stands.{StandsEither, StandsAs};
 ghost use Rattle.cue_keeper.specs.Observed.{state_of, pair_of, first_of, second_of, is_broken, generation_of, is_due};
 ghost use Rattle.cue_outbox.specs.Sending.{datagrams, all_pending};
-ghost use Rattle.cue_engine.specs.Given.{closed};
+ghost use Rattle.cue_core.specs.Batches.{closed};
 ghost use Rattle.cue_engine.specs.Recovery.{cancels_length};
 ghost use Rattle.cue_engine.specs.Takes.{FitsRecord, CanFollow, Follows};
 
@@ -44,7 +44,7 @@ fn queue_pending(alloc: Global, state: &State) -> Result<Queue, AllocError>
 }
 
 // Closes the state on the draft: the cancels, and what is owed then. From here on the draft is of no use, until it is put in step again.
-#[tactic(auto, unfolding(crate::specs::Given::closed))]
+#[tactic(auto, unfolding(cue_core::specs::Batches::closed))]
 fn close_on(
     alloc: Global,
     kept: &State,
@@ -68,7 +68,7 @@ fn close_on(
 
 /// Cancels what is undecided, and answers what is owed then. All memory is taken before the first device call; where nothing is undecided none
 /// is made.
-#[tactic(auto, unfolding(crate::specs::Given::closed))]
+#[tactic(auto, unfolding(cue_core::specs::Batches::closed))]
 pub(crate) fn close_undecided<D: Disk>(
     alloc: Global,
     keeper: &mut Keeper<D>,

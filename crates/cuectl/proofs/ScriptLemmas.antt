@@ -10,7 +10,7 @@ use Rattle.cue_core.specs.Steps.{folded}
 use Rattle.cue_keeper.specs.Stands.{Stands}
 use Rattle.cue_keeper.proofs.Standing.{one_state}
 use Rattle.cue_outbox.specs.Sending.{Send, datagram, datagrams, all_pending}
-use Rattle.cue_engine.specs.Given.{closed}
+use Rattle.cue_core.specs.Batches.{closed}
 use Rattle.cue_engine.specs.Recovery.{ClosedFrom}
 use Rattle.cue_engine.specs.declared.mem_wire.Sent.{Sent}
 use Rattle.cue_engine.specs.Runs.{Happening, recovered, given_at, in_front, run}

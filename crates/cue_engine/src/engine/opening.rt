@@ -9,7 +9,7 @@ ghost use Rattle.cue_keeper.specs.Stands.{Stands, StandsEither, StandsAs};
 ghost use Rattle.cue_keeper.specs.Refusals.{HasOtherVersion, StandsForNone, IsUnformedOrStands};
 ghost use Rattle.cue_keeper.specs.Observed as kept;
 ghost use Rattle.cue_outbox.specs.Sending.{datagrams, all_pending};
-ghost use Rattle.cue_engine.specs.Given.{closed};
+ghost use Rattle.cue_core.specs.Batches.{closed};
 ghost use Rattle.cue_engine.specs.Recovery.{ClosedFrom, IsLeftOrStands, NoGenerationLeft, NoRoomLeft, RefusedBut};
 ghost use Rattle.cue_engine.specs.Words.{keeper_of, state_of, queue_of, first_of, second_of};
 

@@ -1,5 +1,4 @@
-use Rattle.std.proofs.Common.{◌≡◌, ◌∙◌, ℕ, List, map, filter, ap, IsTrue}
-use Rattle.cue_exchange.specs.declared.attempt.Attempt.{Attempt}
+use Rattle.std.proofs.Common.{◌≡◌, ◌∙◌, ℕ, List, map, IsTrue}
 use Rattle.cue_exchange.specs.declared.attempt.Reason.TheVariants as reason
 use Rattle.cue_core.specs.declared.event.Event.{Event}
 use Rattle.cue_core.specs.declared.event.Event.TheVariants as event

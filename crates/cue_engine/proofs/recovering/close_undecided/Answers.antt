@@ -2,7 +2,7 @@ use Rattle.std.proofs.Common.{inl}
 use Rattle.cue_keeper.specs.Stands.{StandsEither}
 use Rattle.cue_keeper.specs.Observed.{state_of, first_of, second_of}
 use Rattle.cue_keeper.proofs.Moving.{rests}
-use Rattle.cue_engine.specs.Given.{closed}
+use Rattle.cue_core.specs.Batches.{closed}
 use Rattle.cue_engine.proofs.recovering.close_undecided.Goals as goal
 
 -- no call was made

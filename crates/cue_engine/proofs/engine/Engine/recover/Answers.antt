@@ -7,7 +7,7 @@ use Rattle.cue_keeper.specs.Stands.{StandsEither}
 use Rattle.cue_keeper.specs.Observed as kept
 use Rattle.cue_keeper.proofs.Moving.{opened_then, leaves_weaker}
 use Rattle.cue_keeper.proofs.Refused.{is_opened}
-use Rattle.cue_engine.specs.Given.{closed}
+use Rattle.cue_core.specs.Batches.{closed}
 use Rattle.cue_engine.specs.Recovery.{IsLeftOrStands}
 use Rattle.cue_engine.specs.Words.{first_of, second_of}
 use Rattle.cue_engine.proofs.Reopened.{left_or_stands, unwritten}

@@ -219,7 +219,7 @@ fn compare_longest(rt: &impl Abort, alloc: Global, state: &State) -> Result<(), 
 // Cues 1 to 256, and what a pattern that matches them all asks for, three times.
 fn compare_many(rt: &impl Abort, alloc: Global, state: &mut State) -> Result<(), Fail> {
     let mut wanted = String::new(alloc);
-    add_device(rt, state, 3, 9001)?;
+    add_device(rt, alloc, state, 3, 9001)?;
     for number in 1..=256u16 {
         add_cue(rt, alloc, state, &format!(in alloc; "{number}")?)?;
         write!(&mut wanted, "goto {number};")?;

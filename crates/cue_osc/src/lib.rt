@@ -10,7 +10,7 @@ mod walking;
 mod writing;
 
 pub use fault::{Fault, WriteFault};
-pub use packet::{Arg, Args, Message, Packet};
+pub use packet::{Arg, Args, BUNDLE_HEAD, MAX_DEPTH, MAX_LEN, Message, Packet};
 pub use reading::read;
 pub use writing::write;
 

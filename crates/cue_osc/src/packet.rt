@@ -6,13 +6,13 @@ ghost use Rattle.cue_osc.specs.Argument.{arg_view};
 use std::marker::Model;
 
 /// The longest datagram, in bytes.
-pub(crate) const MAX_LEN: usize = 4096;
+pub const MAX_LEN: usize = 4096;
 
 /// How many bundles may stand one in the other.
-pub(crate) const MAX_DEPTH: u8 = 8;
+pub const MAX_DEPTH: u8 = 8;
 
 /// The eight bytes with which each bundle begins.
-pub(crate) const BUNDLE_HEAD: [u8; 8] = *b"#bundle\0";
+pub const BUNDLE_HEAD: [u8; 8] = *b"#bundle\0";
 
 /// One argument of a message. Texts and blobs lie in the datagram.
 #[derive(Clone, Copy, Debug, PartialEq, Eq)]
@@ -52,7 +52,7 @@ impl<'a> Args<'a> {
     }
 
     /// Gives the vector back.
-    pub(crate) fn into_vec(self) -> Vec<Arg<'a>>
+    pub fn into_vec(self) -> Vec<Arg<'a>>
         ensures { map arg_view result.items ≡ self.entry }
     {
         let Args { list } = self;

@@ -11,7 +11,7 @@ use crate::packet::{Arg, MAX_DEPTH, Packet};
 impl Packet<'_> {
     /// Whether the packet can be written: nothing in it is discarded, each address begins with `/`,
     /// addresses and texts hold no null, and bundles are at most 8 deep.
-    pub(crate) fn plain(&self) -> bool
+    pub fn plain(&self) -> bool
         ensures { IsTrue result ↔ IsPlain 8 (view self.now) }
     {
         plain_within(self, MAX_DEPTH)

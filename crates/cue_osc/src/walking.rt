@@ -12,7 +12,7 @@ const MS_TO_1970: u128 = 2_208_988_800_000;
 
 impl<'a> Packet<'a> {
     /// The messages and the discarded messages, in order, whatever bundles they stand in.
-    pub(crate) fn messages(&self, alloc: Global) -> Result<Vec<&Packet<'a>>, AllocError>
+    pub fn messages(&self, alloc: Global) -> Result<Vec<&Packet<'a>>, AllocError>
         ensures { IfOk result (λ found. map seen found.items ≡ leaves (view self.now)) }
     {
         let mut found = Vec::new(alloc);

@@ -17,9 +17,8 @@ use length::room_after;
 use std::alloc::{AllocError, Global};
 
 /// The bytes of a packet: its one spelling, each message with its type tag string, also an empty
-/// one. The caller has no discarded message in it, and no null in an address or a text. `TooLong`
-/// comes where the spelling has more than 4,096 bytes, before anything is allocated; else one
-/// allocation is made.
+/// one. Call `plain` where the packet is not known to be writable. `TooLong` comes where the
+/// spelling has more than 4,096 bytes, before anything is allocated; else one allocation is made.
 pub fn write(alloc: Global, packet: &Packet<'_>) -> Result<Vec<u8>, WriteFault>
     requires { IsPlain 8 (view packet.now) }
     ensures written { IfOk result (λ v. v.items ≡ text_of (view packet.now)) }

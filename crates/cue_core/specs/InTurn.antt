@@ -19,6 +19,7 @@ pub record Step : Type 0 where
   pub verdict : Verdict
   pub events : List Event
 
+-- the command judged on the state, with what became of it
 abbrev pub step_of : ShowState → ℕ → ℕ → Command → Step
 step_of s now from asked =
     record { before = s; now = now; from = from; command = asked; verdict = (judged s now from asked).0; events = (judged s now from asked).1 }

@@ -12,24 +12,31 @@ use Rattle.cuectl.specs.declared.line.words.Line.TheVariants.{Form, Serve, Show,
 use Rattle.cuectl.specs.declared.line.words.LineFault.{LineFault}
 use Rattle.cuectl.specs.declared.line.words.LineFault.TheVariants.{Help, Usage, Memory}
 
+-- DIR, the folder of the store; it must be there
 abbrev pub dir_rule : Rule
 dir_rule = record (new_rule (codes "DIR")) { required = true; action = Some Set }
 
+-- --port, a number of 16 bits; it must be there
 abbrev pub port_rule : Rule
 port_rule = record (new_rule (codes "port")) { long = Some (codes "port"); required = true; action = Some Set; parser = Some (Signed (pos 0) (pos 65535)) }
 
+-- --turns, a number of 64 bits; it must be there
 abbrev pub turns_rule : Rule
 turns_rule = record (new_rule (codes "turns")) { long = Some (codes "turns"); required = true; action = Some Set; parser = Some (Unsigned 0 18446744073709551615) }
 
+-- the command form, with its folder
 abbrev pub form_app : App
 form_app = with_rule (new_app (codes "form")) dir_rule
 
+-- the command serve, with its folder, port and turns
 abbrev pub serve_app : App
 serve_app = with_rule (with_rule (with_rule (new_app (codes "serve")) dir_rule) port_rule) turns_rule
 
+-- the command show, with its folder
 abbrev pub show_app : App
 show_app = with_rule (new_app (codes "show")) dir_rule
 
+-- the command script, which reads standard input
 abbrev pub script_app : App
 script_app = new_app (codes "script")
 

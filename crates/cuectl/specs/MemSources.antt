@@ -6,12 +6,14 @@ use Rattle.cuectl.specs.declared.run.mem_source.MemAnswer.{MemAnswer}
 use Rattle.cuectl.specs.declared.run.mem_source.MemAnswer.TheVariants as mem
 use Rattle.cuectl.specs.declared.run.mem_source.MemSource.{MemSource}
 
+-- an answer as contracts of sources see it
 abbrev pub answer_view : MemAnswer → Answer
 answer_view (mem.Tick now) = comes now tick
 answer_view (mem.Datagram now from bytes) = comes now (datagram from bytes.items)
 answer_view mem.End = ends
 answer_view mem.Fault = fails
 
+-- all of them, in order
 abbrev pub answers_view : List MemAnswer → List Answer
 answers_view = map answer_view
 

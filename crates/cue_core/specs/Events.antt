@@ -1,7 +1,7 @@
 -- Helper: tests of one event.
 use Rattle.std.specs.Prelude.{ℕ, Bool, true, false, ◌&&◌, nat_eq}
 use Rattle.cue_core.specs.declared.event.Event.{Event}
-use Rattle.cue_core.specs.declared.event.Event.TheVariants.{Device, NoDevice, Cue, NoCue, Place, Start, Ready, Go, Done, Cancel, LetGo, Failed}
+use Rattle.cue_core.specs.declared.event.Event.TheVariants.{Device, NoDevice, Cue, NoCue, Place, Start, Ready, Go, Done, Cancel, LetGo, Failed, Excuse}
 
 -- an attempt starts
 abbrev pub is_start : Event → Bool
@@ -17,6 +17,7 @@ is_start (Done q d) = false
 is_start (Cancel q r) = false
 is_start (LetGo q d) = false
 is_start (Failed q d) = false
+is_start (Excuse q d) = false
 
 -- q starts
 abbrev pub is_start_of : ℕ → Event → Bool
@@ -32,6 +33,7 @@ is_start_of q (Done p d) = false
 is_start_of q (Cancel p r) = false
 is_start_of q (LetGo p d) = false
 is_start_of q (Failed p d) = false
+is_start_of q (Excuse p d) = false
 
 -- the device d stands by in q
 abbrev pub is_ready_of : ℕ → ℕ → Event → Bool
@@ -47,6 +49,23 @@ is_ready_of q d (Done p e) = false
 is_ready_of q d (Cancel p r) = false
 is_ready_of q d (LetGo p e) = false
 is_ready_of q d (Failed p e) = false
+is_ready_of q d (Excuse p e) = false
+
+-- the device d is excused in q
+abbrev pub is_excuse_of : ℕ → ℕ → Event → Bool
+is_excuse_of q d (Device e port) = false
+is_excuse_of q d (NoDevice e) = false
+is_excuse_of q d (Cue c parts) = false
+is_excuse_of q d (NoCue c) = false
+is_excuse_of q d (Place c) = false
+is_excuse_of q d (Start p c t) = false
+is_excuse_of q d (Ready p e) = false
+is_excuse_of q d (Go p) = false
+is_excuse_of q d (Done p e) = false
+is_excuse_of q d (Cancel p r) = false
+is_excuse_of q d (LetGo p e) = false
+is_excuse_of q d (Failed p e) = false
+is_excuse_of q d (Excuse p e) = nat_eq p q && nat_eq e d
 
 -- q is decided
 abbrev pub is_go_of : ℕ → Event → Bool
@@ -62,6 +81,7 @@ is_go_of q (Done p d) = false
 is_go_of q (Cancel p r) = false
 is_go_of q (LetGo p d) = false
 is_go_of q (Failed p d) = false
+is_go_of q (Excuse p d) = false
 
 -- q is cancelled
 abbrev pub is_cancel_of : ℕ → Event → Bool
@@ -77,8 +97,9 @@ is_cancel_of q (Done p d) = false
 is_cancel_of q (Cancel p r) = nat_eq p q
 is_cancel_of q (LetGo p d) = false
 is_cancel_of q (Failed p d) = false
+is_cancel_of q (Excuse p d) = false
 
--- the device d answers in q for the last time: Done, LetGo or Failed
+-- the device d is done with in q: Done, LetGo, Failed or Excuse
 abbrev pub is_end_of : ℕ → ℕ → Event → Bool
 is_end_of q d (Device e port) = false
 is_end_of q d (NoDevice e) = false
@@ -92,6 +113,7 @@ is_end_of q d (Done p e) = nat_eq p q && nat_eq e d
 is_end_of q d (Cancel p r) = false
 is_end_of q d (LetGo p e) = nat_eq p q && nat_eq e d
 is_end_of q d (Failed p e) = nat_eq p q && nat_eq e d
+is_end_of q d (Excuse p e) = nat_eq p q && nat_eq e d
 
 -- the event is one of the attempt q
 abbrev pub is_about : ℕ → Event → Bool
@@ -107,3 +129,4 @@ is_about q (Done p d) = nat_eq p q
 is_about q (Cancel p r) = nat_eq p q
 is_about q (LetGo p d) = nat_eq p q
 is_about q (Failed p d) = nat_eq p q
+is_about q (Excuse p d) = nat_eq p q

@@ -152,23 +152,31 @@ on_cancel_of a =
 abbrev pub on_cancel : ShowState → List ℕ → Judged
 on_cancel s c = if not (has_cue s.show c) then refused code.NoMethod else option_map_or on_cancel_of (attempt_of_cue s.live c) (refused code.NotLive)
 
+-- the operator waits no longer for a device of a Preparing attempt: an optional one is excused, and for a required one the
+-- preparation is given up
+abbrev pub release_early : ℕ → DeviceAnswer → Judged
+release_early q x = if x.optional then made (event.Excuse q x.device ∷ []) else made (event.Cancel q Release ∷ event.LetGo q x.device ∷ [])
+
 -- the operator waits no longer for the device: the attempt, the device as it is recorded, the stage, and the answer of the record
 abbrev pub on_release_in : ℕ → DeviceAnswer → Stage → Answer → Judged
-on_release_in q x Preparing answer.Waiting = made (event.Cancel q Release ∷ event.LetGo q x.device ∷ [])
-on_release_in q x Preparing answer.Ready = made (event.Cancel q Release ∷ event.LetGo q x.device ∷ [])
-on_release_in q x Preparing answer.Done = made (event.Cancel q Release ∷ event.LetGo q x.device ∷ [])
-on_release_in q x Preparing answer.LetGo = made (event.Cancel q Release ∷ event.LetGo q x.device ∷ [])
-on_release_in q x Preparing answer.Failed = made (event.Cancel q Release ∷ event.LetGo q x.device ∷ [])
+on_release_in q x Preparing answer.Waiting = release_early q x
+on_release_in q x Preparing answer.Ready = release_early q x
+on_release_in q x Preparing answer.Done = release_early q x
+on_release_in q x Preparing answer.LetGo = release_early q x
+on_release_in q x Preparing answer.Failed = release_early q x
+on_release_in q x Preparing answer.Excused = known
 on_release_in q x Decided answer.Waiting = made (event.Failed q x.device ∷ [])
 on_release_in q x Decided answer.Ready = known
 on_release_in q x Decided answer.Done = known
 on_release_in q x Decided answer.LetGo = known
 on_release_in q x Decided answer.Failed = known
+on_release_in q x Decided answer.Excused = known
 on_release_in q x (Cancelling r) answer.Waiting = made (event.LetGo q x.device ∷ [])
 on_release_in q x (Cancelling r) answer.Ready = known
 on_release_in q x (Cancelling r) answer.Done = known
 on_release_in q x (Cancelling r) answer.LetGo = known
 on_release_in q x (Cancelling r) answer.Failed = known
+on_release_in q x (Cancelling r) answer.Excused = known
 
 -- a device of a live attempt is let go of
 abbrev pub on_release_of : ℕ → Attempt → Judged
@@ -185,16 +193,19 @@ on_standing_by q x Preparing answer.Ready = known
 on_standing_by q x Preparing answer.Done = known
 on_standing_by q x Preparing answer.LetGo = known
 on_standing_by q x Preparing answer.Failed = known
+on_standing_by q x Preparing answer.Excused = refused code.Stale
 on_standing_by q x Decided answer.Waiting = known
 on_standing_by q x Decided answer.Ready = known
 on_standing_by q x Decided answer.Done = known
 on_standing_by q x Decided answer.LetGo = known
 on_standing_by q x Decided answer.Failed = refused code.Stale
+on_standing_by q x Decided answer.Excused = refused code.Stale
 on_standing_by q x (Cancelling r) answer.Waiting = refused code.Stale
 on_standing_by q x (Cancelling r) answer.Ready = refused code.Stale
 on_standing_by q x (Cancelling r) answer.Done = refused code.Stale
 on_standing_by q x (Cancelling r) answer.LetGo = refused code.Stale
 on_standing_by q x (Cancelling r) answer.Failed = refused code.Stale
+on_standing_by q x (Cancelling r) answer.Excused = refused code.Stale
 
 abbrev pub on_complete : ℕ → DeviceAnswer → Stage → Answer → Judged
 on_complete q x Preparing answer.Waiting = refused code.Early
@@ -202,16 +213,19 @@ on_complete q x Preparing answer.Ready = refused code.Early
 on_complete q x Preparing answer.Done = refused code.Early
 on_complete q x Preparing answer.LetGo = refused code.Early
 on_complete q x Preparing answer.Failed = refused code.Early
+on_complete q x Preparing answer.Excused = refused code.Early
 on_complete q x Decided answer.Waiting = made (event.Done q x.device ∷ [])
 on_complete q x Decided answer.Ready = refused code.Stale
 on_complete q x Decided answer.Done = known
 on_complete q x Decided answer.LetGo = refused code.Stale
 on_complete q x Decided answer.Failed = refused code.Stale
+on_complete q x Decided answer.Excused = refused code.Stale
 on_complete q x (Cancelling r) answer.Waiting = refused code.Stale
 on_complete q x (Cancelling r) answer.Ready = refused code.Stale
 on_complete q x (Cancelling r) answer.Done = refused code.Stale
 on_complete q x (Cancelling r) answer.LetGo = refused code.Stale
 on_complete q x (Cancelling r) answer.Failed = refused code.Stale
+on_complete q x (Cancelling r) answer.Excused = refused code.Stale
 
 abbrev pub on_cancelled : ℕ → DeviceAnswer → Stage → Answer → Judged
 on_cancelled q x Preparing answer.Waiting = refused code.Early
@@ -219,33 +233,47 @@ on_cancelled q x Preparing answer.Ready = refused code.Early
 on_cancelled q x Preparing answer.Done = refused code.Early
 on_cancelled q x Preparing answer.LetGo = refused code.Early
 on_cancelled q x Preparing answer.Failed = refused code.Early
+on_cancelled q x Preparing answer.Excused = refused code.Early
 on_cancelled q x Decided answer.Waiting = refused code.Decided
 on_cancelled q x Decided answer.Ready = refused code.Decided
 on_cancelled q x Decided answer.Done = refused code.Decided
 on_cancelled q x Decided answer.LetGo = refused code.Decided
 on_cancelled q x Decided answer.Failed = refused code.Decided
+on_cancelled q x Decided answer.Excused = refused code.Decided
 on_cancelled q x (Cancelling r) answer.Waiting = made (event.LetGo q x.device ∷ [])
 on_cancelled q x (Cancelling r) answer.Ready = refused code.Stale
 on_cancelled q x (Cancelling r) answer.Done = refused code.Stale
 on_cancelled q x (Cancelling r) answer.LetGo = known
 on_cancelled q x (Cancelling r) answer.Failed = refused code.Stale
+on_cancelled q x (Cancelling r) answer.Excused = refused code.Stale
+
+-- a device of a Preparing attempt cannot go on: an optional one is excused, and for a required one the preparation is given up
+abbrev pub abort_early : ℕ → DeviceAnswer → Judged
+abort_early q x = if x.optional then made (event.Excuse q x.device ∷ []) else made (event.Cancel q Abort ∷ event.Failed q x.device ∷ [])
+
+-- a device of a Cancelling attempt cannot go on: of an optional one nothing more is asked, and a required one has failed
+abbrev pub abort_late : ℕ → DeviceAnswer → Judged
+abort_late q x = if x.optional then made (event.LetGo q x.device ∷ []) else made (event.Failed q x.device ∷ [])
 
 abbrev pub on_abort : ℕ → DeviceAnswer → Stage → Answer → Judged
-on_abort q x Preparing answer.Waiting = made (event.Cancel q Abort ∷ event.Failed q x.device ∷ [])
-on_abort q x Preparing answer.Ready = made (event.Cancel q Abort ∷ event.Failed q x.device ∷ [])
-on_abort q x Preparing answer.Done = made (event.Cancel q Abort ∷ event.Failed q x.device ∷ [])
-on_abort q x Preparing answer.LetGo = made (event.Cancel q Abort ∷ event.Failed q x.device ∷ [])
-on_abort q x Preparing answer.Failed = made (event.Cancel q Abort ∷ event.Failed q x.device ∷ [])
+on_abort q x Preparing answer.Waiting = abort_early q x
+on_abort q x Preparing answer.Ready = abort_early q x
+on_abort q x Preparing answer.Done = abort_early q x
+on_abort q x Preparing answer.LetGo = abort_early q x
+on_abort q x Preparing answer.Failed = abort_early q x
+on_abort q x Preparing answer.Excused = known
 on_abort q x Decided answer.Waiting = made (event.Failed q x.device ∷ [])
 on_abort q x Decided answer.Ready = refused code.Stale
 on_abort q x Decided answer.Done = refused code.Stale
 on_abort q x Decided answer.LetGo = refused code.Stale
 on_abort q x Decided answer.Failed = known
-on_abort q x (Cancelling r) answer.Waiting = made (event.Failed q x.device ∷ [])
+on_abort q x Decided answer.Excused = known
+on_abort q x (Cancelling r) answer.Waiting = abort_late q x
 on_abort q x (Cancelling r) answer.Ready = refused code.Stale
 on_abort q x (Cancelling r) answer.Done = refused code.Stale
 on_abort q x (Cancelling r) answer.LetGo = refused code.Stale
 on_abort q x (Cancelling r) answer.Failed = known
+on_abort q x (Cancelling r) answer.Excused = refused code.Stale
 
 abbrev pub on_reply_in : ReplyKind → ℕ → DeviceAnswer → Stage → Answer → Judged
 on_reply_in reply.StandingBy = on_standing_by

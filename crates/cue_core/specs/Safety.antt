@@ -7,6 +7,7 @@ use Rattle.cue_exchange.specs.Live.{attempt_of, disjoint, pairwise}
 use Rattle.cue_core.specs.declared.event.Event.{Event}
 use Rattle.cue_core.specs.State.{ShowState}
 use Rattle.cue_core.specs.History.{state_of, is_history, is_decided_by}
+use Rattle.cue_core.specs.Events.{is_end_of}
 use Rattle.cue_core.specs.Pending.{Order, standby, go_2pc, cancel, pending}
 
 -- the device d is told to carry the cue out in q
@@ -20,6 +21,16 @@ abbrev pub is_cancel_to : ℕ → ℕ → Order → Bool
 is_cancel_to q d (standby p e c b) = false
 is_cancel_to q d (go_2pc p e) = false
 is_cancel_to q d (cancel p e) = nat_eq p q && nat_eq e d
+
+-- the device d is told anything in q
+abbrev pub is_told : ℕ → ℕ → Order → Bool
+is_told q d (standby p e c b) = nat_eq p q && nat_eq e d
+is_told q d (go_2pc p e) = nat_eq p q && nat_eq e d
+is_told q d (cancel p e) = nat_eq p q && nat_eq e d
+
+-- the state asks anything of the device in q
+abbrev pub asks : ℕ → ℕ → ShowState → Bool
+asks q d s = list_any (λ (o : ℕ × Order). is_told q d o.1) (pending s)
 
 -- the state asks the device to go, or to cancel
 abbrev pub asks_to_go : ℕ → ℕ → ShowState → Bool
@@ -36,6 +47,10 @@ ever test (e ∷ past) = test (state_of (e ∷ past)) || ever test past
 -- No device is ever asked to both go and cancel in one attempt.
 abbrev pub NeverAskedBoth : Type 0
 NeverAskedBoth = (h : List Event) (q d : ℕ) → IsTrue (is_history h) → IsTrue (not (ever (asks_to_go q d) h && ever (asks_to_cancel q d) h))
+
+-- A device that is done with in an attempt, since it has answered for the last time or was excused, is asked nothing more in it.
+abbrev pub NothingMoreIsAsked : Type 0
+NothingMoreIsAsked = (h : List Event) (q d : ℕ) → IsTrue (is_history h) → IsTrue (list_any (is_end_of q d) h) → IsTrue (not (asks q d (state_of h)))
 
 -- At most one live attempt holds a device.
 abbrev pub OneHolder : Type 0

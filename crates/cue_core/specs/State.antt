@@ -1,14 +1,15 @@
 -- The state of a show, and its rules.
 use Rattle.std.specs.Prelude.{ℕ, Bool, true, false, not, ◌&&◌, List, [], Option, None, Some, is_some, unwrap_or, nat_eq, nat_le}
+use Rattle.std.specs.Bool.{beq}
 use Rattle.std.specs.List.{list_all}
 use Rattle.std.specs.Option.{option_map_or}
 use Rattle.std.specs.Cmp.Lexicographic.{pointwise}
 use Rattle.cue_show.specs.declared.part.Part.{Part}
 use Rattle.cue_show.specs.Show.{ShowLists, empty_show, parts_of, is_show}
 use Rattle.cue_exchange.specs.declared.attempt.Attempt.{Attempt}
+use Rattle.cue_exchange.specs.declared.attempt.DeviceAnswer.{DeviceAnswer}
 use Rattle.cue_exchange.specs.declared.limits.TheConstants.{LAST_NUMBER}
-use Rattle.cue_exchange.specs.Answers.{devices_of}
-use Rattle.cue_exchange.specs.Live.{devices_in, attempt_of, are_live, is_number}
+use Rattle.cue_exchange.specs.Live.{attempt_of, are_live, is_number}
 use Rattle.cue_core.specs.declared.event.Ended.{Ended}
 
 -- the show, the live attempts, the last number that was drawn, and the attempt that ended last
@@ -36,9 +37,17 @@ cue_parts show c = unwrap_or (parts_of show c) []
 
 -- ---- the rules
 
--- the attempt's cue is in the stack, and its devices are those of the cue's parts, in order
+-- the device is that of the part, and optional where the part is
+abbrev pub is_of_part : Part → DeviceAnswer → Bool
+is_of_part p x = nat_eq p.device x.device && beq p.optional x.optional
+
+-- the devices are those of the parts, in order
+abbrev pub are_of_parts : List Part → List DeviceAnswer → Bool
+are_of_parts parts answers = pointwise is_of_part parts answers
+
+-- the attempt's cue is in the stack, and its devices are those of the cue's parts
 abbrev pub is_at_cue : ShowLists → Attempt → Bool
-is_at_cue show a = option_map_or (λ parts. pointwise nat_eq (devices_of a.answers) (devices_in parts)) (parts_of show a.cue) false
+is_at_cue show a = option_map_or (λ parts. are_of_parts parts a.answers) (parts_of show a.cue) false
 
 -- an attempt that has ended has a number that was drawn, and is not live
 abbrev pub is_ended : List Attempt → ℕ → Option Ended → Bool

@@ -6,10 +6,10 @@ use Rattle.cue_exchange.specs.declared.attempt.Stage.TheVariants.{Decided, Cance
 use Rattle.cue_exchange.specs.declared.attempt.Outcome.{Outcome}
 use Rattle.cue_exchange.specs.declared.attempt.Attempt.{Attempt}
 use Rattle.cue_exchange.specs.Live.{attempt_of, attempt_of_cue}
-use Rattle.cue_exchange.specs.Steps.{can_start, can_ready, can_go, can_cancel, can_done, can_let_go, can_fail, started, answered, moved, without_ended, ended_in}
+use Rattle.cue_exchange.specs.Steps.{can_start, can_ready, can_go, can_cancel, can_done, can_let_go, can_fail, can_excuse, started, answered, moved, without_ended, ended_in}
 use Rattle.cue_core.specs.declared.event.Ended.{Ended}
 use Rattle.cue_core.specs.declared.event.Event.{Event}
-use Rattle.cue_core.specs.declared.event.Event.TheVariants.{Device, NoDevice, Cue, NoCue, Place, Start, Ready, Go, Done, Cancel, LetGo, Failed}
+use Rattle.cue_core.specs.declared.event.Event.TheVariants.{Device, NoDevice, Cue, NoCue, Place, Start, Ready, Go, Done, Cancel, LetGo, Failed, Excuse}
 use Rattle.cue_core.specs.State.{ShowState, with_show, with_live, cue_parts}
 
 -- the number is the one after the last, the cue is in the stack, and an attempt with its devices may start
@@ -30,6 +30,7 @@ acceptable s (Done q d) = can_done q d s.live
 acceptable s (Cancel q r) = can_cancel q s.live
 acceptable s (LetGo q d) = can_let_go q d s.live
 acceptable s (Failed q d) = can_fail q d s.live
+acceptable s (Excuse q d) = can_excuse q d s.live
 
 -- the attempt that ended last: q, where it has ended
 abbrev pub ended_as : ℕ → Option Outcome → Option Ended → Option Ended
@@ -58,6 +59,7 @@ after s (Done q d) = settled s q (answered q d answer.Done s.live)
 after s (Cancel q r) = with_live s (moved q (Cancelling r) s.live)
 after s (LetGo q d) = settled s q (answered q d answer.LetGo s.live)
 after s (Failed q d) = settled s q (answered q d answer.Failed s.live)
+after s (Excuse q d) = with_live s (answered q d answer.Excused s.live)
 
 -- each event is acceptable, in turn
 abbrev pub are_acceptable : ShowState → List Event → Bool

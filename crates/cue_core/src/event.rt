@@ -1,4 +1,4 @@
-//! The twelve kinds of event: all that can happen to a state.
+//! The thirteen kinds of event: all that can happen to a state.
 ghost use Rattle.std.specs.Prelude.{◌≡◌};
 
 use cue_exchange::{Outcome, Reason};
@@ -42,6 +42,8 @@ pub enum Event {
     LetGo(u32, DeviceNo),
     /// The device cannot go on.
     Failed(u32, DeviceNo),
+    /// The optional device is excused: the cue may go without it.
+    Excuse(u32, DeviceNo),
 }
 
 impl Clone for Event {
@@ -61,6 +63,7 @@ impl Clone for Event {
             Event::Cancel(seq, reason) => Event::Cancel(*seq, *reason),
             Event::LetGo(seq, device) => Event::LetGo(*seq, *device),
             Event::Failed(seq, device) => Event::Failed(*seq, *device),
+            Event::Excuse(seq, device) => Event::Excuse(*seq, *device),
         })
     }
 }

@@ -8,16 +8,18 @@ ghost use Rattle.cue_core.specs.Happenings.{CommandsInOrder, CommandsMakeHistori
 ghost use Rattle.cue_core.specs.InOrder.{GoAfterReady};
 ghost use Rattle.cue_core.specs.InTurn.{StepsAreAcceptable, StepsGoOn, StepsMakeHistories};
 ghost use Rattle.cue_core.specs.Replies.{RepliesCommute, RepliesLeaveOthers};
-ghost use Rattle.cue_core.specs.Safety.{DecidedStays, NeverAskedBoth, OneHolder};
+ghost use Rattle.cue_core.specs.Safety.{DecidedStays, NeverAskedBoth, NothingMoreIsAsked, OneHolder};
 
 /// Every state that acceptable events lead to from the empty one is what its history says: the last number is the count of the Starts;
-/// an attempt is live exactly where it started and some device of it has not answered for the last time; its devices are those of its
-/// cue at its Start; it is Decided exactly where it was decided; a device of a Preparing attempt is Ready exactly where it stood by.
+/// an attempt is live exactly where it started and some device of it is not done with; its devices are those of its cue at its Start,
+/// and optional alike; it is Decided exactly where it was decided; a device of a Preparing attempt is Ready exactly where it stood by and
+/// was not excused.
 pub fn facts_by_history()
     ensures { FactsByHistory }
 {}
 
-/// An attempt is decided only after its Start, after Ready of each of its devices, and after no Cancel; and after that it is not cancelled.
+/// An attempt is decided only after its Start, after Ready of each required device, after Ready or Excuse of each optional one, and after
+/// no Cancel; and after that it is not cancelled.
 pub fn go_after_ready()
     ensures { GoAfterReady }
 {}
@@ -28,8 +30,8 @@ pub fn commands_make_histories()
     ensures { CommandsMakeHistories }
 {}
 
-/// Whatever commands, ticks and recoveries from power loss come in turn: an attempt is decided only after Ready of each of its devices
-/// was accepted, and after no Cancel; and after that no Cancel is accepted.
+/// Whatever commands, ticks and recoveries from power loss come in turn: an attempt is decided only after Ready of each required device
+/// and Ready or Excuse of each optional one was accepted, and after no Cancel; and after that no Cancel is accepted.
 pub fn commands_in_order()
     ensures { CommandsInOrder }
 {}
@@ -37,6 +39,11 @@ pub fn commands_in_order()
 /// No device is ever asked to both go and cancel in one attempt: where some state of a history has the one pending, none has the other.
 pub fn never_asked_both()
     ensures { NeverAskedBoth }
+{}
+
+/// A device that is done with in an attempt, since it has answered for the last time or was excused, is asked nothing more in it.
+pub fn nothing_more_is_asked()
+    ensures { NothingMoreIsAsked }
 {}
 
 /// At most one live attempt holds a device.

@@ -1,10 +1,8 @@
 //! The state of a show: the show itself, the attempts that are live, the last number, and how the last attempt ended.
-ghost use Rattle.std.specs.Prelude.{◌≡◌, ◌↔◌, IsTrue, IsSome, IfOk, IfSome, map, filter, nat_eq, nat_le};
-ghost use Rattle.std.specs.Cmp.Lexicographic.{pointwise};
+ghost use Rattle.std.specs.Prelude.{◌≡◌, ◌↔◌, IsTrue, IsSome, IfOk, IfSome, map, filter, nat_le};
 ghost use Rattle.std.specs.List.{list_all};
-ghost use Rattle.cue_exchange.specs.Answers.{devices_of, is_preparing};
-ghost use Rattle.cue_exchange.specs.Live.{devices_in};
-ghost use Rattle.cue_core.specs.State.{empty_state, is_state, are_tied, is_at_cue, is_ended};
+ghost use Rattle.cue_exchange.specs.Answers.{is_preparing};
+ghost use Rattle.cue_core.specs.State.{empty_state, is_state, are_tied, are_of_parts, is_of_part, is_at_cue, is_ended};
 
 mod apply;
 
@@ -151,22 +149,29 @@ fn is_at_cue(show: &Show, attempt: &Attempt) -> bool
     ensures { result ≡ is_at_cue show.now attempt.now }
 {
     match show.parts(attempt.cue) {
-        Some(parts) => have_devices_of(attempt.answers.as_slice(), parts.as_slice()),
+        Some(parts) => are_of_parts(parts.as_slice(), attempt.answers.as_slice()),
         None => false,
     }
 }
 
 // Whether the devices of the answers are those of the parts, in order.
-fn have_devices_of(answers: &[DeviceAnswer], parts: &[Part]) -> bool
-    ensures { result ≡ pointwise nat_eq (devices_of answers.now) (devices_in parts.now) }
+fn are_of_parts(parts: &[Part], answers: &[DeviceAnswer]) -> bool
+    ensures { result ≡ are_of_parts parts.now answers.now }
 {
-    match (answers, parts) {
+    match (parts, answers) {
         ([], []) => true,
-        ([answer, answers @ ..], [part, parts @ ..]) => {
-            answer.device == part.device && have_devices_of(answers, parts)
+        ([part, parts @ ..], [answer, answers @ ..]) => {
+            is_of_part(part, answer) && are_of_parts(parts, answers)
         }
         _ => false,
     }
+}
+
+// Whether the device is that of the part, and optional where the part is.
+fn is_of_part(part: &Part, answer: &DeviceAnswer) -> bool
+    ensures { result ≡ is_of_part part.now answer.now }
+{
+    part.device == answer.device && part.optional == answer.optional
 }
 
 fn are_within(live: &Live, last_seq: u32) -> bool

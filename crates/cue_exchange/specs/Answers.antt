@@ -1,10 +1,10 @@
 -- What the devices of an attempt have answered, and what each stage makes of it.
-use Rattle.std.specs.Prelude.{ℕ, Bool, true, false, ◌&&◌, if◌then◌else◌, List, map, find, Option, nat_eq}
+use Rattle.std.specs.Prelude.{ℕ, Bool, true, false, not, ◌&&◌, ◌||◌, if◌then◌else◌, List, map, find, Option, nat_eq}
 use Rattle.std.specs.List.{list_any, list_all}
 use Rattle.std.specs.Option.{option_map}
 use Rattle.cue_show.specs.declared.part.Part.{Part}
 use Rattle.cue_exchange.specs.declared.attempt.Answer.{Answer}
-use Rattle.cue_exchange.specs.declared.attempt.Answer.TheVariants.{Waiting, Ready, Done, LetGo, Failed}
+use Rattle.cue_exchange.specs.declared.attempt.Answer.TheVariants.{Waiting, Ready, Done, LetGo, Failed, Excused}
 use Rattle.cue_exchange.specs.declared.attempt.Stage.{Stage}
 use Rattle.cue_exchange.specs.declared.attempt.Stage.TheVariants.{Preparing, Decided, Cancelling}
 use Rattle.cue_exchange.specs.declared.attempt.DeviceAnswer.{DeviceAnswer}
@@ -18,6 +18,7 @@ is_waiting Ready = false
 is_waiting Done = false
 is_waiting LetGo = false
 is_waiting Failed = false
+is_waiting Excused = false
 
 -- the device stands by
 abbrev pub is_ready : Answer → Bool
@@ -26,6 +27,7 @@ is_ready Ready = true
 is_ready Done = false
 is_ready LetGo = false
 is_ready Failed = false
+is_ready Excused = false
 
 -- the device has carried the cue out
 abbrev pub is_done : Answer → Bool
@@ -34,6 +36,16 @@ is_done Ready = false
 is_done Done = true
 is_done LetGo = false
 is_done Failed = false
+is_done Excused = false
+
+-- the cue may go without the device
+abbrev pub is_excused : Answer → Bool
+is_excused Waiting = false
+is_excused Ready = false
+is_excused Done = false
+is_excused LetGo = false
+is_excused Failed = false
+is_excused Excused = true
 
 -- ---- one stage
 
@@ -68,48 +80,63 @@ is_known_in Preparing Ready = true
 is_known_in Preparing Done = false
 is_known_in Preparing LetGo = false
 is_known_in Preparing Failed = false
+is_known_in Preparing Excused = true
 is_known_in Decided Waiting = true
 is_known_in Decided Ready = false
 is_known_in Decided Done = true
 is_known_in Decided LetGo = false
 is_known_in Decided Failed = true
+is_known_in Decided Excused = true
 is_known_in (Cancelling r) Waiting = true
 is_known_in (Cancelling r) Ready = false
 is_known_in (Cancelling r) Done = false
 is_known_in (Cancelling r) LetGo = true
 is_known_in (Cancelling r) Failed = true
+is_known_in (Cancelling r) Excused = false
 
--- what an answer becomes when its attempt enters the stage: each device is asked anew
+-- what an answer becomes when its attempt enters the stage: each device is asked anew, but for one that was excused, which is asked
+-- nothing more
 abbrev pub entering : Stage → Answer → Answer
 entering Preparing Waiting = Waiting
 entering Preparing Ready = Waiting
 entering Preparing Done = Waiting
 entering Preparing LetGo = Waiting
 entering Preparing Failed = Waiting
+entering Preparing Excused = Excused
 entering Decided Waiting = Waiting
 entering Decided Ready = Waiting
 entering Decided Done = Waiting
 entering Decided LetGo = Waiting
 entering Decided Failed = Waiting
+entering Decided Excused = Excused
 entering (Cancelling r) Waiting = Waiting
 entering (Cancelling r) Ready = Waiting
 entering (Cancelling r) Done = Waiting
 entering (Cancelling r) LetGo = Waiting
 entering (Cancelling r) Failed = Waiting
+entering (Cancelling r) Excused = LetGo
 
 -- ---- a device with its answer
 
--- the answer of the device may stand in the stage
+-- the cue is not carried out without the device
+abbrev pub is_required : DeviceAnswer → Bool
+is_required x = not x.optional
+
+-- the answer of the device may stand in the stage, and only an optional device is excused
 abbrev pub stands : Stage → DeviceAnswer → Bool
-stands stage x = is_known_in stage x.answer
+stands stage x = is_known_in stage x.answer && not (is_required x && is_excused x.answer)
 
--- as far as the device goes, the cue may be carried out
+-- as far as the device goes, the cue may be carried out: it stands by, or was excused
 abbrev pub may_go : DeviceAnswer → Bool
-may_go x = is_ready x.answer
+may_go x = is_ready x.answer || is_excused x.answer
 
--- as far as the device goes, the cue was carried out
+-- as far as the device goes, the cue was carried out: by it, or without it
 abbrev pub has_done : DeviceAnswer → Bool
-has_done x = is_done x.answer
+has_done x = is_done x.answer || is_excused x.answer
+
+-- the device may be excused: it is optional, and waits or stands by
+abbrev pub can_be_excused : DeviceAnswer → Bool
+can_be_excused x = x.optional && (is_waiting x.answer || is_ready x.answer)
 
 -- the device is still to answer
 abbrev pub waits : DeviceAnswer → Bool
@@ -117,7 +144,7 @@ waits x = is_waiting x.answer
 
 -- the device of a part, as an attempt begins
 abbrev pub asked : Part → DeviceAnswer
-asked part = record { device = part.device; answer = Waiting }
+asked part = record { device = part.device; optional = part.optional; answer = Waiting }
 
 -- the device d has answered, and each other one stays as it is
 abbrev pub answers_with : ℕ → Answer → DeviceAnswer → DeviceAnswer
@@ -156,6 +183,14 @@ is_one_of d answers = list_any (λ x. nat_eq x.device d) answers
 -- the device is one of the attempt, and its answer passes the test
 abbrev pub answer_passes : (Answer → Bool) → ℕ → List DeviceAnswer → Bool
 answer_passes test d answers = list_any (λ x. nat_eq x.device d && test x.answer) answers
+
+-- the device is one of the attempt, and may be excused
+abbrev pub is_excusable : ℕ → List DeviceAnswer → Bool
+is_excusable d answers = list_any (λ x. nat_eq x.device d && can_be_excused x) answers
+
+-- some device is required
+abbrev pub has_required : List DeviceAnswer → Bool
+has_required answers = list_any is_required answers
 
 -- the cue may be carried out
 abbrev pub all_may_go : List DeviceAnswer → Bool

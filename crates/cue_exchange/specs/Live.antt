@@ -8,7 +8,7 @@ use Rattle.cue_exchange.specs.declared.attempt.Stage.TheVariants.{Preparing, Dec
 use Rattle.cue_exchange.specs.declared.attempt.DeviceAnswer.{DeviceAnswer}
 use Rattle.cue_exchange.specs.declared.attempt.Attempt.{Attempt}
 use Rattle.cue_exchange.specs.declared.limits.TheConstants.{LAST_NUMBER, MAX_LIVE}
-pub use Rattle.cue_exchange.specs.Answers.{devices_of, is_one_of, stands, some_waits, is_preparing}
+pub use Rattle.cue_exchange.specs.Answers.{devices_of, has_required, is_one_of, stands, some_waits, is_preparing}
 
 -- ---- the rules of one attempt
 
@@ -26,13 +26,13 @@ is_open Preparing answers = true
 is_open Decided answers = some_waits answers
 is_open (Cancelling r) answers = some_waits answers
 
--- at least one device, and none of them twice
-abbrev pub are_sound_devices : List ℕ → Bool
-are_sound_devices ds = nat_le 1 (length ds) && distinct ds
+-- some device is required, and none is there twice
+abbrev pub have_sound_devices : List DeviceAnswer → Bool
+have_sound_devices answers = has_required answers && distinct (devices_of answers)
 
 -- a number, a deadline, and sound devices, each with an answer that the stage knows
 abbrev pub is_sound : Attempt → Bool
-is_sound a = is_number a.seq && (is_moment a.deadline && (are_sound_devices (devices_of a.answers) && list_all (stands a.stage) a.answers))
+is_sound a = is_number a.seq && (is_moment a.deadline && (have_sound_devices a.answers && list_all (stands a.stage) a.answers))
 
 -- the rules of one live attempt
 abbrev pub is_attempt : Attempt → Bool

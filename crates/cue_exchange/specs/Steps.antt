@@ -2,6 +2,7 @@
 use Rattle.std.specs.Prelude.{ℕ, Bool, not, ◌&&◌, ◌||◌, if◌then◌else◌, List, [], ◌∷◌, ◌++◌, length, map, filter, find, Option, is_none, nat_eq, nat_lt}
 use Rattle.std.specs.List.{list_any, list_all}
 use Rattle.std.specs.Option.{option_map}
+use Rattle.cue_show.specs.Parts.{has_required_part}
 use Rattle.cue_show.specs.declared.part.Part.{Part}
 use Rattle.cue_exchange.specs.declared.attempt.Answer.{Answer}
 use Rattle.cue_exchange.specs.declared.attempt.Stage.{Stage}
@@ -10,8 +11,8 @@ use Rattle.cue_exchange.specs.declared.attempt.Outcome.{Outcome}
 use Rattle.cue_exchange.specs.declared.attempt.Outcome.TheVariants as outcome
 use Rattle.cue_exchange.specs.declared.attempt.Attempt.{Attempt}
 use Rattle.cue_exchange.specs.declared.limits.TheConstants.{MAX_LIVE}
-use Rattle.cue_exchange.specs.Answers.{is_waiting, is_preparing, is_decided, is_cancelling, is_concluding, first_answers, entered, with_answer, answer_passes, all_may_go, all_have_done, some_waits, devices_of}
-use Rattle.cue_exchange.specs.Live.{disjoint, devices_in, is_number, is_moment, are_sound_devices, is_attempt, has_number, attempt_of_device}
+use Rattle.cue_exchange.specs.Answers.{is_waiting, is_preparing, is_decided, is_cancelling, is_concluding, first_answers, entered, with_answer, answer_passes, is_excusable, all_may_go, all_have_done, some_waits, devices_of}
+use Rattle.cue_exchange.specs.Live.{distinct, disjoint, devices_in, is_number, is_moment, is_attempt, has_number, attempt_of_device}
 
 -- ---- when a step may be taken
 
@@ -35,15 +36,23 @@ has_room live = nat_lt (length live) MAX_LIVE
 abbrev pub are_below : ℕ → List Attempt → Bool
 are_below q live = list_all (λ a. nat_lt a.seq q) live
 
+-- some part is required, and no device is there twice
+abbrev pub are_sound_parts : List Part → Bool
+are_sound_parts parts = has_required_part parts && distinct (devices_in parts)
+
 -- an attempt with the number q and the deadline t may begin with the devices of the parts: there is room, its number is above
 -- those of the live attempts, and none of its devices is in one
 abbrev pub can_start : ℕ → ℕ → List Part → List Attempt → Bool
 can_start q t parts live =
-    is_number q && (is_moment t && (has_room live && (are_below q live && (are_free (devices_in parts) live && are_sound_devices (devices_in parts)))))
+    is_number q && (is_moment t && (has_room live && (are_below q live && (are_free (devices_in parts) live && are_sound_parts parts))))
 
 -- the device d is asked by q to stand by, and has not answered
 abbrev pub can_ready : ℕ → ℕ → List Attempt → Bool
 can_ready q d live = holds q (waits_in is_preparing d) live
+
+-- q is Preparing, and the device d is an optional one of it that waits or stands by
+abbrev pub can_excuse : ℕ → ℕ → List Attempt → Bool
+can_excuse q d live = holds q (λ a. is_preparing a.stage && is_excusable d a.answers) live
 
 -- the attempt is Preparing, and each of its devices may go
 abbrev pub can_go_now : Attempt → Bool

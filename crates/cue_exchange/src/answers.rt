@@ -3,8 +3,8 @@ ghost use Rattle.std.specs.Prelude.{◌≡◌, not};
 ghost use Rattle.std.specs.List.{list_all};
 ghost use Rattle.std.specs.Option.{option_copied};
 ghost use Rattle.cue_show.specs.Devices.{distinct, disjoint};
-ghost use Rattle.cue_exchange.specs.Live.{are_sound_devices};
-ghost use Rattle.cue_exchange.specs.Answers.{is_waiting, device_answer, answer_passes, is_one_of, some_waits, all_may_go, all_have_done, with_answer, answers_with, devices_of, stands, entered, enters};
+ghost use Rattle.cue_exchange.specs.Live.{have_sound_devices};
+ghost use Rattle.cue_exchange.specs.Answers.{is_waiting, device_answer, answer_passes, is_one_of, has_required, is_excusable, some_waits, all_may_go, all_have_done, with_answer, answers_with, devices_of, stands, entered, enters};
 
 use crate::attempt::{Answer, DeviceAnswer, Stage};
 use cue_show::DeviceNo;
@@ -63,11 +63,18 @@ impl Answers {
         self.items.iter().any(|x| x.device == device)
     }
 
-    // Whether there is at least one device, and none of them twice.
+    // Whether some device is required, and none is there twice.
     pub(crate) fn has_sound_devices(&self) -> bool
-        ensures { result ≡ are_sound_devices (devices_of self.now) }
+        ensures { result ≡ have_sound_devices self.now }
     {
-        !self.items.is_empty() && are_distinct(&self.items)
+        self.has_required() && are_distinct(&self.items)
+    }
+
+    // Whether some device is required.
+    fn has_required(&self) -> bool
+        ensures { result ≡ has_required self.now }
+    {
+        self.items.iter().any(|x| x.is_required())
     }
 
     // Whether no device is one of both attempts.
@@ -81,7 +88,7 @@ impl Answers {
     pub(crate) fn all_stand(&self, stage: Stage) -> bool
         ensures { result ≡ list_all (stands stage) self.now }
     {
-        self.items.iter().all(|x| stage.knows(x.answer))
+        self.items.iter().all(|x| x.stands(stage))
     }
 
     /// Whether the device is one of the attempt and is still to answer.
@@ -91,6 +98,15 @@ impl Answers {
         self.items
             .iter()
             .any(|x| x.device == device && x.answer.is_waiting())
+    }
+
+    // Whether the device is an optional one of the attempt that waits or stands by.
+    pub(crate) fn can_excuse(&self, device: DeviceNo) -> bool
+        ensures { result ≡ is_excusable device self.now }
+    {
+        self.items
+            .iter()
+            .any(|x| x.device == device && x.can_be_excused())
     }
 
     // Whether some device is still to answer.
@@ -104,14 +120,14 @@ impl Answers {
     pub(crate) fn all_may_go(&self) -> bool
         ensures { result ≡ all_may_go self.now }
     {
-        self.items.iter().all(|x| x.answer.is_ready())
+        self.items.iter().all(|x| x.may_go())
     }
 
-    // Whether each device has carried the cue out.
+    // Whether each device has carried the cue out, or was excused.
     pub(crate) fn all_have_done(&self) -> bool
         ensures { result ≡ all_have_done self.now }
     {
-        self.items.iter().all(|x| x.answer.is_done())
+        self.items.iter().all(|x| x.has_done())
     }
 
     // The device has answered.

@@ -3,7 +3,7 @@ ghost use Rattle.std.specs.Prelude.{◌≡◌, ◌≤◌};
 ghost use Rattle.cue_exchange.specs.Live.{is_attempt, is_due, is_number, is_open, is_sound};
 ghost use Rattle.cue_exchange.specs.Steps.{can_go_now, is_apart, outcome_of};
 ghost use Rattle.cue_exchange.specs.Outcomes.{outcome_number, outcome_numbered};
-ghost use Rattle.cue_exchange.specs.Answers.{is_waiting, is_ready, is_done, is_preparing, is_decided, is_cancelling, is_concluding, is_known_in, entering};
+ghost use Rattle.cue_exchange.specs.Answers.{is_waiting, is_ready, is_done, is_excused, is_required, stands, may_go, has_done, can_be_excused, is_preparing, is_decided, is_cancelling, is_concluding, is_known_in, entering};
 
 use crate::answers::Answers;
 use crate::limits::LAST_NUMBER;
@@ -23,6 +23,8 @@ pub enum Answer {
     LetGo,
     /// It cannot go on.
     Failed,
+    /// It is optional, and the cue may go without it.
+    Excused,
 }
 
 impl Answer {
@@ -32,7 +34,8 @@ impl Answer {
     {
         match self {
             Answer::Waiting => true,
-            Answer::Ready | Answer::Done | Answer::LetGo | Answer::Failed => false,
+            Answer::Ready | Answer::Done => false,
+            Answer::LetGo | Answer::Failed | Answer::Excused => false,
         }
     }
 
@@ -42,7 +45,8 @@ impl Answer {
     {
         match self {
             Answer::Ready => true,
-            Answer::Waiting | Answer::Done | Answer::LetGo | Answer::Failed => false,
+            Answer::Waiting | Answer::Done => false,
+            Answer::LetGo | Answer::Failed | Answer::Excused => false,
         }
     }
 
@@ -52,7 +56,19 @@ impl Answer {
     {
         match self {
             Answer::Done => true,
-            Answer::Waiting | Answer::Ready | Answer::LetGo | Answer::Failed => false,
+            Answer::Waiting | Answer::Ready => false,
+            Answer::LetGo | Answer::Failed | Answer::Excused => false,
+        }
+    }
+
+    // Whether the cue may go without the device.
+    pub(crate) fn is_excused(self) -> bool
+        ensures { result ≡ is_excused self }
+    {
+        match self {
+            Answer::Excused => true,
+            Answer::Waiting | Answer::Ready | Answer::Done => false,
+            Answer::LetGo | Answer::Failed => false,
         }
     }
 
@@ -60,10 +76,12 @@ impl Answer {
     pub(crate) fn entering(self, stage: Stage) -> Answer
         ensures { result ≡ entering stage self }
     {
-        match stage {
-            Stage::Preparing | Stage::Decided | Stage::Cancelling(_) => match self {
-                Answer::Waiting | Answer::Ready => Answer::Waiting,
-                Answer::Done | Answer::LetGo | Answer::Failed => Answer::Waiting,
+        match self {
+            Answer::Waiting | Answer::Ready | Answer::Done => Answer::Waiting,
+            Answer::LetGo | Answer::Failed => Answer::Waiting,
+            Answer::Excused => match stage {
+                Stage::Preparing | Stage::Decided => Answer::Excused,
+                Stage::Cancelling(_) => Answer::LetGo,
             },
         }
     }
@@ -141,12 +159,13 @@ impl Stage {
         ensures { result ≡ is_known_in self answer }
     {
         match (self, answer) {
-            (Stage::Preparing, Answer::Waiting | Answer::Ready) => true,
+            (Stage::Preparing, Answer::Waiting | Answer::Ready | Answer::Excused) => true,
             (Stage::Preparing, Answer::Done | Answer::LetGo | Answer::Failed) => false,
-            (Stage::Decided, Answer::Waiting | Answer::Done | Answer::Failed) => true,
+            (Stage::Decided, Answer::Waiting | Answer::Done) => true,
+            (Stage::Decided, Answer::Failed | Answer::Excused) => true,
             (Stage::Decided, Answer::Ready | Answer::LetGo) => false,
             (Stage::Cancelling(_), Answer::Waiting | Answer::LetGo | Answer::Failed) => true,
-            (Stage::Cancelling(_), Answer::Ready | Answer::Done) => false,
+            (Stage::Cancelling(_), Answer::Ready | Answer::Done | Answer::Excused) => false,
         }
     }
 }
@@ -190,8 +209,47 @@ impl Outcome {
 #[derive(Clone, Copy, PartialEq, Eq, Debug)]
 pub struct DeviceAnswer {
     pub device: DeviceNo,
+    /// Whether the cue may go without it, once it was excused.
+    pub optional: bool,
     /// What it has answered in the present stage.
     pub answer: Answer,
+}
+
+impl DeviceAnswer {
+    // Whether the cue is not carried out without the device.
+    pub(crate) fn is_required(&self) -> bool
+        ensures { result ≡ is_required self.now }
+    {
+        !self.optional
+    }
+
+    // Whether the answer may stand in the stage; only an optional device is excused.
+    pub(crate) fn stands(&self, stage: Stage) -> bool
+        ensures { result ≡ stands stage self.now }
+    {
+        stage.knows(self.answer) && !(self.is_required() && self.answer.is_excused())
+    }
+
+    // Whether, as far as the device goes, the cue may be carried out.
+    pub(crate) fn may_go(&self) -> bool
+        ensures { result ≡ may_go self.now }
+    {
+        self.answer.is_ready() || self.answer.is_excused()
+    }
+
+    // Whether, as far as the device goes, the cue was carried out: by it, or without it.
+    pub(crate) fn has_done(&self) -> bool
+        ensures { result ≡ has_done self.now }
+    {
+        self.answer.is_done() || self.answer.is_excused()
+    }
+
+    // Whether the device may be excused: it is optional, and waits or stands by.
+    pub(crate) fn can_be_excused(&self) -> bool
+        ensures { result ≡ can_be_excused self.now }
+    {
+        self.optional && (self.answer.is_waiting() || self.answer.is_ready())
+    }
 }
 
 /// One try at a cue.

@@ -5,8 +5,8 @@ ghost use Rattle.std.specs.Option.{option_copied};
 ghost use Rattle.cue_show.specs.Devices.{devices_in};
 ghost use Rattle.cue_exchange.specs.declared.attempt.Answer.TheVariants as answer;
 ghost use Rattle.cue_exchange.specs.declared.attempt.Stage.TheVariants as stage;
-ghost use Rattle.cue_exchange.specs.Live.{are_live, are_sound_devices, attempt_of, attempt_of_device, attempt_of_cue, due, pairwise};
-ghost use Rattle.cue_exchange.specs.Steps.{answered, are_below, are_free, can_cancel, can_done, can_fail, can_go, can_let_go, can_put, can_ready, can_start, ended_in, has_room, is_apart, moved, started, with_attempt, without_ended};
+ghost use Rattle.cue_exchange.specs.Live.{are_live, attempt_of, attempt_of_device, attempt_of_cue, due, pairwise};
+ghost use Rattle.cue_exchange.specs.Steps.{answered, are_below, are_free, are_sound_parts, can_cancel, can_done, can_excuse, can_fail, can_go, can_let_go, can_put, can_ready, can_start, ended_in, has_room, is_apart, moved, started, with_attempt, without_ended};
 
 use crate::attempt::{Answer, Attempt, Outcome, Reason, Stage, is_number};
 use crate::holders::{Holders, holders_of, no_holders};
@@ -175,6 +175,15 @@ impl Live {
             && a.answers.waits_for(device))
     }
 
+    /// Whether the attempt is Preparing and the device is an optional one of it that waits or stands by.
+    pub fn can_excuse(&self, seq: u32, device: DeviceNo) -> bool
+        ensures { result ≡ can_excuse seq device self.now }
+    {
+        self.attempts.iter().any(|a| a.seq == seq
+            && a.stage.is_preparing()
+            && a.answers.can_excuse(device))
+    }
+
     /// Whether the attempt is Preparing and, as far as each of its devices goes, the cue may be carried out.
     pub fn can_go(&self, seq: u32) -> bool
         ensures { result ≡ can_go seq self.now }
@@ -278,7 +287,15 @@ impl Live {
         steps::put_answer(&mut self.attempts, seq, device, Answer::Ready);
     }
 
-    /// The cue is carried out: each device is asked to do its part. Asked first: `can_go`.
+    /// The optional device is excused: the cue may go without it, and it is asked nothing more. Asked first: `can_excuse`.
+    pub fn excuse(&mut self, seq: u32, device: DeviceNo)
+        requires { IsTrue (can_excuse seq device self.old) }
+        ensures { self.new ≡ answered seq device answer.Excused self.old }
+    {
+        steps::put_answer(&mut self.attempts, seq, device, Answer::Excused);
+    }
+
+    /// The cue is carried out: each device that was not excused is asked to do its part. Asked first: `can_go`.
     pub fn go(&mut self, seq: u32)
         requires { IsTrue (can_go seq self.old) }
         ensures { self.new ≡ moved seq stage.Decided self.old }
@@ -286,7 +303,7 @@ impl Live {
         steps::move_to(&mut self.attempts, seq, Stage::Decided);
     }
 
-    /// The preparation is given up: each device is told so. Asked first: `can_cancel`.
+    /// The preparation is given up: each device that was not excused is told so. Asked first: `can_cancel`.
     pub fn cancel(&mut self, seq: u32, reason: Reason)
         requires { IsTrue (can_cancel seq self.old) }
         ensures { self.new ≡ moved seq (stage.Cancelling reason) self.old }
@@ -331,9 +348,9 @@ impl Live {
     }
 }
 
-// Whether an attempt may have the devices of the parts: at least one, and none of them twice.
+// Whether an attempt may have the devices of the parts: some part is required, and no device is there twice.
 fn are_sound(parts: &Parts) -> bool
-    ensures { result ≡ are_sound_devices (devices_in parts.now) }
+    ensures { result ≡ are_sound_parts parts.now }
 {
-    !parts.as_slice().is_empty() && parts.has_distinct_devices()
+    parts.has_required_part() && parts.has_distinct_devices()
 }

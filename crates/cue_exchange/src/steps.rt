@@ -34,6 +34,7 @@ fn asked(part: &Part) -> DeviceAnswer
 {
     DeviceAnswer {
         device: part.device,
+        optional: part.optional,
         answer: Answer::Waiting,
     }
 }

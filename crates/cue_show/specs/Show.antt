@@ -89,7 +89,7 @@ is_table devices = nat_le (length devices) MAX_DEVICES && (distinct (keys_of dev
 abbrev pub is_cue_of : ShowLists → List ℕ × List Part → Bool
 is_cue_of s e = is_cue_number e.0 && (are_parts e.1 && are_known s e.1)
 
--- the stack has at most 256 distinct cues
+-- the stack has at most 1,024 distinct cues
 abbrev pub is_stack_of : ShowLists → Cues → Bool
 is_stack_of s cues = nat_le (length cues) MAX_CUES && (are_distinct same_text (keys_of cues) && list_all (is_cue_of s) cues)
 

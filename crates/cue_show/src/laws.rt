@@ -18,14 +18,14 @@ pub fn removals_keep_the_order()
     ensures { RemovalsKeepTheOrder }
 {}
 
-/// The limits, as numbers: 112 devices from 0 to 111 with ports to 65,535, 256 cues with numbers of at most 16 bytes, and 16 parts of at
+/// The limits, as numbers: 112 devices from 0 to 111 with ports to 65,535, 1,024 cues with numbers of at most 16 bytes, and 16 parts of at
 /// most 32 bytes.
 pub fn limits()
     ensures last_device { LAST_DEVICE ≡ 111 }
     ensures devices { MAX_DEVICES ≡ 112 }
     ensures last_port { LAST_PORT ≡ 65535 }
     ensures cue_bytes { MAX_CUE_BYTES ≡ 16 }
-    ensures cues { MAX_CUES ≡ 256 }
+    ensures cues { MAX_CUES ≡ 1024 }
     ensures parts { MAX_PARTS ≡ 16 }
     ensures part_bytes { MAX_PART_BYTES ≡ 32 }
 {}

@@ -13,7 +13,7 @@ pub const LAST_PORT: u16 = 65535;
 pub const MAX_CUE_BYTES: usize = 16;
 
 /// The most cues of a stack.
-pub const MAX_CUES: usize = 256;
+pub const MAX_CUES: usize = 1024;
 
 /// The most parts of a cue.
 pub const MAX_PARTS: usize = 16;

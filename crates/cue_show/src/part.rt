@@ -3,7 +3,7 @@ ghost use Rattle.std.specs.Prelude.{◌≡◌, ◌+◌, [], ◌∷◌, ◌++◌,
 ghost use Rattle.std.specs.Cmp.{partial_equiv_from_equiv};
 ghost use Rattle.std.specs.List.{list_all};
 ghost use Rattle.cue_show.specs.Devices.{distinct, devices_in};
-ghost use Rattle.cue_show.specs.Parts.{is_part, are_parts, uses, same_parts, same_parts_equiv};
+ghost use Rattle.cue_show.specs.Parts.{is_part, is_required_part, has_required_part, are_parts, uses, same_parts, same_parts_equiv};
 
 use crate::bytes::Bytes;
 use crate::device::DeviceNo;
@@ -15,17 +15,35 @@ use std::marker::Model;
 #[derive(Clone, Debug, Drop, PartialEq, Eq)]
 pub struct Part {
     pub device: DeviceNo,
+    /// Whether the cue may be carried out without the device, once it was excused.
+    pub optional: bool,
     /// They mean something to the device alone.
     pub bytes: Bytes,
 }
 
 impl Part {
     /// The part of a device, with a copy of its bytes. It fails only where memory ran out.
-    pub fn of(alloc: Global, device: DeviceNo, bytes: &[u8]) -> Result<Part, AllocError>
-        ensures { IfOk result (λ p. p ≡ record { device = device; bytes = bytes.now }) }
+    pub fn of(
+        alloc: Global,
+        device: DeviceNo,
+        optional: bool,
+        bytes: &[u8],
+    ) -> Result<Part, AllocError>
+        ensures { IfOk result (λ p. p ≡ record { device = device; optional = optional; bytes = bytes.now }) }
     {
         let bytes = Bytes::from_vec(Vec::from_slice(alloc, bytes)?);
-        Ok(Part { device, bytes })
+        Ok(Part {
+            device,
+            optional,
+            bytes,
+        })
+    }
+
+    // Whether the cue is not carried out without the device.
+    pub(crate) fn is_required(&self) -> bool
+        ensures { result ≡ is_required_part self.now }
+    {
+        !self.optional
     }
 
     /// Whether the part has at most 32 bytes.
@@ -126,12 +144,18 @@ impl Parts {
         self.as_slice().iter().all(|part| part.is_fit())
     }
 
-    /// Whether a cue can have these parts: 1 to 16 of distinct devices, each with at most 32 bytes.
+    /// Whether one of the parts is required.
+    pub fn has_required_part(&self) -> bool
+        ensures { result ≡ has_required_part self.now }
+    {
+        self.as_slice().iter().any(|part| part.is_required())
+    }
+
+    /// Whether a cue can have these parts: 1 to 16 of distinct devices, each with at most 32 bytes, and one at least required.
     pub fn is_fit(&self) -> bool
         ensures { result ≡ are_parts self.now }
     {
-        let count = self.as_slice().len();
-        if count < 1 || MAX_PARTS < count {
+        if !self.has_required_part() || MAX_PARTS < self.as_slice().len() {
             return false;
         }
         self.has_distinct_devices() && self.each_is_fit()

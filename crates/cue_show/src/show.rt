@@ -160,7 +160,7 @@ impl Show {
     }
 
     /// Whether the cue can be put on the stack: it is not there yet, there is room, and its parts are 1 to 16 of distinct devices of
-    /// the table, each with at most 32 bytes.
+    /// the table, each with at most 32 bytes, and one at least is required.
     pub fn can_add_cue(&self, cue: CueNo, parts: &Parts) -> bool
         ensures { result ≡ can_add_cue self.now cue parts.now }
     {

@@ -2,7 +2,7 @@
 ghost use Rattle.std.specs.Prelude.{◌≡◌, [], ◌∷◌};
 ghost use Rattle.cue_exchange.specs.declared.attempt.Reason.TheVariants as reason;
 ghost use Rattle.cue_core.specs.declared.event.Event.TheVariants as event;
-ghost use Rattle.cue_core.specs.Judge.{made, prepares, on_standby, on_standby_of, on_go, on_go_of, on_cancel, on_cancel_of, on_release, on_release_of, on_release_in};
+ghost use Rattle.cue_core.specs.Judge.{made, prepares, on_standby, on_standby_of, on_go, on_go_of, on_cancel, on_cancel_of, on_release, on_release_of, on_release_in, release_early};
 
 use crate::command::{Code, Verdict};
 use crate::event::Event;
@@ -128,14 +128,28 @@ fn on_release_in(seq: u32, told: DeviceAnswer, stage: Stage) -> (Verdict, Events
     ensures { result ≡ on_release_in seq told stage told.answer }
 {
     match (stage, told.answer) {
-        (Stage::Preparing, Answer::Waiting | Answer::Ready | Answer::Done) => given_up(seq, told),
-        (Stage::Preparing, Answer::LetGo | Answer::Failed) => given_up(seq, told),
+        (Stage::Preparing | Stage::Decided | Stage::Cancelling(_), Answer::Excused) => known(),
+        (Stage::Preparing, Answer::Waiting | Answer::Ready) => release_early(seq, told),
+        (Stage::Preparing, Answer::Done | Answer::LetGo | Answer::Failed) => {
+            release_early(seq, told)
+        }
         (Stage::Decided, Answer::Waiting) => made(Event::Failed(seq, told.device)),
         (Stage::Decided, Answer::Ready | Answer::Done) => known(),
         (Stage::Decided, Answer::LetGo | Answer::Failed) => known(),
         (Stage::Cancelling(_), Answer::Waiting) => made(Event::LetGo(seq, told.device)),
         (Stage::Cancelling(_), Answer::Ready | Answer::Done) => known(),
         (Stage::Cancelling(_), Answer::LetGo | Answer::Failed) => known(),
+    }
+}
+
+// The device is released while its attempt is Preparing.
+fn release_early(seq: u32, told: DeviceAnswer) -> (Verdict, Events)
+    ensures { result ≡ release_early seq told }
+{
+    if told.optional {
+        made(Event::Excuse(seq, told.device))
+    } else {
+        given_up(seq, told)
     }
 }
 

@@ -3,7 +3,7 @@ ghost use Rattle.std.specs.Prelude.{◌≡◌, [], ◌∷◌};
 ghost use Rattle.cue_exchange.specs.declared.attempt.Reason.TheVariants as reason;
 ghost use Rattle.cue_core.specs.declared.event.Event.TheVariants as event;
 ghost use Rattle.cue_core.specs.declared.command.Code.TheVariants as code;
-ghost use Rattle.cue_core.specs.Judge.{made, refused, on_reply, on_reply_to, on_reply_in, is_from_another, on_standing_by, on_complete, on_cancelled, on_abort};
+ghost use Rattle.cue_core.specs.Judge.{made, refused, on_reply, on_reply_to, on_reply_in, is_from_another, on_standing_by, on_complete, on_cancelled, on_abort, abort_early, abort_late};
 
 use crate::command::{Code, ReplyKind, Verdict};
 use crate::event::Event;
@@ -71,6 +71,7 @@ fn on_standing_by(seq: u32, told: DeviceAnswer, stage: Stage) -> (Verdict, Event
     ensures { result ≡ on_standing_by seq told stage told.answer }
 {
     match (stage, told.answer) {
+        (Stage::Preparing | Stage::Decided | Stage::Cancelling(_), Answer::Excused) => stale(),
         (Stage::Preparing, Answer::Waiting) => made(Event::Ready(seq, told.device)),
         (Stage::Preparing, Answer::Ready | Answer::Done) => known(),
         (Stage::Preparing, Answer::LetGo | Answer::Failed) => known(),
@@ -87,10 +88,11 @@ fn on_complete(seq: u32, told: DeviceAnswer, stage: Stage) -> (Verdict, Events)
 {
     match (stage, told.answer) {
         (Stage::Preparing, Answer::Waiting | Answer::Ready | Answer::Done) => early(),
-        (Stage::Preparing, Answer::LetGo | Answer::Failed) => early(),
+        (Stage::Preparing, Answer::LetGo | Answer::Failed | Answer::Excused) => early(),
         (Stage::Decided, Answer::Waiting) => made(Event::Done(seq, told.device)),
         (Stage::Decided, Answer::Done) => known(),
         (Stage::Decided, Answer::Ready | Answer::LetGo | Answer::Failed) => stale(),
+        (Stage::Decided | Stage::Cancelling(_), Answer::Excused) => stale(),
         (Stage::Cancelling(_), Answer::Waiting | Answer::Ready | Answer::Done) => stale(),
         (Stage::Cancelling(_), Answer::LetGo | Answer::Failed) => stale(),
     }
@@ -101,12 +103,13 @@ fn on_cancelled(seq: u32, told: DeviceAnswer, stage: Stage) -> (Verdict, Events)
 {
     match (stage, told.answer) {
         (Stage::Preparing, Answer::Waiting | Answer::Ready | Answer::Done) => early(),
-        (Stage::Preparing, Answer::LetGo | Answer::Failed) => early(),
+        (Stage::Preparing, Answer::LetGo | Answer::Failed | Answer::Excused) => early(),
         (Stage::Decided, Answer::Waiting | Answer::Ready | Answer::Done) => decided(),
-        (Stage::Decided, Answer::LetGo | Answer::Failed) => decided(),
+        (Stage::Decided, Answer::LetGo | Answer::Failed | Answer::Excused) => decided(),
         (Stage::Cancelling(_), Answer::Waiting) => made(Event::LetGo(seq, told.device)),
         (Stage::Cancelling(_), Answer::LetGo) => known(),
-        (Stage::Cancelling(_), Answer::Ready | Answer::Done | Answer::Failed) => stale(),
+        (Stage::Cancelling(_), Answer::Ready | Answer::Done) => stale(),
+        (Stage::Cancelling(_), Answer::Failed | Answer::Excused) => stale(),
     }
 }
 
@@ -114,14 +117,38 @@ fn on_abort(seq: u32, told: DeviceAnswer, stage: Stage) -> (Verdict, Events)
     ensures { result ≡ on_abort seq told stage told.answer }
 {
     match (stage, told.answer) {
-        (Stage::Preparing, Answer::Waiting | Answer::Ready | Answer::Done) => given_up(seq, told),
-        (Stage::Preparing, Answer::LetGo | Answer::Failed) => given_up(seq, told),
+        (Stage::Preparing, Answer::Waiting | Answer::Ready) => abort_early(seq, told),
+        (Stage::Preparing, Answer::Done | Answer::LetGo | Answer::Failed) => abort_early(seq, told),
+        (Stage::Preparing | Stage::Decided, Answer::Excused) => known(),
         (Stage::Decided, Answer::Waiting) => made(Event::Failed(seq, told.device)),
         (Stage::Decided, Answer::Failed) => known(),
         (Stage::Decided, Answer::Ready | Answer::Done | Answer::LetGo) => stale(),
-        (Stage::Cancelling(_), Answer::Waiting) => made(Event::Failed(seq, told.device)),
+        (Stage::Cancelling(_), Answer::Waiting) => abort_late(seq, told),
         (Stage::Cancelling(_), Answer::Failed) => known(),
-        (Stage::Cancelling(_), Answer::Ready | Answer::Done | Answer::LetGo) => stale(),
+        (Stage::Cancelling(_), Answer::Ready | Answer::Done) => stale(),
+        (Stage::Cancelling(_), Answer::LetGo | Answer::Excused) => stale(),
+    }
+}
+
+// The device cannot go on while its attempt is Preparing.
+fn abort_early(seq: u32, told: DeviceAnswer) -> (Verdict, Events)
+    ensures { result ≡ abort_early seq told }
+{
+    if told.optional {
+        made(Event::Excuse(seq, told.device))
+    } else {
+        given_up(seq, told)
+    }
+}
+
+// The device cannot go on while its attempt is Cancelling.
+fn abort_late(seq: u32, told: DeviceAnswer) -> (Verdict, Events)
+    ensures { result ≡ abort_late seq told }
+{
+    if told.optional {
+        made(Event::LetGo(seq, told.device))
+    } else {
+        made(Event::Failed(seq, told.device))
     }
 }
 

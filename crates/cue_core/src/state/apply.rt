@@ -36,6 +36,7 @@ impl State {
             Event::Cancel(seq, _) => self.live.can_cancel(*seq),
             Event::LetGo(seq, device) => self.live.can_let_go(*seq, *device),
             Event::Failed(seq, device) => self.live.can_fail(*seq, *device),
+            Event::Excuse(seq, device) => self.live.can_excuse(*seq, *device),
         }
     }
 
@@ -72,6 +73,7 @@ impl State {
             Event::Cancel(seq, reason) => self.cancel(*seq, *reason),
             Event::LetGo(seq, device) => self.let_go(*seq, *device),
             Event::Failed(seq, device) => self.failed(*seq, *device),
+            Event::Excuse(seq, device) => self.excuse(*seq, *device),
         }
         Ok(())
     }
@@ -132,6 +134,13 @@ impl State {
         ensures { self.new ≡ after self.old (event.Ready seq device) }
     {
         self.live.ready(seq, device);
+    }
+
+    fn excuse(&mut self, seq: u32, device: DeviceNo)
+        requires { IsTrue (acceptable self.old (event.Excuse seq device)) }
+        ensures { self.new ≡ after self.old (event.Excuse seq device) }
+    {
+        self.live.excuse(seq, device);
     }
 
     // The place goes on to the cue that follows that of the attempt.

@@ -2,13 +2,14 @@
 use Rattle.std.proofs.Common.{◌≡◌, ℕ, ◌+◌, ◌<◌, Bool, true, false, not, ◌&&◌, ◌||◌, List, [], ◌∷◌, ◌++◌, nat_eq, refl, sym, ap, ◌∙◌, subst, arith, true≢false, IsTrue}
 use Rattle.std.proofs.lemmas.Bool.Decides.{nat_tests}
 use Rattle.std.specs.List.{list_any, list_all}
+use Rattle.cue_show.specs.declared.part.Part.{Part}
 use Rattle.cue_core.specs.declared.event.Event.{Event}
 use Rattle.cue_core.specs.declared.event.Event.TheVariants as event
-use Rattle.cue_core.specs.Events.{is_start_of, is_ready_of, is_go_of, is_cancel_of, is_about}
+use Rattle.cue_core.specs.Events.{is_start_of, is_ready_of, is_go_of, is_cancel_of, is_excuse_of, is_about}
 use Rattle.cue_core.specs.State.{ShowState}
 use Rattle.cue_core.specs.Steps.{acceptable, folded}
-use Rattle.cue_core.specs.History.{state_of, is_history, devices_by, stood_by}
-use Rattle.cue_core.specs.InOrder.{keeps_order, is_in_order}
+use Rattle.cue_core.specs.History.{state_of, is_history, parts_by}
+use Rattle.cue_core.specs.InOrder.{may_go_by, keeps_order, is_in_order}
 use Rattle.cue_core.specs.Happenings.{onto}
 use Rattle.cue_core.specs.Pending.{Order, pending}
 use Rattle.cue_core.specs.Safety.{is_go_to, is_cancel_to, ever}
@@ -18,7 +19,7 @@ use Rattle.cue_core.proofs.Safety.{never-asked-both}
 use Rattle.cue_outbox.specs.Sending.{Send, order, all_pending}
 use Rattle.cue_engine.specs.Given.{Given}
 use Rattle.cue_engine.specs.Runs.{Happening, run, joined, given_at, with_batch}
-use Rattle.cue_engine.specs.Attempts.{accepted, IsDecidedInOrder, DecidedInOrder, NumberNamesOne, is_command, was_sent, NeverSentBoth}
+use Rattle.cue_engine.specs.Attempts.{accepted, may_go_after, IsDecidedInOrder, DecidedInOrder, NumberNamesOne, is_command, was_sent, NeverSentBoth}
 use Rattle.cue_core.proofs.Truth.{or_left, or_right, either, itself, same, any-append, any-mapped, all_implied}
 use Rattle.cue_engine.proofs.Histories.{inputs_make_histories, inputs_in_order}
 use Rattle.cue_core.proofs.Batches.{state-onto, onto-append}
@@ -97,16 +98,28 @@ no_cancel_later q (e ∷ es) past h gone c =
     refused (event.Done p d) k kept = sym k
     refused (event.LetGo p d) k kept = sym k
     refused (event.Failed p d) k kept = sym k
+    refused (event.Excuse p d) k kept = sym k
+
+-- who may go by the history may go after the events
+may_go : (q : ℕ) (before : List Event) (p : Part) → IsTrue (may_go_by (onto before []) q p) → IsTrue (may_go_after before q p)
+may_go q before p h =
+    either (list_any (is_ready_of q p.device) (onto before [])) (p.optional && list_any (is_excuse_of q p.device) (onto before [])) (may_go_after before q p)
+    (λ k. or_left (list_any (is_ready_of q p.device) before) _ (any_left (list_any (is_ready_of q p.device) before) (any_onto (is_ready_of q p.device) before [] k)))
+    (λ k.
+    let l = both p.optional (list_any (is_excuse_of q p.device) (onto before [])) k in
+    or_right (list_any (is_ready_of q p.device) before) _
+    (join p.optional (list_any (is_excuse_of q p.device) before) l.0 (any_left (list_any (is_excuse_of q p.device) before) (any_onto (is_excuse_of q p.device) before [] l.1))))
+    h
 
 decided_of : (q : ℕ) (before later : List Event) → IsTrue (is_in_order (onto later (event.Go q ∷ onto before []))) → IsDecidedInOrder q before later
 decided_of q before later h =
     let past : List Event = onto before [] in
     let go = (both (keeps_order past (event.Go q)) (is_in_order past) (order_before later (event.Go q ∷ past) h)).0 in
     let one = both (list_any (is_start_of q) past) _ go in
-    let two = both (list_all (λ d. stood_by past q d) (devices_by past q)) (not (list_any (is_cancel_of q) past)) one.1 in
+    let two = both (list_all (may_go_by past q) (parts_by past q)) (not (list_any (is_cancel_of q) past)) one.1 in
     record {
       started = any_left (list_any (is_start_of q) before) (any_onto (is_start_of q) before [] one.0);
-      all_ready = all_implied (λ d. stood_by past q d) (λ d. list_any (is_ready_of q d) before) (λ d k. any_left (list_any (is_ready_of q d) before) (any_onto (is_ready_of q d) before [] k)) (devices_by past q) two.0;
+      all_ready = all_implied (may_go_by past q) (may_go_after before q) (λ p k. may_go q before p k) (parts_by past q) two.0;
       not_cancelled = no_any (list_any (is_cancel_of q) before) (λ k. contrary (list_any (is_cancel_of q) past) (any_in (is_cancel_of q) before [] (or_left (list_any (is_cancel_of q) before) false k)) two.1);
       stays = no_any (list_any (is_cancel_of q) later) (λ k. no_cancel_later q later (event.Go q ∷ past) h (or_left (nat_eq q q) _ (itself q)) k);
     }
@@ -131,6 +144,7 @@ about_started q (event.Done p d) h = absurd (true≢false (sym h))
 about_started q (event.Cancel p r) h = absurd (true≢false (sym h))
 about_started q (event.LetGo p d) h = absurd (true≢false (sym h))
 about_started q (event.Failed p d) h = absurd (true≢false (sym h))
+about_started q (event.Excuse p d) h = absurd (true≢false (sym h))
 
 any_about : (q : ℕ) (es : List Event) → list_any (is_start_of q) es ≡ true → list_any (is_about q) es ≡ true
 any_about q [] h = h
@@ -171,6 +185,7 @@ no_start_later q (e ∷ es) past h there s =
     refused (event.Cancel p r) k ok past_ok = sym k
     refused (event.LetGo p d) k ok past_ok = sym k
     refused (event.Failed p d) k ok past_ok = sym k
+    refused (event.Excuse p d) k ok past_ok = sym k
 
 named_once : (q : ℕ) (c : List ℕ) (t : ℕ) (before later : List Event) → IsTrue (is_history (onto later (event.Start q c t ∷ onto before []))) → IsTrue (not (list_any (is_start_of q) before) && not (list_any (is_start_of q) later))
 named_once q c t before later h =

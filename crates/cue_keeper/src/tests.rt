@@ -47,12 +47,7 @@ const SHOW: [u8; 37] = [
 
 // An area with this generation, the first state in this version, that show, and so many moves behind it, to cue 1 first
 // and to the two in turn.
-fn area_in(
-    alloc: Global,
-    version: u8,
-    generation: u64,
-    moves: u32,
-) -> Result<Vec<u8>, AllocError> {
+fn area_in(alloc: Global, version: u8, generation: u64, moves: u32) -> Result<Vec<u8>, AllocError> {
     let mut bytes = Vec::new(alloc);
     bytes.push(1)?;
     bytes.extend_from_slice(&generation.to_be_bytes())?;

@@ -176,7 +176,10 @@ fn commands_in_one_datagram(rt: HostRuntime) -> Result<(), Fail> {
     assert_eq!(rt; disks.first.bytes(), bytes.as_slice());
     let disks = play(&rt, alloc, disks, &[&JUST_ENOUGH])?;
     // One record: a gate, a length, a count and 2,048 places of three to six bytes.
-    assert_eq!(rt; disks.first.bytes().len(), bytes.len().saturating_add(10_081));
+    assert_eq!(rt;
+        disks.first.bytes().len(),
+        bytes.len().saturating_add(10_081)
+    );
     let bytes = area(alloc, 1, &cues_of(alloc, 1, 256)?, &[])?;
     play(&rt, alloc, stored(alloc, &bytes, &[])?, &[&THREE_OF_256])?;
     Ok(())

@@ -62,12 +62,7 @@ fn a_store_that_is_cut(rt: HostRuntime) -> Result<(), Fail> {
 }
 
 // Each value of the byte at this place.
-fn each_value(
-    rt: &impl Abort,
-    alloc: Global,
-    at: usize,
-    answers: [Answer; 3],
-) -> Result<(), Fail> {
+fn each_value(rt: &impl Abort, alloc: Global, at: usize, answers: [Answer; 3]) -> Result<(), Fail> {
     let [one, two, other] = answers;
     for value in 0..=255u8 {
         let want = match value {

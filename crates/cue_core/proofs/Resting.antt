@@ -74,6 +74,7 @@ live-back s (event.Done p d) q h = or_left (is_live_in s q) _ (live-changed p q 
 live-back s (event.Cancel p r) q h = or_left (is_live_in s q) _ (live-changed p q (moves_to (Cancelling r)) (λ a. refl) s.live h)
 live-back s (event.LetGo p d) q h = or_left (is_live_in s q) _ (live-changed p q (answers_as d answers.LetGo) (λ a. refl) s.live (any-kept (λ a. nat_eq a.seq q && true) (goes_on p) (answered p d answers.LetGo s.live) h))
 live-back s (event.Failed p d) q h = or_left (is_live_in s q) _ (live-changed p q (answers_as d answers.Failed) (λ a. refl) s.live (any-kept (λ a. nat_eq a.seq q && true) (goes_on p) (answered p d answers.Failed s.live) h))
+live-back s (event.Excuse p d) q h = or_left (is_live_in s q) _ (live-changed p q (answers_as d answers.Excused) (λ a. refl) s.live h)
 
 pub decided-back : (s : ShowState) (e : Event) (q : ℕ) → is_decided_in (after s e) q ≡ true → (is_decided_in s q || is_go_of q e) ≡ true
 decided-back s (event.Device d p) q h = or_left (is_decided_in s q) _ h
@@ -92,6 +93,7 @@ decided-back s (event.Done p d) q h = or_left (is_decided_in s q) _ (decided-cha
 decided-back s (event.Cancel p r) q h = or_left (is_decided_in s q) _ (decided-changed p q (moves_to (Cancelling r)) (λ a. refl) (λ a k. absurd (true≢false (sym k))) s.live h)
 decided-back s (event.LetGo p d) q h = or_left (is_decided_in s q) _ (decided-changed p q (answers_as d answers.LetGo) (λ a. refl) (λ a k. k) s.live (any-kept (λ a. nat_eq a.seq q && is_decided a.stage) (goes_on p) (answered p d answers.LetGo s.live) h))
 decided-back s (event.Failed p d) q h = or_left (is_decided_in s q) _ (decided-changed p q (answers_as d answers.Failed) (λ a. refl) (λ a k. k) s.live (any-kept (λ a. nat_eq a.seq q && is_decided a.stage) (goes_on p) (answered p d answers.Failed s.live) h))
+decided-back s (event.Excuse p d) q h = or_left (is_decided_in s q) _ (decided-changed p q (answers_as d answers.Excused) (λ a. refl) (λ a k. k) s.live h)
 
 -- ---- lists of events
 

@@ -9,8 +9,8 @@ use Rattle.cue_exchange.specs.declared.attempt.Stage.TheVariants.{Preparing, Dec
 use Rattle.cue_exchange.specs.declared.attempt.DeviceAnswer.{DeviceAnswer}
 use Rattle.cue_exchange.specs.declared.attempt.Attempt.{Attempt}
 use Rattle.cue_exchange.specs.declared.limits.TheConstants.{LAST_NUMBER, MAX_LIVE}
-use Rattle.cue_exchange.specs.Answers.{is_waiting, is_preparing, stands, some_waits, devices_of}
-use Rattle.cue_exchange.specs.Live.{are_live, is_attempt, is_sound, is_open, is_number, is_moment, are_sound_devices, pairwise, goes_before, disjoint, distinct}
+use Rattle.cue_exchange.specs.Answers.{is_waiting, is_preparing, has_required, stands, some_waits, devices_of}
+use Rattle.cue_exchange.specs.Live.{are_live, is_attempt, is_sound, is_open, is_number, is_moment, have_sound_devices, pairwise, goes_before, disjoint, distinct}
 use Rattle.cue_show.specs.Show.{is_show}
 use Rattle.cue_core.specs.declared.event.Event.{Event}
 use Rattle.cue_core.specs.State.{ShowState, is_state, are_tied, is_at_cue, is_ended}
@@ -57,7 +57,7 @@ one_left (Cancelling r) xs n k o = not_all (all_last xs) (some_left xs o)
 pub record AttemptRules (a : Attempt) : Type 0 where
   pub number : IsTrue (is_number a.seq)
   pub moment : IsTrue (is_moment a.deadline)
-  pub some : IsTrue (nat_le 1 (length (devices_of a.answers)))
+  pub some : IsTrue (has_required a.answers)
   pub distinct : IsTrue (distinct (devices_of a.answers))
   pub stand : IsTrue (list_all (stands a.stage) a.answers)
   pub open_one : IsTrue (is_open a.stage a.answers)
@@ -65,10 +65,10 @@ pub record AttemptRules (a : Attempt) : Type 0 where
 pub attempt_rules : (a : Attempt) → IsTrue (is_attempt a) → AttemptRules a
 attempt_rules a h =
     let p = both (is_sound a) (is_open a.stage a.answers) h in
-    let q = both (is_number a.seq) (is_moment a.deadline && (are_sound_devices (devices_of a.answers) && list_all (stands a.stage) a.answers)) p.0 in
-    let r = both (is_moment a.deadline) (are_sound_devices (devices_of a.answers) && list_all (stands a.stage) a.answers) q.1 in
-    let t = both (are_sound_devices (devices_of a.answers)) (list_all (stands a.stage) a.answers) r.1 in
-    let u = both (nat_le 1 (length (devices_of a.answers))) (distinct (devices_of a.answers)) t.0 in
+    let q = both (is_number a.seq) (is_moment a.deadline && (have_sound_devices a.answers && list_all (stands a.stage) a.answers)) p.0 in
+    let r = both (is_moment a.deadline) (have_sound_devices a.answers && list_all (stands a.stage) a.answers) q.1 in
+    let t = both (have_sound_devices a.answers) (list_all (stands a.stage) a.answers) r.1 in
+    let u = both (has_required a.answers) (distinct (devices_of a.answers)) t.0 in
     record { number = q.0; moment = r.0; some = u.0; distinct = u.1; stand = t.1; open_one = p.1 }
 
 pub sound_of : (s : ShowState) → IsTrue (is_state s) → IsSound s

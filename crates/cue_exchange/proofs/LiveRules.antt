@@ -16,7 +16,7 @@ use Rattle.cue_exchange.specs.declared.attempt.Attempt.{Attempt}
 use Rattle.cue_exchange.specs.declared.limits.TheConstants.{MAX_LIVE}
 use Rattle.cue_exchange.specs.Answers.{is_waiting, is_ready, is_preparing, is_decided, is_cancelling, is_concluding, is_known_in, is_excused, is_required, has_required, can_be_excused, is_excusable, stands, entered, with_answer, answer_passes, some_waits, devices_of}
 use Rattle.cue_exchange.specs.Live.{is_number, is_moment, is_open, have_sound_devices, is_sound, is_attempt, pairwise, goes_before, are_live, has_number}
-use Rattle.cue_exchange.specs.Steps.{holds, waits_in, has_room, are_below, are_free, are_sound_parts, can_start, can_ready, can_go, can_go_now, can_cancel, can_done, can_let_go, can_fail, can_excuse, changed, answers_as, moves_to, new_attempt, started, answered, moved, goes_on, without_ended}
+use Rattle.cue_exchange.specs.Steps.{holds, waits_in, has_room, are_below, are_free, are_sound_parts, can_start, can_ready, can_go, can_go_now, can_cancel, can_done, can_let_go, can_fail, can_excuse, can_excuse_now, changed, answers_as, moves_to, new_attempt, started, answered, moved, goes_on, without_ended}
 use Rattle.cue_exchange.proofs.Lists.{both, join, all_weaker, all_given, all_map, all_filter, all_kept, all_push, pairwise_map, pairwise_filter, pairwise_push}
 use Rattle.cue_exchange.proofs.DeviceRules.{are_free-each, only_one_device}
 use Rattle.cue_exchange.proofs.AnswerRules.{is_known_in-ready, is_known_in-done, is_known_in-let_go, is_known_in-failed, is_known_in-excused, is_open-preparing, is_open-some_waits, devices_of-with_answer, devices_of-entered, devices_of-first_answers, has_required-with_answer, has_required-entered, has_required-first_answers, excuses_none, excuses_none-other, all_stand-with_answer, all_stand-entered, all_stand-first_answers, some_waits-entered}
@@ -276,7 +276,7 @@ excuses_none-optional d answers h =
 -- a device is excused
 pub are_live-excused : (q d : ℕ) (live : List Attempt) → IsTrue (are_live live) → IsTrue (can_excuse q d live) → IsTrue (are_live (answered q d answer.Excused live))
 are_live-excused q d live h can =
-    are_live-changed q (λ a. is_preparing a.stage && is_excusable d a.answers) (answers_as d answer.Excused) (inside-answers_as d answer.Excused)
+    are_live-changed q (can_excuse_now d) (answers_as d answer.Excused) (inside-answers_as d answer.Excused)
     (λ a here k t.
     let s : IsTrue (is_preparing a.stage) × IsTrue (is_excusable d a.answers) = both (is_preparing a.stage) (is_excusable d a.answers) t in
     let devices : IsTrue (have_sound_devices a.answers) = (sound_of a (is_sound-of_attempt a k)).devices in

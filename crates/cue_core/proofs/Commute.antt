@@ -22,7 +22,7 @@ use Rattle.cue_core.specs.Steps.{folded, settled}
 use Rattle.cue_core.specs.Judge.{Judged, refused, on_reply_to, on_reply_in}
 use Rattle.cue_core.specs.Replies.{Said, is_made, is_reply_made, after_reply, RepliesCommute}
 use Rattle.cue_core.proofs.Conditions.{both, same_number, number_sym}
-use Rattle.cue_core.proofs.Finding.{rising, rising-changed, found-changed, found_has, found_passes, attempt_of-without_ended, if_open}
+use Rattle.cue_core.proofs.Finding.{rising, rising-changed, found-changed, found_has, attempt_of-without_ended, if_open}
 use Rattle.cue_core.proofs.Changes.{given_number, moved_number, answered_both, moved_excused, moved_over, asked_anew, unexcused, settled_open, device_answer-other, device_answer-entered, waiting_some}
 use Rattle.cue_core.proofs.Cells.{comes, comes_made, reply_of, device_found, cell_at, Falls, falls, Ends, ends, anew, Stays, Readies, Excuses, Aborts, Prepares, ready_stays, excused_stays, prepares}
 use Rattle.cue_core.proofs.Sound.{attempt_rules, sound_of}

@@ -2,6 +2,7 @@
 
 It answers the lines that `cuectl show` prints, or the name of the fault. It shares no line with the controller.
 """
+import functools
 import re
 from typing import NamedTuple
 
@@ -235,6 +236,7 @@ def read_event(text):
     return kind, number, text.within(1, 5, 1) if kind == 10 else text.within(0, 111, 1)
 
 
+@functools.lru_cache(maxsize=10_000)
 def read_batch(payload):
     text = Text(payload)
     events = [read_event(text) for _ in range(text.within(1, MAX_EVENTS, 2))]

@@ -53,7 +53,7 @@ impl<'a> Reader<'a> {
         Ok((seq, reason))
     }
 
-    // A cue and its parts, one of them at least optional.
+    // A cue and its parts, at least one of them optional.
     #[tactic(auto, unfolding(crate::specs::BatchReading::mixed_cue_at))]
     fn mixed_cue(&mut self, alloc: Global) -> Result<(CueNo, Parts), ReadFault>
         ensures { Gives (λ x. (x, self.new.rest.now)) result (mixed_cue_at self.old.rest.now) }

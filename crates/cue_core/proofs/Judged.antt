@@ -1,14 +1,13 @@
 -- What judging makes is acceptable in turn.
 use Rattle.std.proofs.Common.{◌≡◌, ℕ, ◌+◌, List, [], ◌∷◌, length, refl, sym, true≢false, ◌∙◌, ap, subst, Bool, true, false, not, cond, ◌&&◌, ◌||◌, nat_eq, nat_le, nat_lt, arith, Option, None, Some, Result, Ok, Err}
 use Rattle.std.specs.Prelude.{IsTrue, IfOk, is_some, map, find, if◌then◌else◌}
-use Rattle.std.specs.List.{list_all, list_any}
+use Rattle.std.specs.List.{list_all}
 use Rattle.std.specs.Map.{lookup}
 use Rattle.std.specs.Option.{option_map, option_map_or}
 use Rattle.std.proofs.lemmas.Bool.Decides.{nat_tests}
-use Rattle.std.proofs.lemmas.List.{length-map}
 use Rattle.cue_show.specs.declared.part.Part.{Part}
 use Rattle.cue_show.specs.DeviceNumber.{is_device, is_port}
-use Rattle.cue_show.specs.Devices.{is_among, distinct}
+use Rattle.cue_show.specs.Devices.{distinct}
 use Rattle.cue_show.specs.Number.{is_cue_number, same_text}
 use Rattle.cue_show.specs.Parts.{are_parts, is_part, has_required_part, same_parts}
 use Rattle.cue_show.specs.Show.{Cues, ShowLists, port_of, parts_of, has_device, has_cue, is_used, is_full, is_place, are_known, is_cue_of}
@@ -23,7 +22,7 @@ use Rattle.cue_exchange.specs.declared.attempt.Stage.{Stage}
 use Rattle.cue_exchange.specs.declared.attempt.Stage.TheVariants.{Preparing, Decided, Cancelling}
 use Rattle.cue_exchange.specs.declared.attempt.DeviceAnswer.{DeviceAnswer}
 use Rattle.cue_exchange.specs.declared.attempt.Attempt.{Attempt}
-use Rattle.cue_exchange.specs.Answers.{devices_of, is_waiting, is_preparing, is_decided, is_cancelling, is_concluding, is_ready, is_excused, is_excusable, is_known_in, can_be_excused, is_required, stands, entering, entered, answer_of, device_answer, answer_passes}
+use Rattle.cue_exchange.specs.Answers.{is_waiting, is_preparing, is_decided, is_cancelling, is_concluding, is_ready, is_excused, is_excusable, is_known_in, can_be_excused, is_required, stands, entering, entered, answer_of, device_answer, answer_passes}
 use Rattle.cue_exchange.specs.Live.{devices_in, attempt_of, attempt_of_cue, attempt_of_device, has_number, has_device as is_of_device, has_cue as is_of_cue, is_number, is_moment, is_attempt}
 use Rattle.cue_exchange.specs.Steps.{holds, waits_in, changed, moves_to, moved, can_go_now, are_free, are_sound_parts, has_room, are_below, can_start}
 use Rattle.cue_exchange.proofs.AnswerRules.{is_waiting-entering}

@@ -10,7 +10,7 @@ use Rattle.cue_core.specs.declared.event.Event.{Event}
 use Rattle.cue_core.specs.declared.event.Event.TheVariants as event
 use Rattle.cue_core.specs.Events.{is_go_of, is_start_of}
 use Rattle.cue_core.specs.State.{ShowState}
-use Rattle.cue_core.specs.Steps.{after, folded}
+use Rattle.cue_core.specs.Steps.{after}
 use Rattle.cue_core.specs.Batches.{is_live_in, is_decided_in, LiveByStart, DecidedByGo}
 use Rattle.cue_core.proofs.Conditions.{both, join}
 use Rattle.cue_core.proofs.Truth.{or_left, or_right, or_assoc, either, same, any-append, any-mapped, any-kept}

@@ -20,7 +20,7 @@ use Rattle.cue_exchange.specs.declared.attempt.Attempt.{Attempt}
 use Rattle.cue_exchange.specs.declared.attempt.DeviceAnswer.{DeviceAnswer}
 use Rattle.cue_exchange.specs.declared.limits.TheConstants.{LAST_NUMBER}
 use Rattle.cue_exchange.specs.Answers.{stands, devices_of, first_answers, entered, with_answer, some_waits, is_decided, is_cancelling, is_concluding}
-use Rattle.cue_exchange.specs.Live.{disjoint, devices_in, attempt_of, attempt_of_cue, has_number, are_live, is_attempt, is_number, is_moment, have_sound_devices, goes_before}
+use Rattle.cue_exchange.specs.Live.{disjoint, attempt_of, attempt_of_cue, has_number, are_live, is_attempt, is_number, is_moment, have_sound_devices, goes_before}
 use Rattle.cue_exchange.specs.Live.{has_cue as is_of_cue}
 use Rattle.cue_exchange.specs.Steps.{holds, waits_in, changed, answers_as, moves_to, new_attempt, started, answered, goes_on, without_ended, ended_in, can_start}
 use Rattle.cue_exchange.proofs.LiveRules.{are_live-ready, are_live-go, are_live-cancel, are_live-done, are_live-let_go, are_live-failed, are_live-excused, are_live-started, order_of, attempts_of, can_start_parts, is_sound-of_attempt}

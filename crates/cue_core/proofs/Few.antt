@@ -1,5 +1,5 @@
 -- A command that is made has one or two events, and no other has any.
-use Rattle.std.proofs.Common.{◌≡◌, ◌≢◌, ◌↔◌, ℕ, ◌≤◌, Bool, true, false, List, [], ◌∷◌, length, Option, None, Some, if◌then◌else◌, refl, arith}
+use Rattle.std.proofs.Common.{◌≡◌, ◌≢◌, ◌↔◌, ℕ, ◌≤◌, Bool, true, false, [], ◌∷◌, length, Option, None, Some, if◌then◌else◌, refl, arith}
 use Rattle.std.specs.Option.{option_map_or}
 use Rattle.cue_exchange.specs.declared.attempt.Answer.{Answer}
 use Rattle.cue_exchange.specs.declared.attempt.Answer.TheVariants as answer
@@ -8,7 +8,9 @@ use Rattle.cue_exchange.specs.declared.attempt.Stage.TheVariants.{Preparing, Dec
 use Rattle.cue_exchange.specs.declared.attempt.DeviceAnswer.{DeviceAnswer}
 use Rattle.cue_exchange.specs.declared.attempt.Attempt.{Attempt}
 use Rattle.cue_exchange.specs.Answers.{device_answer}
+use Rattle.cue_exchange.specs.declared.attempt.Reason.TheVariants.{Abort, Release}
 use Rattle.cue_core.specs.declared.event.Event.{Event}
+use Rattle.cue_core.specs.declared.event.Event.TheVariants as event
 use Rattle.cue_core.specs.declared.command.Code.{Code}
 use Rattle.cue_core.specs.declared.command.Command.{Command}
 use Rattle.cue_core.specs.declared.command.Command.TheVariants as command
@@ -16,7 +18,7 @@ use Rattle.cue_core.specs.declared.command.ReplyKind.{ReplyKind}
 use Rattle.cue_core.specs.declared.command.ReplyKind.TheVariants as reply
 use Rattle.cue_core.specs.declared.command.Verdict.TheVariants.{Made, Known, No}
 use Rattle.cue_core.specs.State.{ShowState}
-use Rattle.cue_core.specs.Judge.{Judged, judged, on_reply_in, on_reply_to, on_release_in, on_release_of}
+use Rattle.cue_core.specs.Judge.{Judged, judged, made, abort_early, abort_late, release_early, on_reply_in, on_reply_to, on_release_in, on_release_of}
 
 pub record HasItsEvents (j : Judged) : Type 0 where
   pub few : length j.1 ≤ 2
@@ -48,16 +50,19 @@ standing_by-has q d Preparing answer.Ready = none-known
 standing_by-has q d Preparing answer.Done = none-known
 standing_by-has q d Preparing answer.LetGo = none-known
 standing_by-has q d Preparing answer.Failed = none-known
+standing_by-has q d Preparing answer.Excused = none-refused
 standing_by-has q d Decided answer.Waiting = none-known
 standing_by-has q d Decided answer.Ready = none-known
 standing_by-has q d Decided answer.Done = none-known
 standing_by-has q d Decided answer.LetGo = none-known
 standing_by-has q d Decided answer.Failed = none-refused
+standing_by-has q d Decided answer.Excused = none-refused
 standing_by-has q d (Cancelling r) answer.Waiting = none-refused
 standing_by-has q d (Cancelling r) answer.Ready = none-refused
 standing_by-has q d (Cancelling r) answer.Done = none-refused
 standing_by-has q d (Cancelling r) answer.LetGo = none-refused
 standing_by-has q d (Cancelling r) answer.Failed = none-refused
+standing_by-has q d (Cancelling r) answer.Excused = none-refused
 
 complete-has : (q : ℕ) (d : DeviceAnswer) (g : Stage) (x : Answer) → HasItsEvents (on_reply_in reply.Complete q d g x)
 complete-has q d Preparing answer.Waiting = none-refused
@@ -65,16 +70,19 @@ complete-has q d Preparing answer.Ready = none-refused
 complete-has q d Preparing answer.Done = none-refused
 complete-has q d Preparing answer.LetGo = none-refused
 complete-has q d Preparing answer.Failed = none-refused
+complete-has q d Preparing answer.Excused = none-refused
 complete-has q d Decided answer.Waiting = one
 complete-has q d Decided answer.Ready = none-refused
 complete-has q d Decided answer.Done = none-known
 complete-has q d Decided answer.LetGo = none-refused
 complete-has q d Decided answer.Failed = none-refused
+complete-has q d Decided answer.Excused = none-refused
 complete-has q d (Cancelling r) answer.Waiting = none-refused
 complete-has q d (Cancelling r) answer.Ready = none-refused
 complete-has q d (Cancelling r) answer.Done = none-refused
 complete-has q d (Cancelling r) answer.LetGo = none-refused
 complete-has q d (Cancelling r) answer.Failed = none-refused
+complete-has q d (Cancelling r) answer.Excused = none-refused
 
 cancelled-has : (q : ℕ) (d : DeviceAnswer) (g : Stage) (x : Answer) → HasItsEvents (on_reply_in reply.Cancelled q d g x)
 cancelled-has q d Preparing answer.Waiting = none-refused
@@ -82,50 +90,68 @@ cancelled-has q d Preparing answer.Ready = none-refused
 cancelled-has q d Preparing answer.Done = none-refused
 cancelled-has q d Preparing answer.LetGo = none-refused
 cancelled-has q d Preparing answer.Failed = none-refused
+cancelled-has q d Preparing answer.Excused = none-refused
 cancelled-has q d Decided answer.Waiting = none-refused
 cancelled-has q d Decided answer.Ready = none-refused
 cancelled-has q d Decided answer.Done = none-refused
 cancelled-has q d Decided answer.LetGo = none-refused
 cancelled-has q d Decided answer.Failed = none-refused
+cancelled-has q d Decided answer.Excused = none-refused
 cancelled-has q d (Cancelling r) answer.Waiting = one
 cancelled-has q d (Cancelling r) answer.Ready = none-refused
 cancelled-has q d (Cancelling r) answer.Done = none-refused
 cancelled-has q d (Cancelling r) answer.LetGo = none-known
 cancelled-has q d (Cancelling r) answer.Failed = none-refused
+cancelled-has q d (Cancelling r) answer.Excused = none-refused
+
+abort_early-has : (q : ℕ) (d : DeviceAnswer) → HasItsEvents (abort_early q d)
+abort_early-has q d = if-has d.optional (made (event.Excuse q d.device ∷ [])) (made (event.Cancel q Abort ∷ event.Failed q d.device ∷ [])) one two
+
+abort_late-has : (q : ℕ) (d : DeviceAnswer) → HasItsEvents (abort_late q d)
+abort_late-has q d = if-has d.optional (made (event.LetGo q d.device ∷ [])) (made (event.Failed q d.device ∷ [])) one one
 
 abort-has : (q : ℕ) (d : DeviceAnswer) (g : Stage) (x : Answer) → HasItsEvents (on_reply_in reply.Abort q d g x)
-abort-has q d Preparing answer.Waiting = two
-abort-has q d Preparing answer.Ready = two
-abort-has q d Preparing answer.Done = two
-abort-has q d Preparing answer.LetGo = two
-abort-has q d Preparing answer.Failed = two
+abort-has q d Preparing answer.Waiting = abort_early-has q d
+abort-has q d Preparing answer.Ready = abort_early-has q d
+abort-has q d Preparing answer.Done = abort_early-has q d
+abort-has q d Preparing answer.LetGo = abort_early-has q d
+abort-has q d Preparing answer.Failed = abort_early-has q d
+abort-has q d Preparing answer.Excused = none-known
 abort-has q d Decided answer.Waiting = one
 abort-has q d Decided answer.Ready = none-refused
 abort-has q d Decided answer.Done = none-refused
 abort-has q d Decided answer.LetGo = none-refused
 abort-has q d Decided answer.Failed = none-known
-abort-has q d (Cancelling r) answer.Waiting = one
+abort-has q d Decided answer.Excused = none-known
+abort-has q d (Cancelling r) answer.Waiting = abort_late-has q d
 abort-has q d (Cancelling r) answer.Ready = none-refused
 abort-has q d (Cancelling r) answer.Done = none-refused
 abort-has q d (Cancelling r) answer.LetGo = none-refused
 abort-has q d (Cancelling r) answer.Failed = none-known
+abort-has q d (Cancelling r) answer.Excused = none-refused
+
+release_early-has : (q : ℕ) (d : DeviceAnswer) → HasItsEvents (release_early q d)
+release_early-has q d = if-has d.optional (made (event.Excuse q d.device ∷ [])) (made (event.Cancel q Release ∷ event.LetGo q d.device ∷ [])) one two
 
 release_in-has : (q : ℕ) (d : DeviceAnswer) (g : Stage) (x : Answer) → HasItsEvents (on_release_in q d g x)
-release_in-has q d Preparing answer.Waiting = two
-release_in-has q d Preparing answer.Ready = two
-release_in-has q d Preparing answer.Done = two
-release_in-has q d Preparing answer.LetGo = two
-release_in-has q d Preparing answer.Failed = two
+release_in-has q d Preparing answer.Waiting = release_early-has q d
+release_in-has q d Preparing answer.Ready = release_early-has q d
+release_in-has q d Preparing answer.Done = release_early-has q d
+release_in-has q d Preparing answer.LetGo = release_early-has q d
+release_in-has q d Preparing answer.Failed = release_early-has q d
+release_in-has q d Preparing answer.Excused = none-known
 release_in-has q d Decided answer.Waiting = one
 release_in-has q d Decided answer.Ready = none-known
 release_in-has q d Decided answer.Done = none-known
 release_in-has q d Decided answer.LetGo = none-known
 release_in-has q d Decided answer.Failed = none-known
+release_in-has q d Decided answer.Excused = none-known
 release_in-has q d (Cancelling r) answer.Waiting = one
 release_in-has q d (Cancelling r) answer.Ready = none-known
 release_in-has q d (Cancelling r) answer.Done = none-known
 release_in-has q d (Cancelling r) answer.LetGo = none-known
 release_in-has q d (Cancelling r) answer.Failed = none-known
+release_in-has q d (Cancelling r) answer.Excused = none-known
 
 reply-has : (kind : ReplyKind) (q : ℕ) (d : DeviceAnswer) (g : Stage) (x : Answer) → HasItsEvents (on_reply_in kind q d g x)
 reply-has reply.StandingBy q d g x = standing_by-has q d g x

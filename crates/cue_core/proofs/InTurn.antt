@@ -1,13 +1,11 @@
 -- Commands that are judged in turn.
-use Rattle.std.proofs.Common.{◌≡◌, ℕ, List, [], ◌∷◌, ◌++◌, IsTrue, refl, sym, ◌∙◌, ap}
+use Rattle.std.proofs.Common.{List, [], ◌∷◌, ◌++◌, refl, sym, ◌∙◌, ap}
 use Rattle.std.specs.List.{list_all}
 use Rattle.cue_core.specs.declared.event.Event.{Event}
-use Rattle.cue_core.specs.declared.command.Command.{Command}
-use Rattle.cue_core.specs.State.{ShowState}
 use Rattle.cue_core.specs.Steps.{folded}
 use Rattle.cue_core.specs.Judge.{judged, is_fit}
 use Rattle.cue_core.specs.History.{state_of}
-use Rattle.cue_core.specs.Happenings.{Happening, commanded, history_of, onto}
+use Rattle.cue_core.specs.Happenings.{commanded, history_of, onto}
 use Rattle.cue_core.specs.InTurn.{step_of, steps, events_of, StepsAreAcceptable, StepsGoOn, StepsMakeHistories}
 use Rattle.cue_core.proofs.Conditions.{both}
 use Rattle.cue_core.proofs.Judged.{judged-acceptable}

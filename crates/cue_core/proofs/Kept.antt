@@ -11,19 +11,19 @@ use Rattle.cue_exchange.specs.declared.attempt.Answer.TheVariants as answer
 use Rattle.cue_exchange.specs.declared.attempt.Stage.{Stage}
 use Rattle.cue_exchange.specs.declared.attempt.Stage.TheVariants.{Preparing, Decided, Cancelling}
 use Rattle.cue_exchange.specs.declared.attempt.Attempt.{Attempt}
-use Rattle.cue_exchange.specs.Answers.{is_waiting, is_preparing, is_decided, is_cancelling, is_concluding, is_known_in, stands, some_waits, answer_passes, all_may_go, answers_with}
+use Rattle.cue_exchange.specs.Answers.{is_waiting, is_excused, is_preparing, is_decided, is_cancelling, is_concluding, is_known_in, stands, some_waits, answer_passes, is_excusable, all_may_go, answers_with}
 use Rattle.cue_exchange.specs.Live.{attempt_of, has_number}
-use Rattle.cue_exchange.specs.Steps.{holds, waits_in, answers_as, moves_to, new_attempt, started, answered, moved, without_ended, can_start, can_ready, can_go, can_go_now, can_cancel, can_done, can_let_go, can_fail}
+use Rattle.cue_exchange.specs.Steps.{holds, waits_in, answers_as, moves_to, new_attempt, started, answered, moved, without_ended, can_start, can_ready, can_go, can_go_now, can_cancel, can_done, can_let_go, can_fail, can_excuse}
 use Rattle.cue_show.specs.Show.{has_cue}
 use Rattle.cue_core.specs.declared.event.Event.{Event}
 use Rattle.cue_core.specs.declared.event.Event.TheVariants as event
 use Rattle.cue_core.specs.State.{ShowState, cue_parts}
 use Rattle.cue_core.specs.Steps.{acceptable, after, can_begin}
-use Rattle.cue_core.specs.Events.{is_ready_of, is_go_of, is_cancel_of, is_end_of, is_about}
+use Rattle.cue_core.specs.Events.{is_ready_of, is_excuse_of, is_go_of, is_cancel_of, is_end_of, is_about}
 use Rattle.cue_core.specs.History.{devices_by, state_of}
-use Rattle.cue_core.proofs.Conditions.{both, cases, all_from, all_mapped, same_number, same_self, number_sym, both_false}
+use Rattle.cue_core.proofs.Conditions.{both, cases, all_from, all_mapped, same_number, same_self, both_false}
 use Rattle.cue_core.proofs.Finding.{rising, lacks-below, attempt_of-lacks, attempt_of-without_ended, attempt_of-without_ended_other, if_open, rising-changed, found, found-changed, found-others, found_has, found_passes}
-use Rattle.cue_core.proofs.Tells.{Tells, IsQuiet, quiet, tells-on, devices_by-on, tells-start, tells-ready, tells-go, tells-cancel, IsLastAnswer, tells-end, is_last, gone_by}
+use Rattle.cue_core.proofs.Tells.{Tells, IsQuiet, quiet, tells-on, devices_by-on, tells-start, tells-ready, tells-excuse, tells-go, tells-cancel, IsLastAnswer, tells-end, of_device, is_last, gone_by}
 
 -- what the rules of a state say that is used here
 pub record IsSound (s : ShowState) : Type 0 where
@@ -81,6 +81,7 @@ attempt_of-after_other s q (event.Done p d) n = ended_other p q d answer.Done s.
 attempt_of-after_other s q (event.Cancel p r) n = found-others p q (moves_to (Cancelling r)) (moved_number (Cancelling r)) s.live n
 attempt_of-after_other s q (event.LetGo p d) n = ended_other p q d answer.LetGo s.live n
 attempt_of-after_other s q (event.Failed p d) n = ended_other p q d answer.Failed s.live n
+attempt_of-after_other s q (event.Excuse p d) n = found-others p q (answers_as d answer.Excused) (kept_number d answer.Excused) s.live n
 
 step_other : (h : List Event) (s : ShowState) (q : ℕ) (e : Event) → Kept h s → is_about q e ≡ false → Settles (e ∷ h) q (attempt_of (after s e).live q)
 step_other h s q e k n = rw (attempt_of-after_other s q e n) (settles-on q e h (attempt_of s.live q) (quiet q e n) (k.settles q))
@@ -106,6 +107,7 @@ step_start h q c t k above below =
     (none_about q (is_go_of q) h (λ e n. (quiet q e n).go) fresh)
     (none_about q (is_cancel_of q) h (λ e n. (quiet q e n).cancel) fresh)
     (λ d. none_about q (is_ready_of q d) h (λ e n. (quiet q e n).ready d) fresh)
+    (λ d. none_about q (is_excuse_of q d) h (λ e n. (quiet q e n).excuse d) fresh)
     (λ d. none_about q (is_end_of q d) h (λ e n. (quiet q e n).end d) fresh)
     (rw (same_self q) refl))
 
@@ -118,7 +120,13 @@ step_ready h s q d k i g =
     let f = found q (waits_in is_preparing d) s.live i.rises g in
     let p = both (is_preparing f.0.stage) (answer_passes is_waiting d f.0.answers) f.2 in
     rw (found-changed q (answers_as d answer.Ready) (kept_number d answer.Ready) s.live f.0 f.1)
-    (tells-ready q d h f.0 p.0 (stands_at s q f.0 i f.1) (told_at h q (attempt_of s.live q) f.0 f.1 (k.settles q)))
+    (tells-ready q d h f.0 p.1 (told_at h q (attempt_of s.live q) f.0 f.1 (k.settles q)))
+
+step_excuse : (h : List Event) (s : ShowState) (q d : ℕ) → Kept h s → IsSound s → IsTrue (can_excuse q d s.live) → Settles (event.Excuse q d ∷ h) q (attempt_of (answered q d answer.Excused s.live) q)
+step_excuse h s q d k i g =
+    let f = found q (λ a. is_preparing a.stage && is_excusable d a.answers) s.live i.rises g in
+    rw (found-changed q (answers_as d answer.Excused) (kept_number d answer.Excused) s.live f.0 f.1)
+    (tells-excuse q d h f.0 (told_at h q (attempt_of s.live q) f.0 f.1 (k.settles q)))
 
 step_go : (h : List Event) (s : ShowState) (q : ℕ) → Kept h s → IsSound s → IsTrue (can_go q s.live) → Settles (event.Go q ∷ h) q (attempt_of (moved q Decided s.live) q)
 step_go h s q k i g =
@@ -134,12 +142,14 @@ step_cancel h s q r k i g =
     (tells-cancel q r h f.0 f.2 (stands_at s q f.0 i f.1) (told_at h q (attempt_of s.live q) f.0 f.1 (k.settles q)))
 
 -- an answer of d that is the last, in a stage that is not Preparing
-known_with : (stage : Stage) (b : Bool) (given answer : Answer) → IsTrue (is_known_in stage given) → IsTrue (is_known_in stage answer) → IsTrue (is_known_in stage (if b then given else answer))
-known_with stage true given answer p q = p
-known_with stage false given answer p q = q
+known_with : (stage : Stage) (b optional : Bool) (given answer : Answer) → IsTrue (is_known_in stage given) → is_excused given ≡ false → IsTrue (is_known_in stage answer && not (not optional && is_excused answer))
+    → IsTrue (is_known_in stage (if b then given else answer) && not (not optional && is_excused (if b then given else answer)))
+known_with stage true true given answer p n k = rw p refl
+known_with stage true false given answer p n k = rw (p, n) refl
+known_with stage false optional given answer p n k = k
 
-stand_with : (d : ℕ) (given : Answer) (a : Attempt) → IsTrue (is_known_in a.stage given) → IsTrue (list_all (stands a.stage) a.answers) → IsTrue (list_all (stands a.stage) (answers_as d given a).answers)
-stand_with d given a p k = rw (all_mapped (stands a.stage) (answers_with d given) a.answers) (all_from (stands a.stage) (λ x. stands a.stage (answers_with d given x)) a.answers (λ x l. known_with a.stage (nat_eq x.device d) given x.answer p l) k)
+stand_with : (d : ℕ) (given : Answer) (a : Attempt) → IsTrue (is_known_in a.stage given) → is_excused given ≡ false → IsTrue (list_all (stands a.stage) a.answers) → IsTrue (list_all (stands a.stage) (answers_as d given a).answers)
+stand_with d given a p n k = rw (all_mapped (stands a.stage) (answers_with d given) a.answers) (all_from (stands a.stage) (λ x. stands a.stage (answers_with d given x)) a.answers (λ x l. known_with a.stage (nat_eq x.device d) x.optional given x.answer p n l) k)
 
 settles_if_open : (h : List Event) (q : ℕ) (a : Attempt) → is_preparing a.stage ≡ false → IsTrue (list_all (stands a.stage) a.answers) → Tells h q a → Settles h q (if_open a)
 settles_if_open h q a p k t = at (some_waits a.answers) refl
@@ -148,16 +158,13 @@ settles_if_open h q a p k t = at (some_waits a.answers) refl
     at true e = t
     at false e = gone_by q h a p k e t
 
-step_end : (h : List Event) (s : ShowState) (q d : ℕ) (given : Answer) (e : Event) (a : Attempt) → Kept h s → IsSound s → attempt_of s.live q ≡ Some a → is_preparing a.stage ≡ false → IsTrue (is_known_in a.stage given) → IsTrue (is_last given) → IsLastAnswer q d e
+step_end : (h : List Event) (s : ShowState) (q d : ℕ) (given : Answer) (e : Event) (a : Attempt) → Kept h s → IsSound s → attempt_of s.live q ≡ Some a → is_preparing a.stage ≡ false → IsTrue (is_known_in a.stage given) → is_excused given ≡ false → IsTrue (is_last given) → IsLastAnswer q d e
     → Settles (e ∷ h) q (attempt_of (without_ended q (answered q d given s.live)) q)
-step_end h s q d given e a k i f p known l n =
+step_end h s q d given e a k i f p known excused l n =
     rw (attempt_of-without_ended q (answered q d given s.live) (rising-changed q (answers_as d given) (kept_number d given) s.live i.rises))
     (rw (found-changed q (answers_as d given) (kept_number d given) s.live a f)
-    (settles_if_open (e ∷ h) q (answers_as d given a) p (stand_with d given a known (stands_at s q a i f))
+    (settles_if_open (e ∷ h) q (answers_as d given a) p (stand_with d given a known excused (stands_at s q a i f))
     (tells-end q d given e h a p l n (told_at h q (attempt_of s.live q) a f (k.settles q)))))
-
-last_answer : (q d n : ℕ) → (nat_eq q q && nat_eq d n) ≡ nat_eq n d
-last_answer q d n = rw (same_self q) (number_sym d n)
 
 decided_knows : (stage : Stage) → IsTrue (is_decided stage) → (is_preparing stage ≡ false) × IsTrue (is_known_in stage answer.Done)
 decided_knows Preparing p = cc
@@ -178,19 +185,19 @@ step_done : (h : List Event) (s : ShowState) (q d : ℕ) → Kept h s → IsSoun
 step_done h s q d k i g =
     let f = found q (waits_in is_decided d) s.live i.rises g in
     let p = decided_knows f.0.stage (both (is_decided f.0.stage) (answer_passes is_waiting d f.0.answers) f.2).0 in
-    step_end h s q d answer.Done (event.Done q d) f.0 k i f.1 p.0 p.1 refl (record { start = refl; go = refl; cancel = refl; end = λ n. last_answer q d n })
+    step_end h s q d answer.Done (event.Done q d) f.0 k i f.1 p.0 p.1 refl refl (record { start = refl; go = refl; cancel = refl; end = λ n. of_device q d n })
 
 step_let_go : (h : List Event) (s : ShowState) (q d : ℕ) → Kept h s → IsSound s → IsTrue (can_let_go q d s.live) → Settles (event.LetGo q d ∷ h) q (attempt_of (without_ended q (answered q d answer.LetGo s.live)) q)
 step_let_go h s q d k i g =
     let f = found q (waits_in is_cancelling d) s.live i.rises g in
     let p = cancelling_knows f.0.stage (both (is_cancelling f.0.stage) (answer_passes is_waiting d f.0.answers) f.2).0 in
-    step_end h s q d answer.LetGo (event.LetGo q d) f.0 k i f.1 p.0 p.1 refl (record { start = refl; go = refl; cancel = refl; end = λ n. last_answer q d n })
+    step_end h s q d answer.LetGo (event.LetGo q d) f.0 k i f.1 p.0 p.1 refl refl (record { start = refl; go = refl; cancel = refl; end = λ n. of_device q d n })
 
 step_failed : (h : List Event) (s : ShowState) (q d : ℕ) → Kept h s → IsSound s → IsTrue (can_fail q d s.live) → Settles (event.Failed q d ∷ h) q (attempt_of (without_ended q (answered q d answer.Failed s.live)) q)
 step_failed h s q d k i g =
     let f = found q (waits_in is_concluding d) s.live i.rises g in
     let p = closing_knows f.0.stage (both (is_concluding f.0.stage) (answer_passes is_waiting d f.0.answers) f.2).0 in
-    step_end h s q d answer.Failed (event.Failed q d) f.0 k i f.1 p.0 p.1 refl (record { start = refl; go = refl; cancel = refl; end = λ n. last_answer q d n })
+    step_end h s q d answer.Failed (event.Failed q d) f.0 k i f.1 p.0 p.1 refl refl (record { start = refl; go = refl; cancel = refl; end = λ n. of_device q d n })
 
 -- ---- all events
 
@@ -225,6 +232,7 @@ step_same h q (event.Done p d) k i g n = at_number (event.Done p d ∷ h) (λ m.
 step_same h q (event.Cancel p r) k i g n = at_number (event.Cancel p r ∷ h) (λ m. attempt_of (after (state_of h) (event.Cancel p r)).live m) p q n (step_cancel h (state_of h) p r k i g)
 step_same h q (event.LetGo p d) k i g n = at_number (event.LetGo p d ∷ h) (λ m. attempt_of (after (state_of h) (event.LetGo p d)).live m) p q n (step_let_go h (state_of h) p d k i g)
 step_same h q (event.Failed p d) k i g n = at_number (event.Failed p d ∷ h) (λ m. attempt_of (after (state_of h) (event.Failed p d)).live m) p q n (step_failed h (state_of h) p d k i g)
+step_same h q (event.Excuse p d) k i g n = at_number (event.Excuse p d ∷ h) (λ m. attempt_of (after (state_of h) (event.Excuse p d)).live m) p q n (step_excuse h (state_of h) p d k i g)
 
 step_settles : (h : List Event) (q : ℕ) (e : Event) → Kept h (state_of h) → IsSound (state_of h) → IsTrue (acceptable (state_of h) e) → Settles (e ∷ h) q (attempt_of (after (state_of h) e).live q)
 step_settles h q e k i g = elim (cases (is_about q e)) [ inl n ↦ step_same h q e k i g n | inr n ↦ step_other h (state_of h) q e k n ]
@@ -256,6 +264,7 @@ last-after s (event.Done p d) g = omega arith
 last-after s (event.Cancel p r) g = omega arith
 last-after s (event.LetGo p d) g = omega arith
 last-after s (event.Failed p d) g = omega arith
+last-after s (event.Excuse p d) g = omega arith
 
 above_other : (s : ShowState) (q : ℕ) (e : Event) → IsSound s → IsTrue (acceptable s e) → (after s e).last_seq < q → is_about q e ≡ false
 above_other s q (event.Device d port) i g l = refl
@@ -270,6 +279,7 @@ above_other s q (event.Done p d) i g l = below_other p s.last_seq q (at_most_las
 above_other s q (event.Cancel p r) i g l = below_other p s.last_seq q (at_most_last s p (λ a. is_preparing a.stage) i g) l
 above_other s q (event.LetGo p d) i g l = below_other p s.last_seq q (at_most_last s p (waits_in is_cancelling d) i g) l
 above_other s q (event.Failed p d) i g l = below_other p s.last_seq q (at_most_last s p (waits_in is_concluding d) i g) l
+above_other s q (event.Excuse p d) i g l = below_other p s.last_seq q (at_most_last s p (λ a. is_preparing a.stage && is_excusable d a.answers) i g) l
 
 neither : (b c : Bool) → b ≡ false → c ≡ false → (b || c) ≡ false
 neither false c e f = f

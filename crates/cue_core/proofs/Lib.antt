@@ -10,6 +10,8 @@ pub mod Few
 pub mod Cancels
 pub mod Safety
 pub mod ReplyLaws
+pub mod Changes
+pub mod Cells
 pub mod Commute
 pub mod Folding
 pub mod Truth

@@ -6,6 +6,7 @@ use Rattle.std.specs.Option.{option_map_or}
 use Rattle.cue_show.specs.Show.{has_device}
 use Rattle.cue_exchange.specs.declared.attempt.Answer.{Answer}
 use Rattle.cue_exchange.specs.declared.attempt.Answer.TheVariants as answer
+use Rattle.cue_exchange.specs.declared.attempt.Reason.TheVariants.{Abort}
 use Rattle.cue_exchange.specs.declared.attempt.Stage.{Stage}
 use Rattle.cue_exchange.specs.declared.attempt.Stage.TheVariants.{Preparing, Decided, Cancelling}
 use Rattle.cue_exchange.specs.declared.attempt.DeviceAnswer.{DeviceAnswer}
@@ -19,7 +20,7 @@ use Rattle.cue_core.specs.declared.command.ReplyKind.{ReplyKind}
 use Rattle.cue_core.specs.declared.command.ReplyKind.TheVariants as reply
 use Rattle.cue_core.specs.State.{ShowState}
 use Rattle.cue_core.specs.Steps.{after, folded}
-use Rattle.cue_core.specs.Judge.{refused, on_reply, on_reply_to, on_reply_in, is_from_another}
+use Rattle.cue_core.specs.Judge.{made, refused, on_reply, on_reply_to, on_reply_in, is_from_another}
 use Rattle.cue_core.specs.Replies.{Said, LeavesOthers, RepliesLeaveOthers}
 use Rattle.cue_core.proofs.Conditions.{both, join, same_number, same_self}
 use Rattle.cue_core.proofs.Finding.{found_passes}
@@ -39,6 +40,7 @@ of_reply q (event.Done p d) = nat_eq p q
 of_reply q (event.Cancel p r) = nat_eq p q
 of_reply q (event.LetGo p d) = nat_eq p q
 of_reply q (event.Failed p d) = nat_eq p q
+of_reply q (event.Excuse p d) = nat_eq p q
 
 other_number : (n q p : ℕ) → IsTrue (nat_eq n q) → p ≢ q → nat_eq n p ≡ false
 other_number n q p e other = at (nat_eq n p) refl
@@ -60,6 +62,7 @@ leaves_one s q (event.Done n d) h = record { show = refl; last = refl; others = 
 leaves_one s q (event.Cancel n r) h = record { show = refl; last = refl; others = λ p k. attempt_of-after_other s p (event.Cancel n r) (other_number n q p h k) }
 leaves_one s q (event.LetGo n d) h = record { show = refl; last = refl; others = λ p k. attempt_of-after_other s p (event.LetGo n d) (other_number n q p h k) }
 leaves_one s q (event.Failed n d) h = record { show = refl; last = refl; others = λ p k. attempt_of-after_other s p (event.Failed n d) (other_number n q p h k) }
+leaves_one s q (event.Excuse n d) h = record { show = refl; last = refl; others = λ p k. attempt_of-after_other s p (event.Excuse n d) (other_number n q p h k) }
 
 leaves_all : (q : ℕ) (es : List Event) (s : ShowState) → IsTrue (list_all (of_reply q) es) → LeavesOthers q s (folded s es)
 leaves_all q [] s h = record { show = refl; last = refl; others = λ p k. refl }
@@ -75,6 +78,14 @@ itself q = join (nat_eq q q) true (same_self q) refl
 itself_twice : (q : ℕ) → IsTrue (nat_eq q q && (nat_eq q q && true))
 itself_twice q = join (nat_eq q q) (nat_eq q q && true) (same_self q) (itself q)
 
+early_of : (q : ℕ) (d : DeviceAnswer) (b : Bool) → IsTrue (list_all (of_reply q) (if b then made (event.Excuse q d.device ∷ []) else made (event.Cancel q Abort ∷ event.Failed q d.device ∷ [])).1)
+early_of q d true = itself q
+early_of q d false = itself_twice q
+
+late_of : (q : ℕ) (d : DeviceAnswer) (b : Bool) → IsTrue (list_all (of_reply q) (if b then made (event.LetGo q d.device ∷ []) else made (event.Failed q d.device ∷ [])).1)
+late_of q d true = itself q
+late_of q d false = itself q
+
 -- each cell of the table makes events of the attempt alone
 cell_of : (kind : ReplyKind) (q : ℕ) (d : DeviceAnswer) (stage : Stage) (x : Answer) → IsTrue (list_all (of_reply q) (on_reply_in kind q d stage x).1)
 cell_of reply.StandingBy q d Preparing answer.Waiting = itself q
@@ -82,61 +93,73 @@ cell_of reply.StandingBy q d Preparing answer.Ready = refl
 cell_of reply.StandingBy q d Preparing answer.Done = refl
 cell_of reply.StandingBy q d Preparing answer.LetGo = refl
 cell_of reply.StandingBy q d Preparing answer.Failed = refl
+cell_of reply.StandingBy q d Preparing answer.Excused = refl
 cell_of reply.StandingBy q d Decided answer.Waiting = refl
 cell_of reply.StandingBy q d Decided answer.Ready = refl
 cell_of reply.StandingBy q d Decided answer.Done = refl
 cell_of reply.StandingBy q d Decided answer.LetGo = refl
 cell_of reply.StandingBy q d Decided answer.Failed = refl
+cell_of reply.StandingBy q d Decided answer.Excused = refl
 cell_of reply.StandingBy q d (Cancelling r) answer.Waiting = refl
 cell_of reply.StandingBy q d (Cancelling r) answer.Ready = refl
 cell_of reply.StandingBy q d (Cancelling r) answer.Done = refl
 cell_of reply.StandingBy q d (Cancelling r) answer.LetGo = refl
 cell_of reply.StandingBy q d (Cancelling r) answer.Failed = refl
+cell_of reply.StandingBy q d (Cancelling r) answer.Excused = refl
 cell_of reply.Complete q d Preparing answer.Waiting = refl
 cell_of reply.Complete q d Preparing answer.Ready = refl
 cell_of reply.Complete q d Preparing answer.Done = refl
 cell_of reply.Complete q d Preparing answer.LetGo = refl
 cell_of reply.Complete q d Preparing answer.Failed = refl
+cell_of reply.Complete q d Preparing answer.Excused = refl
 cell_of reply.Complete q d Decided answer.Waiting = itself q
 cell_of reply.Complete q d Decided answer.Ready = refl
 cell_of reply.Complete q d Decided answer.Done = refl
 cell_of reply.Complete q d Decided answer.LetGo = refl
 cell_of reply.Complete q d Decided answer.Failed = refl
+cell_of reply.Complete q d Decided answer.Excused = refl
 cell_of reply.Complete q d (Cancelling r) answer.Waiting = refl
 cell_of reply.Complete q d (Cancelling r) answer.Ready = refl
 cell_of reply.Complete q d (Cancelling r) answer.Done = refl
 cell_of reply.Complete q d (Cancelling r) answer.LetGo = refl
 cell_of reply.Complete q d (Cancelling r) answer.Failed = refl
+cell_of reply.Complete q d (Cancelling r) answer.Excused = refl
 cell_of reply.Cancelled q d Preparing answer.Waiting = refl
 cell_of reply.Cancelled q d Preparing answer.Ready = refl
 cell_of reply.Cancelled q d Preparing answer.Done = refl
 cell_of reply.Cancelled q d Preparing answer.LetGo = refl
 cell_of reply.Cancelled q d Preparing answer.Failed = refl
+cell_of reply.Cancelled q d Preparing answer.Excused = refl
 cell_of reply.Cancelled q d Decided answer.Waiting = refl
 cell_of reply.Cancelled q d Decided answer.Ready = refl
 cell_of reply.Cancelled q d Decided answer.Done = refl
 cell_of reply.Cancelled q d Decided answer.LetGo = refl
 cell_of reply.Cancelled q d Decided answer.Failed = refl
+cell_of reply.Cancelled q d Decided answer.Excused = refl
 cell_of reply.Cancelled q d (Cancelling r) answer.Waiting = itself q
 cell_of reply.Cancelled q d (Cancelling r) answer.Ready = refl
 cell_of reply.Cancelled q d (Cancelling r) answer.Done = refl
 cell_of reply.Cancelled q d (Cancelling r) answer.LetGo = refl
 cell_of reply.Cancelled q d (Cancelling r) answer.Failed = refl
-cell_of reply.Abort q d Preparing answer.Waiting = itself_twice q
-cell_of reply.Abort q d Preparing answer.Ready = itself_twice q
-cell_of reply.Abort q d Preparing answer.Done = itself_twice q
-cell_of reply.Abort q d Preparing answer.LetGo = itself_twice q
-cell_of reply.Abort q d Preparing answer.Failed = itself_twice q
+cell_of reply.Cancelled q d (Cancelling r) answer.Excused = refl
+cell_of reply.Abort q d Preparing answer.Waiting = early_of q d d.optional
+cell_of reply.Abort q d Preparing answer.Ready = early_of q d d.optional
+cell_of reply.Abort q d Preparing answer.Done = early_of q d d.optional
+cell_of reply.Abort q d Preparing answer.LetGo = early_of q d d.optional
+cell_of reply.Abort q d Preparing answer.Failed = early_of q d d.optional
+cell_of reply.Abort q d Preparing answer.Excused = refl
 cell_of reply.Abort q d Decided answer.Waiting = itself q
 cell_of reply.Abort q d Decided answer.Ready = refl
 cell_of reply.Abort q d Decided answer.Done = refl
 cell_of reply.Abort q d Decided answer.LetGo = refl
 cell_of reply.Abort q d Decided answer.Failed = refl
-cell_of reply.Abort q d (Cancelling r) answer.Waiting = itself q
+cell_of reply.Abort q d Decided answer.Excused = refl
+cell_of reply.Abort q d (Cancelling r) answer.Waiting = late_of q d d.optional
 cell_of reply.Abort q d (Cancelling r) answer.Ready = refl
 cell_of reply.Abort q d (Cancelling r) answer.Done = refl
 cell_of reply.Abort q d (Cancelling r) answer.LetGo = refl
 cell_of reply.Abort q d (Cancelling r) answer.Failed = refl
+cell_of reply.Abort q d (Cancelling r) answer.Excused = refl
 
 to_attempt : (kind : ReplyKind) (d q : ℕ) (a : Attempt) → a.seq ≡ q → IsTrue (list_all (of_reply q) (on_reply_to kind d a).1)
 to_attempt kind d q a e = rw (← e) (at (device_answer a.answers d))

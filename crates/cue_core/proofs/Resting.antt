@@ -10,7 +10,7 @@ use Rattle.cue_core.specs.declared.event.Event.{Event}
 use Rattle.cue_core.specs.declared.event.Event.TheVariants as event
 use Rattle.cue_core.specs.Events.{is_go_of, is_start_of}
 use Rattle.cue_core.specs.State.{ShowState}
-use Rattle.cue_core.specs.Steps.{after, folded}
+use Rattle.cue_core.specs.Steps.{after}
 use Rattle.cue_core.specs.Batches.{is_live_in, is_decided_in, LiveByStart, DecidedByGo}
 use Rattle.cue_core.proofs.Conditions.{both, join}
 use Rattle.cue_core.proofs.Truth.{or_left, or_right, or_assoc, either, same, any-append, any-mapped, any-kept}
@@ -74,6 +74,7 @@ live-back s (event.Done p d) q h = or_left (is_live_in s q) _ (live-changed p q 
 live-back s (event.Cancel p r) q h = or_left (is_live_in s q) _ (live-changed p q (moves_to (Cancelling r)) (λ a. refl) s.live h)
 live-back s (event.LetGo p d) q h = or_left (is_live_in s q) _ (live-changed p q (answers_as d answers.LetGo) (λ a. refl) s.live (any-kept (λ a. nat_eq a.seq q && true) (goes_on p) (answered p d answers.LetGo s.live) h))
 live-back s (event.Failed p d) q h = or_left (is_live_in s q) _ (live-changed p q (answers_as d answers.Failed) (λ a. refl) s.live (any-kept (λ a. nat_eq a.seq q && true) (goes_on p) (answered p d answers.Failed s.live) h))
+live-back s (event.Excuse p d) q h = or_left (is_live_in s q) _ (live-changed p q (answers_as d answers.Excused) (λ a. refl) s.live h)
 
 pub decided-back : (s : ShowState) (e : Event) (q : ℕ) → is_decided_in (after s e) q ≡ true → (is_decided_in s q || is_go_of q e) ≡ true
 decided-back s (event.Device d p) q h = or_left (is_decided_in s q) _ h
@@ -92,6 +93,7 @@ decided-back s (event.Done p d) q h = or_left (is_decided_in s q) _ (decided-cha
 decided-back s (event.Cancel p r) q h = or_left (is_decided_in s q) _ (decided-changed p q (moves_to (Cancelling r)) (λ a. refl) (λ a k. absurd (true≢false (sym k))) s.live h)
 decided-back s (event.LetGo p d) q h = or_left (is_decided_in s q) _ (decided-changed p q (answers_as d answers.LetGo) (λ a. refl) (λ a k. k) s.live (any-kept (λ a. nat_eq a.seq q && is_decided a.stage) (goes_on p) (answered p d answers.LetGo s.live) h))
 decided-back s (event.Failed p d) q h = or_left (is_decided_in s q) _ (decided-changed p q (answers_as d answers.Failed) (λ a. refl) (λ a k. k) s.live (any-kept (λ a. nat_eq a.seq q && is_decided a.stage) (goes_on p) (answered p d answers.Failed s.live) h))
+decided-back s (event.Excuse p d) q h = or_left (is_decided_in s q) _ (decided-changed p q (answers_as d answers.Excused) (λ a. refl) (λ a k. k) s.live h)
 
 -- ---- lists of events
 

@@ -4,7 +4,7 @@ use Rattle.std.specs.Prelude.{IsTrue, is_some, map, if◌then◌else◌, option_
 use Rattle.std.specs.List.{list_all}
 use Rattle.std.specs.Map.{lookup}
 use Rattle.std.specs.Option.{option_map, option_map_or}
-use Rattle.std.specs.Cmp.Lexicographic.{pointwise, nat_list_eq_equiv}
+use Rattle.std.specs.Cmp.{nat_eq_equiv, bool_eq_equiv}
 use Rattle.std.proofs.lemmas.Bool.Decides.{nat_tests}
 use Rattle.std.proofs.lemmas.List.Folds.{find-append}
 use Rattle.cue_show.specs.declared.part.Part.{Part}
@@ -17,18 +17,18 @@ use Rattle.cue_exchange.specs.declared.attempt.Answer.TheVariants as answer
 use Rattle.cue_exchange.specs.declared.attempt.Stage.{Stage}
 use Rattle.cue_exchange.specs.declared.attempt.Stage.TheVariants.{Decided, Cancelling}
 use Rattle.cue_exchange.specs.declared.attempt.Attempt.{Attempt}
+use Rattle.cue_exchange.specs.declared.attempt.DeviceAnswer.{DeviceAnswer}
 use Rattle.cue_exchange.specs.declared.limits.TheConstants.{LAST_NUMBER}
-use Rattle.cue_exchange.specs.Answers.{stands, devices_of, some_waits, is_decided, is_cancelling, is_concluding}
-use Rattle.cue_exchange.specs.Live.{disjoint, devices_in, attempt_of, attempt_of_cue, has_number, are_live, is_attempt, is_number, is_moment, are_sound_devices, goes_before}
+use Rattle.cue_exchange.specs.Answers.{stands, devices_of, first_answers, entered, with_answer, some_waits, is_decided, is_cancelling, is_concluding}
+use Rattle.cue_exchange.specs.Live.{disjoint, attempt_of, attempt_of_cue, has_number, are_live, is_attempt, is_number, is_moment, have_sound_devices, goes_before}
 use Rattle.cue_exchange.specs.Live.{has_cue as is_of_cue}
 use Rattle.cue_exchange.specs.Steps.{holds, waits_in, changed, answers_as, moves_to, new_attempt, started, answered, goes_on, without_ended, ended_in, can_start}
-use Rattle.cue_exchange.proofs.AnswerRules.{devices_of-with_answer, devices_of-entered, devices_of-first_answers}
-use Rattle.cue_exchange.proofs.LiveRules.{are_live-ready, are_live-go, are_live-cancel, are_live-done, are_live-let_go, are_live-failed, are_live-started, order_of, attempts_of, can_start_parts, is_sound-of_attempt}
+use Rattle.cue_exchange.proofs.LiveRules.{are_live-ready, are_live-go, are_live-cancel, are_live-done, are_live-let_go, are_live-failed, are_live-excused, are_live-started, order_of, attempts_of, can_start_parts, is_sound-of_attempt}
 use Rattle.cue_exchange.proofs.Lists.{all_push, all_filter}
 use Rattle.cue_core.specs.declared.event.Ended.{Ended}
 use Rattle.cue_core.specs.declared.event.Event.{Event}
 use Rattle.cue_core.specs.declared.event.Event.TheVariants as event
-use Rattle.cue_core.specs.State.{ShowState, cue_parts, is_at_cue, is_ended, are_tied, is_state}
+use Rattle.cue_core.specs.State.{ShowState, cue_parts, is_of_part, are_of_parts, is_at_cue, is_ended, are_tied, is_state}
 use Rattle.cue_core.specs.Steps.{acceptable, after, can_begin, place_after, ended_as, settled}
 use Rattle.cue_core.proofs.Conditions.{both, join, all_zip, all_from, all_mapped, same_number, pairwise_from}
 use Rattle.cue_core.proofs.Finding.{rising, rising-changed, attempt_of-changed, attempt_of-without_ended, if_open, found-closed, found, found-changed, found_none_kept, found_has, found_passes, passes_none}
@@ -72,7 +72,7 @@ looked_up-push c x (e ∷ es) p h = at (same_text c e.0) h (looked_up-push c x e
     at false h f = f h
 
 abbrev is_at : Attempt → Option (List Part) → Bool
-is_at a o = option_map_or (λ parts. pointwise nat_eq (devices_of a.answers) (devices_in parts)) o false
+is_at a o = option_map_or (λ parts. are_of_parts parts a.answers) o false
 
 parts_at : (a : Attempt) (o : Option (List Part)) → IsTrue (is_at a o) → (p : List Part) × (o ≡ Some p)
 parts_at a None h = cc
@@ -94,23 +94,44 @@ at-without_cue show c a rules other h = at_from show (without_cue show c) a (par
     by true e = cc
     by false e = refl
 
+-- the devices of the answers are those of the parts, whatever they have answered
+pub are_of_parts-with_answer : (parts : List Part) (d : ℕ) (given : Answer) (xs : List DeviceAnswer) → are_of_parts parts (with_answer d given xs) ≡ are_of_parts parts xs
+are_of_parts-with_answer [] d given [] = refl
+are_of_parts-with_answer [] d given (x ∷ xs) = refl
+are_of_parts-with_answer (p ∷ ps) d given [] = refl
+are_of_parts-with_answer (p ∷ ps) d given (x ∷ xs) = ap (λ b. is_of_part p x && b) (are_of_parts-with_answer ps d given xs)
+
+pub are_of_parts-entered : (parts : List Part) (stage : Stage) (xs : List DeviceAnswer) → are_of_parts parts (entered stage xs) ≡ are_of_parts parts xs
+are_of_parts-entered [] stage [] = refl
+are_of_parts-entered [] stage (x ∷ xs) = refl
+are_of_parts-entered (p ∷ ps) stage [] = refl
+are_of_parts-entered (p ∷ ps) stage (x ∷ xs) = ap (λ b. is_of_part p x && b) (are_of_parts-entered ps stage xs)
+
+pub are_of_parts-first_answers : (parts : List Part) → IsTrue (are_of_parts parts (first_answers parts))
+are_of_parts-first_answers [] = refl
+are_of_parts-first_answers (p ∷ ps) = rw (nat_eq_equiv.refl p.device, bool_eq_equiv.refl p.optional) (are_of_parts-first_answers ps)
+
 -- a change that keeps cue and devices keeps each attempt at its cue
 pub record KeepsCue (f : Attempt → Attempt) : Type 0 where
   pub cue : (a : Attempt) → (f a).cue ≡ a.cue
   pub seq : (a : Attempt) → (f a).seq ≡ a.seq
-  pub devices : (a : Attempt) → devices_of (f a).answers ≡ devices_of a.answers
+  pub devices : (parts : List Part) (a : Attempt) → are_of_parts parts (f a).answers ≡ are_of_parts parts a.answers
 
 cue-answers_as : (d : ℕ) (given : Answer) → KeepsCue (answers_as d given)
-cue-answers_as d given = record { cue = λ a. refl; seq = λ a. refl; devices = λ a. devices_of-with_answer d given a.answers }
+cue-answers_as d given = record { cue = λ a. refl; seq = λ a. refl; devices = λ parts a. are_of_parts-with_answer parts d given a.answers }
 
 cue-moves_to : (stage : Stage) → KeepsCue (moves_to stage)
-cue-moves_to stage = record { cue = λ a. refl; seq = λ a. refl; devices = λ a. devices_of-entered stage a.answers }
+cue-moves_to stage = record { cue = λ a. refl; seq = λ a. refl; devices = λ parts a. are_of_parts-entered parts stage a.answers }
 
 at-changed : (show : ShowLists) (q : ℕ) (f : Attempt → Attempt) → KeepsCue f → (live : List Attempt) → IsTrue (list_all (is_at_cue show) live) → IsTrue (list_all (is_at_cue show) (map (changed q f) live))
 at-changed show q f k live h = rw (all_mapped (is_at_cue show) (changed q f) live) (all_from (is_at_cue show) (λ a. is_at_cue show (changed q f a)) live (λ a l. by a (nat_eq a.seq q) l) h)
   where
+    passes : (a : Attempt) (o : Option (List Part)) → IsTrue (is_at a o) → IsTrue (is_at (f a) o)
+    passes a None l = l
+    passes a (Some parts) l = rw (k.devices parts a) l
+
     by : (a : Attempt) (b : Bool) → IsTrue (is_at_cue show a) → IsTrue (is_at_cue show (if b then f a else a))
-    by a true l = rw (k.devices a, k.cue a) l
+    by a true l = rw (k.cue a) (passes a (parts_of show a.cue) l)
     by a false l = l
 
 within-changed : (last q : ℕ) (f : Attempt → Attempt) → KeepsCue f → (live : List Attempt) → IsTrue (list_all (λ a. nat_le a.seq last) live) → IsTrue (list_all (λ a. nat_le a.seq last) (map (changed q f) live))
@@ -221,7 +242,7 @@ at-new show q c t h = by (parts_of show c) h
   where
     by : (o : Option (List Part)) → IsTrue (is_some o) → IsTrue (is_at (new_attempt q c t (unwrap_or o [])) o)
     by None k = cc
-    by (Some p) k = rw (devices_of-first_answers p) (nat_list_eq_equiv.refl (devices_in p))
+    by (Some p) k = are_of_parts-first_answers p
 
 none-started : (q : ℕ) (a : Attempt) (live : List Attempt) → attempt_of live q ≡ None → nat_eq a.seq q ≡ false → attempt_of (live ++ a ∷ []) q ≡ None
 none-started q a live n e = find-append (has_number q) live (a ∷ []) ∙ rw (n, e) refl
@@ -280,7 +301,7 @@ rules-settled s q d given test r g h =
     }
   where
     number_of : (a : Attempt) → IsTrue (is_attempt a) → IsTrue (is_number a.seq)
-    number_of a k = (both (is_number a.seq) (is_moment a.deadline && (are_sound_devices (devices_of a.answers) && list_all (stands a.stage) a.answers)) (is_sound-of_attempt a k)).0
+    number_of a k = (both (is_number a.seq) (is_moment a.deadline && (have_sound_devices a.answers && list_all (stands a.stage) a.answers)) (is_sound-of_attempt a k)).0
 
 rules-after : (s : ShowState) (e : Event) → Rules s → IsTrue (acceptable s e) → Rules (after s e)
 rules-after s (event.Device d port) r g = rules-show s (with_device s.show d port) r (is_show-with_device s.show d port r.show g) (λ a h. h)
@@ -295,6 +316,7 @@ rules-after s (event.Done q d) r g = rules-settled s q d answer.Done (waits_in i
 rules-after s (event.Cancel q reason) r g = rules-changed s q (moves_to (Cancelling reason)) (cue-moves_to (Cancelling reason)) r (are_live-cancel q reason s.live r.live g)
 rules-after s (event.LetGo q d) r g = rules-settled s q d answer.LetGo (waits_in is_cancelling d) r g (are_live-let_go q d s.live r.live g)
 rules-after s (event.Failed q d) r g = rules-settled s q d answer.Failed (waits_in is_concluding d) r g (are_live-failed q d s.live r.live g)
+rules-after s (event.Excuse q d) r g = rules-changed s q (answers_as d answer.Excused) (cue-answers_as d answer.Excused) r (are_live-excused q d s.live r.live g)
 
 pub is_state-after : (s : ShowState) (e : Event) → IsTrue (is_state s) → IsTrue (acceptable s e) → IsTrue (is_state (after s e))
 is_state-after s e h g = is_state-from (after s e) (rules-after s e (rules_of s h) g)

@@ -2,13 +2,14 @@
 use Rattle.std.proofs.Common.{◌≡◌, ℕ, ◌+◌, ◌<◌, Bool, true, false, not, ◌&&◌, ◌||◌, List, [], ◌∷◌, ◌++◌, nat_eq, refl, sym, ap, ◌∙◌, subst, arith, true≢false, IsTrue}
 use Rattle.std.proofs.lemmas.Bool.Decides.{nat_tests}
 use Rattle.std.specs.List.{list_any, list_all}
+use Rattle.cue_show.specs.declared.part.Part.{Part}
 use Rattle.cue_core.specs.declared.event.Event.{Event}
 use Rattle.cue_core.specs.declared.event.Event.TheVariants as event
-use Rattle.cue_core.specs.Events.{is_start_of, is_ready_of, is_go_of, is_cancel_of, is_about}
+use Rattle.cue_core.specs.Events.{is_start_of, is_ready_of, is_go_of, is_cancel_of, is_excuse_of, is_about}
 use Rattle.cue_core.specs.State.{ShowState}
 use Rattle.cue_core.specs.Steps.{acceptable, folded}
-use Rattle.cue_core.specs.History.{state_of, is_history, devices_by, stood_by}
-use Rattle.cue_core.specs.InOrder.{keeps_order, is_in_order}
+use Rattle.cue_core.specs.History.{state_of, is_history, parts_by}
+use Rattle.cue_core.specs.InOrder.{may_go_by, keeps_order, is_in_order}
 use Rattle.cue_core.specs.Happenings.{onto}
 use Rattle.cue_core.specs.Pending.{Order, pending}
 use Rattle.cue_core.specs.Safety.{is_go_to, is_cancel_to, ever}
@@ -18,7 +19,7 @@ use Rattle.cue_core.proofs.Safety.{never-asked-both}
 use Rattle.cue_outbox.specs.Sending.{Send, order, all_pending}
 use Rattle.cue_engine.specs.Given.{Given}
 use Rattle.cue_engine.specs.Runs.{Happening, run, joined, given_at, with_batch}
-use Rattle.cue_engine.specs.Attempts.{accepted, IsDecidedInOrder, DecidedInOrder, NumberNamesOne, is_command, was_sent, NeverSentBoth}
+use Rattle.cue_engine.specs.Attempts.{accepted, may_go_after, IsDecidedInOrder, DecidedInOrder, NumberNamesOne, is_command, was_sent, NeverSentBoth}
 use Rattle.cue_core.proofs.Truth.{or_left, or_right, either, itself, same, any-append, any-mapped, all_implied}
 use Rattle.cue_engine.proofs.Histories.{inputs_make_histories, inputs_in_order}
 use Rattle.cue_core.proofs.Batches.{state-onto, onto-append}
@@ -44,12 +45,12 @@ any_onto p (e ∷ es) past h = by (p e) (any_onto p es (e ∷ past) h)
     by true k = refl
     by false k = k
 
-any_left : (a : Bool) → (a || false) ≡ true → a ≡ true
+pub any_left : (a : Bool) → (a || false) ≡ true → a ≡ true
 any_left true h = refl
 any_left false h = h
 
 -- what stands in the events stands in their history
-any_in : (p : Event → Bool) (es past : List Event) → (list_any p es || list_any p past) ≡ true → list_any p (onto es past) ≡ true
+pub any_in : (p : Event → Bool) (es past : List Event) → (list_any p es || list_any p past) ≡ true → list_any p (onto es past) ≡ true
 any_in p [] past h = h
 any_in p (e ∷ es) past h = any_in p es (e ∷ past) (by (p e) (list_any p es) h)
   where
@@ -57,11 +58,11 @@ any_in p (e ∷ es) past h = any_in p es (e ∷ past) (by (p e) (list_any p es) 
     by true c k = or_right c _ refl
     by false c k = k
 
-no_any : (b : Bool) → (b ≡ true → true ≡ false) → not b ≡ true
+pub no_any : (b : Bool) → (b ≡ true → true ≡ false) → not b ≡ true
 no_any true h = sym (h refl)
 no_any false h = refl
 
-contrary : {A : Type 0} (b : Bool) → b ≡ true → not b ≡ true → A
+pub contrary : {A : Type 0} (b : Bool) → b ≡ true → not b ≡ true → A
 contrary true h k = absurd (true≢false (sym k))
 contrary false h k = absurd (true≢false (sym h))
 
@@ -97,16 +98,28 @@ no_cancel_later q (e ∷ es) past h gone c =
     refused (event.Done p d) k kept = sym k
     refused (event.LetGo p d) k kept = sym k
     refused (event.Failed p d) k kept = sym k
+    refused (event.Excuse p d) k kept = sym k
+
+-- who may go by the history may go after the events
+may_go : (q : ℕ) (before : List Event) (p : Part) → IsTrue (may_go_by (onto before []) q p) → IsTrue (may_go_after before q p)
+may_go q before p h =
+    either (list_any (is_ready_of q p.device) (onto before [])) (p.optional && list_any (is_excuse_of q p.device) (onto before [])) (may_go_after before q p)
+    (λ k. or_left (list_any (is_ready_of q p.device) before) _ (any_left (list_any (is_ready_of q p.device) before) (any_onto (is_ready_of q p.device) before [] k)))
+    (λ k.
+    let l = both p.optional (list_any (is_excuse_of q p.device) (onto before [])) k in
+    or_right (list_any (is_ready_of q p.device) before) _
+    (join p.optional (list_any (is_excuse_of q p.device) before) l.0 (any_left (list_any (is_excuse_of q p.device) before) (any_onto (is_excuse_of q p.device) before [] l.1))))
+    h
 
 decided_of : (q : ℕ) (before later : List Event) → IsTrue (is_in_order (onto later (event.Go q ∷ onto before []))) → IsDecidedInOrder q before later
 decided_of q before later h =
     let past : List Event = onto before [] in
     let go = (both (keeps_order past (event.Go q)) (is_in_order past) (order_before later (event.Go q ∷ past) h)).0 in
     let one = both (list_any (is_start_of q) past) _ go in
-    let two = both (list_all (λ d. stood_by past q d) (devices_by past q)) (not (list_any (is_cancel_of q) past)) one.1 in
+    let two = both (list_all (may_go_by past q) (parts_by past q)) (not (list_any (is_cancel_of q) past)) one.1 in
     record {
       started = any_left (list_any (is_start_of q) before) (any_onto (is_start_of q) before [] one.0);
-      all_ready = all_implied (λ d. stood_by past q d) (λ d. list_any (is_ready_of q d) before) (λ d k. any_left (list_any (is_ready_of q d) before) (any_onto (is_ready_of q d) before [] k)) (devices_by past q) two.0;
+      all_ready = all_implied (may_go_by past q) (may_go_after before q) (λ p k. may_go q before p k) (parts_by past q) two.0;
       not_cancelled = no_any (list_any (is_cancel_of q) before) (λ k. contrary (list_any (is_cancel_of q) past) (any_in (is_cancel_of q) before [] (or_left (list_any (is_cancel_of q) before) false k)) two.1);
       stays = no_any (list_any (is_cancel_of q) later) (λ k. no_cancel_later q later (event.Go q ∷ past) h (or_left (nat_eq q q) _ (itself q)) k);
     }
@@ -131,6 +144,7 @@ about_started q (event.Done p d) h = absurd (true≢false (sym h))
 about_started q (event.Cancel p r) h = absurd (true≢false (sym h))
 about_started q (event.LetGo p d) h = absurd (true≢false (sym h))
 about_started q (event.Failed p d) h = absurd (true≢false (sym h))
+about_started q (event.Excuse p d) h = absurd (true≢false (sym h))
 
 any_about : (q : ℕ) (es : List Event) → list_any (is_start_of q) es ≡ true → list_any (is_about q) es ≡ true
 any_about q [] h = h
@@ -171,6 +185,7 @@ no_start_later q (e ∷ es) past h there s =
     refused (event.Cancel p r) k ok past_ok = sym k
     refused (event.LetGo p d) k ok past_ok = sym k
     refused (event.Failed p d) k ok past_ok = sym k
+    refused (event.Excuse p d) k ok past_ok = sym k
 
 named_once : (q : ℕ) (c : List ℕ) (t : ℕ) (before later : List Event) → IsTrue (is_history (onto later (event.Start q c t ∷ onto before []))) → IsTrue (not (list_any (is_start_of q) before) && not (list_any (is_start_of q) later))
 named_once q c t before later h =
@@ -196,7 +211,7 @@ ever_onto test [] past h = h
 ever_onto test (e ∷ es) past h = ever_onto test es (e ∷ past) (or_right (test (state_of (e ∷ past))) _ h)
 
 -- such a command is pending in the state
-abbrev asks : (Order → Bool) → ShowState → Bool
+abbrev pub asks : (Order → Bool) → ShowState → Bool
 asks test s = list_any (λ (o : ℕ × Order). test o.1) (pending s)
 
 -- what passes the test makes this true
@@ -218,7 +233,7 @@ pending_asks : (test : Order → Bool) (s : ShowState) → list_any (λ (m : ℕ
 pending_asks test s h = any-mapped (λ (o : ℕ × Order). (o.0, order o.1)) (λ (m : ℕ × Send). is_command test m.1) (λ (o : ℕ × Order). test o.1) (λ o k. k) (pending s) h
 
 -- what is sent for an input is pending after its batch
-sent_asks : (test : Order → Bool) (s : ShowState) (x : Happening) → list_any (λ (m : ℕ × Send). is_command test m.1) (given_at s x).sends ≡ true → asks test (folded s (given_at s x).batch) ≡ true
+pub sent_asks : (test : Order → Bool) (s : ShowState) (x : Happening) → list_any (λ (m : ℕ × Send). is_command test m.1) (given_at s x).sends ≡ true → asks test (folded s (given_at s x).batch) ≡ true
 sent_asks test s x h =
     let t : ShowState = folded s (given_at s x).batch in
     any_says test (asks test t) (given_at s x).sends (happening-each (Says test (asks test t)) (says_elsewhere test (asks test t)) s x (each_is_there test (asks test t) (all_pending t) (pending_asks test t))) h

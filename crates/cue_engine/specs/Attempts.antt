@@ -1,14 +1,15 @@
 -- What an attempt may count on, over all inputs of any parties, in any order, with recoveries from power loss between them.
-use Rattle.std.specs.Prelude.{◌≡◌, ℕ, Bool, false, not, ◌&&◌, List, [], ◌∷◌, ◌++◌, IsTrue}
+use Rattle.std.specs.Prelude.{◌≡◌, ℕ, Bool, false, not, ◌&&◌, ◌||◌, List, [], ◌∷◌, ◌++◌, IsTrue}
 use Rattle.std.specs.List.{list_any, list_all}
+use Rattle.cue_show.specs.declared.part.Part.{Part}
 use Rattle.cue_core.specs.declared.event.Event.{Event}
 use Rattle.cue_core.specs.declared.event.Event.TheVariants.{Start, Go}
-use Rattle.cue_core.specs.Events.{is_start_of, is_ready_of, is_cancel_of}
+use Rattle.cue_core.specs.Events.{is_start_of, is_ready_of, is_cancel_of, is_end_of, is_excuse_of}
 use Rattle.cue_core.specs.State.{empty_state}
 use Rattle.cue_core.specs.Happenings.{onto}
-use Rattle.cue_core.specs.History.{devices_by}
+use Rattle.cue_core.specs.History.{parts_by}
 use Rattle.cue_core.specs.Pending.{Order}
-use Rattle.cue_core.specs.Safety.{is_go_to, is_cancel_to}
+use Rattle.cue_core.specs.Safety.{is_told, is_go_to, is_cancel_to}
 use Rattle.cue_outbox.specs.Sending.{Send, answer, status, order}
 use Rattle.cue_engine.specs.Runs.{Happening, run, joined}
 
@@ -16,17 +17,22 @@ use Rattle.cue_engine.specs.Runs.{Happening, run, joined}
 abbrev pub accepted : List Happening → List Event
 accepted hs = joined (run empty_state hs).batches
 
+-- the device of the part stood by in q, or it is optional and was excused
+abbrev pub may_go_after : List Event → ℕ → Part → Bool
+may_go_after before q p = list_any (is_ready_of q p.device) before || (p.optional && list_any (is_excuse_of q p.device) before)
+
 -- What was accepted before Go of an attempt, and after it.
 pub record IsDecidedInOrder (q : ℕ) (before later : List Event) : Type 0 where
   -- the attempt had started
   pub started : IsTrue (list_any (is_start_of q) before)
-  -- each device of its cue stood by in it
-  pub all_ready : IsTrue (list_all (λ d. list_any (is_ready_of q d) before) (devices_by (onto before []) q))
+  -- each required device of its cue stood by in it, and each optional one stood by or was excused
+  pub all_ready : IsTrue (list_all (may_go_after before q) (parts_by (onto before []) q))
   -- it was not cancelled, and it never is
   pub not_cancelled : IsTrue (not (list_any (is_cancel_of q) before))
   pub stays : IsTrue (not (list_any (is_cancel_of q) later))
 
--- Go of an attempt is accepted only after Ready of each of its devices and after no Cancel, and no Cancel is accepted after it.
+-- Go of an attempt is accepted only after Ready of each required device, after Ready or Excuse of each optional one, and after no
+-- Cancel; and no Cancel is accepted after it.
 abbrev pub DecidedInOrder : Type 0
 DecidedInOrder = (hs : List Happening) (q : ℕ) (before later : List Event) → accepted hs ≡ before ++ Go q ∷ later → IsDecidedInOrder q before later
 
@@ -44,6 +50,12 @@ is_command test (order o) = test o
 -- some datagram that was sent is such a command
 abbrev pub was_sent : (Order → Bool) → List Happening → Bool
 was_sent test hs = list_any (λ m. is_command test m.1) (run empty_state hs).sends
+
+-- Once a device is done with in an attempt, since it has answered for the last time or was excused, nothing more is sent to it there,
+-- whatever comes later.
+abbrev pub NothingMoreIsSent : Type 0
+NothingMoreIsSent = (hs later : List Happening) (q d : ℕ) → IsTrue (list_any (is_end_of q d) (accepted hs))
+    → IsTrue (not (list_any (λ m. is_command (is_told q d) m.1) (run (run empty_state hs).state later).sends))
 
 -- No device is ever sent both GO_2PC and CANCEL in one attempt.
 abbrev pub NeverSentBoth : Type 0

@@ -8,6 +8,7 @@ use std::process::Abort;
 use std::test::Fail;
 
 mod areas;
+mod optional;
 mod packets;
 mod rows;
 mod stops;

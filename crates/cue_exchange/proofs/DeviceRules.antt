@@ -1,8 +1,8 @@
 -- The devices of an attempt: one of them, none of them twice, and none of them in another attempt.
-use Rattle.std.proofs.Common.{◌≡◌, ℕ, ◌-◌, ◌≤◌, true, false, not, ◌&&◌, ◌||◌, cond, IsTrue, List, [], ◌∷◌, length, take, drop, get_or, Some, nat_eq, refl, sym, ◌∙◌, ap, subst, arith, ⊎_elim, take_all}
-use Rattle.std.specs.List.{list_all}
+use Rattle.std.proofs.Common.{◌≡◌, ℕ, ◌-◌, ◌≤◌, Bool, true, false, not, ◌&&◌, ◌||◌, cond, IsTrue, List, [], ◌∷◌, length, take, drop, get_or, Some, nat_eq, refl, sym, ◌∙◌, ap, subst, arith, ⊎_elim, take_all}
+use Rattle.std.specs.List.{list_all, list_any}
 use Rattle.std.specs.Option.{is_none}
-use Rattle.std.proofs.lemmas.Bool.{cases_Bool, or_parts, or_from, not-true, not_from_false, ne_eqb, eqb-false}
+use Rattle.std.proofs.lemmas.Bool.{both_ways, cases_Bool, or_parts, or_from, not-true, not_from_false, ne_eqb, eqb-false, eqb-true}
 use Rattle.cue_show.specs.Devices.{is_among, distinct, disjoint}
 use Rattle.cue_exchange.specs.declared.attempt.DeviceAnswer.{DeviceAnswer}
 use Rattle.cue_exchange.specs.declared.attempt.Attempt.{Attempt}
@@ -28,6 +28,42 @@ distinct-first [] x h e = absurd (omega arith)
 distinct-first (y ∷ ys) x h e =
     let rest : take (length (y ∷ ys) - 1) ys ≡ ys = take_all (length (y ∷ ys) - 1) ys (omega arith) in
     rw (e, rest, is_among-devices_of y.device ys) refl
+
+-- a device that passes a test is one of the attempt
+passes-is_one_of : (d : ℕ) (test : DeviceAnswer → Bool) (xs : List DeviceAnswer) → IsTrue (list_any (λ x. nat_eq x.device d && test x) xs) → IsTrue (is_one_of d xs)
+passes-is_one_of d test [] h = h
+passes-is_one_of d test (x ∷ xs) h = by (nat_eq x.device d) (test x) h (passes-is_one_of d test xs)
+  where
+    by : (same passes : Bool) → IsTrue ((same && passes) || list_any (λ y. nat_eq y.device d && test y) xs)
+        → (IsTrue (list_any (λ y. nat_eq y.device d && test y) xs) → IsTrue (is_one_of d xs)) → IsTrue (same || is_one_of d xs)
+    by true passes k later = refl
+    by false passes k later = later k
+
+-- where the device is not one of the attempt, a test of it holds of none
+none-passes : (d : ℕ) (test : DeviceAnswer → Bool) (xs : List DeviceAnswer) → is_one_of d xs ≡ false → IsTrue (list_all (λ x. not (nat_eq x.device d) || test x) xs)
+none-passes d test [] h = refl
+none-passes d test (x ∷ xs) h =
+    let parts : (nat_eq x.device d ≡ false) × (is_one_of d xs ≡ false) = or_parts (nat_eq x.device d) (is_one_of d xs) h in
+    rw parts.0 (none-passes d test xs parts.1)
+
+-- no device is there twice, so a test of one with the number is a test of each that has it
+pub only_one_device : (d : ℕ) (test : DeviceAnswer → Bool) (xs : List DeviceAnswer) → IsTrue (distinct (devices_of xs)) → IsTrue (list_any (λ x. nat_eq x.device d && test x) xs)
+    → IsTrue (list_all (λ x. not (nat_eq x.device d) || test x) xs)
+only_one_device d test [] apart h = refl
+only_one_device d test (x ∷ xs) apart h =
+    let s : IsTrue (not (is_among x.device (devices_of xs))) × IsTrue (distinct (devices_of xs)) = both (not (is_among x.device (devices_of xs))) (distinct (devices_of xs)) apart in
+    let absent : is_one_of x.device xs ≡ false = sym (is_among-devices_of x.device xs) ∙ not-true (is_among x.device (devices_of xs)) s.0 in
+    by (nat_eq x.device d) refl (test x) h absent (only_one_device d test xs s.1)
+  where
+    one : (passes : Bool) → is_one_of d xs ≡ false → IsTrue (passes || list_any (λ y. nat_eq y.device d && test y) xs) → IsTrue (passes && list_all (λ y. not (nat_eq y.device d) || test y) xs)
+    one true none k = none-passes d test xs none
+    one false none k = absurd (both_ways (is_one_of d xs) none (passes-is_one_of d test xs k))
+
+    by : (same : Bool) → nat_eq x.device d ≡ same → (passes : Bool) → IsTrue ((same && passes) || list_any (λ y. nat_eq y.device d && test y) xs) → is_one_of x.device xs ≡ false
+        → (IsTrue (list_any (λ y. nat_eq y.device d && test y) xs) → IsTrue (list_all (λ y. not (nat_eq y.device d) || test y) xs))
+        → IsTrue ((not same || passes) && list_all (λ y. not (nat_eq y.device d) || test y) xs)
+    by true e passes k absent later = one passes (subst (λ n. is_one_of n xs ≡ false) (eqb-true x.device d e) absent) k
+    by false e passes k absent later = later k
 
 -- two numbers differ either way round
 pub nat_eq-other : (a b : ℕ) → nat_eq a b ≡ false → nat_eq b a ≡ false

@@ -1,11 +1,10 @@
 -- The table of which attempt each device is in: how it is made, and what it finds.
-use Rattle.std.proofs.Common.{◌≡◌, ℕ, ◌+◌, ◌-◌, ◌<◌, ◌≤◌, Bool, true, false, not, ◌&&◌, cond, IsTrue, List, [], ◌∷◌, length, take, drop, map, get_or, replicate, Option, None, Some, nat_eq, nat_lt, nat_le, refl, sym, ◌∙◌, ap, subst, arith, ⊎_elim, take_all}
+use Rattle.std.proofs.Common.{◌≡◌, ℕ, ◌-◌, ◌<◌, ◌≤◌, Bool, true, false, not, cond, IsTrue, List, [], ◌∷◌, length, take, drop, map, get_or, Option, None, Some, nat_eq, nat_lt, nat_le, refl, sym, ◌∙◌, ap, arith, take_all}
 use Rattle.std.specs.List.{list_all}
 use Rattle.std.specs.Option.{option_map, option_map_or}
 use Rattle.std.proofs.lemmas.Bool.{ltb-true, leb-true, ne_eqb, not_from_false}
 use Rattle.std.proofs.lemmas.Option.{same_Some}
 use Rattle.cue_show.specs.Devices.{disjoint}
-use Rattle.cue_show.specs.declared.limits.TheConstants.{LAST_DEVICE}
 use Rattle.cue_exchange.specs.declared.attempt.Attempt.{Attempt}
 use Rattle.cue_exchange.specs.Answers.{devices_of, is_one_of}
 use Rattle.cue_exchange.specs.Live.{is_number, is_attempt, are_live, pairwise, goes_before, has_number, has_device, attempt_of, attempt_of_device}

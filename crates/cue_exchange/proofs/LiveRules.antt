@@ -11,14 +11,15 @@ use Rattle.cue_exchange.specs.declared.attempt.Answer.TheVariants as answer
 use Rattle.cue_exchange.specs.declared.attempt.Reason.{Reason}
 use Rattle.cue_exchange.specs.declared.attempt.Stage.{Stage}
 use Rattle.cue_exchange.specs.declared.attempt.Stage.TheVariants.{Decided, Cancelling}
+use Rattle.cue_exchange.specs.declared.attempt.DeviceAnswer.{DeviceAnswer}
 use Rattle.cue_exchange.specs.declared.attempt.Attempt.{Attempt}
 use Rattle.cue_exchange.specs.declared.limits.TheConstants.{MAX_LIVE}
-use Rattle.cue_exchange.specs.Answers.{is_waiting, is_preparing, is_decided, is_cancelling, is_concluding, is_known_in, stands, entered, with_answer, answer_passes, some_waits, devices_of}
-use Rattle.cue_exchange.specs.Live.{is_number, is_moment, is_open, are_sound_devices, is_sound, is_attempt, pairwise, goes_before, are_live, has_number}
-use Rattle.cue_exchange.specs.Steps.{holds, waits_in, has_room, are_below, are_free, can_start, can_ready, can_go, can_go_now, can_cancel, can_done, can_let_go, can_fail, changed, answers_as, moves_to, new_attempt, started, answered, moved, goes_on, without_ended}
+use Rattle.cue_exchange.specs.Answers.{is_waiting, is_ready, is_preparing, is_decided, is_cancelling, is_concluding, is_known_in, is_excused, is_required, has_required, can_be_excused, is_excusable, stands, entered, with_answer, answer_passes, some_waits, devices_of}
+use Rattle.cue_exchange.specs.Live.{is_number, is_moment, is_open, have_sound_devices, is_sound, is_attempt, pairwise, goes_before, are_live, has_number}
+use Rattle.cue_exchange.specs.Steps.{holds, waits_in, has_room, are_below, are_free, are_sound_parts, can_start, can_ready, can_go, can_go_now, can_cancel, can_done, can_let_go, can_fail, can_excuse, can_excuse_now, changed, answers_as, moves_to, new_attempt, started, answered, moved, goes_on, without_ended}
 use Rattle.cue_exchange.proofs.Lists.{both, join, all_weaker, all_given, all_map, all_filter, all_kept, all_push, pairwise_map, pairwise_filter, pairwise_push}
-use Rattle.cue_exchange.proofs.DeviceRules.{are_free-each}
-use Rattle.cue_exchange.proofs.AnswerRules.{is_known_in-ready, is_known_in-done, is_known_in-let_go, is_known_in-failed, is_open-preparing, is_open-some_waits, devices_of-with_answer, devices_of-entered, devices_of-first_answers, all_stand-with_answer, all_stand-entered, all_stand-first_answers, some_waits-entered}
+use Rattle.cue_exchange.proofs.DeviceRules.{are_free-each, only_one_device}
+use Rattle.cue_exchange.proofs.AnswerRules.{is_known_in-ready, is_known_in-done, is_known_in-let_go, is_known_in-failed, is_known_in-excused, is_open-preparing, is_open-some_waits, devices_of-with_answer, devices_of-entered, devices_of-first_answers, has_required-with_answer, has_required-entered, has_required-first_answers, excuses_none, excuses_none-other, all_stand-with_answer, all_stand-entered, all_stand-first_answers, some_waits-entered}
 
 -- ---- the rules of the attempts, taken apart and put together
 
@@ -179,11 +180,11 @@ pub record CanStart (q t : ℕ) (parts : List Part) (live : List Attempt) : Type
   pub room : IsTrue (has_room live)
   pub above : IsTrue (are_below q live)
   pub free : IsTrue (are_free (devices_in parts) live)
-  pub devices : IsTrue (are_sound_devices (devices_in parts))
+  pub devices : IsTrue (are_sound_parts parts)
 
 pub can_start_parts : (q t : ℕ) (parts : List Part) (live : List Attempt) → IsTrue (can_start q t parts live) → CanStart q t parts live
 can_start_parts q t parts live h =
-    let c5 : Bool = are_free (devices_in parts) live && are_sound_devices (devices_in parts) in
+    let c5 : Bool = are_free (devices_in parts) live && are_sound_parts parts in
     let c4 : Bool = are_below q live && c5 in
     let c3 : Bool = has_room live && c4 in
     let c2 : Bool = is_moment t && c3 in
@@ -191,34 +192,34 @@ can_start_parts q t parts live h =
     let s2 : IsTrue (is_moment t) × IsTrue c3 = both (is_moment t) c3 s1.1 in
     let s3 : IsTrue (has_room live) × IsTrue c4 = both (has_room live) c4 s2.1 in
     let s4 : IsTrue (are_below q live) × IsTrue c5 = both (are_below q live) c5 s3.1 in
-    let s5 : IsTrue (are_free (devices_in parts) live) × IsTrue (are_sound_devices (devices_in parts)) = both (are_free (devices_in parts) live) (are_sound_devices (devices_in parts)) s4.1 in
+    let s5 : IsTrue (are_free (devices_in parts) live) × IsTrue (are_sound_parts parts) = both (are_free (devices_in parts) live) (are_sound_parts parts) s4.1 in
     record { number = s1.0; moment = s2.0; room = s3.0; above = s4.0; free = s5.0; devices = s5.1 }
 
 -- ---- one attempt
 
-pub is_sound_from : (a : Attempt) → IsTrue (is_number a.seq) → IsTrue (is_moment a.deadline) → IsTrue (are_sound_devices (devices_of a.answers)) → IsTrue (list_all (stands a.stage) a.answers) → IsTrue (is_sound a)
+pub is_sound_from : (a : Attempt) → IsTrue (is_number a.seq) → IsTrue (is_moment a.deadline) → IsTrue (have_sound_devices a.answers) → IsTrue (list_all (stands a.stage) a.answers) → IsTrue (is_sound a)
 is_sound_from a number moment devices stand =
-    join (is_number a.seq) (is_moment a.deadline && (are_sound_devices (devices_of a.answers) && list_all (stands a.stage) a.answers)) number
-    (join (is_moment a.deadline) (are_sound_devices (devices_of a.answers) && list_all (stands a.stage) a.answers) moment
-    (join (are_sound_devices (devices_of a.answers)) (list_all (stands a.stage) a.answers) devices stand))
+    join (is_number a.seq) (is_moment a.deadline && (have_sound_devices a.answers && list_all (stands a.stage) a.answers)) number
+    (join (is_moment a.deadline) (have_sound_devices a.answers && list_all (stands a.stage) a.answers) moment
+    (join (have_sound_devices a.answers) (list_all (stands a.stage) a.answers) devices stand))
 
 -- the parts of a sound attempt
 pub record Sound (a : Attempt) : Type 0 where
   pub number : IsTrue (is_number a.seq)
   pub moment : IsTrue (is_moment a.deadline)
-  pub devices : IsTrue (are_sound_devices (devices_of a.answers))
+  pub devices : IsTrue (have_sound_devices a.answers)
   pub stand : IsTrue (list_all (stands a.stage) a.answers)
 
 pub sound_of : (a : Attempt) → IsTrue (is_sound a) → Sound a
 sound_of a h =
-    let s : IsTrue (is_number a.seq) × IsTrue (is_moment a.deadline && (are_sound_devices (devices_of a.answers) && list_all (stands a.stage) a.answers)) =
-    both (is_number a.seq) (is_moment a.deadline && (are_sound_devices (devices_of a.answers) && list_all (stands a.stage) a.answers)) h
+    let s : IsTrue (is_number a.seq) × IsTrue (is_moment a.deadline && (have_sound_devices a.answers && list_all (stands a.stage) a.answers)) =
+    both (is_number a.seq) (is_moment a.deadline && (have_sound_devices a.answers && list_all (stands a.stage) a.answers)) h
     in
-    let t : IsTrue (is_moment a.deadline) × IsTrue (are_sound_devices (devices_of a.answers) && list_all (stands a.stage) a.answers) =
-    both (is_moment a.deadline) (are_sound_devices (devices_of a.answers) && list_all (stands a.stage) a.answers) s.1
+    let t : IsTrue (is_moment a.deadline) × IsTrue (have_sound_devices a.answers && list_all (stands a.stage) a.answers) =
+    both (is_moment a.deadline) (have_sound_devices a.answers && list_all (stands a.stage) a.answers) s.1
     in
-    let u : IsTrue (are_sound_devices (devices_of a.answers)) × IsTrue (list_all (stands a.stage) a.answers) =
-    both (are_sound_devices (devices_of a.answers)) (list_all (stands a.stage) a.answers) t.1
+    let u : IsTrue (have_sound_devices a.answers) × IsTrue (list_all (stands a.stage) a.answers) =
+    both (have_sound_devices a.answers) (list_all (stands a.stage) a.answers) t.1
     in
     record { number = s.0; moment = t.0; devices = u.0; stand = u.1 }
 
@@ -231,21 +232,21 @@ inside-answers_as d x = record { number = λ a. refl; devices = λ a. devices_of
 pub inside-moves_to : (s : Stage) → IsInside (moves_to s)
 inside-moves_to s = record { number = λ a. refl; devices = λ a. devices_of-entered s a.answers }
 
--- an answer that the stage knows keeps the attempt sound
-pub is_sound-answers_as : (d : ℕ) (x : Answer) (a : Attempt) → IsTrue (is_known_in a.stage x) → IsTrue (is_sound a) → IsTrue (is_sound (answers_as d x a))
-is_sound-answers_as d x a known h =
+-- an answer that the stage knows, and that excuses no required device, keeps the attempt sound
+pub is_sound-answers_as : (d : ℕ) (x : Answer) (a : Attempt) → IsTrue (is_known_in a.stage x) → IsTrue (excuses_none d x a.answers) → IsTrue (is_sound a) → IsTrue (is_sound (answers_as d x a))
+is_sound-answers_as d x a known none h =
     let s : Sound a = sound_of a h in
-    is_sound_from (answers_as d x a) s.number s.moment (rw devices_of-with_answer s.devices) (all_stand-with_answer a.stage d x a.answers known s.stand)
+    is_sound_from (answers_as d x a) s.number s.moment (rw (has_required-with_answer, devices_of-with_answer) s.devices) (all_stand-with_answer a.stage d x a.answers known none s.stand)
 
 -- an attempt that enters a stage keeps the rules
 pub is_attempt-moves_to : (stage : Stage) (a : Attempt) → IsTrue (is_attempt a) → IsTrue (is_attempt (moves_to stage a))
 is_attempt-moves_to stage a h =
     let s : Sound a = sound_of a (is_sound-of_attempt a h) in
     let some : IsTrue (some_waits (entered stage a.answers)) =
-    some_waits-entered stage a.answers ((both (nat_le 1 (length (devices_of a.answers))) (distinct (devices_of a.answers)) s.devices).0)
+    some_waits-entered a.stage stage a.answers ((both (has_required a.answers) (distinct (devices_of a.answers)) s.devices).0) s.stand
     in
     join (is_sound (moves_to stage a)) (is_open stage (entered stage a.answers))
-    (is_sound_from (moves_to stage a) s.number s.moment (rw devices_of-entered s.devices) (all_stand-entered stage a.answers))
+    (is_sound_from (moves_to stage a) s.number s.moment (rw (has_required-entered, devices_of-entered) s.devices) (all_stand-entered a.stage stage a.answers s.stand))
     (is_open-some_waits stage (entered stage a.answers) some)
 
 -- ---- the steps
@@ -257,8 +258,32 @@ are_live-ready q d live h can =
     (λ a here k t.
     let s : IsTrue (is_preparing a.stage) × IsTrue (answer_passes is_waiting d a.answers) = both (is_preparing a.stage) (answer_passes is_waiting d a.answers) t in
     join (is_sound (answers_as d answer.Ready a)) (is_open a.stage (with_answer d answer.Ready a.answers))
-    (is_sound-answers_as d answer.Ready a (is_known_in-ready a.stage s.0) (is_sound-of_attempt a k))
+    (is_sound-answers_as d answer.Ready a (is_known_in-ready a.stage s.0) (excuses_none-other d answer.Ready a.answers refl) (is_sound-of_attempt a k))
     (is_open-preparing a.stage (with_answer d answer.Ready a.answers) s.0))
+    live h can
+
+-- one optional device has the number, so no required one has it
+excuses_none-optional : (d : ℕ) (answers : List DeviceAnswer) → IsTrue (list_all (λ y. not (nat_eq y.device d) || can_be_excused y) answers) → IsTrue (excuses_none d answer.Excused answers)
+excuses_none-optional d answers h =
+    all_weaker (λ y. not (nat_eq y.device d) || can_be_excused y) (λ y. not (nat_eq y.device d && (is_required y && true)))
+    (λ y k. by (nat_eq y.device d) y.optional (is_waiting y.answer || is_ready y.answer) k) answers h
+  where
+    by : (same optional waits : Bool) → IsTrue (not same || (optional && waits)) → IsTrue (not (same && (not optional && true)))
+    by true true waits k = refl
+    by true false waits k = k
+    by false optional waits k = refl
+
+-- a device is excused
+pub are_live-excused : (q d : ℕ) (live : List Attempt) → IsTrue (are_live live) → IsTrue (can_excuse q d live) → IsTrue (are_live (answered q d answer.Excused live))
+are_live-excused q d live h can =
+    are_live-changed q (can_excuse_now d) (answers_as d answer.Excused) (inside-answers_as d answer.Excused)
+    (λ a here k t.
+    let s : IsTrue (is_preparing a.stage) × IsTrue (is_excusable d a.answers) = both (is_preparing a.stage) (is_excusable d a.answers) t in
+    let devices : IsTrue (have_sound_devices a.answers) = (sound_of a (is_sound-of_attempt a k)).devices in
+    let apart : IsTrue (distinct (devices_of a.answers)) = (both (has_required a.answers) (distinct (devices_of a.answers)) devices).1 in
+    join (is_sound (answers_as d answer.Excused a)) (is_open a.stage (with_answer d answer.Excused a.answers))
+    (is_sound-answers_as d answer.Excused a (is_known_in-excused a.stage s.0) (excuses_none-optional d a.answers (only_one_device d can_be_excused a.answers apart s.1)) (is_sound-of_attempt a k))
+    (is_open-preparing a.stage (with_answer d answer.Excused a.answers) s.0))
     live h can
 
 -- an attempt enters a stage
@@ -275,23 +300,23 @@ pub are_live-cancel : (q : ℕ) (r : Reason) (live : List Attempt) → IsTrue (a
 are_live-cancel q r live h can = are_live-moved q (Cancelling r) (λ a. is_preparing a.stage) live h can
 
 -- a device has answered for the last time
-pub are_live-settled : (q d : ℕ) (x : Answer) (in_stage : Stage → Bool) → ((s : Stage) → IsTrue (in_stage s) → IsTrue (is_known_in s x)) → (live : List Attempt)
+pub are_live-settled : (q d : ℕ) (x : Answer) (in_stage : Stage → Bool) → ((s : Stage) → IsTrue (in_stage s) → IsTrue (is_known_in s x)) → IsTrue (not (is_excused x)) → (live : List Attempt)
     → IsTrue (are_live live) → IsTrue (holds q (waits_in in_stage d) live) → IsTrue (are_live (without_ended q (answered q d x live)))
-are_live-settled q d x in_stage known live h can =
+are_live-settled q d x in_stage known last live h can =
     are_live-ended q (waits_in in_stage d) (answers_as d x) (inside-answers_as d x)
     (λ a here k t.
     let s : IsTrue (in_stage a.stage) × IsTrue (answer_passes is_waiting d a.answers) = both (in_stage a.stage) (answer_passes is_waiting d a.answers) t in
-    is_sound-answers_as d x a (known a.stage s.0) (is_sound-of_attempt a k))
+    is_sound-answers_as d x a (known a.stage s.0) (excuses_none-other d x a.answers last) (is_sound-of_attempt a k))
     live h can
 
 pub are_live-done : (q d : ℕ) (live : List Attempt) → IsTrue (are_live live) → IsTrue (can_done q d live) → IsTrue (are_live (without_ended q (answered q d answer.Done live)))
-are_live-done q d live h can = are_live-settled q d answer.Done is_decided is_known_in-done live h can
+are_live-done q d live h can = are_live-settled q d answer.Done is_decided is_known_in-done refl live h can
 
 pub are_live-let_go : (q d : ℕ) (live : List Attempt) → IsTrue (are_live live) → IsTrue (can_let_go q d live) → IsTrue (are_live (without_ended q (answered q d answer.LetGo live)))
-are_live-let_go q d live h can = are_live-settled q d answer.LetGo is_cancelling is_known_in-let_go live h can
+are_live-let_go q d live h can = are_live-settled q d answer.LetGo is_cancelling is_known_in-let_go refl live h can
 
 pub are_live-failed : (q d : ℕ) (live : List Attempt) → IsTrue (are_live live) → IsTrue (can_fail q d live) → IsTrue (are_live (without_ended q (answered q d answer.Failed live)))
-are_live-failed q d live h can = are_live-settled q d answer.Failed is_concluding is_known_in-failed live h can
+are_live-failed q d live h can = are_live-settled q d answer.Failed is_concluding is_known_in-failed refl live h can
 
 -- an attempt begins
 pub are_live-started : (q : ℕ) (c : List ℕ) (t : ℕ) (parts : List Part) (live : List Attempt) → IsTrue (are_live live) → IsTrue (can_start q t parts live) → IsTrue (are_live (started q c t parts live))
@@ -303,7 +328,7 @@ are_live-started q c t parts live h can =
     are_live_from (live ++ new ∷ [])
     (le-leb (length (live ++ new ∷ [])) MAX_LIVE (omega (arith, length-append live (new ∷ []))))
     (all_push is_attempt live new (attempts_of live h)
-    (join (is_sound new) true (is_sound_from new k.number k.moment (rw same k.devices) (all_stand-first_answers parts)) refl))
+    (join (is_sound new) true (is_sound_from new k.number k.moment (rw (has_required-first_answers, same) k.devices) (all_stand-first_answers parts)) refl))
     (pairwise_push goes_before live new (order_of live h)
     (all_given (λ a. nat_lt a.seq q) (λ a. disjoint (devices_of a.answers) (devices_in parts)) (λ a. goes_before a new)
     (λ a below free. rw same (join (nat_lt a.seq q) (disjoint (devices_of a.answers) (devices_in parts)) below free))

@@ -1,5 +1,5 @@
 -- The outcomes as they are sent and stored.
-use Rattle.std.specs.Prelude.{ℕ, List, [], ◌∷◌, Option, find, nat_eq}
+use Rattle.std.specs.Prelude.{ℕ, [], ◌∷◌, Option, find, nat_eq}
 use Rattle.cue_exchange.specs.declared.attempt.Outcome.{Outcome}
 use Rattle.cue_exchange.specs.declared.attempt.Outcome.TheVariants.{Complete, Cancelled, Failed}
 

@@ -50,9 +50,13 @@ can_start q t parts live =
 abbrev pub can_ready : ℕ → ℕ → List Attempt → Bool
 can_ready q d live = holds q (waits_in is_preparing d) live
 
+-- the attempt is Preparing, and the device d is an optional one of it that waits or stands by
+abbrev pub can_excuse_now : ℕ → Attempt → Bool
+can_excuse_now d a = is_preparing a.stage && is_excusable d a.answers
+
 -- q is Preparing, and the device d is an optional one of it that waits or stands by
 abbrev pub can_excuse : ℕ → ℕ → List Attempt → Bool
-can_excuse q d live = holds q (λ a. is_preparing a.stage && is_excusable d a.answers) live
+can_excuse q d live = holds q (can_excuse_now d) live
 
 -- the attempt is Preparing, and each of its devices may go
 abbrev pub can_go_now : Attempt → Bool

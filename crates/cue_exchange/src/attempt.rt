@@ -1,7 +1,7 @@
 //! One try at a cue: its stage, what its devices have answered, and how it ends.
 ghost use Rattle.std.specs.Prelude.{◌≡◌, ◌≤◌};
 ghost use Rattle.cue_exchange.specs.Live.{is_attempt, is_due, is_number, is_open, is_sound};
-ghost use Rattle.cue_exchange.specs.Steps.{can_go_now, is_apart, outcome_of};
+ghost use Rattle.cue_exchange.specs.Steps.{can_excuse_now, can_go_now, is_apart, outcome_of};
 ghost use Rattle.cue_exchange.specs.Outcomes.{outcome_number, outcome_numbered};
 ghost use Rattle.cue_exchange.specs.Answers.{is_waiting, is_ready, is_done, is_excused, is_required, stands, may_go, has_done, can_be_excused, is_preparing, is_decided, is_cancelling, is_concluding, is_known_in, entering};
 
@@ -273,6 +273,13 @@ impl Attempt {
         ensures { result ≡ can_go_now self.now }
     {
         self.stage.is_preparing() && self.answers.all_may_go()
+    }
+
+    // Whether the attempt is Preparing and the device is an optional one of it that waits or stands by.
+    pub(crate) fn can_excuse(&self, device: DeviceNo) -> bool
+        ensures { result ≡ can_excuse_now device self.now }
+    {
+        self.stage.is_preparing() && self.answers.can_excuse(device)
     }
 
     // Whether the attempt keeps the rules of a live one, whichever others are live.

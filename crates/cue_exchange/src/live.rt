@@ -179,9 +179,9 @@ impl Live {
     pub fn can_excuse(&self, seq: u32, device: DeviceNo) -> bool
         ensures { result ≡ can_excuse seq device self.now }
     {
-        self.attempts.iter().any(|a| a.seq == seq
-            && a.stage.is_preparing()
-            && a.answers.can_excuse(device))
+        self.attempts
+            .iter()
+            .any(|a| a.seq == seq && a.can_excuse(device))
     }
 
     /// Whether the attempt is Preparing and, as far as each of its devices goes, the cue may be carried out.

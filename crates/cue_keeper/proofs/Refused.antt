@@ -1,16 +1,22 @@
 -- What stands for a state is not refused, and is opened with that state alone.
-use Rattle.std.proofs.Common.{◌≡◌, false, refl, sym, ◌∙◌, ap, subst}
+use Rattle.std.proofs.Common.{◌≡◌, ℕ, List, false, sym, ◌∙◌, ap, subst}
 use Rattle.cue_log.specs.Area.{Area}
 use Rattle.cue_snap.proofs.Reader.{one_of_a_pair, good_pair}
 use Rattle.cue_core.specs.State.{ShowState}
-use Rattle.cue_records.specs.State.{state_text, is_other_version}
+use Rattle.cue_records.specs.declared.version.Version.{Version}
+use Rattle.cue_records.specs.declared.version.Version.TheVariants.{One, Two}
+use Rattle.cue_records.specs.State.{IsStateText, text_in, is_other_version}
 use Rattle.cue_keeper.specs.Stands.{StandsFor}
 use Rattle.cue_keeper.specs.Laws.{WhatStandsIsOpened, WhatIsClosedIsOpened}
 use Rattle.cue_keeper.proofs.Standing.{one_state}
 
--- the text of a state begins with this version
-own_version : (s : ShowState) → is_other_version (state_text s) ≡ false
-own_version s = refl
+-- a text of a state begins with this version or with the older one
+own_version : (bytes : List ℕ) (s : ShowState) → IsStateText bytes s → is_other_version bytes ≡ false
+own_version bytes s text = by text.version text.is
+  where
+    by : (version : Version) → bytes ≡ text_in version s → is_other_version bytes ≡ false
+    by One is = ap is_other_version is
+    by Two is = ap is_other_version is
 
 pub is_opened : WhatStandsIsOpened
 is_opened x y s stands =
@@ -19,7 +25,7 @@ is_opened x y s stands =
       good.1,
       λ other.
           let same : other.area ≡ stands.area = one_of_a_pair other.area stands.area x y other.reads stands.reads in
-          let own : is_other_version other.area.snapshot ≡ false = ap (λ (a : Area). is_other_version a.snapshot) same ∙ ap is_other_version stands.stands.base_text ∙ own_version stands.stands.base in
+          let own : is_other_version other.area.snapshot ≡ false = ap (λ (a : Area). is_other_version a.snapshot) same ∙ own_version stands.area.snapshot stands.stands.base stands.stands.base_text in
           let version = other.version in
           absurd cc,
       λ malformed.

@@ -7,7 +7,7 @@ ghost use Rattle.cue_log.specs.Log.{IsOldOrAbsent, IsClosed, LeavesAbsent, close
 use cue_disk::{Disk, DiskFault};
 
 /// The longest text of an area, in bytes.
-pub const AREA_LIMIT: u64 = 4_194_304;
+pub const AREA_LIMIT: u64 = 16_777_216;
 
 /// The longest payload of a record, in bytes.
 pub const PAYLOAD_LIMIT: usize = 32_768;

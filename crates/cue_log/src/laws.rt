@@ -26,7 +26,7 @@ pub fn no_area_is_absent()
     ensures { NoAreaIsAbsent }
 {}
 
-/// The limits of an area as numbers: 4,194,304 bytes in all, 32,768 bytes of a payload, and the bytes of its gates.
+/// The limits of an area as numbers: 16,777,216 bytes in all, 32,768 bytes of a payload, and the bytes of its gates.
 pub fn limits_of_an_area()
     ensures { LimitsOfAnArea }
 {}

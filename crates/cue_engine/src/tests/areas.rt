@@ -4,12 +4,12 @@ use super::*;
 
 // The area of generation 1 with the text of the first state.
 const FORMED: [u8; 29] = [
-    1, 0, 0, 0, 0, 0, 0, 0, 1, 0, 0, 0, 15, 1, 0, 0, 0, 0, 0, 0, 0, 0, 0, 0, 0, 0, 0, 0, 0,
+    1, 0, 0, 0, 0, 0, 0, 0, 1, 0, 0, 0, 15, 2, 0, 0, 0, 0, 0, 0, 0, 0, 0, 0, 0, 0, 0, 0, 0,
 ];
 
 // The same with a record: device 3 at port 9001.
 const ACCEPTED: [u8; 40] = [
-    1, 0, 0, 0, 0, 0, 0, 0, 1, 0, 0, 0, 15, 1, 0, 0, 0, 0, 0, 0, 0, 0, 0, 0, 0, 0, 0, 0, 1, 0, 0,
+    1, 0, 0, 0, 0, 0, 0, 0, 1, 0, 0, 0, 15, 2, 0, 0, 0, 0, 0, 0, 0, 0, 0, 0, 0, 0, 0, 0, 1, 0, 0,
     0, 6, 0x00, 0x01, 0x01, 0x03, 0x23, 0x29, 0,
 ];
 
@@ -91,14 +91,16 @@ pub(super) fn area(
     Ok(bytes)
 }
 
-// A state with device 3 and cues 1 to 256 of it.
-fn many_cues(alloc: Global) -> Result<Vec<u8>, Fail> {
-    let mut text = Vec::from_slice(alloc, &[1, 1, 3, 0x23, 0x29, 1, 0])?;
-    for number in 1..=256u16 {
+// A state with device 3 and cues of it: so many numbers from that one on.
+fn cues_of(alloc: Global, first: u64, count: u16) -> Result<Vec<u8>, Fail> {
+    let mut text = Vec::from_slice(alloc, &[2, 1, 3, 0x23, 0x29])?;
+    text.extend_from_slice(&count.to_be_bytes())?;
+    for behind in 0..count {
+        let number = first.wrapping_add(u64::from(behind));
         let name = format!(in alloc; "{number}")?;
         text.push(u8::try_from(name.len())?)?;
         text.extend_from_slice(name.as_bytes())?;
-        text.extend_from_slice(&[1, 3, 0])?;
+        text.extend_from_slice(&[1, 3, 0, 0])?;
     }
     text.extend_from_slice(&[0; 11])?;
     Ok(text)
@@ -106,7 +108,7 @@ fn many_cues(alloc: Global) -> Result<Vec<u8>, Fail> {
 
 // A state with devices 0 to 111; cues 1 to 8 of 13 devices each, in order, and 9 of the last device.
 fn wide_cues(alloc: Global) -> Result<Vec<u8>, AllocError> {
-    let mut text = Vec::from_slice(alloc, &[1, 112])?;
+    let mut text = Vec::from_slice(alloc, &[2, 112])?;
     for device in 0..112u8 {
         text.extend_from_slice(&[device, 0x23, 0x28])?;
     }
@@ -115,11 +117,11 @@ fn wide_cues(alloc: Global) -> Result<Vec<u8>, AllocError> {
     for name in b'1'..b'9' {
         text.extend_from_slice(&[1, name, 13])?;
         for _ in 0..13 {
-            text.extend_from_slice(&[device, 0])?;
+            text.extend_from_slice(&[device, 0, 0])?;
             device = device.wrapping_add(1);
         }
     }
-    text.extend_from_slice(&[1, b'9', 1, 111, 0])?;
+    text.extend_from_slice(&[1, b'9', 1, 111, 0, 0])?;
     text.extend_from_slice(&[0; 11])?;
     Ok(text)
 }
@@ -135,7 +137,7 @@ const NO_ROOM: [Step; 2] = [
     Step::Hears(
         0,
         8000,
-        b"/show/cue\0\0\0,sib\0\0\0\0257\0\0\0\0\x03\0\0\0\0",
+        b"/show/cue\0\0\0,sib\0\0\0\01025\0\0\0\0\0\0\0\x03\0\0\0\0",
         [0, 0, 1],
     ),
     Step::Answers(8000, b"/show/cue", [0, 0, 1, 7]),
@@ -147,21 +149,49 @@ const TOO_MANY: [Step; 2] = [
 ];
 
 const JUST_ENOUGH: [Step; 3] = [
-    Step::Hears(0, 8000, TWO_OF_ALL, [512, 0, 0]),
+    Step::Hears(0, 8000, TWO_OF_ALL, [2048, 0, 0]),
+    Step::Answers(8000, b"/cue/*/goto", [1024, 0, 0, 0]),
+    Step::Answers(8000, b"/cue/*/goto", [1024, 0, 0, 0]),
+];
+
+const THREE_OF_256: [Step; 4] = [
+    Step::Hears(0, 8000, THREE_OF_ALL, [768, 0, 0]),
     Step::Answers(8000, b"/cue/*/goto", [256, 0, 0, 0]),
     Step::Answers(8000, b"/cue/*/goto", [256, 0, 0, 0]),
+    Step::Answers(8000, b"/cue/*/goto", [256, 0, 0, 0]),
+];
+
+// The batch would have more bytes than a record may have.
+const TOO_LONG: [Step; 2] = [
+    Step::Hears(0, 8000, TWO_OF_ALL, [0, 0, 1]),
+    Step::Answers(8000, b"", [0, 0, 1, 33]),
 ];
 
 #[test]
 fn commands_in_one_datagram(rt: HostRuntime) -> Result<(), Fail> {
     let alloc = rt.alloc();
-    let bytes = area(alloc, 1, &many_cues(alloc)?, &[])?;
+    let bytes = area(alloc, 1, &cues_of(alloc, 1, 1024)?, &[])?;
     let disks = stored(alloc, &bytes, &[])?;
     let disks = play(&rt, alloc, disks, &[&NO_ROOM, &TOO_MANY])?;
     assert_eq!(rt; disks.first.bytes(), bytes.as_slice());
     let disks = play(&rt, alloc, disks, &[&JUST_ENOUGH])?;
-    // One record: a gate, a length, a count and 512 places of three to five bytes.
-    assert_eq!(rt; disks.first.bytes().len(), bytes.len().saturating_add(2351));
+    // One record: a gate, a length, a count and 2,048 places of three to six bytes.
+    assert_eq!(rt;
+        disks.first.bytes().len(),
+        bytes.len().saturating_add(10_081)
+    );
+    let bytes = area(alloc, 1, &cues_of(alloc, 1, 256)?, &[])?;
+    play(&rt, alloc, stored(alloc, &bytes, &[])?, &[&THREE_OF_256])?;
+    Ok(())
+}
+
+#[test]
+fn a_batch_that_is_too_long(rt: HostRuntime) -> Result<(), Fail> {
+    let alloc = rt.alloc();
+    let bytes = area(alloc, 1, &cues_of(alloc, 1_000_000_000_000_000, 1024)?, &[])?;
+    let disks = play(&rt, alloc, stored(alloc, &bytes, &[])?, &[&TOO_LONG])?;
+    assert_eq!(rt; disks.first.bytes(), bytes.as_slice());
+    assert_eq!(rt; disks.second.bytes(), [].as_slice());
     Ok(())
 }
 
@@ -175,7 +205,7 @@ const CANCELS_OF_ALL: [Step; 1] = [Step::SendsMany(104, b"/msc/cancel\0,ii\0")];
 
 // Device 3 at port 9001, cue 1 for it, and the last number is drawn.
 const LAST_NUMBER: &[u8] =
-    b"\x01\x01\x03\x23\x29\0\x01\x011\x01\x03\0\0\x7f\xff\xff\xff\0\0\0\0\0\0";
+    b"\x02\x01\x03\x23\x29\0\x01\x011\x01\x03\0\0\0\x7f\xff\xff\xff\0\0\0\0\0\0";
 
 const NO_NUMBER: [Step; 2] = [
     Step::Hears(0, 8000, STANDBY_1, [0, 0, 1]),
@@ -199,7 +229,7 @@ const THREE_RECORDS: &[u8] =
 
 // What turns over to the next generation: the state as it was, and the batch.
 const TURNED: &[u8] =
-    b"\x01\0\0\0\0\0\0\0\x02\0\0\0\x1d\x01\x01\x03\x23\x29\0\x02\x011\x01\x03\0\x012\x01\x03\0\x011\0\0\0\0\0\0\0\0\0\0\x01\0\0\0\x05\0\x01\x05\x012\0";
+    b"\x01\0\0\0\0\0\0\0\x02\0\0\0\x1f\x02\x01\x03\x23\x29\0\x02\x011\x01\x03\0\0\x012\x01\x03\0\0\x011\0\0\0\0\0\0\0\0\0\0\x01\0\0\0\x05\0\x01\x05\x012\0";
 
 const GOTO_2: &[u8] = b"/cue/2/goto\0";
 
@@ -218,17 +248,17 @@ const EXHAUSTED: [Step; 4] = [
     ),
 ];
 
-// An area of this generation with 64 records; its place is cue 1.
-fn full_area(alloc: Global, generation: u64) -> Result<Vec<u8>, Fail> {
+// An area of this generation with the first state in this version and 256 records; its place is cue 1.
+fn full_area(alloc: Global, version: u8, generation: u64) -> Result<Vec<u8>, Fail> {
     let mut records = Vec::from_slice(alloc, THREE_RECORDS)?;
-    for i in 0..61u8 {
+    for i in 0..253u8 {
         let name = if i % 2 == 0 { b'1' } else { b'2' };
         records.extend_from_slice(&[1, 0, 0, 0, 5, 0, 1, 5, 1, name])?;
     }
     area(
         alloc,
         generation,
-        &[1, 0, 0, 0, 0, 0, 0, 0, 0, 0, 0, 0, 0, 0, 0],
+        &[version, 0, 0, 0, 0, 0, 0, 0, 0, 0, 0, 0, 0, 0, 0],
         &records,
     )
 }
@@ -236,12 +266,15 @@ fn full_area(alloc: Global, generation: u64) -> Result<Vec<u8>, Fail> {
 #[test]
 fn turning_over(rt: HostRuntime) -> Result<(), Fail> {
     let alloc = rt.alloc();
-    let bytes = full_area(alloc, 1)?;
-    assert_eq!(rt; bytes.len(), 676);
-    let disks = play(&rt, alloc, stored(alloc, &bytes, &[])?, &[&TURNS_OVER])?;
-    assert_eq!(rt; disks.first.bytes(), bytes.as_slice());
-    assert_eq!(rt; disks.second.bytes(), TURNED);
-    let bytes = full_area(alloc, u64::MAX)?;
+    // A snapshot of the older version is read, and the new one is of this version.
+    for version in [1, 2] {
+        let bytes = full_area(alloc, version, 1)?;
+        assert_eq!(rt; bytes.len(), 2596);
+        let disks = play(&rt, alloc, stored(alloc, &bytes, &[])?, &[&TURNS_OVER])?;
+        assert_eq!(rt; disks.first.bytes(), bytes.as_slice());
+        assert_eq!(rt; disks.second.bytes(), TURNED);
+    }
+    let bytes = full_area(alloc, 2, u64::MAX)?;
     let disks = play(&rt, alloc, stored(alloc, &bytes, &[])?, &[&EXHAUSTED])?;
     assert_eq!(rt; disks.first.bytes(), bytes.as_slice());
     assert_eq!(rt; disks.second.bytes(), [].as_slice());

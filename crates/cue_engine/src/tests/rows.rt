@@ -13,9 +13,9 @@ pub(super) const SHOW: [Step; 8] = [
     Step::Answers(8000, b"/show/cue", [1, 0, 0, 0]),
 ];
 
-const DEVICE_3: &[u8] = b"/show/device\0\0\0\0,ii\0\0\0\0\x03\0\0\x23\x29";
+pub(super) const DEVICE_3: &[u8] = b"/show/device\0\0\0\0,ii\0\0\0\0\x03\0\0\x23\x29";
 
-const DEVICE_4: &[u8] = b"/show/device\0\0\0\0,ii\0\0\0\0\x04\0\0\x23\x2a";
+pub(super) const DEVICE_4: &[u8] = b"/show/device\0\0\0\0,ii\0\0\0\0\x04\0\0\x23\x2a";
 
 const CUE_1: &[u8] =
     b"/show/cue\0\0\0,sibib\0\x001\0\0\0\0\0\0\x03\0\0\0\x02\x0a\x0b\0\0\0\0\0\x04\0\0\0\0";
@@ -33,9 +33,9 @@ pub(super) const GO_TO_3: &[u8] = b"/msc/go_2pc\0,ii\0\0\0\0\x01\0\0\0\x03";
 
 pub(super) const GO_TO_4: &[u8] = b"/msc/go_2pc\0,ii\0\0\0\0\x01\0\0\0\x04";
 
-const CANCEL_TO_3: &[u8] = b"/msc/cancel\0,ii\0\0\0\0\x01\0\0\0\x03";
+pub(super) const CANCEL_TO_3: &[u8] = b"/msc/cancel\0,ii\0\0\0\0\x01\0\0\0\x03";
 
-const CANCEL_TO_4: &[u8] = b"/msc/cancel\0,ii\0\0\0\0\x01\0\0\0\x04";
+pub(super) const CANCEL_TO_4: &[u8] = b"/msc/cancel\0,ii\0\0\0\0\x01\0\0\0\x04";
 
 pub(super) const STANDBY: [Step; 2] = [
     Step::Hears(1000, 8000, STANDBY_1, [1, 0, 0]),
@@ -72,7 +72,7 @@ pub(super) const CANCELS: [Step; 2] = [
 
 pub(super) const STATUS: &[u8] = b"/status\0";
 
-const GO: [Step; 2] = [
+pub(super) const GO: [Step; 2] = [
     Step::Hears(1000, 8000, GO_1, [1, 0, 0]),
     Step::Answers(8000, b"/cue/1/go", [1, 0, 0, 0]),
 ];

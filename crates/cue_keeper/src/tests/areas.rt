@@ -24,18 +24,18 @@ fn a_batch_is_kept(rt: HostRuntime) -> Result<(), Fail> {
 }
 
 // The cue with one empty part.
-fn new_cue(alloc: Global, text: &[u8]) -> Result<Event, Fail> {
+pub(super) fn new_cue(alloc: Global, text: &[u8]) -> Result<Event, Fail> {
     let mut parts = Parts::new(alloc);
-    parts.push(Part::of(alloc, device()?, &[])?)?;
+    parts.push(Part::of(alloc, device()?, false, &[])?)?;
     Ok(Event::Cue(cue(text)?, parts))
 }
 
-// Accepts 64 batches, the last of which moves to cue 1.
+// Accepts 256 batches, the last of which moves to cue 1.
 fn fill(alloc: Global, keeper: &mut Keeper<MemDisk>) -> Result<(), Fail> {
     accept(keeper, Event::Device(device()?, 9001))??;
     accept(keeper, new_cue(alloc, b"1")?)??;
     accept(keeper, new_cue(alloc, b"2")?)??;
-    for i in 0..61u32 {
+    for i in 0..253u32 {
         let name = if i % 2 == 0 { cue(b"1")? } else { cue(b"2")? };
         accept(keeper, Event::Place(name))??;
     }
@@ -43,7 +43,7 @@ fn fill(alloc: Global, keeper: &mut Keeper<MemDisk>) -> Result<(), Fail> {
 }
 
 #[test]
-fn the_65th_batch_turns_over(rt: HostRuntime) -> Result<(), Fail> {
+fn the_257th_batch_turns_over(rt: HostRuntime) -> Result<(), Fail> {
     let alloc = rt.alloc();
     let Ok(mut keeper) = Keeper::form(alloc, MemDisk::new(alloc), MemDisk::new(alloc)) else {
         return Err("the store is not formed".into());
@@ -51,8 +51,8 @@ fn the_65th_batch_turns_over(rt: HostRuntime) -> Result<(), Fail> {
     let filled = fill(alloc, &mut keeper);
     let (first, second) = keeper.close();
     filled?;
-    let full = area(alloc, 1, 61)?;
-    assert_eq!(rt; full.len(), 676);
+    let full = area(alloc, 1, 253)?;
+    assert_eq!(rt; full.len(), 2596);
     assert_eq!(rt; first.bytes(), full.as_slice());
     assert_eq!(rt; second.bytes(), [].as_slice());
 
@@ -67,7 +67,7 @@ fn the_65th_batch_turns_over(rt: HostRuntime) -> Result<(), Fail> {
 #[test]
 fn a_longer_area_is_turned_over(rt: HostRuntime) -> Result<(), Fail> {
     let alloc = rt.alloc();
-    let long = area(alloc, 1, 99)?;
+    let long = area(alloc, 1, 299)?;
     let first = MemDisk::from_bytes(alloc, &long)?;
     let kept = accept_on(alloc, first, MemDisk::new(alloc), Event::Place(cue(b"2")?))?;
     assert_eq!(rt; kept.answer, Ok(()));

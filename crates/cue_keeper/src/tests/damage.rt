@@ -6,12 +6,14 @@ type Answer = Result<Option<u16>, StoreFault>;
 
 const WHOLE: Answer = Ok(Some(9001));
 
-// A place, and what is answered where that byte is 1 and where it is any other.
-const EACH_VALUE: [(usize, Answer, Answer); 4] = [
-    (0, WHOLE, Err(StoreFault::Unformed)),
-    (13, WHOLE, Err(StoreFault::Version)),
-    (28, WHOLE, Ok(None)),
-    (39, Err(StoreFault::Damaged), WHOLE),
+const NONE: Answer = Err(StoreFault::Unformed);
+
+// A place, and what is answered where that byte is 1, where it is 2, and where it is any other.
+const EACH_VALUE: [(usize, [Answer; 3]); 4] = [
+    (0, [WHOLE, NONE, NONE]),
+    (13, [WHOLE, WHOLE, Err(StoreFault::Version)]),
+    (28, [WHOLE, Ok(None), Ok(None)]),
+    (39, [Err(StoreFault::Damaged), WHOLE, WHOLE]),
 ];
 
 // A place, the byte there, and what is answered.
@@ -60,15 +62,14 @@ fn a_store_that_is_cut(rt: HostRuntime) -> Result<(), Fail> {
 }
 
 // Each value of the byte at this place.
-fn each_value(
-    rt: &impl Abort,
-    alloc: Global,
-    at: usize,
-    one: Answer,
-    other: Answer,
-) -> Result<(), Fail> {
+fn each_value(rt: &impl Abort, alloc: Global, at: usize, answers: [Answer; 3]) -> Result<(), Fail> {
+    let [one, two, other] = answers;
     for value in 0..=255u8 {
-        let want = if value == 1 { one } else { other };
+        let want = match value {
+            1 => one,
+            2 => two,
+            _ => other,
+        };
         assert_eq!(rt;
             answer(alloc, &changed(at, value))?,
             want,
@@ -81,8 +82,8 @@ fn each_value(
 #[test]
 fn a_store_with_one_byte_changed(rt: HostRuntime) -> Result<(), Fail> {
     let alloc = rt.alloc();
-    for (at, one, other) in EACH_VALUE {
-        each_value(&rt, alloc, at, one, other)?;
+    for (at, answers) in EACH_VALUE {
+        each_value(&rt, alloc, at, answers)?;
     }
     for (at, value, want) in ONE_VALUE {
         assert_eq!(rt;

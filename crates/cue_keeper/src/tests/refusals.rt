@@ -86,7 +86,7 @@ fn a_store_that_is_not_formed(rt: HostRuntime) -> Result<(), Fail> {
 #[test]
 fn the_last_generation_is_exhausted(rt: HostRuntime) -> Result<(), Fail> {
     let alloc = rt.alloc();
-    let bytes = area(alloc, u64::MAX, 61)?;
+    let bytes = area(alloc, u64::MAX, 253)?;
     let first = MemDisk::from_bytes(alloc, &bytes)?;
     let kept = accept_on(alloc, first, MemDisk::new(alloc), Event::Place(cue(b"2")?))?;
     assert_eq!(rt; kept.answer, Err(Fault::Exhausted));

@@ -154,7 +154,7 @@ fn a_batch_with_trouble_at_each_call(rt: HostRuntime) -> Result<(), Fail> {
 #[test]
 fn a_turn_over_with_trouble_at_each_call(rt: HostRuntime) -> Result<(), Fail> {
     let alloc = rt.alloc();
-    let live = area(alloc, 1, 61)?;
+    let live = area(alloc, 1, 253)?;
     let scene = Scene {
         first: &live,
         second: &[],
@@ -168,7 +168,7 @@ fn a_second_turn_over_with_trouble_at_each_call(rt: HostRuntime) -> Result<(), F
     let alloc = rt.alloc();
     // The older area stands at no cue, and is not taken, also where closing it is torn.
     let older = area(alloc, 1, 0)?;
-    let live = area(alloc, 2, 61)?;
+    let live = area(alloc, 2, 253)?;
     let scene = Scene {
         first: &older,
         second: &live,
@@ -182,7 +182,7 @@ const TORN: [u8; 16] = [0, 1, 1, 1, 1, 0xff, 0xff, 0, 1, 1, 0, 0, 0, 0, 1, 1];
 #[test]
 fn a_turn_over_after_a_torn_one(rt: HostRuntime) -> Result<(), Fail> {
     let alloc = rt.alloc();
-    let live = area(alloc, 1, 61)?;
+    let live = area(alloc, 1, 253)?;
     let scene = Scene {
         first: &live,
         second: &TORN,

@@ -108,7 +108,7 @@ fn the_last_generation(rt: HostRuntime) -> Result<(), Fail> {
 #[test]
 fn an_area_that_is_full(rt: HostRuntime) -> Result<(), Fail> {
     let alloc = rt.alloc();
-    let longest: Vec<u8> = vec![in alloc; 1; 4_194_290]?;
+    let longest: Vec<u8> = vec![in alloc; 1; 16_777_202]?;
     let mut snap = formed(MemDisk::new(alloc), MemDisk::new(alloc))?;
     assert_eq!(rt; snap.turn_over(&longest), Ok(()));
     let added = Record::of(alloc, &[])?;

@@ -1,4 +1,4 @@
-use Rattle.std.specs.Prelude.{◌≡◌, ℕ, ◌≤◌, if◌then◌else◌, slice_index, take, length}
+use Rattle.std.specs.Prelude.{◌≡◌, ℕ, ◌≤◌, if◌then◌else◌, slice_index, take}
 use Rattle.cue_show.specs.declared.limits.TheConstants.{LAST_DEVICE}
 use Rattle.cue_exchange.specs.Answers.{is_one_of}
 use Rattle.cue_exchange.proofs.holders.mark.Given as goal

@@ -29,7 +29,7 @@ fn a_store_that_is_not_opened(rt: HostRuntime) -> Result<(), Fail> {
         (&[1], &[], StoreFault::Unformed),
         (&[1, 0, 0, 0, 0], &[], StoreFault::Damaged),
         (&FORMED, &FORMED, StoreFault::Damaged),
-        (&changed(13, 2), &[], StoreFault::Version),
+        (&changed(13, 3), &[], StoreFault::Version),
         (&FORMED, &other_version, StoreFault::Version),
         (&changed(14, 9), &[], StoreFault::Malformed),
         (&TAKEN_OUT, &[], StoreFault::Malformed),

@@ -78,7 +78,7 @@ fn cuectl<'a>(alloc: Global) -> Result<Command<'a>, AllocError>
         "Run a script from standard input on two disks in memory",
     );
     Command::new(alloc, "cuectl")
-        .version("1.0")
+        .version("1.1")
         .about("A two-phase cue controller for theatre machinery")
         .subcommand(form)?
         .subcommand(serve)?

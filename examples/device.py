@@ -1,7 +1,8 @@
 #!/usr/bin/env python3
 """A device for cuectl, as docs/DEVICES.md asks for it. It prints what it does in place of moving.
 
-    device.py NUMBER PORT      the device's number (0 to 111) and its port on 127.0.0.1
+    device.py NUMBER PORT            the device's number (0 to 111) and its port on 127.0.0.1
+    device.py NUMBER PORT unable     it cannot prepare: each cue is given up, or goes without it where it is optional
 """
 import socket
 import struct
@@ -32,8 +33,8 @@ def read_command(data):
 class Device:
     ANSWERS = {"/msc/standby": "standing_by", "/msc/go_2pc": "complete", "/msc/cancel": "cancelled"}
 
-    def __init__(self, number):
-        self.number = number
+    def __init__(self, number, able=True):
+        self.number, self.able = number, able
         self.done = {}  # for each attempt, the last answer that this device gave
 
     def answer_to(self, address, attempt):
@@ -46,6 +47,8 @@ class Device:
             answer = "abort"  # GO for an attempt that this device never prepared: it does not move
         elif answer == "standing_by" and before is not None:
             answer = before  # a copy, or one that was overtaken by a later command
+        elif answer == "standing_by" and not self.able:
+            answer = "abort"
         if answer != before:
             self.act(answer, attempt)
         self.done[attempt] = answer
@@ -58,7 +61,7 @@ class Device:
 
 def main():
     number, port = int(sys.argv[1]), int(sys.argv[2])
-    device = Device(number)
+    device = Device(number, able=sys.argv[3:] != ["unable"])
     with socket.socket(socket.AF_INET, socket.SOCK_DGRAM) as wire:
         wire.bind(("127.0.0.1", port))
         while True:

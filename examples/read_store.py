@@ -3,9 +3,9 @@
 import sys
 from pathlib import Path
 
-WAITING, READY, DONE, LET_GO, FAILED = range(5)
+WAITING, READY, DONE, LET_GO, FAILED, EXCUSED = range(6)
 PREPARING, DECIDED = 1, 2
-FINAL = {9: DONE, 11: LET_GO, 12: FAILED}
+ANSWERS = {7: READY, 9: DONE, 11: LET_GO, 12: FAILED, 14: EXCUSED}
 
 
 class Reader:
@@ -24,8 +24,9 @@ class Reader:
     def cue(self):
         return self.take(self.number(1)).decode()
 
-    def parts(self):
-        return [(self.number(1), self.take(self.number(1))) for _ in range(self.number(1))]
+    def parts(self, flagged):
+        """For each part its device, whether it is optional, and its bytes."""
+        return [(self.number(1), flagged and self.number(1) == 1, self.take(self.number(1))) for _ in range(self.number(1))]
 
 
 def area(data):
@@ -42,7 +43,8 @@ def area(data):
 
 def state(text):
     reader = Reader(text)
-    if reader.number(1) != 1:
+    version = reader.number(1)
+    if version not in (1, 2):
         raise ValueError("another version")
     show = {"devices": {}, "cues": {}, "live": {}}
     for _ in range(reader.number(1)):
@@ -50,12 +52,12 @@ def state(text):
         show["devices"][device] = reader.number(2)
     for _ in range(reader.number(2)):
         cue = reader.cue()
-        show["cues"][cue] = reader.parts()
+        show["cues"][cue] = reader.parts(flagged=version == 2)
     show["place"], show["last"] = reader.cue(), reader.number(4)
     show["ended"] = (reader.number(4), reader.number(1))
     for _ in range(reader.number(1)):
         number, cue, _deadline, stage = reader.number(4), reader.cue(), reader.number(8), reader.number(1)
-        answers = {device: reader.number(1) for device, _ in show["cues"][cue]}
+        answers = {device: reader.number(1) for device, _, _ in show["cues"][cue]}
         show["live"][number] = {"cue": cue, "stage": stage, "answers": answers}
     return show
 
@@ -65,8 +67,10 @@ def following(show, cue):
     return (stack + [""])[stack.index(cue) + 1]
 
 
-def enter(attempt, stage):
-    attempt.update(stage=stage, answers=dict.fromkeys(attempt["answers"], WAITING))
+def enter(attempt, stage, excused):
+    """Each device waits again; one that was excused has this answer."""
+    answers = {device: excused if answer == EXCUSED else WAITING for device, answer in attempt["answers"].items()}
+    attempt.update(stage=stage, answers=answers)
 
 
 def happen(show, reader):
@@ -77,9 +81,9 @@ def happen(show, reader):
         show["devices"][device] = reader.number(2)
     elif kind == 2:
         del show["devices"][reader.number(1)]
-    elif kind == 3:
+    elif kind in (3, 13):
         cue = reader.cue()
-        show["cues"][cue] = reader.parts()
+        show["cues"][cue] = reader.parts(flagged=kind == 13)
     elif kind == 4:
         cue = reader.cue()
         show["place"] = following(show, cue) if show["place"] == cue else show["place"]
@@ -90,41 +94,44 @@ def happen(show, reader):
         number, cue, _deadline = reader.number(4), reader.cue(), reader.number(8)
         show["last"] = number
         live[number] = {"cue": cue}
-        live[number]["answers"] = {device: WAITING for device, _ in show["cues"][cue]}
+        live[number]["answers"] = {device: WAITING for device, _, _ in show["cues"][cue]}
         live[number]["stage"] = PREPARING
     elif kind == 8:
         attempt = live[reader.number(4)]
-        enter(attempt, DECIDED)
+        enter(attempt, DECIDED, EXCUSED)
         show["place"] = following(show, attempt["cue"])
     elif kind == 10:
         attempt = live[reader.number(4)]
-        enter(attempt, reader.number(1) + 2)
+        enter(attempt, reader.number(1) + 2, LET_GO)
     else:
         number, device = reader.number(4), reader.number(1)
-        live[number]["answers"][device] = READY if kind == 7 else FINAL[kind]
+        live[number]["answers"][device] = ANSWERS[kind]
         answers = set(live[number]["answers"].values())
-        if kind != 7 and WAITING not in answers:
+        if live[number]["stage"] != PREPARING and WAITING not in answers:
             cancelled = live[number]["stage"] != DECIDED
-            show["ended"] = (number, 2 if cancelled else 1 if answers == {DONE} else 3)
+            show["ended"] = (number, 2 if cancelled else 1 if answers <= {DONE, EXCUSED} else 3)
             del live[number]
 
 
-def main():
-    areas = [area((Path(sys.argv[1]) / name).read_bytes()) for name in ("a.area", "b.area")]
-    _, snapshot, payloads = max(a for a in areas if a is not None)
+def lines_of(first, second):
+    """What `cuectl show` prints for these two files."""
+    _, snapshot, payloads = max(a for a in (area(first), area(second)) if a is not None)
     show = state(snapshot)
     for payload in payloads:
         reader = Reader(payload)
         for _ in range(reader.number(2)):
             happen(show, reader)
-    print(f"last {show['last']}\nplace {show['place'] or '-'}\nended {show['ended'][0]} {show['ended'][1]}")
-    for device, port in show["devices"].items():
-        print(f"device {device} {port}")
-    for cue, parts in show["cues"].items():
-        print(f"cue {cue} {len(parts)}")
+    lines = [f"last {show['last']}", f"place {show['place'] or '-'}", f"ended {show['ended'][0]} {show['ended'][1]}"]
+    lines += [f"device {device} {port}" for device, port in show["devices"].items()]
+    lines += [f"cue {cue} {len(parts)}" for cue, parts in show["cues"].items()]
     for number, attempt in sorted(show["live"].items()):
         stage = {PREPARING: "preparing", DECIDED: "decided"}.get(attempt["stage"], "cancelling")
-        print(f"attempt {number} {attempt['cue']} {stage}")
+        lines.append(f"attempt {number} {attempt['cue']} {stage}")
+    return "\n".join(lines)
+
+
+def main():
+    print(lines_of(*((Path(sys.argv[1]) / name).read_bytes() for name in ("a.area", "b.area"))))
 
 
 if __name__ == "__main__":

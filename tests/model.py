@@ -8,8 +8,9 @@ It shares no line with the controller. tests/compare runs both over random scrip
 import re
 import struct
 import sys
+from typing import NamedTuple
 
-MAX_COMMANDS, MAX_PAYLOAD, MAX_LIVE, MAX_CUES, MAX_PARTS, MAX_PART_BYTES = 512, 32768, 8, 256, 16, 32
+MAX_COMMANDS, MAX_PAYLOAD, MAX_LIVE, MAX_CUES, MAX_PARTS, MAX_PART_BYTES = 2048, 32768, 8, 1024, 16, 32
 LAST_NUMBER, STANDBY_MS, U64 = 2**31 - 1, 10_000, 2**64 - 1
 SCRIPT_LIMIT = 1_048_576
 
@@ -163,11 +164,17 @@ def read_pattern(text):
 
 
 def matches(pattern, address):
-    parts = address[1:].split("/")
-    return len(parts) == len(pattern) and all(p.match(t.encode()) for p, t in zip(pattern, parts))
+    parts = address[1:].split(b"/")
+    return len(parts) == len(pattern) and all(p.match(t) for p, t in zip(pattern, parts))
 
 
 # ---- the state
+
+class Part(NamedTuple):
+    device: int
+    optional: bool
+    data: bytes
+
 
 class State:
     def __init__(self):
@@ -179,6 +186,10 @@ class State:
 
     def attempt_of_cue(self, cue):
         return next((q for q, a in self.live.items() if a["cue"] == cue), None)
+
+    def part(self, number, device):
+        """The part that a device has in the cue of an attempt."""
+        return next(p for p in self.cues[self.live[number]["cue"]] if p.device == device)
 
     def following(self, cue):
         stack = list(self.cues)
@@ -193,8 +204,8 @@ class State:
                     continue
                 port = self.devices[device]
                 if a["stage"] == "preparing":
-                    part = next(b for d, b in self.cues[a["cue"]] if d == device)
-                    out.append((port, message("/msc/standby", q, device, a["cue"].encode(), Blob(part))))
+                    part = Blob(self.part(q, device).data)
+                    out.append((port, message("/msc/standby", q, device, a["cue"].encode(), part)))
                 else:
                     word = "/msc/go_2pc" if a["stage"] == "decided" else "/msc/cancel"
                     out.append((port, message(word, q, device)))
@@ -216,19 +227,22 @@ class State:
             self.place = x[0]
         elif kind == "start":
             self.last = x[0]
-            answers = {d: "waiting" for d, _ in self.cues[x[1]]}
+            answers = {part.device: "waiting" for part in self.cues[x[1]]}
             self.live[x[0]] = {"cue": x[1], "deadline": x[2], "stage": "preparing", "answers": answers}
         elif kind in ("go", "cancel"):
             a = self.live[x[0]]
             a["stage"] = "decided" if kind == "go" else "cancelling"
-            a["answers"] = dict.fromkeys(a["answers"], "waiting")
+            excused = "excused" if kind == "go" else "let_go"
+            a["answers"] = {d: excused if v == "excused" else "waiting" for d, v in a["answers"].items()}
             if kind == "go":
                 self.place = self.following(a["cue"])
+            else:
+                a["reason"] = x[1]
         else:
             a = self.live[x[0]]
-            a["answers"][x[1]] = kind
-            if kind != "ready" and "waiting" not in a["answers"].values():
-                complete = all(v == "done" for v in a["answers"].values())
+            a["answers"][x[1]] = "excused" if kind == "excuse" else kind
+            if kind not in ("ready", "excuse") and "waiting" not in a["answers"].values():
+                complete = all(v in ("done", "excused") for v in a["answers"].values())
                 outcome = 2 if a["stage"] == "cancelling" else 1 if complete else 3
                 self.ended = (x[0], outcome)
                 del self.live[x[0]]
@@ -271,6 +285,14 @@ def status(s):
     return message("/status", s.last, (s.place or "").encode(), len(s.live), *s.ended)
 
 
+def shown(s):
+    """The lines that `cuectl show` prints."""
+    yield from (f"last {s.last}", f"place {s.place or '-'}", f"ended {s.ended[0]} {s.ended[1]}")
+    yield from (f"device {device} {port}" for device, port in s.devices.items())
+    yield from (f"cue {cue} {len(parts)}" for cue, parts in s.cues.items())
+    yield from (f"attempt {q} {a['cue']} {a['stage']}" for q, a in sorted(s.live.items()))
+
+
 # ---- judging
 
 def is_cue_number(text):
@@ -278,13 +300,24 @@ def is_cue_number(text):
 
 
 def methods(s):
-    yield from (("/status", ("status",)), ("/show/device", ("add_device",)), ("/show/cue", ("add_cue",)))
+    yield from ((b"/status", ("status",)), (b"/show/device", ("add_device",)))
+    yield from ((b"/show/cue", ("add_cue",)), (b"/show/mixed", ("add_mixed",)))
     for cue in s.cues:
         for verb in ("standby", "go", "cancel", "goto", "remove"):
-            yield f"/cue/{cue}/{verb}", ("cue", verb, cue)
+            yield f"/cue/{cue}/{verb}".encode(), ("cue", verb, cue)
     for device in s.devices:
         for verb in ("standing_by", "complete", "cancelled", "abort", "release", "remove"):
-            yield f"/device/{device}/{verb}", ("device", verb, device)
+            yield f"/device/{device}/{verb}".encode(), ("device", verb, device)
+
+
+def read_cue(number, devices, flags, texts):
+    """A cue of these parts, or the code that it is refused with."""
+    if not is_cue_number(number) or any(not 0 <= d <= 111 for d in devices) or any(f not in (0, 1) for f in flags):
+        return 5
+    parts = [Part(d, f == 1, b) for d, f, b in zip(devices, flags, texts)]
+    if len(parts) > MAX_PARTS or len(set(devices)) != len(parts) or all(p.optional for p in parts):
+        return 8
+    return 8 if any(len(b) > MAX_PART_BYTES for b in texts) else ("add_cue", number.decode(), parts)
 
 
 def read_command(method, args):
@@ -299,13 +332,11 @@ def read_command(method, args):
     if method[0] == "add_cue":
         if not re.fullmatch("s(ib)*", tags):
             return 4
-        parts = list(zip(values[1::2], values[2::2]))
-        if not is_cue_number(values[0]) or any(not 0 <= d <= 111 for d, _ in parts):
-            return 5
-        few = 1 <= len(parts) <= MAX_PARTS and len({d for d, _ in parts}) == len(parts)
-        if not few or any(len(b) > MAX_PART_BYTES for _, b in parts):
-            return 8
-        return ("add_cue", values[0].decode(), parts)
+        return read_cue(values[0], values[1::2], [0] * len(values[1::2]), values[2::2])
+    if method[0] == "add_mixed":
+        if not re.fullmatch("s(iib)*", tags):
+            return 4
+        return read_cue(values[0], values[1::3], values[2::3], values[3::3])
     if method[0] == "device" and method[1] in ("standing_by", "complete", "cancelled", "abort"):
         if tags != "i":
             return 4
@@ -313,14 +344,16 @@ def read_command(method, args):
     return method if not args else 4
 
 
+CELLS = [("preparing", "waiting"), ("preparing", "ready"), ("preparing", "excused"),
+         ("decided", "waiting"), ("decided", "done"), ("decided", "failed"), ("decided", "excused"),
+         ("cancelling", "waiting"), ("cancelling", "let_go"), ("cancelling", "failed")]
 REPLIES = {
-    "standing_by": ("ready", "known", "known", "known", 15, 15, 15, 15),
-    "complete": (16, 16, "done", "known", 15, 15, 15, 15),
-    "cancelled": (16, 16, 14, 14, 14, "let_go", "known", 15),
-    "abort": ("abort", "abort", "failed", 15, "known", "failed", 15, "known"),
+    "standing_by": ("ready", "known", 15, "known", "known", 15, 15, 15, 15, 15),
+    "complete": (16, 16, 16, "done", "known", 15, 15, 15, 15, 15),
+    "cancelled": (16, 16, 16, 14, 14, 14, 14, "let_go", "known", 15),
+    "abort": ("abort", "abort", "known", "failed", 15, "known", "known", "failed", 15, "known"),
 }
-CELLS = [("preparing", "waiting"), ("preparing", "ready"), ("decided", "waiting"), ("decided", "done"),
-         ("decided", "failed"), ("cancelling", "waiting"), ("cancelling", "let_go"), ("cancelling", "failed")]
+ABORT_OF_AN_OPTIONAL = ("excuse", "excuse", "known", "failed", 15, "known", "known", "let_go", 15, "known")
 
 
 def judge(s, now, sender, command):
@@ -335,7 +368,7 @@ def judge(s, now, sender, command):
         return [("device", device, port)]
     if kind == "add_cue":
         _, cue, parts = command
-        if any(d not in s.devices for d, _ in parts):
+        if any(part.device not in s.devices for part in parts):
             return 9
         if cue in s.cues:
             return "known" if s.cues[cue] == parts else 6
@@ -348,14 +381,17 @@ def judge(s, now, sender, command):
     if device not in s.devices:
         return 3
     if verb == "remove":
-        used = any(d == device for parts in s.cues.values() for d, _ in parts)
+        used = any(part.device == device for parts in s.cues.values() for part in parts)
         return 10 if used else [("no_device", device)]
     q = s.attempt_of_device(device)
     if q is None:
         return 12
     stage, answer = s.live[q]["stage"], s.live[q]["answers"][device]
+    if answer == "excused":
+        return "known"
     if stage == "preparing":
-        return [("cancel", q, 5), ("let_go", q, device)]
+        optional = s.part(q, device).optional
+        return [("excuse", q, device)] if optional else [("cancel", q, 5), ("let_go", q, device)]
     if answer != "waiting":
         return "known"
     return [("failed" if stage == "decided" else "let_go", q, device)]
@@ -369,7 +405,7 @@ def judge_cue(s, now, verb, cue):
     if verb == "standby":
         if a and a["stage"] == "preparing":
             return "known"
-        if any(s.attempt_of_device(d) is not None for d, _ in s.cues[cue]):
+        if any(s.attempt_of_device(part.device) is not None for part in s.cues[cue]):
             return 11
         if len(s.live) >= MAX_LIVE:
             return 7
@@ -385,7 +421,7 @@ def judge_cue(s, now, verb, cue):
     if verb == "go":
         if a["stage"] == "decided":
             return "known"
-        ready = a["stage"] == "preparing" and all(v == "ready" for v in a["answers"].values())
+        ready = a["stage"] == "preparing" and all(v in ("ready", "excused") for v in a["answers"].values())
         return [("go", q)] if ready else 13
     if a["stage"] == "decided":
         return 14
@@ -404,7 +440,8 @@ def judge_reply(s, sender, word, device, q):
     a = s.live[q]
     if device not in a["answers"]:
         return 20
-    cell = REPLIES[word][CELLS.index((a["stage"], a["answers"][device]))]
+    row = ABORT_OF_AN_OPTIONAL if word == "abort" and s.part(q, device).optional else REPLIES[word]
+    cell = row[CELLS.index((a["stage"], a["answers"][device]))]
     if cell == "abort":
         return [("cancel", q, 3), ("failed", q, device)]
     return cell if cell == "known" or isinstance(cell, int) else [(cell, q, device)]
@@ -413,7 +450,8 @@ def judge_reply(s, sender, word, device, q):
 def event_length(event):
     kind, *x = event
     if kind == "cue":
-        return 1 + 1 + len(x[0]) + 1 + sum(2 + len(b) for _, b in x[1])
+        flag = any(part.optional for part in x[1])
+        return 1 + 1 + len(x[0]) + 1 + sum(2 + flag + len(part.data) for part in x[1])
     if kind in ("no_cue", "place"):
         return 1 + 1 + len(x[0])
     if kind == "start":
@@ -432,17 +470,24 @@ def copy(s):
 
 
 def refused_whole(s, sender, code):
-    return s, [(sender, reply(b"", 0, 0, 1, code))]
+    return s, [(sender, reply(b"", 0, 0, 1, code))], []
 
 
 def hear(old, now, sender, data):
+    """The state after a datagram, and what is sent."""
+    s, sends, _ = heard(old, now, sender, data)
+    return s, sends
+
+
+def heard(old, now, sender, data):
+    """The same, and the batch of its events."""
     read = read_datagram(data)
     if isinstance(read, int):
         return refused_whole(old, sender, read)
     messages, tags = read
     if any(is_later(tag, now) for tag in tags):
         return refused_whole(old, sender, 32)
-    s, sends, commands, length = copy(old), [], 0, 2
+    s, sends, commands, batch = copy(old), [], 0, []
     for address, args in messages:
         made = known = refused = code = 0
         shown = []
@@ -464,22 +509,27 @@ def hear(old, now, sender, data):
                     shown.append((sender, status(s)))
             else:
                 made += 1
+                batch += verdict
                 for event in verdict:
                     s.apply(event)
-                    length += event_length(event)
         sends += [(sender, reply(address, made, known, refused, code))] + shown
-    if length > MAX_PAYLOAD:
+    if 2 + sum(map(event_length, batch)) > MAX_PAYLOAD:
         return refused_whole(old, sender, 33)
     if not messages:
         sends.append((sender, reply(b"", 0, 0, 0, 0)))
     before = old.pending()
-    return s, sends + [p for p in s.pending() if p not in before]
+    return s, sends + [p for p in s.pending() if p not in before], batch
+
+
+def cancels(numbers, reason):
+    return [("cancel", q, reason) for q in numbers]
 
 
 def give_up(old, numbers, reason):
+    """The state after a cancel of each of these attempts, and what is sent."""
     s = copy(old)
-    for q in numbers:
-        s.apply(("cancel", q, reason))
+    for event in cancels(numbers, reason):
+        s.apply(event)
     return s, s.pending()
 
 

@@ -2,13 +2,22 @@
 
 It answers the lines that `cuectl show` prints, or the name of the fault. It shares no line with the controller.
 """
+import functools
 import re
+from typing import NamedTuple
 
-AREA_LIMIT, PAYLOAD_LIMIT, MAX_EVENTS, MAX_CUES, MAX_LIVE, LAST_NUMBER = 4_194_304, 32_768, 1_024, 256, 8, 2**31 - 1
-WAITING, READY, DONE, LET_GO, FAILED = range(5)
+AREA_LIMIT, PAYLOAD_LIMIT, MAX_EVENTS, MAX_LIVE, LAST_NUMBER = 16_777_216, 32_768, 4_096, 8, 2**31 - 1
+MAX_CUES, MAX_CUES_OF_VERSION_1 = 1_024, 256
+WAITING, READY, DONE, LET_GO, FAILED, EXCUSED = range(6)
 PREPARING, DECIDED = 1, 2
-KNOWN = {PREPARING: {WAITING, READY}, DECIDED: {WAITING, DONE, FAILED}}
+KNOWN = {PREPARING: {WAITING, READY, EXCUSED}, DECIDED: {WAITING, DONE, FAILED, EXCUSED}}
 CANCELLING = {WAITING, LET_GO, FAILED}
+
+
+class Part(NamedTuple):
+    device: int
+    optional: bool
+    data: bytes
 
 
 class Bad(Exception):
@@ -47,9 +56,14 @@ class Text:
         ensure(re.fullmatch(rb"[0-9]+(\.[0-9]+)*", text))
         return text.decode()
 
-    def parts(self):
-        parts = [(self.within(0, 111, 1), self.take(self.within(0, 32, 1))) for _ in range(self.within(1, 16, 1))]
-        ensure(len({d for d, _ in parts}) == len(parts))
+    def part(self, flagged):
+        return Part(self.within(0, 111, 1), bool(flagged and self.within(0, 1, 1)), self.take(self.within(0, 32, 1)))
+
+    def parts(self, flagged):
+        """Parts with a flag byte each, or parts that are all required."""
+        parts = [self.part(flagged) for _ in range(self.within(1, 16, 1))]
+        ensure(len({part.device for part in parts}) == len(parts))
+        ensure(not all(part.optional for part in parts))
         return parts
 
     def end(self):
@@ -78,14 +92,14 @@ def area(data):
 class State:
     def __init__(self, data):
         text = Text(data)
-        ensure(text.number(1) == 1)
+        version = text.within(1, 2, 1)
         self.devices, self.cues, self.live = {}, {}, {}
         for _ in range(text.number(1)):
             device = text.within(0, 111, 1)
             ensure(device not in self.devices)
             self.devices[device] = text.within(1, 65535, 2)
-        for _ in range(text.within(0, MAX_CUES, 2)):
-            self.add_cue(text.cue(), text.parts())
+        for _ in range(text.within(0, MAX_CUES if version == 2 else MAX_CUES_OF_VERSION_1, 2)):
+            self.add_cue(text.cue(), text.parts(flagged=version == 2))
         self.place = None
         if text.data[text.at:text.at + 1] == b"\0":
             text.take(1)
@@ -100,7 +114,8 @@ class State:
         text.end()
 
     def add_cue(self, cue, parts):
-        ensure(cue not in self.cues and len(self.cues) < MAX_CUES and all(d in self.devices for d, _ in parts))
+        ensure(cue not in self.cues and len(self.cues) < MAX_CUES)
+        ensure(all(part.device in self.devices for part in parts))
         self.cues[cue] = parts
 
     def read_attempt(self, text):
@@ -108,8 +123,9 @@ class State:
         text.take(8)
         stage = text.within(1, 7, 1)
         ensure(cue in self.cues and number != self.ended[0])
-        answers = {d: text.number(1) for d, _ in self.cues[cue]}
+        answers = {part.device: text.number(1) for part in self.cues[cue]}
         ensure(set(answers.values()) <= KNOWN.get(stage, CANCELLING))
+        ensure(all(part.optional for part in self.cues[cue] if answers[part.device] == EXCUSED))
         ensure(stage == PREPARING or WAITING in answers.values())
         ensure(not any(d in a["answers"] for a in self.live.values() for d in answers))
         self.live[number] = {"cue": cue, "stage": stage, "answers": answers}
@@ -124,15 +140,23 @@ class State:
         ensure(min(found["stage"], 3) in stages)
         return found
 
-    def enter(self, attempt, stage):
-        attempt["stage"], attempt["answers"] = stage, dict.fromkeys(attempt["answers"], WAITING)
+    def enter(self, attempt, stage, excused):
+        """Each device waits again, and one that was excused has this answer."""
+        attempt["stage"] = stage
+        attempt["answers"] = {d: excused if a == EXCUSED else WAITING for d, a in attempt["answers"].items()}
+
+    def excuse(self, number, device):
+        attempt = self.attempt(number, PREPARING)
+        optional = [part.device for part in self.cues[attempt["cue"]] if part.optional]
+        ensure(device in optional and attempt["answers"][device] in (WAITING, READY))
+        attempt["answers"][device] = EXCUSED
 
     def answer(self, number, device, answer, *stages):
         attempt = self.attempt(number, *stages)
         ensure(attempt["answers"].get(device) == WAITING)
         attempt["answers"][device] = answer
         if answer != READY and WAITING not in attempt["answers"].values():
-            complete = set(attempt["answers"].values()) == {DONE}
+            complete = set(attempt["answers"].values()) <= {DONE, EXCUSED}
             self.ended = (number, 2 if attempt["stage"] > DECIDED else 1 if complete else 3)
             del self.live[number]
 
@@ -142,9 +166,9 @@ class State:
             ensure(x[0] not in self.devices)
             self.devices[x[0]] = x[1]
         elif kind == 2:
-            ensure(x[0] in self.devices and not any(d == x[0] for parts in self.cues.values() for d, _ in parts))
+            ensure(x[0] in self.devices and not any(p.device == x[0] for parts in self.cues.values() for p in parts))
             del self.devices[x[0]]
-        elif kind == 3:
+        elif kind in (3, 13):
             self.add_cue(*x)
         elif kind == 4:
             ensure(x[0] in self.cues and not any(a["cue"] == x[0] for a in self.live.values()))
@@ -155,7 +179,7 @@ class State:
             self.place = x[0]
         elif kind == 6:
             ensure(x[0] == self.last + 1 and x[1] in self.cues and len(self.live) < MAX_LIVE)
-            answers = {d: WAITING for d, _ in self.cues[x[1]]}
+            answers = {part.device: WAITING for part in self.cues[x[1]]}
             ensure(not any(d in a["answers"] for a in self.live.values() for d in answers))
             self.last = x[0]
             self.live[x[0]] = {"cue": x[1], "stage": PREPARING, "answers": answers}
@@ -163,17 +187,19 @@ class State:
             self.answer(x[0], x[1], READY, PREPARING)
         elif kind == 8:
             attempt = self.attempt(x[0], PREPARING)
-            ensure(set(attempt["answers"].values()) == {READY})
-            self.enter(attempt, DECIDED)
+            ensure(set(attempt["answers"].values()) <= {READY, EXCUSED})
+            self.enter(attempt, DECIDED, EXCUSED)
             self.place = self.following(attempt["cue"])
         elif kind == 9:
             self.answer(x[0], x[1], DONE, DECIDED)
         elif kind == 10:
-            self.enter(self.attempt(x[0], PREPARING), x[1] + 2)
+            self.enter(self.attempt(x[0], PREPARING), x[1] + 2, LET_GO)
         elif kind == 11:
             self.answer(x[0], x[1], LET_GO, 3)
-        else:
+        elif kind == 12:
             self.answer(x[0], x[1], FAILED, DECIDED, 3)
+        else:
+            self.excuse(*x)
 
     def lines(self):
         yield f"last {self.last}"
@@ -189,13 +215,17 @@ class State:
 # ---- batches
 
 def read_event(text):
-    kind = text.within(1, 12, 1)
+    kind = text.within(1, 14, 1)
     if kind == 1:
         return kind, text.within(0, 111, 1), text.within(1, 65535, 2)
     if kind == 2:
         return kind, text.within(0, 111, 1)
     if kind == 3:
-        return kind, text.cue(), text.parts()
+        return kind, text.cue(), text.parts(flagged=False)
+    if kind == 13:
+        cue, parts = text.cue(), text.parts(flagged=True)
+        ensure(any(part.optional for part in parts))
+        return kind, cue, parts
     if kind in (4, 5):
         return kind, text.cue()
     number = text.within(1, LAST_NUMBER, 4)
@@ -206,6 +236,7 @@ def read_event(text):
     return kind, number, text.within(1, 5, 1) if kind == 10 else text.within(0, 111, 1)
 
 
+@functools.lru_cache(maxsize=10_000)
 def read_batch(payload):
     text = Text(payload)
     events = [read_event(text) for _ in range(text.within(1, MAX_EVENTS, 2))]
@@ -224,7 +255,7 @@ def opened(a, b):
     if not areas:
         return "Unformed"
     _, snapshot, payloads = max(areas)
-    if snapshot[:1] not in (b"", b"\x01"):
+    if snapshot[:1] not in (b"", b"\x01", b"\x02"):
         return "Version"
     try:
         state = State(snapshot)

@@ -222,4 +222,3 @@ prepares reply.Abort q x Preparing answer.Done p h = cannot q x answer.Done refl
 prepares reply.Abort q x Preparing answer.LetGo p h = cannot q x answer.LetGo refl x.optional refl
 prepares reply.Abort q x Preparing answer.Failed p h = cannot q x answer.Failed refl x.optional refl
 prepares reply.Abort q x Preparing answer.Excused p h = absurd (cc)
-

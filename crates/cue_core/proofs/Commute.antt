@@ -151,7 +151,7 @@ module _ (s : ShowState) (q : ℕ) (a : Attempt) (rises : IsTrue (rising s.live)
       let b : Attempt = failed_one r in
       let fresh : enters (Cancelling Abort) t.given ≡ anew t.given = ap (λ (x : Answer). record t.given { answer = x }) (asked_anew (Cancelling Abort) t.given.answer k) in
       let gb : device_answer b.answers e ≡ Some (anew t.given) =
-          device_answer-other r.given.device e answer.Failed (entered (Cancelling Abort) a.answers) n ∙ (device_answer-entered (Cancelling Abort) e t.given a.answers t.answered ∙ ap (λ (x : DeviceAnswer). Some x) fresh) in
+      device_answer-other r.given.device e answer.Failed (entered (Cancelling Abort) a.answers) n ∙ (device_answer-entered (Cancelling Abort) e t.given a.answers t.answered ∙ ap (λ (x : DeviceAnswer). Some x) fresh) in
       let first : heard s r ≡ with_live s l = first_is r ∙ (u.makes s ∙ settled_open s q l b (failed_rise r) (failed_here r) (waiting_some e (anew t.given) b.answers gb refl)) in
       ap (λ z. heard z t) first ∙ (second_is t l b (anew t.given) (failed_here r) gb ∙ v.makes (with_live s l))
 
@@ -241,7 +241,7 @@ one_number s f g k m d e q h n hr ht =
     let apart : nat_eq u.given.device v.given.device ≡ false = ap (λ (c : ℕ). nat_eq c v.given.device) pd ∙ (ap (λ (c : ℕ). nat_eq d c) pe ∙ unlike d e n) in
     let apart_too : nat_eq v.given.device u.given.device ≡ false = number_sym v.given.device u.given.device ∙ apart in
     let both_ways : after_reply (after_reply s (says f k u.given.device q)) (says g m v.given.device q) ≡ after_reply (after_reply s (says g m v.given.device q)) (says f k u.given.device q) =
-        either_order s q a (sound_of s h).rises (apart_in s q a h u.found) u.found x y apart apart_too (subst made_here (cell_at s r a u.given cr u.found u.answered) hr) (subst made_here (cell_at s t a v.given ct u.found ge) ht) in
+    either_order s q a (sound_of s h).rises (apart_in s q a h u.found) u.found x y apart apart_too (subst made_here (cell_at s r a u.given cr u.found u.answered) hr) (subst made_here (cell_at s t a v.given ct u.found ge) ht) in
     subst (λ (c : ℕ). after_reply (after_reply s (says f k d q)) (says g m c q) ≡ after_reply (after_reply s (says g m c q)) (says f k d q)) pe
     (subst (λ (c : ℕ). after_reply (after_reply s (says f k c q)) (says g m v.given.device q) ≡ after_reply (after_reply s (says g m v.given.device q)) (says f k c q)) pd both_ways)
   where

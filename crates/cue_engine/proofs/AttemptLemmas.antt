@@ -45,12 +45,12 @@ any_onto p (e ∷ es) past h = by (p e) (any_onto p es (e ∷ past) h)
     by true k = refl
     by false k = k
 
-any_left : (a : Bool) → (a || false) ≡ true → a ≡ true
+pub any_left : (a : Bool) → (a || false) ≡ true → a ≡ true
 any_left true h = refl
 any_left false h = h
 
 -- what stands in the events stands in their history
-any_in : (p : Event → Bool) (es past : List Event) → (list_any p es || list_any p past) ≡ true → list_any p (onto es past) ≡ true
+pub any_in : (p : Event → Bool) (es past : List Event) → (list_any p es || list_any p past) ≡ true → list_any p (onto es past) ≡ true
 any_in p [] past h = h
 any_in p (e ∷ es) past h = any_in p es (e ∷ past) (by (p e) (list_any p es) h)
   where
@@ -58,11 +58,11 @@ any_in p (e ∷ es) past h = any_in p es (e ∷ past) (by (p e) (list_any p es) 
     by true c k = or_right c _ refl
     by false c k = k
 
-no_any : (b : Bool) → (b ≡ true → true ≡ false) → not b ≡ true
+pub no_any : (b : Bool) → (b ≡ true → true ≡ false) → not b ≡ true
 no_any true h = sym (h refl)
 no_any false h = refl
 
-contrary : {A : Type 0} (b : Bool) → b ≡ true → not b ≡ true → A
+pub contrary : {A : Type 0} (b : Bool) → b ≡ true → not b ≡ true → A
 contrary true h k = absurd (true≢false (sym k))
 contrary false h k = absurd (true≢false (sym h))
 
@@ -211,7 +211,7 @@ ever_onto test [] past h = h
 ever_onto test (e ∷ es) past h = ever_onto test es (e ∷ past) (or_right (test (state_of (e ∷ past))) _ h)
 
 -- such a command is pending in the state
-abbrev asks : (Order → Bool) → ShowState → Bool
+abbrev pub asks : (Order → Bool) → ShowState → Bool
 asks test s = list_any (λ (o : ℕ × Order). test o.1) (pending s)
 
 -- what passes the test makes this true
@@ -233,7 +233,7 @@ pending_asks : (test : Order → Bool) (s : ShowState) → list_any (λ (m : ℕ
 pending_asks test s h = any-mapped (λ (o : ℕ × Order). (o.0, order o.1)) (λ (m : ℕ × Send). is_command test m.1) (λ (o : ℕ × Order). test o.1) (λ o k. k) (pending s) h
 
 -- what is sent for an input is pending after its batch
-sent_asks : (test : Order → Bool) (s : ShowState) (x : Happening) → list_any (λ (m : ℕ × Send). is_command test m.1) (given_at s x).sends ≡ true → asks test (folded s (given_at s x).batch) ≡ true
+pub sent_asks : (test : Order → Bool) (s : ShowState) (x : Happening) → list_any (λ (m : ℕ × Send). is_command test m.1) (given_at s x).sends ≡ true → asks test (folded s (given_at s x).batch) ≡ true
 sent_asks test s x h =
     let t : ShowState = folded s (given_at s x).batch in
     any_says test (asks test t) (given_at s x).sends (happening-each (Says test (asks test t)) (says_elsewhere test (asks test t)) s x (each_is_there test (asks test t) (all_pending t) (pending_asks test t))) h

@@ -4,12 +4,12 @@ use Rattle.std.specs.List.{list_any, list_all}
 use Rattle.cue_show.specs.declared.part.Part.{Part}
 use Rattle.cue_core.specs.declared.event.Event.{Event}
 use Rattle.cue_core.specs.declared.event.Event.TheVariants.{Start, Go}
-use Rattle.cue_core.specs.Events.{is_start_of, is_ready_of, is_cancel_of, is_excuse_of}
+use Rattle.cue_core.specs.Events.{is_start_of, is_ready_of, is_cancel_of, is_end_of, is_excuse_of}
 use Rattle.cue_core.specs.State.{empty_state}
 use Rattle.cue_core.specs.Happenings.{onto}
 use Rattle.cue_core.specs.History.{parts_by}
 use Rattle.cue_core.specs.Pending.{Order}
-use Rattle.cue_core.specs.Safety.{is_go_to, is_cancel_to}
+use Rattle.cue_core.specs.Safety.{is_told, is_go_to, is_cancel_to}
 use Rattle.cue_outbox.specs.Sending.{Send, answer, status, order}
 use Rattle.cue_engine.specs.Runs.{Happening, run, joined}
 
@@ -50,6 +50,12 @@ is_command test (order o) = test o
 -- some datagram that was sent is such a command
 abbrev pub was_sent : (Order → Bool) → List Happening → Bool
 was_sent test hs = list_any (λ m. is_command test m.1) (run empty_state hs).sends
+
+-- Once a device is done with in an attempt, since it has answered for the last time or was excused, nothing more is sent to it there,
+-- whatever comes later.
+abbrev pub NothingMoreIsSent : Type 0
+NothingMoreIsSent = (hs later : List Happening) (q d : ℕ) → IsTrue (list_any (is_end_of q d) (accepted hs))
+    → IsTrue (not (list_any (λ m. is_command (is_told q d) m.1) (run (run empty_state hs).state later).sends))
 
 -- No device is ever sent both GO_2PC and CANCEL in one attempt.
 abbrev pub NeverSentBoth : Type 0

@@ -7,14 +7,16 @@ use std::alloc::{AllocError, Global};
 use std::process::Abort;
 use std::test::Fail;
 
+mod excused;
 mod found;
 mod taken;
 
-// A step, with the number of the attempt and that of the device.
+// A step, with the number of the attempt and that of the device. An attempt begins with required devices, then optional ones.
 enum Step {
-    Start(u32, &'static [i32]),
+    Start(u32, &'static [i32], &'static [i32]),
     Put(u32, i32, Stage, Answer),
     Ready(u32, i32),
+    Excuse(u32, i32),
     Go(u32),
     Cancel(u32, Reason),
     Done(u32, i32),
@@ -33,27 +35,38 @@ fn device(number: i32) -> Result<DeviceNo, Fail> {
     Ok(DeviceNo::of(number).ok_or("no device number")?)
 }
 
-fn parts(alloc: Global, devices: &[i32]) -> Result<Parts, Fail> {
+fn push_part(parts: &mut Parts, alloc: Global, number: i32, optional: bool) -> Result<(), Fail> {
+    parts.push(Part::of(alloc, device(number)?, optional, b"\x0a\x0b")?)?;
+    Ok(())
+}
+
+// Required parts of those devices, and behind them optional parts of these.
+fn parts(alloc: Global, required: &[i32], optional: &[i32]) -> Result<Parts, Fail> {
     let mut parts = Parts::new(alloc);
-    for number in devices {
-        parts.push(Part::of(alloc, device(*number)?, b"\x0a\x0b")?)?;
+    for number in required {
+        push_part(&mut parts, alloc, *number, false)?;
+    }
+    for number in optional {
+        push_part(&mut parts, alloc, *number, true)?;
     }
     Ok(parts)
 }
 
-// An attempt of a stored state, with one device.
-fn stored(
+// An attempt of a stored state, with the devices at cue 1.1.
+fn stored_with(
     alloc: Global,
     seq: u32,
-    number: i32,
     stage: Stage,
-    answer: Answer,
+    answers: &[(i32, bool, Answer)],
 ) -> Result<Attempt, Fail> {
     let mut items = Vec::new(alloc);
-    items.push(DeviceAnswer {
-        device: device(number)?,
-        answer,
-    })?;
+    for (number, optional, answer) in answers {
+        items.push(DeviceAnswer {
+            device: device(*number)?,
+            optional: *optional,
+            answer: *answer,
+        })?;
+    }
     Ok(Attempt {
         seq,
         cue: cue(b"1.1")?,
@@ -61,6 +74,17 @@ fn stored(
         stage,
         answers: Answers::of(items),
     })
+}
+
+// An attempt of a stored state, with one device, which is required.
+fn stored(
+    alloc: Global,
+    seq: u32,
+    number: i32,
+    stage: Stage,
+    answer: Answer,
+) -> Result<Attempt, Fail> {
+    stored_with(alloc, seq, stage, &[(number, false, answer)])
 }
 
 // Begins an attempt at cue 1, whose deadline is 11000.
@@ -79,6 +103,11 @@ fn put(rt: &impl Abort, live: &mut Live, attempt: Attempt) -> Result<(), Fail> {
 fn ready(rt: &impl Abort, live: &mut Live, seq: u32, device: DeviceNo) {
     assert!(rt; live.can_ready(seq, device));
     live.ready(seq, device);
+}
+
+fn excuse(rt: &impl Abort, live: &mut Live, seq: u32, device: DeviceNo) {
+    assert!(rt; live.can_excuse(seq, device));
+    live.excuse(seq, device);
 }
 
 fn go(rt: &impl Abort, live: &mut Live, seq: u32) {
@@ -114,13 +143,19 @@ fn take(
     step: &Step,
 ) -> Result<Option<Outcome>, Fail> {
     match step {
-        Step::Start(seq, devices) => start(rt, live, *seq, &parts(alloc, devices)?)?,
+        Step::Start(seq, required, optional) => start(
+            rt,
+            live,
+            *seq,
+            &parts(alloc, required, optional)?,
+        )?,
         Step::Put(seq, number, stage, answer) => put(
             rt,
             live,
             stored(alloc, *seq, *number, *stage, *answer)?,
         )?,
         Step::Ready(seq, number) => ready(rt, live, *seq, device(*number)?),
+        Step::Excuse(seq, number) => excuse(rt, live, *seq, device(*number)?),
         Step::Go(seq) => go(rt, live, *seq),
         Step::Cancel(seq, reason) => cancel(rt, live, *seq, *reason),
         Step::Done(seq, number) => return Ok(done(rt, live, *seq, device(*number)?)),
@@ -130,7 +165,7 @@ fn take(
     Ok(None)
 }
 
-// The attempts in words, each on a line.
+// The attempts in words, each on a line. An optional device has a `?`.
 fn lines(alloc: Global, live: &Live) -> Result<String, AllocError> {
     let mut text = String::new(alloc);
     for attempt in live.as_slice() {
@@ -146,7 +181,8 @@ fn line(text: &mut String, attempt: &Attempt) -> Result<(), AllocError> {
         attempt.seq, attempt.deadline, attempt.stage
     )?;
     for x in attempt.answers.as_slice() {
-        write!(text, " {} {:?}", x.device.number(), x.answer)?;
+        let sign = if x.optional { "?" } else { "" };
+        write!(text, " {}{sign} {:?}", x.device.number(), x.answer)?;
     }
     text.push_str("\n")
 }

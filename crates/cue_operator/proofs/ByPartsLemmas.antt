@@ -68,6 +68,10 @@ at-add_cue : (p : Pattern) → matches p (codes "/show/cue") ≡ parts_match p (
 unfolding matches
 at-add_cue p = refl
 
+at-add_mixed_cue : (p : Pattern) → matches p (codes "/show/mixed") ≡ parts_match p (codes "show" ∷ codes "mixed" ∷ [])
+unfolding matches
+at-add_mixed_cue p = refl
+
 -- ---- parts one by one
 
 and-true : (b : Bool) → (b && true) ≡ b
@@ -88,27 +92,24 @@ parts-three f n v t u w = ap (λ b. part_matches f t && (part_matches n u && b))
 
 -- ---- the methods that every show has
 
-filter-first : (test : Method → Bool) (m : Method) (ms : List Method) → filter test (m ∷ ms) ≡ methods_if (test m) (m ∷ []) ++ filter test ms
-filter-first test m ms = at (test m)
+-- a method in front is kept where the pattern matches its address
+kept-first : (p : Pattern) (m : Method) (ms ns : List Method) (b : Bool) → matches p (address_of m) ≡ b → methods_at (matches p) ms ≡ ns → methods_at (matches p) (m ∷ ms) ≡ methods_if b (m ∷ []) ++ ns
+kept-first p m ms ns b e r = at (matches p (address_of m)) e
   where
-    at : (b : Bool) → cond b (m ∷ filter test ms) (filter test ms) ≡ methods_if b (m ∷ []) ++ filter test ms
-    at true = refl
-    at false = refl
+    at : (c : Bool) → c ≡ b → cond c (m ∷ methods_at (matches p) ms) (methods_at (matches p) ms) ≡ methods_if b (m ∷ []) ++ ns
+    at true k = rw (← k) (ap (λ xs. m ∷ xs) r)
+    at false k = rw (← k) r
 
-fixed-parted : (p : Pattern) (a b c : Bool) → parts_match p (codes "status" ∷ []) ≡ a → parts_match p (codes "show" ∷ codes "device" ∷ []) ≡ b → parts_match p (codes "show" ∷ codes "cue" ∷ []) ≡ c
-    → methods_at (matches p) fixed_methods ≡ methods_if a (method.Status ∷ []) ++ (methods_if b (method.AddDevice ∷ []) ++ methods_if c (method.AddCue ∷ []))
-fixed-parted p a b c e f g = at (matches p (codes "/status")) (matches p (codes "/show/device")) (matches p (codes "/show/cue")) (at-status p ∙ e) (at-add_device p ∙ f) (at-add_cue p ∙ g)
-  where
-    at : (x y z : Bool) → x ≡ a → y ≡ b → z ≡ c → cond x (method.Status ∷ cond y (method.AddDevice ∷ cond z (method.AddCue ∷ []) []) (cond z (method.AddCue ∷ []) [])) (cond y (method.AddDevice ∷ cond z (method.AddCue ∷ []) []) (cond z (method.AddCue ∷ []) []))
-        ≡ methods_if a (method.Status ∷ []) ++ (methods_if b (method.AddDevice ∷ []) ++ methods_if c (method.AddCue ∷ []))
-    at true true true i j k = rw (← i, ← j, ← k) refl
-    at true true false i j k = rw (← i, ← j, ← k) refl
-    at true false true i j k = rw (← i, ← j, ← k) refl
-    at true false false i j k = rw (← i, ← j, ← k) refl
-    at false true true i j k = rw (← i, ← j, ← k) refl
-    at false true false i j k = rw (← i, ← j, ← k) refl
-    at false false true i j k = rw (← i, ← j, ← k) refl
-    at false false false i j k = rw (← i, ← j, ← k) refl
+fixed-parted : (p : Pattern) (a b c d : Bool) → parts_match p (codes "status" ∷ []) ≡ a → parts_match p (codes "show" ∷ codes "device" ∷ []) ≡ b
+    → parts_match p (codes "show" ∷ codes "cue" ∷ []) ≡ c → parts_match p (codes "show" ∷ codes "mixed" ∷ []) ≡ d
+    → methods_at (matches p) fixed_methods ≡ methods_if a (method.Status ∷ []) ++ (methods_if b (method.AddDevice ∷ []) ++ (methods_if c (method.AddCue ∷ []) ++ methods_if d (method.AddMixedCue ∷ [])))
+fixed-parted p a b c d e f g h =
+    let mixed : List Method = methods_if d (method.AddMixedCue ∷ []) in
+    let cues : List Method = methods_if c (method.AddCue ∷ []) ++ mixed in
+    kept-first p method.Status (method.AddDevice ∷ method.AddCue ∷ method.AddMixedCue ∷ []) (methods_if b (method.AddDevice ∷ []) ++ cues) a (at-status p ∙ e)
+    (kept-first p method.AddDevice (method.AddCue ∷ method.AddMixedCue ∷ []) cues b (at-add_device p ∙ f)
+    (kept-first p method.AddCue (method.AddMixedCue ∷ []) mixed c (at-add_cue p ∙ g)
+    (kept-first p method.AddMixedCue [] [] d (at-add_mixed_cue p ∙ h) refl ∙ append-nil mixed)))
 
 -- ---- the methods of cues and devices
 
@@ -191,35 +192,38 @@ uneven-two p ne t u = parts_match-uneven p (t ∷ u ∷ []) ne
 uneven-three : (p : Pattern) → 3 ≢ length p → (t u v : List ℕ) → parts_match p (t ∷ u ∷ v ∷ []) ≡ false
 uneven-three p ne t u v = parts_match-uneven p (t ∷ u ∷ v ∷ []) ne
 
-show-split : (x y z : Bool) → methods_if (x && y) (method.AddDevice ∷ []) ++ methods_if (x && z) (method.AddCue ∷ []) ≡ methods_if x (methods_if y (method.AddDevice ∷ []) ++ methods_if z (method.AddCue ∷ []))
-show-split true y z = refl
-show-split false y z = refl
+show-split : (x y z w : Bool) → methods_if (x && y) (method.AddDevice ∷ []) ++ (methods_if (x && z) (method.AddCue ∷ []) ++ methods_if (x && w) (method.AddMixedCue ∷ []))
+    ≡ methods_if x (methods_if y (method.AddDevice ∷ []) ++ (methods_if z (method.AddCue ∷ []) ++ methods_if w (method.AddMixedCue ∷ [])))
+show-split true y z w = refl
+show-split false y z w = refl
 
 none-at : (show : ShowLists) (p : Pattern) → IsTrue (is_show show) → 1 ≢ length p → 2 ≢ length p → 3 ≢ length p → methods_at (matches p) (methods show) ≡ []
 none-at show p h one two three =
     all-parted show p [] [] [] h
-    (fixed-parted p false false false (uneven-one p one _) (uneven-two p two _ _) (uneven-two p two _ _))
+    (fixed-parted p false false false false (uneven-one p one _) (uneven-two p two _ _) (uneven-two p two _ _) (uneven-two p two _ _))
     (no-cues p (uneven-three p three) (keys_of show.cues)) (no-devices p (uneven-three p three) (keys_of show.devices))
 
 pub matched-by_parts : MatchedByParts
 matched-by_parts show [] h = none-at show [] h (λ e. cc) (λ e. cc) (λ e. cc)
 matched-by_parts show (o ∷ []) h =
     all-parted show (o ∷ []) (status_by o) [] [] h
-    (fixed-parted (o ∷ []) (part_matches o (codes "status")) false false (parts-one o (codes "status")) (uneven-two (o ∷ []) (λ e. cc) _ _) (uneven-two (o ∷ []) (λ e. cc) _ _) ∙ append-nil (status_by o))
+    (fixed-parted (o ∷ []) (part_matches o (codes "status")) false false false (parts-one o (codes "status")) (uneven-two (o ∷ []) (λ e. cc) _ _) (uneven-two (o ∷ []) (λ e. cc) _ _) (uneven-two (o ∷ []) (λ e. cc) _ _)
+    ∙ append-nil (status_by o))
     (no-cues (o ∷ []) (uneven-three (o ∷ []) (λ e. cc)) (keys_of show.cues)) (no-devices (o ∷ []) (uneven-three (o ∷ []) (λ e. cc)) (keys_of show.devices))
     ∙ append-nil (status_by o)
 matched-by_parts show (f ∷ n ∷ []) h =
     let p : Pattern = f ∷ n ∷ [] in
     let x : Bool = part_matches f (codes "show") in
     all-parted show (f ∷ n ∷ []) (show_by f n) [] [] h
-    (fixed-parted (f ∷ n ∷ []) false (x && part_matches n (codes "device")) (x && part_matches n (codes "cue")) (uneven-one (f ∷ n ∷ []) (λ e. cc) _) (parts-two f n (codes "show") (codes "device")) (parts-two f n (codes "show") (codes "cue"))
-    ∙ show-split x (part_matches n (codes "device")) (part_matches n (codes "cue")))
+    (fixed-parted (f ∷ n ∷ []) false (x && part_matches n (codes "device")) (x && part_matches n (codes "cue")) (x && part_matches n (codes "mixed"))
+    (uneven-one (f ∷ n ∷ []) (λ e. cc) _) (parts-two f n (codes "show") (codes "device")) (parts-two f n (codes "show") (codes "cue")) (parts-two f n (codes "show") (codes "mixed"))
+    ∙ show-split x (part_matches n (codes "device")) (part_matches n (codes "cue")) (part_matches n (codes "mixed")))
     (no-cues p (uneven-three p (λ e. cc)) (keys_of show.cues)) (no-devices p (uneven-three p (λ e. cc)) (keys_of show.devices))
     ∙ append-nil (show_by f n)
 matched-by_parts show (f ∷ n ∷ v ∷ []) h =
     let p : Pattern = f ∷ n ∷ v ∷ [] in
     all-parted show p [] (cues_by f n v (keys_of show.cues)) (devices_by f n v (keys_of show.devices)) h
-    (fixed-parted p false false false (uneven-one p (λ e. cc) _) (uneven-two p (λ e. cc) _ _) (uneven-two p (λ e. cc) _ _))
+    (fixed-parted p false false false false (uneven-one p (λ e. cc) _) (uneven-two p (λ e. cc) _ _) (uneven-two p (λ e. cc) _ _) (uneven-two p (λ e. cc) _ _))
     (λ k. cues-parted p (keys_of show.cues) k ∙ three-matched method.OfCue (λ c w. parts_match p (codes "cue" ∷ c ∷ cue_verb_text w ∷ [])) (part_matches f (codes "cue")) (part_matches n) (λ w. part_matches v (cue_verb_text w)) cue_verbs (λ c w. parts-three f n v (codes "cue") c (cue_verb_text w)) (keys_of show.cues))
     (λ k. devices-parted p (keys_of show.devices) k ∙ three-matched method.OfDevice (λ d w. parts_match p (codes "device" ∷ decimal d ∷ device_verb_text w ∷ [])) (part_matches f (codes "device")) (λ d. part_matches n (decimal d)) (λ w. part_matches v (device_verb_text w)) device_verbs (λ d w. parts-three f n v (codes "device") (decimal d) (device_verb_text w)) (keys_of show.devices))
 matched-by_parts show (a ∷ b ∷ c ∷ d ∷ p) h = none-at show (a ∷ b ∷ c ∷ d ∷ p) h (λ e. cc) (λ e. cc) (λ e. cc)

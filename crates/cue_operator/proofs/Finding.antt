@@ -79,14 +79,16 @@ fixed-found a = found-same address_of a fixed_methods refl
 
 -- an address of the methods that every show has is under no front
 pub fixed-alone : (a : List ℕ) (m : Method) → find (λ x. same_text a (address_of x)) fixed_methods ≡ Some m → (name_and_verb (codes "/cue/") a ≡ None) × (name_and_verb (codes "/device/") a ≡ None)
-fixed-alone a m h = at (same_text a (codes "/status")) (same_text a (codes "/show/device")) (same_text a (codes "/show/cue")) refl refl refl h
+fixed-alone a m h = at (same_text a (codes "/status")) (same_text a (codes "/show/device")) (same_text a (codes "/show/cue")) (same_text a (codes "/show/mixed")) refl refl refl refl h
   where
-    at : (b c d : Bool) → same_text a (codes "/status") ≡ b → same_text a (codes "/show/device") ≡ c → same_text a (codes "/show/cue") ≡ d → cond b (Some method.Status) (cond c (Some method.AddDevice) (cond d (Some method.AddCue) None)) ≡ Some m
+    at : (b c d e : Bool) → same_text a (codes "/status") ≡ b → same_text a (codes "/show/device") ≡ c → same_text a (codes "/show/cue") ≡ d → same_text a (codes "/show/mixed") ≡ e
+        → cond b (Some method.Status) (cond c (Some method.AddDevice) (cond d (Some method.AddCue) (cond e (Some method.AddMixedCue) None))) ≡ Some m
         → (name_and_verb (codes "/cue/") a ≡ None) × (name_and_verb (codes "/device/") a ≡ None)
-    at true c d e f g k = rw (equal_text a (codes "/status") e) (refl, refl)
-    at false true d e f g k = rw (equal_text a (codes "/show/device") f) (refl, refl)
-    at false false true e f g k = rw (equal_text a (codes "/show/cue") g) (refl, refl)
-    at false false false e f g k = cc
+    at true c d e f g i j k = rw (equal_text a (codes "/status") f) (refl, refl)
+    at false true d e f g i j k = rw (equal_text a (codes "/show/device") g) (refl, refl)
+    at false false true e f g i j k = rw (equal_text a (codes "/show/cue") i) (refl, refl)
+    at false false false true f g i j k = rw (equal_text a (codes "/show/mixed") j) (refl, refl)
+    at false false false false f g i j k = cc
 
 pub fronts-apart : (a : List ℕ) (p : List ℕ × List ℕ) → name_and_verb (codes "/cue/") a ≡ Some p → name_and_verb (codes "/device/") a ≡ None
 fronts-apart [] p h = cc

@@ -22,24 +22,24 @@ use Rattle.cue_operator.specs.declared.method.Method.{Method}
 use Rattle.cue_operator.specs.declared.method.Method.TheVariants as method
 use Rattle.cue_operator.specs.Methods.{cue_verb_text, device_verb_text, cue_verbs, device_verbs}
 use Rattle.cue_operator.specs.Arguments.{command_by}
-use Rattle.cue_operator.specs.ByParts.{methods_if, reads, named_cue, named_device, cue_commands, device_commands, show_by, cues_by, devices_by}
+use Rattle.cue_operator.specs.ByParts.{methods_if, reads, named_cue, named_device, cue_commands, device_commands, named_method, show_by, cues_by, devices_by}
 
 pub reads-append : (xs : List Argument) (ms ns : List Method) → reads xs (ms ++ ns) ≡ reads xs ms ++ reads xs ns
 reads-append xs ms ns = map-append (command_by xs) ms ns
 
--- the two methods of a front that is matched
-pub show_found : (xs : List Argument) (front name : List Piece) (none a b : List Command) → none ≡ [] → part_matches front (codes "show") ≡ true
-    → a ≡ none ++ reads xs (methods_if (part_matches name (codes "device")) (method.AddDevice ∷ [])) → b ≡ a ++ reads xs (methods_if (part_matches name (codes "cue")) (method.AddCue ∷ []))
-    → b ≡ reads xs (show_by front name)
-show_found xs front name none a b empty matched first then =
-    let d : List Method = methods_if (part_matches name (codes "device")) (method.AddDevice ∷ []) in
-    let c : List Method = methods_if (part_matches name (codes "cue")) (method.AddCue ∷ []) in
-    then ∙ (ap (λ cs. cs ++ reads xs c) (first ∙ ap (λ cs. cs ++ reads xs d) empty) ∙ (sym (reads-append xs d c) ∙ ap (λ t. reads xs (methods_if t (d ++ c))) (sym matched)))
-
--- a front that is not matched
-pub show_not_found : (xs : List Argument) (front name : List Piece) (none : List Command) → none ≡ [] → part_matches front (codes "show") ≡ false → none ≡ reads xs (show_by front name)
-show_not_found xs front name none empty unmatched =
-    empty ∙ ap (λ t. reads xs (methods_if t (methods_if (part_matches name (codes "device")) (method.AddDevice ∷ []) ++ methods_if (part_matches name (codes "cue")) (method.AddCue ∷ [])))) (sym unmatched)
+-- the methods of a front that is matched
+pub show_found : (xs : List Argument) (front name : List Piece) (none a b c : List Command) → none ≡ [] → part_matches front (codes "show") ≡ true
+    → a ≡ none ++ reads xs (named_method name (codes "device") method.AddDevice) → b ≡ a ++ reads xs (named_method name (codes "cue") method.AddCue)
+    → c ≡ b ++ reads xs (named_method name (codes "mixed") method.AddMixedCue) → c ≡ reads xs (show_by front name)
+show_found xs front name none a b c empty matched first then last =
+    let d : List Method = named_method name (codes "device") method.AddDevice in
+    let e : List Method = named_method name (codes "cue") method.AddCue in
+    let f : List Method = named_method name (codes "mixed") method.AddMixedCue in
+    let begun : b ≡ reads xs d ++ reads xs e = then ∙ ap (λ cs. cs ++ reads xs e) (first ∙ ap (λ cs. cs ++ reads xs d) empty) in
+    last ∙ (ap (λ cs. cs ++ reads xs f) begun
+    ∙ (append_assoc (reads xs d) (reads xs e) (reads xs f)
+    ∙ (ap (λ cs. reads xs d ++ cs) (sym (reads-append xs e f))
+    ∙ (sym (reads-append xs d (e ++ f)) ∙ ap (λ t. reads xs (methods_if t (d ++ (e ++ f)))) (sym matched)))))
 
 -- a verb more
 pub reads_more : {V : Type 0} (xs : List Argument) (make : V → Method) (left rest : List V) (v : V) (found next all : List Command) → left ≡ v ∷ rest → found ++ reads xs (map make left) ≡ all → next ≡ found ++ command_by xs (make v) ∷ []

@@ -40,13 +40,21 @@ cue_commands xs name verbs e = reads xs (named_cue name verbs e.0)
 abbrev pub device_commands : List Argument → List Piece → List DeviceVerb → ℕ × ℕ → List Command
 device_commands xs name verbs e = reads xs (named_device name verbs e.0)
 
+-- the method, where the part matches this text
+abbrev pub named_method : List Piece → List ℕ → Method → List Method
+named_method name text m = methods_if (part_matches name text) (m ∷ [])
+
 -- the methods that a pattern of one part matches
 abbrev pub status_by : List Piece → List Method
-status_by only = methods_if (part_matches only (codes "status")) (method.Status ∷ [])
+status_by only = named_method only (codes "status") method.Status
+
+-- what is added under a front that is matched
+abbrev pub added_by : List Piece → List Method
+added_by name = named_method name (codes "device") method.AddDevice ++ (named_method name (codes "cue") method.AddCue ++ named_method name (codes "mixed") method.AddMixedCue)
 
 -- those that one of two parts matches
 abbrev pub show_by : List Piece → List Piece → List Method
-show_by front name = methods_if (part_matches front (codes "show")) (methods_if (part_matches name (codes "device")) (method.AddDevice ∷ []) ++ methods_if (part_matches name (codes "cue")) (method.AddCue ∷ []))
+show_by front name = methods_if (part_matches front (codes "show")) (added_by name)
 
 -- those of cues that one of three parts matches
 abbrev pub cues_by : List Piece → List Piece → List Piece → List (List ℕ) → List Method

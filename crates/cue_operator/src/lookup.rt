@@ -73,6 +73,8 @@ fn fixed_method(address: &[u8]) -> Option<Method>
         Some(Method::AddDevice)
     } else if address == b"/show/cue".as_slice() {
         Some(Method::AddCue)
+    } else if address == b"/show/mixed".as_slice() {
+        Some(Method::AddMixedCue)
     } else {
         None
     }

@@ -1,6 +1,7 @@
 //! Datagrams, and what they ask for on a small show, as it is written out by hand.
 //!
-//! Each command is its name with its numbers, and a semicolon; `refused` and a code stand for a message that asks for no command.
+//! Each command is its name with its numbers, and a semicolon. A part is its device and its bytes; a question mark stands
+//! behind an optional device. `refused` and a code stand for a message that asks for no command.
 
 use crate::{Refused, commands};
 use cue_core::{Command, State, judge};
@@ -9,6 +10,8 @@ use cue_show::{CueNo, DeviceNo, Part, Parts};
 use std::alloc::{AllocError, Global};
 use std::process::Abort;
 use std::test::Fail;
+
+mod mixed;
 
 /// A datagram, and what it asks for.
 type Row = (&'static str, &'static str);
@@ -88,7 +91,7 @@ fn add_cue(rt: &impl Abort, alloc: Global, state: &mut State, text: &str) -> Res
     let cue = CueNo::read(text.as_bytes()).ok_or("no cue number")?;
     let device = DeviceNo::of(3).ok_or("no device number")?;
     let mut parts = Parts::new(alloc);
-    parts.push(Part::of(alloc, device, b"")?)?;
+    parts.push(Part::of(alloc, device, false, b"")?)?;
     make(rt, alloc, state, &Command::AddCue(cue, parts))
 }
 
@@ -118,7 +121,8 @@ fn push_new_cue(out: &mut String, cue: CueNo, parts: &Parts) -> Result<(), Alloc
     out.push_str("add cue ")?;
     push_bytes(out, cue.text())?;
     for part in parts.as_slice() {
-        write!(out, " {}:", part.device.number())?;
+        let mark = if part.optional { "?" } else { "" };
+        write!(out, " {}{mark}:", part.device.number())?;
         push_bytes(out, part.bytes.as_slice())?;
     }
     out.push(';')
@@ -216,18 +220,18 @@ fn compare_longest(rt: &impl Abort, alloc: Global, state: &State) -> Result<(), 
     Ok(())
 }
 
-// Cues 1 to 256, and what a pattern that matches them all asks for, three times.
+// Cues 1 to 1,024, and what a pattern that matches them all asks for, twice.
 fn compare_many(rt: &impl Abort, alloc: Global, state: &mut State) -> Result<(), Fail> {
     let mut wanted = String::new(alloc);
     add_device(rt, alloc, state, 3, 9001)?;
-    for number in 1..=256u16 {
+    for number in 1..=1024u16 {
         add_cue(rt, alloc, state, &format!(in alloc; "{number}")?)?;
         write!(&mut wanted, "goto {number};")?;
     }
-    let datagram = bundle(alloc, "/cue/*/goto\0", 3)?;
+    let datagram = bundle(alloc, "/cue/*/goto\0", 2)?;
     assert_eq!(rt;
         asked(alloc, state, &datagram)?.as_str(),
-        wanted.repeat(alloc, 3)?.as_str()
+        wanted.repeat(alloc, 2)?.as_str()
     );
     Ok(())
 }

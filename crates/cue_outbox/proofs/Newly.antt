@@ -1,6 +1,6 @@
 -- The newly pending commands are those of the attempts whose devices are asked anew.
-use Rattle.std.proofs.Common.{◌≡◌, ◌≢◌, ℕ, ◌<◌, ◌≤◌, Bool, true, false, not, cond, ◌&&◌, ◌||◌, List, [], ◌∷◌, ◌++◌, map, filter, nat_eq, nat_lt, nat_le, IsTrue, Option, None, Some, Ok, refl, sym, ap, ◌∙◌, subst, arith}
-use Rattle.std.specs.List.{AllByRecursion, list_all, list_any, filter_map, flat_map}
+use Rattle.std.proofs.Common.{◌≡◌, ◌≢◌, ℕ, ◌<◌, ◌≤◌, Bool, true, false, not, cond, ◌||◌, List, [], ◌∷◌, ◌++◌, filter, nat_eq, nat_lt, nat_le, IsTrue, Some, Ok, refl, sym, ap, ◌∙◌, subst, arith}
+use Rattle.std.specs.List.{AllByRecursion, list_all, list_any, flat_map}
 use Rattle.std.specs.Cmp.Lexicographic.{pointwise, bytes_decides}
 use Rattle.std.proofs.lemmas.Bool.{ltb-true, leb-true}
 use Rattle.std.proofs.lemmas.Bool.Decides.{nat_tests}
@@ -9,14 +9,11 @@ use Rattle.cue_osc.specs.Reading.{datagram_at}
 use Rattle.cue_show.specs.Devices.{is_among}
 use Rattle.cue_exchange.specs.declared.attempt.Stage.{Stage}
 use Rattle.cue_exchange.specs.declared.attempt.Stage.TheVariants.{Preparing, Decided, Cancelling}
-use Rattle.cue_exchange.specs.declared.attempt.DeviceAnswer.{DeviceAnswer}
 use Rattle.cue_exchange.specs.declared.attempt.Attempt.{Attempt}
 use Rattle.cue_exchange.specs.Answers.{is_preparing, waits}
 use Rattle.cue_exchange.specs.Live.{attempt_of, has_number}
-use Rattle.cue_exchange.proofs.LiveRules.{order_of}
-use Rattle.cue_core.specs.declared.event.Event.{Event}
 use Rattle.cue_core.specs.State.{ShowState, cue_parts, is_state}
-use Rattle.cue_core.specs.Steps.{are_acceptable, folded}
+use Rattle.cue_core.specs.Steps.{folded}
 use Rattle.cue_core.specs.Pending.{Order, standby, go_2pc, cancel, bytes_for, order_at, order_for, pending}
 use Rattle.cue_core.specs.InTurn.{steps, events_of}
 use Rattle.cue_core.proofs.InTurn.{steps-acceptable}
@@ -27,12 +24,12 @@ use Rattle.cue_core.proofs.Sound.{sound_of}
 use Rattle.cue_outbox.specs.Sending.{Send, order, order_content, send_content, datagram, datagrams, orders, all_pending}
 use Rattle.cue_outbox.specs.New.{same_datagram, is_new, newly_pending}
 use Rattle.cue_outbox.specs.Asked.{number_of, is_asked, pending_of, NewlyPendingAreAsked, StepsAskAnew, AskedCommandsDiffer}
-use Rattle.cue_outbox.proofs.Lists.{Pairs, pairs_all, each_append, each_weaker, each_passes, each_found, each_flat, each_filter}
+use Rattle.cue_outbox.proofs.Lists.{Pairs, pairs_all, each_weaker, each_passes, each_found, each_flat, each_filter}
 use Rattle.cue_outbox.proofs.ReadBack.{read_back}
 use Rattle.cue_outbox.proofs.Told.{IsTold, live_told}
 use Rattle.cue_outbox.proofs.Writable.{sent, if_waits, IsWritableOrder, writable_for, all_writable}
 use Rattle.cue_outbox.proofs.Apart.{Apart, key, content_key, key_in, all_other, apart_pending}
-use Rattle.cue_outbox.proofs.Since.{told, AreAmong, Stays, Since, begun, moved_on, stayed, since, is_state-folded}
+use Rattle.cue_outbox.proofs.Since.{told, Stays, Since, begun, moved_on, stayed, since, is_state-folded}
 
 -- ---- commands of other attempts, or of another stage, are other datagrams
 

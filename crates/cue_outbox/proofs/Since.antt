@@ -1,14 +1,13 @@
 -- What events that are acceptable in turn leave of the commands of each live attempt: either they ask its devices anew, or what its
 -- devices are still to be told was pending before.
-use Rattle.std.proofs.Common.{◌≡◌, ℕ, ◌+◌, ◌<◌, ◌≤◌, List, [], ◌∷◌, ◌++◌, map, find, refl, sym, ◌∙◌, ap, subst, Bool, true, false, not, cond, ◌&&◌, ◌||◌, nat_eq, nat_le, arith, Option, None, Some, IsTrue}
+use Rattle.std.proofs.Common.{◌≡◌, ℕ, ◌+◌, ◌<◌, ◌≤◌, List, [], ◌∷◌, map, find, refl, sym, ◌∙◌, ap, subst, Bool, true, false, not, cond, ◌&&◌, ◌||◌, nat_eq, nat_le, arith, Option, None, Some, IsTrue}
 use Rattle.std.specs.Prelude.{IfSome, is_some, unwrap_or}
-use Rattle.std.specs.List.{AllByRecursion, list_all, list_any, filter_map, cons_option}
+use Rattle.std.specs.List.{AllByRecursion, list_all, filter_map, cons_option}
 use Rattle.std.specs.Option.{option_map, option_map_or, option_and_then, option_or}
-use Rattle.std.specs.Cmp.Lexicographic.{pointwise, bytes_decides}
 use Rattle.std.proofs.lemmas.Bool.{and_parts, leb-true, ne_eqb, eqb-false}
 use Rattle.std.proofs.lemmas.List.Folds.{find-append}
 use Rattle.std.proofs.lemmas.Option.{same_Some}
-use Rattle.cue_show.specs.Devices.{is_among, devices_in}
+use Rattle.cue_show.specs.Devices.{is_among}
 use Rattle.cue_show.specs.Number.{same_text, is_cue_number}
 use Rattle.cue_show.specs.Parts.{are_parts}
 use Rattle.cue_show.specs.DeviceNumber.{is_device, is_port}
@@ -23,20 +22,20 @@ use Rattle.cue_exchange.specs.declared.attempt.Stage.{Stage}
 use Rattle.cue_exchange.specs.declared.attempt.Stage.TheVariants.{Decided, Cancelling}
 use Rattle.cue_exchange.specs.declared.attempt.DeviceAnswer.{DeviceAnswer}
 use Rattle.cue_exchange.specs.declared.attempt.Attempt.{Attempt}
-use Rattle.cue_exchange.specs.Answers.{devices_of, some_waits, is_waiting, is_preparing, all_may_go, waits, answers_with, with_answer}
+use Rattle.cue_exchange.specs.Answers.{some_waits, is_waiting, is_preparing, all_may_go, waits, answers_with, with_answer}
 use Rattle.cue_exchange.specs.Live.{attempt_of, has_number}
 use Rattle.cue_exchange.specs.Steps.{changed, answers_as, moves_to, answered, moved, started, new_attempt, without_ended, can_go_now}
 use Rattle.cue_core.specs.declared.event.Event.{Event}
 use Rattle.cue_core.specs.declared.event.Event.TheVariants as event
-use Rattle.cue_core.specs.State.{ShowState, cue_parts, is_at_cue, is_state}
-use Rattle.cue_core.specs.Steps.{acceptable, after, are_acceptable, folded, can_begin}
+use Rattle.cue_core.specs.State.{ShowState, cue_parts, are_of_parts, is_at_cue, is_state}
+use Rattle.cue_core.specs.Steps.{acceptable, after, are_acceptable, folded}
 use Rattle.cue_core.specs.Pending.{Order, order_at, order_for, bytes_for}
 use Rattle.cue_core.proofs.Conditions.{both, join, same_number, same_self}
 use Rattle.cue_core.proofs.Finding.{rising, found, found_has, found_passes, if_open, attempt_of-changed, attempt_of-without_ended, attempt_of-without_ended_other, rising-changed}
 use Rattle.cue_core.proofs.Rules.{Rules, rules_of, begins, is_state-after}
 use Rattle.cue_core.proofs.Sound.{sound_of}
 use Rattle.cue_outbox.specs.Asked.{number_asked, is_asked}
-use Rattle.cue_outbox.proofs.Told.{devices_each}
+use Rattle.cue_outbox.proofs.Told.{devices_same, devices_each}
 
 -- what the devices of the attempt are still to be told
 abbrev pub told : ShowState → Attempt → List (ℕ × Order)
@@ -90,19 +89,19 @@ ports_each s t f (x ∷ xs) h = (f x.device h.0, ports_each s t f xs h.1)
 known : (show : ShowLists) (a : Attempt) → IsTrue (is_show show) → IsTrue (is_at_cue show a) → AllByRecursion (λ (x : DeviceAnswer). IsTrue (has_device show x.device)) a.answers
 known show a rules at = by (parts_of show a.cue) (is_cue_of-parts_of show a.cue rules) at
   where
-    by : (o : Option (List Part)) → IfSome o (λ parts. IsTrue (is_cue_of show (a.cue, parts))) → IsTrue (option_map_or (λ parts. pointwise nat_eq (devices_of a.answers) (devices_in parts)) o false)
+    by : (o : Option (List Part)) → IfSome o (λ parts. IsTrue (is_cue_of show (a.cue, parts))) → IsTrue (option_map_or (λ parts. are_of_parts parts a.answers) o false)
         → AllByRecursion (λ (x : DeviceAnswer). IsTrue (has_device show x.device)) a.answers
     by None cue same = absurd cc
     by (Some parts) cue same =
         let c = and_parts (is_cue_number a.cue) (are_parts parts && are_known show parts) cue in
         let p = and_parts (are_parts parts) (are_known show parts) c.1 in
-        devices_each (has_device show) a.answers parts ((bytes_decides (devices_of a.answers) (devices_in parts)).0 same) p.1
+        devices_each (has_device show) a.answers parts (devices_same parts a.answers same) p.1
 
 -- its cue is in the stack
 cue_there : (show : ShowLists) (a : Attempt) → IsTrue (is_at_cue show a) → IsTrue (has_cue show a.cue)
 cue_there show a at = by (parts_of show a.cue) at
   where
-    by : (o : Option (List Part)) → IsTrue (option_map_or (λ parts. pointwise nat_eq (devices_of a.answers) (devices_in parts)) o false) → IsTrue (is_some o)
+    by : (o : Option (List Part)) → IsTrue (option_map_or (λ parts. are_of_parts parts a.answers) o false) → IsTrue (is_some o)
     by None same = absurd cc
     by (Some parts) same = refl
 
@@ -307,6 +306,7 @@ since_event s (event.Cancel q reason) p b i g h =
     moved_since s (after s (event.Cancel q reason)) q p (Cancelling reason) b refl f.0 f.1 f.2 (λ a. refl) h
 since_event s (event.LetGo q d) p b i g h = settled_since s (after s (event.LetGo q d)) q d p answer.LetGo b refl refl (sound_of s i).rises h
 since_event s (event.Failed q d) p b i g h = settled_since s (after s (event.Failed q d)) q d p answer.Failed b refl refl (sound_of s i).rises h
+since_event s (event.Excuse q d) p b i g h = answered_since s (after s (event.Excuse q d)) q d p answer.Excused b refl refl h
 
 -- ---- events in turn
 
@@ -323,6 +323,7 @@ grows s (event.Done q d) g = omega arith
 grows s (event.Cancel q r) g = omega arith
 grows s (event.LetGo q d) g = omega arith
 grows s (event.Failed q d) g = omega arith
+grows s (event.Excuse q d) g = omega arith
 
 among-trans : (xs ys zs : List (ℕ × Order)) → AreAmong xs ys → AreAmong ys zs → AreAmong xs zs
 among-trans xs ys zs h k = record { each = λ test t. k.each test (h.each test t) }

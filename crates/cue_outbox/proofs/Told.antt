@@ -3,14 +3,14 @@ use Rattle.std.proofs.Common.{◌≡◌, ℕ, ◌<◌, ◌≤◌, ◌^◌, Bool,
 use Rattle.std.specs.Prelude.{IfSome, is_some, unwrap_or}
 use Rattle.std.specs.List.{AllByRecursion, list_all}
 use Rattle.std.specs.Option.{option_map_or}
-use Rattle.std.specs.Cmp.Lexicographic.{pointwise, bytes_decides}
-use Rattle.std.proofs.lemmas.Bool.{and_parts, leb-true}
+use Rattle.std.specs.Bool.{beq}
+use Rattle.std.proofs.lemmas.Bool.{and_parts, leb-true, eqb-true}
 use Rattle.cue_osc.specs.Spelling.{IsText}
 use Rattle.cue_show.specs.Bytes.{are_bytes}
 use Rattle.cue_show.specs.DeviceNumber.{is_device, is_port}
 use Rattle.cue_show.specs.Devices.{distinct, devices_in}
 use Rattle.cue_show.specs.Number.{is_cue_number}
-use Rattle.cue_show.specs.Parts.{is_part, are_parts}
+use Rattle.cue_show.specs.Parts.{is_part, has_required_part, are_parts}
 use Rattle.cue_show.specs.Show.{ShowLists, port_of, parts_of, has_device, are_known, is_entry, is_show, is_cue_of}
 use Rattle.cue_show.specs.declared.limits.TheConstants.{LAST_DEVICE, MAX_PARTS, MAX_PART_BYTES}
 use Rattle.cue_show.specs.declared.part.Part.{Part}
@@ -18,11 +18,11 @@ use Rattle.cue_show.proofs.ChangeLemmas.{is_cue_of-parts_of, is_entry-port_of}
 use Rattle.cue_exchange.specs.declared.attempt.DeviceAnswer.{DeviceAnswer}
 use Rattle.cue_exchange.specs.declared.attempt.Attempt.{Attempt}
 use Rattle.cue_exchange.specs.declared.limits.TheConstants.{LAST_NUMBER}
-use Rattle.cue_exchange.specs.Answers.{devices_of, stands}
-use Rattle.cue_exchange.specs.Live.{is_number, is_moment, is_open, is_sound, are_sound_devices, is_attempt}
+use Rattle.cue_exchange.specs.Answers.{devices_of, has_required, stands}
+use Rattle.cue_exchange.specs.Live.{is_number, is_moment, is_open, is_sound, have_sound_devices, is_attempt}
 use Rattle.cue_exchange.proofs.LiveRules.{attempts_of}
 use Rattle.cue_exchange.proofs.Lists.{all_weaker, all_map}
-use Rattle.cue_core.specs.State.{ShowState, cue_parts, is_at_cue, is_state}
+use Rattle.cue_core.specs.State.{ShowState, cue_parts, is_of_part, are_of_parts, is_at_cue, is_state}
 use Rattle.cue_core.specs.Pending.{bytes_for}
 use Rattle.cue_core.proofs.Rules.{rules_of}
 use Rattle.cue_outbox.proofs.Facts.{number_text, number_short}
@@ -58,9 +58,19 @@ part_device p h = (and_parts (is_device p.device) (nat_le (length p.bytes) MAX_P
 -- the parts of a cue, each by itself
 each_part : (parts : List Part) → IsTrue (are_parts parts) → IsTrue (list_all is_part parts)
 each_part parts h =
-    let some = and_parts (nat_le 1 (length parts)) (nat_le (length parts) MAX_PARTS && (distinct (devices_in parts) && list_all is_part parts)) h in
+    let some = and_parts (has_required_part parts) (nat_le (length parts) MAX_PARTS && (distinct (devices_in parts) && list_all is_part parts)) h in
     let few = and_parts (nat_le (length parts) MAX_PARTS) (distinct (devices_in parts) && list_all is_part parts) some.1 in
     (and_parts (distinct (devices_in parts)) (list_all is_part parts) few.1).1
+
+-- the devices of the answers are those of the parts
+pub devices_same : (parts : List Part) (answers : List DeviceAnswer) → IsTrue (are_of_parts parts answers) → devices_of answers ≡ devices_in parts
+devices_same [] [] h = refl
+devices_same [] (x ∷ xs) h = absurd cc
+devices_same (p ∷ ps) [] h = absurd cc
+devices_same (p ∷ ps) (x ∷ xs) h =
+    let k = and_parts (is_of_part p x) (are_of_parts ps xs) h in
+    let same : p.device ≡ x.device = eqb-true p.device x.device (and_parts (nat_eq p.device x.device) (beq p.optional x.optional) k.0).0 in
+    rw (same, devices_same ps xs k.1) refl
 
 -- what holds of each device of the parts, of each device of the attempt
 pub devices_each : (test : ℕ → Bool) (answers : List DeviceAnswer) (parts : List Part) → devices_of answers ≡ devices_in parts → IsTrue (list_all (λ p. test p.device) parts)
@@ -84,26 +94,26 @@ record IsNumbered (a : Attempt) : Type 0 where
 numbered : (a : Attempt) → IsTrue (is_attempt a) → IsNumbered a
 numbered a h =
     let whole = and_parts (is_sound a) (is_open a.stage a.answers) h in
-    let first = and_parts (is_number a.seq) (is_moment a.deadline && (are_sound_devices (devices_of a.answers) && list_all (stands a.stage) a.answers)) whole.0 in
-    let then = and_parts (is_moment a.deadline) (are_sound_devices (devices_of a.answers) && list_all (stands a.stage) a.answers) first.1 in
-    let sound = and_parts (are_sound_devices (devices_of a.answers)) (list_all (stands a.stage) a.answers) then.1 in
+    let first = and_parts (is_number a.seq) (is_moment a.deadline && (have_sound_devices a.answers && list_all (stands a.stage) a.answers)) whole.0 in
+    let then = and_parts (is_moment a.deadline) (have_sound_devices a.answers && list_all (stands a.stage) a.answers) first.1 in
+    let sound = and_parts (have_sound_devices a.answers) (list_all (stands a.stage) a.answers) then.1 in
     let below : a.seq ≤ LAST_NUMBER = leb-true a.seq LAST_NUMBER (and_parts (nat_le 1 a.seq) (nat_le a.seq LAST_NUMBER) first.0).1 in
     record {
       number = omega arith;
-      distinct = (and_parts (nat_le 1 (length (devices_of a.answers))) (distinct (devices_of a.answers)) sound.0).1;
+      distinct = (and_parts (has_required a.answers) (distinct (devices_of a.answers)) sound.0).1;
     }
 
 told : (s : ShowState) (a : Attempt) → IsTrue (is_show s.show) → IsTrue (is_attempt a) → IsTrue (is_at_cue s.show a) → IsTold s a
 told s a rules attempt at = by (parts_of s.show a.cue) refl (is_cue_of-parts_of s.show a.cue rules) at
   where
     by : (o : Option (List Part)) → parts_of s.show a.cue ≡ o → IfSome o (λ parts. IsTrue (is_cue_of s.show (a.cue, parts)))
-        → IsTrue (option_map_or (λ parts. pointwise nat_eq (devices_of a.answers) (devices_in parts)) o false) → IsTold s a
+        → IsTrue (option_map_or (λ parts. are_of_parts parts a.answers) o false) → IsTold s a
     by None e cue same = absurd cc
     by (Some parts) e cue same =
         let c = and_parts (is_cue_number a.cue) (are_parts parts && are_known s.show parts) cue in
         let p = and_parts (are_parts parts) (are_known s.show parts) c.1 in
         let each = each_part parts p.0 in
-        let devices : devices_of a.answers ≡ devices_in parts = (bytes_decides (devices_of a.answers) (devices_in parts)).0 same in
+        let devices : devices_of a.answers ≡ devices_in parts = devices_same parts a.answers same in
         let n = numbered a attempt in
         record {
           number = n.number;

@@ -3,7 +3,7 @@ use Rattle.std.specs.Prelude.{◌≡◌, ◌≢◌, ℕ, Bool, List, filter, Opt
 use Rattle.std.specs.List.{AllPairs, filter_map, list_all}
 use Rattle.cue_show.specs.Devices.{is_among}
 use Rattle.cue_core.specs.declared.event.Event.{Event}
-use Rattle.cue_core.specs.declared.event.Event.TheVariants.{Device, NoDevice, Cue, NoCue, Place, Start, Ready, Go, Done, Cancel, LetGo, Failed}
+use Rattle.cue_core.specs.declared.event.Event.TheVariants.{Device, NoDevice, Cue, NoCue, Place, Start, Ready, Go, Done, Cancel, LetGo, Failed, Excuse}
 use Rattle.cue_core.specs.State.{ShowState, is_state}
 use Rattle.cue_core.specs.declared.command.Command.{Command}
 use Rattle.cue_core.specs.Steps.{are_acceptable, folded}
@@ -33,6 +33,7 @@ number_asked (Done q d) = None
 number_asked (Cancel q r) = Some q
 number_asked (LetGo q d) = None
 number_asked (Failed q d) = None
+number_asked (Excuse q d) = None
 
 -- some of the events ask the devices of q anew
 abbrev pub is_asked : ℕ → List Event → Bool

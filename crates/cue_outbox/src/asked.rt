@@ -38,6 +38,6 @@ fn number_asked(event: &Event) -> Option<u32>
         Event::Device(_, _) | Event::NoDevice(_) => None,
         Event::Cue(_, _) | Event::NoCue(_) | Event::Place(_) => None,
         Event::Ready(_, _) | Event::Done(_, _) => None,
-        Event::LetGo(_, _) | Event::Failed(_, _) => None,
+        Event::LetGo(_, _) | Event::Failed(_, _) | Event::Excuse(_, _) => None,
     }
 }

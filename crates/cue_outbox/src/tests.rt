@@ -14,8 +14,8 @@ mod many;
 mod replies;
 mod status;
 
-// The device of a part, and its bytes.
-type Task = (u8, &'static [u8]);
+// The device of a part, whether it is optional, and its bytes.
+type Task = (u8, bool, &'static [u8]);
 
 // An event. Attempts are named by number; each has until 11000.
 enum Step {
@@ -29,6 +29,7 @@ enum Step {
     Cancel(u32, Reason),
     LetGo(u32, u8),
     Failed(u32, u8),
+    Excuse(u32, u8),
 }
 
 // A port, and the bytes that are sent to it.
@@ -38,8 +39,15 @@ type Wanted = (u16, &'static str);
 const SHOW: [Step; 4] = [
     Step::Device(3, 9001),
     Step::Device(4, 9002),
-    Step::Cue(b"1", &[(3, b"\x0a\x0b"), (4, b"")]),
-    Step::Cue(b"2", &[(3, b"")]),
+    Step::Cue(b"1", &[(3, false, b"\x0a\x0b"), (4, false, b"")]),
+    Step::Cue(b"2", &[(3, false, b"")]),
+];
+
+// Devices 3 and 4, and cue 1 for both of them, which may go without device 4.
+const MIXED: [Step; 3] = [
+    Step::Device(3, 9001),
+    Step::Device(4, 9002),
+    Step::Cue(b"1", &[(3, false, b"\x0a\x0b"), (4, true, b"")]),
 ];
 
 fn cue(text: &[u8]) -> Result<CueNo, Fail> {
@@ -52,8 +60,8 @@ fn device(number: u8) -> Result<DeviceNo, Fail> {
 
 fn parts(alloc: Global, tasks: &[Task]) -> Result<Parts, Fail> {
     let mut parts = Parts::new(alloc);
-    for (number, bytes) in tasks {
-        parts.push(Part::of(alloc, device(*number)?, bytes)?)?;
+    for (number, optional, bytes) in tasks {
+        parts.push(Part::of(alloc, device(*number)?, *optional, bytes)?)?;
     }
     Ok(parts)
 }
@@ -70,6 +78,7 @@ fn event(alloc: Global, step: &Step) -> Result<Event, Fail> {
         Step::Cancel(seq, reason) => Event::Cancel(*seq, *reason),
         Step::LetGo(seq, number) => Event::LetGo(*seq, device(*number)?),
         Step::Failed(seq, number) => Event::Failed(*seq, device(*number)?),
+        Step::Excuse(seq, number) => Event::Excuse(*seq, device(*number)?),
     })
 }
 
@@ -127,10 +136,11 @@ fn expect_pending(
     rt: &impl Abort,
     alloc: Global,
     state: &mut State,
+    show: &[Step],
     steps: &[Step],
     wanted: &[Wanted],
 ) -> Result<(), Fail> {
-    run(rt, alloc, state, &SHOW)?;
+    run(rt, alloc, state, show)?;
     run(rt, alloc, state, steps)?;
     let outs = pending(alloc, state)?;
     expect_all(rt, alloc, &outs, wanted)

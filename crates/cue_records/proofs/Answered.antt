@@ -13,17 +13,17 @@ use Rattle.cue_records.proofs.Counted.{with_front, regroup}
 
 -- the answers of the parts from one on
 answers_from : (parts : List Part) (i : ℕ) (p : Part) (bytes : List ℕ) → i < length parts → p ≡ get_or parts i p
-    → answers_at (drop i parts) bytes ≡ (one_answer_at bytes >>= λ a. answers_at (drop (i + 1) parts) a.1 >>= λ xs. Some (record { device = p.device; answer = a.0 } ∷ xs.0, xs.1))
+    → answers_at (drop i parts) bytes ≡ (one_answer_at bytes >>= λ a. answers_at (drop (i + 1) parts) a.1 >>= λ xs. Some (record { device = p.device; optional = p.optional; answer = a.0 } ∷ xs.0, xs.1))
 unfolding answers_at
 answers_from parts i p bytes lt is =
     let e : drop i parts ≡ p ∷ drop (i + 1) parts = rw (add-one, drop-cons parts i p) (ap (λ q. q ∷ drop (suc i) parts) (sym is)) in
     rw e refl
 
 pub answers_go_on : (front : List DeviceAnswer) (parts : List Part) (i : ℕ) (p : Part) (bytes : List ℕ) (a : Answer) (after : List ℕ) (total : Option (List DeviceAnswer × List ℕ)) → i < length parts → p ≡ get_or parts i p → one_answer_at bytes ≡ Some (a, after)
-    → with_front front (answers_at (drop i parts) bytes) ≡ total → with_front (front ++ record { device = p.device; answer = a } ∷ []) (answers_at (drop (i + 1) parts) after) ≡ total
+    → with_front front (answers_at (drop i parts) bytes) ≡ total → with_front (front ++ record { device = p.device; optional = p.optional; answer = a } ∷ []) (answers_at (drop (i + 1) parts) after) ≡ total
 answers_go_on front parts i p bytes a after total lt is h so_far =
-    let one : with_front front (answers_at (drop i parts) bytes) ≡ with_front (front ++ record { device = p.device; answer = a } ∷ []) (answers_at (drop (i + 1) parts) after) =
-    ap (with_front front) (answers_from parts i p bytes lt is) ∙ rw h (regroup front (record { device = p.device; answer = a }) (answers_at (drop (i + 1) parts) after)) in
+    let one : with_front front (answers_at (drop i parts) bytes) ≡ with_front (front ++ record { device = p.device; optional = p.optional; answer = a } ∷ []) (answers_at (drop (i + 1) parts) after) =
+    ap (with_front front) (answers_from parts i p bytes lt is) ∙ rw h (regroup front (record { device = p.device; optional = p.optional; answer = a }) (answers_at (drop (i + 1) parts) after)) in
     sym one ∙ so_far
 
 pub answers_end : (e : ReadFault) (front : List DeviceAnswer) (parts : List Part) (i : ℕ) (p : Part) (bytes : List ℕ) (total : Option (List DeviceAnswer × List ℕ)) → i < length parts → p ≡ get_or parts i p → Fails e (one_answer_at bytes)

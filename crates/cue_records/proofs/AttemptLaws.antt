@@ -2,14 +2,14 @@
 use Rattle.std.proofs.Common.{◌≡◌, ℕ, ◌<◌, ◌≤◌, Bool, true, false, ◌&&◌, List, [], ◌∷◌, ◌++◌, length, Option, Some, None, IsTrue, nat_eq, nat_le, nat_lt, refl, sym, ap, subst, ◌∙◌, append_assoc, arith}
 use Rattle.std.specs.Option.{option_map_or}
 use Rattle.std.specs.List.{list_all}
-use Rattle.std.specs.Cmp.Lexicographic.{pointwise}
+use Rattle.std.specs.Bool.{beq}
+use Rattle.std.specs.Cmp.{bool_eq_equiv, booleans_Decides}
 use Rattle.std.proofs.lemmas.Bool.{le-leb, ltb-true, le-ltb}
 use Rattle.cue_show.specs.Bytes.{are_bytes}
-use Rattle.cue_show.specs.Devices.{disjoint, devices_in}
+use Rattle.cue_show.specs.Devices.{disjoint}
 use Rattle.cue_show.specs.Number.{is_cue_number}
 use Rattle.cue_show.specs.Show.{ShowLists, parts_of}
 use Rattle.cue_show.specs.declared.part.Part.{Part}
-use Rattle.cue_show.proofs.TextLemmas.{same_text-true, same_text-itself}
 use Rattle.cue_exchange.specs.Answers.{devices_of}
 use Rattle.cue_exchange.specs.Live.{is_number, is_moment, are_live, goes_before}
 use Rattle.cue_exchange.specs.Steps.{are_below, can_put, with_attempt}
@@ -24,8 +24,8 @@ use Rattle.cue_exchange.specs.declared.limits.TheConstants.{MAX_LIVE}
 use Rattle.cue_exchange.proofs.Lists.{all_weaker, before_next}
 use Rattle.cue_exchange.proofs.LiveRules.{order_of}
 use Rattle.cue_exchange.proofs.LookUps.{can_put-next}
-use Rattle.cue_core.specs.State.{is_at_cue}
-use Rattle.cue_core.proofs.Conditions.{both, join}
+use Rattle.cue_core.specs.State.{is_of_part, are_of_parts, is_at_cue}
+use Rattle.cue_core.proofs.Conditions.{both, join, same_number, same_self}
 use Rattle.cue_records.specs.Fields.{byte_text, number_text, moment_text, text_text}
 use Rattle.cue_records.specs.State.{stage_number, answer_number, answers_text, attempt_text, live_text}
 use Rattle.cue_records.specs.Reading.{◌>>=◌}
@@ -77,7 +77,8 @@ answer_numbered n =
     (step_number answer_number n 1 answer.Ready _ refl
     (step_number answer_number n 2 answer.Done _ refl
     (step_number answer_number n 3 answer.LetGo _ refl
-    (step_number answer_number n 4 answer.Failed None refl (λ a e. absurd cc)))))
+    (step_number answer_number n 4 answer.Failed _ refl
+    (step_number answer_number n 5 answer.Excused None refl (λ a e. absurd cc))))))
 
 answer_again : (a : Answer) → answer_of (answer_number a) ≡ Some a
 answer_again answer.Waiting = refl
@@ -85,6 +86,7 @@ answer_again answer.Ready = refl
 answer_again answer.Done = refl
 answer_again answer.LetGo = refl
 answer_again answer.Failed = refl
+answer_again answer.Excused = refl
 
 answer_byte : (a : Answer) → IsTrue (nat_le (answer_number a) 255)
 answer_byte answer.Waiting = refl
@@ -92,38 +94,49 @@ answer_byte answer.Ready = refl
 answer_byte answer.Done = refl
 answer_byte answer.LetGo = refl
 answer_byte answer.Failed = refl
+answer_byte answer.Excused = refl
 
 answer_field : IsField one_answer_at (λ a. byte_text (answer_number a)) (λ a. true)
 unfolding one_answer_at
 answer_field = made_field answer_of answer_number (λ a. true) byte_field (λ n a h e. (answer_numbered n a e, refl)) (λ a h. answer_again a) (λ a h. answer_byte a)
 
--- an answer for each part was taken
+-- an answer for the device of each part was taken
 abbrev TakesAnswers : List Part → List ℕ → List DeviceAnswer × List ℕ → Type 0
-TakesAnswers ps bytes y = (bytes ≡ answers_text y.0 ++ y.1) × (devices_of y.0 ≡ devices_in ps)
+TakesAnswers ps bytes y = (bytes ≡ answers_text y.0 ++ y.1) × IsTrue (are_of_parts ps y.0)
+
+-- the device of a part, with an answer
+abbrev answering : Part → Answer → DeviceAnswer
+answering p a = record { device = p.device; optional = p.optional; answer = a }
+
+answering_is : (p : Part) (a : Answer) → IsTrue (is_of_part p (answering p a))
+answering_is p a = join (nat_eq p.device p.device) (beq p.optional p.optional) (same_self p.device) (bool_eq_equiv.refl p.optional)
+
+is_answering : (p : Part) (x : DeviceAnswer) → IsTrue (is_of_part p x) → answering p x.answer ≡ x
+is_answering p x h =
+    let k = both (nat_eq p.device x.device) (beq p.optional x.optional) h in
+    let device : p.device ≡ x.device = same_number p.device x.device k.0 in
+    let optional : p.optional ≡ x.optional = (booleans_Decides p.optional x.optional).0 k.1 in
+    ap (λ d. record { device = d; optional = p.optional; answer = x.answer }) device ∙ ap (λ o. record { device = x.device; optional = o; answer = x.answer }) optional
 
 answers_take : (ps : List Part) (bytes : List ℕ) (y : List DeviceAnswer × List ℕ) → IsTrue (are_bytes bytes) → answers_at ps bytes ≡ Some y → TakesAnswers ps bytes y
 unfolding answers_at
 answers_take [] bytes y b e = subst (TakesAnswers [] bytes) (some_is ([], bytes) y e) (refl, refl)
 answers_take (p ∷ ps) bytes y b e =
-    let a = bind_some (one_answer_at bytes) (λ a. answers_at ps a.1 >>= λ xs. Some (record { device = p.device; answer = a.0 } ∷ xs.0, xs.1)) y e in
-    let m = bind_some (answers_at ps a.0.1) (λ xs. Some (record { device = p.device; answer = a.0.0 } ∷ xs.0, xs.1)) y a.2 in
+    let a = bind_some (one_answer_at bytes) (λ a. answers_at ps a.1 >>= λ xs. Some (answering p a.0 ∷ xs.0, xs.1)) y e in
+    let m = bind_some (answers_at ps a.0.1) (λ xs. Some (answering p a.0.0 ∷ xs.0, xs.1)) y a.2 in
     let t = answer_field.takes bytes a.0 b a.1 in
     let u = answers_take ps a.0.1 m.0 (bytes_behind bytes (byte_text (answer_number a.0.0)) a.0.1 t.0 b) m.1 in
-    let made : List DeviceAnswer × List ℕ = (record { device = p.device; answer = a.0.0 } ∷ m.0.0, m.0.1) in
-    subst (TakesAnswers (p ∷ ps) bytes) (some_is made y m.2) (t.0 ∙ ap (λ bs. answer_number a.0.0 ∷ bs) u.0, ap (λ ds. p.device ∷ ds) u.1)
+    let made : List DeviceAnswer × List ℕ = (answering p a.0.0 ∷ m.0.0, m.0.1) in
+    subst (TakesAnswers (p ∷ ps) bytes) (some_is made y m.2) (t.0 ∙ ap (λ bs. answer_number a.0.0 ∷ bs) u.0, join (is_of_part p (answering p a.0.0)) (are_of_parts ps m.0.0) (answering_is p a.0.0) u.1)
 
--- the first of two lists that are the same
-heads : (a b : ℕ) (xs ys : List ℕ) → a ∷ xs ≡ b ∷ ys → (a ≡ b) × (xs ≡ ys)
-heads a b xs ys e = (cc, cc)
-
-answers_again : (xs : List DeviceAnswer) (ps : List Part) (rest : List ℕ) → devices_of xs ≡ devices_in ps → answers_at ps (answers_text xs ++ rest) ≡ Some (xs, rest)
+answers_again : (xs : List DeviceAnswer) (ps : List Part) (rest : List ℕ) → IsTrue (are_of_parts ps xs) → answers_at ps (answers_text xs ++ rest) ≡ Some (xs, rest)
 unfolding answers_at
 answers_again [] [] rest e = refl
 answers_again [] (p ∷ ps) rest e = absurd cc
 answers_again (x ∷ xs) [] rest e = absurd cc
 answers_again (x ∷ xs) (p ∷ ps) rest e =
-    let k = heads x.device p.device (devices_of xs) (devices_in ps) e in
-    rw (answer_field.again x.answer (answers_text xs ++ rest) refl, answers_again xs ps rest k.1) (ap (λ d. Some (record { device = d; answer = x.answer } ∷ xs, rest)) (sym k.0))
+    let k = both (is_of_part p x) (are_of_parts ps xs) e in
+    rw (answer_field.again x.answer (answers_text xs ++ rest) refl, answers_again xs ps rest k.1) (ap (λ z. Some (z ∷ xs, rest)) (is_answering p x k.0))
 
 -- ---- attempts
 
@@ -150,8 +163,8 @@ abbrev attempt_of : ℕ × (List ℕ × (ℕ × Stage)) → List DeviceAnswer �
 attempt_of h xs = record { seq = h.0; cue = h.1.0; deadline = h.1.1.0; stage = h.1.1.1; answers = xs }
 
 -- the devices are those of the parts
-at_parts : (o : Option (List Part)) (ps : List Part) (ds : List ℕ) → o ≡ Some ps → ds ≡ devices_in ps → IsTrue (option_map_or (λ parts. pointwise nat_eq ds (devices_in parts)) o false)
-at_parts o ps ds e same = rw (e, same) (same_text-itself (devices_in ps))
+at_parts : (o : Option (List Part)) (ps : List Part) (xs : List DeviceAnswer) → o ≡ Some ps → IsTrue (are_of_parts ps xs) → IsTrue (option_map_or (λ parts. are_of_parts parts xs) o false)
+at_parts o ps xs e h = rw e h
 
 attempt_takes : (show : ShowLists) (bytes : List ℕ) (y : Attempt × List ℕ) → IsTrue (are_bytes bytes) → attempt_at show bytes ≡ Some y → Takes attempt_text (attempt_fits show) bytes y
 unfolding attempt_at
@@ -165,15 +178,15 @@ attempt_takes show bytes y b e =
     let xs = m.0.0 in
     let parts : bytes ≡ attempt_text (attempt_of h xs) ++ m.0.1 =
     t.0 ∙ ap (λ bs. head_text h ++ bs) u.0 ∙ grouped (number_text h.0) (text_text h.1.0) (moment_text h.1.1.0) (byte_text (stage_number h.1.1.1)) (answers_text xs) m.0.1 in
-    let at : IsTrue (is_at_cue show (attempt_of h xs)) = at_parts (parts_of show h.1.0) p.0 (devices_of xs) p.1 u.1 in
+    let at : IsTrue (is_at_cue show (attempt_of h xs)) = at_parts (parts_of show h.1.0) p.0 xs p.1 u.1 in
     subst (Takes attempt_text (attempt_fits show) bytes) (some_is (attempt_of h xs, m.0.1) y m.2) (parts, join (head_fits h) (is_at_cue show (attempt_of h xs)) t.1 at)
 
-pub parts_found : (show : ShowLists) (a : Attempt) → IsTrue (is_at_cue show a) → (ps : List Part) × (parts_of show a.cue ≡ Some ps) × (devices_of a.answers ≡ devices_in ps)
+pub parts_found : (show : ShowLists) (a : Attempt) → IsTrue (is_at_cue show a) → (ps : List Part) × (parts_of show a.cue ≡ Some ps) × IsTrue (are_of_parts ps a.answers)
 parts_found show a h = by (parts_of show a.cue) h
   where
-    by : (o : Option (List Part)) → IsTrue (option_map_or (λ parts. pointwise nat_eq (devices_of a.answers) (devices_in parts)) o false) → (ps : List Part) × (o ≡ Some ps) × (devices_of a.answers ≡ devices_in ps)
+    by : (o : Option (List Part)) → IsTrue (option_map_or (λ parts. are_of_parts parts a.answers) o false) → (ps : List Part) × (o ≡ Some ps) × IsTrue (are_of_parts ps a.answers)
     by None h = absurd cc
-    by (Some ps) h = (ps, refl, same_text-true (devices_of a.answers) (devices_in ps) h)
+    by (Some ps) h = (ps, refl, h)
 
 attempt_again : (show : ShowLists) (a : Attempt) (rest : List ℕ) → IsTrue (attempt_fits show a) → attempt_at show (attempt_text a ++ rest) ≡ Some (a, rest)
 unfolding attempt_at

@@ -1,5 +1,5 @@
 -- Each field: what is read is spelled so and fits, and is read again.
-use Rattle.std.proofs.Common.{◌≡◌, ℕ, ◌≤◌, Bool, true, false, cond, ◌&&◌, ◌==◌, List, [], ◌∷◌, ◌++◌, length, take, drop, Option, Some, None, IsTrue, nat_le, ltb, refl, sym, ap, subst, ◌∙◌, arith}
+use Rattle.std.proofs.Common.{◌≡◌, ℕ, ◌≤◌, Bool, true, false, cond, ◌&&◌, ◌==◌, List, [], ◌∷◌, ◌++◌, length, take, drop, Option, Some, None, not, IsTrue, nat_le, ltb, refl, sym, ap, subst, ◌∙◌, arith}
 use Rattle.std.specs.Char.{is_ascii_digit}
 use Rattle.std.specs.List.{list_all}
 use Rattle.std.specs.Int.{w64}
@@ -10,16 +10,19 @@ use Rattle.cue_show.specs.Bytes.{are_bytes}
 use Rattle.cue_show.specs.DeviceNumber.{is_device, is_port}
 use Rattle.cue_show.specs.Devices.{distinct, devices_in}
 use Rattle.cue_show.specs.Number.{pieces, is_run, is_cue_number}
-use Rattle.cue_show.specs.Parts.{is_part, are_parts}
+use Rattle.cue_show.specs.Parts.{is_part, is_required_part, has_required_part, are_parts}
 use Rattle.cue_show.specs.declared.limits.TheConstants.{LAST_DEVICE, MAX_CUE_BYTES, MAX_PARTS, MAX_PART_BYTES}
+use Rattle.cue_show.specs.declared.part.Part.{Part}
 use Rattle.cue_show.proofs.RunsLemmas.{runs_from, runs_from-start}
 use Rattle.cue_exchange.specs.Live.{is_number, is_moment}
 use Rattle.cue_exchange.specs.declared.attempt.Reason.{Reason}
 use Rattle.cue_exchange.specs.declared.attempt.Reason.TheVariants.{Operator, Deadline, Abort, Power, Release}
 use Rattle.cue_exchange.specs.declared.limits.TheConstants.{LAST_NUMBER}
-use Rattle.cue_core.proofs.Conditions.{both, join}
-use Rattle.cue_records.specs.Fields.{byte_text, short_text, number_text, moment_text, text_text, part_text, parts_text, entry_text, new_cue_text, reason_number}
-use Rattle.cue_records.specs.Reading.{byte_at, number_at, bytes_at, text_at, device_at, port_at, sequence_at, cue_at, part_bytes_at, part_at, part_count_at, parts_at, entry_at, new_cue_at, reason_of, reason_at}
+use Rattle.cue_core.proofs.Conditions.{both, join, all_from, all_zip}
+use Rattle.cue_records.specs.declared.version.Version.{Version}
+use Rattle.cue_records.specs.declared.version.Version.TheVariants.{One, Two}
+use Rattle.cue_records.specs.Fields.{byte_text, short_text, number_text, moment_text, text_text, flag_number, flag_text, part_text, parts_text, have_text, entry_text, new_cue_text, reason_number}
+use Rattle.cue_records.specs.Reading.{byte_at, number_at, bytes_at, text_at, device_at, port_at, sequence_at, cue_at, part_bytes_at, flag_of, flag_at, part_at, part_count_at, parts_at, entry_at, new_cue_at, reason_of, reason_at}
 use Rattle.cue_records.proofs.Taking.{Takes, IsField, bind_some, else_some, some_is, bytes_apart, bytes_behind, refit, where_field, test_field, as_field, made_field, both_field, counted_field}
 use Rattle.cue_records.proofs.Numbers.{field16, field32, field64}
 
@@ -161,38 +164,120 @@ unfolding part_bytes_at
 part_bytes_field =
     refit (λ t. nat_le (length t) MAX_PART_BYTES && are_bytes t) (where_field (λ t. nat_le (length t) MAX_PART_BYTES) text_field) (bytes_short MAX_PART_BYTES 255) (short_bytes MAX_PART_BYTES 255 (omega arith))
 
-part_field : IsField part_at part_text is_part
+flag_numbered : (n : ℕ) (o : Bool) → flag_of n ≡ Some o → flag_number o ≡ n
+flag_numbered n =
+    step_number flag_number n 0 false _ refl
+    (step_number flag_number n 1 true None refl (λ o e. absurd cc))
+
+flag_again : (o : Bool) → flag_of (flag_number o) ≡ Some o
+flag_again false = refl
+flag_again true = refl
+
+flag_byte : (o : Bool) → IsTrue (nat_le (flag_number o) 255)
+flag_byte false = refl
+flag_byte true = refl
+
+-- version 1 tells required parts alone
+abbrev flag_fits : Version → Bool → Bool
+flag_fits One optional = not optional
+flag_fits Two optional = true
+
+no_flag_takes : (bytes : List ℕ) (x : Bool × List ℕ) → flag_at One bytes ≡ Some x → Takes (flag_text One) (flag_fits One) bytes x
+unfolding flag_at
+no_flag_takes bytes x e = subst (Takes (flag_text One) (flag_fits One) bytes) (some_is (false, bytes) x e) (refl, refl)
+
+no_flag_again : (o : Bool) (rest : List ℕ) → IsTrue (flag_fits One o) → flag_at One (flag_text One o ++ rest) ≡ Some (o, rest)
+unfolding flag_at
+no_flag_again false rest h = refl
+no_flag_again true rest h = absurd cc
+
+flag_field : (version : Version) → IsField (flag_at version) (flag_text version) (flag_fits version)
+unfolding flag_at
+flag_field One = record { takes = λ bytes x b e. no_flag_takes bytes x e; again = no_flag_again }
+flag_field Two = made_field flag_of flag_number (λ o. true) byte_field (λ n o h e. (flag_numbered n o e, refl)) (λ o h. flag_again o) (λ o h. flag_byte o)
+
+-- the part has a text in the version
+abbrev part_fits : Version → Part → Bool
+part_fits version p = is_part p && flag_fits version p.optional
+
+-- the same three tests in another order
+last_but_one : (a b c : Bool) → IsTrue (a && (b && c)) → IsTrue ((a && c) && b)
+last_but_one true true c h = rw h refl
+last_but_one false b c h = absurd cc
+last_but_one true false c h = absurd cc
+
+last_again : (a b c : Bool) → IsTrue ((a && c) && b) → IsTrue (a && (b && c))
+last_again true b true h = rw h refl
+last_again false b c h = absurd cc
+last_again true b false h = absurd cc
+
+part_field : (version : Version) → IsField (part_at version) (part_text version) (part_fits version)
 unfolding part_at
-part_field = as_field (λ x. record { device = x.0; bytes = x.1 }) (λ p. (p.device, p.bytes)) (both_field device_field part_bytes_field) (λ x. refl) (λ p. refl)
+part_field version =
+    refit (part_fits version)
+    (as_field (λ x. record { device = x.0; optional = x.1.0; bytes = x.1.1 }) (λ p. (p.device, (p.optional, p.bytes))) (both_field device_field (both_field (flag_field version) part_bytes_field)) (λ x. refl) (λ p. refl))
+    (λ p h. last_but_one (is_device p.device) (flag_fits version p.optional) (nat_le (length p.bytes) MAX_PART_BYTES && are_bytes p.bytes) h)
+    (λ p h. last_again (is_device p.device) (flag_fits version p.optional) (nat_le (length p.bytes) MAX_PART_BYTES && are_bytes p.bytes) h)
 
-abbrev is_part_count : ℕ → Bool
-is_part_count n = nat_le 1 n && nat_le n MAX_PARTS
+-- what each part is
+all_fit : (version : Version) (ps : List Part) → IsTrue (list_all (part_fits version) ps) → IsTrue (list_all is_part ps) × IsTrue (have_text version ps)
+all_fit One ps h =
+    (all_from (part_fits One) is_part ps (λ p k. (both (is_part p) (flag_fits One p.optional) k).0) h, all_from (part_fits One) is_required_part ps (λ p k. (both (is_part p) (flag_fits One p.optional) k).1) h)
+all_fit Two ps h = (all_from (part_fits Two) is_part ps (λ p k. (both (is_part p) (flag_fits Two p.optional) k).0) h, refl)
 
-part_count_byte : (n : ℕ) → IsTrue (is_part_count n) → IsTrue (nat_le n 255)
-part_count_byte n h = let k : n ≤ MAX_PARTS = leb-true n MAX_PARTS (both (nat_le 1 n) (nat_le n MAX_PARTS) h).1 in le-leb n 255 (omega arith)
+each_fits : (version : Version) (ps : List Part) → IsTrue (list_all is_part ps) → IsTrue (have_text version ps) → IsTrue (list_all (part_fits version) ps)
+each_fits One ps h k = all_zip is_part is_required_part (part_fits One) ps (λ p a b. join (is_part p) (flag_fits One p.optional) a b) h k
+each_fits Two ps h k = all_from is_part (part_fits Two) ps (λ p a. join (is_part p) true a refl) h
 
-part_count_field : IsField part_count_at byte_text is_part_count
+part_count_byte : (n : ℕ) → IsTrue (nat_le n MAX_PARTS) → IsTrue (nat_le n 255)
+part_count_byte n h = let k : n ≤ MAX_PARTS = leb-true n MAX_PARTS h in le-leb n 255 (omega arith)
+
+part_count_field : IsField part_count_at byte_text (λ n. nat_le n MAX_PARTS)
 unfolding part_count_at
-part_count_field = test_field is_part_count byte_field part_count_byte
+part_count_field = test_field (λ n. nat_le n MAX_PARTS) byte_field part_count_byte
 
--- the same four tests in another order
-turned : (a b c d : Bool) → IsTrue (c && ((a && b) && d)) → IsTrue (a && (b && (c && d)))
-turned true true true d h = h
-turned a b false d h = absurd cc
-turned false b true d h = absurd cc
-turned true false true d h = absurd cc
+-- the rules of a list of parts, one by one
+pub record PartsRules (ps : List Part) : Type 0 where
+  pub some : IsTrue (has_required_part ps)
+  pub few : IsTrue (nat_le (length ps) MAX_PARTS)
+  pub apart : IsTrue (distinct (devices_in ps))
+  pub each : IsTrue (list_all is_part ps)
 
-turned_back : (a b c d : Bool) → IsTrue (a && (b && (c && d))) → IsTrue (c && ((a && b) && d))
-turned_back true true c d h = h
-turned_back false b c d h = absurd cc
-turned_back true false c d h = absurd cc
+pub parts_rules : (ps : List Part) → IsTrue (are_parts ps) → PartsRules ps
+parts_rules ps h =
+    let p = both (has_required_part ps) (nat_le (length ps) MAX_PARTS && (distinct (devices_in ps) && list_all is_part ps)) h in
+    let q = both (nat_le (length ps) MAX_PARTS) (distinct (devices_in ps) && list_all is_part ps) p.1 in
+    let r = both (distinct (devices_in ps)) (list_all is_part ps) q.1 in
+    record { some = p.0; few = q.0; apart = r.0; each = r.1 }
 
-pub parts_field : IsField parts_at parts_text are_parts
+-- as the reader tests them
+abbrev are_tested : Version → List Part → Bool
+are_tested version ps = (has_required_part ps && distinct (devices_in ps)) && (nat_le (length ps) MAX_PARTS && list_all (part_fits version) ps)
+
+tested_parts : (version : Version) (ps : List Part) → IsTrue (are_tested version ps) → IsTrue (are_parts ps && have_text version ps)
+tested_parts version ps h =
+    let p = both (has_required_part ps && distinct (devices_in ps)) (nat_le (length ps) MAX_PARTS && list_all (part_fits version) ps) h in
+    let q = both (has_required_part ps) (distinct (devices_in ps)) p.0 in
+    let r = both (nat_le (length ps) MAX_PARTS) (list_all (part_fits version) ps) p.1 in
+    let t = all_fit version ps r.1 in
+    join (are_parts ps) (have_text version ps)
+    (join (has_required_part ps) (nat_le (length ps) MAX_PARTS && (distinct (devices_in ps) && list_all is_part ps)) q.0
+    (join (nat_le (length ps) MAX_PARTS) (distinct (devices_in ps) && list_all is_part ps) r.0 (join (distinct (devices_in ps)) (list_all is_part ps) q.1 t.0)))
+    t.1
+
+parts_tested : (version : Version) (ps : List Part) → IsTrue (are_parts ps && have_text version ps) → IsTrue (are_tested version ps)
+parts_tested version ps h =
+    let k = both (are_parts ps) (have_text version ps) h in
+    let r = parts_rules ps k.0 in
+    join (has_required_part ps && distinct (devices_in ps)) (nat_le (length ps) MAX_PARTS && list_all (part_fits version) ps)
+    (join (has_required_part ps) (distinct (devices_in ps)) r.some r.apart)
+    (join (nat_le (length ps) MAX_PARTS) (list_all (part_fits version) ps) r.few (each_fits version ps r.each k.1))
+
+pub parts_field : (version : Version) → IsField (parts_at version) (parts_text version) (λ ps. are_parts ps && have_text version ps)
 unfolding parts_at
-parts_field =
-    refit are_parts (where_field (λ ps. distinct (devices_in ps)) (counted_field part_count_field part_field))
-    (λ ps h. turned (nat_le 1 (length ps)) (nat_le (length ps) MAX_PARTS) (distinct (devices_in ps)) (list_all is_part ps) h)
-    (λ ps h. turned_back (nat_le 1 (length ps)) (nat_le (length ps) MAX_PARTS) (distinct (devices_in ps)) (list_all is_part ps) h)
+parts_field version =
+    refit (λ ps. are_parts ps && have_text version ps) (where_field (λ ps. has_required_part ps && distinct (devices_in ps)) (counted_field part_count_field (part_field version)))
+    (tested_parts version) (parts_tested version)
 
 -- ---- entries
 
@@ -200,6 +285,10 @@ pub entry_field : IsField entry_at entry_text (λ x. is_device x.0 && is_port x.
 unfolding entry_at
 entry_field = both_field device_field port_field
 
-pub new_cue_field : IsField new_cue_at new_cue_text (λ x. is_cue_number x.0 && are_parts x.1)
+-- the entry has a text in the version
+abbrev pub new_cue_fits : Version → List ℕ × List Part → Bool
+new_cue_fits version e = is_cue_number e.0 && (are_parts e.1 && have_text version e.1)
+
+pub new_cue_field : (version : Version) → IsField (new_cue_at version) (new_cue_text version) (new_cue_fits version)
 unfolding new_cue_at
-new_cue_field = both_field cue_field parts_field
+new_cue_field version = both_field cue_field (parts_field version)

@@ -1,37 +1,35 @@
 -- What may happen to a state is within the ranges of its text.
-use Rattle.std.proofs.Common.{◌≡◌, ℕ, length, Bool, true, false, not, ◌&&◌, ◌||◌, List, [], ◌∷◌, Option, Some, None, IsTrue, nat_eq, nat_le, refl, sym, subst}
+use Rattle.std.proofs.Common.{◌≡◌, ℕ, Bool, true, false, not, ◌&&◌, ◌||◌, List, [], ◌∷◌, Option, Some, None, IsTrue, length, nat_eq, nat_le, refl, subst}
 use Rattle.std.specs.Prelude.{IfSome, is_some}
-use Rattle.std.specs.List.{list_all}
+use Rattle.std.specs.List.{list_all, list_any}
 use Rattle.std.specs.Option.{option_map_or}
-use Rattle.std.specs.Cmp.Lexicographic.{pointwise}
+use Rattle.std.specs.Bool.{beq}
 use Rattle.cue_show.specs.Bytes.{are_bytes}
 use Rattle.cue_show.specs.DeviceNumber.{is_device, is_port}
-use Rattle.cue_show.specs.Devices.{distinct, devices_in}
 use Rattle.cue_show.specs.Number.{is_cue_number}
 use Rattle.cue_show.specs.Parts.{is_part, are_parts}
 use Rattle.cue_show.specs.Show.{ShowLists, port_of, parts_of, has_device, has_cue, is_used, is_full, are_known, is_entry, is_cue_of, is_show}
-use Rattle.cue_show.specs.declared.limits.TheConstants.{MAX_PARTS, MAX_PART_BYTES}
+use Rattle.cue_show.specs.declared.limits.TheConstants.{MAX_PART_BYTES}
 use Rattle.cue_show.specs.declared.part.Part.{Part}
 use Rattle.cue_show.proofs.ChangeLemmas.{is_cue_of-parts_of, is_entry-port_of}
-use Rattle.cue_show.proofs.TextLemmas.{same_text-true}
-use Rattle.cue_exchange.specs.declared.attempt.Answer.{Answer}
 use Rattle.cue_exchange.specs.declared.attempt.DeviceAnswer.{DeviceAnswer}
 use Rattle.cue_exchange.specs.declared.attempt.Stage.{Stage}
 use Rattle.cue_exchange.specs.declared.attempt.Attempt.{Attempt}
-use Rattle.cue_exchange.specs.Answers.{devices_of, answer_passes, is_waiting, is_preparing, is_decided, is_cancelling, is_concluding}
+use Rattle.cue_exchange.specs.Answers.{devices_of, answer_passes, is_waiting, is_preparing, is_decided, is_cancelling, is_concluding, waits, can_be_excused, is_excusable}
 use Rattle.cue_exchange.specs.Live.{is_number, is_moment, is_attempt, has_number, attempt_of_cue}
-use Rattle.cue_exchange.specs.Steps.{holds, waits_in, can_go_now}
+use Rattle.cue_exchange.specs.Steps.{holds, waits_in, can_go_now, can_excuse_now}
 use Rattle.cue_exchange.proofs.LiveRules.{attempts_of, can_start_parts}
-use Rattle.cue_exchange.proofs.Lists.{all_given, all_map}
+use Rattle.cue_exchange.proofs.Lists.{all_given}
 use Rattle.cue_core.specs.declared.event.Event.{Event}
 use Rattle.cue_core.specs.declared.event.Event.TheVariants as event
-use Rattle.cue_core.specs.State.{ShowState, cue_parts, is_at_cue}
+use Rattle.cue_core.specs.State.{ShowState, cue_parts, is_of_part, are_of_parts, is_at_cue}
 use Rattle.cue_core.specs.Steps.{acceptable, after, are_acceptable}
-use Rattle.cue_core.proofs.Conditions.{both, join, all_from, same_number}
+use Rattle.cue_core.proofs.Conditions.{both, join, same_number}
 use Rattle.cue_core.proofs.Rules.{Rules, rules_of, begins, is_state-after}
 use Rattle.cue_core.proofs.Sound.{attempt_rules}
 use Rattle.cue_records.specs.Batch.{is_event}
 use Rattle.cue_records.specs.Laws.{AcceptableEventsFit}
+use Rattle.cue_records.proofs.FieldLaws.{parts_rules}
 
 -- ---- devices and cues
 
@@ -58,30 +56,33 @@ is_ranged a = is_number a.seq && list_all is_device (devices_of a.answers)
 part_device : (p : Part) → IsTrue (is_part p) → IsTrue (is_device p.device)
 part_device p h = (both (is_device p.device) (nat_le (length p.bytes) MAX_PART_BYTES && are_bytes p.bytes) h).0
 
-parts_devices : (parts : List Part) → IsTrue (are_parts parts) → IsTrue (list_all is_device (devices_in parts))
-parts_devices parts h =
-    let some = both (nat_le 1 (length parts)) (nat_le (length parts) MAX_PARTS && (distinct (devices_in parts) && list_all is_part parts)) h in
-    let few = both (nat_le (length parts) MAX_PARTS) (distinct (devices_in parts) && list_all is_part parts) some.1 in
-    let each = (both (distinct (devices_in parts)) (list_all is_part parts) few.1).1 in
-    all_map is_device (λ p. p.device) parts (all_from is_part (λ p. is_device p.device) parts part_device each)
+-- the devices are those of the parts
+parts_devices : (parts : List Part) (answers : List DeviceAnswer) → IsTrue (list_all is_part parts) → IsTrue (are_of_parts parts answers) → IsTrue (list_all is_device (devices_of answers))
+parts_devices [] [] h same = refl
+parts_devices [] (x ∷ xs) h same = absurd cc
+parts_devices (p ∷ ps) [] h same = absurd cc
+parts_devices (p ∷ ps) (x ∷ xs) h same =
+    let k = both (is_part p) (list_all is_part ps) h in
+    let s = both (is_of_part p x) (are_of_parts ps xs) same in
+    let device = same_number p.device x.device (both (nat_eq p.device x.device) (beq p.optional x.optional) s.0).0 in
+    join (is_device x.device) (list_all is_device (devices_of xs)) (subst (λ d. IsTrue (is_device d)) device (part_device p k.0)) (parts_devices ps xs k.1 s.1)
 
 devices_fit : (show : ShowLists) (a : Attempt) → IsTrue (is_show show) → IsTrue (is_at_cue show a) → IsTrue (list_all is_device (devices_of a.answers))
 devices_fit show a rules at = by (parts_of show a.cue) (is_cue_of-parts_of show a.cue rules) at
   where
     by : (o : Option (List Part)) → IfSome o (λ parts. IsTrue (is_cue_of show (a.cue, parts)))
-        → IsTrue (option_map_or (λ parts. pointwise nat_eq (devices_of a.answers) (devices_in parts)) o false) → IsTrue (list_all is_device (devices_of a.answers))
+        → IsTrue (option_map_or (λ parts. are_of_parts parts a.answers) o false) → IsTrue (list_all is_device (devices_of a.answers))
     by None cue at = absurd cc
     by (Some parts) cue at =
         let k = both (is_cue_number a.cue) (are_parts parts && are_known show parts) cue in
-        let same : devices_of a.answers ≡ devices_in parts = same_text-true (devices_of a.answers) (devices_in parts) at in
-        subst (λ ds. IsTrue (list_all is_device ds)) (sym same) (parts_devices parts (both (are_parts parts) (are_known show parts) k.1).0)
+        parts_devices parts a.answers (parts_rules parts (both (are_parts parts) (are_known show parts) k.1).0).each at
 
 -- the cue of an attempt is one of the show
 pub attempt_cue_fits : (show : ShowLists) (a : Attempt) → IsTrue (is_show show) → IsTrue (is_at_cue show a) → IsTrue (is_cue_number a.cue)
 attempt_cue_fits show a rules at = by (parts_of show a.cue) (is_cue_of-parts_of show a.cue rules) at
   where
     by : (o : Option (List Part)) → IfSome o (λ parts. IsTrue (is_cue_of show (a.cue, parts)))
-        → IsTrue (option_map_or (λ parts. pointwise nat_eq (devices_of a.answers) (devices_in parts)) o false) → IsTrue (is_cue_number a.cue)
+        → IsTrue (option_map_or (λ parts. are_of_parts parts a.answers) o false) → IsTrue (is_cue_number a.cue)
     by None cue at = absurd cc
     by (Some parts) cue at = (both (is_cue_number a.cue) (are_parts parts && are_known show parts) cue).0
 
@@ -107,22 +108,32 @@ number_fits : (s : ShowState) (q : ℕ) (test : Attempt → Bool) → Rules s �
 number_fits s q test r h =
     some_fits (is_number q) q test s.live (live_fit s r) (λ a fits same passes. subst (λ n. IsTrue (is_number n)) same (both (is_number a.seq) (list_all is_device (devices_of a.answers)) fits).0) h
 
--- a device that has answered is one of the attempt
-answered_fits : (test : Answer → Bool) (d : ℕ) (answers : List DeviceAnswer) → IsTrue (list_all is_device (devices_of answers)) → IsTrue (answer_passes test d answers) → IsTrue (is_device d)
-answered_fits test d [] fits h = absurd cc
-answered_fits test d (x ∷ answers) fits h = by (nat_eq x.device d && test x.answer) refl h (answered_fits test d answers (both (is_device x.device) (list_all is_device (devices_of answers)) fits).1)
+-- the device d is one of the attempt, and passes the test
+abbrev device_passes : (DeviceAnswer → Bool) → ℕ → List DeviceAnswer → Bool
+device_passes test d answers = list_any (λ x. nat_eq x.device d && test x) answers
+
+passing_fits : (test : DeviceAnswer → Bool) (d : ℕ) (answers : List DeviceAnswer) → IsTrue (list_all is_device (devices_of answers)) → IsTrue (device_passes test d answers) → IsTrue (is_device d)
+passing_fits test d [] fits h = absurd cc
+passing_fits test d (x ∷ answers) fits h = by (nat_eq x.device d && test x) refl h (passing_fits test d answers (both (is_device x.device) (list_all is_device (devices_of answers)) fits).1)
   where
-    by : (b : Bool) → (nat_eq x.device d && test x.answer) ≡ b → IsTrue (b || answer_passes test d answers) → (IsTrue (answer_passes test d answers) → IsTrue (is_device d)) → IsTrue (is_device d)
-    by true e h others = subst (λ n. IsTrue (is_device n)) (same_number x.device d (both (nat_eq x.device d) (test x.answer) e).0) (both (is_device x.device) (list_all is_device (devices_of answers)) fits).0
+    by : (b : Bool) → (nat_eq x.device d && test x) ≡ b → IsTrue (b || device_passes test d answers) → (IsTrue (device_passes test d answers) → IsTrue (is_device d)) → IsTrue (is_device d)
+    by true e h others = subst (λ n. IsTrue (is_device n)) (same_number x.device d (both (nat_eq x.device d) (test x) e).0) (both (is_device x.device) (list_all is_device (devices_of answers)) fits).0
     by false e h others = others h
 
-answer_fits : (s : ShowState) (q d : ℕ) (stage : Stage → Bool) → Rules s → IsTrue (holds q (waits_in stage d) s.live) → IsTrue (is_number q && is_device d)
-answer_fits s q d stage r h =
-    some_fits (is_number q && is_device d) q (waits_in stage d) s.live (live_fit s r)
+-- an event of a device in an attempt
+device_fits_in : (s : ShowState) (q d : ℕ) (stage : Stage → Bool) (test : DeviceAnswer → Bool) → Rules s → IsTrue (holds q (λ a. stage a.stage && device_passes test d a.answers) s.live) → IsTrue (is_number q && is_device d)
+device_fits_in s q d stage test r h =
+    some_fits (is_number q && is_device d) q (λ a. stage a.stage && device_passes test d a.answers) s.live (live_fit s r)
     (λ a fits same passes.
     let p = both (is_number a.seq) (list_all is_device (devices_of a.answers)) fits in
-    join (is_number q) (is_device d) (subst (λ n. IsTrue (is_number n)) same p.0) (answered_fits is_waiting d a.answers p.1 (both (stage a.stage) (answer_passes is_waiting d a.answers) passes).1))
+    join (is_number q) (is_device d) (subst (λ n. IsTrue (is_number n)) same p.0) (passing_fits test d a.answers p.1 (both (stage a.stage) (device_passes test d a.answers) passes).1))
     h
+
+answer_fits : (s : ShowState) (q d : ℕ) (stage : Stage → Bool) → Rules s → IsTrue (holds q (waits_in stage d) s.live) → IsTrue (is_number q && is_device d)
+answer_fits s q d stage r h = device_fits_in s q d stage waits r h
+
+excuse_fits : (s : ShowState) (q d : ℕ) → Rules s → IsTrue (holds q (can_excuse_now d) s.live) → IsTrue (is_number q && is_device d)
+excuse_fits s q d r h = device_fits_in s q d is_preparing can_be_excused r h
 
 -- ---- events
 
@@ -151,6 +162,7 @@ event_fits s (event.Done q d) r g = answer_fits s q d is_decided r g
 event_fits s (event.Cancel q reason) r g = number_fits s q (λ a. is_preparing a.stage) r g
 event_fits s (event.LetGo q d) r g = answer_fits s q d is_cancelling r g
 event_fits s (event.Failed q d) r g = answer_fits s q d is_concluding r g
+event_fits s (event.Excuse q d) r g = excuse_fits s q d r g
 
 pub events_fit : AcceptableEventsFit
 events_fit s [] h g = refl

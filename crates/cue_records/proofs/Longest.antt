@@ -1,5 +1,5 @@
 -- How long the text of a state can be.
-use Rattle.std.proofs.Common.{◌≡◌, ℕ, ◌+◌, ◌*◌, ◌≤◌, Bool, ◌&&◌, List, [], ◌∷◌, ◌++◌, length, Option, Some, None, IsTrue, nat_le, refl, sym, ◌∙◌, ap, arith, length-append}
+use Rattle.std.proofs.Common.{◌≡◌, ℕ, suc, ◌+◌, ◌*◌, ◌≤◌, Bool, true, false, ◌&&◌, List, [], ◌∷◌, ◌++◌, length, Option, Some, None, IsTrue, nat_le, refl, sym, ◌∙◌, ap, arith, length-append}
 use Rattle.std.specs.Prelude.{IfSome}
 use Rattle.std.specs.List.{list_all, flat_map}
 use Rattle.std.specs.Map.{keys_of}
@@ -8,7 +8,7 @@ use Rattle.std.proofs.lemmas.Bool.{leb-true}
 use Rattle.std.proofs.lemmas.List.{length-map}
 use Rattle.cue_show.specs.Bytes.{are_bytes}
 use Rattle.cue_show.specs.DeviceNumber.{is_device}
-use Rattle.cue_show.specs.Devices.{distinct, devices_in}
+use Rattle.cue_show.specs.Devices.{distinct}
 use Rattle.cue_show.specs.Distinct.{are_distinct}
 use Rattle.cue_show.specs.Number.{is_cue_number, is_run, pieces, same_text}
 use Rattle.cue_show.specs.Parts.{is_part, are_parts}
@@ -19,14 +19,19 @@ use Rattle.cue_show.proofs.ChangeLemmas.{is_cue_of-parts_of}
 use Rattle.cue_exchange.specs.declared.attempt.Attempt.{Attempt}
 use Rattle.cue_exchange.specs.declared.limits.TheConstants.{MAX_LIVE}
 use Rattle.cue_core.specs.declared.event.Ended.{Ended}
-use Rattle.cue_core.specs.State.{is_at_cue}
+use Rattle.cue_exchange.specs.declared.attempt.DeviceAnswer.{DeviceAnswer}
+use Rattle.cue_core.specs.State.{ShowState, is_of_part, are_of_parts, is_at_cue, is_state}
 use Rattle.cue_core.proofs.Conditions.{both}
 use Rattle.cue_core.proofs.Rules.{rules_of}
-use Rattle.cue_records.specs.Fields.{byte_text, short_text, number_text, moment_text, text_text, part_text, parts_text, entry_text, new_cue_text}
+use Rattle.cue_records.specs.Fields.{byte_text, short_text, number_text, moment_text, text_text, flag_text, part_text, parts_text, entry_text, new_cue_text}
 use Rattle.cue_exchange.specs.Outcomes.{outcome_number}
-use Rattle.cue_records.specs.State.{table_text, stack_text, place_text, show_text, ended_text, stage_number, answer_number, answers_text, attempt_text, live_text}
+use Rattle.cue_records.specs.State.{table_text, stack_text, place_text, show_text, ended_text, stage_number, answer_number, answers_text, attempt_text, live_text, text_in}
+use Rattle.cue_records.specs.declared.state.TheConstants.{MAX_STATE_BYTES}
+use Rattle.cue_records.specs.declared.version.Version.{Version}
+use Rattle.cue_records.specs.declared.version.Version.TheVariants.{One, Two}
 use Rattle.cue_records.specs.Laws.{StateTextsAreBounded}
 use Rattle.cue_records.proofs.AttemptLaws.{parts_found}
+use Rattle.cue_records.proofs.FieldLaws.{parts_rules}
 use Rattle.cue_records.proofs.Fitting.{cue_fits, attempt_cue_fits}
 use Rattle.cue_records.proofs.Ranges.{live_short}
 
@@ -60,35 +65,37 @@ number_short c h = leb-true (length c) MAX_CUE_BYTES (both (nat_le (length c) MA
 -- ---- the show
 
 abbrev longest_part : ℕ
-longest_part = 2 + MAX_PART_BYTES
+longest_part = 3 + MAX_PART_BYTES
 
 abbrev longest_cue : ℕ
 longest_cue = 2 + MAX_CUE_BYTES + MAX_PARTS * longest_part
 
-part_short : (p : Part) → IsTrue (is_part p) → length (part_text p) ≤ longest_part
-part_short p h =
+flag_short : (version : Version) (optional : Bool) → length (flag_text version optional) ≤ 1
+flag_short One optional = omega arith
+flag_short Two optional = omega arith
+
+part_short : (version : Version) (p : Part) → IsTrue (is_part p) → length (part_text version p) ≤ longest_part
+part_short version p h =
     let q = both (is_device p.device) (nat_le (length p.bytes) MAX_PART_BYTES && are_bytes p.bytes) h in
     let few : length p.bytes ≤ MAX_PART_BYTES = leb-true (length p.bytes) MAX_PART_BYTES (both (nat_le (length p.bytes) MAX_PART_BYTES) (are_bytes p.bytes) q.1).0 in
-    omega (arith, few)
+    omega (arith, few, length-append (flag_text version p.optional) (text_text p.bytes), flag_short version p.optional)
 
 -- few parts, each short
-record PartsAreShort (parts : List Part) : Type 0 where
+record PartsAreShort (version : Version) (parts : List Part) : Type 0 where
   few : length parts ≤ MAX_PARTS
-  short : length (flat_map part_text parts) ≤ MAX_PARTS * longest_part
+  short : length (flat_map (part_text version) parts) ≤ MAX_PARTS * longest_part
 
-parts_short : (parts : List Part) → IsTrue (are_parts parts) → PartsAreShort parts
-parts_short parts h =
-    let some = both (nat_le 1 (length parts)) (nat_le (length parts) MAX_PARTS && (distinct (devices_in parts) && list_all is_part parts)) h in
-    let most = both (nat_le (length parts) MAX_PARTS) (distinct (devices_in parts) && list_all is_part parts) some.1 in
-    let each = (both (distinct (devices_in parts)) (list_all is_part parts) most.1).1 in
-    let few : length parts ≤ MAX_PARTS = leb-true (length parts) MAX_PARTS most.0 in
-    record { few = few; short = counted-short part_text is_part longest_part MAX_PARTS part_short parts few each }
+parts_short : (version : Version) (parts : List Part) → IsTrue (are_parts parts) → PartsAreShort version parts
+parts_short version parts h =
+    let r = parts_rules parts h in
+    let few : length parts ≤ MAX_PARTS = leb-true (length parts) MAX_PARTS r.few in
+    record { few = few; short = counted-short (part_text version) is_part longest_part MAX_PARTS (part_short version) parts few r.each }
 
-new_cue_short : (s : ShowLists) (e : List ℕ × List Part) → IsTrue (is_cue_of s e) → length (new_cue_text e) ≤ longest_cue
-new_cue_short s e h =
+new_cue_short : (version : Version) (s : ShowLists) (e : List ℕ × List Part) → IsTrue (is_cue_of s e) → length (new_cue_text version e) ≤ longest_cue
+new_cue_short version s e h =
     let k = both (is_cue_number e.0) (are_parts e.1 && are_known s e.1) h in
-    let parts = parts_short e.1 (both (are_parts e.1) (are_known s e.1) k.1).0 in
-    omega (arith, length-append (text_text e.0) (parts_text e.1), number_short e.0 k.0, parts.short)
+    let parts = parts_short version e.1 (both (are_parts e.1) (are_known s e.1) k.1).0 in
+    omega (arith, length-append (text_text e.0) (parts_text version e.1), number_short e.0 k.0, parts.short)
 
 entry_long : (e : ℕ × ℕ) → IsTrue (is_entry e) → length (entry_text e) ≤ 3
 entry_long e h = omega (arith, length-append (byte_text e.0) (short_text e.1), two_long e.1)
@@ -100,27 +107,27 @@ table_short devices h =
     let all = counted-short entry_text is_entry 3 MAX_DEVICES entry_long devices (leb-true (length devices) MAX_DEVICES p.0) each in
     omega (arith, length-append (byte_text (length devices)) (flat_map entry_text devices), all)
 
-stack_short : (s : ShowLists) (cues : Cues) → IsTrue (is_stack_of s cues) → length (stack_text cues) ≤ 2 + MAX_CUES * longest_cue
-stack_short s cues h =
+stack_short : (version : Version) (s : ShowLists) (cues : Cues) → IsTrue (is_stack_of s cues) → length (stack_text version cues) ≤ 2 + MAX_CUES * longest_cue
+stack_short version s cues h =
     let p = both (nat_le (length cues) MAX_CUES) (are_distinct same_text (keys_of cues) && list_all (is_cue_of s) cues) h in
     let each = (both (are_distinct same_text (keys_of cues)) (list_all (is_cue_of s) cues) p.1).1 in
-    let all = counted-short new_cue_text (is_cue_of s) longest_cue MAX_CUES (new_cue_short s) cues (leb-true (length cues) MAX_CUES p.0) each in
-    omega (arith, length-append (short_text (length cues)) (flat_map new_cue_text cues), two_long (length cues), all)
+    let all = counted-short (new_cue_text version) (is_cue_of s) longest_cue MAX_CUES (new_cue_short version s) cues (leb-true (length cues) MAX_CUES p.0) each in
+    omega (arith, length-append (short_text (length cues)) (flat_map (new_cue_text version) cues), two_long (length cues), all)
 
 place_short : (s : ShowLists) (place : Option (List ℕ)) → IsTrue (is_show s) → IsTrue (is_place_of s place) → length (place_text place) ≤ 1 + MAX_CUE_BYTES
 place_short s None rules h = omega arith
 place_short s (Some c) rules h = omega (arith, number_short c (cue_fits s c rules h))
 
-show_short : (s : ShowLists) → IsTrue (is_show s) → length (show_text s) ≤ (1 + MAX_DEVICES * 3) + (2 + MAX_CUES * longest_cue) + (1 + MAX_CUE_BYTES)
-show_short s h =
+show_short : (version : Version) (s : ShowLists) → IsTrue (is_show s) → length (show_text version s) ≤ (1 + MAX_DEVICES * 3) + (2 + MAX_CUES * longest_cue) + (1 + MAX_CUE_BYTES)
+show_short version s h =
     let p = both (is_table s.devices) (is_stack_of s s.cues && is_place_of s s.place) h in
     let q = both (is_stack_of s s.cues) (is_place_of s s.place) p.1 in
     omega (
       arith,
-      length-append (table_text s.devices) (stack_text s.cues ++ place_text s.place),
-      length-append (stack_text s.cues) (place_text s.place),
+      length-append (table_text s.devices) (stack_text version s.cues ++ place_text s.place),
+      length-append (stack_text version s.cues) (place_text s.place),
       table_short s.devices p.0,
-      stack_short s s.cues q.0,
+      stack_short version s s.cues q.0,
       place_short s s.place h q.1,
     )
 
@@ -129,11 +136,17 @@ show_short s h =
 abbrev longest_attempt : ℕ
 longest_attempt = 14 + MAX_CUE_BYTES + MAX_PARTS
 
--- as many answers as its cue has parts
+-- as many answers as there are parts
+of_parts-length : (parts : List Part) (answers : List DeviceAnswer) → IsTrue (are_of_parts parts answers) → length answers ≡ length parts
+of_parts-length [] [] h = refl
+of_parts-length [] (x ∷ xs) h = absurd cc
+of_parts-length (p ∷ ps) [] h = absurd cc
+of_parts-length (p ∷ ps) (x ∷ xs) h = ap suc (of_parts-length ps xs (both (is_of_part p x) (are_of_parts ps xs) h).1)
+
 answers_few : (show : ShowLists) (a : Attempt) → IsTrue (is_show show) → IsTrue (is_at_cue show a) → length a.answers ≤ MAX_PARTS
 answers_few show a rules at =
     let found = parts_found show a at in
-    let same : length a.answers ≡ length found.0 = sym (length-map a.answers (λ x. x.device)) ∙ ap length found.2 ∙ length-map found.0 (λ p. p.device) in
+    let same : length a.answers ≡ length found.0 = of_parts-length found.0 a.answers found.2 in
     let few = by (parts_of show a.cue) found.0 found.1 (is_cue_of-parts_of show a.cue rules) in
     omega (arith, same, few)
   where
@@ -142,7 +155,7 @@ answers_few show a rules at =
     by (Some parts) ps e cue =
         let k = both (is_cue_number a.cue) (are_parts parts && are_known show parts) cue in
         let same : parts ≡ ps = cc e in
-        omega (arith, ap length same, (parts_short parts (both (are_parts parts) (are_known show parts) k.1).0).few)
+        omega (arith, ap length same, leb-true (length parts) MAX_PARTS (parts_rules parts (both (are_parts parts) (are_known show parts) k.1).0).few)
 
 attempt_short : (show : ShowLists) → IsTrue (is_show show) → (a : Attempt) → IsTrue (is_at_cue show a) → length (attempt_text a) ≤ longest_attempt
 attempt_short show rules a at =
@@ -172,18 +185,21 @@ ended_long (Some e) = omega (arith, length-append (number_text e.seq) (byte_text
 
 -- ---- the state
 
-pub state_short : StateTextsAreBounded
-state_short s h =
+text_short : (version : Version) (s : ShowState) → IsTrue (is_state s) → length (text_in version s) ≤ MAX_STATE_BYTES
+text_short version s h =
     let r = rules_of s h in
     let last : List ℕ = ended_text s.ended ++ live_text s.live in
     let behind : List ℕ = number_text s.last_seq ++ last in
     omega (
       arith,
-      length-append (show_text s.show) behind,
+      length-append (show_text version s.show) behind,
       length-append (number_text s.last_seq) last,
       length-append (ended_text s.ended) (live_text s.live),
-      show_short s.show r.show,
+      show_short version s.show r.show,
       four_long s.last_seq,
       ended_long s.ended,
       live_text_short s.show s.live r.show (live_short s.live r.live) r.at,
     )
+
+pub state_short : StateTextsAreBounded
+state_short bytes s h t = rw t.is (text_short t.version s h)

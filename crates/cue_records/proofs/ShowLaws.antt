@@ -14,17 +14,20 @@ use Rattle.cue_show.specs.Parts.{are_parts}
 use Rattle.cue_show.specs.Show.{Cues, ShowLists, empty_show, has_device, has_cue, is_full, are_known, is_place_of, is_entry, is_table, is_cue_of, is_stack_of, is_show, can_add_device, can_add_cue, with_device, with_cue, with_place}
 use Rattle.cue_show.specs.declared.limits.TheConstants.{MAX_DEVICES, MAX_CUES}
 use Rattle.cue_show.specs.declared.part.Part.{Part}
-use Rattle.cue_core.proofs.Conditions.{both, join}
-use Rattle.cue_records.specs.Fields.{text_text}
+use Rattle.cue_core.proofs.Conditions.{both, join, all_from, all_zip}
+use Rattle.cue_records.specs.declared.state.TheConstants.{OLD_MAX_CUES}
+use Rattle.cue_records.specs.declared.version.Version.{Version}
+use Rattle.cue_records.specs.declared.version.Version.TheVariants.{One, Two}
+use Rattle.cue_records.specs.Fields.{short_text, text_text, have_text}
 use Rattle.cue_records.specs.State.{table_text, stack_text, place_text, show_text}
 use Rattle.cue_records.specs.Reading.{◌>>=◌, where_it}
-use Rattle.cue_records.specs.StateReading.{device_step, cue_step, place_of, place_at, place_step, table_at, stack_at, show_at}
+use Rattle.cue_records.specs.StateReading.{device_step, most_cues, cue_count_at, cue_step, place_of, place_at, place_step, table_at, stack_at, show_at}
 use Rattle.cue_records.proofs.Behind.{all_here, absent_before}
 use Rattle.cue_records.proofs.Fitting.{cue_fits}
-use Rattle.cue_records.proofs.FieldLaws.{byte_field, text_field, cue_short, entry_field, new_cue_field}
+use Rattle.cue_records.proofs.FieldLaws.{byte_field, text_field, cue_short, entry_field, new_cue_fits, new_cue_field}
 use Rattle.cue_records.proofs.FoldLaws.{IsMade, counted_takes, counted_again}
 use Rattle.cue_records.proofs.Numbers.{field16}
-use Rattle.cue_records.proofs.Taking.{IsField, bind_some, where_some, some_is, bytes_behind, made_field, respell}
+use Rattle.cue_records.proofs.Taking.{IsField, bind_some, where_some, some_is, bytes_behind, test_field, made_field, respell}
 
 -- ---- devices
 
@@ -51,7 +54,7 @@ devices_made = record { grows = λ xs x may. refl; allows = devices_allow; fitti
 
 table_takes : (bytes : List ℕ) (y : ShowLists × List ℕ) → IsTrue (are_bytes bytes) → table_at empty_show bytes ≡ Some y → (ds : List (ℕ × ℕ)) × (bytes ≡ table_text ds ++ y.1) × (y.0 ≡ of_devices ds)
 unfolding table_at device_step
-table_takes bytes y b e = counted_takes byte_field entry_field devices_made bytes y b e
+table_takes bytes y b e = let t = counted_takes byte_field entry_field devices_made bytes y b e in (t.0, t.1, t.2)
 
 table_again : (ds : List (ℕ × ℕ)) (rest : List ℕ) → IsTrue (is_table ds) → table_at empty_show (table_text ds ++ rest) ≡ Some (of_devices ds, rest)
 unfolding table_at device_step
@@ -88,24 +91,58 @@ cues_allow ds ys zs x h =
     join (not (has_cue (of_cues ds ys) x.0)) (not (is_full (of_cues ds ys)) && is_cue_of (of_cues ds ys) (x.0, x.1)) (rw absent refl)
     (join (not (is_full (of_cues ds ys))) (is_cue_of (of_cues ds ys) (x.0, x.1)) (rw room refl) (all_here (is_cue_of (of_devices ds)) ys zs x r.each))
 
-new_cue_fits : (ds : List (ℕ × ℕ)) (ys zs : Cues) (x : List ℕ × List Part) → IsTrue (is_stack_of (of_devices ds) (ys ++ x ∷ zs)) → IsTrue (is_cue_number x.0 && are_parts x.1)
-new_cue_fits ds ys zs x h =
-    let here = all_here (is_cue_of (of_devices ds)) ys zs x (stack_rules ds (ys ++ x ∷ zs) h).each in
+-- the parts of each cue have a text in the version
+abbrev are_told : Version → Cues → Bool
+are_told version cs = list_all (λ e. have_text version e.1) cs
+
+-- the stack has a text in the version
+abbrev pub stack_fits : Version → Cues → Bool
+stack_fits version cs = nat_le (length cs) (most_cues version) && are_told version cs
+
+-- a stack whose cues have a text in the version
+abbrev is_told : Version → List (ℕ × ℕ) → Cues → Bool
+is_told version ds cs = is_stack_of (of_devices ds) cs && are_told version cs
+
+told_fits : (version : Version) (ds : List (ℕ × ℕ)) (ys zs : Cues) (x : List ℕ × List Part) → IsTrue (is_told version ds (ys ++ x ∷ zs)) → IsTrue (new_cue_fits version x)
+told_fits version ds ys zs x h =
+    let k = both (is_stack_of (of_devices ds) (ys ++ x ∷ zs)) (are_told version (ys ++ x ∷ zs)) h in
+    let here = all_here (is_cue_of (of_devices ds)) ys zs x (stack_rules ds (ys ++ x ∷ zs) k.0).each in
     let p = both (is_cue_number x.0) (are_parts x.1 && are_known (of_devices ds) x.1) here in
-    join (is_cue_number x.0) (are_parts x.1) p.0 (both (are_parts x.1) (are_known (of_devices ds) x.1) p.1).0
+    join (is_cue_number x.0) (are_parts x.1 && have_text version x.1) p.0
+    (join (are_parts x.1) (have_text version x.1) (both (are_parts x.1) (are_known (of_devices ds) x.1) p.1).0 (all_here (λ e. have_text version e.1) ys zs x k.1))
 
-cues_made : (ds : List (ℕ × ℕ)) → IsMade (λ s e. can_add_cue s e.0 e.1) (λ s e. with_cue s e.0 e.1) (of_cues ds) (λ e. is_cue_number e.0 && are_parts e.1) (is_stack_of (of_devices ds))
-cues_made ds = record { grows = λ xs x may. refl; allows = cues_allow ds; fitting = new_cue_fits ds }
+cues_made : (version : Version) (ds : List (ℕ × ℕ)) → IsMade (λ s e. can_add_cue s e.0 e.1) (λ s e. with_cue s e.0 e.1) (of_cues ds) (new_cue_fits version) (is_told version ds)
+cues_made version ds = record {
+  grows = λ xs x may. refl;
+  allows = λ ys zs x h. cues_allow ds ys zs x (both (is_stack_of (of_devices ds) (ys ++ x ∷ zs)) (are_told version (ys ++ x ∷ zs)) h).0;
+  fitting = told_fits version ds;
+}
 
-stack_takes : (ds : List (ℕ × ℕ)) (bytes : List ℕ) (y : ShowLists × List ℕ) → IsTrue (are_bytes bytes) → stack_at (of_devices ds) bytes ≡ Some y → (cs : Cues) × (bytes ≡ stack_text cs ++ y.1) × (y.0 ≡ of_cues ds cs)
+count_short : (version : Version) (n : ℕ) → IsTrue (nat_le n (most_cues version)) → IsTrue (nat_le n 65535)
+count_short One n h = let k : n ≤ OLD_MAX_CUES = leb-true n OLD_MAX_CUES h in le-leb n 65535 (omega arith)
+count_short Two n h = let k : n ≤ MAX_CUES = leb-true n MAX_CUES h in le-leb n 65535 (omega arith)
+
+cue_count_field : (version : Version) → IsField (cue_count_at version) short_text (λ n. nat_le n (most_cues version))
+unfolding cue_count_at
+cue_count_field version = test_field (λ n. nat_le n (most_cues version)) field16 (count_short version)
+
+-- a stack was taken
+abbrev TakesStack : Version → List (ℕ × ℕ) → List ℕ → ShowLists × List ℕ → Type 0
+TakesStack version ds bytes y = (cs : Cues) × (bytes ≡ stack_text version cs ++ y.1) × (y.0 ≡ of_cues ds cs) × IsTrue (stack_fits version cs)
+
+stack_takes : (version : Version) (ds : List (ℕ × ℕ)) (bytes : List ℕ) (y : ShowLists × List ℕ) → IsTrue (are_bytes bytes) → stack_at version (of_devices ds) bytes ≡ Some y → TakesStack version ds bytes y
 unfolding stack_at cue_step
-stack_takes ds bytes y b e = counted_takes field16 new_cue_field (cues_made ds) bytes y b e
+stack_takes version ds bytes y b e =
+    let t = counted_takes (cue_count_field version) (new_cue_field version) (cues_made version ds) bytes y b e in
+    let k = both (nat_le (length t.0) (most_cues version)) (list_all (new_cue_fits version) t.0) t.3 in
+    let told = all_from (new_cue_fits version) (λ x. have_text version x.1) t.0 (λ x h. (both (are_parts x.1) (have_text version x.1) (both (is_cue_number x.0) (are_parts x.1 && have_text version x.1) h).1).1) k.1 in
+    (t.0, t.1, t.2, join (nat_le (length t.0) (most_cues version)) (are_told version t.0) k.0 told)
 
-stack_again : (ds : List (ℕ × ℕ)) (cs : Cues) (rest : List ℕ) → IsTrue (is_stack_of (of_devices ds) cs) → stack_at (of_devices ds) (stack_text cs ++ rest) ≡ Some (of_cues ds cs, rest)
+stack_again : (version : Version) (ds : List (ℕ × ℕ)) (cs : Cues) (rest : List ℕ) → IsTrue (is_stack_of (of_devices ds) cs) → IsTrue (stack_fits version cs) → stack_at version (of_devices ds) (stack_text version cs ++ rest) ≡ Some (of_cues ds cs, rest)
 unfolding stack_at cue_step
-stack_again ds cs rest h =
-    let few : length cs ≤ MAX_CUES = (stack_rules ds cs h).few in
-    counted_again field16 new_cue_field (cues_made ds) cs rest (le-leb (length cs) 65535 (omega arith)) h
+stack_again version ds cs rest h k =
+    let p = both (nat_le (length cs) (most_cues version)) (are_told version cs) k in
+    counted_again (cue_count_field version) (new_cue_field version) (cues_made version ds) cs rest p.0 (join (is_stack_of (of_devices ds) cs) (are_told version cs) h p.1)
 
 -- ---- the place
 
@@ -157,21 +194,26 @@ place_again s o rest h k = let may : is_place_of s o ≡ true = k in rw (place_f
 three : (a b c rest : List ℕ) → a ++ (b ++ (c ++ rest)) ≡ (a ++ (b ++ c)) ++ rest
 three a b c rest = sym (append_assoc a (b ++ c) rest ∙ ap (λ bs. a ++ bs) (append_assoc b c rest))
 
-pub show_takes : (bytes : List ℕ) (y : ShowLists × List ℕ) → IsTrue (are_bytes bytes) → show_at empty_show bytes ≡ Some y → bytes ≡ show_text y.0 ++ y.1
+-- a show was taken
+abbrev pub TakesShow : Version → List ℕ → ShowLists × List ℕ → Type 0
+TakesShow version bytes y = (bytes ≡ show_text version y.0 ++ y.1) × IsTrue (stack_fits version y.0.cues)
+
+pub show_takes : (version : Version) (bytes : List ℕ) (y : ShowLists × List ℕ) → IsTrue (are_bytes bytes) → show_at version empty_show bytes ≡ Some y → TakesShow version bytes y
 unfolding show_at
-show_takes bytes y b e =
-    let a = bind_some (table_at empty_show bytes) (λ t. stack_at t.0 t.1 >>= λ u. place_step u.0 u.1) y e in
+show_takes version bytes y b e =
+    let a = bind_some (table_at empty_show bytes) (λ t. stack_at version t.0 t.1 >>= λ u. place_step u.0 u.1) y e in
     let t = table_takes bytes a.0 b a.1 in
     let ds = t.0 in
-    let c = bind_some (stack_at a.0.0 a.0.1) (λ u. place_step u.0 u.1) y a.2 in
-    let here : stack_at (of_devices ds) a.0.1 ≡ Some c.0 = subst (λ s. stack_at s a.0.1 ≡ Some c.0) t.2 c.1 in
+    let c = bind_some (stack_at version a.0.0 a.0.1) (λ u. place_step u.0 u.1) y a.2 in
+    let here : stack_at version (of_devices ds) a.0.1 ≡ Some c.0 = subst (λ s. stack_at version s a.0.1 ≡ Some c.0) t.2 c.1 in
     let b1 = bytes_behind bytes (table_text ds) a.0.1 t.1 b in
-    let u = stack_takes ds a.0.1 c.0 b1 here in
+    let u = stack_takes version ds a.0.1 c.0 b1 here in
     let cs = u.0 in
-    let v = place_takes c.0.0 c.0.1 y (bytes_behind a.0.1 (stack_text cs) c.0.1 u.1 b1) c.2 in
+    let v = place_takes c.0.0 c.0.1 y (bytes_behind a.0.1 (stack_text version cs) c.0.1 u.1 b1) c.2 in
     let whole : y.0 ≡ record { devices = ds; cues = cs; place = v.0 } = v.2 ∙ ap (λ s. with_place s v.0) u.2 in
-    let parts : bytes ≡ (table_text ds ++ (stack_text cs ++ place_text v.0)) ++ y.1 = t.1 ∙ ap (λ bs. table_text ds ++ bs) (u.1 ∙ ap (λ bs. stack_text cs ++ bs) v.1) ∙ three (table_text ds) (stack_text cs) (place_text v.0) y.1 in
-    subst (λ s. bytes ≡ show_text s ++ y.1) (sym whole) parts
+    let parts : bytes ≡ (table_text ds ++ (stack_text version cs ++ place_text v.0)) ++ y.1 =
+    t.1 ∙ ap (λ bs. table_text ds ++ bs) (u.1 ∙ ap (λ bs. stack_text version cs ++ bs) v.1) ∙ three (table_text ds) (stack_text version cs) (place_text v.0) y.1 in
+    subst (λ s. (bytes ≡ show_text version s ++ y.1) × IsTrue (stack_fits version s.cues)) (sym whole) (parts, u.3)
 
 place_same : (s : ShowLists) (o : Option (List ℕ)) → IsTrue (is_place_of s o) → IsTrue (is_place_of (of_cues s.devices s.cues) o)
 place_same s None h = h
@@ -181,13 +223,14 @@ place_in : (s : ShowLists) (o : Option (List ℕ)) → IsTrue (is_show s) → Is
 place_in s None rules h = refl
 place_in s (Some c) rules h = cue_fits s c rules h
 
-pub show_again : (s : ShowLists) (rest : List ℕ) → IsTrue (is_show s) → show_at empty_show (show_text s ++ rest) ≡ Some (s, rest)
+pub show_again : (version : Version) (s : ShowLists) (rest : List ℕ) → IsTrue (is_show s) → IsTrue (stack_fits version s.cues) → show_at version empty_show (show_text version s ++ rest) ≡ Some (s, rest)
 unfolding show_at
-show_again s rest h =
+show_again version s rest h k =
     let p = both (is_table s.devices) (is_stack_of s s.cues && is_place_of s s.place) h in
     let q = both (is_stack_of s s.cues) (is_place_of s s.place) p.1 in
     let after = place_text s.place ++ rest in
-    let regrouped : show_text s ++ rest ≡ table_text s.devices ++ (stack_text s.cues ++ after) = sym (three (table_text s.devices) (stack_text s.cues) (place_text s.place) rest) in
-    let table : table_at empty_show (table_text s.devices ++ (stack_text s.cues ++ after)) ≡ Some (of_devices s.devices, stack_text s.cues ++ after) = table_again s.devices (stack_text s.cues ++ after) p.0 in
-    let stack : stack_at (of_devices s.devices) (stack_text s.cues ++ after) ≡ Some (of_cues s.devices s.cues, after) = stack_again s.devices s.cues after q.0 in
-    ap (show_at empty_show) regrouped ∙ rw (table, stack) (place_again (of_cues s.devices s.cues) s.place rest (place_in s s.place h q.1) (place_same s s.place q.1))
+    let behind = stack_text version s.cues ++ after in
+    let regrouped : show_text version s ++ rest ≡ table_text s.devices ++ behind = sym (three (table_text s.devices) (stack_text version s.cues) (place_text s.place) rest) in
+    let table : table_at empty_show (table_text s.devices ++ behind) ≡ Some (of_devices s.devices, behind) = table_again s.devices behind p.0 in
+    let stack : stack_at version (of_devices s.devices) behind ≡ Some (of_cues s.devices s.cues, after) = stack_again version s.devices s.cues after q.0 k in
+    ap (show_at version empty_show) regrouped ∙ rw (table, stack) (place_again (of_cues s.devices s.cues) s.place rest (place_in s s.place h q.1) (place_same s s.place q.1))

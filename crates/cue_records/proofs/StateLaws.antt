@@ -1,13 +1,18 @@
 -- States: what is read is spelled so and keeps the rules, and is read again.
-use Rattle.std.proofs.Common.{◌≡◌, ℕ, ◌≤◌, Bool, true, false, cond, nat_eq, not, ◌&&◌, ◌==◌, List, [], ◌∷◌, ◌++◌, length, Option, Some, None, Result, Ok, Err, IsTrue, nat_le, refl, sym, ap, subst, ◌∙◌, arith}
+use Rattle.std.proofs.Common.{◌≡◌, ℕ, ◌≤◌, Bool, true, false, cond, nat_eq, not, ◌&&◌, ◌||◌, ◌==◌, List, [], ◌∷◌, ◌++◌, length, Option, Some, None, Result, Ok, Err, IsTrue, nat_le, refl, sym, ap, subst, ◌∙◌, arith}
 use Rattle.std.specs.Prelude.{IfOk, IsErrOf, is_some}
+use Rattle.std.specs.Str.{bytes_eq}
 use Rattle.std.specs.List.{list_all}
+use Rattle.std.specs.Map.{keys_of}
 use Rattle.std.specs.Int.{w32}
 use Rattle.std.proofs.lemmas.Bool.{le-leb, leb-true, eqb-true}
 use Rattle.std.proofs.lemmas.List.{append-nil, nil_from_length}
+use Rattle.std.proofs.lemmas.Slice.Eq.{bytes_eq-Decides}
 use Rattle.cue_show.specs.Bytes.{are_bytes}
-use Rattle.cue_show.specs.Number.{is_cue_number}
-use Rattle.cue_show.specs.Show.{ShowLists, empty_show}
+use Rattle.cue_show.specs.Number.{is_cue_number, same_text}
+use Rattle.cue_show.specs.Distinct.{are_distinct}
+use Rattle.cue_show.specs.Show.{ShowLists, empty_show, is_table, is_cue_of, is_stack_of, is_place_of}
+use Rattle.cue_show.specs.declared.limits.TheConstants.{MAX_CUES}
 use Rattle.cue_exchange.specs.Outcomes.{outcome_number, outcome_numbered}
 use Rattle.cue_exchange.specs.Live.{is_number, is_moment, is_attempt, are_live, attempt_of}
 use Rattle.cue_exchange.specs.declared.attempt.Attempt.{Attempt}
@@ -19,23 +24,25 @@ use Rattle.cue_exchange.proofs.LookUps.{find-passes}
 use Rattle.cue_exchange.proofs.LiveRules.{attempts_of}
 use Rattle.cue_core.specs.declared.event.Ended.{Ended}
 use Rattle.cue_core.specs.State.{ShowState, is_at_cue, is_ended, is_state}
-use Rattle.cue_core.proofs.Conditions.{both, join}
+use Rattle.cue_core.proofs.Conditions.{both, join, all_from}
 use Rattle.cue_core.proofs.Rules.{Rules, rules_of}
 use Rattle.cue_core.proofs.Sound.{attempt_rules}
 use Rattle.cue_records.specs.declared.fault.StateFault.{StateFault}
-use Rattle.cue_records.specs.declared.fault.StateFault.TheVariants.{Version, Malformed, Memory}
-use Rattle.cue_records.specs.declared.state.TheConstants.{VERSION}
-use Rattle.cue_records.specs.Fields.{byte_text, number_text}
-use Rattle.cue_records.specs.State.{show_text, ended_text, live_text, state_text, IsNoState}
+use Rattle.cue_records.specs.declared.fault.StateFault.TheVariants as fault
+use Rattle.cue_records.specs.declared.version.Version.{Version}
+use Rattle.cue_records.specs.declared.version.Version.TheVariants.{One, Two}
+use Rattle.cue_records.specs.declared.state.TheConstants.{VERSION, OLD_VERSION}
+use Rattle.cue_records.specs.Fields.{byte_text, number_text, have_text}
+use Rattle.cue_records.specs.State.{show_text, ended_text, live_text, version_number, version_of, has_text, text_in, state_text, IsStateText, IsNoState}
 use Rattle.cue_records.specs.Laws.{StatesAreReadBack, StateTextsDiffer}
 use Rattle.cue_records.specs.Reading.{◌>>=◌, where_it, number_at}
-use Rattle.cue_records.specs.StateReading.{GivesState, ended_of, ended_at, show_at, live_at, tail_of, checked, standing_of, state_of}
+use Rattle.cue_records.specs.StateReading.{GivesState, ended_of, ended_at, show_at, live_at, tail_of, checked, standing_of, state_of, is_text_in, is_state_text}
 use Rattle.cue_records.proofs.AttemptLaws.{attempt_fits, are_live_at, live_takes, live_again}
-use Rattle.cue_records.proofs.FieldLaws.{byte_field}
+use Rattle.cue_records.proofs.FieldLaws.{byte_field, step_number}
 use Rattle.cue_records.proofs.Fitting.{attempt_cue_fits}
 use Rattle.cue_records.proofs.Numbers.{field32}
 use Rattle.cue_records.proofs.Ranges.{live_short}
-use Rattle.cue_records.proofs.ShowLaws.{show_takes, show_again}
+use Rattle.cue_records.proofs.ShowLaws.{stack_fits, show_takes, show_again}
 use Rattle.cue_records.proofs.Taking.{IsField, bind_some, where_some, some_is, bytes_behind, made_field, both_field, respell}
 
 -- ---- the attempt that ended last
@@ -121,20 +128,24 @@ tail_again show last ended live h k few all =
 
 -- ---- states
 
--- what stands behind the version
-abbrev body_of : ShowState → List ℕ
-body_of s = show_text s.show ++ (number_text s.last_seq ++ (ended_text s.ended ++ live_text s.live))
+-- what stands behind the number of the version
+abbrev body_of : Version → ShowState → List ℕ
+body_of version s = show_text version s.show ++ (number_text s.last_seq ++ (ended_text s.ended ++ live_text s.live))
 
-standing_takes : (bytes : List ℕ) (s : ShowState) → IsTrue (are_bytes bytes) → standing_of bytes ≡ Some s → IsTrue (is_state s) × (bytes ≡ body_of s)
+-- a state was taken
+abbrev TakesState : Version → List ℕ → ShowState → Type 0
+TakesState version bytes s = IsTrue (is_state s) × (bytes ≡ body_of version s) × IsTrue (stack_fits version s.show.cues)
+
+standing_takes : (version : Version) (bytes : List ℕ) (s : ShowState) → IsTrue (are_bytes bytes) → standing_of version bytes ≡ Some s → TakesState version bytes s
 unfolding standing_of
-standing_takes bytes s b e =
-    let a = bind_some (show_at empty_show bytes) (λ show. tail_of show.0 [] show.1 >>= λ t. checked (record { show = show.0; live = t.1.1; last_seq = t.0; ended = t.1.0 })) s e in
+standing_takes version bytes s b e =
+    let a = bind_some (show_at version empty_show bytes) (λ show. tail_of show.0 [] show.1 >>= λ t. checked (record { show = show.0; live = t.1.1; last_seq = t.0; ended = t.1.0 })) s e in
     let c = bind_some (tail_of a.0.0 [] a.0.1) (λ t. checked (record { show = a.0.0; live = t.1.1; last_seq = t.0; ended = t.1.0 })) s a.2 in
     let made : ShowState = record { show = a.0.0; live = c.0.1.1; last_seq = c.0.0; ended = c.0.1.0 } in
     let w = where_some (is_state made) made s c.2 in
-    let t = show_takes bytes a.0 b a.1 in
-    let u = tail_takes a.0.0 a.0.1 c.0 (bytes_behind bytes (show_text a.0.0) a.0.1 t b) c.1 in
-    subst (λ z. IsTrue (is_state z) × (bytes ≡ body_of z)) w.1 (w.0, t ∙ ap (λ bs. show_text a.0.0 ++ bs) u)
+    let t = show_takes version bytes a.0 b a.1 in
+    let u = tail_takes a.0.0 a.0.1 c.0 (bytes_behind bytes (show_text version a.0.0) a.0.1 t.0 b) c.1 in
+    subst (TakesState version bytes) w.1 (w.0, t.0 ∙ ap (λ bs. show_text version a.0.0 ++ bs) u, t.1)
 
 live_fits : (s : ShowState) → Rules s → IsTrue (are_live_at s.show s.live)
 live_fits s r =
@@ -156,46 +167,106 @@ ended_in_range live last (Some e) h =
     let p = both (is_number e.seq) (nat_le e.seq last && not (is_some (attempt_of live e.seq))) h in
     last_fits e.seq (both (nat_le 1 e.seq) (nat_le e.seq LAST_NUMBER) p.0).1
 
-standing_again : (s : ShowState) → IsTrue (is_state s) → standing_of (body_of s) ≡ Some s
+standing_again : (version : Version) (s : ShowState) → IsTrue (is_state s) → IsTrue (stack_fits version s.show.cues) → standing_of version (body_of version s) ≡ Some s
 unfolding standing_of
-standing_again s h =
+standing_again version s h k =
     let r = rules_of s h in
     let tail = number_text s.last_seq ++ (ended_text s.ended ++ live_text s.live) in
-    let show : show_at empty_show (show_text s.show ++ tail) ≡ Some (s.show, tail) = show_again s.show tail r.show in
+    let show : show_at version empty_show (show_text version s.show ++ tail) ≡ Some (s.show, tail) = show_again version s.show tail r.show k in
     let rest : tail_of s.show [] tail ≡ Some (s.last_seq, (s.ended, s.live)) = tail_again s.show s.last_seq s.ended s.live (last_fits s.last_seq r.last) (ended_in_range s.live s.last_seq s.ended r.ended) r.live (live_fits s r) in
     let keeps : is_state s ≡ true = h in
     rw (show, rest, keeps) refl
 
-state_takes : (bytes : List ℕ) (s : ShowState) → IsTrue (are_bytes bytes) → state_of bytes ≡ Some s → IsTrue (is_state s) × (bytes ≡ state_text s)
+-- ---- the versions
+
+version_numbered : (n : ℕ) (version : Version) → version_of n ≡ Some version → version_number version ≡ n
+version_numbered n =
+    step_number version_number n OLD_VERSION One _ refl
+    (step_number version_number n VERSION Two None refl (λ v e. absurd cc))
+
+version_again : (version : Version) → version_of (version_number version) ≡ Some version
+version_again One = refl
+version_again Two = refl
+
+-- what the reader found to fit
+found_text : (version : Version) (s : ShowState) → IsTrue (stack_fits version s.show.cues) → IsTrue (has_text version s)
+found_text One s h = h
+found_text Two s h = refl
+
+text_fits : (version : Version) (s : ShowState) → IsTrue (is_state s) → IsTrue (has_text version s) → IsTrue (stack_fits version s.show.cues)
+text_fits One s h k = k
+text_fits Two s h k =
+    let show = (rules_of s h).show in
+    let stack = (both (is_stack_of s.show s.show.cues) (is_place_of s.show s.show.place) (both (is_table s.show.devices) (is_stack_of s.show s.show.cues && is_place_of s.show s.show.place) show).1).0 in
+    let p = both (nat_le (length s.show.cues) MAX_CUES) (are_distinct same_text (keys_of s.show.cues) && list_all (is_cue_of s.show) s.show.cues) stack in
+    let each = (both (are_distinct same_text (keys_of s.show.cues)) (list_all (is_cue_of s.show) s.show.cues) p.1).1 in
+    join (nat_le (length s.show.cues) MAX_CUES) (list_all (λ e. have_text Two e.1) s.show.cues) p.0 (all_from (is_cue_of s.show) (λ e. have_text Two e.1) s.show.cues (λ e h. refl) each)
+
+state_takes : (bytes : List ℕ) (s : ShowState) → IsTrue (are_bytes bytes) → state_of bytes ≡ Some s → IsTrue (is_state s) × IsStateText bytes s
 unfolding state_of
 state_takes [] s b e = absurd cc
-state_takes (v ∷ bytes) s b e = by (v == VERSION) refl e
-  where
-    by : (k : Bool) → (v == VERSION) ≡ k → cond (not k) None (standing_of bytes) ≡ Some s → IsTrue (is_state s) × (v ∷ bytes ≡ state_text s)
-    by true same e =
-        let version : v ≡ VERSION = eqb-true v VERSION same in
-        let t = standing_takes bytes s (both (nat_le v 255) (are_bytes bytes) b).1 e in
-        (t.0, ap (λ n. n ∷ bytes) version ∙ ap (λ bs. VERSION ∷ bs) t.1)
-    by false other e = absurd cc
+state_takes (n ∷ bytes) s b e =
+    let v = bind_some (version_of n) (λ version. standing_of version bytes) s e in
+    let number : version_number v.0 ≡ n = version_numbered n v.0 v.1 in
+    let t = standing_takes v.0 bytes s (both (nat_le n 255) (are_bytes bytes) b).1 v.2 in
+    (t.0, record { version = v.0; has = found_text v.0 s t.2; is = ap (λ k. k ∷ bytes) (sym number) ∙ ap (λ bs. version_number v.0 ∷ bs) t.1 })
 
-state_again : (s : ShowState) → IsTrue (is_state s) → state_of (state_text s) ≡ Some s
+state_again : (version : Version) (s : ShowState) → IsTrue (is_state s) → IsTrue (has_text version s) → state_of (text_in version s) ≡ Some s
 unfolding state_of
-state_again s h = standing_again s h
+state_again version s h k = rw (version_again version) (standing_again version s h (text_fits version s h k))
 
-pub is_found : (bytes : List ℕ) (r : Result ShowState StateFault) → IsTrue (are_bytes bytes) → GivesState r (state_of bytes) → IfOk r (λ s. IsTrue (is_state s) × (bytes ≡ state_text s))
+-- ---- the contract of the reader
+
+pub is_found : (bytes : List ℕ) (r : Result ShowState StateFault) → IsTrue (are_bytes bytes) → GivesState r (state_of bytes) → IfOk r (λ s. IsTrue (is_state s) × IsStateText bytes s)
 is_found bytes (Ok s) b e = state_takes bytes s b e
-is_found bytes (Err fault) b e = tt
+is_found bytes (Err refused) b e = tt
 
-pub is_only : (bytes : List ℕ) (r : Result ShowState StateFault) → GivesState r (state_of bytes) → IsErrOf r Malformed → IsNoState bytes
+pub is_only : (bytes : List ℕ) (r : Result ShowState StateFault) → GivesState r (state_of bytes) → IsErrOf r fault.Malformed → IsNoState bytes
 is_only bytes (Ok s) e malformed = absurd cc
-is_only bytes (Err Memory) e malformed = absurd cc
-is_only bytes (Err Version) e malformed = absurd cc
-is_only bytes (Err Malformed) e malformed = λ s h same. let read : state_of bytes ≡ Some s = ap state_of same ∙ state_again s h in absurd cc
+is_only bytes (Err fault.Memory) e malformed = absurd cc
+is_only bytes (Err fault.Version) e malformed = absurd cc
+is_only bytes (Err fault.Malformed) e malformed = λ s h t. let read : state_of bytes ≡ Some s = ap state_of t.is ∙ state_again t.version s h t.has in absurd cc
 
 -- ---- the laws
 
 pub read_back : StatesAreReadBack
-read_back s h = state_again s h
+read_back bytes s h t = ap state_of t.is ∙ state_again t.version s h t.has
 
 pub texts_differ : StateTextsDiffer
-texts_differ one other h k same = some_is one other (sym (state_again one h) ∙ ap state_of same ∙ state_again other k)
+texts_differ bytes one other h k t u = some_is one other (sym (read_back bytes one h t) ∙ read_back bytes other k u)
+
+-- ---- what is a text of a state
+
+-- what is written is one
+pub written : (s : ShowState) → IsStateText (state_text s) s
+written s = record { version = Two; has = refl; is = refl }
+
+from_test : (version : Version) (bytes : List ℕ) (s : ShowState) → IsTrue (is_text_in version bytes s) → IsStateText bytes s
+from_test version bytes s h =
+    let k = both (has_text version s) (bytes_eq bytes (text_in version s)) h in
+    record { version = version; has = k.0; is = (bytes_eq-Decides bytes (text_in version s)).0 k.1 }
+
+into_test : (version : Version) (bytes : List ℕ) (s : ShowState) → IsTrue (has_text version s) → bytes ≡ text_in version s → IsTrue (is_text_in version bytes s)
+into_test version bytes s h e = join (has_text version s) (bytes_eq bytes (text_in version s)) h ((bytes_eq-Decides bytes (text_in version s)).1 e)
+
+either : (a b : Bool) → IsTrue b → IsTrue (a || b)
+either true b h = refl
+either false b h = h
+
+from_tests : (bytes : List ℕ) (s : ShowState) → IsTrue (is_state_text bytes s) → IsStateText bytes s
+from_tests bytes s h = by (is_text_in Two bytes s) refl h
+  where
+    by : (b : Bool) → is_text_in Two bytes s ≡ b → IsTrue (b || is_text_in One bytes s) → IsStateText bytes s
+    by true two h = from_test Two bytes s two
+    by false other h = from_test One bytes s h
+
+into_tests : (bytes : List ℕ) (s : ShowState) → IsStateText bytes s → IsTrue (is_state_text bytes s)
+into_tests bytes s t = by t.version t.has t.is
+  where
+    by : (version : Version) → IsTrue (has_text version s) → bytes ≡ text_in version s → IsTrue (is_state_text bytes s)
+    by One has is = either (is_text_in Two bytes s) (is_text_in One bytes s) (into_test One bytes s has is)
+    by Two has is = let yes : is_text_in Two bytes s ≡ true = into_test Two bytes s has is in rw yes refl
+
+-- the test is true of each text of the state, and of nothing else
+pub is_text-decides : (bytes : List ℕ) (s : ShowState) → (IsTrue (is_state_text bytes s) → IsStateText bytes s) × (IsStateText bytes s → IsTrue (is_state_text bytes s))
+is_text-decides bytes s = (from_tests bytes s, into_tests bytes s)

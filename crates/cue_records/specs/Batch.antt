@@ -1,20 +1,20 @@
 -- The text of a batch of events.
-use Rattle.std.specs.Prelude.{◌≢◌, ℕ, Bool, ◌&&◌, List, ◌∷◌, ◌++◌, length, nat_le, IsTrue}
+use Rattle.std.specs.Prelude.{◌≢◌, ℕ, Bool, ◌&&◌, if◌then◌else◌, List, ◌∷◌, ◌++◌, length, nat_le, IsTrue}
 use Rattle.std.specs.List.{flat_map, list_all}
 use Rattle.cue_show.specs.DeviceNumber.{is_device, is_port}
 use Rattle.cue_show.specs.Number.{is_cue_number}
 use Rattle.cue_show.specs.Parts.{are_parts}
 use Rattle.cue_exchange.specs.Live.{is_number, is_moment}
 use Rattle.cue_core.specs.declared.event.Event.{Event}
-use Rattle.cue_core.specs.declared.event.Event.TheVariants.{Device, NoDevice, Cue, NoCue, Place, Start, Ready, Go, Done, Cancel, LetGo, Failed}
+use Rattle.cue_core.specs.declared.event.Event.TheVariants.{Device, NoDevice, Cue, NoCue, Place, Start, Ready, Go, Done, Cancel, LetGo, Failed, Excuse}
 use Rattle.cue_records.specs.declared.batch.TheConstants.{MAX_EVENTS}
-use Rattle.cue_records.specs.Fields.{byte_text, short_text, number_text, moment_text, text_text, entry_text, new_cue_text, reason_number}
+use Rattle.cue_records.specs.Fields.{byte_text, short_text, number_text, moment_text, text_text, entry_text, new_cue_text, reason_number, are_required, version_for}
 
--- the number of an event's kind
+-- the number of an event's kind; a cue with an optional part is of a kind of its own
 abbrev pub event_number : Event → ℕ
 event_number (Device d port) = 1
 event_number (NoDevice d) = 2
-event_number (Cue c parts) = 3
+event_number (Cue c parts) = if are_required parts then 3 else 13
 event_number (NoCue c) = 4
 event_number (Place c) = 5
 event_number (Start q c t) = 6
@@ -24,12 +24,13 @@ event_number (Done q d) = 9
 event_number (Cancel q r) = 10
 event_number (LetGo q d) = 11
 event_number (Failed q d) = 12
+event_number (Excuse q d) = 14
 
 -- what stands behind the number of its kind
 abbrev pub body_text : Event → List ℕ
 body_text (Device d port) = entry_text (d, port)
 body_text (NoDevice d) = byte_text d
-body_text (Cue c parts) = new_cue_text (c, parts)
+body_text (Cue c parts) = new_cue_text (version_for parts) (c, parts)
 body_text (NoCue c) = text_text c
 body_text (Place c) = text_text c
 body_text (Start q c t) = number_text q ++ (text_text c ++ moment_text t)
@@ -39,6 +40,7 @@ body_text (Done q d) = number_text q ++ byte_text d
 body_text (Cancel q r) = number_text q ++ byte_text (reason_number r)
 body_text (LetGo q d) = number_text q ++ byte_text d
 body_text (Failed q d) = number_text q ++ byte_text d
+body_text (Excuse q d) = number_text q ++ byte_text d
 
 -- the number of its kind, and what stands behind it
 abbrev pub event_text : Event → List ℕ
@@ -58,12 +60,13 @@ is_event (Done q d) = is_number q && is_device d
 is_event (Cancel q r) = is_number q
 is_event (LetGo q d) = is_number q && is_device d
 is_event (Failed q d) = is_number q && is_device d
+is_event (Excuse q d) = is_number q && is_device d
 
 -- a count in two bytes, and so many events
 abbrev pub batch_text : List Event → List ℕ
 batch_text events = short_text (length events) ++ flat_map event_text events
 
--- the events have a text: 1 to 1,024 of them, each within its ranges
+-- the events have a text: 1 to 4,096 of them, each within its ranges
 abbrev pub is_batch : List Event → Bool
 is_batch events = nat_le 1 (length events) && (nat_le (length events) MAX_EVENTS && list_all is_event events)
 

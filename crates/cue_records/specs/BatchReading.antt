@@ -1,12 +1,15 @@
 -- Reading a batch of events.
-use Rattle.std.specs.Prelude.{ℕ, ◌&&◌, ◌==◌, if◌then◌else◌, List, Option, None, Some, length, nat_le}
+use Rattle.std.specs.Prelude.{ℕ, not, ◌&&◌, ◌==◌, if◌then◌else◌, List, Option, None, Some, length, nat_le}
 use Rattle.std.specs.Int.{w16, w64}
+use Rattle.cue_show.specs.declared.part.Part.{Part}
 use Rattle.cue_exchange.specs.declared.attempt.Reason.{Reason}
 use Rattle.cue_core.specs.declared.event.Event.{Event}
 use Rattle.cue_core.specs.declared.event.Event.TheVariants as event
 use Rattle.cue_records.specs.declared.batch.TheConstants.{MAX_EVENTS}
 use Rattle.cue_records.specs.declared.batch.kind.Kind.{Kind}
 use Rattle.cue_records.specs.declared.batch.kind.Kind.TheVariants as kind
+use Rattle.cue_records.specs.declared.version.Version.TheVariants.{One, Two}
+use Rattle.cue_records.specs.Fields.{are_required}
 use Rattle.cue_records.specs.Reading.{◌>>=◌, Reads, where_it, where_at, made_at, as_at, both_at, counted_at, byte_at, number_at, device_at, sequence_at, cue_at, entry_at, new_cue_at, reason_at}
 
 -- the kind with the number
@@ -14,7 +17,8 @@ abbrev pub kind_of : ℕ → Option Kind
 kind_of n =
     if n == 1 then Some kind.Device else if n == 2 then Some kind.NoDevice else if n == 3 then Some kind.Cue else if n == 4 then Some kind.NoCue
     else if n == 5 then Some kind.Place else if n == 6 then Some kind.Start else if n == 7 then Some kind.Ready else if n == 8 then Some kind.Go
-    else if n == 9 then Some kind.Done else if n == 10 then Some kind.Cancel else if n == 11 then Some kind.LetGo else if n == 12 then Some kind.Failed else None
+    else if n == 9 then Some kind.Done else if n == 10 then Some kind.Cancel else if n == 11 then Some kind.LetGo else if n == 12 then Some kind.Failed
+    else if n == 13 then Some kind.MixedCue else if n == 14 then Some kind.Excuse else None
 
 -- a kind
 unfoldable pub kind_at : Reads Kind
@@ -32,11 +36,15 @@ answer_at = both_at sequence_at device_at
 unfoldable pub cancel_at : Reads (ℕ × Reason)
 cancel_at = both_at sequence_at reason_at
 
+-- a cue and its parts, one of them at least optional
+unfoldable pub mixed_cue_at : Reads (List ℕ × List Part)
+mixed_cue_at = where_at (λ x. not (are_required x.1)) (new_cue_at Two)
+
 -- what stands behind a kind
 unfoldable pub body_at : Kind → Reads Event
 body_at kind.Device = as_at (λ x. event.Device x.0 x.1) entry_at
 body_at kind.NoDevice = as_at (λ d. event.NoDevice d) device_at
-body_at kind.Cue = as_at (λ x. event.Cue x.0 x.1) new_cue_at
+body_at kind.Cue = as_at (λ x. event.Cue x.0 x.1) (new_cue_at One)
 body_at kind.NoCue = as_at (λ c. event.NoCue c) cue_at
 body_at kind.Place = as_at (λ c. event.Place c) cue_at
 body_at kind.Start = as_at (λ x. event.Start x.0 x.1.0 x.1.1) start_at
@@ -46,12 +54,14 @@ body_at kind.Done = as_at (λ x. event.Done x.0 x.1) answer_at
 body_at kind.Cancel = as_at (λ x. event.Cancel x.0 x.1) cancel_at
 body_at kind.LetGo = as_at (λ x. event.LetGo x.0 x.1) answer_at
 body_at kind.Failed = as_at (λ x. event.Failed x.0 x.1) answer_at
+body_at kind.MixedCue = as_at (λ x. event.Cue x.0 x.1) mixed_cue_at
+body_at kind.Excuse = as_at (λ x. event.Excuse x.0 x.1) answer_at
 
 -- an event
 unfoldable pub event_at : Reads Event
 event_at bytes = kind_at bytes >>= λ k. body_at k.0 k.1
 
--- a count of events, 1 to 1,024
+-- a count of events, 1 to 4,096
 unfoldable pub event_count_at : Reads ℕ
 event_count_at = where_at (λ n. nat_le 1 n && nat_le n MAX_EVENTS) (number_at w16)
 

@@ -1,10 +1,13 @@
 -- Helper: the fields of a text, how each is spelled. All numbers stand with the highest byte first.
-use Rattle.std.specs.Prelude.{ℕ, List, [], ◌∷◌, ◌++◌, length}
-use Rattle.std.specs.List.{flat_map}
+use Rattle.std.specs.Prelude.{ℕ, Bool, true, false, if◌then◌else◌, List, [], ◌∷◌, ◌++◌, length}
+use Rattle.std.specs.List.{flat_map, list_all}
 use Rattle.std.specs.Int.{w16, w32, w64, to_be_bytes}
+use Rattle.cue_show.specs.Parts.{is_required_part}
 use Rattle.cue_show.specs.declared.part.Part.{Part}
 use Rattle.cue_exchange.specs.declared.attempt.Reason.{Reason}
 use Rattle.cue_exchange.specs.declared.attempt.Reason.TheVariants.{Operator, Deadline, Abort, Power, Release}
+use Rattle.cue_records.specs.declared.version.Version.{Version}
+use Rattle.cue_records.specs.declared.version.Version.TheVariants.{One, Two}
 
 -- one byte
 abbrev pub byte_text : ℕ → List ℕ
@@ -26,21 +29,44 @@ moment_text n = to_be_bytes w64 n
 abbrev pub text_text : List ℕ → List ℕ
 text_text bytes = length bytes ∷ bytes
 
--- a device and its bytes
-abbrev pub part_text : Part → List ℕ
-part_text p = p.device ∷ text_text p.bytes
+-- the number of a part's flag: 1 where the part is optional
+abbrev pub flag_number : Bool → ℕ
+flag_number false = 0
+flag_number true = 1
+
+-- the flag of a part, which version 1 does not have
+abbrev pub flag_text : Version → Bool → List ℕ
+flag_text One optional = []
+flag_text Two optional = byte_text (flag_number optional)
+
+-- a device, its flag and its bytes
+abbrev pub part_text : Version → Part → List ℕ
+part_text version p = p.device ∷ (flag_text version p.optional ++ text_text p.bytes)
 
 -- a count in one byte, and so many parts
-abbrev pub parts_text : List Part → List ℕ
-parts_text parts = length parts ∷ flat_map part_text parts
+abbrev pub parts_text : Version → List Part → List ℕ
+parts_text version parts = length parts ∷ flat_map (part_text version) parts
+
+-- each of the parts is required
+abbrev pub are_required : List Part → Bool
+are_required parts = list_all is_required_part parts
+
+-- the parts have a text in the version: in version 1 only where each is required
+abbrev pub have_text : Version → List Part → Bool
+have_text One parts = are_required parts
+have_text Two parts = true
+
+-- the first version in which the parts have a text
+abbrev pub version_for : List Part → Version
+version_for parts = if are_required parts then One else Two
 
 -- a device and its port
 abbrev pub entry_text : ℕ × ℕ → List ℕ
 entry_text e = byte_text e.0 ++ short_text e.1
 
 -- a cue and its parts
-abbrev pub new_cue_text : List ℕ × List Part → List ℕ
-new_cue_text e = text_text e.0 ++ parts_text e.1
+abbrev pub new_cue_text : Version → List ℕ × List Part → List ℕ
+new_cue_text version e = text_text e.0 ++ parts_text version e.1
 
 -- the number of a reason
 abbrev pub reason_number : Reason → ℕ

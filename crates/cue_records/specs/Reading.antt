@@ -1,9 +1,10 @@
 -- Reading fields from the front of the bytes: what is found, and the bytes behind it.
-use Rattle.std.specs.Prelude.{◌≡◌, ℕ, zero, suc, Bool, ◌&&◌, ◌==◌, if◌then◌else◌, List, [], ◌∷◌, length, take, drop, Option, None, Some, Result, Ok, Err, nat_le, nat_lt}
+use Rattle.std.specs.Prelude.{◌≡◌, ℕ, zero, suc, Bool, true, false, ◌&&◌, ◌==◌, if◌then◌else◌, List, [], ◌∷◌, length, take, drop, Option, None, Some, Result, Ok, Err, nat_le, nat_lt}
 use Rattle.std.specs.Int.{Width, w16, w32, byte_len, from_be_bytes}
 use Rattle.cue_show.specs.DeviceNumber.{is_device}
 use Rattle.cue_show.specs.Devices.{distinct, devices_in}
 use Rattle.cue_show.specs.Number.{is_cue_number}
+use Rattle.cue_show.specs.Parts.{has_required_part}
 use Rattle.cue_show.specs.declared.limits.TheConstants.{MAX_PARTS, MAX_PART_BYTES}
 use Rattle.cue_show.specs.declared.part.Part.{Part}
 use Rattle.cue_exchange.specs.Live.{is_number}
@@ -11,6 +12,8 @@ use Rattle.cue_exchange.specs.declared.attempt.Reason.{Reason}
 use Rattle.cue_exchange.specs.declared.attempt.Reason.TheVariants.{Operator, Deadline, Abort, Power, Release}
 use Rattle.cue_records.specs.declared.fault.ReadFault.{ReadFault}
 use Rattle.cue_records.specs.declared.fault.ReadFault.TheVariants as fault
+use Rattle.cue_records.specs.declared.version.Version.{Version}
+use Rattle.cue_records.specs.declared.version.Version.TheVariants.{One, Two}
 
 -- ---- what a reader is
 
@@ -104,25 +107,34 @@ cue_at = where_at is_cue_number text_at
 unfoldable pub part_bytes_at : Reads (List ℕ)
 part_bytes_at = where_at (λ bytes. nat_le (length bytes) MAX_PART_BYTES) text_at
 
--- a device and its bytes
-unfoldable pub part_at : Reads Part
-part_at = as_at (λ x. record { device = x.0; bytes = x.1 }) (both_at device_at part_bytes_at)
+-- whether a part is optional, by the number of its flag
+abbrev pub flag_of : ℕ → Option Bool
+flag_of n = if n == 0 then Some false else if n == 1 then Some true else None
 
--- a count of parts, 1 to 16
+-- the flag of a part; where there is none it is required
+unfoldable pub flag_at : Version → Reads Bool
+flag_at One = λ bytes. Some (false, bytes)
+flag_at Two = made_at flag_of byte_at
+
+-- a device, its flag and its bytes
+unfoldable pub part_at : Version → Reads Part
+part_at version = as_at (λ x. record { device = x.0; optional = x.1.0; bytes = x.1.1 }) (both_at device_at (both_at (flag_at version) part_bytes_at))
+
+-- a count of parts, at most 16
 unfoldable pub part_count_at : Reads ℕ
-part_count_at = where_at (λ n. nat_le 1 n && nat_le n MAX_PARTS) byte_at
+part_count_at = where_at (λ n. nat_le n MAX_PARTS) byte_at
 
--- a count, and so many parts of distinct devices
-unfoldable pub parts_at : Reads (List Part)
-parts_at = where_at (λ parts. distinct (devices_in parts)) (counted_at part_count_at part_at)
+-- a count, and so many parts of distinct devices, one of them at least required
+unfoldable pub parts_at : Version → Reads (List Part)
+parts_at version = where_at (λ parts. has_required_part parts && distinct (devices_in parts)) (counted_at part_count_at (part_at version))
 
 -- a device and its port
 unfoldable pub entry_at : Reads (ℕ × ℕ)
 entry_at = both_at device_at port_at
 
 -- a cue and its parts
-unfoldable pub new_cue_at : Reads (List ℕ × List Part)
-new_cue_at = both_at cue_at parts_at
+unfoldable pub new_cue_at : Version → Reads (List ℕ × List Part)
+new_cue_at version = both_at cue_at (parts_at version)
 
 -- the reason with the number
 abbrev pub reason_of : ℕ → Option Reason

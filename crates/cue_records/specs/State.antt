@@ -1,6 +1,6 @@
 -- The text of a state.
-use Rattle.std.specs.Prelude.{◌≢◌, ℕ, ◌+◌, ◌==◌, Bool, false, not, List, [], ◌∷◌, ◌++◌, length, map, Option, None, Some, IsTrue}
-use Rattle.std.specs.List.{flat_map}
+use Rattle.std.specs.Prelude.{◌≡◌, ℕ, ◌+◌, ◌==◌, Bool, true, false, ◌&&◌, if◌then◌else◌, List, [], ◌∷◌, ◌++◌, length, map, nat_le, Option, None, Some, is_none, IsTrue}
+use Rattle.std.specs.List.{flat_map, list_all}
 use Rattle.cue_show.specs.Show.{Cues, ShowLists}
 use Rattle.cue_exchange.specs.declared.attempt.Answer.{Answer}
 use Rattle.cue_exchange.specs.declared.attempt.Answer.TheVariants as answer
@@ -12,8 +12,10 @@ use Rattle.cue_exchange.specs.declared.attempt.Stage.{Stage}
 use Rattle.cue_exchange.specs.declared.attempt.Stage.TheVariants.{Preparing, Decided, Cancelling}
 use Rattle.cue_core.specs.declared.event.Ended.{Ended}
 use Rattle.cue_core.specs.State.{ShowState, is_state}
-use Rattle.cue_records.specs.declared.state.TheConstants.{VERSION}
-use Rattle.cue_records.specs.Fields.{byte_text, short_text, number_text, moment_text, text_text, entry_text, new_cue_text, reason_number}
+use Rattle.cue_records.specs.declared.state.TheConstants.{VERSION, OLD_VERSION, OLD_MAX_CUES}
+use Rattle.cue_records.specs.declared.version.Version.{Version}
+use Rattle.cue_records.specs.declared.version.Version.TheVariants.{One, Two}
+use Rattle.cue_records.specs.Fields.{byte_text, short_text, number_text, moment_text, text_text, entry_text, new_cue_text, reason_number, are_required}
 
 -- ---- the show
 
@@ -22,8 +24,8 @@ abbrev pub table_text : List (ℕ × ℕ) → List ℕ
 table_text devices = byte_text (length devices) ++ flat_map entry_text devices
 
 -- a count in two bytes, and so many cues
-abbrev pub stack_text : Cues → List ℕ
-stack_text cues = short_text (length cues) ++ flat_map new_cue_text cues
+abbrev pub stack_text : Version → Cues → List ℕ
+stack_text version cues = short_text (length cues) ++ flat_map (new_cue_text version) cues
 
 -- the place, or an empty text where there is none
 abbrev pub place_text : Option (List ℕ) → List ℕ
@@ -31,8 +33,8 @@ place_text None = text_text []
 place_text (Some c) = text_text c
 
 -- the devices, the cues and the place
-abbrev pub show_text : ShowLists → List ℕ
-show_text s = table_text s.devices ++ (stack_text s.cues ++ place_text s.place)
+abbrev pub show_text : Version → ShowLists → List ℕ
+show_text version s = table_text s.devices ++ (stack_text version s.cues ++ place_text s.place)
 
 -- ---- the attempts
 
@@ -54,6 +56,7 @@ answer_number answer.Ready = 1
 answer_number answer.Done = 2
 answer_number answer.LetGo = 3
 answer_number answer.Failed = 4
+answer_number answer.Excused = 5
 
 -- one byte for each answer, in part order
 abbrev pub answers_text : List DeviceAnswer → List ℕ
@@ -67,17 +70,43 @@ attempt_text a = number_text a.seq ++ (text_text a.cue ++ (moment_text a.deadlin
 abbrev pub live_text : List Attempt → List ℕ
 live_text live = byte_text (length live) ++ flat_map attempt_text live
 
--- ---- the state
+-- ---- the versions
 
--- the version, the show, the last number, the attempt that ended last, and the live ones
-abbrev pub state_text : ShowState → List ℕ
-state_text s = byte_text VERSION ++ (show_text s.show ++ (number_text s.last_seq ++ (ended_text s.ended ++ live_text s.live)))
+-- the number of a version
+abbrev pub version_number : Version → ℕ
+version_number One = OLD_VERSION
+version_number Two = VERSION
 
--- the bytes begin with another version
+-- the version with the number
+abbrev pub version_of : ℕ → Option Version
+version_of n = if n == OLD_VERSION then Some One else if n == VERSION then Some Two else None
+
+-- the bytes begin with the number of no version
 abbrev pub is_other_version : List ℕ → Bool
 is_other_version [] = false
-is_other_version (b ∷ bytes) = not (b == VERSION)
+is_other_version (b ∷ bytes) = is_none (version_of b)
+
+-- the state has a text in the version: in version 1 only where it has at most 256 cues, of required parts alone
+abbrev pub has_text : Version → ShowState → Bool
+has_text One s = nat_le (length s.show.cues) OLD_MAX_CUES && list_all (λ e. are_required e.1) s.show.cues
+has_text Two s = true
+
+-- ---- the state
+
+-- the number of the version, the show, the last number, the attempt that ended last, and the live ones
+abbrev pub text_in : Version → ShowState → List ℕ
+text_in version s = byte_text (version_number version) ++ (show_text version s.show ++ (number_text s.last_seq ++ (ended_text s.ended ++ live_text s.live)))
+
+-- the text of a state as it is written, which each state has
+abbrev pub state_text : ShowState → List ℕ
+state_text s = text_in Two s
+
+-- The bytes are a text of the state, in a version in which it has one.
+pub record IsStateText (bytes : List ℕ) (s : ShowState) : Type 0 where
+  pub version : Version
+  pub has : IsTrue (has_text version s)
+  pub is : bytes ≡ text_in version s
 
 -- the bytes are the text of no state
 abbrev pub IsNoState : List ℕ → Type 0
-IsNoState bytes = (s : ShowState) → IsTrue (is_state s) → bytes ≢ state_text s
+IsNoState bytes = (s : ShowState) → IsTrue (is_state s) → IsStateText bytes s → ⊥

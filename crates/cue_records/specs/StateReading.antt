@@ -1,8 +1,10 @@
 -- Reading a state.
-use Rattle.std.specs.Prelude.{◌≡◌, ℕ, zero, suc, Bool, ◌&&◌, ◌==◌, if◌then◌else◌, List, [], ◌∷◌, length, Option, None, Some, Result, Ok, Err}
+use Rattle.std.specs.Prelude.{◌≡◌, ℕ, zero, suc, Bool, ◌&&◌, ◌||◌, ◌==◌, if◌then◌else◌, List, [], ◌∷◌, length, nat_le, Option, None, Some, Result, Ok, Err}
 use Rattle.std.specs.Int.{w16, w32, w64}
+use Rattle.std.specs.Str.{bytes_eq}
 use Rattle.cue_show.specs.Number.{is_cue_number}
 use Rattle.cue_show.specs.Show.{ShowLists, empty_show, parts_of, is_place_of, can_add_device, can_add_cue, with_device, with_cue, with_place}
+use Rattle.cue_show.specs.declared.limits.TheConstants.{MAX_CUES}
 use Rattle.cue_show.specs.declared.part.Part.{Part}
 use Rattle.cue_exchange.specs.Steps.{are_below, can_put, with_attempt}
 use Rattle.cue_exchange.specs.declared.attempt.Answer.{Answer}
@@ -17,8 +19,11 @@ use Rattle.cue_core.specs.declared.event.Ended.{Ended}
 use Rattle.cue_core.specs.State.{ShowState, is_state}
 use Rattle.cue_records.specs.declared.fault.StateFault.{StateFault}
 use Rattle.cue_records.specs.declared.fault.StateFault.TheVariants as fault
-use Rattle.cue_records.specs.Reading.{◌>>=◌, Reads, where_it, made_at, both_at, byte_at, number_at, text_at, sequence_at, cue_at, entry_at, new_cue_at}
-use Rattle.cue_records.specs.State.{is_other_version}
+use Rattle.cue_records.specs.declared.state.TheConstants.{OLD_MAX_CUES}
+use Rattle.cue_records.specs.declared.version.Version.{Version}
+use Rattle.cue_records.specs.declared.version.Version.TheVariants.{One, Two}
+use Rattle.cue_records.specs.Reading.{◌>>=◌, Reads, where_it, where_at, made_at, both_at, byte_at, number_at, text_at, sequence_at, cue_at, entry_at, new_cue_at}
+use Rattle.cue_records.specs.State.{version_of, has_text, text_in}
 
 -- what a function returned is what reading gives, unless memory ran out
 abbrev pub GivesState : Result ShowState StateFault → Option ShowState → Type 0
@@ -45,8 +50,8 @@ unfoldable pub device_step : ShowLists → Reads ShowLists
 device_step = added_at (λ s e. can_add_device s e.0 e.1) (λ s e. with_device s e.0 e.1) entry_at
 
 -- one cue more
-unfoldable pub cue_step : ShowLists → Reads ShowLists
-cue_step = added_at (λ s e. can_add_cue s e.0 e.1) (λ s e. with_cue s e.0 e.1) new_cue_at
+unfoldable pub cue_step : Version → ShowLists → Reads ShowLists
+cue_step version = added_at (λ s e. can_add_cue s e.0 e.1) (λ s e. with_cue s e.0 e.1) (new_cue_at version)
 
 -- the place with the text; none where it is empty
 abbrev pub place_of : List ℕ → Option (Option (List ℕ))
@@ -65,13 +70,22 @@ place_step = added_at is_place_of with_place place_at
 unfoldable pub table_at : ShowLists → Reads ShowLists
 table_at s bytes = byte_at bytes >>= λ n. fold_at device_step n.0 s n.1
 
+-- the most cues of a text in the version
+abbrev pub most_cues : Version → ℕ
+most_cues One = OLD_MAX_CUES
+most_cues Two = MAX_CUES
+
+-- a count of cues, no more than the version has
+unfoldable pub cue_count_at : Version → Reads ℕ
+cue_count_at version = where_at (λ n. nat_le n (most_cues version)) (number_at w16)
+
 -- a count, and so many cues
-unfoldable pub stack_at : ShowLists → Reads ShowLists
-stack_at s bytes = number_at w16 bytes >>= λ n. fold_at cue_step n.0 s n.1
+unfoldable pub stack_at : Version → ShowLists → Reads ShowLists
+stack_at version s bytes = cue_count_at version bytes >>= λ n. fold_at (cue_step version) n.0 s n.1
 
 -- the devices, the cues and the place
-unfoldable pub show_at : ShowLists → Reads ShowLists
-show_at s bytes = table_at s bytes >>= λ t. stack_at t.0 t.1 >>= λ u. place_step u.0 u.1
+unfoldable pub show_at : Version → ShowLists → Reads ShowLists
+show_at version s bytes = table_at s bytes >>= λ t. stack_at version t.0 t.1 >>= λ u. place_step u.0 u.1
 
 -- ---- the attempts
 
@@ -96,16 +110,17 @@ stage_at = made_at stage_of byte_at
 -- the answer with the number
 abbrev pub answer_of : ℕ → Option Answer
 answer_of n =
-    if n == 0 then Some answer.Waiting else if n == 1 then Some answer.Ready else if n == 2 then Some answer.Done else if n == 3 then Some answer.LetGo else if n == 4 then Some answer.Failed else None
+    if n == 0 then Some answer.Waiting else if n == 1 then Some answer.Ready else if n == 2 then Some answer.Done else if n == 3 then Some answer.LetGo else if n == 4 then Some answer.Failed
+    else if n == 5 then Some answer.Excused else None
 
 -- one answer
 unfoldable pub one_answer_at : Reads Answer
 one_answer_at = made_at answer_of byte_at
 
--- an answer for each of the parts
+-- an answer for the device of each part
 unfoldable pub answers_at : List Part → Reads (List DeviceAnswer)
 answers_at [] bytes = Some ([], bytes)
-answers_at (p ∷ ps) bytes = one_answer_at bytes >>= λ a. answers_at ps a.1 >>= λ xs. Some (record { device = p.device; answer = a.0 } ∷ xs.0, xs.1)
+answers_at (p ∷ ps) bytes = one_answer_at bytes >>= λ a. answers_at ps a.1 >>= λ xs. Some (record { device = p.device; optional = p.optional; answer = a.0 } ∷ xs.0, xs.1)
 
 -- what stands before the answers of an attempt: a number, a cue, a moment and a stage
 unfoldable pub head_at : Reads (ℕ × (List ℕ × (ℕ × Stage)))
@@ -139,11 +154,19 @@ tail_of show live bytes =
 abbrev pub checked : ShowState → Option ShowState
 checked s = where_it (is_state s) s
 
--- what stands behind the version
-unfoldable pub standing_of : List ℕ → Option ShowState
-standing_of bytes = show_at empty_show bytes >>= λ show. tail_of show.0 [] show.1 >>= λ t. checked (record { show = show.0; live = t.1.1; last_seq = t.0; ended = t.1.0 })
+-- what stands behind the number of the version
+unfoldable pub standing_of : Version → List ℕ → Option ShowState
+standing_of version bytes = show_at version empty_show bytes >>= λ show. tail_of show.0 [] show.1 >>= λ t. checked (record { show = show.0; live = t.1.1; last_seq = t.0; ended = t.1.0 })
 
 -- the state whose text the bytes are
 unfoldable pub state_of : List ℕ → Option ShowState
 state_of [] = None
-state_of (b ∷ bytes) = if is_other_version (b ∷ bytes) then None else standing_of bytes
+state_of (b ∷ bytes) = version_of b >>= λ version. standing_of version bytes
+
+-- the bytes are the text of the state in the version, in which it has one
+abbrev pub is_text_in : Version → List ℕ → ShowState → Bool
+is_text_in version bytes s = has_text version s && bytes_eq bytes (text_in version s)
+
+-- the bytes are a text of the state
+abbrev pub is_state_text : List ℕ → ShowState → Bool
+is_state_text bytes s = is_text_in Two bytes s || is_text_in One bytes s

@@ -16,7 +16,7 @@ use std::alloc::{AllocError, Global};
 use std::marker::Model;
 
 /// The most events of a batch.
-pub const MAX_EVENTS: usize = 1024;
+pub const MAX_EVENTS: usize = 4096;
 
 /// The events of a batch, in order.
 #[derive(Drop)]
@@ -56,7 +56,7 @@ pub fn batch_len(events: &[Event]) -> u64
     length::events_len(events).saturating_add(2)
 }
 
-/// The text of a batch: 1 to 1,024 events, each within its ranges. Events that may happen to a state one after the other, as those of
+/// The text of a batch: 1 to 4,096 events, each within its ranges. Events that may happen to a state one after the other, as those of
 /// `judge` may, are within them. It takes memory once, as much as the text has bytes.
 pub fn write_batch(alloc: Global, events: &[Event]) -> Result<Bytes, AllocError>
     requires { IsTrue (is_batch events.now) }

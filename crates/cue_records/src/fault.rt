@@ -19,7 +19,7 @@ pub enum ReadFault {
 /// Why bytes are not read as a state.
 #[derive(Clone, Copy, Debug, PartialEq, Eq, Error)]
 pub enum StateFault {
-    /// The text is of another version of the format: its first byte is not `VERSION`.
+    /// The text is of another version of the format: its first byte is neither `VERSION` nor `OLD_VERSION`.
     #[error("the text is of another version")]
     Version,
     /// The bytes are the text of no state.

@@ -16,7 +16,7 @@ pub fn acceptable_events_fit()
     ensures { AcceptableEventsFit }
 {}
 
-/// The text of a state reads back as the state.
+/// Each text of a state reads back as the state.
 pub fn states_are_read_back()
     ensures { StatesAreReadBack }
 {}
@@ -31,7 +31,7 @@ pub fn state_texts_are_bounded()
     ensures { StateTextsAreBounded }
 {}
 
-/// The limits of the texts as numbers: 1,024 events of a batch, version 1, and 144,607 bytes of a state.
+/// The limits of the texts as numbers: 4,096 events of a batch, version 2 and version 1 with its 256 cues, and 592,607 bytes of a state.
 pub fn limits_of_texts()
     ensures { LimitsOfTexts }
 {}

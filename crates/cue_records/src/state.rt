@@ -1,7 +1,7 @@
 //! States as bytes.
 ghost use Rattle.std.specs.Prelude.{◌≡◌, ◌↔◌, IsTrue, IfOk, IsErrOf};
 ghost use Rattle.cue_core.specs.State.{is_state};
-ghost use Rattle.cue_records.specs.State.{state_text, is_other_version, IsNoState};
+ghost use Rattle.cue_records.specs.State.{state_text, is_other_version, IsStateText, IsNoState};
 ghost use Rattle.cue_records.specs.StateReading.{GivesState, state_of};
 
 mod numbers;
@@ -16,13 +16,19 @@ use cue_show::Bytes;
 use cue_show::limits::{MAX_CUE_BYTES, MAX_CUES, MAX_DEVICES, MAX_PART_BYTES, MAX_PARTS};
 use std::alloc::{AllocError, Global};
 
-/// The version of the format, the first byte of each text of a state.
-pub const VERSION: u8 = 1;
+/// The version of the format: the first byte of each text of a state that is written.
+pub const VERSION: u8 = 2;
+
+/// The version before it, whose texts are still read: each part is required.
+pub const OLD_VERSION: u8 = 1;
+
+/// The most cues of a text in that version.
+pub const OLD_MAX_CUES: usize = 256;
 
 // The most bytes of a cue number with its length, of a cue with its parts, and of an attempt.
 const NUMBER_BYTES: usize = 1 + MAX_CUE_BYTES;
 
-const CUE_BYTES: usize = NUMBER_BYTES + 1 + MAX_PARTS * (2 + MAX_PART_BYTES);
+const CUE_BYTES: usize = NUMBER_BYTES + 1 + MAX_PARTS * (3 + MAX_PART_BYTES);
 
 const ATTEMPT_BYTES: usize = 4 + NUMBER_BYTES + 8 + 1 + MAX_PARTS;
 
@@ -59,13 +65,13 @@ pub fn write_state(alloc: Global, state: &State) -> Result<Bytes, AllocError>
     Ok(Bytes::from_vec(out))
 }
 
-/// The state whose text the bytes are, all of the bytes.
+/// The state whose text the bytes are, all of the bytes, in this version or in the one before it.
 pub fn read_state(alloc: Global, bytes: &[u8]) -> Result<State, StateFault>
     // The first byte alone tells the version, before anything else is looked at.
     ensures version { IsErrOf result StateFault.Version ↔ IsTrue (is_other_version bytes.now) }
-    // What is read keeps the rules of a state, and the bytes are its text.
-    ensures found { IfOk result (λ state. IsTrue (is_state state) × (bytes.now ≡ state_text state)) }
-    // The text of a state is never refused as malformed.
+    // What is read keeps the rules of a state, and the bytes are a text of it.
+    ensures found { IfOk result (λ state. IsTrue (is_state state) × IsStateText bytes.now state) }
+    // No text of a state is refused as malformed.
     ensures only { IsErrOf result StateFault.Malformed → IsNoState bytes.now }
     // What is read is what reading from front to back finds.
     ensures exact { GivesState result (state_of bytes.now) }
@@ -80,11 +86,11 @@ fn state_in(alloc: Global, bytes: &[u8]) -> Result<State, StateFault>
 {
     match bytes {
         [] => Err(StateFault::Malformed),
-        [version, rest @ ..] => {
-            if *version != VERSION {
+        [number, rest @ ..] => {
+            let Some(version) = numbers::version_of(*number) else {
                 return Err(StateFault::Version);
-            }
-            match reading::standing_of(alloc, rest) {
+            };
+            match reading::standing_of(alloc, version, rest) {
                 Ok(state) => Ok(state),
                 Err(ReadFault::Malformed) => Err(StateFault::Malformed),
                 Err(ReadFault::Memory) => Err(StateFault::Memory),

@@ -6,6 +6,7 @@ mod batches;
 mod malformed;
 mod states;
 mod told;
+mod versions;
 
 // The bytes of hexadecimal digits; spaces are for reading.
 fn bytes(alloc: Global, digits: &str) -> Result<Vec<u8>, AllocError> {

@@ -66,7 +66,7 @@ fn codes_have_their_numbers(rt: HostRuntime) -> Result<(), Fail> {
     refuse_each(&rt, rt.alloc(), &State::empty(rt.alloc()))
 }
 
-// At most 16 parts, and at most 32 bytes in each.
+// At most 16 parts, one of them at least required, and at most 32 bytes in each.
 const FIT: &str = "\
 fit status = yes
 fit add_device 0 0 = no
@@ -88,6 +88,11 @@ fit add_cue 1 3: = yes
 fit add_cue 1 3: 4: 3:up = no
 fit add_cue 1 0: 1: 2: 3: 4: 5: 6: 7: 8: 9: 10: 11: 12: 13: 14: 15: = yes
 fit add_cue 1 0: 1: 2: 3: 4: 5: 6: 7: 8: 9: 10: 11: 12: 13: 14: 15: 16: = no
+fit add_cue 1 3? = no
+fit add_cue 1 3? 4?up = no
+fit add_cue 1 3? 4: = yes
+fit add_cue 1 3: 4? = yes
+fit add_cue 1 3? 3: = no
 fit add_cue 1 3:12345678901234567890123456789012 = yes
 fit add_cue 1 3:123456789012345678901234567890123 = no";
 

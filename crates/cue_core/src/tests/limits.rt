@@ -12,10 +12,10 @@ fn apply_words(rt: &impl Abort, alloc: Global, state: &mut State, text: &str) ->
     apply(rt, state, &reading::event(alloc, &words)?)
 }
 
-// Device 3, and cues 1 to 256 for it.
+// Device 3, and cues 1 to 1024 for it.
 fn fill_the_stack(rt: &impl Abort, alloc: Global, state: &mut State) -> Result<(), Fail> {
     apply_words(rt, alloc, state, "Device 3 9001")?;
-    for number in 1_u16..=256 {
+    for number in 1_u16..=1024 {
         apply_words(
             rt,
             alloc,
@@ -28,23 +28,23 @@ fn fill_the_stack(rt: &impl Abort, alloc: Global, state: &mut State) -> Result<(
 
 // A device that is not there, equal parts and other parts are told before there is no room.
 const FULL_STACK: &str = "\
-add_cue 257 3: = 7 Full
-add_cue 257 4: = 9 UnknownDevice
-add_cue 256 3: = known
+add_cue 1025 3: = 7 Full
+add_cue 1025 4: = 9 UnknownDevice
+add_cue 1024 3: = known
 add_cue 1 3:up = 6 Duplicate
 remove_cue 17 = made NoCue 17
-add_cue 257 3: = made Cue 257 3:
+add_cue 1025 3: = made Cue 1025 3:
 add_cue 17 3: = 7 Full";
 
 fn pass_the_last_cue(rt: &impl Abort, alloc: Global, state: &mut State) -> Result<(), Fail> {
     fill_the_stack(rt, alloc, state)?;
     run(rt, alloc, state, FULL_STACK)?;
-    assert_eq!(rt; state.show().cues().len(), 256);
+    assert_eq!(rt; state.show().cues().len(), 1024);
     Ok(())
 }
 
 #[test]
-fn a_stack_holds_256_cues(rt: HostRuntime) -> Result<(), Fail> {
+fn a_stack_holds_1024_cues(rt: HostRuntime) -> Result<(), Fail> {
     pass_the_last_cue(&rt, rt.alloc(), &mut State::empty(rt.alloc()))
 }
 

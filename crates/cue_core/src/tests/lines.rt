@@ -4,7 +4,7 @@ use super::{SHOW, run_each};
 use std::test::Fail;
 
 // The device table and the cue stack from their first entries.
-const TABLES: [&str; 2] = [
+const TABLES: [&str; 3] = [
     // Devices come and go.
     "\
 add_device 3 9001 = made Device 3 9001
@@ -37,6 +37,21 @@ add_cue 01 4: = made Cue 01 4:
 add_cue 1.0 4: = made Cue 1.0 4:
 add_cue 1.0 4:0 = 6 Duplicate
 state = devices 3:9001 4:9002 | cue 1 3:up 4: | cue 01 4: | cue 1.0 4: | place - | last 0 | ended -",
+    // A part is the same only where it is optional in both lists, or in neither.
+    "\
+add_device 3 9001 = made Device 3 9001
+add_device 4 9002 = made Device 4 9002
+add_cue 1 3:up 4? = made Cue 1 3:up 4?
+add_cue 1 3:up 4? = known
+add_cue 1 3:up 4: = 6 Duplicate
+add_cue 1 3?up 4: = 6 Duplicate
+add_cue 1 3:up = 6 Duplicate
+add_cue 1 4? 3:up = 6 Duplicate
+add_cue 1 3:up 4?0 = 6 Duplicate
+add_cue 1 3:up 5? = 9 UnknownDevice
+add_cue 2 3:up 4: = made Cue 2 3:up 4:
+add_cue 2 3:up 4? = 6 Duplicate
+state = devices 3:9001 4:9002 | cue 1 3:up 4? | cue 2 3:up 4: | place - | last 0 | ended -",
 ];
 
 #[test]

@@ -22,10 +22,17 @@ fn device(text: &str) -> Result<DeviceNo, Fail> {
     Ok(DeviceNo::of(text.parse()?).ok_or("no device number")?)
 }
 
-// A device and its bytes, as in `3:up`.
+// A device and its bytes, as in `3:up`, or in `4?up` where the part is optional.
 fn part(alloc: Global, text: &str) -> Result<Part, Fail> {
-    let (number, bytes) = text.split_once(":").ok_or("no part")?;
-    Ok(Part::of(alloc, device(number)?, bytes.as_bytes())?)
+    let (number, optional, bytes) = match text.split_once("?") {
+        Some((number, bytes)) => (number, true, bytes),
+        None => {
+            let (number, bytes) = text.split_once(":").ok_or("no part")?;
+            (number, false, bytes)
+        }
+    };
+    let device = device(number)?;
+    Ok(Part::of(alloc, device, optional, bytes.as_bytes())?)
 }
 
 fn parts(alloc: Global, words: &[&str]) -> Result<Parts, Fail> {
@@ -114,6 +121,7 @@ fn event_of_device(name: &str, seq: u32, device: DeviceNo) -> Result<Event, Fail
         "Done" => Ok(Event::Done(seq, device)),
         "LetGo" => Ok(Event::LetGo(seq, device)),
         "Failed" => Ok(Event::Failed(seq, device)),
+        "Excuse" => Ok(Event::Excuse(seq, device)),
         _ => Err("no event of a device")?,
     }
 }

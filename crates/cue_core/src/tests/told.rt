@@ -67,6 +67,7 @@ fn push_event(text: &mut String, event: &Event) -> Result<(), AllocError> {
         Event::Cancel(seq, reason) => write!(text, " Cancel {} {:?}", *seq, *reason),
         Event::LetGo(seq, device) => write!(text, " LetGo {} {}", *seq, device.number()),
         Event::Failed(seq, device) => write!(text, " Failed {} {}", *seq, device.number()),
+        Event::Excuse(seq, device) => write!(text, " Excuse {} {}", *seq, device.number()),
     }
 }
 
@@ -95,7 +96,8 @@ fn push_start(text: &mut String, seq: u32, cue: CueNo, deadline: u64) -> Result<
 
 fn push_parts(text: &mut String, parts: &Parts) -> Result<(), AllocError> {
     for part in parts.as_slice() {
-        write!(text, " {}:", part.device.number())?;
+        let sign = if part.optional { "?" } else { ":" };
+        write!(text, " {}{sign}", part.device.number())?;
         push_text(text, part.bytes.as_slice())?;
     }
     Ok(())
@@ -160,7 +162,8 @@ fn push_attempt(text: &mut String, attempt: &Attempt) -> Result<(), AllocError> 
     push_text(text, attempt.cue.text())?;
     write!(text, " until {} {:?}", attempt.deadline, attempt.stage)?;
     for x in attempt.answers.as_slice() {
-        write!(text, " {} {:?}", x.device.number(), x.answer)?;
+        let sign = if x.optional { "?" } else { "" };
+        write!(text, " {}{sign} {:?}", x.device.number(), x.answer)?;
     }
     Ok(())
 }

@@ -48,7 +48,7 @@ fn eight(rt: &impl Abort, alloc: Global) -> Result<Live, Fail> {
         (7, 7),
         (8, 8),
     ] {
-        start(rt, &mut live, seq, &parts(alloc, &[number])?)?;
+        start(rt, &mut live, seq, &parts(alloc, &[number], &[])?)?;
     }
     Ok(live)
 }
@@ -58,7 +58,7 @@ fn eight_attempts_are_live(rt: HostRuntime) -> Result<(), Fail> {
     let live = eight(&rt, rt.alloc())?;
     assert_eq!(rt; live.len(), 8);
     assert!(rt; !live.has_room());
-    assert!(rt; !live.can_start(9, 11000, &parts(rt.alloc(), &[9])?));
+    assert!(rt; !live.can_start(9, 11000, &parts(rt.alloc(), &[9], &[])?));
     assert_eq!(rt; live.due(10999)?.as_slice(), [].as_slice());
     assert_eq!(rt;
         live.due(11000)?.as_slice(),
@@ -92,23 +92,28 @@ fn an_attempt_may_begin(rt: HostRuntime) -> Result<(), Fail> {
         &rt,
         rt.alloc(),
         &[(
-            Step::Start(3, &[1, 2, 3]),
+            Step::Start(3, &[1, 2, 3], &[]),
             None,
             "3 until 11000 Preparing: 1 Waiting 2 Waiting 3 Waiting\n",
         )],
     )?;
-    let none: &[i32] = &[];
-    for (seq, devices, may) in [
-        (9, &[4, 5] as &[i32], true),
-        (3, &[4], false),
-        (9, &[4, 3], false),
-        (9, &[4, 4], false),
-        (9, none, false),
-    ] {
+    let cases: [(u32, &[i32], &[i32], bool); 10] = [
+        (9, &[4, 5], &[], true),
+        (3, &[4], &[], false),
+        (9, &[4, 3], &[], false),
+        (9, &[4, 4], &[], false),
+        (9, &[], &[], false),
+        (9, &[4], &[5, 6], true),
+        (9, &[], &[4], false),
+        (9, &[], &[4, 5], false),
+        (9, &[4], &[4], false),
+        (9, &[4], &[3], false),
+    ];
+    for (seq, required, optional, may) in cases {
         assert_eq!(rt;
-            live.can_start(seq, 0, &parts(rt.alloc(), devices)?),
+            live.can_start(seq, 0, &parts(rt.alloc(), required, optional)?),
             may,
-            "{seq} {devices:?}"
+            "{seq} {required:?} {optional:?}"
         );
     }
     Ok(())
@@ -128,6 +133,7 @@ fn answers_are_read(rt: HostRuntime) -> Result<(), Fail> {
         attempt.answers.into_vec().as_slice(),
         [DeviceAnswer {
             device: device(3)?,
+            optional: false,
             answer: Answer::Ready
         }]
         .as_slice()

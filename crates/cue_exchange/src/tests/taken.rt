@@ -10,7 +10,7 @@ fn a_cue_is_carried_out(rt: HostRuntime) -> Result<(), Fail> {
         rt.alloc(),
         &[
             (
-                Step::Start(1, &[3, 4]),
+                Step::Start(1, &[3, 4], &[]),
                 None,
                 "1 until 11000 Preparing: 3 Waiting 4 Waiting\n",
             ),
@@ -48,7 +48,7 @@ fn a_cue_fails(rt: HostRuntime) -> Result<(), Fail> {
         rt.alloc(),
         &[
             (
-                Step::Start(7, &[3, 4]),
+                Step::Start(7, &[3, 4], &[]),
                 None,
                 "7 until 11000 Preparing: 3 Waiting 4 Waiting\n",
             ),
@@ -86,7 +86,7 @@ fn a_preparation_is_given_up(rt: HostRuntime) -> Result<(), Fail> {
         rt.alloc(),
         &[
             (
-                Step::Start(1, &[3, 4]),
+                Step::Start(1, &[3, 4], &[]),
                 None,
                 "1 until 11000 Preparing: 3 Waiting 4 Waiting\n",
             ),
@@ -107,7 +107,7 @@ fn a_preparation_is_given_up(rt: HostRuntime) -> Result<(), Fail> {
             ),
             (Step::Failed(1, 4), Some(Outcome::Cancelled), ""),
             (
-                Step::Start(2, &[3]),
+                Step::Start(2, &[3], &[]),
                 None,
                 "2 until 11000 Preparing: 3 Waiting\n",
             ),
@@ -129,17 +129,17 @@ fn an_attempt_ends_in_the_middle(rt: HostRuntime) -> Result<(), Fail> {
         rt.alloc(),
         &[
             (
-                Step::Start(1, &[1]),
+                Step::Start(1, &[1], &[]),
                 None,
                 "1 until 11000 Preparing: 1 Waiting\n",
             ),
             (
-                Step::Start(2, &[2]),
+                Step::Start(2, &[2], &[]),
                 None,
                 "1 until 11000 Preparing: 1 Waiting\n2 until 11000 Preparing: 2 Waiting\n",
             ),
             (
-                Step::Start(3, &[3]),
+                Step::Start(3, &[3], &[]),
                 None,
                 "1 until 11000 Preparing: 1 Waiting\n2 until 11000 Preparing: 2 Waiting\n3 until 11000 Preparing: 3 Waiting\n",
             ),
@@ -154,7 +154,7 @@ fn an_attempt_ends_in_the_middle(rt: HostRuntime) -> Result<(), Fail> {
                 "1 until 11000 Preparing: 1 Waiting\n3 until 11000 Preparing: 3 Waiting\n",
             ),
             (
-                Step::Start(4, &[2]),
+                Step::Start(4, &[2], &[]),
                 None,
                 "1 until 11000 Preparing: 1 Waiting\n3 until 11000 Preparing: 3 Waiting\n4 until 11000 Preparing: 2 Waiting\n",
             ),

@@ -9,7 +9,7 @@ use std::test::Fail;
 
 // Attempt 1 at cue 2 with device 3, and attempt 2 at cue 3 with device 4.
 const BOTH: [Step; 3] = [
-    Step::Cue(b"3", &[(4, b"\x0c")]),
+    Step::Cue(b"3", &[(4, false, b"\x0c")]),
     Step::Start(1, b"2"),
     Step::Start(2, b"3"),
 ];
@@ -39,6 +39,7 @@ const BATCH: &[Step] = &[
     Step::Start(12, b"2"),
     Step::Ready(3, 4),
     Step::Go(5),
+    Step::Excuse(7, 3),
     Step::Done(4, 4),
     Step::Cancel(12, Reason::Abort),
     Step::LetGo(2, 4),

@@ -1,5 +1,5 @@
 //! The commands that the devices are still to answer.
-use super::{Step, Wanted, expect_pending};
+use super::{MIXED, SHOW, Step, Wanted, expect_pending};
 use cue_core::State;
 use cue_exchange::Reason;
 use std::test::Fail;
@@ -77,11 +77,62 @@ const ROWS: [Row; 10] = [
     ),
 ];
 
+// Events at the cue that may go without device 4, and what is pending then.
+const EXCUSED: [Row; 7] = [
+    (&[Step::Start(1, b"1")], &[STANDBY_3, STANDBY_4]),
+    (&[Step::Start(1, b"1"), Step::Excuse(1, 4)], &[STANDBY_3]),
+    (
+        &[Step::Start(1, b"1"), Step::Ready(1, 4), Step::Excuse(1, 4)],
+        &[STANDBY_3],
+    ),
+    (
+        &[Step::Start(1, b"1"), Step::Ready(1, 3), Step::Excuse(1, 4)],
+        &[],
+    ),
+    (
+        &[
+            Step::Start(1, b"1"),
+            Step::Ready(1, 3),
+            Step::Excuse(1, 4),
+            Step::Go(1),
+        ],
+        &[GO_3],
+    ),
+    (
+        &[
+            Step::Start(1, b"1"),
+            Step::Ready(1, 3),
+            Step::Excuse(1, 4),
+            Step::Cancel(1, Reason::Operator),
+        ],
+        &[CANCEL_3],
+    ),
+    // an optional device that was not excused is told as any other
+    (
+        &[
+            Step::Start(1, b"1"),
+            Step::Ready(1, 3),
+            Step::Ready(1, 4),
+            Step::Go(1),
+        ],
+        &[GO_3, GO_4],
+    ),
+];
+
 #[test]
 fn commands_are_pending(rt: HostRuntime) -> Result<(), Fail> {
     for (steps, wanted) in ROWS {
         let mut state = State::empty(rt.alloc());
-        expect_pending(&rt, rt.alloc(), &mut state, steps, wanted)?;
+        expect_pending(&rt, rt.alloc(), &mut state, &SHOW, steps, wanted)?;
+    }
+    Ok(())
+}
+
+#[test]
+fn an_excused_device_is_told_nothing(rt: HostRuntime) -> Result<(), Fail> {
+    for (steps, wanted) in EXCUSED {
+        let mut state = State::empty(rt.alloc());
+        expect_pending(&rt, rt.alloc(), &mut state, &MIXED, steps, wanted)?;
     }
     Ok(())
 }

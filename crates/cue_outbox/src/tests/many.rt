@@ -24,7 +24,7 @@ fn parts_of(alloc: Global, seq: u32) -> Result<Parts, Fail> {
     let mut parts = Parts::new(alloc);
     let first = first_of(seq);
     for number in first..first.saturating_add(13) {
-        parts.push(Part::of(alloc, device(number)?, &[number])?)?;
+        parts.push(Part::of(alloc, device(number)?, false, &[number])?)?;
     }
     Ok(parts)
 }

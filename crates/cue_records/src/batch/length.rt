@@ -4,6 +4,7 @@ ghost use Rattle.std.specs.List.{flat_map};
 ghost use Rattle.cue_records.specs.Batch.{body_text, event_text};
 
 use crate::fields::{cue_len, parts_len};
+use crate::version::Version;
 use cue_core::Event;
 
 /// How long the events are, one behind the other.
@@ -30,7 +31,9 @@ fn body_len(event: &Event) -> u64
     match event {
         Event::Device(_, _) => 3,
         Event::NoDevice(_) => 1,
-        Event::Cue(cue, parts) => parts_len(parts).saturating_add(cue_len(*cue)),
+        Event::Cue(cue, parts) => {
+            parts_len(Version::of_parts(parts), parts).saturating_add(cue_len(*cue))
+        }
         Event::NoCue(cue) => cue_len(*cue),
         Event::Place(cue) => cue_len(*cue),
         Event::Start(_, cue, _) => cue_len(*cue) + 12,
@@ -40,5 +43,6 @@ fn body_len(event: &Event) -> u64
         Event::Cancel(_, _) => 5,
         Event::LetGo(_, _) => 5,
         Event::Failed(_, _) => 5,
+        Event::Excuse(_, _) => 5,
     }
 }

@@ -1,15 +1,16 @@
 //! Reading events one behind the other.
 ghost use Rattle.std.specs.Prelude.{◌≡◌};
 ghost use Rattle.cue_records.specs.Reading.{Gives, list_at};
-ghost use Rattle.cue_records.specs.BatchReading.{kind_at, start_at, answer_at, cancel_at, body_at, event_at, event_count_at, batch_of};
+ghost use Rattle.cue_records.specs.BatchReading.{kind_at, start_at, answer_at, cancel_at, mixed_cue_at, body_at, event_at, event_count_at, batch_of};
 
 use crate::batch::kind::{Kind, kind_of};
 use crate::batch::{Batch, MAX_EVENTS};
 use crate::fault::ReadFault;
 use crate::fields::Reader;
+use crate::version::{Version, are_required};
 use cue_core::Event;
 use cue_exchange::Reason;
-use cue_show::{CueNo, DeviceNo};
+use cue_show::{CueNo, DeviceNo, Parts};
 use std::alloc::Global;
 
 impl<'a> Reader<'a> {
@@ -52,6 +53,18 @@ impl<'a> Reader<'a> {
         Ok((seq, reason))
     }
 
+    // A cue and its parts, one of them at least optional.
+    #[tactic(auto, unfolding(crate::specs::BatchReading::mixed_cue_at))]
+    fn mixed_cue(&mut self, alloc: Global) -> Result<(CueNo, Parts), ReadFault>
+        ensures { Gives (λ x. (x, self.new.rest.now)) result (mixed_cue_at self.old.rest.now) }
+    {
+        let (cue, parts) = self.new_cue(alloc, Version::Two)?;
+        if are_required(&parts) {
+            return Err(ReadFault::Malformed);
+        }
+        Ok((cue, parts))
+    }
+
     // What stands behind a kind.
     #[tactic(auto, unfolding(crate::specs::BatchReading::body_at))]
     fn body(&mut self, alloc: Global, kind: Kind) -> Result<Event, ReadFault>
@@ -64,7 +77,11 @@ impl<'a> Reader<'a> {
             }
             Kind::NoDevice => Ok(Event::NoDevice(self.device()?)),
             Kind::Cue => {
-                let (cue, parts) = self.new_cue(alloc)?;
+                let (cue, parts) = self.new_cue(alloc, Version::One)?;
+                Ok(Event::Cue(cue, parts))
+            }
+            Kind::MixedCue => {
+                let (cue, parts) = self.mixed_cue(alloc)?;
                 Ok(Event::Cue(cue, parts))
             }
             Kind::NoCue => Ok(Event::NoCue(self.cue()?)),
@@ -93,6 +110,10 @@ impl<'a> Reader<'a> {
             Kind::Failed => {
                 let (seq, device) = self.answer()?;
                 Ok(Event::Failed(seq, device))
+            }
+            Kind::Excuse => {
+                let (seq, device) = self.answer()?;
+                Ok(Event::Excuse(seq, device))
             }
         }
     }

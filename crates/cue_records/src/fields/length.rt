@@ -2,8 +2,9 @@
 ghost use Rattle.std.specs.Prelude.{◌≡◌, ◌+◌, ◌≤◌, length, min};
 ghost use Rattle.std.specs.List.{flat_map};
 ghost use Rattle.cue_show.specs.declared.limits.TheConstants.{MAX_CUE_BYTES};
-ghost use Rattle.cue_records.specs.Fields.{text_text, part_text, parts_text};
+ghost use Rattle.cue_records.specs.Fields.{text_text, flag_text, part_text, parts_text};
 
+use crate::version::Version;
 use cue_show::{CueNo, Part, Parts};
 
 /// How long a cue number is, with its length before it.
@@ -14,25 +15,35 @@ pub fn cue_len(cue: CueNo) -> u64
     1 + cue.text().len() as u64
 }
 
-fn part_len(part: &Part) -> u64
-    ensures { result ≡ min (length (part_text part.now)) u64.MAX }
+fn flag_len(version: Version, optional: bool) -> u64
+    ensures { result ≡ length (flag_text version optional) }
 {
-    (part.bytes.as_slice().len() as u64).saturating_add(2)
+    match version {
+        Version::One => 0,
+        Version::Two => 1,
+    }
 }
 
-fn part_list_len(parts: &[Part]) -> u64
-    ensures { result ≡ min (length (flat_map part_text parts.now)) u64.MAX }
+fn part_len(version: Version, part: &Part) -> u64
+    ensures { result ≡ min (length (part_text version part.now)) u64.MAX }
+{
+    let frame = flag_len(version, part.optional) + 2;
+    (part.bytes.as_slice().len() as u64).saturating_add(frame)
+}
+
+fn part_list_len(version: Version, parts: &[Part]) -> u64
+    ensures { result ≡ min (length (flat_map (part_text version) parts.now)) u64.MAX }
 {
     let mut len: u64 = 0;
     for part in parts {
-        len = len.saturating_add(part_len(part));
+        len = len.saturating_add(part_len(version, part));
     }
     len
 }
 
 /// How long the parts of a cue are, with their count before them.
-pub fn parts_len(parts: &Parts) -> u64
-    ensures { result ≡ min (length (parts_text parts.now)) u64.MAX }
+pub fn parts_len(version: Version, parts: &Parts) -> u64
+    ensures { result ≡ min (length (parts_text version parts.now)) u64.MAX }
 {
-    part_list_len(parts.as_slice()).saturating_add(1)
+    part_list_len(version, parts.as_slice()).saturating_add(1)
 }

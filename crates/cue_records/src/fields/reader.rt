@@ -1,9 +1,10 @@
 //! Reading fields one behind the other.
 ghost use Rattle.std.specs.Prelude.{◌≡◌, List, ℕ};
 ghost use Rattle.std.specs.Int.{w16, w32, w64};
-ghost use Rattle.cue_records.specs.Reading.{Gives, byte_at, bytes_at, number_at, text_at, device_at, port_at, sequence_at, cue_at, part_bytes_at, part_at, part_count_at, list_at, parts_at, entry_at, new_cue_at, reason_at, reason_of};
+ghost use Rattle.cue_records.specs.Reading.{Gives, byte_at, bytes_at, number_at, text_at, device_at, port_at, sequence_at, cue_at, part_bytes_at, flag_of, flag_at, part_at, part_count_at, list_at, parts_at, entry_at, new_cue_at, reason_at, reason_of};
 
 use crate::fault::ReadFault;
+use crate::version::Version;
 use cue_exchange::Reason;
 use cue_exchange::limits::LAST_NUMBER;
 use cue_show::limits::{MAX_PART_BYTES, MAX_PARTS};
@@ -139,14 +140,29 @@ impl<'a> Reader<'a> {
         Ok(bytes)
     }
 
-    /// A device and its bytes.
+    /// The flag of a part; where there is none it is required.
+    #[tactic(auto, unfolding(crate::specs::Reading::flag_at))]
+    fn flag(&mut self, version: Version) -> Result<bool, ReadFault>
+        ensures { Gives (λ x. (x, self.new.rest.now)) result (flag_at version self.old.rest.now) }
+    {
+        match version {
+            Version::One => Ok(false),
+            Version::Two => {
+                let number = self.byte()?;
+                flag_of(number).ok_or(ReadFault::Malformed)
+            }
+        }
+    }
+
+    /// A device, its flag and its bytes.
     #[tactic(auto, unfolding(crate::specs::Reading::part_at))]
-    fn part(&mut self, alloc: Global) -> Result<Part, ReadFault>
-        ensures { Gives (λ x. (x, self.new.rest.now)) result (part_at self.old.rest.now) }
+    fn part(&mut self, alloc: Global, version: Version) -> Result<Part, ReadFault>
+        ensures { Gives (λ x. (x, self.new.rest.now)) result (part_at version self.old.rest.now) }
     {
         let device = self.device()?;
+        let optional = self.flag(version)?;
         let bytes = self.part_bytes()?;
-        Ok(Part::of(alloc, device, bytes)?)
+        Ok(Part::of(alloc, device, optional, bytes)?)
     }
 
     /// A count of parts.
@@ -155,32 +171,32 @@ impl<'a> Reader<'a> {
         ensures { Gives (λ x. (x, self.new.rest.now)) result (part_count_at self.old.rest.now) }
     {
         let count = self.byte()?;
-        if count < 1 || usize::from(count) > MAX_PARTS {
+        if usize::from(count) > MAX_PARTS {
             return Err(ReadFault::Malformed);
         }
         Ok(count)
     }
 
     /// So many parts.
-    fn part_list(&mut self, alloc: Global, count: u8) -> Result<Parts, ReadFault>
-        ensures { Gives (λ x. (x, self.new.rest.now)) result (list_at part_at count self.old.rest.now) }
+    fn part_list(&mut self, alloc: Global, version: Version, count: u8) -> Result<Parts, ReadFault>
+        ensures { Gives (λ x. (x, self.new.rest.now)) result (list_at (part_at version) count self.old.rest.now) }
     {
         let mut parts = Parts::new(alloc);
         for _ in 0..count {
-            let part = self.part(alloc)?;
+            let part = self.part(alloc, version)?;
             parts.push(part)?;
         }
         Ok(parts)
     }
 
-    /// A count, and so many parts of distinct devices.
+    /// A count, and so many parts of distinct devices, one of them at least required.
     #[tactic(auto, unfolding(crate::specs::Reading::parts_at))]
-    pub fn parts(&mut self, alloc: Global) -> Result<Parts, ReadFault>
-        ensures { Gives (λ x. (x, self.new.rest.now)) result (parts_at self.old.rest.now) }
+    pub fn parts(&mut self, alloc: Global, version: Version) -> Result<Parts, ReadFault>
+        ensures { Gives (λ x. (x, self.new.rest.now)) result (parts_at version self.old.rest.now) }
     {
         let count = self.part_count()?;
-        let parts = self.part_list(alloc, count)?;
-        if !parts.has_distinct_devices() {
+        let parts = self.part_list(alloc, version, count)?;
+        if !parts.has_required_part() || !parts.has_distinct_devices() {
             return Err(ReadFault::Malformed);
         }
         Ok(parts)
@@ -198,12 +214,23 @@ impl<'a> Reader<'a> {
 
     /// A cue and its parts.
     #[tactic(auto, unfolding(crate::specs::Reading::new_cue_at))]
-    pub fn new_cue(&mut self, alloc: Global) -> Result<(CueNo, Parts), ReadFault>
-        ensures { Gives (λ x. (x, self.new.rest.now)) result (new_cue_at self.old.rest.now) }
+    pub fn new_cue(&mut self, alloc: Global, version: Version) -> Result<(CueNo, Parts), ReadFault>
+        ensures { Gives (λ x. (x, self.new.rest.now)) result (new_cue_at version self.old.rest.now) }
     {
         let cue = self.cue()?;
-        let parts = self.parts(alloc)?;
+        let parts = self.parts(alloc, version)?;
         Ok((cue, parts))
+    }
+}
+
+// Whether a part is optional, by the number of its flag.
+fn flag_of(number: u8) -> Option<bool>
+    ensures { result ≡ flag_of number }
+{
+    match number {
+        0 => Some(false),
+        1 => Some(true),
+        _ => None,
     }
 }
 

@@ -1,10 +1,23 @@
-//! The numbers of stages and answers.
+//! The numbers of versions, stages and answers.
 ghost use Rattle.std.specs.Prelude.{◌≡◌};
-ghost use Rattle.cue_records.specs.State.{stage_number, answer_number};
+ghost use Rattle.cue_records.specs.State.{version_of, stage_number, answer_number};
 ghost use Rattle.cue_records.specs.StateReading.{stage_of, answer_of};
 
 use crate::fields::reason_number;
+use crate::state::{OLD_VERSION, VERSION};
+use crate::version::Version;
 use cue_exchange::{Answer, Reason, Stage};
+
+/// The version with the number.
+pub fn version_of(number: u8) -> Option<Version>
+    ensures { result ≡ version_of number }
+{
+    match number {
+        OLD_VERSION => Some(Version::One),
+        VERSION => Some(Version::Two),
+        _ => None,
+    }
+}
 
 /// The number of a stage.
 pub fn stage_number(stage: Stage) -> u8
@@ -43,6 +56,7 @@ pub fn answer_number(answer: Answer) -> u8
         Answer::Done => 2,
         Answer::LetGo => 3,
         Answer::Failed => 4,
+        Answer::Excused => 5,
     }
 }
 
@@ -56,6 +70,7 @@ pub fn answer_of(number: u8) -> Option<Answer>
         2 => Some(Answer::Done),
         3 => Some(Answer::LetGo),
         4 => Some(Answer::Failed),
+        5 => Some(Answer::Excused),
         _ => None,
     }
 }

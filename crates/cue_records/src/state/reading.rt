@@ -3,13 +3,16 @@ ghost use Rattle.std.specs.Prelude.{◌≡◌};
 ghost use Rattle.cue_show.specs.Show.{is_place_of, with_place};
 ghost use Rattle.cue_exchange.specs.Steps.{are_below};
 ghost use Rattle.cue_records.specs.Reading.{Gives, where_it};
-ghost use Rattle.cue_records.specs.StateReading.{fold_at, device_step, cue_step, place_of, place_at, place_step, table_at, stack_at, show_at, ended_of, ended_at, stage_at, one_answer_at, answers_at, head_at, attempt_at, attempt_step, live_at, tail_of, standing_of};
+ghost use Rattle.cue_records.specs.StateReading.{fold_at, device_step, cue_step, place_of, place_at, place_step, table_at, most_cues, cue_count_at, stack_at, show_at, ended_of, ended_at, stage_at, one_answer_at, answers_at, head_at, attempt_at, attempt_step, live_at, tail_of, standing_of};
 
 use crate::fault::ReadFault;
 use crate::fields::Reader;
+use crate::state::OLD_MAX_CUES;
 use crate::state::numbers::{answer_of, stage_of};
+use crate::version::Version;
 use cue_core::{Ended, State};
 use cue_exchange::{Answer, Answers, Attempt, DeviceAnswer, Live, Outcome, Stage};
+use cue_show::limits::MAX_CUES;
 use cue_show::{CueNo, Part, Show};
 use std::alloc::Global;
 
@@ -39,10 +42,10 @@ impl<'a> Reader<'a> {
 
     // One cue more.
     #[tactic(auto, unfolding(crate::specs::StateReading::cue_step))]
-    fn add_cue(&mut self, alloc: Global, show: &mut Show) -> Result<(), ReadFault>
-        ensures { Gives (λ _. (show.new, self.new.rest.now)) result (cue_step show.old self.old.rest.now) }
+    fn add_cue(&mut self, alloc: Global, version: Version, show: &mut Show) -> Result<(), ReadFault>
+        ensures { Gives (λ _. (show.new, self.new.rest.now)) result (cue_step version show.old self.old.rest.now) }
     {
-        let (cue, parts) = self.new_cue(alloc)?;
+        let (cue, parts) = self.new_cue(alloc, version)?;
         if !show.can_add_cue(cue, &parts) {
             return Err(ReadFault::Malformed);
         }
@@ -51,11 +54,17 @@ impl<'a> Reader<'a> {
     }
 
     // So many cues more.
-    fn add_cues(&mut self, alloc: Global, show: &mut Show, count: u16) -> Result<(), ReadFault>
-        ensures { Gives (λ _. (show.new, self.new.rest.now)) result (fold_at cue_step count show.old self.old.rest.now) }
+    fn add_cues(
+        &mut self,
+        alloc: Global,
+        version: Version,
+        show: &mut Show,
+        count: u16,
+    ) -> Result<(), ReadFault>
+        ensures { Gives (λ _. (show.new, self.new.rest.now)) result (fold_at (cue_step version) count show.old self.old.rest.now) }
     {
         for _ in 0..count {
-            self.add_cue(alloc, show)?;
+            self.add_cue(alloc, version, show)?;
         }
         Ok(())
     }
@@ -86,22 +95,34 @@ impl<'a> Reader<'a> {
         self.add_devices(show, count)
     }
 
-    // A count, and so many cues more.
-    #[tactic(auto, unfolding(crate::specs::StateReading::stack_at))]
-    fn stack(&mut self, alloc: Global, show: &mut Show) -> Result<(), ReadFault>
-        ensures { Gives (λ _. (show.new, self.new.rest.now)) result (stack_at show.old self.old.rest.now) }
+    // A count of cues, no more than the version has.
+    #[tactic(auto, unfolding(crate::specs::StateReading::cue_count_at))]
+    fn cue_count(&mut self, version: Version) -> Result<u16, ReadFault>
+        ensures { Gives (λ x. (x, self.new.rest.now)) result (cue_count_at version self.old.rest.now) }
     {
         let count = self.u16()?;
-        self.add_cues(alloc, show, count)
+        if usize::from(count) > most_cues(version) {
+            return Err(ReadFault::Malformed);
+        }
+        Ok(count)
+    }
+
+    // A count, and so many cues more.
+    #[tactic(auto, unfolding(crate::specs::StateReading::stack_at))]
+    fn stack(&mut self, alloc: Global, version: Version, show: &mut Show) -> Result<(), ReadFault>
+        ensures { Gives (λ _. (show.new, self.new.rest.now)) result (stack_at version show.old self.old.rest.now) }
+    {
+        let count = self.cue_count(version)?;
+        self.add_cues(alloc, version, show, count)
     }
 
     // The devices, the cues and the place.
     #[tactic(auto, unfolding(crate::specs::StateReading::show_at))]
-    fn show(&mut self, alloc: Global, show: &mut Show) -> Result<(), ReadFault>
-        ensures { Gives (λ _. (show.new, self.new.rest.now)) result (show_at show.old self.old.rest.now) }
+    fn show(&mut self, alloc: Global, version: Version, show: &mut Show) -> Result<(), ReadFault>
+        ensures { Gives (λ _. (show.new, self.new.rest.now)) result (show_at version show.old self.old.rest.now) }
     {
         self.table(show)?;
-        self.stack(alloc, show)?;
+        self.stack(alloc, version, show)?;
         self.set_place(show)
     }
 
@@ -131,7 +152,7 @@ impl<'a> Reader<'a> {
         answer_of(number).ok_or(ReadFault::Malformed)
     }
 
-    // An answer for each of the parts.
+    // An answer for the device of each part.
     fn answers(&mut self, alloc: Global, parts: &[Part]) -> Result<Answers, ReadFault>
         ensures { Gives (λ x. (x, self.new.rest.now)) result (answers_at parts.now self.old.rest.now) }
     {
@@ -139,7 +160,12 @@ impl<'a> Reader<'a> {
         for part in parts {
             let answer = self.one_answer()?;
             let device = part.device;
-            answers.push(DeviceAnswer { device, answer })?;
+            let optional = part.optional;
+            answers.push(DeviceAnswer {
+                device,
+                optional,
+                answer,
+            })?;
         }
         Ok(Answers::of(answers))
     }
@@ -233,6 +259,16 @@ impl<'a> Reader<'a> {
     }
 }
 
+// The most cues of a text in the version.
+fn most_cues(version: Version) -> usize
+    ensures { result ≡ most_cues version }
+{
+    match version {
+        Version::One => OLD_MAX_CUES,
+        Version::Two => MAX_CUES,
+    }
+}
+
 // The place with the text; none where it is empty.
 fn place_of(text: &[u8]) -> Option<Option<CueNo>>
     ensures { result ≡ place_of text.now }
@@ -282,14 +318,14 @@ fn are_below(seq: u32, live: &[Attempt]) -> bool
     live.iter().all(|a| a.seq < seq)
 }
 
-/// The state that stands behind the version, to the end.
+/// The state that stands behind the number of the version, to the end.
 #[tactic(auto, unfolding(crate::specs::StateReading::standing_of))]
-pub fn standing_of(alloc: Global, bytes: &[u8]) -> Result<State, ReadFault>
-    ensures { Gives (λ x. x) result (standing_of bytes.now) }
+pub fn standing_of(alloc: Global, version: Version, bytes: &[u8]) -> Result<State, ReadFault>
+    ensures { Gives (λ x. x) result (standing_of version bytes.now) }
 {
     let mut reader = Reader { rest: bytes };
     let mut show = Show::new(alloc);
-    reader.show(alloc, &mut show)?;
+    reader.show(alloc, version, &mut show)?;
     let mut live = Live::new(alloc);
     let (last_seq, ended) = reader.tail(alloc, &show, &mut live)?;
     State::of(show, live, last_seq, ended).ok_or(ReadFault::Malformed)

@@ -4,7 +4,7 @@ use super::{bytes, told};
 use crate::laws::acceptable_events_fit;
 use crate::{Batch, ReadFault, batch_len, read_batch, write_batch};
 use cue_core::{Event, State};
-use cue_show::{Bytes, DeviceNo, Part, Parts};
+use cue_show::{Bytes, CueNo, DeviceNo, Part, Parts};
 use std::alloc::{AllocError, Global};
 use std::process::Abort;
 use std::test::Fail;
@@ -19,6 +19,8 @@ const BATCHES: &str = "\
 0001 01 6f ffff = Device 111 65535
 0001 02 04 = NoDevice 4
 0001 03 0131 02 03 02 0a0b 04 00 = Cue 1 3[10, 11] 4[]
+0001 0d 0131 02 03 00 02 0a0b 04 01 00 = Cue 1 3[10, 11] optional 4[]
+0001 0d 0132 03 03 01 00 04 00 00 05 01 01 ff = Cue 2 optional 3[] 4[] optional 5[255]
 0001 04 03 312e32 = NoCue 1.2
 0001 05 10 31323334353637383930313233343536 = Place 1234567890123456
 0001 06 7fffffff 0132 ffffffffffffffff = Start 2147483647 2 18446744073709551615
@@ -29,7 +31,9 @@ const BATCHES: &str = "\
 0001 0a 00000001 04 = Cancel 1 Power
 0001 0a 00000001 05 = Cancel 1 Release
 0001 0b 00000100 04 = LetGo 256 4
-0001 0c 00010000 05 = Failed 65536 5";
+0001 0c 00010000 05 = Failed 65536 5
+0001 0e 00000001 04 = Excuse 1 4
+0002 03 0131 01 03 00 0d 0132 02 03 00 00 04 01 00 = Cue 1 3[] Cue 2 3[] optional 4[]";
 
 // The batch is as the words say, and its text is these bytes.
 fn assert_batch(
@@ -88,17 +92,29 @@ fn many(alloc: Global, count: u16) -> Result<Vec<u8>, AllocError> {
 }
 
 #[test]
-fn a_batch_has_at_most_1024_events(rt: HostRuntime) -> Result<(), Fail> {
+fn a_batch_has_at_most_4096_events(rt: HostRuntime) -> Result<(), Fail> {
     let alloc = rt.alloc();
-    let text = many(alloc, 1024)?;
+    let text = many(alloc, 4096)?;
     let batch = read_batch(alloc, &text)?;
-    assert_eq!(rt; batch.as_slice().len(), 1024);
-    assert_eq!(rt; batch_len(batch.as_slice()), 5122);
+    assert_eq!(rt; batch.as_slice().len(), 4096);
+    assert_eq!(rt; batch_len(batch.as_slice()), 20482);
     let again = write_batch(alloc, batch.as_slice())?;
     assert_eq!(rt; again.as_slice(), text.as_slice());
-    let found = read_batch(alloc, &many(alloc, 1025)?).err();
+    let found = read_batch(alloc, &many(alloc, 4097)?).err();
     assert_eq!(rt; found, Some(ReadFault::Malformed));
     Ok(())
+}
+
+// The cue 1 with 300 parts of 300 bytes each.
+fn long_cue(alloc: Global, optional: bool) -> Result<Event, Fail> {
+    let device = DeviceNo::of_byte(3).ok_or("a device number")?;
+    let long: Vec<u8> = vec![in alloc; 7; 300]?;
+    let mut parts = Parts::new(alloc);
+    for _ in 0..300 {
+        parts.push(Part::of(alloc, device, optional, &long)?)?;
+    }
+    let cue = CueNo::read(b"1").ok_or("a cue number")?;
+    Ok(Event::Cue(cue, parts))
 }
 
 #[test]
@@ -106,14 +122,9 @@ fn events_out_of_range_are_measured(rt: HostRuntime) -> Result<(), Fail> {
     let alloc = rt.alloc();
     assert_eq!(rt; batch_len(&[]), 2);
     assert_eq!(rt; batch_len(&[Event::Go(0), Event::Go(0)]), 12);
-    let device = DeviceNo::of_byte(3).ok_or("a device number")?;
-    let long: Vec<u8> = vec![in alloc; 7; 300]?;
-    let mut parts = Parts::new(alloc);
-    for _ in 0..300 {
-        parts.push(Part::of(alloc, device, &long)?)?;
-    }
-    let cue = cue_show::CueNo::read(b"1").ok_or("a cue number")?;
-    let batch = Batch::from_vec(vec![in alloc; Event::Cue(cue, parts)]?);
+    let batch = Batch::from_vec(vec![in alloc; long_cue(alloc, false)?]?);
     assert_eq!(rt; batch_len(batch.as_slice()), 2 + 1 + 2 + 1 + 300 * 302);
+    let batch = Batch::from_vec(vec![in alloc; long_cue(alloc, true)?]?);
+    assert_eq!(rt; batch_len(batch.as_slice()), 2 + 1 + 2 + 1 + 300 * 303);
     Ok(())
 }

@@ -9,44 +9,54 @@ use std::test::Fail;
 
 // The text of a state, and the state in words.
 const STATES: &str = "\
-01 00 0000 00 00000000 0000000000 00 = devices, place -, last 0, ended -
-01 01032329 0002 0131010300 0132010300 0131 00000000 0000000000 00 = devices 3:9001, cue 1 3[], cue 2 3[], place 1, last 0, ended -
-01 02 032329 04232a 0002 013102 03020a0b 0400 013201 0300 00 00000001 0000000000 01 00000001 0131 0000000000002af8 01 0000 = devices 3:9001 4:9002, cue 1 3[10, 11] 4[], cue 2 3[], place -, last 1, ended -, attempt 1 1 until 11000 Preparing 3 Waiting 4 Waiting
-01 02 032329 04232a 0001 013102 0300 0400 00 00000009 0000000803 01 00000009 0131 0000000000000000 01 0100 = devices 3:9001 4:9002, cue 1 3[] 4[], place -, last 9, ended 8 Failed, attempt 9 1 until 0 Preparing 3 Ready 4 Waiting
-01 02 032329 04232a 0001 013102 0300 0400 00 00000009 0000000102 01 00000002 0131 0000000000000000 02 0002 = devices 3:9001 4:9002, cue 1 3[] 4[], place -, last 9, ended 1 Cancelled, attempt 2 1 until 0 Decided 3 Waiting 4 Done
-01 02 032329 04232a 0002 01310103 00 01320104 00 0132 7fffffff 7fffffff01 02 00000001 0131 0000000000000000 03 00 00000002 0132 ffffffffffffffff 07 00 = devices 3:9001 4:9002, cue 1 3[], cue 2 4[], place 2, last 2147483647, ended 2147483647 Complete, attempt 1 1 until 0 Cancelling(Operator) 3 Waiting, attempt 2 2 until 18446744073709551615 Cancelling(Release) 4 Waiting
-01 02 032329 04232a 0001 013102 0300 0400 00 00000001 0000000000 01 00000001 0131 0000000000000000 04 0300 = devices 3:9001 4:9002, cue 1 3[] 4[], place -, last 1, ended -, attempt 1 1 until 0 Cancelling(Deadline) 3 LetGo 4 Waiting
-01 02 032329 04232a 0001 013102 0300 0400 00 00000001 0000000000 01 00000001 0131 0000000000000000 05 0004 = devices 3:9001 4:9002, cue 1 3[] 4[], place -, last 1, ended -, attempt 1 1 until 0 Cancelling(Abort) 3 Waiting 4 Failed
-01 02 032329 04232a 0001 013102 0300 0400 00 00000001 0000000000 01 00000001 0131 0000000000000000 06 0000 = devices 3:9001 4:9002, cue 1 3[] 4[], place -, last 1, ended -, attempt 1 1 until 0 Cancelling(Power) 3 Waiting 4 Waiting";
+02 00 0000 00 00000000 0000000000 00 = devices, place -, last 0, ended -
+02 01032329 0002 013101030000 013201030000 0131 00000000 0000000000 00 = devices 3:9001, cue 1 3[], cue 2 3[], place 1, last 0, ended -
+02 02 032329 04232a 0002 013102 0300020a0b 040000 013201 030000 00 00000001 0000000000 01 00000001 0131 0000000000002af8 01 0000 = devices 3:9001 4:9002, cue 1 3[10, 11] 4[], cue 2 3[], place -, last 1, ended -, attempt 1 1 until 11000 Preparing 3 Waiting 4 Waiting
+02 02 032329 04232a 0001 013102 030000 040000 00 00000009 0000000803 01 00000009 0131 0000000000000000 01 0100 = devices 3:9001 4:9002, cue 1 3[] 4[], place -, last 9, ended 8 Failed, attempt 9 1 until 0 Preparing 3 Ready 4 Waiting
+02 02 032329 04232a 0001 013102 030000 040000 00 00000009 0000000102 01 00000002 0131 0000000000000000 02 0002 = devices 3:9001 4:9002, cue 1 3[] 4[], place -, last 9, ended 1 Cancelled, attempt 2 1 until 0 Decided 3 Waiting 4 Done
+02 02 032329 04232a 0002 01310103 0000 01320104 0000 0132 7fffffff 7fffffff01 02 00000001 0131 0000000000000000 03 00 00000002 0132 ffffffffffffffff 07 00 = devices 3:9001 4:9002, cue 1 3[], cue 2 4[], place 2, last 2147483647, ended 2147483647 Complete, attempt 1 1 until 0 Cancelling(Operator) 3 Waiting, attempt 2 2 until 18446744073709551615 Cancelling(Release) 4 Waiting
+02 02 032329 04232a 0001 013102 030000 040000 00 00000001 0000000000 01 00000001 0131 0000000000000000 04 0300 = devices 3:9001 4:9002, cue 1 3[] 4[], place -, last 1, ended -, attempt 1 1 until 0 Cancelling(Deadline) 3 LetGo 4 Waiting
+02 02 032329 04232a 0001 013102 030000 040000 00 00000001 0000000000 01 00000001 0131 0000000000000000 05 0004 = devices 3:9001 4:9002, cue 1 3[] 4[], place -, last 1, ended -, attempt 1 1 until 0 Cancelling(Abort) 3 Waiting 4 Failed
+02 02 032329 04232a 0001 013102 030000 040000 00 00000001 0000000000 01 00000001 0131 0000000000000000 06 0000 = devices 3:9001 4:9002, cue 1 3[] 4[], place -, last 1, ended -, attempt 1 1 until 0 Cancelling(Power) 3 Waiting 4 Waiting
+02 02 032329 04232a 0001 013102 0300020a0b 040100 00 00000001 0000000000 01 00000001 0131 0000000000002af8 01 0105 = devices 3:9001 4:9002, cue 1 3[10, 11] optional 4[], place -, last 1, ended -, attempt 1 1 until 11000 Preparing 3 Ready optional 4 Excused
+02 02 032329 04232a 0001 013102 030100 040000 00 00000001 0000000000 01 00000001 0131 0000000000000000 02 0500 = devices 3:9001 4:9002, cue 1 optional 3[] 4[], place -, last 1, ended -, attempt 1 1 until 0 Decided optional 3 Excused 4 Waiting
+02 02 032329 04232a 0001 013102 030000 040101ff 00 00000001 0000000000 01 00000001 0131 0000000000000000 03 0003 = devices 3:9001 4:9002, cue 1 3[] optional 4[255], place -, last 1, ended -, attempt 1 1 until 0 Cancelling(Operator) 3 Waiting optional 4 LetGo
+02 02 032329 04232a 0001 013102 030000 040100 00 00000001 0000000000 01 00000001 0131 0000000000000000 01 0001 = devices 3:9001 4:9002, cue 1 3[] optional 4[], place -, last 1, ended -, attempt 1 1 until 0 Preparing 3 Waiting optional 4 Ready";
 
 // Each with what is wrong with it.
 const MALFORMED: &str = "\
-01 01 702329 0000 00 00000000 0000000000 00 = device 112
-01 01 030000 0000 00 00000000 0000000000 00 = port 0
-01 02 032329 03232a 0000 00 00000000 0000000000 00 = a device twice
-01 01 032329 0001 0131010400 00 00000000 0000000000 00 = a part of no device of the table
-01 01 032329 0001 013100 00 00000000 0000000000 00 = no part
-01 01 032329 0002 0131010300 0131010300 00 00000000 0000000000 00 = a cue twice
-01 00 0000 0131 00000000 0000000000 00 = a place that is no cue of the stack
-01 00 0000 0161 00000000 0000000000 00 = a place that is no cue number
-01 00 0000 00 80000000 0000000000 00 = last number 2147483648
-01 00 0000 00 00000001 0000000001 00 = ended number 0 with an outcome
-01 00 0000 00 00000001 0000000100 00 = ended number 1 with no outcome
-01 00 0000 00 00000001 0000000104 00 = outcome 4
-01 00 0000 00 00000001 0000000201 00 = ended number above the last
-01 01 032329 0001 0131010300 00 00000000 0000000000 01 00000001 0131 0000000000000000 01 00 = attempt above the last number
-01 01 032329 0001 0131010300 00 00000001 0000000000 01 00000000 0131 0000000000000000 01 00 = attempt 0
-01 01 032329 0001 0131010300 00 00000001 0000000000 01 00000001 0132 0000000000000000 01 00 = attempt at no cue of the stack
-01 01 032329 0001 0131010300 00 00000001 0000000000 01 00000001 0131 0000000000000000 00 00 = stage 0
-01 01 032329 0001 0131010300 00 00000001 0000000000 01 00000001 0131 0000000000000000 08 00 = stage 8
-01 01 032329 0001 0131010300 00 00000001 0000000000 01 00000001 0131 0000000000000000 01 05 = answer 5
-01 01 032329 0001 0131010300 00 00000001 0000000000 01 00000001 0131 0000000000000000 01 02 = Done while Preparing
-01 01 032329 0001 0131010300 00 00000001 0000000000 01 00000001 0131 0000000000000000 02 01 = Ready while Decided
-01 01 032329 0001 0131010300 00 00000001 0000000000 01 00000001 0131 0000000000000000 02 02 = no device waits
-01 01 032329 0001 0131010300 00 00000001 0000000101 01 00000001 0131 0000000000000000 01 00 = the attempt that ended is live
-01 02 032329 04232a 0002 0131010300 0132010400 00 00000002 0000000000 02 00000002 0131 0000000000000000 01 00 00000001 0132 0000000000000000 01 00 = numbers that fall
-01 02 032329 04232a 0002 0131010300 0132010400 00 00000002 0000000000 02 00000002 0131 0000000000000000 01 00 00000002 0132 0000000000000000 01 00 = a number twice
-01 01 032329 0002 0131010300 0132010300 00 00000002 0000000000 02 00000001 0131 0000000000000000 01 00 00000002 0132 0000000000000000 01 00 = a device in two attempts";
+02 01 702329 0000 00 00000000 0000000000 00 = device 112
+02 01 030000 0000 00 00000000 0000000000 00 = port 0
+02 02 032329 03232a 0000 00 00000000 0000000000 00 = a device twice
+02 01 032329 0001 013101040000 00 00000000 0000000000 00 = a part of no device of the table
+02 01 032329 0001 013100 00 00000000 0000000000 00 = no part
+02 01 032329 0001 013101030100 00 00000000 0000000000 00 = no part is required
+02 01 032329 0001 013101030200 00 00000000 0000000000 00 = flag 2
+02 02 032329 04232a 0001 013102030000040200 00 00000000 0000000000 00 = flag 2 of the second part
+02 01 032329 0002 013101030000 013101030000 00 00000000 0000000000 00 = a cue twice
+02 00 0000 0131 00000000 0000000000 00 = a place that is no cue of the stack
+02 00 0000 0161 00000000 0000000000 00 = a place that is no cue number
+02 00 0000 00 80000000 0000000000 00 = last number 2147483648
+02 00 0000 00 00000001 0000000001 00 = ended number 0 with an outcome
+02 00 0000 00 00000001 0000000100 00 = ended number 1 with no outcome
+02 00 0000 00 00000001 0000000104 00 = outcome 4
+02 00 0000 00 00000001 0000000201 00 = ended number above the last
+02 01 032329 0001 013101030000 00 00000000 0000000000 01 00000001 0131 0000000000000000 01 00 = attempt above the last number
+02 01 032329 0001 013101030000 00 00000001 0000000000 01 00000000 0131 0000000000000000 01 00 = attempt 0
+02 01 032329 0001 013101030000 00 00000001 0000000000 01 00000001 0132 0000000000000000 01 00 = attempt at no cue of the stack
+02 01 032329 0001 013101030000 00 00000001 0000000000 01 00000001 0131 0000000000000000 00 00 = stage 0
+02 01 032329 0001 013101030000 00 00000001 0000000000 01 00000001 0131 0000000000000000 08 00 = stage 8
+02 01 032329 0001 013101030000 00 00000001 0000000000 01 00000001 0131 0000000000000000 01 06 = answer 6
+02 01 032329 0001 013101030000 00 00000001 0000000000 01 00000001 0131 0000000000000000 01 05 = a required device is excused
+02 01 032329 0001 013101030000 00 00000001 0000000000 01 00000001 0131 0000000000000000 01 02 = Done while Preparing
+02 01 032329 0001 013101030000 00 00000001 0000000000 01 00000001 0131 0000000000000000 02 01 = Ready while Decided
+02 02 032329 04232a 0001 013102030000040100 00 00000001 0000000000 01 00000001 0131 0000000000000000 03 0005 = Excused while Cancelling
+02 01 032329 0001 013101030000 00 00000001 0000000000 01 00000001 0131 0000000000000000 02 02 = no device waits
+02 02 032329 04232a 0001 013102030000040100 00 00000001 0000000000 01 00000001 0131 0000000000000000 02 0205 = no device waits, and one is excused
+02 01 032329 0001 013101030000 00 00000001 0000000101 01 00000001 0131 0000000000000000 01 00 = the attempt that ended is live
+02 02 032329 04232a 0002 013101030000 013201040000 00 00000002 0000000000 02 00000002 0131 0000000000000000 01 00 00000001 0132 0000000000000000 01 00 = numbers that fall
+02 02 032329 04232a 0002 013101030000 013201040000 00 00000002 0000000000 02 00000002 0131 0000000000000000 01 00 00000002 0132 0000000000000000 01 00 = a number twice
+02 01 032329 0002 013101030000 013201030000 00 00000002 0000000000 02 00000001 0131 0000000000000000 01 00 00000002 0132 0000000000000000 01 00 = a device in two attempts";
 
 // The state is as the words say, and its text is these bytes.
 fn assert_state(
@@ -84,8 +94,13 @@ fn states_are_read_and_written(rt: HostRuntime) -> Result<(), Fail> {
     Ok(())
 }
 
-// The state is the one of the line.
-fn assert_line(rt: &impl Abort, alloc: Global, state: &State, line: usize) -> Result<(), Fail> {
+// The state is the one of the line, counted from 0.
+pub(super) fn assert_line(
+    rt: &impl Abort,
+    alloc: Global,
+    state: &State,
+    line: usize,
+) -> Result<(), Fail> {
     let line = STATES.lines().nth(line).ok_or("no such line")?;
     let (digits, words) = line.split_once(" = ").ok_or("no line of the table")?;
     let text = bytes(alloc, digits)?;
@@ -106,21 +121,33 @@ fn apply(rt: &impl Abort, state: &mut State, events: &[Event]) -> Result<(), All
 const EVENTS: &str =
     "0005 01032329 0104232a 0301310203020a0b0400 030132010300 06000000010131 0000000000002af8";
 
-fn assert_after_events(rt: &impl Abort, alloc: Global, state: &mut State) -> Result<(), Fail> {
-    assert_line(rt, alloc, state, 0)?;
-    let text = bytes(alloc, EVENTS)?;
+// The same devices, the cue 1 for both, which may go without the second, a start at it, and how the two answer.
+const EXCUSING: &str =
+    "0006 01032329 0104232a 0d0131020300020a0b040100 06000000010131 0000000000002af8 070000000103 0e0000000104";
+
+// From the empty state the events make the state of the line.
+fn assert_made(rt: &impl Abort, alloc: Global, events: &str, line: usize) -> Result<(), Fail> {
+    let mut state = State::empty(alloc);
+    assert_line(rt, alloc, &state, 0)?;
+    let text = bytes(alloc, events)?;
     let batch = read_batch(alloc, &text)?;
-    apply(rt, state, batch.as_slice())?;
-    assert_line(rt, alloc, state, 2)
+    apply(rt, &mut state, batch.as_slice())?;
+    assert_line(rt, alloc, &state, line)
 }
 
 #[test]
-fn a_state_that_events_make(rt: HostRuntime) -> Result<(), Fail> {
-    let mut state = State::empty(rt.alloc());
-    assert_after_events(&rt, rt.alloc(), &mut state)
+fn states_that_events_make(rt: HostRuntime) -> Result<(), Fail> {
+    assert_made(&rt, rt.alloc(), EVENTS, 2)?;
+    assert_made(&rt, rt.alloc(), EXCUSING, 9)
 }
 
-fn assert_refused(rt: &impl Abort, alloc: Global, bytes: &[u8], fault: StateFault, what: &str) {
+pub(super) fn assert_refused(
+    rt: &impl Abort,
+    alloc: Global,
+    bytes: &[u8],
+    fault: StateFault,
+    what: &str,
+) {
     let found = read_state(alloc, bytes).err();
     assert_eq!(rt; found, Some(fault), "{what}");
 }
@@ -142,41 +169,23 @@ fn texts_of_no_state(rt: HostRuntime) -> Result<(), Fail> {
     Ok(())
 }
 
+// No beginning of the text is one, nor the text with a byte more.
+pub(super) fn assert_whole(rt: &impl Abort, alloc: Global, digits: &str) -> Result<(), AllocError> {
+    let mut text = bytes(alloc, digits)?;
+    for len in 0..text.len() {
+        assert_refused(rt, alloc, &text[..len], StateFault::Malformed, digits);
+    }
+    text.push(0)?;
+    assert_refused(rt, alloc, &text, StateFault::Malformed, digits);
+    Ok(())
+}
+
 #[test]
 fn texts_that_are_cut_or_go_on(rt: HostRuntime) -> Result<(), Fail> {
     let alloc = rt.alloc();
     for line in STATES.lines() {
         let (digits, _) = line.split_once(" = ").ok_or("no line of the table")?;
-        let mut text = bytes(alloc, digits)?;
-        for len in 0..text.len() {
-            assert_refused(&rt, alloc, &text[..len], StateFault::Malformed, digits);
-        }
-        text.push(0)?;
-        assert_refused(&rt, alloc, &text, StateFault::Malformed, digits);
+        assert_whole(&rt, alloc, digits)?;
     }
-    Ok(())
-}
-
-// The text of the empty state.
-const EMPTY: [u8; 15] = [1, 0, 0, 0, 0, 0, 0, 0, 0, 0, 0, 0, 0, 0, 0];
-
-#[test]
-fn texts_of_another_version(rt: HostRuntime) {
-    for version in [0, 2, 3, 255] {
-        let mut text = EMPTY;
-        text[0] = version;
-        assert_refused(&rt, rt.alloc(), &text, StateFault::Version, "a whole text");
-        assert_refused(&rt, rt.alloc(), &[version], StateFault::Version, "one byte");
-    }
-}
-
-// A whole text but for its first byte.
-const OTHER: &str = "03 01032329 0002 0131010300 0132010300 0131 00000000 0000000000 00";
-
-#[test]
-fn a_show_of_another_version(rt: HostRuntime) -> Result<(), Fail> {
-    let alloc = rt.alloc();
-    let text = bytes(alloc, OTHER)?;
-    assert_refused(&rt, alloc, &text, StateFault::Version, OTHER);
     Ok(())
 }

@@ -29,6 +29,7 @@ fn push_event(text: &mut String, event: &Event) -> Result<(), AllocError> {
         Event::Cancel(seq, reason) => write!(text, " Cancel {} {:?}", *seq, *reason),
         Event::LetGo(seq, device) => write!(text, " LetGo {} {}", *seq, device.number()),
         Event::Failed(seq, device) => write!(text, " Failed {} {}", *seq, device.number()),
+        Event::Excuse(seq, device) => write!(text, " Excuse {} {}", *seq, device.number()),
     }
 }
 
@@ -45,8 +46,16 @@ fn push_new_cue(text: &mut String, cue: CueNo, parts: &Parts) -> Result<(), Allo
     push_parts(text, parts)
 }
 
+fn push_flag(text: &mut String, optional: bool) -> Result<(), AllocError> {
+    if optional {
+        text.push_str(" optional")?;
+    }
+    Ok(())
+}
+
 fn push_parts(text: &mut String, parts: &Parts) -> Result<(), AllocError> {
     for part in parts.as_slice() {
+        push_flag(text, part.optional)?;
         write!(text, " {}{:?}", part.device.number(), part.bytes.as_slice())?;
     }
     Ok(())
@@ -112,6 +121,7 @@ fn push_attempt(text: &mut String, attempt: &Attempt) -> Result<(), AllocError> 
     push_named(text, " ", attempt.cue)?;
     write!(text, " until {} {:?}", attempt.deadline, attempt.stage)?;
     for x in attempt.answers.as_slice() {
+        push_flag(text, x.optional)?;
         write!(text, " {} {:?}", x.device.number(), x.answer)?;
     }
     Ok(())

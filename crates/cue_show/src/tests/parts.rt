@@ -5,13 +5,19 @@ use std::alloc::{AllocError, Global};
 use std::process::Abort;
 use std::test::Fail;
 
-// A part with so many bytes.
+// A required part.
 pub(super) fn part(rt: &impl Abort, alloc: Global, device: u8, bytes: &[u8]) -> Part {
     let device = DeviceNo::of_byte(device).expect(rt, "it is a device number");
-    Part::of(alloc, device, bytes).expect(rt, "there is memory")
+    Part::of(alloc, device, false, bytes).expect(rt, "there is memory")
 }
 
-// Parts of the devices, each with the same bytes.
+// An optional part.
+pub(super) fn optional_part(rt: &impl Abort, alloc: Global, device: u8, bytes: &[u8]) -> Part {
+    let device = DeviceNo::of_byte(device).expect(rt, "it is a device number");
+    Part::of(alloc, device, true, bytes).expect(rt, "there is memory")
+}
+
+// Required parts of the devices, each with the same bytes.
 fn parts_of(
     rt: &impl Abort,
     alloc: Global,
@@ -25,10 +31,25 @@ fn parts_of(
     Ok(parts)
 }
 
+// A part without bytes for each of the devices, optional where the flag says so.
+fn flagged(rt: &impl Abort, alloc: Global, devices: &[(u8, bool)]) -> Result<Parts, AllocError> {
+    let mut parts = Parts::new(alloc);
+    for (device, optional) in devices {
+        let part = if *optional {
+            optional_part(rt, alloc, *device, &[])
+        } else {
+            part(rt, alloc, *device, &[])
+        };
+        parts.push(part)?;
+    }
+    Ok(parts)
+}
+
 #[test]
 fn a_part_holds_its_bytes(rt: HostRuntime) -> Result<(), Fail> {
     let first = part(&rt, rt.alloc(), 3, &[10, 11]);
     assert_eq!(rt; first.device.number(), 3);
+    assert!(rt; !first.optional);
     assert_eq!(rt; first.bytes.as_slice(), [10, 11].as_slice());
     let copy = first.clone()?;
     assert!(rt; copy == first);
@@ -36,6 +57,26 @@ fn a_part_holds_its_bytes(rt: HostRuntime) -> Result<(), Fail> {
     assert!(rt; part(&rt, rt.alloc(), 3, &[10]) != first);
     let bytes = Bytes::from_vec(first.bytes.into_vec());
     assert!(rt; bytes == copy.bytes);
+    Ok(())
+}
+
+#[test]
+fn a_part_is_required_or_optional(rt: HostRuntime) -> Result<(), Fail> {
+    let alloc = rt.alloc();
+    let optional = optional_part(&rt, alloc, 3, &[10, 11]);
+    assert_eq!(rt; optional.device.number(), 3);
+    assert!(rt; optional.optional);
+    assert_eq!(rt; optional.bytes.as_slice(), [10, 11].as_slice());
+    let copy = optional.clone()?;
+    assert!(rt; copy.optional);
+    assert!(rt; copy == optional);
+    assert!(rt; optional != part(&rt, alloc, 3, &[10, 11]));
+    assert!(rt; optional != optional_part(&rt, alloc, 3, &[10]));
+    let parts = flagged(&rt, alloc, &[(3, false), (4, true)])?;
+    assert!(rt; parts == parts.clone()?);
+    assert!(rt; parts == flagged(&rt, alloc, &[(3, false), (4, true)])?);
+    assert!(rt; parts != flagged(&rt, alloc, &[(3, false), (4, false)])?);
+    assert!(rt; parts != flagged(&rt, alloc, &[(3, true), (4, false)])?);
     Ok(())
 }
 
@@ -89,5 +130,26 @@ fn a_cue_has_1_to_16_parts_of_at_most_32_bytes(rt: HostRuntime) -> Result<(), Fa
     assert!(rt; !part(&rt, rt.alloc(), 3, &bytes).is_fit());
     assert!(rt; !parts_of(&rt, rt.alloc(), &[3, 4], &bytes)?.is_fit());
     assert!(rt; !parts_of(&rt, rt.alloc(), &[3, 3], &[])?.is_fit());
+    Ok(())
+}
+
+#[test]
+fn a_cue_has_a_required_part(rt: HostRuntime) -> Result<(), Fail> {
+    // Whether some part is required, and whether a cue can have them.
+    let cases: [(&[(u8, bool)], bool, bool); 8] = [
+        (&[], false, false),
+        (&[(3, true)], false, false),
+        (&[(3, true), (4, true)], false, false),
+        (&[(3, false)], true, true),
+        (&[(3, false), (4, true)], true, true),
+        (&[(3, true), (4, false)], true, true),
+        (&[(3, true), (4, false), (5, true)], true, true),
+        (&[(3, true), (3, false)], true, false),
+    ];
+    for (devices, has_required, is_fit) in cases {
+        let parts = flagged(&rt, rt.alloc(), devices)?;
+        assert_eq!(rt; parts.has_required_part(), has_required, "{devices:?}");
+        assert_eq!(rt; parts.is_fit(), is_fit, "{devices:?}");
+    }
     Ok(())
 }

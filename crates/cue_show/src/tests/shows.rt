@@ -1,6 +1,6 @@
 //! Shows, each compared whole as one text, and its clone with it.
 
-use super::parts::part;
+use super::parts::{optional_part, part};
 use crate::{CueNo, DeviceNo, Parts, Show};
 use std::alloc::{AllocError, Global};
 use std::process::Abort;
@@ -32,9 +32,10 @@ fn push_cue(text: &mut String, cue: Option<CueNo>) -> Result<(), AllocError> {
 fn push_parts(text: &mut String, parts: Option<&Parts>) -> Result<(), AllocError> {
     if let Some(parts) = parts {
         for part in parts.as_slice() {
+            let sign = if part.optional { "?" } else { "" };
             write!(
                 text,
-                " {}={:?}",
+                " {}{sign}={:?}",
                 part.device.number(),
                 part.bytes.as_slice()
             )?;
@@ -43,7 +44,7 @@ fn push_parts(text: &mut String, parts: Option<&Parts>) -> Result<(), AllocError
     Ok(())
 }
 
-// The devices with their ports, the cues with the cue that follows and their parts, and the place.
+// The devices with their ports, the cues with the cue that follows and their parts, and the place. An optional part has a `?`.
 fn describe(alloc: Global, show: &Show) -> Result<String, AllocError> {
     let mut text = String::new(alloc);
     for (device, _) in show.devices() {
@@ -252,6 +253,27 @@ fn a_cue_has_parts_of_devices_of_the_table(rt: HostRuntime) {
 }
 
 #[test]
+fn a_cue_keeps_its_optional_parts(rt: HostRuntime) -> Result<(), Fail> {
+    let alloc = rt.alloc();
+    let mut show = example(&rt, alloc);
+    let number = cue(&rt, b"3");
+    let mut parts = Parts::new(alloc);
+    parts.push(optional_part(&rt, alloc, 4, &[7]))?;
+    assert!(rt; show.has_devices_of(&parts));
+    assert!(rt; !show.can_add_cue(number, &parts));
+    parts.push(part(&rt, alloc, 3, &[]))?;
+    assert!(rt; show.can_add_cue(number, &parts));
+    show.add_cue(number, parts)?;
+    assert_show(
+        &rt,
+        alloc,
+        &show,
+        "3:Some(9001) 4:Some(9002) | 1>2 3=[] 4=[10] 2>2.5 3=[] 2.5>3 4=[] 3>- 4?=[7] 3=[] | -",
+    );
+    Ok(())
+}
+
+#[test]
 fn a_table_holds_112_devices(rt: HostRuntime) {
     let mut show = Show::new(rt.alloc());
     for number in 0..112 {
@@ -266,25 +288,33 @@ fn a_table_holds_112_devices(rt: HostRuntime) {
     }
 }
 
-#[test]
-fn a_stack_holds_256_cues(rt: HostRuntime) {
-    let alloc = rt.alloc();
-    let mut show = Show::new(alloc);
-    add_device(&rt, &mut show, 3, 9001);
+// 256 cues, each a digit and a number of three digits.
+fn add_256_cues(rt: &impl Abort, alloc: Global, show: &mut Show, digit: u8) {
     for number in 0..=255 {
         assert!(rt; !show.is_full());
         let text = [
+            digit,
             b'0' + number / 100,
             b'0' + number / 10 % 10,
             b'0' + number % 10,
         ];
-        add_cue(&rt, alloc, &mut show, &text, &[3]);
+        add_cue(rt, alloc, show, &text, &[3]);
+    }
+}
+
+#[test]
+fn a_stack_holds_1024_cues(rt: HostRuntime) {
+    let alloc = rt.alloc();
+    let mut show = Show::new(alloc);
+    add_device(&rt, &mut show, 3, 9001);
+    for digit in b"1234" {
+        add_256_cues(&rt, alloc, &mut show, *digit);
     }
     let copy = show.try_clone().expect(&rt, "there is memory");
-    assert_eq!(rt; copy.cues().len(), 256);
+    assert_eq!(rt; copy.cues().len(), 1024);
     assert!(rt; copy.is_full());
     let parts = list(&rt, alloc, &[3]);
-    assert!(rt; !copy.can_add_cue(cue(&rt, b"256"), &parts));
-    remove_cue(&rt, &mut show, b"000");
-    assert!(rt; show.can_add_cue(cue(&rt, b"256"), &parts));
+    assert!(rt; !copy.can_add_cue(cue(&rt, b"5"), &parts));
+    remove_cue(&rt, &mut show, b"1000");
+    assert!(rt; show.can_add_cue(cue(&rt, b"5"), &parts));
 }

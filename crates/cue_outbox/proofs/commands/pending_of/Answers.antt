@@ -1,4 +1,4 @@
-use Rattle.std.proofs.Common.{◌≡◌, ℕ, ◌<◌, List, [], ◌++◌, Bool, true, false, cond, length, get_or, ap, sym, ◌∙◌, subst, append-nil, Vec, Global}
+use Rattle.std.proofs.Common.{◌≡◌, ◌<◌, List, [], ◌++◌, true, false, cond, length, get_or, ap, sym, ◌∙◌, subst, append-nil, Vec, Global}
 use Rattle.cue_show.specs.Devices.{is_among}
 use Rattle.cue_exchange.specs.declared.attempt.Attempt.{Attempt}
 use Rattle.cue_outbox.specs.declared.out.Out.{Out}

@@ -1,3 +1,4 @@
+pub mod Alone
 pub mod Endings
 pub mod Lines
 pub mod MemSources

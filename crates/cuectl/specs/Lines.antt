@@ -1,10 +1,10 @@
 -- The commands as clap knows them, and what a line says of the one that it matched.
-use Rattle.std.specs.Prelude.{◌≡◌, ◌⊎◌, ℕ, ◌≤◌, pos, List, ◌∷◌, [], Option, Some, None, true, codes, string_bytes}
+use Rattle.std.specs.Prelude.{◌≡◌, ◌⊎◌, ℕ, ◌≤◌, ◌<◌, ◌^◌, pos, Bool, List, ◌∷◌, [], Option, Some, None, true, false, codes, string_bytes}
 use Rattle.std.specs.Str.Parse.{IsNumeral, digits_value, without_leading_plus}
 use Rattle.clap.specs.Words.{App, Rule, Row, Text, new_app, new_rule, with_rule, with_subcommand, first_of, one_of}
 use Rattle.clap.specs.Words.{Kinds, IsAmong}
 use Rattle.clap.specs.declared.error.kind.ErrorKind.{ErrorKind}
-use Rattle.clap.specs.declared.error.kind.ErrorKind.TheVariants.{DisplayHelp, DisplayVersion}
+use Rattle.clap.specs.declared.error.kind.ErrorKind.TheVariants.{DisplayHelp, DisplayVersion, OutOfMemory}
 use Rattle.clap.specs.declared.builder.ArgAction.TheVariants.{Set}
 use Rattle.clap.specs.declared.builder.value_parser.ValueParser.TheVariants.{Signed, Unsigned}
 use Rattle.cuectl.specs.declared.line.words.Line.{Line}
@@ -55,17 +55,49 @@ pub record IsNumberIn (id : Text) (rows : List Row) (n : ℕ) : Type 0 where
   pub numeral : IsNumeral 10 (without_leading_plus text)
   pub value : n ≡ digits_value 10 (without_leading_plus text)
 
+-- the port that stands there, one that can be listened on
+abbrev pub IsPortIn : List Row → ℕ → Type 0
+IsPortIn rows port = IsNumberIn (codes "port") rows port × (1 ≤ port) × (port < 2 ^ 16)
+
+-- the number of turns that stands there
+abbrev pub AreTurnsIn : List Row → ℕ → Type 0
+AreTurnsIn rows turns = IsNumberIn (codes "turns") rows turns × (turns < 2 ^ 64)
+
 -- the folder that stands there
 abbrev pub IsDirIn : List Row → Text → Type 0
 IsDirIn rows dir = first_of (codes "DIR") rows ≡ Some dir
+
+-- no folder stands there
+abbrev pub LacksDir : List Row → Type 0
+LacksDir rows = first_of (codes "DIR") rows ≡ None
+
+-- no port stands there that can be listened on
+abbrev pub LacksPort : List Row → Type 0
+LacksPort rows = (port : ℕ) → IsPortIn rows port → ⊥
+
+-- no number of turns stands there
+abbrev pub LacksTurns : List Row → Type 0
+LacksTurns rows = (turns : ℕ) → AreTurnsIn rows turns → ⊥
 
 -- the line is the command that was matched, with what stands there
 abbrev pub IsLine : Text × List Row → Line → Type 0
 IsLine found (Form dir) = (found.0 ≡ codes "form") × IsDirIn found.1 (string_bytes dir)
 IsLine found (Serve dir port turns) = (found.0 ≡ codes "serve") × IsDirIn found.1 (string_bytes dir)
-    × IsNumberIn (codes "port") found.1 port × (1 ≤ port) × IsNumberIn (codes "turns") found.1 turns
+    × IsPortIn found.1 port × AreTurnsIn found.1 turns
 IsLine found (Show dir) = (found.0 ≡ codes "show") × IsDirIn found.1 (string_bytes dir)
 IsLine found Script = found.0 ≡ codes "script"
+
+-- Helper: what was matched is no line: it has another name, or lacks what a command of its name has.
+pub record IsNoLine (found : Text × List Row) : Type 0 where
+  pub form : found.0 ≡ codes "form" → LacksDir found.1
+  pub serve : found.0 ≡ codes "serve" → LacksDir found.1 ⊎ LacksPort found.1 ⊎ LacksTurns found.1
+  pub show : found.0 ≡ codes "show" → LacksDir found.1
+  pub script : found.0 ≡ codes "script" → ⊥
+
+-- no command was matched that is a line
+abbrev pub IsNoLineOf : Option (Text × List Row) → Type 0
+IsNoLineOf (Some found) = IsNoLine found
+IsNoLineOf None = Unit {0}
 
 -- and there is such a command
 abbrev pub IsLineOf : Option (Text × List Row) → Line → Type 0
@@ -82,8 +114,20 @@ IsHelp Memory = ⊥
 abbrev pub AsksForText : Kinds → Type 0
 AsksForText kinds = IsAmong DisplayHelp kinds ⊎ IsAmong DisplayVersion kinds
 
+-- neither the help nor the version is asked for
+abbrev pub asks_for_none : ErrorKind → Bool
+asks_for_none DisplayHelp = false
+asks_for_none DisplayVersion = false
+asks_for_none _ = true
+
+-- clap stops for another reason than the help and the version
+pub record IsRefused (kinds : Kinds) : Type 0 where
+  pub kind : ErrorKind
+  pub among : IsAmong kind kinds
+  pub other : asks_for_none kind ≡ true
+
 -- what the program makes of an error of clap
 abbrev pub IsFaultOf : ErrorKind → LineFault → Type 0
 IsFaultOf kind (Help text) = (kind ≡ DisplayHelp) ⊎ (kind ≡ DisplayVersion)
-IsFaultOf kind Usage = Unit {0}
+IsFaultOf kind Usage = (asks_for_none kind ≡ true) × (kind ≡ OutOfMemory → ⊥)
 IsFaultOf kind Memory = Unit {0}

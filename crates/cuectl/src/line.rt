@@ -1,12 +1,19 @@
 //! The command line, read over `clap`.
-ghost use Rattle.std.specs.Prelude.{◌≡◌, ◌≤◌, [], map, IfOk, IfErr, OnOk, false, string_bytes, codes};
+ghost use Rattle.std.specs.Prelude.{◌≡◌, ◌⊎◌, [], None, map, IfOk, IfErr, IsErrOf, OnOk, false, string_bytes};
 ghost use Rattle.clap.specs.Words.{rule_of, found_of, rows_of, app_of, fault_of, kind_of, subcommand_of};
 ghost use Rattle.cuectl.specs.Lines.{
   dir_rule,
   port_rule,
   turns_rule,
-  IsNumberIn,
   IsDirIn,
+  IsPortIn,
+  AreTurnsIn,
+  LacksDir,
+  LacksPort,
+  LacksTurns,
+  IsNoLine,
+  IsNoLineOf,
+  IsRefused,
   IsLine,
   IsLineOf,
   IsFaultOf,
@@ -14,6 +21,8 @@ ghost use Rattle.cuectl.specs.Lines.{
   AsksForText,
   cuectl_app,
 };
+
+ghost use Rattle.cuectl.specs.declared.line.words.LineFault.TheVariants.{Usage};
 
 pub mod words;
 
@@ -78,7 +87,7 @@ fn cuectl<'a>(alloc: Global) -> Result<Command<'a>, AllocError>
         "Run a script from standard input on two disks in memory",
     );
     Command::new(alloc, "cuectl")
-        .version("1.0")
+        .version("1.1")
         .about("A two-phase cue controller for theatre machinery")
         .subcommand(form)?
         .subcommand(serve)?
@@ -89,6 +98,7 @@ fn cuectl<'a>(alloc: Global) -> Result<Command<'a>, AllocError>
 // The folder that stands there.
 fn dir_in(alloc: Global, found: &ArgMatches<'_>) -> Result<String, LineFault>
     ensures dir { IfOk result (λ dir. IsDirIn (rows_of (found_of found.now)) (string_bytes dir)) }
+    ensures usage { IsErrOf result Usage → LacksDir (rows_of (found_of found.now)) }
     ensures no_help { IfErr result (λ fault. IsHelp fault → ⊥) }
 {
     match found.get_str("DIR") {
@@ -99,7 +109,8 @@ fn dir_in(alloc: Global, found: &ArgMatches<'_>) -> Result<String, LineFault>
 
 // The port that stands there, where it is one.
 fn port_in(found: &ArgMatches<'_>) -> Result<u16, LineFault>
-    ensures port { IfOk result (λ port. IsNumberIn (codes "port") (rows_of (found_of found.now)) port × (1 ≤ port)) }
+    ensures port { IfOk result (λ port. IsPortIn (rows_of (found_of found.now)) port) }
+    ensures usage { IsErrOf result Usage → LacksPort (rows_of (found_of found.now)) }
     ensures no_help { IfErr result (λ fault. IsHelp fault → ⊥) }
 {
     match found.get_one::<u16>("port") {
@@ -110,7 +121,8 @@ fn port_in(found: &ArgMatches<'_>) -> Result<u16, LineFault>
 
 // The number of turns that stands there.
 fn turns_in(found: &ArgMatches<'_>) -> Result<u64, LineFault>
-    ensures turns { IfOk result (λ turns. IsNumberIn (codes "turns") (rows_of (found_of found.now)) turns) }
+    ensures turns { IfOk result (λ turns. AreTurnsIn (rows_of (found_of found.now)) turns) }
+    ensures usage { IsErrOf result Usage → LacksTurns (rows_of (found_of found.now)) }
     ensures no_help { IfErr result (λ fault. IsHelp fault → ⊥) }
 {
     match found.get_one::<u64>("turns") {
@@ -122,6 +134,7 @@ fn turns_in(found: &ArgMatches<'_>) -> Result<u64, LineFault>
 // The command that was matched.
 fn line_in(alloc: Global, name: &str, found: &ArgMatches<'_>) -> Result<words::Line, LineFault>
     ensures line { IfOk result (λ line. IsLine (name.now, rows_of (found_of found.now)) line) }
+    ensures usage { IsErrOf result Usage → IsNoLine (name.now, rows_of (found_of found.now)) }
     ensures no_help { IfErr result (λ fault. IsHelp fault → ⊥) }
 {
     if name == "form" {
@@ -164,6 +177,8 @@ pub fn line(alloc: Global, words: &[String]) -> Result<words::Line, LineFault>
     ensures line { IfOk result (λ line. IsLineOf (subcommand_of cuectl_app (map string_bytes words.now)) line) }
     // Words at which clap stops are no command, and words that ask for help or for the version are told apart.
     ensures taken { OnOk result (fault_of cuectl_app (map string_bytes words.now) ≡ []) }
+    // They are refused only where clap stops, or no line was matched.
+    ensures usage { IsErrOf result Usage → IsRefused (fault_of cuectl_app (map string_bytes words.now)) ⊎ IsNoLineOf (subcommand_of cuectl_app (map string_bytes words.now)) }
     ensures help { IfErr result (λ fault. IsHelp fault → AsksForText (fault_of cuectl_app (map string_bytes words.now))) }
 {
     let command = cuectl(alloc)?;

@@ -1,8 +1,9 @@
 //! The program: what each command does, prints and answers.
 use crate::evening_log::LoggedWire;
+use crate::evening_log::alone::StandbyLog;
 use crate::line::line;
 use crate::line::words::{Line, LineFault};
-use crate::run::{Ended, RunFault, run};
+use crate::run::{Ended, RunFault, run_watched};
 use crate::script::script;
 use crate::show_text::show_text;
 use crate::udp::{UdpSource, UdpWire, local};
@@ -193,7 +194,8 @@ fn serve_on<'a, R: Clock + Eprint>(
 ) -> io::Result<Ended> {
     let mut source = UdpSource::new(rt, socket, port)?;
     let mut wire = LoggedWire::new(rt, alloc, UdpWire::new(socket));
-    Ok(run(alloc, engine, &mut source, &mut wire, turns))
+    let mut watch = StandbyLog::new(rt, alloc, engine.state().last_seq());
+    Ok(run_watched(alloc, engine, &mut source, &mut wire, turns, &mut watch))
 }
 
 // Why the port cannot be served.

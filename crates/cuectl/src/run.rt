@@ -9,12 +9,14 @@ ghost use Rattle.cuectl.specs.Running.{IsTaken, Turned, Ran, LeavesEither};
 
 pub mod mem_source;
 pub mod source;
+pub mod watch;
 
 use cue_disk::Disk;
 use cue_engine::{Engine, Input, Wire};
 use cue_keeper::Fault;
 use source::{Source, Turn};
 use std::alloc::Global;
+use watch::{Unwatched, Watch};
 
 /// The buffer is longer than the longest datagram, so that one that is too long is seen to be so.
 const BUFFER: usize = 4_100;
@@ -99,10 +101,11 @@ fn turn_once<D: Disk, S: Source, W: Wire>(
 }
 
 // Hands out what is owed, and then takes turns in order.
-fn run_turns<D: Disk, S: Source, W: Wire>(
+fn run_turns<D: Disk, S: Source, W: Wire, V: Watch>(
     engine: &mut Engine<D>,
     source: &mut S,
     wire: &mut W,
+    watch: &mut V,
     buffer: &mut [u8],
     turns: u64,
 ) -> Ended
@@ -118,7 +121,10 @@ fn run_turns<D: Disk, S: Source, W: Wire>(
     let mut unsent = engine.hand_out(wire);
     for taken in 0..turns {
         match turn_once(engine, source, wire, buffer) {
-            Ok(Some(refused)) => unsent = unsent.saturating_add(refused),
+            Ok(Some(refused)) => {
+                unsent = unsent.saturating_add(refused);
+                watch.look(engine.state());
+            }
             Ok(None) => {
                 return Ended {
                     turns: taken,
@@ -143,7 +149,42 @@ fn run_turns<D: Disk, S: Source, W: Wire>(
 }
 
 /// Hands out what is owed, and then takes at most so many inputs, handing out after each what it owes. It ends at its turns,
-/// where the source ends, or at the first fault; nothing is handed out for an input that was not taken.
+/// where the source ends, or at the first fault; nothing is handed out for an input that was not taken. After each input that
+/// was taken `watch` looks at the state.
+pub fn run_watched<D: Disk, S: Source, W: Wire, V: Watch>(
+    alloc: Global,
+    engine: &mut Engine<D>,
+    source: &mut S,
+    wire: &mut W,
+    turns: u64,
+    watch: &mut V,
+) -> Ended
+    // What was taken is what the source gave first, the state and the wire are what the definition makes of it, and it ended for its reason.
+    ensures ran { Ran BUFFER (S.left source.old) (state_of engine.old) (queue_of engine.old) (W.told wire.old) turns result.turns result.unsent result.fault
+        (S.left source.new) (state_of engine.new) (W.told wire.new)
+        (λ after. D.is_honest (first_of engine.old) → D.is_honest (second_of engine.old) → StandsAs (D.held (first_of engine.old)) (D.held (second_of engine.old)) (state_of engine.old)
+        → LeavesEither (D.held (first_of engine.new)) (D.held (second_of engine.new)) (state_of engine.new) after) }
+    ensures at_most { result.turns ≤ turns }
+    ensures emptied { queue_of engine.new ≡ [] }
+    // Whatever a crash leaves of the disks then stands for that state alone, but where a disk failed.
+    ensures stands { D.is_honest (first_of engine.old) → D.is_honest (second_of engine.old) → StandsAs (D.held (first_of engine.old)) (D.held (second_of engine.old)) (state_of engine.old)
+        → (result.fault ≡ Some (RunFault.Engine Fault.Disk) → ⊥) → StandsAs (D.held (first_of engine.new)) (D.held (second_of engine.new)) (state_of engine.new) }
+{
+    match vec![in alloc; 0u8; BUFFER] {
+        Ok(mut buffer) => run_turns(engine, source, wire, watch, &mut buffer, turns),
+        Err(_) => {
+            let unsent = engine.hand_out(wire);
+            Ended {
+                turns: 0,
+                unsent,
+                fault: Some(RunFault::Engine(Fault::Memory)),
+            }
+        }
+    }
+}
+
+/// Hands out what is owed, and then takes at most so many inputs, handing out after each what it owes. It ends at its turns,
+/// where the source ends, or at the first fault; nothing is handed out for an input that was not taken. Nobody looks on.
 pub fn run<D: Disk, S: Source, W: Wire>(
     alloc: Global,
     engine: &mut Engine<D>,
@@ -162,15 +203,5 @@ pub fn run<D: Disk, S: Source, W: Wire>(
     ensures stands { D.is_honest (first_of engine.old) → D.is_honest (second_of engine.old) → StandsAs (D.held (first_of engine.old)) (D.held (second_of engine.old)) (state_of engine.old)
         → (result.fault ≡ Some (RunFault.Engine Fault.Disk) → ⊥) → StandsAs (D.held (first_of engine.new)) (D.held (second_of engine.new)) (state_of engine.new) }
 {
-    match vec![in alloc; 0u8; BUFFER] {
-        Ok(mut buffer) => run_turns(engine, source, wire, &mut buffer, turns),
-        Err(_) => {
-            let unsent = engine.hand_out(wire);
-            Ended {
-                turns: 0,
-                unsent,
-                fault: Some(RunFault::Engine(Fault::Memory)),
-            }
-        }
-    }
+    run_watched(alloc, engine, source, wire, turns, &mut Unwatched)
 }

@@ -71,6 +71,7 @@ fn command_lines(rt: HostRuntime) -> Result<(), Fail> {
         "! Usage\n",
     )?;
     expect(&rt, "cuectl serve table --turns 1", 2, "! Usage\n")?;
+    expect(&rt, "cuectl --version", 0, "cuectl 1.1\n")?;
     expect(&rt, "cuectl", 2, "! Usage\n")?;
     expect(&rt, "cuectl strike table", 2, "! Usage\n")?;
     expect(&rt, "cuectl show missing", 3, "! NotFound\n")?;

@@ -5,6 +5,7 @@ use std::io::{self, ErrorKind, Read, Write};
 use std::process::Abort;
 use std::test::Fail;
 
+mod optional;
 mod rows;
 
 /// Adds the device 3 at port 9001.
@@ -34,6 +35,15 @@ fn expect(rt: &impl Abort, alloc: Global, name: &str, text: &[u8], status: u8, o
 fn worked_examples(rt: HostRuntime) {
     let alloc = rt.alloc();
     for (name, text, output) in rows::ROWS {
+        expect(&rt, alloc, name, text.as_bytes(), 0, output.as_bytes());
+    }
+}
+
+/// Cues with optional parts.
+#[test]
+fn optional_parts(rt: HostRuntime) {
+    let alloc = rt.alloc();
+    for (name, text, output) in optional::ROWS {
         expect(&rt, alloc, name, text.as_bytes(), 0, output.as_bytes());
     }
 }
@@ -142,13 +152,13 @@ const AT_SECOND: &str =
     "> 8000 2f7265706c7900002c736969696900002f7374617475730000000000000000010000000000000000\n\
 > 8000 2f737461747573002c697369696900000000000032000000000000000000000000000000\n";
 
-/// 133 records fill two areas and begin a third. Power loss then finds the state behind the last of them.
+/// 517 records fill two areas and begin a third. Power loss then finds the state behind the last of them.
 #[test]
 fn new_areas(rt: HostRuntime) -> Result<(), Fail> {
     let alloc = rt.alloc();
     let mut text = String::from_str(alloc, TWO_CUES)?;
     let mut output = String::from_str(alloc, TWO_CUES_OUTPUT)?;
-    for _ in 0..65 {
+    for _ in 0..257 {
         text.push_str(TWICE_GOTO)?;
         output.push_str(TWICE_GOTO_OUTPUT)?;
     }
@@ -157,7 +167,57 @@ fn new_areas(rt: HostRuntime) -> Result<(), Fail> {
     expect(
         &rt,
         alloc,
-        "130 times",
+        "514 times",
+        text.as_bytes(),
+        0,
+        output.as_bytes(),
+    );
+    Ok(())
+}
+
+const CUE_MADE: &str =
+    "> 8000 2f7265706c7900002c736969696900002f73686f772f63756500000000000001000000000000000000000000\n";
+
+const NO_ROOM: &str =
+    "> 8000 2f7265706c7900002c736969696900002f73686f772f63756500000000000000000000000000000100000007\n";
+
+// A line that adds the cue of this number, with a part for the device 3. Its digits are the bytes 30 to 39.
+fn cue_line(alloc: Global, number: u32) -> Result<String, Fail> {
+    let mut line = String::from_str(alloc, "d 0 8000 2f73686f772f6375650000002c73696200000000")?;
+    let digits = format!(in alloc; "{number}")?;
+    for digit in digits.chars() {
+        line.push('3')?;
+        line.push(digit)?;
+    }
+    line.push_str(if number < 10 {
+        "000000"
+    } else if number < 100 {
+        "0000"
+    } else if number < 1000 {
+        "00"
+    } else {
+        "00000000"
+    })?;
+    line.push_str("0000000300000000\n")?;
+    Ok(line)
+}
+
+/// 1,024 cues are added, and there is no room for one more.
+#[test]
+fn longest_stack(rt: HostRuntime) -> Result<(), Fail> {
+    let alloc = rt.alloc();
+    let mut text = String::from_str(alloc, TWO_CUES)?;
+    let mut output = String::from_str(alloc, TWO_CUES_OUTPUT)?;
+    for number in 3..1025 {
+        text.push_str(cue_line(alloc, number)?.as_str())?;
+        output.push_str(CUE_MADE)?;
+    }
+    text.push_str(cue_line(alloc, 1025)?.as_str())?;
+    output.push_str(NO_ROOM)?;
+    expect(
+        &rt,
+        alloc,
+        "1,025 cues",
         text.as_bytes(),
         0,
         output.as_bytes(),

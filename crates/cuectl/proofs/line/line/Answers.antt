@@ -1,10 +1,11 @@
-use Rattle.std.proofs.Common.{◌≡◌, ◌∙◌, List, [], Option, ap, sym, subst, refl, true, ◌⊎◌}
+use Rattle.std.proofs.Common.{◌≡◌, ◌∙◌, List, [], Option, ap, sym, subst, refl, true, ◌⊎◌, inl}
 use Rattle.std.specs.Prelude.{map, string_bytes}
 use Rattle.clap.specs.Words.{App, Text, IsAmong, app_of, fault_of, kind_of, is_simple_and_free}
 use Rattle.clap.specs.declared.error.kind.ErrorKind.TheVariants.{OutOfMemory}
 use Rattle.clap.proofs.OnLiterals.{clap_on_literals}
 use Rattle.cuectl.specs.Lines.{cuectl_app}
-use Rattle.cuectl.proofs.LineLemmas.{on_ok, asks}
+use Rattle.cuectl.specs.declared.line.words.LineFault.TheVariants.{Usage}
+use Rattle.cuectl.proofs.LineLemmas.{on_ok, asks, refused}
 use Rattle.cuectl.proofs.line.line.Goals as goal
 
 is_plain : is_simple_and_free cuectl_app ≡ true
@@ -23,3 +24,11 @@ returns-clause-help c =
     let has = c.in-Err.ensures.kinds (ap is_simple_and_free is ∙ is_plain) in
     asks (fault_of cuectl_app (map string_bytes c.args.words.now)) (kind_of c.in-Err.error) c.fault_of.result c.fault_of.ensures
     (subst (λ (a : App). (kind_of c.in-Err.error ≡ OutOfMemory) ⊎ IsAmong (kind_of c.in-Err.error) (fault_of a (map string_bytes c.args.words.now))) is has)
+
+pub returns-clause-usage : goal.returns-clause-usage
+returns-clause-usage c = λ h.
+    let is : app_of c.in_ok-command.command ≡ cuectl_app = c.in_ok-command.ensures in
+    let has = c.in-Err.ensures.kinds (ap is_simple_and_free is ∙ is_plain) in
+    let usage : c.fault_of.result ≡ Usage = cc in
+    inl (refused (fault_of cuectl_app (map string_bytes c.args.words.now)) (kind_of c.in-Err.error) c.fault_of.result c.fault_of.ensures
+    (subst (λ (a : App). (kind_of c.in-Err.error ≡ OutOfMemory) ⊎ IsAmong (kind_of c.in-Err.error) (fault_of a (map string_bytes c.args.words.now))) is has) usage)

@@ -5,7 +5,7 @@ use Rattle.cue_engine.specs.Words.{state_of, queue_of, first_of, second_of}
 use Rattle.cuectl.specs.Running.{LeavesEither, Ran}
 use Rattle.cuectl.specs.declared.run.TheConstants.{BUFFER}
 use Rattle.cuectl.proofs.RunLemmas.{begun, ran_none}
-use Rattle.cuectl.proofs.run.run.Goals as goal
+use Rattle.cuectl.proofs.run.run_watched.Goals as goal
 
 pub returns-in-Ok-clause-ran : goal.returns-in-Ok-clause-ran
 returns-in-Ok-clause-ran g c =

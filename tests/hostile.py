@@ -66,7 +66,7 @@ class Session:
         return self.r.choice(live) if live and self.r.random() < 0.5 else self.r.choice(self.cues)
 
     def fitting_standby(self):
-        """Of a cue that is there, in an excusing session rather of one with optional parts; none where there is no cue."""
+        """Of a cue that is there, in an excusing session most often of one with optional parts; none without a cue."""
         cues = list(self.state.cues)
         if self.kind == "excusing" and self.r.random() < 0.8:
             cues = [cue for cue in cues if any(part.optional for part in self.state.cues[cue])] or cues
@@ -173,7 +173,8 @@ class Session:
         r = self.r
         address = r.choice(PATTERNS).format(verb=r.choice(VERBS), cue=cue, device=device, dverb=r.choice(REPLIES + ["release"]))
         if address.startswith("/show") and r.random() < 0.5:
-            return r.choice([show_cue(b"1", []), self.mixed_message()])[12:].join([model.padded(address.encode() + b"\0"), b""])
+            arguments = r.choice([show_cue(b"1", self.some_parts()), self.mixed_message()])[12:]  # behind their address
+            return model.padded(address.encode() + b"\0") + arguments
         return model.message(address, *([r.choice([1, 2])] if r.random() < 0.5 else []))
 
     def many_gotos(self):
@@ -215,7 +216,8 @@ class Session:
             if event[0] == "cue" and any(part.optional for part in event[2]):
                 self.met["mixed cue"] += 1
         for event in batch:
-            if event[0] in ("go", "cancel") and event[1] in before.live and "excused" in before.live[event[1]]["answers"].values():
+            attempt = before.live.get(event[1]) if event[0] in ("go", "cancel") else None
+            if attempt and "excused" in attempt["answers"].values():
                 self.met[f"{event[0]} with an excused device"] += 1
         for _, sent in sends:
             if sent.startswith(b"/reply\0"):

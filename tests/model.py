@@ -487,12 +487,14 @@ def heard(old, now, sender, data):
     messages, tags = read
     if any(is_later(tag, now) for tag in tags):
         return refused_whole(old, sender, 32)
-    s, sends, commands, batch = copy(old), [], 0, []
+    s, sends, commands, batch, matched = copy(old), [], 0, [], {}
     for address, args in messages:
         made = known = refused = code = 0
         shown = []
         pattern = read_pattern(address) if args is not None else None
-        found = [m for a, m in methods(s) if matches(pattern, a)] if pattern is not None else []
+        if pattern is not None and address not in matched:
+            matched[address] = [m for a, m in methods(s) if matches(pattern, a)]
+        found = matched[address] if pattern is not None else []
         if args is None or pattern is None or not found:
             refused, code = 1, 1 if args is None else 2 if pattern is None else 3
         commands += len(found)
@@ -512,6 +514,8 @@ def heard(old, now, sender, data):
                 batch += verdict
                 for event in verdict:
                     s.apply(event)
+                if verdict[0][0] in ("device", "no_device", "cue", "no_cue"):
+                    matched = {}  # there are other methods now
         sends += [(sender, reply(address, made, known, refused, code))] + shown
     if 2 + sum(map(event_length, batch)) > MAX_PAYLOAD:
         return refused_whole(old, sender, 33)

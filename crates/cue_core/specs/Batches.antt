@@ -1,4 +1,5 @@
--- Events that are acceptable in turn: the histories that they make, what they leave as it was, and what a recovery makes of a state.
+-- Events that are acceptable in turn: the histories that they make, what they leave as it was, and what a recovery
+-- makes of a state.
 use Rattle.std.specs.Prelude.{◌≡◌, ℕ, Bool, true, ◌||◌, List, [], IsTrue}
 use Rattle.std.specs.List.{list_any}
 use Rattle.cue_exchange.specs.Answers.{is_decided}

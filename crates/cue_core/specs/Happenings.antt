@@ -54,7 +54,7 @@ history_of (h ∷ before) = onto (events_at (state_of (history_of before)) h) (h
 abbrev pub CommandsMakeHistories : Type 0
 CommandsMakeHistories = (hs : List Happening) → IsTrue (list_all can_come hs) → IsTrue (is_history (history_of hs))
 
--- And they keep the order: Go only after Ready of each required device, Ready or Excuse of each optional one, and no Cancel; and
--- after Go no Cancel.
+-- And they keep the order: Go only after Ready of each required device, Ready or Excuse of each optional one, and no
+-- Cancel; and after Go no Cancel.
 abbrev pub CommandsInOrder : Type 0
 CommandsInOrder = (hs : List Happening) → IsTrue (list_all can_come hs) → IsTrue (is_in_order (history_of hs))

@@ -11,8 +11,8 @@ use Rattle.cue_core.specs.History.{is_history, parts_by, stood_by, was_excused}
 abbrev pub may_go_by : List Event → ℕ → Part → Bool
 may_go_by past q p = stood_by past q p.device || (p.optional && was_excused past q p.device)
 
--- what must have been accepted before the event: before Go, the Start, Ready of each required device, Ready or Excuse of each
--- optional one, and no Cancel; before Cancel, no Go
+-- what must have been accepted before the event: before Go, the Start, Ready of each required device, Ready or Excuse
+-- of each optional one, and no Cancel; before Cancel, no Go
 abbrev pub keeps_order : List Event → Event → Bool
 keeps_order past (Device d port) = true
 keeps_order past (NoDevice d) = true
@@ -33,6 +33,7 @@ abbrev pub is_in_order : List Event → Bool
 is_in_order [] = true
 is_in_order (e ∷ past) = keeps_order past e && is_in_order past
 
--- Go comes only after Ready of each required device, Ready or Excuse of each optional one, and no Cancel; and after Go no Cancel comes.
+-- Go comes only after Ready of each required device, Ready or Excuse of each optional one, and no Cancel; and after
+-- Go no Cancel comes.
 abbrev pub GoAfterReady : Type 0
 GoAfterReady = (h : List Event) → IsTrue (is_history h) → IsTrue (is_in_order h)

@@ -152,12 +152,13 @@ on_cancel_of a =
 abbrev pub on_cancel : ShowState → List ℕ → Judged
 on_cancel s c = if not (has_cue s.show c) then refused code.NoMethod else option_map_or on_cancel_of (attempt_of_cue s.live c) (refused code.NotLive)
 
--- the operator waits no longer for a device of a Preparing attempt: an optional one is excused, and for a required one the
--- preparation is given up
+-- the operator waits no longer for a device of a Preparing attempt: an optional one is excused, and for a required
+-- one the preparation is given up
 abbrev pub release_early : ℕ → DeviceAnswer → Judged
 release_early q x = if x.optional then made (event.Excuse q x.device ∷ []) else made (event.Cancel q Release ∷ event.LetGo q x.device ∷ [])
 
--- the operator waits no longer for the device: the attempt, the device as it is recorded, the stage, and the answer of the record
+-- the operator waits no longer for the device: the attempt, the device as it is recorded, the stage, and the answer
+-- of the record
 abbrev pub on_release_in : ℕ → DeviceAnswer → Stage → Answer → Judged
 on_release_in q x Preparing answer.Waiting = release_early q x
 on_release_in q x Preparing answer.Ready = release_early q x
@@ -247,11 +248,13 @@ on_cancelled q x (Cancelling r) answer.LetGo = known
 on_cancelled q x (Cancelling r) answer.Failed = refused code.Stale
 on_cancelled q x (Cancelling r) answer.Excused = refused code.Stale
 
--- a device of a Preparing attempt cannot go on: an optional one is excused, and for a required one the preparation is given up
+-- a device of a Preparing attempt cannot go on: an optional one is excused, and for a required one the preparation is
+-- given up
 abbrev pub abort_early : ℕ → DeviceAnswer → Judged
 abort_early q x = if x.optional then made (event.Excuse q x.device ∷ []) else made (event.Cancel q Abort ∷ event.Failed q x.device ∷ [])
 
--- a device of a Cancelling attempt cannot go on: of an optional one nothing more is asked, and a required one has failed
+-- a device of a Cancelling attempt cannot go on: of an optional one nothing more is asked, and a required one has
+-- failed
 abbrev pub abort_late : ℕ → DeviceAnswer → Judged
 abort_late q x = if x.optional then made (event.LetGo q x.device ∷ []) else made (event.Failed q x.device ∷ [])
 

@@ -29,7 +29,8 @@ is_reply_made s r = is_made (on_reply s r.from r.kind r.device r.number).0
 abbrev pub after_reply : ShowState → Said → ShowState
 after_reply s r = folded s (on_reply s r.from r.kind r.device r.number).1
 
--- Two replies to one attempt by different devices, each carried out in the same state, give the same state in either order.
+-- Two replies to one attempt by different devices, each carried out in the same state, give the same state in either
+-- order.
 abbrev pub RepliesCommute : Type 0
 RepliesCommute =
     (s : ShowState) (r t : Said) → IsTrue (is_state s) → r.number ≡ t.number → r.device ≢ t.device → IsTrue (is_reply_made s r) → IsTrue (is_reply_made s t)

@@ -48,7 +48,8 @@ ever test (e ∷ past) = test (state_of (e ∷ past)) || ever test past
 abbrev pub NeverAskedBoth : Type 0
 NeverAskedBoth = (h : List Event) (q d : ℕ) → IsTrue (is_history h) → IsTrue (not (ever (asks_to_go q d) h && ever (asks_to_cancel q d) h))
 
--- A device that is done with in an attempt, since it has answered for the last time or was excused, is asked nothing more in it.
+-- A device that is done with in an attempt, since it has answered for the last time or was excused, is asked nothing
+-- more in it.
 abbrev pub NothingMoreIsAsked : Type 0
 NothingMoreIsAsked = (h : List Event) (q d : ℕ) → IsTrue (is_history h) → IsTrue (list_any (is_end_of q d) h) → IsTrue (not (asks q d (state_of h)))
 

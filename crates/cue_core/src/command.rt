@@ -137,8 +137,9 @@ impl Command {
     ghost use Rattle.std.specs.Prelude.{◌≡◌};
     ghost use Rattle.cue_core.specs.Judge.{is_fit};
 
-    /// Whether the numbers and parts of the command are ones that there are: a port is not 0, a sequence number is 1 to 2,147,483,647, and
-    /// the parts are ones that a cue can have. For who reads commands from outside; what is not so is `Bad`.
+    /// Whether the numbers and parts of the command are ones that there are: a port is not 0, a sequence number is 1
+    /// to 2,147,483,647, and the parts are ones that a cue can have. For who reads commands from outside; what is not
+    /// so is `Bad`.
     pub fn is_fit(&self) -> bool
         ensures { result ≡ is_fit self.now }
     {

@@ -14,8 +14,8 @@ pub struct Ended {
 
 /// What happens to a state.
 ///
-/// Attempts are named by their sequence number, moments are in milliseconds since 1970. Which events are acceptable in a state, and what
-/// each makes of it, is said by the definitions `acceptable` and `after`.
+/// Attempts are named by their sequence number, moments are in milliseconds since 1970. Which events are acceptable
+/// in a state, and what each makes of it, is said by the definitions `acceptable` and `after`.
 #[derive(Drop)]
 pub enum Event {
     /// The device goes into the table, with its port.

@@ -1,5 +1,5 @@
-//! The laws of the exchange: what holds of every list of events and of every list of commands. Each is the contract of a function that
-//! does nothing.
+//! The laws of the exchange: what holds of every list of events and of every list of commands. Each is the contract
+//! of a function that does nothing.
 ghost use Rattle.std.specs.Prelude.{◌≡◌};
 ghost use Rattle.cue_core.specs.declared.limits.TheConstants.{STANDBY_MS};
 ghost use Rattle.cue_core.specs.Batches.{AcceptableAreHistories, ClosedStays, DecidedByGo, EventsKeepRules, HistoriesFold, LiveByStart};
@@ -10,38 +10,41 @@ ghost use Rattle.cue_core.specs.InTurn.{StepsAreAcceptable, StepsGoOn, StepsMake
 ghost use Rattle.cue_core.specs.Replies.{RepliesCommute, RepliesLeaveOthers};
 ghost use Rattle.cue_core.specs.Safety.{DecidedStays, NeverAskedBoth, NothingMoreIsAsked, OneHolder};
 
-/// Every state that acceptable events lead to from the empty one is what its history says: the last number is the count of the Starts;
-/// an attempt is live exactly where it started and some device of it is not done with; its devices are those of its cue at its Start,
-/// and optional alike; it is Decided exactly where it was decided; a device of a Preparing attempt is Ready exactly where it stood by and
-/// was not excused.
+/// Every state that acceptable events lead to from the empty one is what its history says: the last number is the
+/// count of the Starts; an attempt is live exactly where it started and some device of it is not done with; its
+/// devices are those of its cue at its Start, and optional alike; it is Decided exactly where it was decided; a
+/// device of a Preparing attempt is Ready exactly where it stood by and was not excused.
 pub fn facts_by_history()
     ensures { FactsByHistory }
 {}
 
-/// An attempt is decided only after its Start, after Ready of each required device, after Ready or Excuse of each optional one, and after
-/// no Cancel; and after that it is not cancelled.
+/// An attempt is decided only after its Start, after Ready of each required device, after Ready or Excuse of each
+/// optional one, and after no Cancel; and after that it is not cancelled.
 pub fn go_after_ready()
     ensures { GoAfterReady }
 {}
 
-/// Whatever commands, ticks and recoveries from power loss come in turn, the events that are accepted are a history: so each law on
-/// histories holds of them.
+/// Whatever commands, ticks and recoveries from power loss come in turn, the events that are accepted are a history:
+/// so each law on histories holds of them.
 pub fn commands_make_histories()
     ensures { CommandsMakeHistories }
 {}
 
-/// Whatever commands, ticks and recoveries from power loss come in turn: an attempt is decided only after Ready of each required device
-/// and Ready or Excuse of each optional one was accepted, and after no Cancel; and after that no Cancel is accepted.
+/// Whatever commands, ticks and recoveries from power loss come in turn: an attempt is decided only after Ready of
+/// each required device and Ready or Excuse of each optional one was accepted, and after no Cancel; and after that no
+/// Cancel is accepted.
 pub fn commands_in_order()
     ensures { CommandsInOrder }
 {}
 
-/// No device is ever asked to both go and cancel in one attempt: where some state of a history has the one pending, none has the other.
+/// No device is ever asked to both go and cancel in one attempt: where some state of a history has the one pending,
+/// none has the other.
 pub fn never_asked_both()
     ensures { NeverAskedBoth }
 {}
 
-/// A device that is done with in an attempt, since it has answered for the last time or was excused, is asked nothing more in it.
+/// A device that is done with in an attempt, since it has answered for the last time or was excused, is asked nothing
+/// more in it.
 pub fn nothing_more_is_asked()
     ensures { NothingMoreIsAsked }
 {}
@@ -61,8 +64,8 @@ pub fn replies_leave_others()
     ensures { RepliesLeaveOthers }
 {}
 
-/// Two replies to one attempt by different devices, each of which would be carried out in the same state, give the same state in either
-/// order.
+/// Two replies to one attempt by different devices, each of which would be carried out in the same state, give the
+/// same state in either order.
 pub fn replies_commute()
     ensures { RepliesCommute }
 {}
@@ -102,13 +105,14 @@ pub fn steps_are_acceptable()
     ensures { StepsAreAcceptable }
 {}
 
-/// Of commands that are judged in turn the later ones are judged on the state that the events of the earlier ones lead to.
+/// Of commands that are judged in turn the later ones are judged on the state that the events of the earlier ones
+/// lead to.
 pub fn steps_go_on()
     ensures { StepsGoOn }
 {}
 
-/// Commands that come together carry the history on by the events that they make in turn: so each law on commands, ticks and recoveries
-/// holds of datagrams of many commands.
+/// Commands that come together carry the history on by the events that they make in turn: so each law on commands,
+/// ticks and recoveries holds of datagrams of many commands.
 pub fn steps_make_histories()
     ensures { StepsMakeHistories }
 {}

@@ -1,6 +1,6 @@
 -- A medium knows what it held before its last change, and so at each moment.
-use Rattle.std.proofs.Common.{◌≡◌, ℕ, ◌+◌, ◌-◌, ◌<◌, ◌≤◌, min, max, List, [], ◌∷◌, ◌++◌, length, get_or, take, drop, refl, sym, ◌∙◌, ap, subst, ⊎_elim, arith}
-use Rattle.std.proofs.lemmas.List.{drop_all, drop-append-le, length_push, length-take, length-drop, get_or-take, get_or-drop, ext_get_or}
+use Rattle.std.proofs.Common.{◌≡◌, ℕ, ◌+◌, ◌-◌, ◌<◌, ◌≤◌, min, max, List, [], ◌∷◌, ◌++◌, length, get_or, take, drop, refl, ◌∙◌, ap, subst, ⊎_elim, arith}
+use Rattle.std.proofs.lemmas.List.{drop_all, drop-append-le, take_all, take-append-le, length_push, length-take, length-drop, get_or-take, get_or-drop, ext_get_or}
 use Rattle.std.proofs.lemmas.Bool.{cases_lt}
 use Rattle.cue_disk.specs.Disk.{Elapses, overwritten}
 use Rattle.cue_disk.specs.Medium.{State, contents, undone, rewound, restored, UndoesWrites}
@@ -17,18 +17,21 @@ rewound_push now (first ∷ changes) change = ap (undone first) (rewound_push no
 
 -- Time goes on by one change, and what was held before it stays known.
 pub pushed : (old new : State) (before after : List Change) (change : Change) → after ≡ before ++ change ∷ [] → undone change new ≡ old
-    → Elapses (length before) (length after) (λ k. contents (rewound old (drop k before))) (λ k. contents (rewound new (drop k after))) (contents new)
+    → Elapses (length before) (length after) (λ k. contents (rewound old (drop k before)) (take k before)) (λ k. contents (rewound new (drop k after)) (take k after)) (contents new after)
 pushed old new before after change push back =
     let long : length after ≡ length before + 1 = ap length push ∙ length_push before change in
     record {
       later = omega arith;
       same = λ k le.
-          ap contents
-          (ap (λ (l : List Change). rewound new (drop k l)) push
-          ∙ ap (rewound new) (drop-append-le k before (change ∷ []) le)
+          ap (λ (l : List Change). contents (rewound new (drop k l)) (take k l)) push
+          ∙ ap (contents (rewound new (drop k (before ++ change ∷ [])))) (take-append-le k before (change ∷ []) le)
+          ∙ ap (λ (s : State). contents s (take k before))
+          (ap (rewound new) (drop-append-le k before (change ∷ []) le)
           ∙ rewound_push new (drop k before) change
           ∙ ap (λ (s : State). rewound s (drop k before)) back);
-      rest = λ k past le. ap (λ (l : List Change). contents (rewound new l)) (drop_all k after (omega arith));
+      rest = λ k past le.
+          ap (λ (l : List Change). contents (rewound new l) (take k after)) (drop_all k after (omega arith))
+          ∙ ap (contents new) (take_all k after (omega arith));
     }
 
 -- What was kept of a written range, put back, makes the bytes as they were.
@@ -62,24 +65,11 @@ restored_overwritten old new kept at n room fits keeps =
     (cases_lt (i - at) (length kept)))
     (cases_lt i at))
 
--- A change that undoes each write of a range undoes this one.
-pub undone_write : (change : Change) (at asked : ℕ) (state : State) (stored marks bytes written : List ℕ) → UndoesWrites change at asked state → length stored ≤ asked → length marks ≤ asked
-    → bytes ≡ overwritten state.bytes at stored → written ≡ overwritten state.written at marks → undone change (record state { bytes = bytes; written = written }) ≡ state
-undone_write change at asked state stored marks bytes written undoes few few_marks is_bytes is_written =
-    ap (λ (b : List ℕ). undone change (record state { bytes = b; written = written })) is_bytes
-    ∙ ap (λ (w : List ℕ). undone change (record state { bytes = overwritten state.bytes at stored; written = w })) is_written
-    ∙ undoes stored marks few few_marks
-
--- What was kept of a range of the bytes and of the marks beside them undoes each write there.
-pub kept_undoes : (state : State) (at asked count len : ℕ) (bytes written : Vec ℕ Global) → at ≤ length state.bytes → length state.written ≡ length state.bytes → len ≡ length state.bytes → count ≡ min asked (length state.bytes - at)
-    → bytes.items ≡ take count (drop at state.bytes) → written.items ≡ take count (drop at state.written)
-    → UndoesWrites (Wrote at bytes written len) at asked state
-kept_undoes state at asked count len bytes written room beside is_len is_count is_bytes is_written stored marks few few_marks =
-    let old_bytes : restored (overwritten state.bytes at stored) at bytes.items len ≡ state.bytes =
+-- What was kept of a range of the bytes undoes each write there.
+pub kept_undoes : (state : State) (at asked count len : ℕ) (bytes : Vec ℕ Global) → at ≤ length state.bytes → len ≡ length state.bytes → count ≡ min asked (length state.bytes - at)
+    → bytes.items ≡ take count (drop at state.bytes) → UndoesWrites (Wrote at asked bytes len) at asked state
+kept_undoes state at asked count len bytes room is_len is_count is_bytes stored few =
+    let back : restored (overwritten state.bytes at stored) at bytes.items len ≡ state.bytes =
     ap (λ (n : ℕ). restored (overwritten state.bytes at stored) at bytes.items n) is_len
     ∙ restored_overwritten state.bytes stored bytes.items at asked room few (is_bytes ∙ ap (λ (n : ℕ). take n (drop at state.bytes)) is_count) in
-    let is_count_beside : count ≡ min asked (length state.written - at) = omega arith in
-    let old_written : restored (overwritten state.written at marks) at written.items len ≡ state.written =
-    ap (λ (n : ℕ). restored (overwritten state.written at marks) at written.items n) (is_len ∙ sym beside)
-    ∙ restored_overwritten state.written marks written.items at asked (omega arith) few_marks (is_written ∙ ap (λ (n : ℕ). take n (drop at state.written)) is_count_beside) in
-    λ j. record state { bytes = old_bytes j; written = old_written j }
+    λ j. record state { bytes = back j }

@@ -11,7 +11,8 @@ abbrev pub changeable_before : Contents → ℕ → ℕ
 changeable_before now zero = 0
 changeable_before now (suc i) = changeable_before now i + (if may_change now i then 1 else 0)
 
--- The byte at this place after the crash: the k-th that it may change is the k-th of the junk, or as it was where there is no more junk.
+-- The byte at this place after the crash: the k-th that it may change is the k-th of the junk, or as it was where there
+-- is no more junk.
 abbrev pub crashed_byte : Contents → List ℕ → ℕ → ℕ
 crashed_byte now junk i =
     if may_change now i then slice_index_or junk (changeable_before now i) (slice_index now.bytes i)

@@ -8,11 +8,11 @@
 -- A stop may also come within a call. The moments between calls cover it:
 -- * Within a write some of its bytes are stored, in any order, and the length has grown by any part of what it will.
 --   Once the whole write is done its range is touched and the length is the full one. So a crash then may leave any
---   bytes in that range, and any length from the synced one to the full one: whatever a stop within the write leaves
---   is among what a crash right after it leaves. A promise speaks of every disk, and so of that one too on which the
---   same write goes through. The law `StopWithinAWrite`, below, is this argument, and it is proved.
--- * Within a sync each byte is as before or made stable. What a stop then leaves, a crash before the sync may leave: the law
---   `StopWithinASync`, below.
+--   bytes in that range, and any length from the synced one to the full one. Whatever a stop within the write leaves
+--   is among that. A promise speaks of every disk, and so of that one too on which the same write goes through. The
+--   law `StopWithinAWrite`, below, is this argument, and it is proved.
+-- * Within a sync each byte is as before or made stable. What a stop then leaves, a crash before the sync may leave:
+--   the law `StopWithinASync`, below.
 -- * A read and the question for the length change nothing.
 use Rattle.std.specs.Prelude.{◌≡◌, ◌⊎◌, ◌<◌, ◌≤◌, ◌+◌, ◌-◌, ◌^◌, ℕ, min, max, Bool, false, true, List, ◌++◌, length, take, drop, slice_index, Result, MatchResult}
 
@@ -25,7 +25,8 @@ pub record Contents : Type 0 where
   -- whether a write has touched the byte at this offset since that sync
   pub touched : ℕ → Bool
 
--- A crash may leave this: its length lies between the synced and the present one, and below the synced one each byte that is not touched is as it was.
+-- A crash may leave this: its length lies between the synced and the present one, and below the synced one each byte
+-- that is not touched is as it was.
 pub record IsImage (now : Contents) (image : List ℕ) : Type 0 where
   pub no_shorter : now.synced ≤ length image
   pub no_longer : length image ≤ length now.bytes
@@ -57,7 +58,8 @@ pub record Writes (at n : ℕ) (old new : Contents) : Type 0 where
 abbrev pub AllTouched : ℕ → ℕ → Contents → Type 0
 AllTouched at n now = (i : ℕ) → at ≤ i → i < at + n → now.touched i ≡ true
 
--- The clock goes on: what was held at each moment up to `before` stays, and what is held after it up to now is the present.
+-- The clock goes on: what was held at each moment up to `before` stays, and what is held after it up to now is the
+-- present.
 pub record Elapses (before now : ℕ) (past since : ℕ → Contents) (present : Contents) : Type 0 where
   pub later : before ≤ now
   pub same : (k : ℕ) → k ≤ before → since k ≡ past k

@@ -70,8 +70,8 @@ pub trait Disk {
         ensures count { CountsFailure result (failures self.old) (failures self.new) }
         ensures honest { is_honest self.new ↔ is_honest self.old };
 
-    /// After it a crash leaves what a read gives. After a fault any part of what was written may be on the disk for good,
-    /// and none of it has to be.
+    /// After it a crash leaves what a read gives. After a fault any part of what was written may be on the disk for
+    /// good, and none of it has to be.
     fn sync(&mut self) -> Result<(), DiskFault>
         ensures stable { is_honest self.old → OnOk result (IsStable (held self.new)) }
         ensures bytes { is_honest self.old → (held self.new).bytes ≡ (held self.old).bytes }

@@ -32,11 +32,11 @@ impl fmt::Display for FileFault {
 
 impl Error for FileFault {}
 
-/// A disk over a file. Nothing of a real file can be proved: that the file is honest, that nobody else writes it and that
-/// it stays where it was made are premises of whoever serves a show from it.
+/// A disk over a file. Nothing of a real file can be proved. That the file is honest, that nobody else writes it and
+/// that it stays where it was made are premises of whoever serves a show from it.
 ///
-/// It tests the bounds of `Disk` itself, by the length that it knows from its opening, its own writes and `len`. A write is
-/// one write to the file, and a sync one sync of its data, which takes its length along.
+/// It tests the bounds of `Disk` itself, by the length that it knows from its opening, its own writes and `len`. A
+/// write goes on until the file has taken all of it. A sync is one sync of its data, which takes its length along.
 #[derive(Drop)]
 pub struct FileDisk {
     file: File,
@@ -58,8 +58,8 @@ impl FileDisk {
         }
     }
 
-    /// Opens a file, or makes it empty where it is missing. The folder that it stands in is synced, so that a crash does
-    /// not lose the file.
+    /// Opens a file, or makes it empty where it is missing. The folder that it stands in is synced, so that a crash
+    /// does not lose the file.
     pub fn create<R: Files<File = File>>(rt: &R, path: &str) -> Result<FileDisk, FileFault>
         ensures { IfOk result (λ disk. file_failures disk ≡ 0) }
     {

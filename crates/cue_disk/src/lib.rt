@@ -2,7 +2,8 @@
 //!
 //! `Disk` says what a read gives, what a crash may leave at each moment, and that failures are counted. `MemDisk` is a
 //! disk in memory that keeps exactly to that: it can be told which of its calls fail, and shows each image that a crash
-//! may leave. `FileDisk` is a disk over a file, of which nothing can be proved. What the words of the contracts mean stands in `specs/Disk.antt`.
+//! may leave. `FileDisk` is a disk over a file, of which nothing can be proved but that it counts its failures. What
+//! the words of the contracts mean stands in `specs/Disk.antt`.
 #![tactic(auto)]
 
 mod disk;

@@ -1,85 +1,77 @@
-// What a memory disk holds. Each write goes into place; what it replaced is kept, so that every earlier moment is known.
-ghost use Rattle.std.specs.Prelude.{◌≡◌, ◌≤◌, ◌+◌, ℕ, length, vec_len, slice_index_or};
+// What a memory disk holds. Each write goes into place. What it replaced is kept, so that every earlier moment is
+// known, and what was written since the last sync.
+ghost use Rattle.std.specs.Prelude.{◌≡◌, ◌≤◌, ◌+◌, ◌-◌, length, vec_len, vec_capacity};
+ghost use Rattle.cue_disk.specs.Disk.{overwritten};
 
 mod crash;
-mod place;
 
 use crate::plan::Fate;
-use place::store;
 use std::alloc::{AllocError, Global};
 
 /// What a write or a sync replaced.
 #[derive(Drop)]
 pub enum Change {
-    /// A write at this offset, with the bytes that stood there, the moments beside them and the length before it.
+    /// A write of so many bytes at this offset, with those that stood there and the length before it.
     Wrote {
         at: usize,
+        asked: usize,
         bytes: Vec<u8>,
-        written: Vec<u64>,
         len: usize,
     },
     /// A sync, with the length at the one before it and the moment of that.
     Synced {
         synced: usize,
-        synced_at: u64,
+        synced_at: usize,
     },
 }
 
-/// The bytes of a memory disk with what a crash has to know of them, and all changes since it was made.
+impl Change {
+    ghost use Rattle.cue_disk.specs.Medium.{touches};
+
+    // Whether it is a write that was asked to write this byte.
+    fn touches(&self, i: usize) -> bool
+        ensures { result ≡ touches i self.now }
+    {
+        match self {
+            Change::Wrote { at, asked, .. } => i >= *at && i - *at < *asked,
+            Change::Synced { .. } => false,
+        }
+    }
+}
+
+/// The bytes of a memory disk, and all changes since it was made. They tell what was written since the last sync, which
+/// a crash may change.
 #[derive(Drop)]
 pub struct Medium {
     alloc: Global,
     bytes: Vec<u8>,
-    // beside each byte the moment of the last write that touched it, or 0
-    written: Vec<u64>,
     // the length at the last sync, and the moment of that sync
     synced: usize,
-    synced_at: u64,
+    synced_at: usize,
     // a moment is the number of changes so far
     past: Vec<Change>,
-    ghost beside: { vec_len written ≡ vec_len bytes },
     ghost within: { synced ≤ vec_len bytes },
     ghost since: { synced_at ≤ vec_len past },
-    ghost no_later: { (i : ℕ) → slice_index_or written.items i 0 ≤ vec_len past },
 }
 
 impl Medium {
-    ghost use Rattle.std.specs.Prelude.{[], take, drop, is_err, IfOk, OnOk, OnErr};
+    ghost use Rattle.std.specs.Prelude.{take, drop, is_err, IfOk, OnOk, OnErr};
     ghost use Rattle.cue_disk.specs.Disk.{Elapses};
     ghost use Rattle.cue_disk.specs.Effect.{settled, after_write, written_as, synced_as};
-    ghost use Rattle.cue_disk.specs.Medium.{medium_held, medium_moment, medium_held_at, state_of, UndoesWrites, IsUnchanged};
+    ghost use Rattle.cue_disk.specs.Medium.{medium_held, medium_moment, medium_held_at, state_of, UndoesWrites, Touches, IsUnchanged};
 
-    /// An empty one.
-    pub fn new(alloc: Global) -> Medium
-        ensures held { medium_held result ≡ settled [] }
+    /// One with these bytes, all of them on the disk.
+    pub fn of(alloc: Global, bytes: Vec<u8>) -> Medium
+        ensures held { medium_held result ≡ settled bytes.items }
         ensures moment { medium_moment result ≡ 0 }
     {
         Medium {
             alloc,
-            bytes: Vec::new(alloc),
-            written: Vec::new(alloc),
-            synced: 0,
+            synced: bytes.len(),
             synced_at: 0,
+            bytes,
             past: Vec::new(alloc),
         }
-    }
-
-    /// One with these bytes, all of them on the disk.
-    pub fn of(alloc: Global, bytes: Vec<u8>) -> Result<Medium, AllocError>
-        ensures held { IfOk result (λ medium. medium_held medium ≡ settled bytes.items) }
-        ensures moment { IfOk result (λ medium. medium_moment medium ≡ 0) }
-    {
-        let synced = bytes.len();
-        let mut written = Vec::new(alloc);
-        written.resize(synced, 0)?;
-        Ok(Medium {
-            alloc,
-            bytes,
-            written,
-            synced,
-            synced_at: 0,
-            past: Vec::new(alloc),
-        })
     }
 
     pub fn alloc(&self) -> Global {
@@ -112,30 +104,22 @@ impl Medium {
         let change = self.kept(at, asked)?;
         let grown = stored.len().saturating_sub(self.bytes.len() - at);
         self.bytes.reserve(grown)?;
-        self.written.reserve(grown)?;
         self.past.push(change)?;
-        let moment = self.past.len() as u64;
-        store(
-            &mut self.bytes,
-            &mut self.written,
-            at,
-            asked,
-            stored,
-            moment,
-        );
+        overwrite(&mut self.bytes, at, stored);
         Ok(())
     }
 
     // What a write of so many bytes there replaces.
     fn kept(&self, at: usize, asked: usize) -> Result<Change, AllocError>
         requires { at ≤ length (medium_held self.now).bytes }
-        ensures { IfOk result (λ change. UndoesWrites change at asked (state_of self.now)) }
+        ensures undoes { IfOk result (λ change. UndoesWrites change at asked (state_of self.now)) }
+        ensures touches { IfOk result (λ change. Touches change at asked) }
     {
         let end = at + usize::min(asked, self.bytes.len() - at);
         Ok(Change::Wrote {
             at,
+            asked,
             bytes: Vec::from_slice(self.alloc, &self.bytes[at..end])?,
-            written: Vec::from_slice(self.alloc, &self.written[at..end])?,
             len: self.bytes.len(),
         })
     }
@@ -152,7 +136,7 @@ impl Medium {
             synced_at: self.synced_at,
         })?;
         self.synced = self.bytes.len();
-        self.synced_at = self.past.len() as u64;
+        self.synced_at = self.past.len();
         Ok(())
     }
 
@@ -178,7 +162,18 @@ impl Medium {
     {
         match fate {
             Fate::Succeeds => self.sync(),
-            _ => Ok(()),
+            Fate::Fails | Fate::Stopped => Ok(()),
         }
     }
+}
+
+// Puts bytes in place of those from an offset on, and behind the last, where there is room for them.
+fn overwrite(bytes: &mut Vec<u8>, at: usize, stored: &[u8])
+    requires within { at ≤ vec_len bytes.old }
+    requires room { vec_len bytes.old + (length stored.now - (vec_len bytes.old - at)) ≤ vec_capacity bytes.old }
+    ensures { bytes.new.items ≡ overwritten bytes.old.items at stored.now }
+{
+    let inside = usize::min(stored.len(), bytes.len() - at);
+    bytes[at..at + inside].copy_from_slice(&stored[..inside]);
+    bytes.extend_from_slice(&stored[inside..]).unwrap();
 }

@@ -39,7 +39,7 @@ impl MemDisk {
     pub fn new(alloc: Global) -> MemDisk
         ensures { IsNew [] result }
     {
-        MemDisk::over(Medium::new(alloc))
+        MemDisk::over(Medium::of(alloc, Vec::new(alloc)))
     }
 
     /// A disk with these bytes, all of them stable.
@@ -47,7 +47,7 @@ impl MemDisk {
         ensures { IfOk result (IsNew bytes.now) }
     {
         let bytes = Vec::from_slice(alloc, bytes)?;
-        Ok(MemDisk::over(Medium::of(alloc, bytes)?))
+        Ok(MemDisk::over(Medium::of(alloc, bytes)))
     }
 
     // A disk over a medium, on which no call was made.
@@ -103,8 +103,8 @@ impl MemDisk {
     }
 
     /// The disk that a crash now leaves, as a new one. Its length is the synced one and `extra`, at most the present
-    /// one; the k-th byte that the crash may change, in rising order, is `junk[k]`, and its present value where `junk`
-    /// is shorter. Some `extra` and `junk` make each image that there is.
+    /// one. The k-th byte that the crash may change, in rising order, is `junk[k]`; where `junk` is shorter it is as it
+    /// was. Some `extra` and `junk` make each image that there is.
     pub fn crash(&self, extra: u64, junk: &[u8]) -> Result<MemDisk, AllocError>
         ensures image { IfOk result (λ disk. IsImage (memory_held self.now) (memory_bytes disk)) }
         ensures crashed { IfOk result (λ disk. IsCrashed (memory_held self.now) extra junk.now (memory_bytes disk)) }
@@ -112,6 +112,6 @@ impl MemDisk {
         ensures every { ReachesAllImages (memory_held self.now) }
     {
         let bytes = self.medium.crashed(extra, junk)?;
-        Ok(MemDisk::over(Medium::of(self.medium.alloc(), bytes)?))
+        Ok(MemDisk::over(Medium::of(self.medium.alloc(), bytes)))
     }
 }

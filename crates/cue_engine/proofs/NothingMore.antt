@@ -55,7 +55,7 @@ none_sent q d past (x ∷ later) h ended k =
     let Q : ShowState → Type 0 = λ s. asks (is_told q d) s ≡ true in
     let first : list_any (tells q d) g.sends ≡ true → true ≡ false =
     λ m. contrary (asks (is_told q d) (state_of (onto g.batch past)))
-        (subst Q (sym (state-onto past g.batch)) (sent_asks (is_told q d) (state_of past) x m)) (nothing-more-is-asked (onto g.batch past) q d now_past still)
+    (subst Q (sym (state-onto past g.batch)) (sent_asks (is_told q d) (state_of past) x m)) (nothing-more-is-asked (onto g.batch past) q d now_past still)
     in
     refused_both (list_any (tells q d) g.sends) (list_any (tells q d) (run next later).sends) (sym (any-append (tells q d) g.sends (run next later).sends) ∙ k) first rest
 

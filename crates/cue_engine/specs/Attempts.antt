@@ -1,4 +1,5 @@
--- What an attempt may count on, over all inputs of any parties, in any order, with recoveries from power loss between them.
+-- What an attempt may count on, over all inputs of any parties, in any order, with recoveries from power loss between
+-- them.
 use Rattle.std.specs.Prelude.{◌≡◌, ℕ, Bool, false, not, ◌&&◌, ◌||◌, List, [], ◌∷◌, ◌++◌, IsTrue}
 use Rattle.std.specs.List.{list_any, list_all}
 use Rattle.cue_show.specs.declared.part.Part.{Part}
@@ -31,8 +32,8 @@ pub record IsDecidedInOrder (q : ℕ) (before later : List Event) : Type 0 where
   pub not_cancelled : IsTrue (not (list_any (is_cancel_of q) before))
   pub stays : IsTrue (not (list_any (is_cancel_of q) later))
 
--- Go of an attempt is accepted only after Ready of each required device, after Ready or Excuse of each optional one, and after no
--- Cancel; and no Cancel is accepted after it.
+-- Go of an attempt is accepted only after Ready of each required device, after Ready or Excuse of each optional one,
+-- and after no Cancel; and no Cancel is accepted after it.
 abbrev pub DecidedInOrder : Type 0
 DecidedInOrder = (hs : List Happening) (q : ℕ) (before later : List Event) → accepted hs ≡ before ++ Go q ∷ later → IsDecidedInOrder q before later
 
@@ -51,8 +52,8 @@ is_command test (order o) = test o
 abbrev pub was_sent : (Order → Bool) → List Happening → Bool
 was_sent test hs = list_any (λ m. is_command test m.1) (run empty_state hs).sends
 
--- Once a device is done with in an attempt, since it has answered for the last time or was excused, nothing more is sent to it there,
--- whatever comes later.
+-- Once a device is done with in an attempt, since it has answered for the last time or was excused, nothing more is
+-- sent to it there, whatever comes later.
 abbrev pub NothingMoreIsSent : Type 0
 NothingMoreIsSent = (hs later : List Happening) (q d : ℕ) → IsTrue (list_any (is_end_of q d) (accepted hs))
     → IsTrue (not (list_any (λ m. is_command (is_told q d) m.1) (run (run empty_state hs).state later).sends))

@@ -1,8 +1,8 @@
 -- What a store comes to, whatever happens to it: the first promise of the product.
 --
--- A store's life is a list of incidents: inputs that were taken, datagrams that were handed over, stops, and recoveries. `Permits` says
--- of each incident what the contract of its call says of the bytes that the two disks are left with, and nothing else; the promise is
--- proved of all lists of incidents that the contracts permit.
+-- A store's life is a list of incidents: inputs that were taken, datagrams that were handed over, stops, and
+-- recoveries. `Permits` says of each incident what the contract of its call says of the bytes that the two disks are
+-- left with, and nothing else; the promise is proved of all lists of incidents that the contracts permit.
 use Rattle.std.specs.Prelude.{◌≡◌, ◌⊎◌, ℕ, Bool, true, false, List, [], ◌∷◌, ◌++◌, take, IsTrue}
 use Rattle.std.specs.List.{AllByRecursion, list_all}
 use Rattle.cue_core.specs.declared.event.Event.{Event}
@@ -22,9 +22,11 @@ pub data Incident : Type 0 where
   taken : (now : ℕ) (input : Input) → Incident
   -- `hand_out`: all that was owed was handed to the network.
   handed_out : Incident
-  -- Power was lost while no call wrote to the disks. Of what was owed the first n datagrams had been handed to the network by then; the disks read as x and y from then on.
+  -- Power was lost while no call wrote to the disks. Of what was owed the first n datagrams had been handed to the
+  -- network by then; the disks read as x and y from then on.
   stopped : (n : ℕ) (x y : List ℕ) → Incident
-  -- Power was lost within `take`, or a disk failed there. Of what was owed before it n datagrams may still be handed over.
+  -- Power was lost within `take`, or a disk failed there. Of what was owed before it n datagrams may still be handed
+  -- over.
   stopped_in_take : (now : ℕ) (input : Input) (n : ℕ) (x y : List ℕ) → Incident
   -- `recover` answered Ok, with this state.
   recovered : (state : ShowState) → Incident
@@ -46,10 +48,10 @@ begun s = running s (all_pending s)
 abbrev pub LeavesClosing : List ℕ → List ℕ → List ℕ → List ℕ → Type 0
 LeavesClosing x y u v = (s : ShowState) × (Stands x y s × StandsEither s (closed s) u v)
 
--- What the contracts permit an engine over a state, or two disks at rest, to come to. While no call writes, whatever a crash leaves stands for
--- the state (`accepted` of `take`, `stands` of `recover`). A stop within `take` leaves the state from before or the one after the whole batch
--- (`any_moment`). Recovery gives the closed state of one that the disks stood for (`stood`), and a stop within it leaves that state or its
--- closed one (`any_moment`).
+-- What the contracts permit an engine over a state, or two disks at rest, to come to. While no call writes, whatever
+-- a crash leaves stands for the state (`accepted` of `take`, `stands` of `recover`). A stop within `take` leaves the
+-- state from before or the one after the whole batch (`any_moment`). Recovery gives the closed state of one that the
+-- disks stood for (`stood`), and a stop within it leaves that state or its closed one (`any_moment`).
 abbrev pub Permits : Store → Incident → Type 0
 Permits (running s owed) (taken now input) = Unit {0}
 Permits (running s owed) handed_out = Unit {0}
@@ -131,9 +133,9 @@ is_cut_off (stopped_in_take now input n x y) = true
 is_cut_off (recovered t) = false
 is_cut_off (stopped_in_recovery x y) = true
 
--- These are the kept ones of the batches that came to the state, in their order. Each is kept whole; only one whose call was cut off may
--- not be kept at all, and a recovery comes behind it. So between two recoveries they are a prefix of the accepted batches that holds
--- every acknowledged one.
+-- These are the kept ones of the batches that came to the state, in their order. Each is kept whole; only one whose
+-- call was cut off may not be kept at all, and a recovery comes behind it. So between two recoveries they are a
+-- prefix of the accepted batches that holds every acknowledged one.
 abbrev pub AreKept : ShowState → List Incident → List (List Event) → Type 0
 AreKept s [] kept = kept ≡ []
 AreKept s (i ∷ is) kept =
@@ -147,9 +149,9 @@ abbrev pub StandsAt : Store → ShowState → Type 0
 StandsAt (running t owed) s = t ≡ s
 StandsAt (at_rest x y) s = Stands x y s
 
--- What a store came to from a state on: whole batches are kept, a prefix with every acknowledged one; they make the state that it stands for;
--- and each datagram that was handed to the network rests on them, down to its bytes: a GO_2PC on the Go of its attempt, a STANDBY or CANCEL on its
--- Start.
+-- What a store came to from a state on: whole batches are kept, a prefix with every acknowledged one; they make the
+-- state that it stands for; and each datagram that was handed to the network rests on them, down to its bytes: a
+-- GO_2PC on the Go of its attempt, a STANDBY or CANCEL on its Start.
 pub record CameTo (s : ShowState) (is : List Incident) : Type 0 where
   pub kept : List (List Event)
   pub prefix : AreKept s is kept
@@ -161,8 +163,9 @@ pub record CameTo (s : ShowState) (is : List Incident) : Type 0 where
 abbrev pub WhateverHappens : Type 0
 WhateverHappens = (s : ShowState) (is : List Incident) → IsTrue (is_state s) → Happens (begun s) is → CameTo s is
 
--- What recovery gives after a stop: the state of a prefix of the accepted batches, each whole, that holds every acknowledged one, with its
--- undecided attempts cancelled; and no GO_2PC was handed to the network for an attempt whose decision that prefix lacks.
+-- What recovery gives after a stop: the state of a prefix of the accepted batches, each whole, that holds every
+-- acknowledged one, with its undecided attempts cancelled; and no GO_2PC was handed to the network for an attempt
+-- whose decision that prefix lacks.
 pub record IsPromised (s : ShowState) (is : List Incident) (given_state : ShowState) : Type 0 where
   pub kept : List (List Event)
   pub prefix : AreKept s is kept
@@ -170,7 +173,8 @@ pub record IsPromised (s : ShowState) (is : List Incident) (given_state : ShowSt
   pub decided : IsTrue (list_all (rests s (joined kept)) (all_handed (begun s) is))
   pub in_bytes : AllByRecursion (λ d. BytesRest s (joined kept) d.1) (datagrams (all_handed (begun s) is))
 
--- The promise: for every list of inputs, and stops before, within or after any write, also within recovery, one after the other.
+-- The promise: for every list of inputs, and stops before, within or after any write, also within recovery, one after
+-- the other.
 abbrev pub RecoveryGivesAPrefix : Type 0
 RecoveryGivesAPrefix =
     (s t : ShowState) (is : List Incident) (x y : List ℕ)

@@ -15,7 +15,8 @@ use Rattle.cue_core.specs.Batches.{is_live_in, is_decided_in}
 abbrev pub AreReadAs : List ℕ → List ℕ → ℕ → Type 0
 AreReadAs bytes address q = (others : List Argument) × (datagram_at bytes ≡ Ok (message address (number q ∷ others)))
 
--- Bytes that are read as a GO_2PC are for an attempt that is Decided in the state or by a Go among the events; those of a STANDBY or a CANCEL for one that is live in it or starts among them.
+-- Bytes that are read as a GO_2PC are for an attempt that is Decided in the state or by a Go among the events; those
+-- of a STANDBY or a CANCEL for one that is live in it or starts among them.
 pub record BytesRest (s : ShowState) (es : List Event) (bytes : List ℕ) : Type 0 where
   pub go_2pc : (q : ℕ) → AreReadAs bytes (codes "/msc/go_2pc") q → IsTrue (is_decided_in s q || list_any (is_go_of q) es)
   pub standby : (q : ℕ) → AreReadAs bytes (codes "/msc/standby") q → IsTrue (is_live_in s q || list_any (is_start_of q) es)

@@ -17,8 +17,8 @@ pub struct Sent {
     pub refused: bool,
 }
 
-/// A wire in memory. It tells all that was handed to it until it finds no memory for a datagram: that send is refused, and it tells nothing
-/// from then on.
+/// A wire in memory. It tells all that was handed to it until it finds no memory for a datagram: that send is
+/// refused, and it tells nothing from then on.
 #[derive(Drop)]
 pub struct MemWire {
     alloc: Global,
@@ -28,7 +28,8 @@ pub struct MemWire {
 }
 
 impl MemWire {
-    /// A wire that tells, to which nothing was handed and which refuses nothing. It takes its memory from this allocator.
+    /// A wire that tells, to which nothing was handed and which refuses nothing. It takes its memory from this
+    /// allocator.
     pub fn new(alloc: Global) -> MemWire
         ensures told { told_by result ≡ Some [] }
         ensures plan { refuse_in_of result ≡ 0 }
@@ -41,7 +42,8 @@ impl MemWire {
         }
     }
 
-    /// Lets the k-th send from now be refused, in place of the one that an earlier `refuse` named. With `k = 0` none is refused.
+    /// Lets the k-th send from now be refused, in place of the one that an earlier `refuse` named. With `k = 0` none
+    /// is refused.
     pub fn refuse(&mut self, k: u64)
         ensures plan { refuse_in_of self.new ≡ k }
         ensures told { told_by self.new ≡ told_by self.old }
@@ -49,14 +51,16 @@ impl MemWire {
         self.refuse_in = k;
     }
 
-    /// All that was handed over, in order, each with whether it was refused; None from the first on for which there was no memory.
+    /// All that was handed over, in order, each with whether it was refused; None from the first on for which there
+    /// was no memory.
     pub fn sent(&self) -> Option<&[Sent]>
         ensures { MatchOption result (told_by self.now ≡ None) (λ sent. told_by self.now ≡ Some (sents_view sent.now)) }
     {
         if self.tells { Some(&self.sent) } else { None }
     }
 
-    /// Forgets what was handed over so far: it tells what comes from then on, where it tells at all. Which send is refused stays.
+    /// Forgets what was handed over so far: it tells what comes from then on, where it tells at all. Which send is
+    /// refused stays.
     pub fn clear(&mut self)
         ensures told { IsSome (told_by self.old) → told_by self.new ≡ Some [] }
         ensures silent { told_by self.old ≡ None → told_by self.new ≡ None }

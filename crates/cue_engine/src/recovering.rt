@@ -43,7 +43,8 @@ fn queue_pending(alloc: Global, state: &State) -> Result<Queue, AllocError>
     Ok(queue)
 }
 
-// Closes the state on the draft: the cancels, and what is owed then. From here on the draft is of no use, until it is put in step again.
+// Closes the state on the draft: the cancels, and what is owed then. From here on the draft is of no use, until it is
+// put in step again.
 #[tactic(auto, unfolding(cue_core::specs::Batches::closed))]
 fn close_on(
     alloc: Global,
@@ -66,8 +67,8 @@ fn close_on(
     Ok((batch, queue))
 }
 
-/// Cancels what is undecided, and answers what is owed then. All memory is taken before the first device call; where nothing is undecided none
-/// is made.
+/// Cancels what is undecided, and answers what is owed then. All memory is taken before the first device call; where
+/// nothing is undecided none is made.
 #[tactic(auto, unfolding(cue_core::specs::Batches::closed))]
 pub(crate) fn close_undecided<D: Disk>(
     alloc: Global,

@@ -1,5 +1,5 @@
-// Whole datagrams by worked examples: what is counted, what is handed over, the bytes of both disks, and what a stop leaves. The expected bytes
-// were written by hand.
+// Whole datagrams by worked examples: what is counted, what is handed over, the bytes of both disks, and what a stop
+// leaves. The expected bytes were written by hand.
 use crate::{Engine, Input, MemWire, Taken};
 use cue_disk::MemDisk;
 use cue_keeper::{Fault, StoreFault};
@@ -15,7 +15,8 @@ mod stops;
 
 #[derive(Clone, Copy)]
 enum Step {
-    /// A datagram at a moment from a port, and how many commands were made, known and refused. All that is owed is then handed over.
+    /// A datagram at a moment from a port, and how many commands were made, known and refused. All that is owed is
+    /// then handed over.
     Hears(u64, u16, &'static [u8], [u16; 3]),
     /// The same, but nothing is handed over.
     Keeps(u64, u16, &'static [u8], [u16; 3]),

@@ -40,8 +40,8 @@ are_below q live = list_all (λ a. nat_lt a.seq q) live
 abbrev pub are_sound_parts : List Part → Bool
 are_sound_parts parts = has_required_part parts && distinct (devices_in parts)
 
--- an attempt with the number q and the deadline t may begin with the devices of the parts: there is room, its number is above
--- those of the live attempts, and none of its devices is in one
+-- an attempt with the number q and the deadline t may begin with the devices of the parts: there is room, its number
+-- is above those of the live attempts, and none of its devices is in one
 abbrev pub can_start : ℕ → ℕ → List Part → List Attempt → Bool
 can_start q t parts live =
     is_number q && (is_moment t && (has_room live && (are_below q live && (are_free (devices_in parts) live && are_sound_parts parts))))

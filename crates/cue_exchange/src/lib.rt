@@ -1,4 +1,5 @@
-//! The two-phase exchange with the devices of a cue: the attempts that are live, and what each of their devices has answered.
+//! The two-phase exchange with the devices of a cue: the attempts that are live, and what each of their devices has
+//! answered.
 #![tactic(auto)]
 
 pub mod answers;

@@ -1,4 +1,5 @@
-//! The live attempts of the exchange, which are kept by rising number: how one is found, and the steps that change them.
+//! The live attempts of the exchange, which are kept by rising number: how one is found, and the steps that change
+//! them.
 ghost use Rattle.std.specs.Prelude.{◌≡◌, ◌↔◌, [], IsTrue, IfOk, OnOk, OnErr, is_none, length, nat_lt, slice_get};
 ghost use Rattle.std.specs.List.{list_all};
 ghost use Rattle.std.specs.Option.{option_copied};
@@ -18,7 +19,8 @@ use std::marker::Model;
 
 /// The live attempts, by rising number.
 ///
-/// At most 8 are live at once, and no device is in two of them; a device that has answered stays in its attempt until that ends.
+/// At most 8 are live at once, and no device is in two of them; a device that has answered stays in its attempt until
+/// that ends.
 #[derive(Debug, Drop)]
 pub struct Live {
     attempts: Vec<Attempt>,
@@ -155,7 +157,8 @@ impl Live {
         self.attempts.iter().all(|a| a.seq < seq)
     }
 
-    /// Whether an attempt with the number and the deadline, in milliseconds since 1970, may begin with the devices of the parts.
+    /// Whether an attempt with the number and the deadline, in milliseconds since 1970, may begin with the devices of
+    /// the parts.
     pub fn can_start(&self, seq: u32, deadline: u64, parts: &Parts) -> bool
         ensures { result ≡ can_start seq deadline parts.now self.now }
     {
@@ -227,8 +230,8 @@ impl Live {
             && a.answers.waits_for(device))
     }
 
-    /// Whether the attempt may be put among the others: there is room, it keeps the rules of a live one, and its number and its
-    /// devices are in no other.
+    /// Whether the attempt may be put among the others: there is room, it keeps the rules of a live one, and its
+    /// number and its devices are in no other.
     pub fn can_put(&self, attempt: &Attempt) -> bool
         ensures { result ≡ can_put attempt.now self.now }
     {
@@ -241,8 +244,8 @@ impl Live {
         self.attempts.iter().all(|a| attempt.is_apart(a))
     }
 
-    /// Puts an attempt that was read from a stored state at its place by number. Asked first: `can_put`. Where memory runs out
-    /// nothing changes.
+    /// Puts an attempt that was read from a stored state at its place by number. Asked first: `can_put`. Where memory
+    /// runs out nothing changes.
     pub fn put(&mut self, attempt: Attempt) -> Result<(), AllocError>
         requires { IsTrue (can_put attempt self.old) }
         ensures ok { OnOk result (self.new ≡ with_attempt attempt self.old) }
@@ -254,8 +257,8 @@ impl Live {
         Ok(())
     }
 
-    /// Begins an attempt at the cue: it is Preparing, and each device of the parts is asked to stand by. The deadline is in
-    /// milliseconds since 1970. Where memory runs out nothing changes.
+    /// Begins an attempt at the cue: it is Preparing, and each device of the parts is asked to stand by. The deadline
+    /// is in milliseconds since 1970. Where memory runs out nothing changes.
     pub fn start(
         &mut self,
         seq: u32,
@@ -287,7 +290,8 @@ impl Live {
         steps::put_answer(&mut self.attempts, seq, device, Answer::Ready);
     }
 
-    /// The optional device is excused: the cue may go without it, and it is asked nothing more. Asked first: `can_excuse`.
+    /// The optional device is excused: the cue may go without it, and it is asked nothing more. Asked first:
+    /// `can_excuse`.
     pub fn excuse(&mut self, seq: u32, device: DeviceNo)
         requires { IsTrue (can_excuse seq device self.old) }
         ensures { self.new ≡ answered seq device answer.Excused self.old }
@@ -311,8 +315,8 @@ impl Live {
         steps::move_to(&mut self.attempts, seq, Stage::Cancelling(reason));
     }
 
-    /// The device has carried the cue out. Where it was the last to answer, the attempt ends, and the result is how it ended.
-    /// Asked first: `can_done`.
+    /// The device has carried the cue out. Where it was the last to answer, the attempt ends, and the result is how
+    /// it ended. Asked first: `can_done`.
     pub fn done(&mut self, seq: u32, device: DeviceNo) -> Option<Outcome>
         requires { IsTrue (can_done seq device self.old) }
         ensures live { self.new ≡ without_ended seq (answered seq device answer.Done self.old) }
@@ -323,8 +327,8 @@ impl Live {
         outcome
     }
 
-    /// The device has given the preparation up. Where it was the last to answer, the attempt ends, and the result is how it
-    /// ended. Asked first: `can_let_go`.
+    /// The device has given the preparation up. Where it was the last to answer, the attempt ends, and the result is
+    /// how it ended. Asked first: `can_let_go`.
     pub fn let_go(&mut self, seq: u32, device: DeviceNo) -> Option<Outcome>
         requires { IsTrue (can_let_go seq device self.old) }
         ensures live { self.new ≡ without_ended seq (answered seq device answer.LetGo self.old) }
@@ -335,8 +339,8 @@ impl Live {
         outcome
     }
 
-    /// The device cannot go on. Where it was the last to answer, the attempt ends, and the result is how it ended. Asked
-    /// first: `can_fail`.
+    /// The device cannot go on. Where it was the last to answer, the attempt ends, and the result is how it ended.
+    /// Asked first: `can_fail`.
     pub fn failed(&mut self, seq: u32, device: DeviceNo) -> Option<Outcome>
         requires { IsTrue (can_fail seq device self.old) }
         ensures live { self.new ≡ without_ended seq (answered seq device answer.Failed self.old) }

@@ -11,7 +11,8 @@ mod excused;
 mod found;
 mod taken;
 
-// A step, with the number of the attempt and that of the device. An attempt begins with required devices, then optional ones.
+// A step, with the number of the attempt and that of the device. An attempt begins with required devices, then
+// optional ones.
 enum Step {
     Start(u32, &'static [i32], &'static [i32]),
     Put(u32, i32, Stage, Answer),

@@ -7,7 +7,8 @@ use Rattle.cue_disk.proofs.Moments.{started, goes_on}
 use Rattle.cue_log.specs.Log.{IsOldOrAbsent, LeavesAbsent}
 use Rattle.cue_log.proofs.Filled.{not_open}
 
--- A crash within the write over an open head gate leaves what it might have left before, or no area: either the gate is as it was or it is not open.
+-- A crash within the write over an open head gate leaves what it might have left before, or no area. The gate is as it
+-- was, or it is not open.
 pub gate_torn : (old new : Contents) → get_or old.bytes 0 0 ≡ 1 → 0 < length old.bytes → Writes 0 1 old new → (image : List ℕ) → IsImage new image → IsOldOrAbsent old image
 gate_torn old new was_open some writes image left = elim (cases_eq (get_or image 0 0) 1) [
   | inl open_ ↦ inl (record {

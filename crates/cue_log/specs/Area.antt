@@ -38,7 +38,8 @@ abbrev pub are_records : List (List ℕ) → Bool
 are_records [] = true
 are_records (payload ∷ payloads) = nat_le (length payload) PAYLOAD_LIMIT && are_records payloads
 
--- The bytes read as this area: its text comes first and then a gate that is not open, within the largest area. What follows that gate is not read.
+-- The bytes read as this area: its text comes first and then a gate that is not open, within the largest area. What
+-- follows that gate is not read.
 pub record IsArea (area : Area) (bytes : List ℕ) : Type 0 where
   pub text : take (length (area_text area)) bytes ≡ area_text area
   pub ends : length (area_text area) < length bytes

@@ -29,6 +29,7 @@ AnyBytesAnswer = (bytes : List ℕ) → AreBytes bytes → IsAbsent bytes ⊎ ((
 abbrev pub NoAreaIsAbsent : Type 0
 NoAreaIsAbsent = (area : Area) (bytes : List ℕ) → IsArea area bytes → IsAbsent bytes → ⊥
 
--- The limits as numbers: the bytes of the longest area and of the longest payload, and the bytes of an open and of a closed gate.
+-- The limits as numbers: the bytes of the longest area and of the longest payload, and the bytes of an open and of a
+-- closed gate.
 abbrev pub LimitsOfAnArea : Type 0
 LimitsOfAnArea = (AREA_LIMIT ≡ 16777216) × (PAYLOAD_LIMIT ≡ 32768) × (OPEN ≡ 1) × (CLOSED ≡ 0)

@@ -49,7 +49,8 @@ abbrev pub prepared : List ℕ → List ℕ
 prepared [] = 0 ∷ []
 prepared (gate ∷ bytes) = gate ∷ bytes
 
--- Behind a gate that is not open stand this generation and snapshot and a gate that is not open, and a crash leaves it so.
+-- Behind a gate that is not open stand this generation and snapshot and a gate that is not open, and a crash leaves it
+-- so.
 pub record IsFilled (held : Contents) (generation : ℕ) (snapshot : List ℕ) : Type 0 where
   pub stable : IsStable held
   pub shut : slice_index held.bytes 0 ≢ 1
@@ -65,7 +66,8 @@ abbrev pub closed_bytes : List ℕ → List ℕ
 closed_bytes [] = []
 closed_bytes (gate ∷ bytes) = (if gate == 1 then 0 else gate) ∷ bytes
 
--- Calls that only read: the disk holds what it held, and a crash at any moment of them leaves what it might have left before.
+-- Calls that only read: the disk holds what it held, and a crash at any moment of them leaves what it might have left
+-- before.
 pub record OnlyReads {D : Type 0} (moment : D → ℕ) (held : D → Contents) (held_at : D → ℕ → Contents) (old new : D) : Type 0 where
   pub same : held new ≡ held old
   pub leaves : LeavesAtEachMoment moment held_at old new (IsImage (held old))

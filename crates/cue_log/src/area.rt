@@ -18,9 +18,9 @@ pub(crate) const OPEN: u8 = 1;
 /// The byte that closes a gate. Every byte but `OPEN` is a gate that is not open.
 pub(crate) const CLOSED: u8 = 0;
 
-/// Gives up the area of a disk, so that another can be formed there. An empty disk is left alone; on another the
-/// head gate is written only where it is open: behind a gate that is not open may stand a torn body, and a stop
-/// within such a write could open it.
+/// Gives up the area of a disk, so that another can be formed there. An empty disk is left alone. On another the head
+/// gate is written only where it is open. Behind a gate that is not open may stand a torn body, and a stop within a
+/// write of that gate could open it.
 pub fn close<D: Disk>(disk: &mut D) -> Result<(), DiskFault>
     // A stop at any moment leaves what one at entry might have left, or no area.
     ensures any_moment { D.is_honest disk.old → LeavesAtEachMoment D.moment D.held_at disk.old disk.new (IsOldOrAbsent (D.held disk.old)) }
@@ -42,8 +42,8 @@ pub fn close<D: Disk>(disk: &mut D) -> Result<(), DiskFault>
     disk.sync()
 }
 
-/// Whether a disk has no area. It syncs before it looks, so that what it answers holds of whatever a stop leaves from
-/// then on; it writes nothing.
+/// Whether a disk has no area, not even a damaged one. It syncs before it looks, so that what it answers holds of
+/// whatever a stop leaves from then on. It writes nothing.
 pub fn is_absent<D: Disk>(disk: &mut D) -> Result<bool, DiskFault>
     ensures absent { D.is_honest disk.old → IfOk result (λ absent. IsTrue absent ↔ IsAbsent (D.held disk.old).bytes) }
     ensures stable { D.is_honest disk.old → OnOk result (IsStable (D.held disk.new)) }

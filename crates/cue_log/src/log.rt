@@ -101,7 +101,8 @@ impl<D: Disk> Log<D> {
         }
     }
 
-    /// Adds a record behind the last one. It takes no memory. After a fault the log tells the numbers that it had before.
+    /// Adds a record behind the last one. It takes no memory. After a fault the log tells the numbers that it had
+    /// before.
     pub fn append(&mut self, added: &Record) -> Result<(), AppendFault>
         // Broken comes first, then Full; both leave all as it was.
         ensures broken { IsErrOf result AppendFault.Broken ↔ (is_broken self.old ≡ true) }

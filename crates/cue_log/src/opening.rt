@@ -62,8 +62,8 @@ impl<D: Disk> Log<D> {
     ghost use Rattle.cue_log.specs.Observed.{disk_of, is_broken, count_of, area_of, disk_after};
     ghost use Rattle.cue_log.specs.Opened.{area_read, opened_disk, FailsAs, CountsOnlyAs};
 
-    /// Opens the area of a disk, pending writes included: from Ok on whatever a stop leaves reads as what is answered. It
-    /// writes nothing, and takes memory in proportion to the area. A refusal hands the disk back.
+    /// Opens the area of a disk, pending writes included: from Ok on whatever a stop leaves reads as what is answered.
+    /// It writes nothing, and takes memory in proportion to the area. A refusal hands the disk back.
     pub fn open(alloc: Global, disk: D) -> Result<Opened<D>, (OpenFault, D)>
         // What is answered stood on the disk, and stays.
         ensures stood { D.is_honest disk → IfOk result (λ opened. IsArea (area_read opened) (D.held disk).bytes) }

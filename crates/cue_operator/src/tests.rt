@@ -1,7 +1,7 @@
 //! Datagrams, and what they ask for on a small show, as it is written out by hand.
 //!
-//! Each command is its name with its numbers, and a semicolon. A part is its device and its bytes; a question mark stands
-//! behind an optional device. `refused` and a code stand for a message that asks for no command.
+//! Each command is its name with its numbers, and a semicolon. A part is its device and its bytes; a question mark
+//! stands behind an optional device. `refused` and a code stand for a message that asks for no command.
 
 use crate::{Refused, commands};
 use cue_core::{Command, State, judge};

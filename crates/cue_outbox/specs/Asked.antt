@@ -43,13 +43,15 @@ is_asked q events = is_among q (filter_map number_asked events)
 abbrev pub pending_of : List ℕ → ShowState → List (ℕ × Send)
 pending_of numbers s = orders (filter (λ o. is_among (number_of o.1) numbers) (pending s))
 
--- After events that are acceptable in turn, the newly pending commands are those of the attempts that the events ask anew.
+-- After events that are acceptable in turn, the newly pending commands are those of the attempts that the events ask
+-- anew.
 abbrev pub NewlyPendingAreAsked : Type 0
 NewlyPendingAreAsked =
     (s : ShowState) (events : List Event) (numbers : List ℕ) → IsTrue (is_state s) → IsTrue (are_acceptable s events) → ((q : ℕ) → is_among q numbers ≡ is_asked q events)
     → newly_pending s (folded s events) ≡ pending_of numbers (folded s events)
 
--- And so after the commands of a datagram, judged in turn: the newly pending are those of the attempts that their events ask anew.
+-- And so after the commands of a datagram, judged in turn: the newly pending are those of the attempts that their
+-- events ask anew.
 abbrev pub StepsAskAnew : Type 0
 StepsAskAnew =
     (s : ShowState) (now from : ℕ) (commands : List Command) (numbers : List ℕ) → IsTrue (is_state s) → IsTrue (list_all is_fit commands)

@@ -1,4 +1,5 @@
--- Helper: the commands that are owed, as datagrams: to one device, to some devices of an attempt, to the devices of some attempts.
+-- Helper: the commands that are owed, as datagrams: to one device, to some devices of an attempt, to the devices of
+-- some attempts.
 use Rattle.std.specs.Prelude.{ℕ, List, Option, filter}
 use Rattle.std.specs.List.{filter_map, flat_map}
 use Rattle.std.specs.Option.{option_map}

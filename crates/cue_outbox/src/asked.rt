@@ -8,8 +8,8 @@ ghost use Rattle.cue_outbox.specs.Asked.{is_asked, number_asked};
 use cue_core::Event;
 use std::alloc::{AllocError, Global};
 
-/// The numbers of the attempts that the events start, decide or cancel, rising, each once: those whose devices are to be sent something
-/// new. What that is, `pending_of` gives on the state after the events.
+/// The numbers of the attempts that the events start, decide or cancel, rising, each once: those whose devices are to
+/// be sent something new. What that is, `pending_of` gives on the state after the events.
 pub fn numbers_asked(alloc: Global, events: &[Event]) -> Result<Vec<u32>, AllocError>
     ensures rising { IfOk result (λ numbers. IsStrictlyIncreasing numbers.items) }
     ensures exact { IfOk result (λ numbers. (q : ℕ) → is_among q numbers.items ≡ is_asked q events.now) }

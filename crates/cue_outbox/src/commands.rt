@@ -22,8 +22,8 @@ use cue_osc::Arg;
 use cue_show::{CueNo, DeviceNo, Part, Show};
 use std::alloc::{AllocError, Global};
 
-/// The commands that the devices are still to answer: for each live attempt by rising number, for each device that is still to answer, in
-/// part order, the command of the attempt's stage, to the device's port.
+/// The commands that the devices are still to answer: for each live attempt by rising number, for each device that is
+/// still to answer, in part order, the command of the attempt's stage, to the device's port.
 pub fn pending(alloc: Global, state: &State) -> Result<Vec<Out>, AllocError>
     ensures { IfOk result (λ outs. outs_view outs.items ≡ datagrams (all_pending state.now)) }
 {
@@ -34,8 +34,9 @@ pub fn pending(alloc: Global, state: &State) -> Result<Vec<Out>, AllocError>
     Ok(outs)
 }
 
-/// The commands to the devices of the attempts with these numbers, in the order of `pending`; a number that is not live gives nothing.
-/// With the numbers that `numbers_asked` gives of a batch, and on the state after it, these are the commands that were not pending before.
+/// The commands to the devices of the attempts with these numbers, in the order of `pending`; a number that is not
+/// live gives nothing. With the numbers that `numbers_asked` gives of a batch, and on the state after it, these are
+/// the commands that were not pending before.
 pub fn pending_of(alloc: Global, state: &State, numbers: &[u32]) -> Result<Vec<Out>, AllocError>
     requires { IsStrictlyIncreasing numbers.now }
     ensures { IfOk result (λ outs. outs_view outs.items ≡ datagrams (pending_of numbers.now state.now)) }
@@ -87,7 +88,8 @@ fn parts_of(show: &Show, cue: CueNo) -> &[Part]
     }
 }
 
-// The command to a device, where it is still to answer. Each device of a live attempt has a port, as the law `commands_have_ports` says.
+// The command to a device, where it is still to answer. Each device of a live attempt has a port, as the law
+// `commands_have_ports` says.
 fn order_for(
     alloc: Global,
     state: &State,

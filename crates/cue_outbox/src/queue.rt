@@ -33,8 +33,8 @@ impl Queue {
         }
     }
 
-    /// Puts the datagrams behind the others, in order; their bytes stay where they are. Where memory runs out nothing changes, and they are
-    /// dropped.
+    /// Puts the datagrams behind the others, in order; their bytes stay where they are. Where memory runs out nothing
+    /// changes, and they are dropped.
     pub fn push_all(&mut self, outs: Vec<Out>) -> Result<(), AllocError>
         ensures ok { OnOk result (self.new ≡ self.old ++ outs_view outs.items) }
         ensures err { OnErr result (self.new ≡ self.old) }

@@ -13,8 +13,8 @@ use std::alloc::{AllocError, Global};
 const SHOWN: usize = 64;
 
 #[tactic(auto, unfolding(crate::specs::Sending::send_content, crate::specs::Sending::datagram))]
-/// The reply to a message: its address, of which the first 64 bytes are shown, how many of its commands were made, were known and were
-/// refused, and the code of the first that was refused, 0 where none was.
+/// The reply to a message: its address, of which the first 64 bytes are shown, how many of its commands were made,
+/// were known and were refused, and the code of the first that was refused, 0 where none was.
 pub fn reply(
     alloc: Global,
     to: u16,

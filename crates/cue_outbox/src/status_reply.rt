@@ -14,7 +14,8 @@ use cue_show::CueNo;
 use std::alloc::{AllocError, Global};
 
 #[tactic(auto, unfolding(crate::specs::Sending::send_content, crate::specs::Sending::datagram, crate::specs::Sending::status_of))]
-/// The status: the last number that was drawn, the place, how many attempts are live, and which attempt ended last, and how.
+/// The status: the last number that was drawn, the place, how many attempts are live, and which attempt ended last,
+/// and how.
 pub fn status(alloc: Global, to: u16, state: &State) -> Result<Out, AllocError>
     ensures { IfOk result (λ out. out_view out ≡ datagram (to, status_of state.now)) }
 {

@@ -16,6 +16,7 @@ ReadsTheGrammar = (bytes : List ℕ) (pattern : List (List Piece)) → (pattern_
 abbrev pub MatchesTheMeaning : Type 0
 MatchesTheMeaning = (pattern : List (List Piece)) (address : List ℕ) → IsTrue (matches pattern address) ↔ Denotes pattern address
 
--- an address that is put together of texts is matched text by text: by as many parts as texts, each of which matches its own
+-- an address that is put together of texts is matched text by text: by as many parts as texts, each of which matches
+-- its own
 abbrev pub MatchesPartByPart : Type 0
 MatchesPartByPart = (pattern : List (List Piece)) (texts : List (List ℕ)) → texts ≢ [] → AllByRecursion (HasNo slash) texts → matches pattern (slash ∷ separated slash texts) ≡ parts_match pattern texts

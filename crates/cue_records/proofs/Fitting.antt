@@ -15,7 +15,7 @@ use Rattle.cue_show.proofs.ChangeLemmas.{is_cue_of-parts_of, is_entry-port_of}
 use Rattle.cue_exchange.specs.declared.attempt.DeviceAnswer.{DeviceAnswer}
 use Rattle.cue_exchange.specs.declared.attempt.Stage.{Stage}
 use Rattle.cue_exchange.specs.declared.attempt.Attempt.{Attempt}
-use Rattle.cue_exchange.specs.Answers.{devices_of, answer_passes, is_waiting, is_preparing, is_decided, is_cancelling, is_concluding, waits, can_be_excused, is_excusable}
+use Rattle.cue_exchange.specs.Answers.{devices_of, is_preparing, is_decided, is_cancelling, is_concluding, waits, can_be_excused}
 use Rattle.cue_exchange.specs.Live.{is_number, is_moment, is_attempt, has_number, attempt_of_cue}
 use Rattle.cue_exchange.specs.Steps.{holds, waits_in, can_go_now, can_excuse_now}
 use Rattle.cue_exchange.proofs.LiveRules.{attempts_of, can_start_parts}

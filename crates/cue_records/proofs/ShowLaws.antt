@@ -14,7 +14,7 @@ use Rattle.cue_show.specs.Parts.{are_parts}
 use Rattle.cue_show.specs.Show.{Cues, ShowLists, empty_show, has_device, has_cue, is_full, are_known, is_place_of, is_entry, is_table, is_cue_of, is_stack_of, is_show, can_add_device, can_add_cue, with_device, with_cue, with_place}
 use Rattle.cue_show.specs.declared.limits.TheConstants.{MAX_DEVICES, MAX_CUES}
 use Rattle.cue_show.specs.declared.part.Part.{Part}
-use Rattle.cue_core.proofs.Conditions.{both, join, all_from, all_zip}
+use Rattle.cue_core.proofs.Conditions.{both, join, all_from}
 use Rattle.cue_records.specs.declared.state.TheConstants.{OLD_MAX_CUES}
 use Rattle.cue_records.specs.declared.version.Version.{Version}
 use Rattle.cue_records.specs.declared.version.Version.TheVariants.{One, Two}

@@ -36,7 +36,7 @@ answer_at = both_at sequence_at device_at
 unfoldable pub cancel_at : Reads (ℕ × Reason)
 cancel_at = both_at sequence_at reason_at
 
--- a cue and its parts, one of them at least optional
+-- a cue and its parts, at least one of them optional
 unfoldable pub mixed_cue_at : Reads (List ℕ × List Part)
 mixed_cue_at = where_at (λ x. not (are_required x.1)) (new_cue_at Two)
 

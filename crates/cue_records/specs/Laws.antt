@@ -35,7 +35,7 @@ StateTextsDiffer = (bytes : List ℕ) (one other : ShowState) → IsTrue (is_sta
 abbrev pub StateTextsAreBounded : Type 0
 StateTextsAreBounded = (bytes : List ℕ) (s : ShowState) → IsTrue (is_state s) → IsStateText bytes s → length bytes ≤ MAX_STATE_BYTES
 
--- the limits as numbers: the most events of a batch, the version of a state's text and the older one with its most cues, and the most
--- bytes of a state's text
+-- the limits as numbers: the most events of a batch, the version of a state's text, the older one with its most cues,
+-- and the most bytes of a state's text
 abbrev pub LimitsOfTexts : Type 0
 LimitsOfTexts = (MAX_EVENTS ≡ 4096) × (VERSION ≡ 2) × (OLD_VERSION ≡ 1) × (OLD_MAX_CUES ≡ 256) × (MAX_STATE_BYTES ≡ 592607)

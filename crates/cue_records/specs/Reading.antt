@@ -111,7 +111,7 @@ part_bytes_at = where_at (λ bytes. nat_le (length bytes) MAX_PART_BYTES) text_a
 abbrev pub flag_of : ℕ → Option Bool
 flag_of n = if n == 0 then Some false else if n == 1 then Some true else None
 
--- the flag of a part; where there is none it is required
+-- the flag of a part; a part without one is required
 unfoldable pub flag_at : Version → Reads Bool
 flag_at One = λ bytes. Some (false, bytes)
 flag_at Two = made_at flag_of byte_at
@@ -124,7 +124,7 @@ part_at version = as_at (λ x. record { device = x.0; optional = x.1.0; bytes = 
 unfoldable pub part_count_at : Reads ℕ
 part_count_at = where_at (λ n. nat_le n MAX_PARTS) byte_at
 
--- a count, and so many parts of distinct devices, one of them at least required
+-- a count, and so many parts of distinct devices, at least one of them required
 unfoldable pub parts_at : Version → Reads (List Part)
 parts_at version = where_at (λ parts. has_required_part parts && distinct (devices_in parts)) (counted_at part_count_at (part_at version))
 

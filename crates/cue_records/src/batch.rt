@@ -56,8 +56,8 @@ pub fn batch_len(events: &[Event]) -> u64
     length::events_len(events).saturating_add(2)
 }
 
-/// The text of a batch: 1 to 4,096 events, each within its ranges. Events that may happen to a state one after the other, as those of
-/// `judge` may, are within them. It takes memory once, as much as the text has bytes.
+/// The text of a batch: 1 to 4,096 events, each within its ranges. Events that may happen to a state one after the
+/// other, as those of `judge` may, are within them. It takes memory once, as much as the text has bytes.
 pub fn write_batch(alloc: Global, events: &[Event]) -> Result<Bytes, AllocError>
     requires { IsTrue (is_batch events.now) }
     ensures { IfOk result (λ bytes. bytes ≡ batch_text events.now) }

@@ -31,7 +31,8 @@ pub fn state_texts_are_bounded()
     ensures { StateTextsAreBounded }
 {}
 
-/// The limits of the texts as numbers: 4,096 events of a batch, version 2 and version 1 with its 256 cues, and 592,607 bytes of a state.
+/// The limits of the texts as numbers: 4,096 events of a batch; version 2, and version 1 with its 256 cues; and 592,607
+/// bytes of a state.
 pub fn limits_of_texts()
     ensures { LimitsOfTexts }
 {}

@@ -1,6 +1,7 @@
 //! The texts that a store keeps of a show: the bytes of states and of batches of events, and how they are read again.
 //!
-//! Each state and each batch has one text, and each text is read as what it was written from. Nothing here knows a disk.
+//! A batch has one text, and a state at most one in each version of the format. Each text is read as what it tells.
+//! Nothing here knows a disk.
 #![tactic(auto)]
 
 mod batch;

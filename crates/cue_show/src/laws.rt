@@ -3,7 +3,8 @@ ghost use Rattle.std.specs.Prelude.{◌≡◌};
 ghost use Rattle.cue_show.specs.declared.limits.TheConstants.{LAST_DEVICE, LAST_PORT, MAX_CUE_BYTES, MAX_CUES, MAX_DEVICES, MAX_PART_BYTES, MAX_PARTS};
 ghost use Rattle.cue_show.specs.Laws.{CueNumbersAreRunsJoinedByPoints, FollowingStandsBehind, RemovalsKeepTheOrder};
 
-/// A text is a cue number exactly where it has at most 16 bytes and is one run of digits or more, with single points between them.
+/// A text is a cue number exactly where it has at most 16 bytes and is one run of digits or more, with single points
+/// between them.
 pub fn cue_numbers_are_runs_joined_by_points()
     ensures { CueNumbersAreRunsJoinedByPoints }
 {}
@@ -18,8 +19,8 @@ pub fn removals_keep_the_order()
     ensures { RemovalsKeepTheOrder }
 {}
 
-/// The limits, as numbers: 112 devices from 0 to 111 with ports to 65,535, 1,024 cues with numbers of at most 16 bytes, and 16 parts of at
-/// most 32 bytes.
+/// The limits, as numbers: 112 devices from 0 to 111 with ports to 65,535, 1,024 cues with numbers of at most 16
+/// bytes, and 16 parts of at most 32 bytes.
 pub fn limits()
     ensures last_device { LAST_DEVICE ≡ 111 }
     ensures devices { MAX_DEVICES ≡ 112 }

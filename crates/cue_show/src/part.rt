@@ -151,7 +151,8 @@ impl Parts {
         self.as_slice().iter().any(|part| part.is_required())
     }
 
-    /// Whether a cue can have these parts: 1 to 16 of distinct devices, each with at most 32 bytes, and one at least required.
+    /// Whether a cue can have these parts: 1 to 16 of distinct devices, each with at most 32 bytes, and one at least
+    /// required.
     pub fn is_fit(&self) -> bool
         ensures { result ≡ are_parts self.now }
     {

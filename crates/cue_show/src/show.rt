@@ -14,9 +14,11 @@ use indexmap::map::Iter;
 use std::alloc::{AllocError, Global};
 use std::marker::Model;
 
-/// A table of devices with their ports and a stack of cues with their parts, each in order of entry, and the place of the operator.
+/// A table of devices with their ports and a stack of cues with their parts, each in order of entry, and the place of
+/// the operator.
 ///
-/// Looking a device or a cue up takes the same time however many there are. A show keeps the allocator that it was made with.
+/// Looking a device or a cue up takes the same time however many there are. A show keeps the allocator that it was
+/// made with.
 #[derive(Debug, Drop)]
 pub struct Show {
     devices: IndexMap<DeviceNo, u16>,
@@ -159,8 +161,8 @@ impl Show {
         self.has_device(device) && !self.is_used(device)
     }
 
-    /// Whether the cue can be put on the stack: it is not there yet, there is room, and its parts are 1 to 16 of distinct devices of
-    /// the table, each with at most 32 bytes, and one at least is required.
+    /// Whether the cue can be put on the stack: it is not there yet, there is room, and its parts are 1 to 16 of
+    /// distinct devices of the table, each with at most 32 bytes, and one at least is required.
     pub fn can_add_cue(&self, cue: CueNo, parts: &Parts) -> bool
         ensures { result ≡ can_add_cue self.now cue parts.now }
     {
@@ -188,8 +190,8 @@ impl Show {
         let _port = self.devices.shift_remove(&device);
     }
 
-    /// Puts the cue last on the stack; a caller tests by `can_add_cue` first. Where memory runs out nothing changes, and the parts are
-    /// dropped.
+    /// Puts the cue last on the stack; a caller tests by `can_add_cue` first. Where memory runs out nothing changes,
+    /// and the parts are dropped.
     pub fn add_cue(&mut self, cue: CueNo, parts: Parts) -> Result<(), AllocError>
         requires { IsTrue (can_add_cue self.old cue parts) }
         ensures ok { OnOk result (self.new ≡ with_cue self.old cue parts) }
@@ -199,7 +201,8 @@ impl Show {
         Ok(())
     }
 
-    /// Takes the cue off the stack. The others keep their order; a place at it goes on to the cue that followed, or to none.
+    /// Takes the cue off the stack. The others keep their order; a place at it goes on to the cue that followed, or
+    /// to none.
     pub fn remove_cue(&mut self, cue: CueNo)
         requires { IsTrue (has_cue self.old cue) }
         ensures { self.new ≡ without_cue self.old cue }

@@ -49,7 +49,8 @@ IsSpoiled x y = IsDamaged x ⊎ IsDamaged y ⊎ OneGeneration x y
 abbrev pub IsUnformedOr : Area → Contents → Contents → List ℕ → List ℕ → Type 0
 IsUnformedOr area then_a then_b x y = (IsImage then_a x × IsImage then_b y) ⊎ NeitherHas x y ⊎ PairReads area x y
 
--- A call that writes nothing before it has synced both disks. Up to a moment of each, a crash leaves what it might have left at entry; from these moments on each pair has P. What was held up to the entry is as it was.
+-- A call that writes nothing before it has synced both disks. Up to a moment of each, a crash leaves what it might have
+-- left at entry; from these moments on each pair has P. What was held up to the entry is as it was.
 pub record AfterBarrier {D : Type 0} (moment : D → ℕ) (held_at : D → ℕ → Contents) (a b new_a new_b : D) (P : List ℕ → List ℕ → Type 0) : Type 0 where
   pub at_a : ℕ
   pub at_b : ℕ

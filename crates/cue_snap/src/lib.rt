@@ -1,5 +1,5 @@
-//! Two areas of `cue_log` on two disks, live in turn: while the one is formed anew with a higher generation the other
-//! still counts, so that at any moment a stop leaves the old area or the new one.
+//! Two areas of `cue_log` on two disks, live in turn. While the one is formed anew with a higher generation the other
+//! still counts: at any moment a stop leaves the old area or the new one.
 #![tactic(auto)]
 
 mod choosing;

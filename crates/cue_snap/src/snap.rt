@@ -89,7 +89,7 @@ impl<D: Disk> Snap<D> {
         ensures second_synced { D.is_honest second → RefusedAs FormFault.NotEmpty (IsStable (D.held (second_after second_of result))) result }
         ensures disk { RefusedAs FormFault.Disk (MoreFailures (D.failures first) (D.failures (first_after first_of result)) ⊎ MoreFailures (D.failures second) (D.failures (second_after second_of result))) result }
 
-        // Up to the barrier a stop leaves what one at entry might have left, from then on no area or this one.
+        // Up to the barrier a stop leaves what one at entry might have left; from then on that, no area, or this one.
         ensures any_moment { D.is_honest first → D.is_honest second → AfterBarrier D.moment D.held_at first second (first_after first_of result) (second_after second_of result)
             (IsUnformedOr (fresh 1 snapshot.now) (D.held first) (D.held second)) }
         // The second disk is synced, and no more.

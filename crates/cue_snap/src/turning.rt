@@ -10,7 +10,8 @@ ghost use Rattle.cue_snap.specs.Pair.{IsOldOrNew};
 use cue_disk::{Disk, DiskFault};
 use cue_log::{Log, close};
 
-/// Closes the area of the spare disk, forms it anew and moves the log there. The disk that the log leaves is not touched.
+/// Closes the area of the spare disk, forms it anew and moves the log there. The disk that the log leaves is not
+/// touched.
 pub(crate) fn turn<D: Disk>(
     log: &mut Log<D>,
     spare: &mut D,

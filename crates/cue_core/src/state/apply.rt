@@ -40,7 +40,8 @@ impl State {
         }
     }
 
-    /// Applies the events in order. Where memory runs out, those before the one that it ran out at are applied, and no other.
+    /// Applies the events in order. Where memory runs out, those before the one that it ran out at are applied, and
+    /// no other.
     pub fn apply_all(&mut self, events: &[Event]) -> Result<(), AllocError>
         requires { IsTrue (are_acceptable self.old events.now) }
         ensures ok { OnOk result (self.new ≡ folded self.old events.now) }

@@ -1,4 +1,5 @@
-//! The lines by which commands are judged: for each command each line that can hold, and which one decides where several do.
+//! The lines by which commands are judged: for each command each line that can hold, and which one decides where
+//! several do.
 
 use super::{SHOW, run_each};
 use std::test::Fail;
@@ -19,8 +20,8 @@ remove_device 0 = made NoDevice 0
 remove_device 0 = 3 NoMethod
 state = devices 3:9001 111:65535 | cue 1 3: | place - | last 0 | ended -",
     // Cues are added once.
-    // The same parts are known. Other bytes, another order, a part less, and other devices are not the same parts; a device that is not there is
-    // told first; other texts are other cues.
+    // The same parts are known. Other bytes, another order, a part less, and other devices are not the same parts; a
+    // device that is not there is told first; other texts are other cues.
     "\
 add_device 3 9001 = made Device 3 9001
 add_device 4 9002 = made Device 4 9002
@@ -159,8 +160,8 @@ release 4 = made Failed 1 4
 release 4 = 12 NotLive
 state = devices 3:9001 4:9002 | cue 1 3:up 4: | cue 2 3: | place 2 | last 1 | ended 1 Failed",
     // Replies are sorted before they are judged.
-    // No such device, then another port, then a number above the last, then one that is not live, then a device that is not of the attempt; two
-    // devices may share a port.
+    // No such device, then another port, then a number above the last, then one that is not live, then a device that
+    // is not of the attempt; two devices may share a port.
     "\
 complete 5 1 9001 = 3 NoMethod
 complete 3 1 9002 = 17 WrongPort

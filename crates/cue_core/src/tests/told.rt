@@ -103,7 +103,8 @@ fn push_parts(text: &mut String, parts: &Parts) -> Result<(), AllocError> {
     Ok(())
 }
 
-// The devices with their ports, the cues with their parts, the place, the last number, the attempt that ended last, and the live ones.
+// The devices with their ports, the cues with their parts, the place, the last number, the attempt that ended last,
+// and the live ones.
 pub(super) fn of_state(alloc: Global, state: &State) -> Result<String, AllocError> {
     let mut text = String::new(alloc);
     push_devices(&mut text, state.show())?;

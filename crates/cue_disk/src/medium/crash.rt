@@ -1,9 +1,9 @@
-// What a crash makes of a medium: one pass over its bytes, however long its history.
+// What a crash makes of a medium: one pass over its bytes, which looks at the writes since the last sync for each.
 ghost use Rattle.std.specs.Prelude.{◌≡◌, ◌≤◌, ◌<◌, ℕ, length, slice_index, IfOk};
 ghost use Rattle.cue_disk.specs.Crash.{IsCrashed, crashed_byte, may_change};
-ghost use Rattle.cue_disk.specs.Medium.{medium_held};
+ghost use Rattle.cue_disk.specs.Medium.{medium_held, is_touched};
 
-use crate::medium::Medium;
+use crate::medium::{Change, Medium};
 use std::alloc::AllocError;
 
 impl Medium {
@@ -39,6 +39,13 @@ impl Medium {
         requires { i < length (medium_held self.now).bytes }
         ensures { result ≡ may_change (medium_held self.now) i }
     {
-        i >= self.synced || self.written[i] > self.synced_at
+        i >= self.synced || is_touched(&self.past[self.synced_at..], i)
     }
+}
+
+// Whether one of these changes is a write that was asked to write this byte.
+fn is_touched(changes: &[Change], i: usize) -> bool
+    ensures { result ≡ is_touched changes.now i }
+{
+    changes.iter().any(|change| change.touches(i))
 }

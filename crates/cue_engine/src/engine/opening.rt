@@ -22,8 +22,8 @@ use cue_outbox::Queue;
 use std::alloc::Global;
 
 impl<D: Disk> Engine<D> {
-    /// Forms a store on two disks without areas: no device, no cue, nothing owed. What is called later takes its memory from this allocator. A
-    /// refusal hands both disks back.
+    /// Forms a store on two disks without areas: no device, no cue, nothing owed. What is called later takes its
+    /// memory from this allocator. A refusal hands both disks back.
     pub fn form(alloc: Global, first: D, second: D) -> Result<Engine<D>, (StoreFault, D, D)>
         ensures state { IfOk result (λ engine. state_of engine ≡ empty_state) }
         ensures queue { IfOk result (λ engine. queue_of engine ≡ []) }
@@ -61,8 +61,8 @@ impl<D: Disk> Engine<D> {
         }
     }
 
-    /// Recovers a show from two disks, as after power loss: each attempt that was undecided is cancelled, and all that is pending is owed again.
-    /// A refusal hands both disks back, and the call may be made again.
+    /// Recovers a show from two disks, as after power loss: each attempt that was undecided is cancelled, and all
+    /// that is pending is owed again. A refusal hands both disks back, and the call may be made again.
     pub fn recover(alloc: Global, first: D, second: D) -> Result<Engine<D>, (StoreFault, D, D)>
         // The state was closed from one that stood there, and stays; what is pending in it is owed.
         ensures stood { D.is_honest first → D.is_honest second → IfOk result (λ engine. ClosedFrom (D.held first).bytes (D.held second).bytes (state_of engine)) }
@@ -83,7 +83,8 @@ impl<D: Disk> Engine<D> {
         ensures readable { D.is_honest first → D.is_honest second → (s : ShowState) → Stands (D.held first).bytes (D.held second).bytes s
             → RefusedAs StoreFault.Unformed ⊥ result × RefusedAs StoreFault.Damaged ⊥ result × RefusedAs StoreFault.Version ⊥ result × RefusedAs StoreFault.Malformed ⊥ result }
 
-        // Up to the barrier a stop leaves what one at entry might have left, from then on what stands for such a state or for that state closed.
+        // Up to the barrier a stop leaves what one at entry might have left, from then on what stands for such a
+        // state or for that state closed.
         ensures any_moment { D.is_honest first → D.is_honest second → AfterBarrier D.moment D.held_at first second (first_after first_of result) (second_after second_of result)
             (IsLeftOrStands (D.held first) (D.held second)) }
         // Any refusal but that of a device has written nothing.

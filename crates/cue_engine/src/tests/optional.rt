@@ -33,7 +33,7 @@ const EXCUSED: [Step; 4] = [
     Step::Answers(8000, b"/device/4/release", [0, 1, 0, 0]),
 ];
 
-const EXCUSED_RECORD: &[u8] = b"\x01\0\0\0\x07\0\x01\x0e\0\0\0\x01\x04\0";
+const EXCUSED_RECORD: &[u8] = b"\x01\0\0\0\x08\0\x01\x0e\0\0\0\x01\x04\0";
 
 // What the excused device may still say.
 const ITS_REPLIES: [Step; 8] = [

@@ -53,7 +53,7 @@ impl<'a> Reader<'a> {
         Ok((seq, reason))
     }
 
-    // A cue and its parts, one of them at least optional.
+    // A cue and its parts, at least one of them optional.
     #[tactic(auto, unfolding(crate::specs::BatchReading::mixed_cue_at))]
     fn mixed_cue(&mut self, alloc: Global) -> Result<(CueNo, Parts), ReadFault>
         ensures { Gives (λ x. (x, self.new.rest.now)) result (mixed_cue_at self.old.rest.now) }
@@ -71,50 +71,34 @@ impl<'a> Reader<'a> {
         ensures { Gives (λ x. (x, self.new.rest.now)) result (body_at kind self.old.rest.now) }
     {
         match kind {
-            Kind::Device => {
-                let (device, port) = self.entry()?;
-                Ok(Event::Device(device, port))
-            }
+            Kind::Device => self
+                .entry()
+                .map(|(device, port)| Event::Device(device, port)),
             Kind::NoDevice => Ok(Event::NoDevice(self.device()?)),
-            Kind::Cue => {
-                let (cue, parts) = self.new_cue(alloc, Version::One)?;
-                Ok(Event::Cue(cue, parts))
-            }
-            Kind::MixedCue => {
-                let (cue, parts) = self.mixed_cue(alloc)?;
-                Ok(Event::Cue(cue, parts))
-            }
+            Kind::Cue => self
+                .new_cue(alloc, Version::One)
+                .map(|(cue, parts)| Event::Cue(cue, parts)),
+            Kind::MixedCue => self
+                .mixed_cue(alloc)
+                .map(|(cue, parts)| Event::Cue(cue, parts)),
             Kind::NoCue => Ok(Event::NoCue(self.cue()?)),
             Kind::Place => Ok(Event::Place(self.cue()?)),
-            Kind::Start => {
-                let (seq, cue, deadline) = self.start()?;
-                Ok(Event::Start(seq, cue, deadline))
-            }
+            Kind::Start => self
+                .start()
+                .map(|(seq, cue, deadline)| Event::Start(seq, cue, deadline)),
             Kind::Go => Ok(Event::Go(self.sequence()?)),
-            Kind::Cancel => {
-                let (seq, reason) = self.cancel()?;
-                Ok(Event::Cancel(seq, reason))
-            }
-            Kind::Ready => {
-                let (seq, device) = self.answer()?;
-                Ok(Event::Ready(seq, device))
-            }
-            Kind::Done => {
-                let (seq, device) = self.answer()?;
-                Ok(Event::Done(seq, device))
-            }
-            Kind::LetGo => {
-                let (seq, device) = self.answer()?;
-                Ok(Event::LetGo(seq, device))
-            }
-            Kind::Failed => {
-                let (seq, device) = self.answer()?;
-                Ok(Event::Failed(seq, device))
-            }
-            Kind::Excuse => {
-                let (seq, device) = self.answer()?;
-                Ok(Event::Excuse(seq, device))
-            }
+            Kind::Cancel => self
+                .cancel()
+                .map(|(seq, reason)| Event::Cancel(seq, reason)),
+            Kind::Ready => self.answer().map(|(seq, device)| Event::Ready(seq, device)),
+            Kind::Done => self.answer().map(|(seq, device)| Event::Done(seq, device)),
+            Kind::LetGo => self.answer().map(|(seq, device)| Event::LetGo(seq, device)),
+            Kind::Failed => self
+                .answer()
+                .map(|(seq, device)| Event::Failed(seq, device)),
+            Kind::Excuse => self
+                .answer()
+                .map(|(seq, device)| Event::Excuse(seq, device)),
         }
     }
 

@@ -140,7 +140,7 @@ impl<'a> Reader<'a> {
         Ok(bytes)
     }
 
-    /// The flag of a part; where there is none it is required.
+    /// The flag of a part; a part without one is required.
     #[tactic(auto, unfolding(crate::specs::Reading::flag_at))]
     fn flag(&mut self, version: Version) -> Result<bool, ReadFault>
         ensures { Gives (λ x. (x, self.new.rest.now)) result (flag_at version self.old.rest.now) }
@@ -189,7 +189,7 @@ impl<'a> Reader<'a> {
         Ok(parts)
     }
 
-    /// A count, and so many parts of distinct devices, one of them at least required.
+    /// A count, and so many parts of distinct devices, at least one of them required.
     #[tactic(auto, unfolding(crate::specs::Reading::parts_at))]
     pub fn parts(&mut self, alloc: Global, version: Version) -> Result<Parts, ReadFault>
         ensures { Gives (λ x. (x, self.new.rest.now)) result (parts_at version self.old.rest.now) }

@@ -67,7 +67,8 @@ fn push_start(text: &mut String, seq: u32, cue: CueNo, deadline: u64) -> Result<
     write!(text, " {}", deadline)
 }
 
-// The devices with their ports, the cues with their parts, the place, the last number, the attempt that ended last, and the live ones.
+// The devices with their ports, the cues with their parts, the place, the last number, the attempt that ended last,
+// and the live ones.
 pub(super) fn of_state(alloc: Global, state: &State) -> Result<String, AllocError> {
     let mut text = String::new(alloc);
     push_devices(&mut text, state.show())?;

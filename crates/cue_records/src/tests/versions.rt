@@ -75,10 +75,10 @@ fn the_texts_in_an_area(rt: HostRuntime) -> Result<(), Fail> {
     Ok(())
 }
 
-// A cue with the number, for the device 3.
+// A cue with the number in four digits, for the device 3.
 fn push_cue(text: &mut Vec<u8>, alloc: Global, version: u8, number: u16) -> Result<(), AllocError> {
-    let digits = format!(in alloc; "{}", number)?;
-    text.push(digits.len() as u8)?;
+    let digits = format!(in alloc; "{:04}", number)?;
+    text.push(4)?;
     text.extend_from_slice(digits.as_bytes())?;
     text.extend_from_slice(&[1, 3, 0])?;
     if version == 2 {

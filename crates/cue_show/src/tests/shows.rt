@@ -44,7 +44,8 @@ fn push_parts(text: &mut String, parts: Option<&Parts>) -> Result<(), AllocError
     Ok(())
 }
 
-// The devices with their ports, the cues with the cue that follows and their parts, and the place. An optional part has a `?`.
+// The devices with their ports, the cues with the cue that follows and their parts, and the place. An optional part
+// has a `?`.
 fn describe(alloc: Global, show: &Show) -> Result<String, AllocError> {
     let mut text = String::new(alloc);
     for (device, _) in show.devices() {

@@ -56,12 +56,7 @@ const OVER_FULL: [Repeated; 4] = [
 // The same over a small show: the device is the last one there.
 const OVER_SMALL: [Repeated; 3] = [
     ("take_status_small", b"/status\0", 0, 100_000),
-    (
-        "take_refused_small",
-        b"/nothing\0\0\0\0,\0\0\0",
-        1,
-        100_000,
-    ),
+    ("take_refused_small", b"/nothing\0\0\0\0,\0\0\0", 1, 100_000),
     (
         "take_in_use_small",
         b"/device/31/remove\0\0\0,\0\0\0",
@@ -136,8 +131,8 @@ fn measure_gotos<R: Clock + Print + AllocGlobal>(
     measure_over(rt, shows::made(rt.alloc(), size), gotos(name))
 }
 
-// A name, and how many messages `/cue/*/goto` of one bundle over a full show are refused whole: two have a batch that is
-// too long, three have too many commands.
+// A name, and how many messages `/cue/*/goto` of one bundle over a full show are refused whole: the batch of two is too
+// long, and three are too many commands.
 const TOO_MUCH: [(&str, u32); 2] = [("take_too_long", 2), ("take_too_many", 3)];
 
 fn measure_too_much<R: Clock + Print + AllocGlobal>(rt: &R, word: &str) -> io::Result<()> {

@@ -9,10 +9,7 @@ use std::io::Print;
 use std::time::Clock;
 
 // The measures. Seven exchanges make 238 records, so that no area turns over within a round.
-const EXCHANGES: [(&str, Size); 2] = [
-    ("exchange", shows::FULL),
-    ("exchange_small", shows::SMALL),
-];
+const EXCHANGES: [(&str, Size); 2] = [("exchange", shows::FULL), ("exchange_small", shows::SMALL)];
 
 const CALLS: u32 = 7;
 

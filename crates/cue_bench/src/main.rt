@@ -1,5 +1,6 @@
-//! Measures what the crates take: `cue_bench NAME` prints the nanoseconds of one call, `cue_bench all` those of each measure.
-//! A word with a slash is a folder, in which turn-overs are measured on new files. Without words it prints nothing.
+//! Measures what the crates take: `cue_bench NAME` prints the nanoseconds of one call, `cue_bench all` those of each
+//! measure. A word with a slash is a folder, in which turn-overs are measured on new files. Without words it prints
+//! nothing.
 #![tactic(auto)]
 
 mod datagrams;

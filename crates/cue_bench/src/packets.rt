@@ -237,7 +237,12 @@ fn measure_writing<R: Clock + Print + AllocGlobal>(
         return Ok(());
     }
     let alloc = rt.alloc();
-    time(rt, "write_state", 100, &mut WriteState { alloc, state: full })
+    time(
+        rt,
+        "write_state",
+        100,
+        &mut WriteState { alloc, state: full },
+    )
 }
 
 // What is measured over the state of a full show.

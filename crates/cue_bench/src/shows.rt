@@ -119,11 +119,7 @@ pub fn make_each<D: Disk>(served: &mut Served<D>, datagrams: &[Vec<u8>]) -> bool
 }
 
 // Adds the devices of a show, and then its cues.
-fn fill<D: Disk>(
-    alloc: Global,
-    served: &mut Served<D>,
-    size: Size,
-) -> Result<bool, AllocError> {
+fn fill<D: Disk>(alloc: Global, served: &mut Served<D>, size: Size) -> Result<bool, AllocError> {
     let mut all = add_devices(alloc, served, size.devices)?;
     for cue in 0..size.cues {
         if !served.make(OPERATOR, &size.cue(alloc, cue)?) {
@@ -223,11 +219,7 @@ pub fn short_cues(alloc: Global, cues: u32) -> Result<Vec<Vec<u8>>, AllocError> 
 }
 
 // Adds one device and such cues.
-fn fill_short(
-    alloc: Global,
-    served: &mut Remembered,
-    cues: u32,
-) -> Result<bool, AllocError> {
+fn fill_short(alloc: Global, served: &mut Remembered, cues: u32) -> Result<bool, AllocError> {
     let device = add_devices(alloc, served, 1)?;
     let all = make_each(served, &short_cues(alloc, cues)?);
     Ok(device && all)

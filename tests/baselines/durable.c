@@ -1,5 +1,5 @@
 /* Answers each datagram on 127.0.0.1 once it is safe in a file, in the same way as a made command: the body of a
-   record is written and synced, and then its gate. After 64 records it begins at the front again: durable PORT FILE
+   record is written and synced, and then its gate. After 256 records it begins at the front again: durable PORT FILE
  */
 #include <arpa/inet.h>
 #include <fcntl.h>
@@ -7,7 +7,7 @@
 #include <sys/socket.h>
 #include <unistd.h>
 
-enum { RECORD = 10, START = 100, RECORDS = 64 };
+enum { RECORD = 10, START = 100, RECORDS = 256 };
 
 static int keep(int file, off_t gate, const char *body) {
     return pwrite(file, body, RECORD, gate + 1) == RECORD && !fdatasync(file) && pwrite(file, "\1", 1, gate) == 1 &&

@@ -1,26 +1,13 @@
-//! Whole inputs, on two disks in memory.
-use crate::shows::{self, let_go};
-use crate::timing::{Work, time};
-use cue_disk::MemDisk;
-use cue_engine::{Engine, Input, Wire, WireFault};
+//! Whole inputs, over a full show and over a small one.
+use crate::datagrams::bundle;
+use crate::served::{GOTO_FIRST, GOTO_LAST, OPERATOR, Served, let_go};
+use crate::shows::{self, FULL, SMALL, Size};
+use crate::timing::{Work, is_asked, say_wrong, time};
+use cue_disk::Disk;
 use std::alloc::AllocGlobal;
 use std::io;
 use std::io::Print;
 use std::time::Clock;
-
-// A wire that forgets.
-#[derive(Drop)]
-struct Nowhere;
-
-impl Wire for Nowhere {
-    ghost use Rattle.std.specs.Prelude.{None};
-
-    ghost told = { λ _. None };
-
-    fn send(&mut self, _to: u16, _bytes: &[u8]) -> Result<(), WireFault> {
-        Ok(())
-    }
-}
 
 /// Two datagrams that are taken in turn, so often, and how many commands of each are refused.
 #[derive(Clone, Copy)]
@@ -34,26 +21,13 @@ pub struct InTurn<'a> {
 
 // Takes the two, and hands out what is owed.
 #[derive(Drop)]
-struct TakeInTurn<'a> {
-    engine: &'a mut Engine<MemDisk>,
+struct TakeInTurn<'a, D: Disk> {
+    served: &'a mut Served<D>,
     datagrams: InTurn<'a>,
     is_other: bool,
 }
 
-impl<'a> TakeInTurn<'a> {
-    // Takes a datagram; whether as many commands were refused as are meant to be.
-    fn take(&mut self, bytes: &[u8]) -> bool {
-        match self
-            .engine
-            .take(1_000, Input::Datagram { from: 8000, bytes })
-        {
-            Ok(taken) => taken.refused == self.datagrams.refused,
-            Err(_) => false,
-        }
-    }
-}
-
-impl<'a> Work for TakeInTurn<'a> {
+impl<'a, D: Disk> Work for TakeInTurn<'a, D> {
     fn once(&mut self) -> bool {
         let bytes = if self.is_other {
             self.datagrams.other
@@ -61,83 +35,133 @@ impl<'a> Work for TakeInTurn<'a> {
             self.datagrams.one
         };
         self.is_other = !self.is_other;
-        let took = self.take(bytes);
-        let unsent = self.engine.hand_out(&mut Nowhere);
-        took && unsent == 0
+        match self.served.take(OPERATOR, bytes) {
+            Some(taken) => taken.refused == self.datagrams.refused,
+            None => false,
+        }
     }
 }
 
-const TAKES: [InTurn<'static>; 4] = [
-    InTurn {
-        name: "take_goto",
-        one: b"/cue/100/goto\0\0\0,\0\0\0",
-        other: b"/cue/101/goto\0\0\0,\0\0\0",
-        refused: 0,
-        calls: 10_000,
-    },
-    InTurn {
-        name: "take_status",
-        one: b"/status\0",
-        other: b"/status\0",
-        refused: 0,
-        calls: 100_000,
-    },
-    InTurn {
-        name: "take_refused",
-        one: b"/nothing\0\0\0\0,\0\0\0",
-        other: b"/nothing\0\0\0\0,\0\0\0",
-        refused: 1,
-        calls: 100_000,
-    },
-    InTurn {
-        name: "take_all_goto",
-        one: b"/cue/*/goto\0,\0\0\0",
-        other: b"/cue/*/goto\0,\0\0\0",
-        refused: 0,
-        calls: 100,
-    },
+// A datagram that is taken over and over: the name of the measure, the datagram, how many of its commands are refused,
+// and how often it is taken.
+type Repeated = (&'static str, &'static [u8], u16, u32);
+
+const OVER_FULL: [Repeated; 4] = [
+    ("take_status", b"/status\0", 0, 100_000),
+    ("take_refused", b"/nothing\0\0\0\0,\0\0\0", 1, 100_000),
+    ("take_in_use", b"/device/111/remove\0\0,\0\0\0", 1, 5_000),
+    ("take_all_goto", b"/cue/*/goto\0,\0\0\0", 0, 100),
 ];
 
-// The cues of a small show.
-const TAKE_GOTO_SMALL: InTurn<'static> = InTurn {
-    name: "take_goto_small",
-    one: b"/cue/100/goto\0\0\0,\0\0\0",
-    other: b"/cue/212/goto\0\0\0,\0\0\0",
-    refused: 0,
-    calls: 10_000,
-};
+// The same over a small show: the device is the last one there.
+const OVER_SMALL: [Repeated; 3] = [
+    ("take_status_small", b"/status\0", 0, 100_000),
+    ("take_refused_small", b"/nothing\0\0\0\0,\0\0\0", 1, 100_000),
+    (
+        "take_in_use_small",
+        b"/device/31/remove\0\0\0,\0\0\0",
+        1,
+        100_000,
+    ),
+];
+
+// The first cue and the last one in turn; 40 areas are filled in a round.
+fn gotos(name: &str) -> InTurn<'_> {
+    InTurn {
+        name,
+        one: GOTO_FIRST,
+        other: GOTO_LAST,
+        refused: 0,
+        calls: 10_240,
+    }
+}
 
 /// Measures two datagrams in turn over a show, and drops the show.
-pub fn measure_over<R: Clock + Print + AllocGlobal>(
+pub fn measure_over<R: Clock + Print + AllocGlobal, D: Disk + Drop>(
     rt: &R,
-    made: Option<Engine<MemDisk>>,
+    made: Option<Served<D>>,
     datagrams: InTurn<'_>,
 ) -> io::Result<()> {
     match made {
-        Some(mut engine) => {
+        Some(mut served) => {
             let mut taking = TakeInTurn {
-                engine: &mut engine,
+                served: &mut served,
                 datagrams,
                 is_other: false,
             };
             let measured = time(rt, datagrams.name, datagrams.calls, &mut taking);
-            let_go(engine);
+            let_go(served);
             measured
         }
-        None => Ok(()),
+        None => say_wrong(rt, datagrams.name),
     }
 }
 
-/// Prints the measures that this word names: of whole inputs over a full show, and `take_goto_small` over one of two cues.
-pub fn measure<R: Clock + Print + AllocGlobal>(rt: &R, name: &str) -> io::Result<()> {
+// Measures a datagram over and over, over a new show, where the word names it.
+fn measure_repeated<R: Clock + Print + AllocGlobal>(
+    rt: &R,
+    word: &str,
+    size: Size,
+    repeated: Repeated,
+) -> io::Result<()> {
+    let (name, bytes, refused, calls) = repeated;
+    if !is_asked(word, name) {
+        return Ok(());
+    }
+    let datagrams = InTurn {
+        name,
+        one: bytes,
+        other: bytes,
+        refused,
+        calls,
+    };
+    measure_over(rt, shows::made(rt.alloc(), size), datagrams)
+}
+
+// Measures a made command, over a new show, where the word names it.
+fn measure_gotos<R: Clock + Print + AllocGlobal>(
+    rt: &R,
+    word: &str,
+    size: Size,
+    name: &str,
+) -> io::Result<()> {
+    if !is_asked(word, name) {
+        return Ok(());
+    }
+    measure_over(rt, shows::made(rt.alloc(), size), gotos(name))
+}
+
+// A name, and how many messages `/cue/*/goto` of one bundle over a full show are refused whole: the batch of two is too
+// long, and three are too many commands.
+const TOO_MUCH: [(&str, u32); 2] = [("take_too_long", 2), ("take_too_many", 3)];
+
+fn measure_too_much<R: Clock + Print + AllocGlobal>(rt: &R, word: &str) -> io::Result<()> {
     let alloc = rt.alloc();
-    for datagrams in TAKES {
-        if name == "all" || name == datagrams.name {
-            measure_over(rt, shows::full(alloc), datagrams)?;
+    for (name, count) in TOO_MUCH {
+        if is_asked(word, name) {
+            let bytes = bundle(alloc, b"/cue/*/goto\0", count)?;
+            let datagrams = InTurn {
+                name,
+                one: &bytes,
+                other: &bytes,
+                refused: 1,
+                calls: 50,
+            };
+            measure_over(rt, shows::made(alloc, FULL), datagrams)?;
         }
     }
-    if name == "all" || name == TAKE_GOTO_SMALL.name {
-        measure_over(rt, shows::small(alloc), TAKE_GOTO_SMALL)?;
-    }
     Ok(())
+}
+
+/// Prints the measures that this word names: of whole inputs.
+pub fn measure<R: Clock + Print + AllocGlobal>(rt: &R, word: &str) -> io::Result<()> {
+    measure_gotos(rt, word, FULL, "take_goto")?;
+    measure_gotos(rt, word, SMALL, "take_goto_small")?;
+    for repeated in OVER_FULL {
+        measure_repeated(rt, word, FULL, repeated)?;
+    }
+    for repeated in OVER_SMALL {
+        measure_repeated(rt, word, SMALL, repeated)?;
+    }
+    measure_too_much(rt, word)
 }

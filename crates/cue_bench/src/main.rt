@@ -1,21 +1,47 @@
-//! Measures what the crates take: `cue_bench NAME` prints the nanoseconds of one call, `cue_bench all` those of each measure.
-//! Without words it prints nothing.
+//! Measures what the crates take: `cue_bench NAME` prints the nanoseconds of one call, `cue_bench all` those of each
+//! measure. A word with a slash is a folder, in which turn-overs are measured on new files. Without words it prints
+//! nothing.
 #![tactic(auto)]
 
+mod datagrams;
 mod engines;
+mod exchanges;
+mod forgetful;
 mod packets;
+mod raw;
+mod recovering;
+mod served;
 mod shows;
 mod sizes;
 mod timing;
+mod turning;
 
+use std::alloc::AllocGlobal;
+use std::fs::{File, Files};
+use std::io::Print;
+use std::time::Clock;
 use std::{env, io};
+
+// Prints what a word asks for.
+fn measure<R>(rt: &R, word: &str) -> io::Result<()>
+where
+    R: Clock + Print + AllocGlobal + Files<File = File>,
+{
+    if word.as_bytes().contains(&b'/') {
+        return turning::measure_files(rt, word);
+    }
+    packets::measure(rt, word)?;
+    engines::measure(rt, word)?;
+    exchanges::measure(rt, word)?;
+    sizes::measure(rt, word)?;
+    turning::measure(rt, word)?;
+    recovering::measure(rt, word)
+}
 
 fn main(rt: HostRuntime) -> io::Result<()> {
     let words: Vec<String> = env::args(&rt)?.skip(1).collect(rt.alloc())?;
     for word in &words {
-        packets::measure(&rt, word.as_str())?;
-        engines::measure(&rt, word.as_str())?;
-        sizes::measure(&rt, word.as_str())?;
+        measure(&rt, word.as_str())?;
     }
     Ok(())
 }

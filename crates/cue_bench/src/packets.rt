@@ -1,10 +1,13 @@
-//! Reading packets and finding commands.
-use crate::shows::{self, let_go};
-use crate::timing::{Work, time};
+//! Reading packets, finding commands, and writing a state.
+use crate::datagrams::bundle;
+use crate::served::let_go;
+use crate::shows::{self, FULL};
+use crate::timing::{Work, is_asked, say_wrong, time};
 use cue_core::{Command, ReplyKind, State, judge};
 use cue_operator::commands;
 use cue_osc::{Packet, read};
 use cue_pattern::Pattern;
+use cue_records::write_state;
 use cue_show::DeviceNo;
 use std::alloc::{AllocGlobal, Global};
 use std::io;
@@ -15,6 +18,10 @@ const STANDBY: &[u8] =
     b"/msc/standby\0\0\0\0,iisb\0\0\0\0\0\0\x01\0\0\0\x031\0\0\0\0\0\0\x02\x0a\x0b\0\0";
 
 const ADD_DEVICE: &[u8] = b"/show/device\0\0\0\0,ii\0\0\0\0\x03\0\0\x23\x29";
+
+// The bytes of the text of a full show's state without a place, counted by hand: 340 for the devices and what stands
+// before the cues, 1,021 cues of 578 and three of 565, and 11 behind them.
+const TEXT_LEN: usize = 592_184;
 
 // Reads one packet.
 #[derive(Drop)]
@@ -50,7 +57,7 @@ impl<'a> Work for FindCommands<'a> {
     }
 }
 
-// Compares a pattern with the address of each of 256 cues, one after the other.
+// Compares a pattern with the address of each of 1,024 cues, one after the other.
 #[derive(Drop)]
 struct CompareAll<'a> {
     pattern: &'a Pattern,
@@ -67,6 +74,22 @@ impl<'a> Work for CompareAll<'a> {
             }
         }
         all
+    }
+}
+
+// Writes the text of a state.
+#[derive(Drop)]
+struct WriteState<'a> {
+    alloc: Global,
+    state: &'a State,
+}
+
+impl<'a> Work for WriteState<'a> {
+    fn once(&mut self) -> bool {
+        match write_state(self.alloc, self.state) {
+            Ok(text) => text.as_slice().len() == TEXT_LEN,
+            Err(_) => false,
+        }
     }
 }
 
@@ -87,120 +110,106 @@ impl<'a> Work for JudgeReply<'a> {
     }
 }
 
-fn measure_reading<R: Clock + Print + AllocGlobal>(rt: &R, name: &str) -> io::Result<()> {
+// Measures the reading of one packet, where the word names it.
+fn measure_packet<R: Clock + Print + AllocGlobal>(
+    rt: &R,
+    word: &str,
+    reading: &str,
+    bytes: &[u8],
+    calls: u32,
+) -> io::Result<()> {
+    if !is_asked(word, reading) {
+        return Ok(());
+    }
     let alloc = rt.alloc();
-    let all = name == "all";
-    if all || name == "read_standby" {
-        time(
-            rt,
-            "read_standby",
-            1_000_000,
-            &mut ReadPacket {
-                alloc,
-                bytes: STANDBY,
-            },
-        )?;
-    }
-    if all || name == "read_device" {
-        time(
-            rt,
-            "read_device",
-            1_000_000,
-            &mut ReadPacket {
-                alloc,
-                bytes: ADD_DEVICE,
-            },
-        )?;
-    }
-    if all || name == "read_bundle" {
-        let bytes = shows::bundle(alloc, b"/status\0", 340)?;
-        time(
-            rt,
-            "read_bundle",
-            20_000,
-            &mut ReadPacket {
-                alloc,
-                bytes: &bytes,
-            },
-        )?;
-    }
-    Ok(())
+    time(rt, reading, calls, &mut ReadPacket { alloc, bytes })
 }
 
-// The name of a measure of finding, the address, how many commands it asks for over a full show, and how often it is called.
-const FINDINGS: [(&str, &[u8], usize, u32); 4] = [
-    ("literal_go", b"/cue/200/go\0,\0\0\0", 1, 500_000),
-    ("all_goto", b"/cue/*/goto\0,\0\0\0", 256, 5_000),
-    ("all_standby", b"/cue/*/standby\0\0,\0\0\0", 256, 5_000),
-    ("whole_show", b"/*/*/*\0\0,\0\0\0", 1_952, 1_000),
+fn measure_reading<R: Clock + Print + AllocGlobal>(rt: &R, word: &str) -> io::Result<()> {
+    let bytes = bundle(rt.alloc(), b"/status\0", 340)?;
+    measure_packet(rt, word, "read_standby", STANDBY, 1_000_000)?;
+    measure_packet(rt, word, "read_device", ADD_DEVICE, 1_000_000)?;
+    measure_packet(rt, word, "read_bundle", &bytes, 20_000)
+}
+
+// A measure of finding: its name, the message, and how often it is called.
+type Finding = (&'static str, &'static [u8], u32);
+
+const LITERAL: &[u8] = b"/cue/200/go\0,\0\0\0";
+
+// How many commands each asks for over a full show, counted by hand: 1,024 cues with 5 verbs each, 112 devices with 6.
+const OVER_FULL: [(Finding, usize); 4] = [
+    (("literal_go", LITERAL, 500_000), 1),
+    (("all_goto", b"/cue/*/goto\0,\0\0\0", 1_000), 1_024),
+    (("all_standby", b"/cue/*/standby\0\0,\0\0\0", 1_000), 1_024),
+    (("whole_show", b"/*/*/*\0\0,\0\0\0", 500), 5_792),
 ];
+
+const OVER_NONE: Finding = ("literal_go_empty", LITERAL, 500_000);
+
+// Measures one of them over a state, where the word names it.
+fn measure_one<R: Clock + Print + AllocGlobal>(
+    rt: &R,
+    word: &str,
+    finding: Finding,
+    state: &State,
+    wanted: usize,
+) -> io::Result<()> {
+    let (name, bytes, calls) = finding;
+    if !is_asked(word, name) {
+        return Ok(());
+    }
+    time(
+        rt,
+        name,
+        calls,
+        &mut FindCommands {
+            alloc: rt.alloc(),
+            bytes,
+            state,
+            wanted,
+        },
+    )
+}
 
 fn measure_finding<R: Clock + Print + AllocGlobal>(
     rt: &R,
-    name: &str,
+    word: &str,
     empty: &State,
     full: &State,
 ) -> io::Result<()> {
-    let alloc = rt.alloc();
-    let all = name == "all";
-    for (finding, bytes, wanted, calls) in FINDINGS {
-        if all || name == finding {
-            time(
-                rt,
-                finding,
-                calls,
-                &mut FindCommands {
-                    alloc,
-                    bytes,
-                    state: full,
-                    wanted,
-                },
-            )?;
-        }
+    for (finding, wanted) in OVER_FULL {
+        measure_one(rt, word, finding, full, wanted)?;
     }
-    if all || name == "literal_go_empty" {
-        let bytes = b"/cue/200/go\0,\0\0\0";
-        time(
-            rt,
-            "literal_go_empty",
-            500_000,
-            &mut FindCommands {
-                alloc,
-                bytes,
-                state: empty,
-                wanted: 0,
-            },
-        )?;
-    }
-    Ok(())
+    measure_one(rt, word, OVER_NONE, empty, 0)
 }
 
-fn measure_comparing<R: Clock + Print + AllocGlobal>(rt: &R, name: &str) -> io::Result<()> {
+fn measure_comparing<R: Clock + Print + AllocGlobal>(rt: &R, word: &str) -> io::Result<()> {
     let alloc = rt.alloc();
-    if name != "all" && name != "compare_all" {
+    if !is_asked(word, "compare_all") {
         return Ok(());
     }
-    let addresses = shows::standby_addresses(alloc)?;
-    if let Ok(pattern) = Pattern::read(alloc, b"/cue/*/standby") {
-        time(
+    let addresses = FULL.standby_addresses(alloc)?;
+    match Pattern::read(alloc, b"/cue/*/standby") {
+        Ok(pattern) => time(
             rt,
             "compare_all",
-            2_000,
+            500,
             &mut CompareAll {
                 pattern: &pattern,
                 addresses: &addresses,
             },
-        )?;
+        ),
+        Err(_) => say_wrong(rt, "compare_all"),
     }
-    Ok(())
 }
 
 fn measure_judging<R: Clock + Print + AllocGlobal>(
     rt: &R,
-    name: &str,
+    word: &str,
     full: &State,
 ) -> io::Result<()> {
-    if name != "all" && name != "judge_reply" {
+    if !is_asked(word, "judge_reply") {
         return Ok(());
     }
     if let Some(device) = DeviceNo::of(3) {
@@ -219,34 +228,66 @@ fn measure_judging<R: Clock + Print + AllocGlobal>(
     Ok(())
 }
 
+fn measure_writing<R: Clock + Print + AllocGlobal>(
+    rt: &R,
+    word: &str,
+    full: &State,
+) -> io::Result<()> {
+    if !is_asked(word, "write_state") {
+        return Ok(());
+    }
+    let alloc = rt.alloc();
+    time(
+        rt,
+        "write_state",
+        100,
+        &mut WriteState { alloc, state: full },
+    )
+}
+
 // What is measured over the state of a full show.
 fn measure_over<R: Clock + Print + AllocGlobal>(
     rt: &R,
-    name: &str,
+    word: &str,
     empty: &State,
     full: &State,
 ) -> io::Result<()> {
-    measure_finding(rt, name, empty, full)?;
-    measure_judging(rt, name, full)
+    measure_finding(rt, word, empty, full)?;
+    measure_judging(rt, word, full)?;
+    measure_writing(rt, word, full)
 }
 
+// The measures over the state of a show.
+const OVER_STATES: [&str; 7] = [
+    "literal_go",
+    "all_goto",
+    "all_standby",
+    "whole_show",
+    "literal_go_empty",
+    "judge_reply",
+    "write_state",
+];
+
 // The same, with the shows: they are dropped behind it.
-fn measure_shows<R: Clock + Print + AllocGlobal>(rt: &R, name: &str) -> io::Result<()> {
+fn measure_shows<R: Clock + Print + AllocGlobal>(rt: &R, word: &str) -> io::Result<()> {
     let alloc = rt.alloc();
-    match (shows::empty(alloc), shows::full(alloc)) {
+    if !OVER_STATES.iter().any(|measure| is_asked(word, measure)) {
+        return Ok(());
+    }
+    match (shows::empty(alloc), shows::made(alloc, FULL)) {
         (Some(empty), Some(full)) => {
-            let measured = measure_over(rt, name, empty.state(), full.state());
+            let measured = measure_over(rt, word, empty.state(), full.state());
             let_go(empty);
             let_go(full);
             measured
         }
-        _ => Ok(()),
+        _ => say_wrong(rt, word),
     }
 }
 
-/// Prints the measures that this word names: of reading, comparing, finding commands and judging.
-pub fn measure<R: Clock + Print + AllocGlobal>(rt: &R, name: &str) -> io::Result<()> {
-    measure_reading(rt, name)?;
-    measure_comparing(rt, name)?;
-    measure_shows(rt, name)
+/// Prints the measures that this word names: of reading, comparing, finding commands, judging and writing a state.
+pub fn measure<R: Clock + Print + AllocGlobal>(rt: &R, word: &str) -> io::Result<()> {
+    measure_reading(rt, word)?;
+    measure_comparing(rt, word)?;
+    measure_shows(rt, word)
 }

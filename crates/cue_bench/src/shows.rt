@@ -1,179 +1,233 @@
-//! The shows and datagrams that are measured.
-use cue_disk::MemDisk;
-use cue_engine::{Engine, Input};
+//! The shows that are measured.
+use crate::datagrams::{NewCue, add_cue, add_device};
+use crate::forgetful::ForgetfulDisk;
+use crate::served::{OPERATOR, Served, formed, let_go};
+use cue_disk::Disk;
 use std::alloc::{AllocError, Global};
 
-/// How many devices and cues a full show has.
-pub const DEVICES: u8 = 112;
+/// How many devices and cues a show has. The last 16 devices are those of the last cue alone.
+#[derive(Clone, Copy)]
+pub struct Size {
+    pub devices: u8,
+    pub cues: u32,
+}
 
-pub const CUES: u32 = 256;
+/// As many as there can be.
+pub const FULL: Size = Size {
+    devices: 112,
+    cues: 1_024,
+};
+
+/// Two cues, and their devices.
+pub const SMALL: Size = Size {
+    devices: 32,
+    cues: 2,
+};
+
+/// How many parts each cue of these shows has.
+pub const PARTS: u8 = 16;
+
+// The bytes of each part.
+const BYTES: &[u8] = b"thirty-two bytes of one device..";
 
 // How many devices a wide cue has.
 const WIDTH: u8 = 13;
 
-// A cue's number as text of three digits, 100 to 355.
-fn cue_text(alloc: Global, cue: u32) -> Result<String, AllocError> {
-    let number = cue.saturating_add(100);
-    Ok(format!(in alloc; "{number}")?)
-}
+/// A show on two disks in memory.
+pub type Remembered = Served<ForgetfulDisk>;
 
-/// `/show/device` with this number, at port 9000 and so many.
-pub fn add_device(alloc: Global, device: u8) -> Result<Vec<u8>, AllocError> {
-    let number = u32::from(device);
-    let port = number.saturating_add(9000);
-    let mut bytes = Vec::from_slice(alloc, b"/show/device\0\0\0\0,ii\0")?;
-    bytes.extend_from_slice(&number.to_be_bytes())?;
-    bytes.extend_from_slice(&port.to_be_bytes())?;
-    Ok(bytes)
-}
-
-/// `/show/cue` with this number and one part of four bytes.
-pub fn add_cue(alloc: Global, cue: u32) -> Result<Vec<u8>, AllocError> {
-    let device = cue % u32::from(DEVICES);
-    let text = cue_text(alloc, cue)?;
-    let mut bytes = Vec::from_slice(alloc, b"/show/cue\0\0\0,sib\0\0\0\0")?;
-    bytes.extend_from_slice(text.as_bytes())?;
-    bytes.extend_from_slice(b"\0")?;
-    bytes.extend_from_slice(&device.to_be_bytes())?;
-    bytes.extend_from_slice(b"\0\0\0\x04abcd")?;
-    Ok(bytes)
-}
-
-/// A bundle of so many equal messages, to be carried out at once.
-pub fn bundle(alloc: Global, message: &[u8], count: u32) -> Result<Vec<u8>, AllocError> {
-    let len = u32::try_from(message.len()).unwrap_or(u32::MAX);
-    let mut bytes = Vec::from_slice(alloc, b"#bundle\0\0\0\0\0\0\0\0\x01")?;
-    for _ in 0..count {
-        bytes.extend_from_slice(&len.to_be_bytes())?;
-        bytes.extend_from_slice(message)?;
+impl Size {
+    fn is_last(self, cue: u32) -> bool {
+        cue.saturating_add(1) == self.cues
     }
-    Ok(bytes)
-}
 
-// `/show/cue` with this number of one digit, and an empty part for each of 13 devices from this one on.
-fn add_wide_cue(alloc: Global, cue: u8, first: u32) -> Result<Vec<u8>, AllocError> {
-    let mut bytes = Vec::from_slice(
-        alloc,
-        b"/show/cue\0\0\0,sibibibibibibibibibibibibib\0\0\0\0",
-    )?;
-    bytes.extend_from_slice(&[b'0'.saturating_add(cue), 0, 0, 0])?;
-    for device in first..first.saturating_add(u32::from(WIDTH)) {
-        bytes.extend_from_slice(&device.to_be_bytes())?;
-        bytes.extend_from_slice(&[0, 0, 0, 0])?;
+    // The number of a cue, as text: the first is 100, the last two are 200 and 101, and all others have 16 digits.
+    fn number(self, alloc: Global, cue: u32) -> Result<String, AllocError> {
+        let number = if cue == 0 {
+            100
+        } else if self.is_last(cue) {
+            101
+        } else if self.is_last(cue.saturating_add(1)) {
+            200
+        } else {
+            u64::from(cue).saturating_add(1_000_000_000_000_000)
+        };
+        Ok(format!(in alloc; "{number}")?)
     }
-    Ok(bytes)
-}
 
-/// The addresses at which the 256 cues are stood by.
-pub fn standby_addresses(alloc: Global) -> Result<Vec<Vec<u8>>, AllocError> {
-    let mut addresses = Vec::new(alloc);
-    for cue in 0..CUES {
-        let text = cue_text(alloc, cue)?;
-        let address = format!(in alloc; "/cue/{text}/standby")?;
-        addresses.push(address.into_bytes())?;
-    }
-    Ok(addresses)
-}
-
-// Takes one datagram, and forgets what is owed for it.
-fn take(engine: &mut Engine<MemDisk>, bytes: &[u8]) -> bool {
-    engine
-        .take(0, Input::Datagram { from: 8000, bytes })
-        .is_ok()
-}
-
-/// A show without a device, on two disks in memory.
-pub fn empty(alloc: Global) -> Option<Engine<MemDisk>> {
-    match Engine::form(alloc, MemDisk::new(alloc), MemDisk::new(alloc)) {
-        Ok(engine) => Some(engine),
-        Err(_) => None,
-    }
-}
-
-// Drops a show. It stands apart, since what is dropped fills the goals of the function around it.
-pub fn let_go(_engine: Engine<MemDisk>) {}
-
-// Adds the devices below this number, and then the cues.
-fn fill(alloc: Global, engine: &mut Engine<MemDisk>) -> Result<bool, AllocError> {
-    let mut all = true;
-    for device in 0..DEVICES {
-        if !take(engine, &add_device(alloc, device)?) {
-            all = false;
+    // The first of the 16 devices of a cue.
+    fn first_device(self, cue: u32) -> u8 {
+        let behind = self.devices.saturating_sub(PARTS);
+        if self.is_last(cue) {
+            return behind;
         }
+        let turn = cue.checked_rem(u32::from(behind / PARTS)).unwrap_or(0);
+        u8::try_from(turn).unwrap_or(0).saturating_mul(PARTS)
     }
-    for cue in 0..CUES {
-        if !take(engine, &add_cue(alloc, cue)?) {
+
+    // What makes a cue; each second one has optional parts.
+    fn cue(self, alloc: Global, cue: u32) -> Result<Vec<u8>, AllocError> {
+        let number = self.number(alloc, cue)?;
+        add_cue(
+            alloc,
+            NewCue {
+                number: number.as_bytes(),
+                first: self.first_device(cue),
+                parts: PARTS,
+                bytes: BYTES,
+                is_mixed: cue % 2 == 1,
+            },
+        )
+    }
+
+    /// The addresses at which the cues are stood by.
+    pub fn standby_addresses(self, alloc: Global) -> Result<Vec<Vec<u8>>, AllocError> {
+        let mut addresses = Vec::new(alloc);
+        for cue in 0..self.cues {
+            let number = self.number(alloc, cue)?;
+            let address = format!(in alloc; "/cue/{number}/standby")?;
+            addresses.push(address.into_bytes())?;
+        }
+        Ok(addresses)
+    }
+}
+
+// Adds so many devices; whether all were made.
+fn add_devices<D: Disk>(
+    alloc: Global,
+    served: &mut Served<D>,
+    devices: u8,
+) -> Result<bool, AllocError> {
+    let mut all = true;
+    for device in 0..devices {
+        if !served.make(OPERATOR, &add_device(alloc, device)?) {
             all = false;
         }
     }
     Ok(all)
 }
 
-// Adds one device and two cues.
-fn fill_little(alloc: Global, engine: &mut Engine<MemDisk>) -> Result<bool, AllocError> {
-    let device = take(engine, &add_device(alloc, 0)?);
-    let first = take(engine, &add_cue(alloc, 0)?);
-    let second = take(engine, &add_cue(alloc, 112)?);
-    Ok(device && first && second)
-}
-
-// Adds so many cues of 13 devices each, and their devices before them.
-fn fill_wide(alloc: Global, engine: &mut Engine<MemDisk>, cues: u8) -> Result<bool, AllocError> {
+/// Sends each datagram; whether each made one command.
+pub fn make_each<D: Disk>(served: &mut Served<D>, datagrams: &[Vec<u8>]) -> bool {
     let mut all = true;
-    let mut first = 0;
-    for device in 0..cues.saturating_mul(WIDTH) {
-        if !take(engine, &add_device(alloc, device)?) {
+    for datagram in datagrams {
+        if !served.make(OPERATOR, datagram.as_slice()) {
             all = false;
         }
     }
-    for cue in 0..cues {
-        if !take(engine, &add_wide_cue(alloc, cue, first)?) {
+    all
+}
+
+// Adds the devices of a show, and then its cues.
+fn fill<D: Disk>(alloc: Global, served: &mut Served<D>, size: Size) -> Result<bool, AllocError> {
+    let mut all = add_devices(alloc, served, size.devices)?;
+    for cue in 0..size.cues {
+        if !served.make(OPERATOR, &size.cue(alloc, cue)?) {
             all = false;
         }
-        first = first.saturating_add(u32::from(WIDTH));
+    }
+    Ok(all)
+}
+
+// Adds so many cues of 13 devices each, and their devices before them.
+fn fill_wide(
+    alloc: Global,
+    served: &mut Remembered,
+    cues: u8,
+    is_mixed: bool,
+) -> Result<bool, AllocError> {
+    let mut all = add_devices(alloc, served, cues.saturating_mul(WIDTH))?;
+    for cue in 0..cues {
+        let added = add_cue(
+            alloc,
+            NewCue {
+                number: &[b'0'.saturating_add(cue)],
+                first: cue.saturating_mul(WIDTH),
+                parts: WIDTH,
+                bytes: b"",
+                is_mixed,
+            },
+        )?;
+        if !served.make(OPERATOR, &added) {
+            all = false;
+        }
     }
     Ok(all)
 }
 
 // The show, where it was filled.
-fn if_filled(engine: Engine<MemDisk>, filled: bool) -> Option<Engine<MemDisk>> {
+fn if_filled<D: Disk + Drop>(served: Served<D>, filled: bool) -> Option<Served<D>> {
     if filled {
-        Some(engine)
+        Some(served)
     } else {
-        let_go(engine);
+        let_go(served);
         None
     }
 }
 
-/// A show of 112 devices and 256 cues; None where it was not made.
-pub fn full(alloc: Global) -> Option<Engine<MemDisk>> {
-    match empty(alloc) {
-        Some(mut engine) => {
-            let filled = fill(alloc, &mut engine);
-            if_filled(engine, filled == Ok(true))
-        }
-        None => None,
-    }
+/// A show without a device.
+pub fn empty(alloc: Global) -> Option<Remembered> {
+    formed(alloc, ForgetfulDisk::new(alloc), ForgetfulDisk::new(alloc))
 }
 
-/// A show of one device and two cues; None where it was not made.
-pub fn small(alloc: Global) -> Option<Engine<MemDisk>> {
-    match empty(alloc) {
-        Some(mut engine) => {
-            let filled = fill_little(alloc, &mut engine);
-            if_filled(engine, filled == Ok(true))
-        }
-        None => None,
-    }
+/// A show of this size on these disks; None where it was not made.
+pub fn made_on<D: Disk + Drop>(
+    alloc: Global,
+    size: Size,
+    first: D,
+    second: D,
+) -> Option<Served<D>> {
+    let mut served = formed(alloc, first, second)?;
+    let filled = fill(alloc, &mut served, size);
+    if_filled(served, filled == Ok(true))
 }
 
-/// A show of so many cues, at most 8, of 13 devices each; None where it was not made.
-pub fn wide(alloc: Global, cues: u8) -> Option<Engine<MemDisk>> {
-    match empty(alloc) {
-        Some(mut engine) => {
-            let filled = fill_wide(alloc, &mut engine, cues);
-            if_filled(engine, filled == Ok(true))
-        }
-        None => None,
+/// A show of this size; None where it was not made.
+pub fn made(alloc: Global, size: Size) -> Option<Remembered> {
+    let first = ForgetfulDisk::new(alloc);
+    let second = ForgetfulDisk::new(alloc);
+    made_on(alloc, size, first, second)
+}
+
+/// A show of so many cues, at most 8, of 13 devices each; where it is mixed all but the last of them are optional. None
+/// where it was not made.
+pub fn wide(alloc: Global, cues: u8, is_mixed: bool) -> Option<Remembered> {
+    let mut served = empty(alloc)?;
+    let filled = fill_wide(alloc, &mut served, cues, is_mixed);
+    if_filled(served, filled == Ok(true))
+}
+
+/// What makes so many cues with numbers from 100 on, and one part of four bytes for device 0.
+pub fn short_cues(alloc: Global, cues: u32) -> Result<Vec<Vec<u8>>, AllocError> {
+    let mut datagrams = Vec::new(alloc);
+    for cue in 0..cues {
+        let text = cue.saturating_add(100);
+        let number = format!(in alloc; "{text}")?;
+        let added = add_cue(
+            alloc,
+            NewCue {
+                number: number.as_bytes(),
+                first: 0,
+                parts: 1,
+                bytes: b"abcd",
+                is_mixed: false,
+            },
+        )?;
+        datagrams.push(added)?;
     }
+    Ok(datagrams)
+}
+
+// Adds one device and such cues.
+fn fill_short(alloc: Global, served: &mut Remembered, cues: u32) -> Result<bool, AllocError> {
+    let device = add_devices(alloc, served, 1)?;
+    let all = make_each(served, &short_cues(alloc, cues)?);
+    Ok(device && all)
+}
+
+/// A show of one device and such cues; None where it was not made.
+pub fn short(alloc: Global, cues: u32) -> Option<Remembered> {
+    let mut served = empty(alloc)?;
+    let filled = fill_short(alloc, &mut served, cues);
+    if_filled(served, filled == Ok(true))
 }

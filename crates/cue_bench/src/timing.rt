@@ -9,14 +9,19 @@ const ROUNDS: usize = 7;
 
 /// Something that is measured.
 pub trait Work {
+    /// What goes before a round, outside of its time; whether it went as it is meant to.
+    fn prepare(&mut self) -> bool {
+        true
+    }
+
     /// One call; whether it went as it is meant to.
     fn once(&mut self) -> bool;
 }
 
 // The nanoseconds of one call, taken over many; None where one of them did not go as it is meant to.
 fn round<R: Clock, W: Work>(rt: &R, calls: u32, work: &mut W) -> io::Result<Option<u64>> {
+    let mut went = work.prepare();
     let start = Instant::now(rt)?;
-    let mut went = true;
     for _ in 0..calls {
         if !work.once() {
             went = false;
@@ -30,7 +35,7 @@ fn round<R: Clock, W: Work>(rt: &R, calls: u32, work: &mut W) -> io::Result<Opti
     }
 }
 
-/// Prints the best and the median of seven rounds of so many calls, where the word asks for this measure.
+/// Prints the best and the median of seven rounds of so many calls.
 pub fn time<R: Clock + Print + AllocGlobal, W: Work>(
     rt: &R,
     name: &str,
@@ -43,12 +48,24 @@ pub fn time<R: Clock + Print + AllocGlobal, W: Work>(
             rounds.push(nanos)?;
         }
     }
+    if rounds.len() < ROUNDS {
+        return say_wrong(rt, name);
+    }
     rounds.sort_unstable();
     match (rounds.first(), rounds.get(ROUNDS / 2)) {
         (Some(best), Some(median)) => {
-            println!(rt; "{name}: best {best} ns, median {median} ns a call")?;
+            println!(rt; "{name}: best {best} ns, median {median} ns a call")
         }
-        _ => println!(rt; "{name}: a call did not go as it is meant to")?,
+        _ => say_wrong(rt, name),
     }
-    Ok(())
+}
+
+/// Whether a word asks for this measure.
+pub fn is_asked(word: &str, measure: &str) -> bool {
+    word == "all" || word == measure
+}
+
+/// Prints that a measure has no time.
+pub fn say_wrong<R: Print>(rt: &R, name: &str) -> io::Result<()> {
+    println!(rt; "{name}: a call did not go as it is meant to")
 }

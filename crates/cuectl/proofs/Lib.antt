@@ -1,3 +1,6 @@
+mod ClapRows
+mod ClapWalk
+mod CommandLemmas
 mod LineLemmas
 mod RunLemmas
 mod ScriptLemmas

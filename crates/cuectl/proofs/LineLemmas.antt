@@ -1,7 +1,7 @@
 -- Reading what clap matched.
-use Rattle.std.proofs.Common.{◌≡◌, ℕ, ◌<◌, ◌^◌, Bool, true, false, ◌||◌, List, Option, Some, None, Result, Ok, Err, ◌∙◌, sym, refl, ap, subst, ◌⊎◌, inl, inr, OnOk}
-use Rattle.std.specs.Str.Parse.{ParsesUnsigned, IsNumeral, digits_value, without_leading_plus}
-use Rattle.clap.specs.Words.{ReadsOne, one_text, one_of, rows_of, Text, Kinds, IsAmong}
+use Rattle.std.proofs.Common.{◌≡◌, ℕ, ◌<◌, ◌^◌, List, Option, Some, None, Result, Ok, Err, ◌∙◌, sym, refl, ap, subst, ◌⊎◌, inl, inr, OnOk}
+use Rattle.std.specs.Str.Parse.{ParsesUnsigned}
+use Rattle.clap.specs.Words.{ReadsOne, one_text, rows_of, Text, Kinds, IsAmong}
 use Rattle.clap.specs.declared.parser.matches.Found.{Found}
 use Rattle.clap.proofs.WalkLemmas.{one_text-rows}
 use Rattle.clap.specs.declared.error.kind.ErrorKind.{ErrorKind}

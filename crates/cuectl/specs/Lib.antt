@@ -11,3 +11,4 @@ pub mod ShowText
 pub mod Sources
 pub mod Streams
 pub mod Udp
+pub mod Unread

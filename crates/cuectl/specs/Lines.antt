@@ -1,5 +1,5 @@
 -- The commands as clap knows them, and what a line says of the one that it matched.
-use Rattle.std.specs.Prelude.{◌≡◌, ◌⊎◌, ℕ, ◌≤◌, ◌<◌, ◌^◌, pos, Bool, List, ◌∷◌, [], Option, Some, None, true, false, codes, string_bytes}
+use Rattle.std.specs.Prelude.{◌≡◌, ◌⊎◌, ℕ, ◌≤◌, ◌<◌, ◌^◌, pos, Bool, List, Option, Some, None, true, false, codes, string_bytes}
 use Rattle.std.specs.Str.Parse.{IsNumeral, digits_value, without_leading_plus}
 use Rattle.clap.specs.Words.{App, Rule, Row, Text, new_app, new_rule, with_rule, with_subcommand, first_of, one_of}
 use Rattle.clap.specs.Words.{Kinds, IsAmong}
@@ -67,18 +67,6 @@ AreTurnsIn rows turns = IsNumberIn (codes "turns") rows turns × (turns < 2 ^ 64
 abbrev pub IsDirIn : List Row → Text → Type 0
 IsDirIn rows dir = first_of (codes "DIR") rows ≡ Some dir
 
--- no folder stands there
-abbrev pub LacksDir : List Row → Type 0
-LacksDir rows = first_of (codes "DIR") rows ≡ None
-
--- no port stands there that can be listened on
-abbrev pub LacksPort : List Row → Type 0
-LacksPort rows = (port : ℕ) → IsPortIn rows port → ⊥
-
--- no number of turns stands there
-abbrev pub LacksTurns : List Row → Type 0
-LacksTurns rows = (turns : ℕ) → AreTurnsIn rows turns → ⊥
-
 -- the line is the command that was matched, with what stands there
 abbrev pub IsLine : Text × List Row → Line → Type 0
 IsLine found (Form dir) = (found.0 ≡ codes "form") × IsDirIn found.1 (string_bytes dir)
@@ -87,22 +75,15 @@ IsLine found (Serve dir port turns) = (found.0 ≡ codes "serve") × IsDirIn fou
 IsLine found (Show dir) = (found.0 ≡ codes "show") × IsDirIn found.1 (string_bytes dir)
 IsLine found Script = found.0 ≡ codes "script"
 
--- Helper: what was matched is no line: it has another name, or lacks what a command of its name has.
-pub record IsNoLine (found : Text × List Row) : Type 0 where
-  pub form : found.0 ≡ codes "form" → LacksDir found.1
-  pub serve : found.0 ≡ codes "serve" → LacksDir found.1 ⊎ LacksPort found.1 ⊎ LacksTurns found.1
-  pub show : found.0 ≡ codes "show" → LacksDir found.1
-  pub script : found.0 ≡ codes "script" → ⊥
-
--- no command was matched that is a line
-abbrev pub IsNoLineOf : Option (Text × List Row) → Type 0
-IsNoLineOf (Some found) = IsNoLine found
-IsNoLineOf None = Unit {0}
-
 -- and there is such a command
 abbrev pub IsLineOf : Option (Text × List Row) → Line → Type 0
 IsLineOf (Some found) line = IsLine found line
 IsLineOf None line = ⊥
+
+-- the words name the command serve with the port 0
+abbrev pub HasPortZero : Option (Text × List Row) → Type 0
+HasPortZero (Some found) = (found.0 ≡ codes "serve") × IsNumberIn (codes "port") found.1 0
+HasPortZero None = ⊥
 
 -- it is the text that was asked for
 abbrev pub IsHelp : LineFault → Type 0

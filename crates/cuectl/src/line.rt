@@ -8,11 +8,7 @@ ghost use Rattle.cuectl.specs.Lines.{
   IsDirIn,
   IsPortIn,
   AreTurnsIn,
-  LacksDir,
-  LacksPort,
-  LacksTurns,
-  IsNoLine,
-  IsNoLineOf,
+  HasPortZero,
   IsRefused,
   IsLine,
   IsLineOf,
@@ -21,7 +17,7 @@ ghost use Rattle.cuectl.specs.Lines.{
   AsksForText,
   cuectl_app,
 };
-
+ghost use Rattle.cuectl.specs.Unread.{LacksDir, LacksPort, LacksTurns, IsNoLine};
 ghost use Rattle.cuectl.specs.declared.line.words.LineFault.TheVariants.{Usage};
 
 pub mod words;
@@ -177,8 +173,9 @@ pub fn line(alloc: Global, words: &[String]) -> Result<words::Line, LineFault>
     ensures line { IfOk result (λ line. IsLineOf (subcommand_of cuectl_app (map string_bytes words.now)) line) }
     // Words at which clap stops are no command, and words that ask for help or for the version are told apart.
     ensures taken { OnOk result (fault_of cuectl_app (map string_bytes words.now) ≡ []) }
-    // They are refused only where clap stops, or no line was matched.
-    ensures usage { IsErrOf result Usage → IsRefused (fault_of cuectl_app (map string_bytes words.now)) ⊎ IsNoLineOf (subcommand_of cuectl_app (map string_bytes words.now)) }
+    // They are refused only where clap stops for another reason, where they name no command, or where the port is 0.
+    ensures usage { IsErrOf result Usage → IsRefused (fault_of cuectl_app (map string_bytes words.now))
+        ⊎ (subcommand_of cuectl_app (map string_bytes words.now) ≡ None) ⊎ HasPortZero (subcommand_of cuectl_app (map string_bytes words.now)) }
     ensures help { IfErr result (λ fault. IsHelp fault → AsksForText (fault_of cuectl_app (map string_bytes words.now))) }
 {
     let command = cuectl(alloc)?;

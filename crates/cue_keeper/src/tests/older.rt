@@ -48,6 +48,14 @@ const MIXED: [u8; 30] = [
     0, // the last gate
 ];
 
+// The older area with these records: its last gate is open now.
+fn mixed_area(alloc: Global) -> Result<Vec<u8>, AllocError> {
+    let mut bytes = Vec::from_slice(alloc, &OLD_TURNED)?;
+    let _gate = bytes.pop();
+    bytes.extend_from_slice(&MIXED)?;
+    Ok(bytes)
+}
+
 fn mixed_cue(alloc: Global) -> Result<Event, Fail> {
     let other = DeviceNo::of_byte(4).ok_or("a device number")?;
     let mut parts = Parts::new(alloc);
@@ -68,8 +76,7 @@ fn an_older_area_takes_an_optional_part(rt: HostRuntime) -> Result<(), Fail> {
     let kept = accept_on(alloc, kept.first, kept.second, mixed_cue(alloc)?)?;
     assert_eq!(rt; kept.answer, Ok(()));
     assert_eq!(rt; kept.first.bytes(), older.as_slice());
-    assert_eq!(rt; &kept.second.bytes()[..52], &OLD_TURNED[..52]);
-    assert_eq!(rt; &kept.second.bytes()[52..], MIXED.as_slice());
+    assert_eq!(rt; kept.second.bytes(), mixed_area(alloc)?.as_slice());
 
     // A third cue of the older kind, and the store is opened once more.
     let kept = accept_on(alloc, kept.first, kept.second, new_cue(alloc, b"4")?)?;

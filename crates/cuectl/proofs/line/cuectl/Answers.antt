@@ -1,7 +1,7 @@
-use Rattle.std.proofs.Common.{rules, ap, ap₂, refl, codes, true, false, List, ◌≡◌, ◌∙◌}
+use Rattle.std.proofs.Common.{ap, ap₂, codes, true, ◌≡◌, ◌∙◌}
 use Rattle.std.proofs.lemmas.Result.{IfOk-weaker}
 use Rattle.clap.specs.Words.{App, app_of, new_app, with_rule, with_subcommand}
-use Rattle.cuectl.specs.Lines.{form_app, serve_app, show_app, script_app, bare_app, cuectl_app}
+use Rattle.cuectl.specs.Lines.{form_app, serve_app, show_app, script_app, bare_app}
 use Rattle.cuectl.proofs.line.cuectl.Goals as goal
 
 abbrev with_version : App → App

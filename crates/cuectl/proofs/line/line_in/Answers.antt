@@ -1,5 +1,4 @@
-use Rattle.std.proofs.Common.{◌≡◌, ◌∙◌, List, ℕ, inl, inr, sym, refl, codes, rules}
-use Rattle.cuectl.specs.Lines.{IsNoLine}
+use Rattle.std.proofs.Common.{◌≡◌, ◌∙◌, inl, inr, sym, codes, rules}
 use Rattle.cuectl.proofs.line.line_in.Goals as goal
 
 pub returns-in_err-port-clause-usage : goal.returns-in_err-port-clause-usage

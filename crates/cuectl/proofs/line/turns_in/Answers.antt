@@ -1,4 +1,4 @@
-use Rattle.std.proofs.Common.{codes, arith, ◌≡◌, ℕ, List, Option, Some, None, Result, sym, ◌∙◌}
+use Rattle.std.proofs.Common.{codes, ◌≡◌, Some, None, sym, ◌∙◌}
 use Rattle.std.specs.Str.Parse.{ParsesUnsigned, ExplainsUnsignedError, HasUnsignedDigitsIfOk}
 use Rattle.clap.specs.Words.{found_of}
 use Rattle.cuectl.proofs.LineLemmas.{number_in, number_read}

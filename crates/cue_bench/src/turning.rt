@@ -1,0 +1,264 @@
+//! What a turn-over takes, and beside it what its writes and syncs take alone: in memory, and on files.
+use crate::forgetful::ForgetfulDisk;
+use crate::raw::Raw;
+use crate::served::{Served, let_go};
+use crate::shows::{self, FULL, SMALL, Size};
+use crate::timing::{Work, is_asked, say_wrong, time};
+use cue_disk::{Disk, DiskFault, FileDisk, FileFault};
+use cue_records::write_state;
+use std::alloc::AllocGlobal;
+use std::fs::{File, Files};
+use std::io;
+use std::io::Print;
+use std::time::Clock;
+
+// The measures over one show.
+#[derive(Clone, Copy)]
+struct Names {
+    size: Size,
+    // a made command between two turn-overs
+    append: &'static str,
+    turn_over: &'static str,
+    // the calls of the disks that a turn-over makes, alone
+    calls: &'static str,
+    // the state's text and the record, each written and synced
+    two_writes: &'static str,
+}
+
+const IN_MEMORY: [Names; 2] = [
+    Names {
+        size: FULL,
+        append: "append_goto",
+        turn_over: "turn_over",
+        calls: "turn_over_calls",
+        two_writes: "two_writes",
+    },
+    Names {
+        size: SMALL,
+        append: "append_goto_small",
+        turn_over: "turn_over_small",
+        calls: "turn_over_calls_small",
+        two_writes: "two_writes_small",
+    },
+];
+
+const ON_FILES: Names = Names {
+    size: FULL,
+    append: "append_goto on files",
+    turn_over: "turn_over on files",
+    calls: "turn_over_calls on files",
+    two_writes: "two_writes on files",
+};
+
+// How many records behind the first one an area has when it turns over.
+const APPENDS: u32 = 255;
+
+// A closed gate and an open one.
+const CLOSED: &[u8] = b"\0";
+
+const OPEN: &[u8] = b"\x01";
+
+// A generation and a length.
+const HEADER: &[u8] = b"\0\0\0\0\0\0\0\x02\0\x09\x09\x09";
+
+// What stands behind the gate of a record that goes to a cue: length, batch and the next gate.
+const RECORD: &[u8] = b"\0\0\0\x07\0\x01\x05\x03100\0";
+
+// A command that is made, while the area does not turn over.
+#[derive(Drop)]
+struct Append<'a, D: Disk> {
+    served: &'a mut Served<D>,
+}
+
+impl<'a, D: Disk> Work for Append<'a, D> {
+    fn prepare(&mut self) -> bool {
+        self.served.start_area()
+    }
+
+    fn once(&mut self) -> bool {
+        self.served.go_on()
+    }
+}
+
+// A command that is made, and turns the area over.
+#[derive(Drop)]
+struct TurnOver<'a, D: Disk> {
+    served: &'a mut Served<D>,
+}
+
+impl<'a, D: Disk> Work for TurnOver<'a, D> {
+    fn prepare(&mut self) -> bool {
+        self.served.fill_area()
+    }
+
+    fn once(&mut self) -> bool {
+        self.served.go_on()
+    }
+}
+
+// The calls of a turn-over, on a disk without a show: seven writes and five syncs.
+#[derive(Drop)]
+struct Calls<'a, D> {
+    disk: &'a mut D,
+    text: &'a [u8],
+}
+
+impl<'a, D: Raw> Calls<'a, D> {
+    // Closes the older area, writes the new one behind its gate, and opens it.
+    fn form(&mut self, end: u64) -> Result<(), DiskFault> {
+        self.disk.store(0, CLOSED)?;
+        self.disk.settle()?;
+        self.disk.store(1, HEADER)?;
+        self.disk.store(13, self.text)?;
+        self.disk.store(end, CLOSED)?;
+        self.disk.settle()?;
+        self.disk.store(0, OPEN)?;
+        self.disk.settle()
+    }
+
+    // Writes the record behind its gate, and opens it.
+    fn append(&mut self, end: u64) -> Result<(), DiskFault> {
+        self.disk.store(end.saturating_add(1), RECORD)?;
+        self.disk.settle()?;
+        self.disk.store(end, OPEN)?;
+        self.disk.settle()
+    }
+
+    fn turn_over(&mut self) -> Result<(), DiskFault> {
+        let end = (self.text.len() as u64).saturating_add(13);
+        self.form(end)?;
+        self.append(end)
+    }
+}
+
+impl<'a, D: Raw> Work for Calls<'a, D> {
+    fn once(&mut self) -> bool {
+        self.turn_over().is_ok()
+    }
+}
+
+// The text of a state and a record, each written and synced.
+#[derive(Drop)]
+struct TwoWrites<'a, D> {
+    disk: &'a mut D,
+    text: &'a [u8],
+}
+
+impl<'a, D: Raw> TwoWrites<'a, D> {
+    fn write(&mut self) -> Result<(), DiskFault> {
+        self.disk.store(0, self.text)?;
+        self.disk.settle()?;
+        self.disk.store(self.text.len() as u64, RECORD)?;
+        self.disk.settle()
+    }
+}
+
+impl<'a, D: Raw> Work for TwoWrites<'a, D> {
+    fn once(&mut self) -> bool {
+        self.write().is_ok()
+    }
+}
+
+// What is measured on a disk without a show.
+fn measure_alone<R: Clock + Print + AllocGlobal, D: Raw>(
+    rt: &R,
+    word: &str,
+    names: Names,
+    disk: &mut D,
+    text: &[u8],
+) -> io::Result<()> {
+    if is_asked(word, names.calls) {
+        time(rt, names.calls, 1, &mut Calls { disk, text })?;
+    }
+    if is_asked(word, names.two_writes) {
+        time(rt, names.two_writes, 1, &mut TwoWrites { disk, text })?;
+    }
+    Ok(())
+}
+
+// What is measured on the disks of a show.
+fn measure_served<R: Clock + Print + AllocGlobal, D: Disk>(
+    rt: &R,
+    word: &str,
+    names: Names,
+    served: &mut Served<D>,
+) -> io::Result<()> {
+    if is_asked(word, names.append) {
+        time(rt, names.append, APPENDS, &mut Append { served })?;
+    }
+    if is_asked(word, names.turn_over) {
+        time(rt, names.turn_over, 1, &mut TurnOver { served })?;
+    }
+    Ok(())
+}
+
+// All of it: a show on two disks, and the same bytes on a third one.
+fn measure_on<R: Clock + Print + AllocGlobal, D: Disk + Raw + Drop>(
+    rt: &R,
+    word: &str,
+    names: Names,
+    first: D,
+    second: D,
+    alone: D,
+) -> io::Result<()> {
+    let mut alone = alone;
+    match shows::made_on(rt.alloc(), names.size, first, second) {
+        Some(mut served) => {
+            let measured = measure_served(rt, word, names, &mut served);
+            let text = write_state(rt.alloc(), served.state());
+            let_go(served);
+            measured?;
+            measure_alone(rt, word, names, &mut alone, text?.as_slice())
+        }
+        None => say_wrong(rt, names.turn_over),
+    }
+}
+
+impl Names {
+    // Whether the word asks for one of the measures.
+    fn has(self, word: &str) -> bool {
+        is_asked(word, self.append)
+            || is_asked(word, self.turn_over)
+            || is_asked(word, self.calls)
+            || is_asked(word, self.two_writes)
+    }
+}
+
+/// Prints the measures that this word names: of turn-overs in memory.
+pub fn measure<R: Clock + Print + AllocGlobal>(rt: &R, word: &str) -> io::Result<()> {
+    let alloc = rt.alloc();
+    for names in IN_MEMORY {
+        if names.has(word) {
+            let first = ForgetfulDisk::new(alloc);
+            let second = ForgetfulDisk::new(alloc);
+            let third = ForgetfulDisk::new(alloc);
+            measure_on(rt, word, names, first, second, third)?;
+        }
+    }
+    Ok(())
+}
+
+// A file of the folder.
+fn file_in<R: Files<File = File> + AllocGlobal>(
+    rt: &R,
+    folder: &str,
+    name: &str,
+) -> io::Result<FileDisk> {
+    let path = format!(in rt.alloc(); "{folder}/{name}")?;
+    match FileDisk::create(rt, &path) {
+        Ok(disk) => Ok(disk),
+        Err(FileFault::Io(error)) => Err(error),
+        Err(FileFault::NotFound) => Err(io::ErrorKind::NotFound.into()),
+    }
+}
+
+/// Prints what turn-overs take on two new files of this folder, and what the same bytes take on a third one.
+pub fn measure_files<R>(rt: &R, folder: &str) -> io::Result<()>
+where
+    R: Clock + Print + AllocGlobal + Files<File = File>,
+{
+    let first = file_in(rt, folder, "a.area")?;
+    let second = file_in(rt, folder, "b.area")?;
+    let alone = file_in(rt, folder, "alone")?;
+    measure_on(rt, "all", ON_FILES, first, second, alone)
+}

@@ -1,5 +1,5 @@
-//! The log of the evening: a line on standard error for each reply that made or refused something, for each command when
-//! it is first sent, and for each attempt that hangs on one device when it begins.
+//! The log of the evening: a line on standard error for each reply that made or refused something, for each command
+//! when it is first sent, and for each attempt that hangs on one device when it begins.
 pub mod alone;
 pub mod code_words;
 pub mod entry;

@@ -148,9 +148,9 @@ fn run_turns<D: Disk, S: Source, W: Wire, V: Watch>(
     }
 }
 
-/// Hands out what is owed, and then takes at most so many inputs, handing out after each what it owes. It ends at its turns,
-/// where the source ends, or at the first fault; nothing is handed out for an input that was not taken. After each input that
-/// was taken `watch` looks at the state.
+/// Hands out what is owed, and then takes at most so many inputs, handing out after each what it owes. It ends at its
+/// turns, where the source ends, or at the first fault; nothing is handed out for an input that was not taken. After
+/// each input that was taken `watch` looks at the state.
 pub fn run_watched<D: Disk, S: Source, W: Wire, V: Watch>(
     alloc: Global,
     engine: &mut Engine<D>,
@@ -159,7 +159,8 @@ pub fn run_watched<D: Disk, S: Source, W: Wire, V: Watch>(
     turns: u64,
     watch: &mut V,
 ) -> Ended
-    // What was taken is what the source gave first, the state and the wire are what the definition makes of it, and it ended for its reason.
+    // What was taken is what the source gave first, the state and the wire are what the definition makes of it, and it
+    // ended for its reason.
     ensures ran { Ran BUFFER (S.left source.old) (state_of engine.old) (queue_of engine.old) (W.told wire.old) turns result.turns result.unsent result.fault
         (S.left source.new) (state_of engine.new) (W.told wire.new)
         (λ after. D.is_honest (first_of engine.old) → D.is_honest (second_of engine.old) → StandsAs (D.held (first_of engine.old)) (D.held (second_of engine.old)) (state_of engine.old)
@@ -183,8 +184,9 @@ pub fn run_watched<D: Disk, S: Source, W: Wire, V: Watch>(
     }
 }
 
-/// Hands out what is owed, and then takes at most so many inputs, handing out after each what it owes. It ends at its turns,
-/// where the source ends, or at the first fault; nothing is handed out for an input that was not taken. Nobody looks on.
+/// Hands out what is owed, and then takes at most so many inputs, handing out after each what it owes. It ends at its
+/// turns, where the source ends, or at the first fault; nothing is handed out for an input that was not taken. Nobody
+/// looks on.
 pub fn run<D: Disk, S: Source, W: Wire>(
     alloc: Global,
     engine: &mut Engine<D>,
@@ -192,7 +194,8 @@ pub fn run<D: Disk, S: Source, W: Wire>(
     wire: &mut W,
     turns: u64,
 ) -> Ended
-    // What was taken is what the source gave first, the state and the wire are what the definition makes of it, and it ended for its reason.
+    // What was taken is what the source gave first, the state and the wire are what the definition makes of it, and it
+    // ended for its reason.
     ensures ran { Ran BUFFER (S.left source.old) (state_of engine.old) (queue_of engine.old) (W.told wire.old) turns result.turns result.unsent result.fault
         (S.left source.new) (state_of engine.new) (W.told wire.new)
         (λ after. D.is_honest (first_of engine.old) → D.is_honest (second_of engine.old) → StandsAs (D.held (first_of engine.old)) (D.held (second_of engine.old)) (state_of engine.old)

@@ -53,8 +53,8 @@ fn alone_required(answers: &Answers) -> Option<DeviceNo>
     }
 }
 
-/// The device that alone is required of an attempt that is Preparing and began after the one with this number, where other
-/// devices of it are optional.
+/// The device that alone is required of an attempt that is Preparing and began after the one with this number, where
+/// other devices of it are optional.
 pub fn named(last: u32, attempt: &Attempt) -> Option<DeviceNo>
     ensures { result ≡ named last attempt.now }
 {
@@ -65,8 +65,8 @@ pub fn named(last: u32, attempt: &Attempt) -> Option<DeviceNo>
     }
 }
 
-/// What a line says of an attempt, where the last one that was seen has this number; None where it has no line, or there is
-/// no memory for it.
+/// What a line says of an attempt, where the last one that was seen has this number; None where it has no line, or
+/// there is no memory for it.
 pub fn standby_line(alloc: Global, last: u32, attempt: &Attempt) -> Option<String> {
     let device = named(last, attempt)?.number();
     let cue = attempt.cue.text().escape_ascii();

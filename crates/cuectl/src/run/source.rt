@@ -5,7 +5,8 @@ ghost use Rattle.cuectl.specs.Sources.{Answer, gave, IsWithin, GaveAll};
 use std::error::Error;
 use std::fmt;
 
-/// What a source gives: one datagram or one tick, at a moment in milliseconds since 1970, or that nothing comes any more.
+/// What a source gives: one datagram or one tick, at a moment in milliseconds since 1970, or that nothing comes any
+/// more.
 #[derive(Clone, Copy, Debug, PartialEq, Eq)]
 pub enum Turn {
     End,

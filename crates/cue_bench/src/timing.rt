@@ -1,11 +1,11 @@
 //! How long one call takes: the best and the median of several rounds.
-use std::alloc::AllocGlobal;
+use std::alloc::{AllocGlobal, Global};
 use std::io;
 use std::io::Print;
 use std::time::{Clock, Instant};
 
 /// How often all is measured.
-const ROUNDS: usize = 7;
+pub const ROUNDS: usize = 7;
 
 /// Something that is measured.
 pub trait Work {
@@ -35,6 +35,43 @@ fn round<R: Clock, W: Work>(rt: &R, calls: u32, work: &mut W) -> io::Result<Opti
     }
 }
 
+/// The times of several rounds.
+#[derive(Drop)]
+pub struct Rounds {
+    nanos: Vec<u64>,
+}
+
+impl Rounds {
+    /// No round yet.
+    pub fn new(alloc: Global) -> Rounds {
+        Rounds {
+            nanos: Vec::new(alloc),
+        }
+    }
+
+    /// Measures one round of so many calls.
+    pub fn add<R: Clock, W: Work>(&mut self, rt: &R, calls: u32, work: &mut W) -> io::Result<()> {
+        if let Some(nanos) = round(rt, calls, work)? {
+            self.nanos.push(nanos)?;
+        }
+        Ok(())
+    }
+
+    /// Prints the best and the median.
+    pub fn print<R: Print>(&mut self, rt: &R, name: &str) -> io::Result<()> {
+        if self.nanos.len() < ROUNDS {
+            return say_wrong(rt, name);
+        }
+        self.nanos.sort_unstable();
+        match (self.nanos.first(), self.nanos.get(ROUNDS / 2)) {
+            (Some(best), Some(median)) => {
+                println!(rt; "{name}: best {best} ns, median {median} ns a call")
+            }
+            _ => say_wrong(rt, name),
+        }
+    }
+}
+
 /// Prints the best and the median of seven rounds of so many calls.
 pub fn time<R: Clock + Print + AllocGlobal, W: Work>(
     rt: &R,
@@ -42,22 +79,11 @@ pub fn time<R: Clock + Print + AllocGlobal, W: Work>(
     calls: u32,
     work: &mut W,
 ) -> io::Result<()> {
-    let mut rounds = Vec::new(rt.alloc());
+    let mut rounds = Rounds::new(rt.alloc());
     for _ in 0..ROUNDS {
-        if let Some(nanos) = round(rt, calls, work)? {
-            rounds.push(nanos)?;
-        }
+        rounds.add(rt, calls, work)?;
     }
-    if rounds.len() < ROUNDS {
-        return say_wrong(rt, name);
-    }
-    rounds.sort_unstable();
-    match (rounds.first(), rounds.get(ROUNDS / 2)) {
-        (Some(best), Some(median)) => {
-            println!(rt; "{name}: best {best} ns, median {median} ns a call")
-        }
-        _ => say_wrong(rt, name),
-    }
+    rounds.print(rt, name)
 }
 
 /// Whether a word asks for this measure.

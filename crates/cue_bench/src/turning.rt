@@ -3,7 +3,7 @@ use crate::forgetful::ForgetfulDisk;
 use crate::raw::Raw;
 use crate::served::{Served, let_go};
 use crate::shows::{self, FULL, SMALL, Size};
-use crate::timing::{Work, is_asked, say_wrong, time};
+use crate::timing::{ROUNDS, Rounds, Work, is_asked, say_wrong, time};
 use cue_disk::{Disk, DiskFault, FileDisk, FileFault};
 use cue_records::write_state;
 use std::alloc::AllocGlobal;
@@ -19,9 +19,9 @@ struct Names {
     // a made command between two turn-overs
     append: &'static str,
     turn_over: &'static str,
-    // the calls of the disks that a turn-over makes, alone
+    // beside it: its writes and syncs alone
     calls: &'static str,
-    // the state's text and the record, each written and synced
+    // beside it: the state's text and the record, each written and synced
     two_writes: &'static str,
 }
 
@@ -159,35 +159,47 @@ impl<'a, D: Raw> Work for TwoWrites<'a, D> {
     }
 }
 
-// What is measured on a disk without a show.
-fn measure_alone<R: Clock + Print + AllocGlobal, D: Raw>(
+// Measures turn-overs, and the same bytes alone, in turn: so what else the disk has to do counts for each of them.
+fn measure_in_turn<R: Clock + Print + AllocGlobal, D: Disk + Raw>(
     rt: &R,
-    word: &str,
     names: Names,
-    disk: &mut D,
-    text: &[u8],
+    served: &mut Served<D>,
+    alone: &mut D,
 ) -> io::Result<()> {
-    if is_asked(word, names.calls) {
-        time(rt, names.calls, 1, &mut Calls { disk, text })?;
+    let mut turn_overs = Rounds::new(rt.alloc());
+    let mut calls = Rounds::new(rt.alloc());
+    let mut two_writes = Rounds::new(rt.alloc());
+    let text = write_state(rt.alloc(), served.state())?;
+    let text = text.as_slice();
+    for _ in 0..ROUNDS {
+        let served = &mut *served;
+        turn_overs.add(rt, 1, &mut TurnOver { served })?;
+        let disk = &mut *alone;
+        calls.add(rt, 1, &mut Calls { disk, text })?;
+        let disk = &mut *alone;
+        two_writes.add(rt, 1, &mut TwoWrites { disk, text })?;
     }
-    if is_asked(word, names.two_writes) {
-        time(rt, names.two_writes, 1, &mut TwoWrites { disk, text })?;
-    }
-    Ok(())
+    turn_overs.print(rt, names.turn_over)?;
+    calls.print(rt, names.calls)?;
+    two_writes.print(rt, names.two_writes)
 }
 
-// What is measured on the disks of a show.
-fn measure_served<R: Clock + Print + AllocGlobal, D: Disk>(
+// What is measured on the disks of a show, and on one without.
+fn measure_served<R: Clock + Print + AllocGlobal, D: Disk + Raw>(
     rt: &R,
     word: &str,
     names: Names,
     served: &mut Served<D>,
+    alone: &mut D,
 ) -> io::Result<()> {
     if is_asked(word, names.append) {
+        let served = &mut *served;
         time(rt, names.append, APPENDS, &mut Append { served })?;
     }
+    // So that there is a place, as in what a turn-over writes.
+    served.go_on();
     if is_asked(word, names.turn_over) {
-        time(rt, names.turn_over, 1, &mut TurnOver { served })?;
+        measure_in_turn(rt, names, served, alone)?;
     }
     Ok(())
 }
@@ -204,11 +216,9 @@ fn measure_on<R: Clock + Print + AllocGlobal, D: Disk + Raw + Drop>(
     let mut alone = alone;
     match shows::made_on(rt.alloc(), names.size, first, second) {
         Some(mut served) => {
-            let measured = measure_served(rt, word, names, &mut served);
-            let text = write_state(rt.alloc(), served.state());
+            let measured = measure_served(rt, word, names, &mut served, &mut alone);
             let_go(served);
-            measured?;
-            measure_alone(rt, word, names, &mut alone, text?.as_slice())
+            measured
         }
         None => say_wrong(rt, names.turn_over),
     }
@@ -217,10 +227,7 @@ fn measure_on<R: Clock + Print + AllocGlobal, D: Disk + Raw + Drop>(
 impl Names {
     // Whether the word asks for one of the measures.
     fn has(self, word: &str) -> bool {
-        is_asked(word, self.append)
-            || is_asked(word, self.turn_over)
-            || is_asked(word, self.calls)
-            || is_asked(word, self.two_writes)
+        is_asked(word, self.append) || is_asked(word, self.turn_over)
     }
 }
 

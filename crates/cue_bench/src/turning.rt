@@ -96,16 +96,22 @@ impl<'a, D: Disk> Work for TurnOver<'a, D> {
     }
 }
 
-// The calls of a turn-over, on a disk without a show: seven writes and five syncs.
+// A disk without a show, and the text of a state.
 #[derive(Drop)]
-struct Calls<'a, D> {
+struct Alone<'a, D> {
     disk: &'a mut D,
     text: &'a [u8],
 }
 
-impl<'a, D: Raw> Calls<'a, D> {
+impl<'a, D: Raw> Alone<'a, D> {
+    // Where the first gate behind the text stands.
+    fn end(&self) -> u64 {
+        (self.text.len() as u64).saturating_add(13)
+    }
+
     // Closes the older area, writes the new one behind its gate, and opens it.
-    fn form(&mut self, end: u64) -> Result<(), DiskFault> {
+    fn form(&mut self) -> Result<(), DiskFault> {
+        let end = self.end();
         self.disk.store(0, CLOSED)?;
         self.disk.settle()?;
         self.disk.store(1, HEADER)?;
@@ -116,22 +122,54 @@ impl<'a, D: Raw> Calls<'a, D> {
         self.disk.settle()
     }
 
-    // Writes the record behind its gate, and opens it.
-    fn append(&mut self, end: u64) -> Result<(), DiskFault> {
-        self.disk.store(end.saturating_add(1), RECORD)?;
+    // Writes a record behind its gate, and opens it.
+    fn append(&mut self, gate: u64) -> Result<(), DiskFault> {
+        self.disk.store(gate.saturating_add(1), RECORD)?;
         self.disk.settle()?;
-        self.disk.store(end, OPEN)?;
+        self.disk.store(gate, OPEN)?;
         self.disk.settle()
     }
 
+    // Writes as many records as go before a turn-over, so that the disk has had the same to do.
+    fn fill(&mut self) -> Result<(), DiskFault> {
+        let mut gate = self.end();
+        self.form()?;
+        for _ in 0..APPENDS {
+            self.append(gate)?;
+            gate = gate.saturating_add(RECORD.len() as u64);
+        }
+        Ok(())
+    }
+
+    // Writes the text and a record, and syncs each.
+    fn write_both(&mut self) -> Result<(), DiskFault> {
+        let end = self.end();
+        self.disk.store(13, self.text)?;
+        self.disk.settle()?;
+        self.disk.store(end, RECORD)?;
+        self.disk.settle()
+    }
+}
+
+// The calls of a turn-over: seven writes and five syncs.
+#[derive(Drop)]
+struct Calls<'a, D> {
+    alone: Alone<'a, D>,
+}
+
+impl<'a, D: Raw> Calls<'a, D> {
     fn turn_over(&mut self) -> Result<(), DiskFault> {
-        let end = (self.text.len() as u64).saturating_add(13);
-        self.form(end)?;
-        self.append(end)
+        let gate = self.alone.end();
+        self.alone.form()?;
+        self.alone.append(gate)
     }
 }
 
 impl<'a, D: Raw> Work for Calls<'a, D> {
+    fn prepare(&mut self) -> bool {
+        self.alone.fill().is_ok()
+    }
+
     fn once(&mut self) -> bool {
         self.turn_over().is_ok()
     }
@@ -140,22 +178,16 @@ impl<'a, D: Raw> Work for Calls<'a, D> {
 // The text of a state and a record, each written and synced.
 #[derive(Drop)]
 struct TwoWrites<'a, D> {
-    disk: &'a mut D,
-    text: &'a [u8],
-}
-
-impl<'a, D: Raw> TwoWrites<'a, D> {
-    fn write(&mut self) -> Result<(), DiskFault> {
-        self.disk.store(0, self.text)?;
-        self.disk.settle()?;
-        self.disk.store(self.text.len() as u64, RECORD)?;
-        self.disk.settle()
-    }
+    alone: Alone<'a, D>,
 }
 
 impl<'a, D: Raw> Work for TwoWrites<'a, D> {
+    fn prepare(&mut self) -> bool {
+        self.alone.fill().is_ok()
+    }
+
     fn once(&mut self) -> bool {
-        self.write().is_ok()
+        self.alone.write_both().is_ok()
     }
 }
 
@@ -175,9 +207,11 @@ fn measure_in_turn<R: Clock + Print + AllocGlobal, D: Disk + Raw>(
         let served = &mut *served;
         turn_overs.add(rt, 1, &mut TurnOver { served })?;
         let disk = &mut *alone;
-        calls.add(rt, 1, &mut Calls { disk, text })?;
+        let area = Alone { disk, text };
+        calls.add(rt, 1, &mut Calls { alone: area })?;
         let disk = &mut *alone;
-        two_writes.add(rt, 1, &mut TwoWrites { disk, text })?;
+        let area = Alone { disk, text };
+        two_writes.add(rt, 1, &mut TwoWrites { alone: area })?;
     }
     turn_overs.print(rt, names.turn_over)?;
     calls.print(rt, names.calls)?;

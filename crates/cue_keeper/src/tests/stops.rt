@@ -80,13 +80,10 @@ fn leaves(
     Ok(())
 }
 
-// Each byte as the first one that the crash may change, where all bytes came; some where few came.
+// Each byte as the first one that the crash may change.
 fn leaves_each_first(rt: &impl Abort, alloc: Global, kept: &Answered) -> Result<(), Fail> {
-    for first in 0..=255u8 {
-        leaves(rt, alloc, kept, u64::MAX, &[first])?;
-    }
-    for extra in [0, 1] {
-        for first in [0u8, 1, 2, 255] {
+    for extra in [0, 1, u64::MAX] {
+        for first in 0..=255u8 {
             leaves(rt, alloc, kept, extra, &[first])?;
         }
     }

@@ -42,11 +42,11 @@ pub enum Code {
     Busy,
     /// 12: no live attempt is at the cue, or has the device.
     NotLive,
-    /// 13: not every device of the cue is ready.
+    /// 13: some device of the cue is neither ready nor excused.
     NotReady,
     /// 14: the cue was decided, and that is not taken back.
     Decided,
-    /// 15: the attempt has ended, or has gone past what the reply says.
+    /// 15: the attempt has ended, or has gone past what the reply says, or the device was excused from it.
     Stale,
     /// 16: the attempt has not come as far as the reply says.
     Early,

@@ -173,7 +173,7 @@ impl Stage {
 /// How an attempt ended.
 #[derive(Clone, Copy, PartialEq, Eq, Debug)]
 pub enum Outcome {
-    /// Each device carried the cue out.
+    /// Each device carried the cue out, but for those that were excused.
     Complete,
     /// The preparation was given up.
     Cancelled,

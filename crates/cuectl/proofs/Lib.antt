@@ -2,6 +2,7 @@ mod ClapRows
 mod ClapWalk
 mod CommandLemmas
 mod LineLemmas
+mod PerformLemmas
 mod RunLemmas
 mod ScriptLemmas
 mod ScriptLineLemmas

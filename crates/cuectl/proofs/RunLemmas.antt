@@ -1,16 +1,15 @@
 -- One turn more.
-use Rattle.std.proofs.Common.{◌≡◌, ℕ, ◌+◌, ◌-◌, ◌^◌, ◌≤◌, Bool, List, [], ◌∷◌, ◌++◌, length, map, min, Option, Some, None, Result, Ok, Err, refl, sym, ap, ◌∙◌, subst, inl, inr, arith, length-append, append_assoc, append-nil}
+use Rattle.std.proofs.Common.{◌≡◌, ℕ, ◌+◌, ◌-◌, ◌^◌, ◌≤◌, Bool, List, [], ◌∷◌, ◌++◌, length, min, Option, Some, None, Err, refl, sym, ap, ◌∙◌, subst, inl, inr, arith, length-append, append_assoc, append-nil}
 use Rattle.cue_core.specs.State.{ShowState}
 use Rattle.cue_core.specs.Steps.{folded}
 use Rattle.cue_outbox.specs.Sending.{datagram, datagrams, Send}
 use Rattle.cue_engine.specs.Given.{Input, given}
-use Rattle.cue_engine.specs.Runs.{Happening, took, Story, run, in_front}
 use Rattle.cue_engine.specs.Wires.{Handed, handed, Grew, how_many_refused, AllHanded}
 use Rattle.cue_keeper.specs.declared.fault.Fault.TheVariants.{Memory}
-use Rattle.cuectl.specs.Sources.{Answer, comes, ends, fails, cut, first_left, others_left, GaveInTurn, GaveAll}
+use Rattle.cuectl.specs.Sources.{Answer, comes, ends, fails, others_left, GaveInTurn, GaveAll}
 use Rattle.cuectl.specs.declared.run.RunFault.{RunFault}
 use Rattle.cuectl.specs.declared.run.RunFault.TheVariants as fault
-use Rattle.cuectl.specs.Running.{given_answers, story, IsTaken, HasRun, Turned, EndedBy, Ran}
+use Rattle.cuectl.specs.Running.{given_answers, story, IsTaken, HasRun, Turned, Ran}
 
 gave_more : (size : ℕ) (old : List Answer) (gs : List Answer) (mid : List Answer) (hs : List Answer) (new : List Answer) → GaveInTurn size old gs mid → GaveInTurn size mid hs new → GaveInTurn size old (gs ++ hs) new
 gave_more size old [] mid hs new e h = subst (λ (xs : List Answer). GaveInTurn size xs hs new) e h

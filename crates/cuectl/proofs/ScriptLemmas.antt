@@ -13,22 +13,21 @@ use Rattle.cue_outbox.specs.Sending.{Send, datagram, datagrams, all_pending}
 use Rattle.cue_core.specs.Batches.{closed}
 use Rattle.cue_engine.specs.Recovery.{ClosedFrom}
 use Rattle.cue_engine.specs.declared.mem_wire.Sent.{Sent}
-use Rattle.cue_engine.specs.Runs.{Happening, recovered, given_at, in_front, run}
+use Rattle.cue_engine.specs.Runs.{Happening, recovered, given_at, run}
 use Rattle.cue_engine.specs.Told.{sents_view}
-use Rattle.cue_engine.specs.Wires.{Handed, handed, Grew, AllHanded}
+use Rattle.cue_engine.specs.Wires.{Handed, handed, AllHanded}
 use Rattle.cuectl.specs.declared.script.TheConstants.{SCRIPT_LIMIT}
 use Rattle.cuectl.specs.declared.script.ending.Ending.{Ending}
 use Rattle.cuectl.specs.declared.script.ending.Ending.TheVariants.{Done, BadLine, BadInput, Failed, Stopped}
 use Rattle.cue_keeper.specs.declared.fault.StoreFault.{StoreFault}
 use Rattle.cue_keeper.specs.declared.fault.StoreFault.TheVariants as store
-use Rattle.cuectl.specs.declared.script.ending.Failure.{Failure}
 use Rattle.cuectl.specs.declared.script.ending.Failure.TheVariants.{Broken, Store}
 use Rattle.cuectl.specs.declared.script.ending.StreamFailure.{StreamFailure}
 use Rattle.cuectl.specs.Endings.{ending_line, status_of, store_status}
 use Rattle.cuectl.specs.ScriptLines.{lines_of, happening_in}
 use Rattle.cuectl.specs.ScriptViews.{sent_view}
 use Rattle.cuectl.specs.Playing.{Goes, EndsAt, EndsUnheard}
-use Rattle.cuectl.specs.Script.{line_of, printed, output, Ran, RanToBadLine, Wrote, HasRun}
+use Rattle.cuectl.specs.Script.{line_of, printed, output, Ran, Wrote, HasRun}
 
 pub appends_none : (old : Option (List ℕ)) → Appends old old []
 appends_none None = tt
@@ -250,7 +249,7 @@ pub stopped_known : (known : Option (List ℕ)) (failure : StreamFailure) (first
 stopped_known None failure first old new = tt
 stopped_known (Some text) failure first old new = tt
 
-small_store : (fault : StoreFault) → (store_status fault ≤ 3) × (store_status fault ≢ 2)
+pub small_store : (fault : StoreFault) → (store_status fault ≤ 3) × (store_status fault ≢ 2)
 small_store store.NotEmpty = (lit≤ tt, λ is. cc)
 small_store store.Unformed = (lit≤ tt, λ is. cc)
 small_store store.Damaged = (lit≤ tt, λ is. cc)

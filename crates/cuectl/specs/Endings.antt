@@ -1,5 +1,5 @@
--- How a script ends: its last line, and its exit status.
-use Rattle.std.specs.Prelude.{ℕ, Bool, true, false, if◌then◌else◌, List, [], ◌∷◌, ◌++◌, codes}
+-- How a script ends, and a command that is refused: the last line, and the exit status.
+use Rattle.std.specs.Prelude.{ℕ, Bool, true, false, if◌then◌else◌, List, [], ◌∷◌, ◌++◌, codes, Result, Ok, Err}
 use Rattle.std.specs.IoError.{error_kind}
 use Rattle.std.specs.declared.io.Error.{Error}
 use Rattle.std.specs.declared.io.ErrorKind.{ErrorKind}
@@ -12,6 +12,8 @@ use Rattle.cuectl.specs.declared.script.ending.Failure.{Failure}
 use Rattle.cuectl.specs.declared.script.ending.Failure.TheVariants.{Broken, Store}
 use Rattle.cuectl.specs.declared.script.ending.StreamFailure.{StreamFailure}
 use Rattle.cuectl.specs.declared.script.ending.StreamFailure.TheVariants.{Io, Memory}
+use Rattle.cuectl.specs.declared.program.refusal.Refusal.{Refusal}
+use Rattle.cuectl.specs.declared.program.refusal.Refusal.TheVariants as refused
 
 -- a line `! NAME`
 abbrev pub fault_line : List ℕ → List ℕ
@@ -75,3 +77,22 @@ is_memory _ = false
 -- a call of the reader or the writer lacked memory, or failed otherwise
 abbrev pub failure_of : Error → StreamFailure
 failure_of error = if is_memory (error_kind error) then Memory else Io
+
+-- the line that a refused command prints
+abbrev pub refusal_line : Refusal → List ℕ
+refusal_line (refused.Failed failure) = failure_line failure
+refusal_line refused.NotFound = fault_line (codes "NotFound")
+refusal_line refused.Io = fault_line (codes "Io")
+refusal_line refused.Net = fault_line (codes "Net")
+
+-- 1 where the store refuses, 3 where the machine does
+abbrev pub refusal_status : Refusal → ℕ
+refusal_status (refused.Failed failure) = failure_status failure
+refusal_status refused.NotFound = 3
+refusal_status refused.Io = 3
+refusal_status refused.Net = 3
+
+-- 0 where a command was carried out
+abbrev pub done_status : {T : Type 0} → Result T Refusal → ℕ
+done_status (Ok done) = 0
+done_status (Err refusal) = refusal_status refusal

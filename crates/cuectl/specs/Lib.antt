@@ -1,7 +1,9 @@
+pub mod Added
 pub mod Alone
 pub mod Endings
 pub mod Lines
 pub mod MemSources
+pub mod Performing
 pub mod Playing
 pub mod Running
 pub mod Script

@@ -2,7 +2,7 @@
 use Rattle.std.specs.Prelude.{◌≡◌, ◌⊎◌, ℕ, ◌≤◌, ◌<◌, ◌^◌, pos, Bool, List, Option, Some, None, true, false, codes, string_bytes}
 use Rattle.std.specs.Str.Parse.{IsNumeral, digits_value, without_leading_plus}
 use Rattle.clap.specs.Words.{App, Rule, Row, Text, new_app, new_rule, with_rule, with_subcommand, first_of, one_of}
-use Rattle.clap.specs.Words.{Kinds, IsAmong}
+use Rattle.clap.specs.Words.{Kinds, IsAmong, fault_of, subcommand_of}
 use Rattle.clap.specs.declared.error.kind.ErrorKind.{ErrorKind}
 use Rattle.clap.specs.declared.error.kind.ErrorKind.TheVariants.{DisplayHelp, DisplayVersion, OutOfMemory}
 use Rattle.clap.specs.declared.builder.ArgAction.TheVariants.{Set}
@@ -106,6 +106,10 @@ pub record IsRefused (kinds : Kinds) : Type 0 where
   pub kind : ErrorKind
   pub among : IsAmong kind kinds
   pub other : asks_for_none kind ≡ true
+
+-- the words are no command: clap stops for another reason, none is named, or the port is 0
+abbrev pub IsNoCommand : List Text → Type 0
+IsNoCommand words = IsRefused (fault_of cuectl_app words) ⊎ (subcommand_of cuectl_app words ≡ None) ⊎ HasPortZero (subcommand_of cuectl_app words)
 
 -- what the program makes of an error of clap
 abbrev pub IsFaultOf : ErrorKind → LineFault → Type 0

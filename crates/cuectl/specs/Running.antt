@@ -1,5 +1,5 @@
 -- What a run comes to.
-use Rattle.std.specs.Prelude.{◌≡◌, ◌+◌, ◌^◌, ◌-◌, ◌⊎◌, ℕ, List, [], ◌∷◌, ◌++◌, length, map, min, Option, Some, None, Result, Ok, Err}
+use Rattle.std.specs.Prelude.{◌≡◌, ◌^◌, ◌-◌, ◌⊎◌, ℕ, List, [], ◌∷◌, ◌++◌, length, map, min, Option, Some, None, Result, Ok, Err}
 use Rattle.cue_core.specs.State.{ShowState}
 use Rattle.cue_core.specs.Steps.{folded}
 use Rattle.cue_disk.specs.Disk.{Contents, IsImage}
@@ -7,7 +7,7 @@ use Rattle.cue_keeper.specs.Stands.{StandsEither}
 use Rattle.cue_keeper.specs.declared.fault.Fault.TheVariants.{Memory}
 use Rattle.cue_outbox.specs.Sending.{datagrams}
 use Rattle.cue_engine.specs.Given.{Input, given}
-use Rattle.cue_engine.specs.Runs.{Happening, took, Story, run}
+use Rattle.cue_engine.specs.Runs.{took, Story, run}
 use Rattle.cue_engine.specs.Wires.{Handed, AllHanded}
 use Rattle.cuectl.specs.declared.run.RunFault.{RunFault}
 use Rattle.cuectl.specs.declared.run.RunFault.TheVariants as fault

@@ -1,6 +1,7 @@
 //! The command line, read over `clap`.
 ghost use Rattle.std.specs.Prelude.{◌≡◌, ◌⊎◌, [], None, map, IfOk, IfErr, IsErrOf, OnOk, false, string_bytes};
-ghost use Rattle.clap.specs.Words.{rule_of, found_of, rows_of, app_of, fault_of, kind_of, subcommand_of};
+ghost use Rattle.clap.specs.Words.{rule_of, found_of, rows_of, app_of, fault_of, kind_of, new_app, subcommand_of, with_rule};
+ghost use Rattle.cuectl.specs.Added.{FitsAnywhere};
 ghost use Rattle.cuectl.specs.Lines.{
   dir_rule,
   port_rule,
@@ -8,14 +9,14 @@ ghost use Rattle.cuectl.specs.Lines.{
   IsDirIn,
   IsPortIn,
   AreTurnsIn,
-  HasPortZero,
-  IsRefused,
+  IsNoCommand,
   IsLine,
   IsLineOf,
   IsFaultOf,
   IsHelp,
   AsksForText,
   cuectl_app,
+  serve_app,
 };
 ghost use Rattle.cuectl.specs.Unread.{LacksDir, LacksPort, LacksTurns, IsNoLine};
 ghost use Rattle.cuectl.specs.declared.line.words.LineFault.TheVariants.{Usage};
@@ -64,31 +65,47 @@ fn turns<'a>(alloc: Global) -> Arg<'a>
         .value_parser(value_parser!(u64))
 }
 
+// A command over a folder.
+fn over_dir<'a>(alloc: Global, name: &'a str, about: &'a str) -> Result<Command<'a>, AllocError>
+    ensures app { IfOk result (λ command. app_of command ≡ with_rule (new_app name.now) dir_rule) }
+    ensures fits { IfOk result FitsAnywhere }
+{
+    Command::new(alloc, name).about(about).arg(dir(alloc))
+}
+
+// The command `serve`.
+fn serve<'a>(alloc: Global) -> Result<Command<'a>, AllocError>
+    ensures app { IfOk result (λ command. app_of command ≡ serve_app) }
+    ensures fits { IfOk result FitsAnywhere }
+{
+    Command::new(alloc, "serve")
+        .about("Run the show of a folder over UDP")
+        .arg(dir(alloc))?
+        .arg(port(alloc))?
+        .arg(turns(alloc))
+}
+
 // All commands.
 fn cuectl<'a>(alloc: Global) -> Result<Command<'a>, AllocError>
     ensures { IfOk result (λ command. app_of command ≡ cuectl_app) }
 {
-    let form = Command::new(alloc, "form")
-        .about("Make an empty show in a folder that has none")
-        .arg(dir(alloc))?;
-    let serve = Command::new(alloc, "serve")
-        .about("Run the show of a folder over UDP")
-        .arg(dir(alloc))?
-        .arg(port(alloc))?
-        .arg(turns(alloc))?;
-    let show = Command::new(alloc, "show")
-        .about("Print the show of a folder, and change nothing")
-        .arg(dir(alloc))?;
-    let script = Command::new(alloc, "script").about(
-        "Run a script from standard input on two disks in memory",
-    );
     Command::new(alloc, "cuectl")
         .version("1.1")
         .about("A two-phase cue controller for theatre machinery")
-        .subcommand(form)?
-        .subcommand(serve)?
-        .subcommand(show)?
-        .subcommand(script)
+        .subcommand(over_dir(
+            alloc,
+            "form",
+            "Make an empty show in a folder that has none",
+        )?)?
+        .subcommand(serve(alloc)?)?
+        .subcommand(over_dir(
+            alloc,
+            "show",
+            "Print the show of a folder, and change nothing",
+        )?)?
+        .subcommand(Command::new(alloc, "script").about(
+            "Run a script from standard input on two disks in memory",
+        ))
 }
 
 // The folder that stands there.
@@ -174,8 +191,7 @@ pub fn line(alloc: Global, words: &[String]) -> Result<words::Line, LineFault>
     // Words at which clap stops are no command, and words that ask for help or for the version are told apart.
     ensures taken { OnOk result (fault_of cuectl_app (map string_bytes words.now) ≡ []) }
     // They are refused only where clap stops for another reason, where they name no command, or where the port is 0.
-    ensures usage { IsErrOf result Usage → IsRefused (fault_of cuectl_app (map string_bytes words.now))
-        ⊎ (subcommand_of cuectl_app (map string_bytes words.now) ≡ None) ⊎ HasPortZero (subcommand_of cuectl_app (map string_bytes words.now)) }
+    ensures usage { IsErrOf result Usage → IsNoCommand (map string_bytes words.now) }
     ensures help { IfErr result (λ fault. IsHelp fault → AsksForText (fault_of cuectl_app (map string_bytes words.now))) }
 {
     let command = cuectl(alloc)?;

@@ -15,10 +15,15 @@ use std::env;
 use std::io::{self, BufWriter, ErrorKind, Write};
 use std::process::ExitCode;
 
+// The words of the command line.
+fn words(rt: &HostRuntime) -> io::Result<Vec<String>> {
+    Ok(env::args(rt)?.collect(rt.alloc())?)
+}
+
 // Carries out the words of the command line, and answers the exit status. It fails where there is no memory to begin.
 fn perform(rt: &HostRuntime) -> io::Result<u8> {
     let alloc = rt.alloc();
-    let words: Vec<String> = env::args(rt)?.collect(alloc)?;
+    let words = words(rt)?;
     let mut reader = rt.reader();
     let mut writer = BufWriter::new(alloc, io::writer(rt))?;
     Ok(program::perform(rt, &words, &mut reader, &mut writer))

@@ -1,4 +1,18 @@
 //! The program: what each command does, prints and answers.
+ghost use Rattle.std.specs.Prelude.{◌≡◌, ◌≢◌, ◌≤◌, ◌⊎◌, [], map, string_bytes, IfErr, IfOk, IfSome, OnOk};
+ghost use Rattle.std.specs.Io.KnownBytes.{Appends};
+ghost use Rattle.clap.specs.Words.{fault_of, subcommand_of};
+ghost use Rattle.cue_core.specs.State.{empty_state};
+ghost use Rattle.cuectl.specs.Lines.{AsksForText, IsHelp, IsNoCommand, cuectl_app};
+ghost use Rattle.cuectl.specs.Performing.{EndsSo, HasEnded, IsRunTold, IsStateTold, NamesScript, formed_text, turns_text};
+ghost use Rattle.cuectl.specs.Script.{HasRun};
+ghost use Rattle.cuectl.specs.ShowText.{show_text};
+ghost use Rattle.cuectl.specs.declared.line.words.LineFault.TheVariants.{Memory, Usage};
+ghost use Rattle.cuectl.specs.declared.program.refusal.Refusal.TheVariants.{Io};
+
+mod files;
+pub mod refusal;
+
 use crate::evening_log::LoggedWire;
 use crate::evening_log::alone::StandbyLog;
 use crate::line::line;
@@ -7,180 +21,98 @@ use crate::run::{Ended, RunFault, run_watched};
 use crate::script::script;
 use crate::show_text::show_text;
 use crate::udp::{UdpSource, UdpWire, local};
-use cue_disk::{FileDisk, FileFault};
+use cue_core::State;
+use cue_disk::FileDisk;
 use cue_engine::Engine;
-use cue_keeper::{Fault, Keeper, StoreFault};
-use std::alloc::{AllocError, Global};
-use std::fmt::Display;
+use cue_keeper::{Fault, Keeper};
+use files::{create_both, open_both, refused_store, say, say_failures};
+use refusal::{Refusal, print_refusal, status_of};
+use std::alloc::Global;
 use std::fs::{File, Files};
 use std::io::{self, Eprint, Read, Write};
 use std::net::{Net, UdpSocket};
 use std::time::Clock;
 
-/// A name that is printed behind `! `, and the exit status that goes with it.
-#[derive(Clone, Copy, Debug, PartialEq, Eq)]
-struct Refusal {
-    name: &'static str,
-    status: u8,
-}
-
-impl Refusal {
-    const fn of_show(name: &'static str) -> Refusal {
-        Refusal { name, status: 1 }
-    }
-
-    const fn of_machine(name: &'static str) -> Refusal {
-        Refusal { name, status: 3 }
-    }
-}
-
-const USAGE: Refusal = Refusal {
-    name: "Usage",
-    status: 2,
-};
-
-const MEMORY: Refusal = Refusal {
-    name: "Memory",
-    status: 3,
-};
-
-const IO: Refusal = Refusal {
-    name: "Io",
-    status: 3,
-};
-
-const NET: Refusal = Refusal {
-    name: "Net",
-    status: 3,
-};
-
-const NOT_FOUND: Refusal = Refusal {
-    name: "NotFound",
-    status: 3,
-};
-
-impl From<AllocError> for Refusal {
-    fn from(_: AllocError) -> Refusal {
-        MEMORY
-    }
-}
-
-impl From<StoreFault> for Refusal {
-    fn from(fault: StoreFault) -> Refusal {
-        match fault {
-            StoreFault::NotEmpty => Refusal::of_show("NotEmpty"),
-            StoreFault::Unformed => Refusal::of_show("Unformed"),
-            StoreFault::Damaged => Refusal::of_show("Damaged"),
-            StoreFault::Version => Refusal::of_show("Version"),
-            StoreFault::Malformed => Refusal::of_show("Malformed"),
-            StoreFault::Full => Refusal::of_show("Full"),
-            StoreFault::Exhausted => Refusal::of_show("Exhausted"),
-            StoreFault::Memory => MEMORY,
-            StoreFault::Disk => Refusal::of_machine("Disk"),
-        }
-    }
-}
-
-impl From<Fault> for Refusal {
-    fn from(fault: Fault) -> Refusal {
-        match fault {
-            Fault::Broken => Refusal::of_machine("Broken"),
-            Fault::Memory => MEMORY,
-            Fault::Exhausted => Refusal::of_show("Exhausted"),
-            Fault::Full => Refusal::of_show("Full"),
-            Fault::Disk => Refusal::of_machine("Disk"),
-        }
-    }
-}
-
-// Says on standard error what was refused, and why. Where that cannot be written, the answer is the same.
-fn say<R: Eprint, D: Display + Drop>(rt: &R, what: &str, why: D) {
-    let _ = rt.eprintln(format_args!("cuectl: {what}: {why}"));
-}
-
-// The two files of a folder.
-fn paths(alloc: Global, dir: &str) -> Result<(String, String), AllocError> {
-    let first = format!(in alloc; "{dir}/a.area")?;
-    let second = format!(in alloc; "{dir}/b.area")?;
-    Ok((first, second))
-}
-
-// Why a file was not opened.
-fn refused_file<R: Eprint>(rt: &R, path: &str, fault: FileFault) -> Refusal {
-    say(rt, path, fault);
-    match fault {
-        FileFault::NotFound => NOT_FOUND,
-        FileFault::Io(_) => IO,
-    }
-}
-
-fn open_one<R: Files<File = File> + Eprint>(rt: &R, path: &str) -> Result<FileDisk, Refusal> {
-    FileDisk::open(rt, path).map_err(|fault| refused_file(rt, path, fault))
-}
-
-fn create_one<R: Files<File = File> + Eprint>(rt: &R, path: &str) -> Result<FileDisk, Refusal> {
-    FileDisk::create(rt, path).map_err(|fault| refused_file(rt, path, fault))
-}
-
-// Why the store of a folder was refused; where a disk failed, which file, and how.
-fn refused_store<R: Eprint>(
-    rt: &R,
-    dir: &str,
-    fault: StoreFault,
-    first: &FileDisk,
-    second: &FileDisk,
-) -> Refusal {
-    say(rt, dir, fault);
-    say_failures(rt, first, second);
-    Refusal::from(fault)
-}
-
-// How the files failed, where they did.
-fn say_failures<R: Eprint>(rt: &R, first: &FileDisk, second: &FileDisk) {
-    if let Some(why) = first.last_failure() {
-        say(rt, "a.area", why);
-    }
-    if let Some(why) = second.last_failure() {
-        say(rt, "b.area", why);
-    }
-}
-
 // Prints, and sees that all of it left.
-fn print<W: Write>(writer: &mut W, text: &[u8]) -> Result<(), Refusal> {
+fn print<W: Write>(writer: &mut W, text: &[u8]) -> Result<(), Refusal>
+    ensures printed { OnOk result (Appends (W.contents writer.old) (W.contents writer.new) text.now) }
+    ensures io { IfErr result (λ refusal. refusal ≡ Io) }
+{
     match writer.write_all(text) {
-        Ok(()) => writer.flush().map_err(|_| IO),
-        Err(_) => Err(IO),
+        Ok(()) => match writer.flush() {
+            Ok(()) => Ok(()),
+            Err(_) => Err(Refusal::Io),
+        },
+        Err(_) => Err(Refusal::Io),
     }
 }
 
+// Drops an engine. It stands apart, since what is dropped fills the goals of the function around it.
+fn let_go(_engine: Engine<FileDisk>) {}
+
+// Makes an empty show on two files.
+fn form_on<R: Eprint>(
+    rt: &R,
+    alloc: Global,
+    dir: &str,
+    first: FileDisk,
+    second: FileDisk,
+) -> Result<(), Refusal> {
+    match Engine::form(alloc, first, second) {
+        Ok(engine) => {
+            let_go(engine);
+            Ok(())
+        }
+        Err(refused) => Err(refused_store(rt, dir, refused)),
+    }
+}
+
+// Makes an empty show in a folder.
 fn form<R: Files<File = File> + Eprint, W: Write>(
     rt: &R,
     alloc: Global,
     dir: &str,
     writer: &mut W,
-) -> Result<(), Refusal> {
-    let (a, b) = paths(alloc, dir)?;
-    let first = create_one(rt, a.as_str())?;
-    let second = create_one(rt, b.as_str())?;
-    match Engine::form(alloc, first, second) {
-        Ok(_) => print(writer, b"formed\n"),
-        Err((fault, first, second)) => Err(refused_store(rt, dir, fault, &first, &second)),
+) -> Result<(), Refusal>
+    ensures { OnOk result (Appends (W.contents writer.old) (W.contents writer.new) formed_text) }
+{
+    let (first, second) = create_both(rt, alloc, dir)?;
+    form_on(rt, alloc, dir, first, second)?;
+    print(writer, b"formed\n")
+}
+
+// Prints a state.
+fn print_state<W: Write>(alloc: Global, state: &State, writer: &mut W) -> Result<(), Refusal>
+    ensures { OnOk result (Appends (W.contents writer.old) (W.contents writer.new) (show_text state.now)) }
+{
+    let text = show_text(alloc, state)?;
+    print(writer, &text)
+}
+
+// Opens the files of a folder as a store.
+fn opened<R: Files<File = File> + Eprint>(
+    rt: &R,
+    alloc: Global,
+    dir: &str,
+) -> Result<Keeper<FileDisk>, Refusal> {
+    let (first, second) = open_both(rt, alloc, dir)?;
+    match Keeper::open(alloc, first, second) {
+        Ok(keeper) => Ok(keeper),
+        Err(refused) => Err(refused_store(rt, dir, refused)),
     }
 }
 
+// Prints the show of a folder.
 fn show<R: Files<File = File> + Eprint, W: Write>(
     rt: &R,
     alloc: Global,
     dir: &str,
     writer: &mut W,
-) -> Result<(), Refusal> {
-    let (a, b) = paths(alloc, dir)?;
-    let first = open_one(rt, a.as_str())?;
-    let second = open_one(rt, b.as_str())?;
-    match Keeper::open(alloc, first, second) {
-        Ok(keeper) => print(writer, &show_text(alloc, keeper.state())?),
-        Err((fault, first, second)) => Err(refused_store(rt, dir, fault, &first, &second)),
-    }
+) -> Result<(), Refusal>
+    ensures { OnOk result (IsStateTold (W.contents writer.old) (W.contents writer.new)) }
+{
+    let keeper = opened(rt, alloc, dir)?;
+    print_state(alloc, keeper.state(), writer)
 }
 
 // Runs the show over a socket.
@@ -191,7 +123,9 @@ fn serve_on<'a, R: Clock + Eprint>(
     socket: &'a UdpSocket,
     port: u16,
     turns: u64,
-) -> io::Result<Ended> {
+) -> io::Result<Ended>
+    ensures { IfOk result (λ ended. ended.turns ≤ turns) }
+{
     let mut source = UdpSource::new(rt, socket, port)?;
     let mut wire = LoggedWire::new(rt, alloc, UdpWire::new(socket));
     let mut watch = StandbyLog::new(rt, alloc, engine.state().last_seq());
@@ -201,7 +135,23 @@ fn serve_on<'a, R: Clock + Eprint>(
 // Why the port cannot be served.
 fn refused_port<R: Eprint>(rt: &R, port: u16, why: io::Error) -> Refusal {
     let _ = rt.eprintln(format_args!("cuectl: 127.0.0.1:{port}: {why}"));
-    NET
+    Refusal::Net
+}
+
+// Prints how a run ended.
+fn print_turns<W: Write>(alloc: Global, ended: &Ended, writer: &mut W) -> Result<(), Refusal>
+    ensures { OnOk result (Appends (W.contents writer.old) (W.contents writer.new) (turns_text ended.now.turns ended.now.unsent)) }
+{
+    let text = format!(in alloc; "turns {} unsent {}\n", ended.turns, ended.unsent)?;
+    print(writer, text.as_bytes())
+}
+
+// Why a run was not carried on; where a disk failed, which file, and how.
+fn refused_run<R: Eprint>(rt: &R, dir: &str, engine: Engine<FileDisk>, fault: Fault) -> Refusal {
+    let (first, second) = engine.close();
+    say(rt, dir, fault);
+    say_failures(rt, &first, &second);
+    Refusal::from(fault)
 }
 
 // Prints how a run ended, or says why it failed.
@@ -212,25 +162,37 @@ fn finish<R: Eprint, W: Write>(
     engine: Engine<FileDisk>,
     ended: Ended,
     writer: &mut W,
-) -> Result<(), Refusal> {
+) -> Result<(), Refusal>
+    ensures { OnOk result (Appends (W.contents writer.old) (W.contents writer.new) (turns_text ended.turns ended.unsent)) }
+{
     match ended.fault {
         None => {
-            let text = format!(in alloc; "turns {} unsent {}\n", ended.turns, ended.unsent)?;
-            print(writer, text.as_bytes())
+            let_go(engine);
+            print_turns(alloc, &ended, writer)
         }
         Some(RunFault::Source) => {
+            let_go(engine);
             say(rt, "127.0.0.1", "the socket or the clock failed");
-            Err(NET)
+            Err(Refusal::Net)
         }
-        Some(RunFault::Engine(fault)) => {
-            let (first, second) = engine.close();
-            say(rt, dir, fault);
-            say_failures(rt, &first, &second);
-            Err(Refusal::from(fault))
-        }
+        Some(RunFault::Engine(fault)) => Err(refused_run(rt, dir, engine, fault)),
     }
 }
 
+// Opens the files of a folder and recovers their show.
+fn recovered<R: Files<File = File> + Eprint>(
+    rt: &R,
+    alloc: Global,
+    dir: &str,
+) -> Result<Engine<FileDisk>, Refusal> {
+    let (first, second) = open_both(rt, alloc, dir)?;
+    match Engine::recover(alloc, first, second) {
+        Ok(engine) => Ok(engine),
+        Err(refused) => Err(refused_store(rt, dir, refused)),
+    }
+}
+
+// Runs the show of a folder at a port.
 fn serve<R: Files<File = File> + Net + Clock + Eprint, W: Write>(
     rt: &R,
     alloc: Global,
@@ -238,16 +200,10 @@ fn serve<R: Files<File = File> + Net + Clock + Eprint, W: Write>(
     port: u16,
     turns: u64,
     writer: &mut W,
-) -> Result<(), Refusal> {
-    let (a, b) = paths(alloc, dir)?;
-    let first = open_one(rt, a.as_str())?;
-    let second = open_one(rt, b.as_str())?;
-    let mut engine = match Engine::recover(alloc, first, second) {
-        Ok(engine) => engine,
-        Err((fault, first, second)) => {
-            return Err(refused_store(rt, dir, fault, &first, &second));
-        }
-    };
+) -> Result<(), Refusal>
+    ensures { OnOk result (IsRunTold turns (W.contents writer.old) (W.contents writer.new)) }
+{
+    let mut engine = recovered(rt, alloc, dir)?;
     let socket = UdpSocket::bind(rt, local(port)).map_err(|why| refused_port(rt, port, why))?;
     let _ = rt.eprintln(format_args!("cuectl: ready, {dir} at 127.0.0.1:{port}"));
     match serve_on(rt, alloc, &mut engine, &socket, port, turns) {
@@ -256,37 +212,46 @@ fn serve<R: Files<File = File> + Net + Clock + Eprint, W: Write>(
     }
 }
 
-// The exit status, where a refusal is printed by its name.
-fn status_of<W: Write>(done: Result<(), Refusal>, writer: &mut W) -> u8 {
-    match done {
-        Ok(()) => 0,
-        Err(refusal) => {
-            let _ = writer.write_all(b"! ");
-            let _ = writer.write_all(refusal.name.as_bytes());
-            let _ = writer.write_all(b"\n");
-            let _ = writer.flush();
-            refusal.status
-        }
-    }
-}
-
-// Why there is no command, or the help that was asked for.
-fn refused_line<R: Eprint, W: Write>(
-    rt: &R,
-    fault: LineFault,
-    writer: &mut W,
-) -> Result<(), Refusal> {
+// The exit status where there is no command, or where help was asked for.
+fn refused_line<R: Eprint, W: Write>(rt: &R, fault: LineFault, writer: &mut W) -> u8
+    ensures help { result ≡ 0 → IsHelp fault }
+    ensures usage { result ≡ 2 → fault ≡ Usage }
+    ensures memory { fault ≡ Memory → result ≡ 3 }
+    ensures statuses { (result ≤ 3) × (result ≢ 1) }
+{
     match fault {
-        LineFault::Help(text) => print(writer, text.as_bytes()),
+        LineFault::Help(text) => status_of(print(writer, text.as_bytes()), writer),
         LineFault::Usage => {
             say(
                 rt,
                 "the command line is not understood",
                 "see cuectl --help",
             );
-            Err(USAGE)
+            print_refusal(writer, b"! Usage\n");
+            2
         }
-        LineFault::Memory => Err(MEMORY),
+        LineFault::Memory => status_of(Err(Refusal::MEMORY), writer),
+    }
+}
+
+// Carries out a command, and answers the exit status.
+fn carry_out<R: Files<File = File> + Net + Clock + Eprint, I: Read, W: Write>(
+    rt: &R,
+    alloc: Global,
+    line: Line,
+    reader: &mut I,
+    writer: &mut W,
+) -> u8
+    ensures ends { EndsSo line result (I.remaining reader.old) (W.contents writer.old) (W.contents writer.new) }
+    ensures statuses { (result ≤ 3) × (result ≢ 2) }
+{
+    match line {
+        Line::Form { dir } => status_of(form(rt, alloc, dir.as_str(), writer), writer),
+        Line::Serve { dir, port, turns } => {
+            status_of(serve(rt, alloc, dir.as_str(), port, turns, writer), writer)
+        }
+        Line::Show { dir } => status_of(show(rt, alloc, dir.as_str(), writer), writer),
+        Line::Script => script(alloc, reader, writer),
     }
 }
 
@@ -298,16 +263,21 @@ pub fn perform<R: Files<File = File> + Net + Clock + Eprint + AllocGlobal, I: Re
     words: &[String],
     reader: &mut I,
     writer: &mut W,
-) -> u8 {
+) -> u8
+    ensures statuses { result ≤ 3 }
+    // 0 comes where a text was asked for, or where a command was carried out; then it is known what was printed.
+    ensures done { result ≡ 0 → AsksForText (fault_of cuectl_app (map string_bytes words.now))
+        ⊎ HasEnded (map string_bytes words.now) result (I.remaining reader.old) (W.contents writer.old) (W.contents writer.new) }
+    // 1 comes only of words that clap takes, and 2 only where they are no command.
+    ensures refused { result ≡ 1 → fault_of cuectl_app (map string_bytes words.now) ≡ [] }
+    ensures usage { result ≡ 2 → IsNoCommand (map string_bytes words.now) }
+    // Where they name a script, what is written is what its lines make, by its status.
+    ensures script { fault_of cuectl_app (map string_bytes words.now) ≡ [] → NamesScript (subcommand_of cuectl_app (map string_bytes words.now))
+        → IfSome (I.remaining reader.old) (λ text. HasRun empty_state text result (W.contents writer.old) (W.contents writer.new)) }
+{
     let alloc = rt.alloc();
-    let done = match line(alloc, words) {
-        Ok(Line::Form { dir }) => form(rt, alloc, dir.as_str(), writer),
-        Ok(Line::Serve { dir, port, turns }) => {
-            serve(rt, alloc, dir.as_str(), port, turns, writer)
-        }
-        Ok(Line::Show { dir }) => show(rt, alloc, dir.as_str(), writer),
-        Ok(Line::Script) => return script(alloc, reader, writer),
+    match line(alloc, words) {
+        Ok(line) => carry_out(rt, alloc, line, reader, writer),
         Err(fault) => refused_line(rt, fault, writer),
-    };
-    status_of(done, writer)
+    }
 }

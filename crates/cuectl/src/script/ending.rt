@@ -2,7 +2,7 @@
 ghost use Rattle.std.specs.Prelude.{◌≡◌};
 ghost use Rattle.cuectl.specs.Endings.{ending_line, failure_line, failure_of, failure_status, status_of, store_line, store_status};
 
-use cue_keeper::StoreFault;
+use cue_keeper::{Fault, StoreFault};
 use std::io::{self, ErrorKind};
 
 /// How a script ends.
@@ -49,8 +49,21 @@ impl StreamFailure {
     }
 }
 
+impl From<Fault> for Failure {
+    fn from(fault: Fault) -> Failure {
+        match fault {
+            Fault::Broken => Failure::Broken,
+            Fault::Memory => Failure::Store(StoreFault::Memory),
+            Fault::Exhausted => Failure::Store(StoreFault::Exhausted),
+            Fault::Full => Failure::Store(StoreFault::Full),
+            Fault::Disk => Failure::Store(StoreFault::Disk),
+        }
+    }
+}
+
 impl Failure {
-    fn line(self) -> &'static [u8]
+    /// The line that is printed.
+    pub fn line(self) -> &'static [u8]
         ensures { result.now ≡ failure_line self }
     {
         match self {
@@ -59,7 +72,8 @@ impl Failure {
         }
     }
 
-    fn status(self) -> u8
+    /// The exit status.
+    pub fn status(self) -> u8
         ensures { result ≡ failure_status self }
     {
         match self {

@@ -21,7 +21,7 @@ use super::print::print_all;
 use super::stream::Streams;
 use cue_disk::MemDisk;
 use cue_engine::{Engine, Input, MemWire};
-use cue_keeper::{Fault, StoreFault};
+use cue_keeper::StoreFault;
 use std::alloc::{AllocError, Global};
 use std::io::Write;
 
@@ -42,17 +42,6 @@ fn stopped(_engine: Engine<MemDisk>, ending: Ending) -> Result<Engine<MemDisk>, 
     Err(ending)
 }
 
-// Why the engine does not take what came.
-fn failure_of(fault: Fault) -> Failure {
-    match fault {
-        Fault::Broken => Failure::Broken,
-        Fault::Memory => Failure::Store(StoreFault::Memory),
-        Fault::Exhausted => Failure::Store(StoreFault::Exhausted),
-        Fault::Full => Failure::Store(StoreFault::Full),
-        Fault::Disk => Failure::Store(StoreFault::Disk),
-    }
-}
-
 // Takes what came at a moment.
 fn taken(
     mut engine: Engine<MemDisk>,
@@ -64,7 +53,7 @@ fn taken(
 {
     match engine.take(now, input) {
         Ok(_) => Ok(engine),
-        Err(fault) => refused(engine, failure_of(fault)),
+        Err(fault) => refused(engine, Failure::from(fault)),
     }
 }
 

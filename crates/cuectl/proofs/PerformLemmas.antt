@@ -1,0 +1,104 @@
+-- How a command line ends, from how it was read.
+use Rattle.std.proofs.Common.{◌≡◌, ◌≢◌, ◌≤◌, ◌⊎◌, inl, inr, ℕ, List, [], Option, Some, None, sym, ◌∙◌, subst, refl, lit≤}
+use Rattle.std.specs.Prelude.{codes, OnOk, Result, Ok, Err}
+use Rattle.std.specs.Io.KnownBytes.{Appends}
+use Rattle.clap.specs.Words.{Row, Text, fault_of, subcommand_of}
+use Rattle.cue_core.specs.State.{ShowState}
+use Rattle.cuectl.specs.declared.line.words.Line.{Line}
+use Rattle.cuectl.specs.declared.line.words.Line.TheVariants.{Form, Serve, Show, Script}
+use Rattle.cuectl.specs.declared.line.words.LineFault.{LineFault}
+use Rattle.cuectl.specs.declared.line.words.LineFault.TheVariants.{Help, Usage, Memory}
+use Rattle.cuectl.specs.Lines.{AsksForText, HasPortZero, IsHelp, IsLineOf, IsNoCommand, IsRefused, cuectl_app}
+use Rattle.cue_keeper.specs.declared.fault.StoreFault.TheVariants as store
+use Rattle.cuectl.specs.declared.program.refusal.Refusal.{Refusal}
+use Rattle.cuectl.specs.declared.program.refusal.Refusal.TheVariants as refused
+use Rattle.cuectl.specs.declared.script.ending.Failure.TheVariants.{Broken, Store}
+use Rattle.cuectl.specs.Endings.{done_status, refusal_status}
+use Rattle.cuectl.specs.Performing.{EndsSo, IsStateTold, NamesScript}
+use Rattle.cuectl.specs.ShowText.{show_text}
+use Rattle.cuectl.proofs.ScriptLemmas.{small_store}
+
+-- the line of words that name a script is a script
+pub is_script : (o : Option (Text × List Row)) (line : Line) → IsLineOf o line → NamesScript o → line ≡ Script
+is_script None line is named = absurd named
+is_script (Some found) (Form dir) is named =
+    let bad : codes "form" ≡ codes "script" = sym is.0 ∙ named in
+    cc
+is_script (Some found) (Serve dir port turns) is named =
+    let bad : codes "serve" ≡ codes "script" = sym is.0 ∙ named in
+    cc
+is_script (Some found) (Show dir) is named =
+    let bad : codes "show" ≡ codes "script" = sym is.0 ∙ named in
+    cc
+is_script (Some found) Script is named = refl
+
+-- where the line is a script, it ends so
+pub ends_so : (line : Line) (status : ℕ) (text old new : Option (List ℕ)) → line ≡ Script → EndsSo line status text old new → EndsSo Script status text old new
+ends_so line status text old new is ends = subst (λ (l : Line). EndsSo l status text old new) is ends
+
+-- what is said of a command is said of the line that is this command
+pub ends_as : (command line : Line) (status : ℕ) (text old new : Option (List ℕ)) → line ≡ command → EndsSo command status text old new → EndsSo line status text old new
+ends_as command line status text old new is = subst (λ (l : Line). EndsSo l status text old new) (sym is)
+
+no_text : AsksForText [] → ⊥
+no_text (inl help) = help
+no_text (inr version) = version
+
+no_other : (o : Option (Text × List Row)) → NamesScript o → IsRefused [] ⊎ (o ≡ None) ⊎ HasPortZero o → ⊥
+no_other o named (inl stopped) = stopped.among
+no_other None named (inr without) = named
+no_other (Some found) named (inr (inl none)) = cc
+no_other (Some found) named (inr (inr zero)) =
+    let bad : codes "serve" ≡ codes "script" = sym zero.0 ∙ named in
+    cc
+
+-- words that clap takes, and that name a script, are refused for want of memory alone
+pub only_memory : (words : List Text) (fault : LineFault) → fault_of cuectl_app words ≡ [] → NamesScript (subcommand_of cuectl_app words)
+    → (IsHelp fault → AsksForText (fault_of cuectl_app words)) → (fault ≡ Usage → IsNoCommand words) → fault ≡ Memory
+only_memory words (Help text) taken named help usage = absurd (no_text (subst AsksForText taken (help tt)))
+only_memory words Usage taken named help usage =
+    absurd (no_other (subcommand_of cuectl_app words) named (subst (λ kinds. IsRefused kinds ⊎ (subcommand_of cuectl_app words ≡ None) ⊎ HasPortZero (subcommand_of cuectl_app words)) taken (usage refl)))
+only_memory words Memory taken named help usage = refl
+
+-- a state that was printed is told
+pub state_told : {T E : Type 0} (result : Result T E) (s : ShowState) (old new : Option (List ℕ)) → OnOk result (Appends old new (show_text s)) → OnOk result (IsStateTold old new)
+state_told (Ok done) s old new told = record { state = s; printed = told }
+state_told (Err fault) s old new told = tt
+
+-- no refusal has the status 0
+never_zero : (refusal : Refusal) → refusal_status refusal ≡ 0 → ⊥
+never_zero (refused.Failed Broken) zero = cc
+never_zero (refused.Failed (Store store.NotEmpty)) zero = cc
+never_zero (refused.Failed (Store store.Unformed)) zero = cc
+never_zero (refused.Failed (Store store.Damaged)) zero = cc
+never_zero (refused.Failed (Store store.Version)) zero = cc
+never_zero (refused.Failed (Store store.Malformed)) zero = cc
+never_zero (refused.Failed (Store store.Full)) zero = cc
+never_zero (refused.Failed (Store store.Exhausted)) zero = cc
+never_zero (refused.Failed (Store store.Memory)) zero = cc
+never_zero (refused.Failed (Store store.Disk)) zero = cc
+never_zero refused.NotFound zero = cc
+never_zero refused.Io zero = cc
+never_zero refused.Net zero = cc
+
+-- what holds of the output where a command was carried out holds where its status is 0
+pub told_at_zero : {T : Type 0} (done : Result T Refusal) (status : ℕ) (mid new : Option (List ℕ)) (P : Option (List ℕ) → Type 0) → status ≡ done_status done → OnOk done (P mid) → OnOk done (new ≡ mid) → status ≡ 0 → P new
+told_at_zero (Ok done) status mid new P is told kept zero = subst P (sym kept) told
+told_at_zero (Err refusal) status mid new P is told kept zero = absurd (never_zero refusal (sym is ∙ zero))
+
+small_refusal : (refusal : Refusal) → (refusal_status refusal ≤ 3) × (refusal_status refusal ≢ 2)
+small_refusal (refused.Failed Broken) = (lit≤ tt, λ is. cc)
+small_refusal (refused.Failed (Store fault)) = small_store fault
+small_refusal refused.NotFound = (lit≤ tt, λ is. cc)
+small_refusal refused.Io = (lit≤ tt, λ is. cc)
+small_refusal refused.Net = (lit≤ tt, λ is. cc)
+
+-- the status of a command is at most 3, and never 2
+pub small_done : {T : Type 0} (done : Result T Refusal) (status : ℕ) → status ≡ done_status done → (status ≤ 3) × (status ≢ 2)
+small_done {T} done status is =
+    let P : ℕ → Type 0 = λ n. (n ≤ 3) × (n ≢ 2) in
+    subst P (sym is) (go done)
+  where
+    go : (d : Result T Refusal) → (done_status d ≤ 3) × (done_status d ≢ 2)
+    go (Ok x) = (lit≤ tt, λ is. cc)
+    go (Err refusal) = small_refusal refusal

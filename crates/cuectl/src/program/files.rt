@@ -1,0 +1,85 @@
+//! The two files of a folder: opened and made, and what is said where that fails.
+use super::refusal::Refusal;
+use cue_disk::{FileDisk, FileFault};
+use cue_keeper::StoreFault;
+use std::alloc::{AllocError, Global};
+use std::fmt::Display;
+use std::fs::{File, Files};
+use std::io::Eprint;
+
+/// Says on standard error what was refused, and why. Where that cannot be written, the answer is the same.
+pub fn say<R: Eprint, D: Display + Drop>(rt: &R, what: &str, why: D) {
+    let _ = rt.eprintln(format_args!("cuectl: {what}: {why}"));
+}
+
+// The two files of a folder.
+fn paths(alloc: Global, dir: &str) -> Result<(String, String), AllocError> {
+    let first = format!(in alloc; "{dir}/a.area")?;
+    let second = format!(in alloc; "{dir}/b.area")?;
+    Ok((first, second))
+}
+
+// Why a file was not opened.
+fn refused_file<R: Eprint>(rt: &R, path: &str, fault: FileFault) -> Refusal {
+    say(rt, path, fault);
+    match fault {
+        FileFault::NotFound => Refusal::NotFound,
+        FileFault::Io(_) => Refusal::Io,
+    }
+}
+
+fn open_one<R: Files<File = File> + Eprint>(rt: &R, path: &str) -> Result<FileDisk, Refusal> {
+    FileDisk::open(rt, path).map_err(|fault| refused_file(rt, path, fault))
+}
+
+fn create_one<R: Files<File = File> + Eprint>(rt: &R, path: &str) -> Result<FileDisk, Refusal> {
+    FileDisk::create(rt, path).map_err(|fault| refused_file(rt, path, fault))
+}
+
+/// Opens both files of a folder.
+pub fn open_both<R: Files<File = File> + Eprint>(
+    rt: &R,
+    alloc: Global,
+    dir: &str,
+) -> Result<(FileDisk, FileDisk), Refusal> {
+    let (first, second) = paths(alloc, dir)?;
+    Ok((
+        open_one(rt, first.as_str())?,
+        open_one(rt, second.as_str())?,
+    ))
+}
+
+/// Opens both files of a folder, and makes those that are missing.
+pub fn create_both<R: Files<File = File> + Eprint>(
+    rt: &R,
+    alloc: Global,
+    dir: &str,
+) -> Result<(FileDisk, FileDisk), Refusal> {
+    let (first, second) = paths(alloc, dir)?;
+    Ok((
+        create_one(rt, first.as_str())?,
+        create_one(rt, second.as_str())?,
+    ))
+}
+
+/// Why the store of a folder was refused; where a disk failed, which file, and how.
+pub fn refused_store<R: Eprint>(
+    rt: &R,
+    dir: &str,
+    refused: (StoreFault, FileDisk, FileDisk),
+) -> Refusal {
+    let (fault, first, second) = refused;
+    say(rt, dir, fault);
+    say_failures(rt, &first, &second);
+    Refusal::from(fault)
+}
+
+/// How the files failed, where they did.
+pub fn say_failures<R: Eprint>(rt: &R, first: &FileDisk, second: &FileDisk) {
+    if let Some(why) = first.last_failure() {
+        say(rt, "a.area", why);
+    }
+    if let Some(why) = second.last_failure() {
+        say(rt, "b.area", why);
+    }
+}

@@ -31,6 +31,18 @@ pub first_read : (bytes buf : List ℕ) → buf ≡ take 1 bytes → get_or buf 
 first_read [] buf is = ap (λ (l : List ℕ). get_or l 0 0) is
 first_read (byte ∷ bytes) buf is = ap (λ (l : List ℕ). get_or l 0 0) is
 
+-- A sync, the length and the gate: what a crash leaves at any moment of them.
+module _ {D : Type 0} (moment : D → ℕ) (held : D → Contents) (held_at : D → ℕ → Contents) (d0 d1 : D) (now : held_at d0 (moment d0) ≡ held d0) (fewer : (image : List ℕ) → IsImage (held d1) image → IsImage (held d0) image) (time1 : Elapses (moment d0) (moment d1) (held_at d0) (held_at d1) (held d1)) where
+  pub sync_leaves : LeavesAtEachMoment moment held_at d0 d1 (IsImage (held d0))
+  sync_leaves = goes_on moment held_at d0 d0 d1 (IsImage (held d0)) (held d1) (started moment held_at d0 (held d0) (IsImage (held d0)) now (λ image left. left)) time1 fewer
+
+  module _ (d2 : D) (same2 : held d2 ≡ held d1) (time2 : Elapses (moment d1) (moment d2) (held_at d1) (held_at d2) (held d2)) where
+    pub length_leaves : LeavesAtEachMoment moment held_at d0 d2 (IsImage (held d0))
+    length_leaves = goes_on moment held_at d0 d1 d2 (IsImage (held d0)) (held d2) sync_leaves time2 (λ image left. fewer image (subst (λ (c : Contents). IsImage c image) same2 left))
+
+    pub read_leaves : (d3 : D) → held d3 ≡ held d2 → Elapses (moment d2) (moment d3) (held_at d2) (held_at d3) (held d3) → LeavesAtEachMoment moment held_at d0 d3 (IsImage (held d0))
+    read_leaves d3 same3 time3 = goes_on moment held_at d0 d2 d3 (IsImage (held d0)) (held d3) length_leaves time3 (λ image left. fewer image (subst (λ (c : Contents). IsImage c image) (same3 ∙ same2) left))
+
 -- The length, the gate, and the write over it: what a crash leaves at any moment of them.
 module _ {D : Type 0} (moment : D → ℕ) (held : D → Contents) (held_at : D → ℕ → Contents) (d0 d1 d2 d3 : D) (now : held_at d0 (moment d0) ≡ held d0) (same1 : held d1 ≡ held d0) (time1 : Elapses (moment d0) (moment d1) (held_at d0) (held_at d1) (held d1)) (same2 : held d2 ≡ held d1) (time2 : Elapses (moment d1) (moment d2) (held_at d1) (held_at d2) (held d2)) (was_open : get_or (held d0).bytes 0 0 ≡ 1) (some : 0 < length (held d0).bytes) (writes : Writes 0 1 (held d2) (held d3)) (time3 : Elapses (moment d2) (moment d3) (held_at d2) (held_at d3) (held d3)) where
   abbrev P : List ℕ → Type 0

@@ -4,7 +4,7 @@ use Rattle.cue_disk.specs.Disk.{Contents, IsImage, IsStable, LeavesAtEachMoment}
 use Rattle.cue_disk.proofs.Crash.{image_stable}
 use Rattle.cue_log.specs.Area.{Area, IsAbsent}
 use Rattle.cue_log.specs.Log.{IsNoneOr, IsOldOrAbsent, LeavesAbsent}
-use Rattle.cue_snap.specs.Pair.{AfterBarrier, IsUnformedOr}
+use Rattle.cue_snap.specs.Pair.{AfterBarrier, IsUnformedOr, IsOldOrNew}
 
 -- A stable disk without an area leaves none.
 pub stays_absent : (old new : Contents) → IsStable new → new.bytes ≡ old.bytes → IsAbsent old.bytes → LeavesAbsent new
@@ -14,6 +14,11 @@ stays_absent old new stable same absent image left = subst (λ (l : List ℕ). I
 pub old_absent : (held : Contents) → LeavesAbsent held → (image : List ℕ) → IsOldOrAbsent held image → IsAbsent image
 old_absent held absent image (inl left) = absent image left
 old_absent held absent image (inr is) = is
+
+-- what is left of a closed disk while it is formed anew
+pub none_or_new : (held : Contents) (area : Area) (image : List ℕ) → IsNoneOr area image → IsOldOrNew held area image
+none_or_new held area image (inl absent) = inl (inr absent)
+none_or_new held area image (inr is) = inr is
 
 module _ {D : Type 0} (moment : D → ℕ) (held : D → Contents) (held_at : D → ℕ → Contents) where
   -- Both disks leave only what they might have left at entry.

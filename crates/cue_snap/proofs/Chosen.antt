@@ -1,11 +1,11 @@
 -- What was chosen of two disks.
-use Rattle.std.proofs.Common.{◌≡◌, ◌∙◌, sym, ap, subst}
+use Rattle.std.proofs.Common.{◌≡◌, ◌∙◌, Result, Ok, Err, sym, ap, subst}
 use Rattle.cue_disk.specs.Disk.{Contents, IsImage}
 use Rattle.cue_log.specs.Area.{Area}
 use Rattle.cue_log.specs.Reading.{area_in}
 use Rattle.cue_snap.specs.declared.opening.Opened2.{Opened2}
 use Rattle.cue_snap.specs.Pair.{PairReads, PairLeaves}
-use Rattle.cue_snap.specs.Observed.{live_of}
+use Rattle.cue_snap.specs.Observed.{live_of, RefusedAs}
 use Rattle.cue_snap.specs.Opened.{live_area_read}
 use Rattle.cue_snap.specs.Found.{IsChosen}
 
@@ -16,3 +16,8 @@ chosen held a b live opened area leaves image_a image_b read live_is same = reco
   reads = subst (λ (it : Area). PairLeaves (held a) (held b) it) (sym read) leaves;
   same_area = ap (λ (disk : _). area_in (held disk).bytes) live_is ∙ same ∙ sym read;
 }
+
+-- a fault that is answered for one reason is answered for what follows from it
+pub refused_as : {T E D : Type 0} (fault : E) (P Q : Type 0) (result : Result T (E × D × D)) → (P → Q) → RefusedAs fault P result → RefusedAs fault Q result
+refused_as fault P Q (Ok made) follows refused = tt
+refused_as fault P Q (Err given) follows refused = λ is. follows (refused is)

@@ -1,5 +1,5 @@
 -- What was read from a disk, one read after another.
-use Rattle.std.proofs.Common.{◌≡◌, ◌⊎◌, inl, inr, ℕ, min, ◌+◌, ◌≤◌, Result, Ok, Err, get_or, List, ◌++◌, length, take, drop, sym, ◌∙◌, ap, subst, arith, take-append-drop}
+use Rattle.std.proofs.Common.{◌≡◌, ◌⊎◌, inl, inr, ℕ, min, ◌+◌, ◌≤◌, Result, Ok, Err, get_or, List, ◌++◌, length, take, drop, refl, sym, ◌∙◌, ap, subst, arith, take-append-drop}
 use Rattle.std.specs.Prelude.{IfOk, IsSome}
 use Rattle.std.proofs.lemmas.List.{take-take, drop-take, take_min}
 use Rattle.cue_disk.specs.Disk.{Contents, IsImage, LeavesAtEachMoment, Elapses}
@@ -7,6 +7,20 @@ use Rattle.cue_disk.proofs.Moments.{started, goes_on, and_then, weaker}
 use Rattle.cue_log.specs.declared.area.TheConstants.{AREA_LIMIT}
 use Rattle.cue_log.specs.Reading.{area_at}
 use Rattle.cue_log.specs.Log.{OnlyReads, IsFront}
+
+-- no call was made
+pub reads_none : {D : Type 0} (moment : D → ℕ) (held : D → Contents) (held_at : D → ℕ → Contents) (old : D) → held_at old (moment old) ≡ held old → OnlyReads moment held held_at old old
+reads_none moment held held_at old now = record {
+  same = refl;
+  leaves = started moment held_at old (held old) (IsImage (held old)) now (λ image left. left);
+}
+
+-- one read
+pub reads_once : {D : Type 0} (moment : D → ℕ) (held : D → Contents) (held_at : D → ℕ → Contents) (old new : D) → held_at old (moment old) ≡ held old → held new ≡ held old → Elapses (moment old) (moment new) (held_at old) (held_at new) (held new) → OnlyReads moment held held_at old new
+reads_once moment held held_at old new now same time = record {
+  same = same;
+  leaves = goes_on moment held_at old old new (IsImage (held old)) (held new) (started moment held_at old (held old) (IsImage (held old)) now (λ image left. left)) time (λ image left. subst (λ (c : Contents). IsImage c image) same left);
+}
 
 -- Reads after reads only read.
 pub reads_next : {D : Type 0} (moment : D → ℕ) (held : D → Contents) (held_at : D → ℕ → Contents) (old mid new : D) → OnlyReads moment held held_at old mid → OnlyReads moment held held_at mid new → OnlyReads moment held held_at old new

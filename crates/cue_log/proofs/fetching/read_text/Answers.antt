@@ -28,3 +28,24 @@ loop-text-preserved g c =
       short = omega (arith, c.in_ok-read_more.ensures.len, c.min-more.ensures, c.loop-text-test.true);
       failures = c.in_ok-read_more.ensures.no_other (λ no_. absurd (cc no_)) ∙ so_far.failures;
     }
+
+pub returns-in_err-read_more-clause-reads : goal.returns-in_err-read_more-clause-reads
+returns-in_err-read_more-clause-reads g c = λ honest.
+    let so_far = c.loop-text.invariant in
+    reads_next g.D.Disk.moment g.D.Disk.held g.D.Disk.held_at c.args.disk.now c.loop-text.disk c.read_more.new.disk (so_far.reads honest) (c.read_more.ensures.reads (so_far.honest.1 honest))
+
+pub returns-clause-reads : goal.returns-clause-reads
+returns-clause-reads g c = λ honest. c.loop-text.invariant.reads honest
+
+pub returns-clause-text : goal.returns-clause-text
+returns-clause-text g c = λ honest. c.loop-text.invariant.front honest
+
+pub returns-in_err-read_more-clause-honest : goal.returns-in_err-read_more-clause-honest
+returns-in_err-read_more-clause-honest g c = 
+    let so_far = c.loop-text.invariant in
+    (λ honest. so_far.honest.0 (c.read_more.ensures.honest.0 honest), λ honest. c.read_more.ensures.honest.1 (so_far.honest.1 honest))
+
+pub returns-then-is_whole-clause-honest : goal.returns-then-is_whole-clause-honest
+returns-then-is_whole-clause-honest g c = 
+    let so_far = c.loop-text.invariant in
+    (λ honest. so_far.honest.0 (c.read_more.ensures.honest.0 honest), λ honest. c.read_more.ensures.honest.1 (so_far.honest.1 honest))

@@ -1,15 +1,19 @@
 -- What a store that is opened and then closed comes to.
-use Rattle.std.proofs.Common.{◌≡◌, inr, ℕ, ◌+◌, ◌-◌, ◌^◌, ◌<◌, List, length, Result, Ok, Err, ◌∙◌, sym, subst, IsTrue}
+use Rattle.std.proofs.Common.{◌≡◌, inr, ℕ, ◌+◌, ◌-◌, ◌^◌, ◌<◌, List, length, Result, Ok, Err, ◌∙◌, ap, sym, subst, IsTrue}
+use Rattle.std.specs.Prelude.{IfOk}
 use Rattle.cue_disk.specs.Disk.{Contents, IsImage}
 use Rattle.cue_log.specs.Area.{area_text}
 use Rattle.cue_log.specs.declared.area.TheConstants.{AREA_LIMIT}
 use Rattle.cue_snap.specs.Observed.{first_after, second_after}
+use Rattle.cue_core.specs.declared.event.Event.{Event}
 use Rattle.cue_core.specs.State.{ShowState}
+use Rattle.cue_core.specs.Steps.{folded}
+use Rattle.cue_core.specs.Happenings.{events_at, recovered}
 use Rattle.cue_records.specs.State.{state_text}
 use Rattle.cue_keeper.specs.Due.{is_due}
 use Rattle.cue_keeper.specs.Stands.{Stands, StandsEither, IsKept}
 use Rattle.cue_core.specs.Batches.{closed}
-use Rattle.cue_engine.specs.Recovery.{IsLeftOrStands, NeedsArea, NoGenerationLeft, NoRoomLeft, RefusedBut, cancels_length}
+use Rattle.cue_engine.specs.Recovery.{ClosedFrom, IsLeftOrStands, NeedsArea, NoGenerationLeft, NoRoomLeft, RefusedBut, cancels_length}
 
 -- ---- what a crash leaves
 
@@ -54,3 +58,15 @@ no_room one other s generation count end kept first second due long = record {
 pub unwritten : {T E D : Type 0} (fault : E) (first_in second_in : T → D) (P Q : D → Type 0) (a b : D) (r : Result T (E × D × D)) → RefusedBut fault ((first_after first_in r ≡ a) × (second_after second_in r ≡ b)) r → P a → Q b → RefusedBut fault (P (first_after first_in r) × Q (second_after second_in r)) r
 unwritten fault first_in second_in P Q a b (Ok made) same p q = tt
 unwritten fault first_in second_in P Q a b (Err refused) same p q = λ other. (subst P (sym (same other).0) p, subst Q (sym (same other).1) q)
+
+-- ---- the state that was closed
+
+-- the cancels of what is undecided close the state
+pub closed_by : (s t : ShowState) (es : List Event) → t ≡ s → es ≡ events_at t recovered → folded s es ≡ closed s
+unfolding closed
+closed_by s t es same is = ap (folded s) (is ∙ ap (λ (u : ShowState). events_at u recovered) same)
+
+-- what was made keeps the closed state of one that stood
+pub closed_from : {T E : Type 0} (state_in : T → ShowState) (x y : List ℕ) (s : ShowState) (r : Result T E) → Stands x y s → IfOk r (λ made. state_in made ≡ closed s) → IfOk r (λ made. ClosedFrom x y (state_in made))
+closed_from state_in x y s (Ok made) stood is = record { before = s; stood = stood; is = is }
+closed_from state_in x y s (Err refused) stood is = tt

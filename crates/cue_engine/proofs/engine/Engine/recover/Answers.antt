@@ -9,8 +9,8 @@ use Rattle.cue_keeper.proofs.Moving.{opened_then, leaves_weaker}
 use Rattle.cue_keeper.proofs.Refused.{is_opened}
 use Rattle.cue_core.specs.Batches.{closed}
 use Rattle.cue_engine.specs.Recovery.{IsLeftOrStands}
-use Rattle.cue_engine.specs.Words.{first_of, second_of}
-use Rattle.cue_engine.proofs.Reopened.{left_or_stands, unwritten}
+use Rattle.cue_engine.specs.Words.{state_of, first_of, second_of}
+use Rattle.cue_engine.proofs.Reopened.{closed_from, left_or_stands, unwritten}
 use Rattle.cue_engine.proofs.engine.Engine.recover.Goals as goal
 
 pub returns-in-Ok-clause-any_moment : goal.returns-in-Ok-clause-any_moment
@@ -53,3 +53,19 @@ returns-in-Err-clause-any_moment g c = λ first second.
     let b = c.args.second in
     entry_pairs d.moment d.held d.held_at a b c.in-Err.refused.1 c.in-Err.refused.2 (IsLeftOrStands (d.held a) (d.held b)) (c.in-Err.ensures.first_moments first) (c.in-Err.ensures.second_moments second)
     (λ x y left_x left_y. inl (left_x, left_y))
+
+pub returns-in-Ok-clause-stood : goal.returns-in-Ok-clause-stood
+returns-in-Ok-clause-stood g c = λ first second.
+    let d = g.D.Disk in
+    closed_from state_of (d.held c.args.first).bytes (d.held c.args.second).bytes (kept.state_of c.in-Ok.keeper) c.close_opened.result (c.in-Ok.ensures.stood first second) c.close_opened.ensures.state
+
+pub returns-in-Ok-clause-stands : goal.returns-in-Ok-clause-stands
+returns-in-Ok-clause-stands g c = λ first second. c.close_opened.ensures.stands (c.in-Ok.ensures.first_honest.1 first) (c.in-Ok.ensures.second_honest.1 second)
+
+pub returns-in-Ok-clause-exhausted : goal.returns-in-Ok-clause-exhausted
+returns-in-Ok-clause-exhausted g c = λ first second.
+    rw (← c.in-Ok.ensures.first_bytes first, ← c.in-Ok.ensures.second_bytes second) (c.close_opened.ensures.exhausted (c.in-Ok.ensures.first_honest.1 first) (c.in-Ok.ensures.second_honest.1 second))
+
+pub returns-in-Ok-clause-full : goal.returns-in-Ok-clause-full
+returns-in-Ok-clause-full g c = λ first second.
+    rw (← c.in-Ok.ensures.first_bytes first, ← c.in-Ok.ensures.second_bytes second) (c.close_opened.ensures.full (c.in-Ok.ensures.first_honest.1 first) (c.in-Ok.ensures.second_honest.1 second))

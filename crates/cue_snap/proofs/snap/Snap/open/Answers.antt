@@ -1,4 +1,4 @@
-use Rattle.std.proofs.Common.{List, ℕ, sym, subst}
+use Rattle.std.proofs.Common.{◌≡◌, ◌≤◌, ◌↔◌, List, ℕ, sym, subst}
 use Rattle.cue_disk.specs.Disk.{LeavesAtEachMoment, IsImage}
 use Rattle.cue_snap.specs.Pair.{IsSpoiled, PairReads, PairLeaves}
 use Rattle.cue_snap.specs.Found.{disk_in}
@@ -66,3 +66,66 @@ pub returns-in-Err-find-clause-first_moments : goal.returns-in-Err-find-clause-f
 returns-in-Err-find-clause-first_moments g c = λ honest.
     let now = c.args.first in
     subst (λ (disk : _). LeavesAtEachMoment g.D.Disk.moment g.D.Disk.held_at now disk (IsImage (g.D.Disk.held now))) (sym c.into_disk.ensures) (c.in-Ok.ensures.any_moment honest)
+
+pub returns-in-Ok-choose-clause-first_bytes : goal.returns-in-Ok-choose-clause-first_bytes
+returns-in-Ok-choose-clause-first_bytes g c = λ honest. subst (λ (disk : _). (g.D.Disk.held disk).bytes ≡ (g.D.Disk.held c.args.first).bytes) (sym c.in-Ok-choose.ensures.first) (c.in-Ok.ensures.bytes honest)
+
+pub returns-in-Ok-choose-clause-first_failures : goal.returns-in-Ok-choose-clause-first_failures
+returns-in-Ok-choose-clause-first_failures g c = subst (λ (disk : _). g.D.Disk.failures c.args.first ≤ g.D.Disk.failures disk) (sym c.in-Ok-choose.ensures.first) c.in-Ok.ensures.failures
+
+pub returns-in-Ok-choose-clause-first_honest : goal.returns-in-Ok-choose-clause-first_honest
+returns-in-Ok-choose-clause-first_honest g c = subst (λ (disk : _). g.D.Disk.is_honest disk ↔ g.D.Disk.is_honest c.args.first) (sym c.in-Ok-choose.ensures.first) c.in-Ok.ensures.honest
+
+pub returns-in-Ok-choose-clause-second_bytes : goal.returns-in-Ok-choose-clause-second_bytes
+returns-in-Ok-choose-clause-second_bytes g c = λ honest. subst (λ (disk : _). (g.D.Disk.held disk).bytes ≡ (g.D.Disk.held c.args.second).bytes) (sym c.in-Ok-choose.ensures.second) (c.in-Ok-find.ensures.bytes honest)
+
+pub returns-in-Ok-choose-clause-second_failures : goal.returns-in-Ok-choose-clause-second_failures
+returns-in-Ok-choose-clause-second_failures g c = subst (λ (disk : _). g.D.Disk.failures c.args.second ≤ g.D.Disk.failures disk) (sym c.in-Ok-choose.ensures.second) c.in-Ok-find.ensures.failures
+
+pub returns-in-Ok-choose-clause-second_honest : goal.returns-in-Ok-choose-clause-second_honest
+returns-in-Ok-choose-clause-second_honest g c = subst (λ (disk : _). g.D.Disk.is_honest disk ↔ g.D.Disk.is_honest c.args.second) (sym c.in-Ok-choose.ensures.second) c.in-Ok-find.ensures.honest
+
+pub returns-in-Err-Damaged-default-default-clause-first_bytes : goal.returns-in-Err-Damaged-default-default-clause-first_bytes
+returns-in-Err-Damaged-default-default-clause-first_bytes g c = λ honest. subst (λ (disk : _). (g.D.Disk.held disk).bytes ≡ (g.D.Disk.held c.args.first).bytes) (sym c.in-Err-Damaged-default-default.ensures.first) (c.in-Ok.ensures.bytes honest)
+
+pub returns-in-Err-Damaged-default-default-clause-first_failures : goal.returns-in-Err-Damaged-default-default-clause-first_failures
+returns-in-Err-Damaged-default-default-clause-first_failures g c = subst (λ (disk : _). g.D.Disk.failures c.args.first ≤ g.D.Disk.failures disk) (sym c.in-Err-Damaged-default-default.ensures.first) c.in-Ok.ensures.failures
+
+pub returns-in-Err-Damaged-default-default-clause-first_honest : goal.returns-in-Err-Damaged-default-default-clause-first_honest
+returns-in-Err-Damaged-default-default-clause-first_honest g c = subst (λ (disk : _). g.D.Disk.is_honest disk ↔ g.D.Disk.is_honest c.args.first) (sym c.in-Err-Damaged-default-default.ensures.first) c.in-Ok.ensures.honest
+
+pub returns-in-Err-Damaged-default-default-clause-second_bytes : goal.returns-in-Err-Damaged-default-default-clause-second_bytes
+returns-in-Err-Damaged-default-default-clause-second_bytes g c = λ honest. subst (λ (disk : _). (g.D.Disk.held disk).bytes ≡ (g.D.Disk.held c.args.second).bytes) (sym c.in-Err-Damaged-default-default.ensures.second) (c.in-Ok-find.ensures.bytes honest)
+
+pub returns-in-Err-Damaged-default-default-clause-second_failures : goal.returns-in-Err-Damaged-default-default-clause-second_failures
+returns-in-Err-Damaged-default-default-clause-second_failures g c = subst (λ (disk : _). g.D.Disk.failures c.args.second ≤ g.D.Disk.failures disk) (sym c.in-Err-Damaged-default-default.ensures.second) c.in-Ok-find.ensures.failures
+
+pub returns-in-Err-Damaged-default-default-clause-second_honest : goal.returns-in-Err-Damaged-default-default-clause-second_honest
+returns-in-Err-Damaged-default-default-clause-second_honest g c = subst (λ (disk : _). g.D.Disk.is_honest disk ↔ g.D.Disk.is_honest c.args.second) (sym c.in-Err-Damaged-default-default.ensures.second) c.in-Ok-find.ensures.honest
+
+pub returns-in-Err-Unformed-default-default-clause-first_bytes : goal.returns-in-Err-Unformed-default-default-clause-first_bytes
+returns-in-Err-Unformed-default-default-clause-first_bytes g c = λ honest. subst (λ (disk : _). (g.D.Disk.held disk).bytes ≡ (g.D.Disk.held c.args.first).bytes) (sym c.in-Err-Unformed-default-default.ensures.first) (c.in-Ok.ensures.bytes honest)
+
+pub returns-in-Err-Unformed-default-default-clause-first_failures : goal.returns-in-Err-Unformed-default-default-clause-first_failures
+returns-in-Err-Unformed-default-default-clause-first_failures g c = subst (λ (disk : _). g.D.Disk.failures c.args.first ≤ g.D.Disk.failures disk) (sym c.in-Err-Unformed-default-default.ensures.first) c.in-Ok.ensures.failures
+
+pub returns-in-Err-Unformed-default-default-clause-first_honest : goal.returns-in-Err-Unformed-default-default-clause-first_honest
+returns-in-Err-Unformed-default-default-clause-first_honest g c = subst (λ (disk : _). g.D.Disk.is_honest disk ↔ g.D.Disk.is_honest c.args.first) (sym c.in-Err-Unformed-default-default.ensures.first) c.in-Ok.ensures.honest
+
+pub returns-in-Err-Unformed-default-default-clause-second_bytes : goal.returns-in-Err-Unformed-default-default-clause-second_bytes
+returns-in-Err-Unformed-default-default-clause-second_bytes g c = λ honest. subst (λ (disk : _). (g.D.Disk.held disk).bytes ≡ (g.D.Disk.held c.args.second).bytes) (sym c.in-Err-Unformed-default-default.ensures.second) (c.in-Ok-find.ensures.bytes honest)
+
+pub returns-in-Err-Unformed-default-default-clause-second_failures : goal.returns-in-Err-Unformed-default-default-clause-second_failures
+returns-in-Err-Unformed-default-default-clause-second_failures g c = subst (λ (disk : _). g.D.Disk.failures c.args.second ≤ g.D.Disk.failures disk) (sym c.in-Err-Unformed-default-default.ensures.second) c.in-Ok-find.ensures.failures
+
+pub returns-in-Err-Unformed-default-default-clause-second_honest : goal.returns-in-Err-Unformed-default-default-clause-second_honest
+returns-in-Err-Unformed-default-default-clause-second_honest g c = subst (λ (disk : _). g.D.Disk.is_honest disk ↔ g.D.Disk.is_honest c.args.second) (sym c.in-Err-Unformed-default-default.ensures.second) c.in-Ok-find.ensures.honest
+
+pub returns-in-Err-find-clause-first_bytes : goal.returns-in-Err-find-clause-first_bytes
+returns-in-Err-find-clause-first_bytes g c = λ honest. subst (λ (disk : _). (g.D.Disk.held disk).bytes ≡ (g.D.Disk.held c.args.first).bytes) (sym c.into_disk.ensures) (c.in-Ok.ensures.bytes honest)
+
+pub returns-in-Err-find-clause-first_failures : goal.returns-in-Err-find-clause-first_failures
+returns-in-Err-find-clause-first_failures g c = subst (λ (disk : _). g.D.Disk.failures c.args.first ≤ g.D.Disk.failures disk) (sym c.into_disk.ensures) c.in-Ok.ensures.failures
+
+pub returns-in-Err-find-clause-first_honest : goal.returns-in-Err-find-clause-first_honest
+returns-in-Err-find-clause-first_honest g c = subst (λ (disk : _). g.D.Disk.is_honest disk ↔ g.D.Disk.is_honest c.args.first) (sym c.into_disk.ensures) c.in-Ok.ensures.honest

@@ -268,20 +268,34 @@ const OVER_STATES: [&str; 7] = [
     "write_state",
 ];
 
-// The same, with the shows: they are dropped behind it.
-fn measure_shows<R: Clock + Print + AllocGlobal>(rt: &R, word: &str) -> io::Result<()> {
-    let alloc = rt.alloc();
-    if !OVER_STATES.iter().any(|measure| is_asked(word, measure)) {
-        return Ok(());
-    }
-    match (shows::empty(alloc), shows::made(alloc, FULL)) {
-        (Some(empty), Some(full)) => {
-            let measured = measure_over(rt, word, empty.state(), full.state());
-            let_go(empty);
+// The same over a full show, which is dropped behind it.
+fn measure_full<R: Clock + Print + AllocGlobal>(
+    rt: &R,
+    word: &str,
+    empty: &State,
+) -> io::Result<()> {
+    match shows::made(rt.alloc(), FULL) {
+        Some(full) => {
+            let measured = measure_over(rt, word, empty, full.state());
             let_go(full);
             measured
         }
-        _ => say_wrong(rt, word),
+        None => say_wrong(rt, word),
+    }
+}
+
+// The same over an empty and a full show.
+fn measure_shows<R: Clock + Print + AllocGlobal>(rt: &R, word: &str) -> io::Result<()> {
+    if !OVER_STATES.iter().any(|measure| is_asked(word, measure)) {
+        return Ok(());
+    }
+    match shows::empty(rt.alloc()) {
+        Some(empty) => {
+            let measured = measure_full(rt, word, empty.state());
+            let_go(empty);
+            measured
+        }
+        None => say_wrong(rt, word),
     }
 }
 

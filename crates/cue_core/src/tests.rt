@@ -108,6 +108,47 @@ fn fit(alloc: Global, asked: &Request) -> Result<String, Fail> {
     Ok(String::from_str(alloc, text)?)
 }
 
+fn undecided_in(alloc: Global, state: &State) -> Result<String, Fail> {
+    let numbers = undecided(alloc, state)?;
+    Ok(told::of_numbers(alloc, &numbers)?)
+}
+
+fn power(rt: &impl Abort, alloc: Global, state: &mut State) -> Result<String, Fail> {
+    let numbers = undecided(alloc, state)?;
+    give_up(rt, alloc, state, &numbers, Reason::Power)
+}
+
+fn tick(rt: &impl Abort, alloc: Global, state: &mut State, now: &str) -> Result<String, Fail> {
+    let due = state.live().due(now.parse()?)?;
+    give_up(rt, alloc, state, &due, Reason::Deadline)
+}
+
+fn happen_so(alloc: Global, state: &mut State, words: &[&str]) -> Result<String, Fail> {
+    let event = reading::event(alloc, words)?;
+    happen(alloc, state, &event)
+}
+
+fn fit_so(alloc: Global, words: &[&str]) -> Result<String, Fail> {
+    let asked = reading::read(alloc, words)?;
+    fit(alloc, &asked)
+}
+
+fn judge_so(rt: &impl Abort, alloc: Global, state: &State, words: &[&str]) -> Result<String, Fail> {
+    let asked = reading::read(alloc, words)?;
+    judge_only(rt, alloc, state, &asked)
+}
+
+fn carry_out_so(
+    rt: &impl Abort,
+    alloc: Global,
+    state: &mut State,
+    words: &[&str],
+) -> Result<String, Fail> {
+    let asked = reading::read(alloc, words)?;
+    carry_out(rt, alloc, state, &asked)
+}
+
+// Carries out what a line of a script asks, and answers in words.
 fn answer(
     rt: &impl Abort,
     alloc: Global,
@@ -117,16 +158,13 @@ fn answer(
     match words {
         ["state"] => describe(rt, alloc, state),
         ["live"] => Ok(told::of_live(alloc, state.live())?),
-        ["undecided"] => Ok(told::of_numbers(alloc, &undecided(alloc, state)?)?),
-        ["power"] => give_up(rt, alloc, state, &undecided(alloc, state)?, Reason::Power),
-        ["tick", now] => {
-            let due = state.live().due(now.parse()?)?;
-            give_up(rt, alloc, state, &due, Reason::Deadline)
-        }
-        ["happen", words @ ..] => happen(alloc, state, &reading::event(alloc, words)?),
-        ["fit", words @ ..] => fit(alloc, &reading::read(alloc, words)?),
-        ["judge", words @ ..] => judge_only(rt, alloc, state, &reading::read(alloc, words)?),
-        words => carry_out(rt, alloc, state, &reading::read(alloc, words)?),
+        ["undecided"] => undecided_in(alloc, state),
+        ["power"] => power(rt, alloc, state),
+        ["tick", now] => tick(rt, alloc, state, now),
+        ["happen", words @ ..] => happen_so(alloc, state, words),
+        ["fit", words @ ..] => fit_so(alloc, words),
+        ["judge", words @ ..] => judge_so(rt, alloc, state, words),
+        words => carry_out_so(rt, alloc, state, words),
     }
 }
 

@@ -35,7 +35,22 @@ const BATCHES: &str = "\
 0001 0e 00000001 04 = Excuse 1 4
 0002 03 0131 01 03 00 0d 0132 02 03 00 00 04 01 00 = Cue 1 3[] Cue 2 3[] optional 4[]";
 
-// The batch is as the words say, and its text is these bytes.
+// The batch is as the words say.
+fn has_words(rt: &impl Abort, alloc: Global, batch: &Batch, words: &str) -> Result<(), AllocError> {
+    let text = told::of_batch(alloc, batch)?;
+    assert_eq!(rt; text.trim(), words);
+    Ok(())
+}
+
+// The text of the batch is these bytes, and is measured so.
+fn has_text(rt: &impl Abort, alloc: Global, batch: &Batch, bytes: &[u8]) -> Result<(), AllocError> {
+    assert_eq!(rt; batch_len(batch.as_slice()), bytes.len() as u64);
+    let text = write_batch(alloc, batch.as_slice())?;
+    assert_eq!(rt; text.as_slice(), bytes);
+    Ok(())
+}
+
+// These bytes are read as what the words say, and written again.
 fn assert_batch(
     rt: &impl Abort,
     alloc: Global,
@@ -43,11 +58,8 @@ fn assert_batch(
     words: &str,
 ) -> Result<(), ReadFault> {
     let batch = read_batch(alloc, bytes)?;
-    let text = told::of_batch(alloc, &batch)?;
-    assert_eq!(rt; text.trim(), words);
-    assert_eq!(rt; batch_len(batch.as_slice()), bytes.len() as u64, "{words}");
-    let again = write_batch(alloc, batch.as_slice())?;
-    assert_eq!(rt; again.as_slice(), bytes, "{words}");
+    has_words(rt, alloc, &batch, words)?;
+    has_text(rt, alloc, &batch, bytes)?;
     Ok(())
 }
 
@@ -72,12 +84,18 @@ fn text_of(alloc: Global, state: &State, event: Event) -> Result<Bytes, Fail> {
     Ok(write_batch(alloc, &[event])?)
 }
 
+// The text of the event that device 3 listens at port 9001, where nothing happened before.
+fn text_of_device(alloc: Global) -> Result<Bytes, Fail> {
+    let device = DeviceNo::of_byte(3).ok_or("a device number")?;
+    text_of(alloc, &State::empty(alloc), Event::Device(device, 9001))
+}
+
+const DEVICE: [u8; 6] = [0, 1, 1, 3, 0x23, 0x29];
+
 #[test]
 fn an_event_that_may_happen(rt: HostRuntime) -> Result<(), Fail> {
-    let alloc = rt.alloc();
-    let device = DeviceNo::of_byte(3).ok_or("a device number")?;
-    let text = text_of(alloc, &State::empty(alloc), Event::Device(device, 9001))?;
-    assert_eq!(rt; text.as_slice(), [0, 1, 1, 3, 0x23, 0x29].as_slice());
+    let text = text_of_device(rt.alloc())?;
+    assert_eq!(rt; text.as_slice(), DEVICE.as_slice());
     Ok(())
 }
 
@@ -91,17 +109,25 @@ fn many(alloc: Global, count: u16) -> Result<Vec<u8>, AllocError> {
     Ok(text)
 }
 
-#[test]
-fn a_batch_has_at_most_4096_events(rt: HostRuntime) -> Result<(), Fail> {
-    let alloc = rt.alloc();
-    let text = many(alloc, 4096)?;
-    let batch = read_batch(alloc, &text)?;
+// The text is read as 4,096 events, measured, and written again.
+fn has_4096_events(rt: &impl Abort, alloc: Global, text: &[u8]) -> Result<(), ReadFault> {
+    let batch = read_batch(alloc, text)?;
     assert_eq!(rt; batch.as_slice().len(), 4096);
     assert_eq!(rt; batch_len(batch.as_slice()), 20482);
-    let again = write_batch(alloc, batch.as_slice())?;
-    assert_eq!(rt; again.as_slice(), text.as_slice());
-    let found = read_batch(alloc, &many(alloc, 4097)?).err();
-    assert_eq!(rt; found, Some(ReadFault::Malformed));
+    has_text(rt, alloc, &batch, text)?;
+    Ok(())
+}
+
+// Why the text of so many events is not read.
+fn refused(alloc: Global, count: u16) -> Result<Option<ReadFault>, AllocError> {
+    let text = many(alloc, count)?;
+    Ok(read_batch(alloc, &text).err())
+}
+
+#[test]
+fn a_batch_has_at_most_4096_events(rt: HostRuntime) -> Result<(), Fail> {
+    has_4096_events(&rt, rt.alloc(), &many(rt.alloc(), 4096)?)?;
+    assert_eq!(rt; refused(rt.alloc(), 4097)?, Some(ReadFault::Malformed));
     Ok(())
 }
 

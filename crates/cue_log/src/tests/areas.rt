@@ -68,48 +68,68 @@ fn an_area_that_is_cut(rt: HostRuntime) -> Result<(), Fail> {
     Ok(())
 }
 
+// Why the area with one byte changed is refused; None where it is read.
+fn fault_of(alloc: Global, at: usize, value: u8) -> Option<OpenFault> {
+    opened_bytes(alloc, &changed(at, value)).err()
+}
+
+// How many records the area with one byte changed has.
+fn count_of(alloc: Global, at: usize, value: u8) -> Result<u64, OpenFault> {
+    Ok(opened_bytes(alloc, &changed(at, value))?.log.count())
+}
+
+fn unless(is_fit: bool, fault: OpenFault) -> Option<OpenFault> {
+    if is_fit { None } else { Some(fault) }
+}
+
+// Each gate of the area is changed to this value.
+fn gates_are(rt: &impl Abort, alloc: Global, value: u8) -> Result<(), OpenFault> {
+    let is_open = value == 1;
+    assert_eq!(rt;
+        fault_of(alloc, 0, value),
+        unless(is_open, OpenFault::Absent),
+        "the head gate is {value}"
+    );
+    assert_eq!(rt;
+        count_of(alloc, 28, value)?,
+        u64::from(is_open),
+        "the record's gate is {value}"
+    );
+    assert_eq!(rt;
+        fault_of(alloc, 39, value),
+        unless(!is_open, OpenFault::Damaged),
+        "the last gate is {value}"
+    );
+    Ok(())
+}
+
+// The area with one byte changed has this snapshot and this payload.
+fn has_changed(
+    rt: &impl Abort,
+    alloc: Global,
+    at: usize,
+    value: u8,
+    snapshot: &[u8],
+    payload: &[u8],
+) -> Result<(), OpenFault> {
+    let area = opened_bytes(alloc, &changed(at, value))?;
+    has(rt, &area, snapshot, &[payload]);
+    Ok(())
+}
+
+const OTHER_SNAPSHOT: [u8; 15] = [9, 0, 0, 0, 0, 0, 0, 0, 0, 0, 0, 0, 0, 0, 0];
+
+const OTHER_PAYLOAD: [u8; 6] = [0x00, 0x01, 0x00, 0x03, 0x23, 0x29];
+
 #[test]
 fn an_area_with_one_byte_changed(rt: HostRuntime) -> Result<(), Fail> {
-    let alloc = rt.alloc();
     for value in 0..=255u8 {
-        let found = opened_bytes(alloc, &changed(0, value)).err();
-        let want = if value == 1 {
-            None
-        } else {
-            Some(OpenFault::Absent)
-        };
-        assert_eq!(rt; found, want, "the head gate is {value}");
-
-        let area = opened_bytes(alloc, &changed(28, value))?;
-        assert_eq!(rt;
-            area.log.count(),
-            u64::from(value == 1),
-            "the record's gate is {value}"
-        );
-
-        let found = opened_bytes(alloc, &changed(39, value)).err();
-        let want = if value == 1 {
-            Some(OpenFault::Damaged)
-        } else {
-            None
-        };
-        assert_eq!(rt; found, want, "the last gate is {value}");
+        gates_are(&rt, rt.alloc(), value)?;
     }
-    let area = opened_bytes(alloc, &changed(32, 5))?;
-    has(&rt, &area, &SNAPSHOT, &[&PAYLOAD[..5]]);
-    assert_eq!(rt;
-        opened_bytes(alloc, &changed(32, 7)).err(),
-        Some(OpenFault::Damaged)
-    );
-    let area = opened_bytes(alloc, &changed(13, 9))?;
-    assert_eq!(rt; area.snapshot.as_slice().first().copied(), Some(9));
-    let area = opened_bytes(alloc, &changed(35, 0))?;
-    has(
-        &rt,
-        &area,
-        &SNAPSHOT,
-        &[[0, 1, 0, 3, 0x23, 0x29].as_slice()],
-    );
+    has_changed(&rt, rt.alloc(), 32, 5, &SNAPSHOT, &PAYLOAD[..5])?;
+    assert_eq!(rt; fault_of(rt.alloc(), 32, 7), Some(OpenFault::Damaged));
+    has_changed(&rt, rt.alloc(), 13, 9, &OTHER_SNAPSHOT, &PAYLOAD)?;
+    has_changed(&rt, rt.alloc(), 35, 0, &SNAPSHOT, &OTHER_PAYLOAD)?;
     Ok(())
 }
 
@@ -122,30 +142,37 @@ fn changed(at: usize, value: u8) -> [u8; 40] {
     bytes
 }
 
-#[test]
-fn closing_an_area(rt: HostRuntime) -> Result<(), Fail> {
-    let alloc = rt.alloc();
-    let mut empty = MemDisk::new(alloc);
-    assert_eq!(rt; close(&mut empty), Ok(()));
-    assert_eq!(rt; (empty.bytes().len(), empty.calls()), (0, 1));
+// The area of the disk is closed; then it has these bytes, and so many calls were made.
+fn closes(rt: &impl Abort, disk: &mut MemDisk, bytes: &[u8], calls: u64) {
+    assert_eq!(rt; close(disk), Ok(()));
+    assert_eq!(rt; (disk.bytes(), disk.calls()), (bytes, calls));
+}
 
-    let mut disk = MemDisk::from_bytes(alloc, &APPENDED)?;
-    assert_eq!(rt; close(&mut disk), Ok(()));
-    assert_eq!(rt; (disk.bytes(), disk.calls()), (changed(0, 0).as_slice(), 4));
-    // A gate that is not open is not written.
-    assert_eq!(rt; close(&mut disk), Ok(()));
-    assert_eq!(rt; disk.calls(), 7);
-    let mut other = MemDisk::from_bytes(alloc, &[9, 1])?;
-    assert_eq!(rt; close(&mut other), Ok(()));
-    assert_eq!(rt; other.bytes(), [9, 1].as_slice());
-
-    // What stands behind the new text stays.
+// A new area is formed over a closed one: what stands behind the new text stays.
+fn is_formed_over(rt: &impl Abort, disk: MemDisk) -> Result<(), DiskFault> {
     let mut want = APPENDED;
     want[8] = 2;
     want[12] = 0;
     want[13] = 0;
     let disk = formed(disk, 2, &[])?.retire();
     assert_eq!(rt; disk.bytes(), want.as_slice());
+    Ok(())
+}
+
+#[test]
+fn closing_an_area(rt: HostRuntime) -> Result<(), Fail> {
+    closes(&rt, &mut MemDisk::new(rt.alloc()), &[], 1);
+    closes(
+        &rt,
+        &mut MemDisk::from_bytes(rt.alloc(), &[9, 1])?,
+        &[9, 1],
+        3,
+    );
+    let mut disk = MemDisk::from_bytes(rt.alloc(), &APPENDED)?;
+    closes(&rt, &mut disk, &changed(0, 0), 4);
+    // A gate that is not open is not written.
+    closes(&rt, &mut disk, &changed(0, 0), 7);
+    is_formed_over(&rt, disk)?;
     Ok(())
 }
 
@@ -166,20 +193,33 @@ fn whether_there_is_an_area(rt: HostRuntime) -> Result<(), Fail> {
     Ok(())
 }
 
-#[test]
-fn a_log_goes_on_on_another_disk(rt: HostRuntime) -> Result<(), Fail> {
-    let alloc = rt.alloc();
-    let mut log = opened_bytes(alloc, &APPENDED)?.log;
+// The log goes on on a new disk, and the old one stays as it is.
+fn goes_on(rt: &impl Abort, alloc: Global, log: &mut Log<MemDisk>) -> Result<(), DiskFault> {
+    assert!(rt; !log.is_broken());
     let mut spare = MemDisk::new(alloc);
     close(&mut spare)?;
-    assert!(rt; !log.is_broken());
     assert_eq!(rt; log.renew(&mut spare, 2, &[5]), Ok(()));
     assert_eq!(rt; spare.bytes(), APPENDED.as_slice());
     assert_eq!(rt; (log.generation(), log.count()), (2, 0));
-    assert_eq!(rt; log.append(&Record::of(alloc, &[6])?), Ok(()));
-    let want = [
-        1, 0, 0, 0, 0, 0, 0, 0, 2, 0, 0, 0, 1, 5, 1, 0, 0, 0, 1, 6, 0,
-    ];
-    assert_eq!(rt; log.retire().bytes(), want.as_slice());
+    Ok(())
+}
+
+fn takes(rt: &impl Abort, alloc: Global, log: &mut Log<MemDisk>) -> Result<(), Fail> {
+    let record = Record::of(alloc, &[6])?;
+    assert_eq!(rt; log.append(&record), Ok(()));
+    Ok(())
+}
+
+// The area of generation 2 on the new disk.
+const RENEWED: [u8; 21] = [
+    1, 0, 0, 0, 0, 0, 0, 0, 2, 0, 0, 0, 1, 5, 1, 0, 0, 0, 1, 6, 0,
+];
+
+#[test]
+fn a_log_goes_on_on_another_disk(rt: HostRuntime) -> Result<(), Fail> {
+    let mut log = opened_bytes(rt.alloc(), &APPENDED)?.log;
+    goes_on(&rt, rt.alloc(), &mut log)?;
+    takes(&rt, rt.alloc(), &mut log)?;
+    assert_eq!(rt; log.retire().bytes(), RENEWED.as_slice());
     Ok(())
 }

@@ -41,11 +41,11 @@ pub returns-clause-text : goal.returns-clause-text
 returns-clause-text g c = λ honest. c.loop-text.invariant.front honest
 
 pub returns-in_err-read_more-clause-honest : goal.returns-in_err-read_more-clause-honest
-returns-in_err-read_more-clause-honest g c = 
+returns-in_err-read_more-clause-honest g c =
     let so_far = c.loop-text.invariant in
     (λ honest. so_far.honest.0 (c.read_more.ensures.honest.0 honest), λ honest. c.read_more.ensures.honest.1 (so_far.honest.1 honest))
 
 pub returns-then-is_whole-clause-honest : goal.returns-then-is_whole-clause-honest
-returns-then-is_whole-clause-honest g c = 
+returns-then-is_whole-clause-honest g c =
     let so_far = c.loop-text.invariant in
     (λ honest. so_far.honest.0 (c.read_more.ensures.honest.0 honest), λ honest. c.read_more.ensures.honest.1 (so_far.honest.1 honest))

@@ -21,11 +21,11 @@ pub returns-in-Area-clause-works : goal.returns-in-Area-clause-works
 returns-in-Area-clause-works g c = c.newer.ensures.works
 
 pub returns-in-Area-clause-chosen : goal.returns-in-Area-clause-chosen
-returns-in-Area-clause-chosen g c = 
+returns-in-Area-clause-chosen g c =
     subst (λ (found : _). g.D.Disk.is_honest (disk_of c.args.first.log) → g.D.Disk.is_honest (disk_in found) → IfOk c.newer.result (IsChosen g.D.Disk.held (disk_of c.args.first.log) (disk_in found))) (sym c.in-Area.is) c.newer.ensures.chosen
 
 pub returns-in-Area-clause-damaged : goal.returns-in-Area-clause-damaged
-returns-in-Area-clause-damaged g c = 
+returns-in-Area-clause-damaged g c =
     let held = g.D.Disk.held in
     let a = disk_of c.args.first.log in
     let b = disk_of c.in-Area.second.log in
@@ -33,14 +33,14 @@ returns-in-Area-clause-damaged g c =
     (λ honest_a honest_b. refused_as Damaged (OneGeneration (held a).bytes (held b).bytes) (IsSpoiled (held a).bytes (held b).bytes) c.newer.result (λ one. inr (inr one)) (c.newer.ensures.damaged honest_a honest_b))
 
 pub pair_of-requires-clause-older : goal.pair_of-requires-clause-older
-pair_of-requires-clause-older g c = 
+pair_of-requires-clause-older g c =
     let held = g.D.Disk.held in
     let absent = subst (λ (found : _). g.D.Disk.is_honest (disk_in found) → IsFound g.D.Disk.held found) c.in-Absent.is c.requires.second_found in
     λ honest. absent_leaves_older (held c.in-Absent.second) (generation_of c.args.first.log) (absent honest)
 
 -- the only area
 pub returns-in-Absent-clause-chosen : goal.returns-in-Absent-clause-chosen
-returns-in-Absent-clause-chosen g c = 
+returns-in-Absent-clause-chosen g c =
     let held = g.D.Disk.held in
     let a = disk_of c.args.first.log in
     let b = c.in-Absent.second in

@@ -11,7 +11,7 @@ pair_of-requires-clause-older g c = λ honest. absent_leaves_older (g.D.Disk.hel
 
 -- the only area
 pub returns-in-Area-clause-chosen : goal.returns-in-Area-clause-chosen
-returns-in-Area-clause-chosen g c = 
+returns-in-Area-clause-chosen g c =
     let held = g.D.Disk.held in
     let a = c.args.first in
     let b = disk_of c.in-Area.second.log in

@@ -35,32 +35,37 @@ const BATCHES: &str = "\
 0001 0e 00000001 04 = Excuse 1 4
 0002 03 0131 01 03 00 0d 0132 02 03 00 00 04 01 00 = Cue 1 3[] Cue 2 3[] optional 4[]";
 
-// The batch is as the words say.
-fn has_words(rt: &impl Abort, alloc: Global, batch: &Batch, words: &str) -> Result<(), AllocError> {
-    let text = told::of_batch(alloc, batch)?;
+// These bytes are read as the events that the words say.
+fn has_words(rt: &impl Abort, alloc: Global, bytes: &[u8], words: &str) -> Result<(), ReadFault> {
+    let batch = read_batch(alloc, bytes)?;
+    let text = told::of_batch(alloc, &batch)?;
     assert_eq!(rt; text.trim(), words);
     Ok(())
 }
 
-// The text of the batch is these bytes, and is measured so.
-fn has_text(rt: &impl Abort, alloc: Global, batch: &Batch, bytes: &[u8]) -> Result<(), AllocError> {
-    assert_eq!(rt; batch_len(batch.as_slice()), bytes.len() as u64);
+// The text of what these bytes are read as, and its length as it is measured.
+fn again(alloc: Global, bytes: &[u8]) -> Result<(Bytes, u64), ReadFault> {
+    let batch = read_batch(alloc, bytes)?;
     let text = write_batch(alloc, batch.as_slice())?;
+    Ok((text, batch_len(batch.as_slice())))
+}
+
+// These bytes are read, measured, and written again.
+fn has_text(rt: &impl Abort, alloc: Global, bytes: &[u8]) -> Result<(), ReadFault> {
+    let (text, len) = again(alloc, bytes)?;
     assert_eq!(rt; text.as_slice(), bytes);
+    assert_eq!(rt; len, bytes.len() as u64);
     Ok(())
 }
 
-// These bytes are read as what the words say, and written again.
 fn assert_batch(
     rt: &impl Abort,
     alloc: Global,
     bytes: &[u8],
     words: &str,
 ) -> Result<(), ReadFault> {
-    let batch = read_batch(alloc, bytes)?;
-    has_words(rt, alloc, &batch, words)?;
-    has_text(rt, alloc, &batch, bytes)?;
-    Ok(())
+    has_words(rt, alloc, bytes, words)?;
+    has_text(rt, alloc, bytes)
 }
 
 #[test]
@@ -114,8 +119,7 @@ fn has_4096_events(rt: &impl Abort, alloc: Global, text: &[u8]) -> Result<(), Re
     let batch = read_batch(alloc, text)?;
     assert_eq!(rt; batch.as_slice().len(), 4096);
     assert_eq!(rt; batch_len(batch.as_slice()), 20482);
-    has_text(rt, alloc, &batch, text)?;
-    Ok(())
+    has_text(rt, alloc, text)
 }
 
 // Why the text of so many events is not read.

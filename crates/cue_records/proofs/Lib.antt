@@ -12,6 +12,8 @@ pub mod Lengths
 pub mod Numbers
 pub mod Ranges
 pub mod ShowLaws
+pub mod Standing
 pub mod StateLaws
 pub mod Taking
 pub mod Longest
+pub mod Written

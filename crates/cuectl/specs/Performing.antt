@@ -29,7 +29,8 @@ pub record IsStateTold (old new : Option (List ℕ)) : Type 0 where
   pub state : ShowState
   pub printed : Appends old new (show_text state)
 
--- how a command ends: what is printed where its status is 0, and for a script all that is written; the text is what the reader has
+-- How a command ends: what is printed where its status is 0, and for a script all that is written. The text is what the
+-- reader has.
 abbrev pub EndsSo : Line → (status : ℕ) → (text old new : Option (List ℕ)) → Type 0
 EndsSo (Form dir) status text old new = status ≡ 0 → Appends old new formed_text
 EndsSo (Serve dir port turns) status text old new = status ≡ 0 → IsRunTold turns old new

@@ -16,6 +16,24 @@ fn put(disk: &mut MemDisk, at: u64, bytes: &[u8]) -> Result<(), DiskFault> {
     disk.write_at(at, bytes)
 }
 
+// The write answers this.
+fn puts(rt: &impl Abort, disk: &mut MemDisk, at: u64, bytes: &[u8], answer: Result<(), DiskFault>) {
+    assert_eq!(rt; put(disk, at, bytes), answer);
+}
+
+fn syncs(rt: &impl Abort, disk: &mut MemDisk, answer: Result<(), DiskFault>) {
+    assert_eq!(rt; disk.sync(), answer);
+}
+
+fn tells_its_length(rt: &impl Abort, disk: &mut MemDisk, answer: Result<u64, DiskFault>) {
+    assert_eq!(rt; disk.len(), answer);
+}
+
+// The disk has these bytes, and so many calls were made.
+fn has(rt: &impl Abort, disk: &MemDisk, bytes: &[u8], calls: u64) {
+    assert_eq!(rt; (disk.bytes(), disk.calls()), (bytes, calls));
+}
+
 // The disk's bytes after a crash.
 fn after_crash(
     rt: &impl Abort,
@@ -24,13 +42,17 @@ fn after_crash(
     junk: &[u8],
     want: &[u8],
 ) -> Result<(), Fail> {
-    let left = disk.crash(extra, junk)?;
-    assert_eq!(rt;
-        left.bytes(),
-        want,
-        "a crash with {extra} more bytes and {junk:?}"
-    );
-    assert_eq!(rt; left.calls(), 0);
+    has(rt, &disk.crash(extra, junk)?, want, 0);
+    Ok(())
+}
+
+// How many more bytes a crash leaves, the junk that it is handed, and the bytes after it.
+type Crash = (u64, &'static [u8], &'static [u8]);
+
+fn after_crashes(rt: &impl Abort, disk: &MemDisk, crashes: &[Crash]) -> Result<(), Fail> {
+    for (extra, junk, want) in crashes {
+        after_crash(rt, disk, *extra, junk, want)?;
+    }
     Ok(())
 }
 
@@ -42,85 +64,107 @@ fn written(alloc: Global) -> Result<MemDisk, Fail> {
     Ok(disk)
 }
 
-#[test]
-fn what_was_written_is_read(rt: HostRuntime) -> Result<(), Fail> {
-    let mut disk = MemDisk::new(rt.alloc());
-    assert_eq!(rt; disk.bytes(), [].as_slice());
-    assert_eq!(rt; put(&mut disk, 0, &[1, 2, 3]), Ok(()));
-    assert_eq!(rt; put(&mut disk, 2, &[4, 5]), Ok(()));
-    assert_eq!(rt; disk.sync(), Ok(()));
-    assert_eq!(rt; disk.len(), Ok(4));
-    assert_eq!(rt; disk.bytes(), [1, 2, 4, 5].as_slice());
-    let mut buf = [0, 0];
-    if disk.bytes().len() == 4 {
-        assert_eq!(rt; disk.read_at(1, &mut buf), Ok(()));
+// The two bytes from 1 on, of four; the test of the length is at run time here too.
+fn two_bytes(disk: &mut MemDisk) -> Result<[u8; 2], DiskFault> {
+    if disk.bytes().len() != 4 {
+        return Err(DiskFault);
     }
-    assert_eq!(rt; buf, [2, 4]);
-    assert_eq!(rt; disk.calls(), 5);
-    Ok(())
+    let mut buf = [0, 0];
+    disk.read_at(1, &mut buf)?;
+    Ok(buf)
 }
+
+#[test]
+fn what_was_written_is_read(rt: HostRuntime) {
+    let mut disk = MemDisk::new(rt.alloc());
+    has(&rt, &disk, &[], 0);
+    puts(&rt, &mut disk, 0, &[1, 2, 3], Ok(()));
+    puts(&rt, &mut disk, 2, &[4, 5], Ok(()));
+    syncs(&rt, &mut disk, Ok(()));
+    tells_its_length(&rt, &mut disk, Ok(4));
+    has(&rt, &disk, &[1, 2, 4, 5], 4);
+    assert_eq!(rt; two_bytes(&mut disk), Ok([2, 4]));
+    has(&rt, &disk, &[1, 2, 4, 5], 5);
+}
+
+// What a crash leaves of the disk above.
+const CRASHES: [Crash; 6] = [
+    (0, &[], &[1, 9, 8, 4]),
+    (0, &[50], &[1, 50, 8, 4]),
+    (0, &[50, 60, 70], &[1, 50, 60, 4]),
+    (1, &[50, 60, 70, 80], &[1, 50, 60, 4, 70]),
+    (2, &[], &[1, 9, 8, 4, 7, 6]),
+    (u64::MAX, &[50, 60, 70], &[1, 50, 60, 4, 70, 6]),
+];
 
 #[test]
 fn a_crash_leaves_the_junk_that_it_is_handed(rt: HostRuntime) -> Result<(), Fail> {
     let mut disk = written(rt.alloc())?;
-    assert_eq!(rt; disk.bytes(), [1, 9, 8, 4, 7, 6].as_slice());
-    after_crash(&rt, &disk, 0, &[], &[1, 9, 8, 4])?;
-    after_crash(&rt, &disk, 0, &[50], &[1, 50, 8, 4])?;
-    after_crash(&rt, &disk, 0, &[50, 60, 70], &[1, 50, 60, 4])?;
-    after_crash(&rt, &disk, 1, &[50, 60, 70, 80], &[1, 50, 60, 4, 70])?;
-    after_crash(&rt, &disk, 2, &[], &[1, 9, 8, 4, 7, 6])?;
-    after_crash(&rt, &disk, u64::MAX, &[50, 60, 70], &[1, 50, 60, 4, 70, 6])?;
-    assert_eq!(rt; disk.sync(), Ok(()));
-    after_crash(&rt, &disk, 5, &[50, 60], &[1, 9, 8, 4, 7, 6])?;
-    Ok(())
+    has(&rt, &disk, &[1, 9, 8, 4, 7, 6], 2);
+    after_crashes(&rt, &disk, &CRASHES)?;
+    syncs(&rt, &mut disk, Ok(()));
+    after_crash(&rt, &disk, 5, &[50, 60], &[1, 9, 8, 4, 7, 6])
+}
+
+// The second call, a write of five bytes at 1, fails.
+fn fails_within(rt: &impl Abort, disk: &mut MemDisk) -> Result<(), Fail> {
+    disk.fail_at(2);
+    tells_its_length(rt, disk, Ok(6));
+    puts(rt, disk, 1, &[9, 9, 9, 9, 9], Err(DiskFault));
+    has(rt, disk, &[1, 9, 9, 4, 5, 6], 2);
+    // All of the range is touched, and not only what was stored.
+    after_crash(rt, disk, 0, &[50, 51, 52, 53, 54], &[1, 50, 51, 52, 53, 54])?;
+    syncs(rt, disk, Ok(()));
+    has(rt, disk, &[1, 9, 9, 4, 5, 6], 3);
+    after_crash(rt, disk, 0, &[50], &[1, 9, 9, 4, 5, 6])
+}
+
+// The end of a range that the write did not reach is not there.
+fn fails_at_the_end(rt: &impl Abort, disk: &mut MemDisk) -> Result<(), Fail> {
+    disk.fail_at(1);
+    puts(rt, disk, 5, &[7, 7, 7, 7], Err(DiskFault));
+    has(rt, disk, &[1, 9, 9, 4, 5, 7, 7], 4);
+    after_crash(rt, disk, 9, &[50, 51, 52], &[1, 9, 9, 4, 5, 50, 51])
 }
 
 #[test]
 fn a_write_that_fails_stores_its_first_half(rt: HostRuntime) -> Result<(), Fail> {
     let mut disk = MemDisk::from_bytes(rt.alloc(), &[1, 2, 3, 4, 5, 6])?;
-    disk.fail_at(2);
-    assert_eq!(rt; disk.len(), Ok(6));
-    assert_eq!(rt; put(&mut disk, 1, &[9, 9, 9, 9, 9]), Err(DiskFault));
-    assert_eq!(rt; disk.bytes(), [1, 9, 9, 4, 5, 6].as_slice());
-    // All of the range is touched, and not only what was stored.
-    after_crash(
-        &rt,
-        &disk,
-        0,
-        &[50, 51, 52, 53, 54],
-        &[1, 50, 51, 52, 53, 54],
-    )?;
-    assert_eq!(rt; disk.sync(), Ok(()));
-    after_crash(&rt, &disk, 0, &[50], &[1, 9, 9, 4, 5, 6])?;
-    assert_eq!(rt; disk.calls(), 3);
+    fails_within(&rt, &mut disk)?;
+    fails_at_the_end(&rt, &mut disk)
+}
 
-    // The end of a range that the write did not reach is not there.
-    disk.fail_at(1);
-    assert_eq!(rt; put(&mut disk, 5, &[7, 7, 7, 7]), Err(DiskFault));
-    assert_eq!(rt; disk.bytes(), [1, 9, 9, 4, 5, 7, 7].as_slice());
-    after_crash(&rt, &disk, 9, &[50, 51, 52], &[1, 9, 9, 4, 5, 50, 51])?;
-    Ok(())
+// The second call, a write of three bytes at 1, fails and stops the disk.
+fn stops_within(rt: &impl Abort, disk: &mut MemDisk) {
+    disk.stop_at(2);
+    puts(rt, disk, 0, &[9], Ok(()));
+    puts(rt, disk, 1, &[8, 8, 8], Err(DiskFault));
+    has(rt, disk, &[9, 8, 3, 4], 2);
+}
+
+// Each call fails, and nothing changes.
+fn is_stopped(rt: &impl Abort, disk: &mut MemDisk) {
+    puts(rt, disk, 3, &[7, 7, 7], Err(DiskFault));
+    syncs(rt, disk, Err(DiskFault));
+    tells_its_length(rt, disk, Err(DiskFault));
+    has(rt, disk, &[9, 8, 3, 4], 5);
+}
+
+// A disk that is stopped before its first call.
+fn stops_at_once(rt: &impl Abort, disk: &mut MemDisk) -> Result<(), Fail> {
+    disk.stop_at(0);
+    puts(rt, disk, 0, &[9, 9], Err(DiskFault));
+    after_crash(rt, disk, 9, &[50, 51], &[1, 2])
 }
 
 #[test]
 fn a_stopped_disk_stays_as_it_is(rt: HostRuntime) -> Result<(), Fail> {
     let mut disk = MemDisk::from_bytes(rt.alloc(), &[1, 2, 3, 4])?;
-    disk.stop_at(2);
-    assert_eq!(rt; put(&mut disk, 0, &[9]), Ok(()));
-    assert_eq!(rt; put(&mut disk, 1, &[8, 8, 8]), Err(DiskFault));
-    assert_eq!(rt; disk.bytes(), [9, 8, 3, 4].as_slice());
-    assert_eq!(rt; put(&mut disk, 3, &[7, 7, 7]), Err(DiskFault));
-    assert_eq!(rt; disk.sync(), Err(DiskFault));
-    assert_eq!(rt; disk.len(), Err(DiskFault));
-    assert_eq!(rt; disk.bytes(), [9, 8, 3, 4].as_slice());
+    stops_within(&rt, &mut disk);
+    is_stopped(&rt, &mut disk);
     after_crash(&rt, &disk, 9, &[50, 51, 52, 53, 54], &[50, 51, 52, 53])?;
-    assert_eq!(rt; disk.calls(), 5);
-
-    let mut stopped = MemDisk::from_bytes(rt.alloc(), &[1, 2])?;
-    stopped.stop_at(0);
-    assert_eq!(rt; put(&mut stopped, 0, &[9, 9]), Err(DiskFault));
-    after_crash(&rt, &stopped, 9, &[50, 51], &[1, 2])?;
-    Ok(())
+    has(&rt, &disk, &[9, 8, 3, 4], 5);
+    stops_at_once(&rt, &mut MemDisk::from_bytes(rt.alloc(), &[1, 2])?)
 }
 
 // Adds a byte at the end, on any disk.
@@ -131,17 +175,23 @@ fn add<D: Disk>(disk: &mut D, byte: u8) -> Result<u64, DiskFault> {
     disk.len()
 }
 
-#[test]
-fn a_disk_that_promises_nothing_is_a_disk(rt: HostRuntime) -> Result<(), Fail> {
-    let mut disk = MemDisk::new(rt.alloc());
-    assert_eq!(rt; add(&mut disk, 7), Ok(1));
-    assert_eq!(rt; add(&mut disk, 8), Ok(2));
-    assert_eq!(rt; disk.bytes(), [7, 8].as_slice());
+// A byte is added, and the disk then tells this length.
+fn adds<D: Disk>(rt: &impl Abort, disk: &mut D, byte: u8, answer: Result<u64, DiskFault>) {
+    assert_eq!(rt; add(disk, byte), answer);
+}
 
-    let mut unproven = UnprovenDisk::new();
-    assert_eq!(rt; add(&mut unproven, 7), Ok(1));
-    assert_eq!(rt; add(&mut unproven, 8), Ok(2));
-    assert_eq!(rt; add(&mut unproven, 9), Ok(3));
-    assert_eq!(rt; add(&mut unproven, 10), Err(DiskFault));
-    Ok(())
+fn takes_three_bytes(rt: &impl Abort, disk: &mut UnprovenDisk) {
+    adds(rt, disk, 7, Ok(1));
+    adds(rt, disk, 8, Ok(2));
+    adds(rt, disk, 9, Ok(3));
+    adds(rt, disk, 10, Err(DiskFault));
+}
+
+#[test]
+fn a_disk_that_promises_nothing_is_a_disk(rt: HostRuntime) {
+    let mut disk = MemDisk::new(rt.alloc());
+    adds(&rt, &mut disk, 7, Ok(1));
+    adds(&rt, &mut disk, 8, Ok(2));
+    has(&rt, &disk, &[7, 8], 8);
+    takes_three_bytes(&rt, &mut UnprovenDisk::new());
 }

@@ -51,15 +51,55 @@ fn opened_bytes(alloc: Global, bytes: &[u8]) -> Result<Opened<MemDisk>, OpenFaul
     opened(alloc, MemDisk::from_bytes(alloc, bytes)?)
 }
 
+// The log is of this generation, has so many records, and goes on.
+fn is_at(rt: &impl Abort, log: &Log<MemDisk>, generation: u64, count: u64) {
+    assert_eq!(rt;
+        (log.generation(), log.count(), log.is_broken()),
+        (generation, count, false)
+    );
+}
+
+// The log answers this to a record.
+fn appends(
+    rt: &impl Abort,
+    log: &mut Log<MemDisk>,
+    added: &Record,
+    answer: Result<(), AppendFault>,
+) {
+    assert_eq!(rt; log.append(added), answer);
+}
+
+// The log has room for a record of this payload, and takes it.
+fn takes(
+    rt: &impl Abort,
+    alloc: Global,
+    log: &mut Log<MemDisk>,
+    payload: &[u8],
+) -> Result<(), RecordFault> {
+    let added = Record::of(alloc, payload)?;
+    assert_eq!(rt; (added.payload(), log.has_room(&added)), (payload, true));
+    appends(rt, log, &added, Ok(()));
+    Ok(())
+}
+
+// The next payload is this one, or there is none.
+fn next_is(rt: &impl Abort, found: &mut Payloads, want: Option<&[u8]>) {
+    assert_eq!(rt; found.next(), want);
+}
+
+// These payloads are there, and no more.
+fn has_payloads(rt: &impl Abort, records: &Records, payloads: &[&[u8]]) {
+    assert_eq!(rt; records.count(), payloads.len() as u64);
+    let mut found = records.payloads();
+    for payload in payloads {
+        next_is(rt, &mut found, Some(*payload));
+    }
+    next_is(rt, &mut found, None);
+}
+
 // The area is of generation 1, and has this snapshot and these payloads.
 fn has(rt: &impl Abort, area: &Opened<MemDisk>, snapshot: &[u8], payloads: &[&[u8]]) {
-    assert_eq!(rt; area.log.generation(), 1);
-    assert_eq!(rt; area.log.count(), payloads.len() as u64);
+    is_at(rt, &area.log, 1, payloads.len() as u64);
     assert_eq!(rt; area.snapshot.as_slice(), snapshot);
-    assert_eq!(rt; area.records.count(), payloads.len() as u64);
-    let mut found = area.records.payloads();
-    for payload in payloads {
-        assert_eq!(rt; found.next(), Some(*payload));
-    }
-    assert_eq!(rt; found.next(), None);
+    has_payloads(rt, &area.records, payloads);
 }

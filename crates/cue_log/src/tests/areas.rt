@@ -1,22 +1,20 @@
 // The bytes of an area, and what its reader makes of any others.
 use super::*;
 
+// A disk with a new area, which has no record.
+fn new_area(rt: &impl Abort, alloc: Global) -> Result<MemDisk, DiskFault> {
+    let log = formed(MemDisk::new(alloc), 1, &SNAPSHOT)?;
+    is_at(rt, &log, 1, 0);
+    Ok(log.retire())
+}
+
 #[test]
 fn the_bytes_of_an_area(rt: HostRuntime) -> Result<(), Fail> {
-    let alloc = rt.alloc();
-    let log = formed(MemDisk::new(alloc), 1, &SNAPSHOT)?;
-    assert_eq!(rt; log.generation(), 1);
-    assert_eq!(rt; log.count(), 0);
-    let disk = log.retire();
+    let disk = new_area(&rt, rt.alloc())?;
     assert_eq!(rt; disk.bytes(), FORMED.as_slice());
-
-    let added = Record::of(alloc, &PAYLOAD)?;
-    assert_eq!(rt; added.payload(), PAYLOAD.as_slice());
-    let mut log = opened(alloc, disk)?.log;
-    assert!(rt; log.has_room(&added));
-    assert_eq!(rt; log.append(&added), Ok(()));
-    assert_eq!(rt; log.count(), 1);
-    assert!(rt; !log.is_broken());
+    let mut log = opened(rt.alloc(), disk)?.log;
+    takes(&rt, rt.alloc(), &mut log, &PAYLOAD)?;
+    is_at(&rt, &log, 1, 1);
     assert_eq!(rt; log.retire().bytes(), APPENDED.as_slice());
     Ok(())
 }
@@ -30,52 +28,65 @@ fn an_area_is_opened(rt: HostRuntime) -> Result<(), Fail> {
     Ok(())
 }
 
+// A disk with an area of this snapshot and four records of this payload.
+fn with_four(
+    rt: &impl Abort,
+    alloc: Global,
+    snapshot: &[u8],
+    payload: &[u8],
+) -> Result<MemDisk, Fail> {
+    let mut log = formed(MemDisk::new(alloc), 1, snapshot)?;
+    for _ in 0..4 {
+        takes(rt, alloc, &mut log, payload)?;
+    }
+    Ok(log.retire())
+}
+
+// Its bytes, and those of another area behind them.
+fn followed(alloc: Global, disk: &MemDisk) -> Result<Vec<u8>, AllocError> {
+    let mut bytes = disk.bytes().to_vec(alloc)?;
+    bytes.extend_from_slice(&APPENDED)?;
+    Ok(bytes)
+}
+
+// Such an area is read, and what stands behind its last gate is not.
+fn is_read(rt: &impl Abort, alloc: Global, snapshot: &[u8], payload: &[u8]) -> Result<(), Fail> {
+    let disk = with_four(rt, alloc, snapshot, payload)?;
+    assert_eq!(rt; disk.bytes().len(), 13 + 70_000 + 4 * 32_773 + 1);
+    let area = opened_bytes(alloc, &followed(alloc, &disk)?)?;
+    has(rt, &area, snapshot, &[payload, payload, payload, payload]);
+    Ok(())
+}
+
 #[test]
 fn an_area_is_read_beyond_the_first_read(rt: HostRuntime) -> Result<(), Fail> {
-    let alloc = rt.alloc();
-    let snapshot: Vec<u8> = vec![in alloc; 7; 70_000]?;
-    let payload: Vec<u8> = vec![in alloc; 1; 32_768]?;
-    let mut log = formed(MemDisk::new(alloc), 1, &snapshot)?;
-    for _ in 0..4 {
-        assert_eq!(rt; log.append(&Record::of(alloc, &payload)?), Ok(()));
-    }
-    let mut bytes = log.retire().bytes().to_vec(alloc)?;
-    assert_eq!(rt; bytes.len(), 13 + 70_000 + 4 * 32_773 + 1);
-    // What stands behind the last gate is not read.
-    bytes.extend_from_slice(&APPENDED)?;
-    let area = opened_bytes(alloc, &bytes)?;
-    let payload = payload.as_slice();
-    has(&rt, &area, &snapshot, &[payload, payload, payload, payload]);
-    Ok(())
+    let snapshot: Vec<u8> = vec![in rt.alloc(); 7; 70_000]?;
+    let payload: Vec<u8> = vec![in rt.alloc(); 1; 32_768]?;
+    is_read(&rt, rt.alloc(), &snapshot, &payload)
+}
+
+// Why these bytes are refused; None where they are read.
+fn is_refused(rt: &impl Abort, alloc: Global, bytes: &[u8], fault: Option<OpenFault>) {
+    let found = opened_bytes(alloc, bytes).err();
+    assert_eq!(rt; (bytes, found), (bytes, fault));
 }
 
 #[test]
-fn an_area_that_is_cut(rt: HostRuntime) -> Result<(), Fail> {
-    let alloc = rt.alloc();
-    for len in 0..40 {
-        let want = if len < 2 {
-            OpenFault::Absent
-        } else {
-            OpenFault::Damaged
-        };
-        let found = opened_bytes(alloc, &APPENDED[..len]).err();
-        assert_eq!(rt; found, Some(want), "cut to {len}");
+fn an_area_that_is_cut(rt: HostRuntime) {
+    for len in 0..2 {
+        is_refused(&rt, rt.alloc(), &APPENDED[..len], Some(OpenFault::Absent));
     }
-    assert_eq!(rt;
-        opened_bytes(alloc, &[1, 0, 0, 0, 0]).err(),
-        Some(OpenFault::Damaged)
-    );
+    for len in 2..40 {
+        is_refused(&rt, rt.alloc(), &APPENDED[..len], Some(OpenFault::Damaged));
+    }
+    is_refused(&rt, rt.alloc(), &[1, 0, 0, 0, 0], Some(OpenFault::Damaged));
+}
+
+// The area with one byte changed has so many records.
+fn counts(rt: &impl Abort, alloc: Global, at: usize, value: u8, count: u64) -> Result<(), Fail> {
+    let area = opened_bytes(alloc, &changed(at, value))?;
+    assert_eq!(rt; (value, area.log.count()), (value, count));
     Ok(())
-}
-
-// Why the area with one byte changed is refused; None where it is read.
-fn fault_of(alloc: Global, at: usize, value: u8) -> Option<OpenFault> {
-    opened_bytes(alloc, &changed(at, value)).err()
-}
-
-// How many records the area with one byte changed has.
-fn count_of(alloc: Global, at: usize, value: u8) -> Result<u64, OpenFault> {
-    Ok(opened_bytes(alloc, &changed(at, value))?.log.count())
 }
 
 fn unless(is_fit: bool, fault: OpenFault) -> Option<OpenFault> {
@@ -83,23 +94,13 @@ fn unless(is_fit: bool, fault: OpenFault) -> Option<OpenFault> {
 }
 
 // Each gate of the area is changed to this value.
-fn gates_are(rt: &impl Abort, alloc: Global, value: u8) -> Result<(), OpenFault> {
+fn gates_are(rt: &impl Abort, alloc: Global, value: u8) -> Result<(), Fail> {
     let is_open = value == 1;
-    assert_eq!(rt;
-        fault_of(alloc, 0, value),
-        unless(is_open, OpenFault::Absent),
-        "the head gate is {value}"
-    );
-    assert_eq!(rt;
-        count_of(alloc, 28, value)?,
-        u64::from(is_open),
-        "the record's gate is {value}"
-    );
-    assert_eq!(rt;
-        fault_of(alloc, 39, value),
-        unless(!is_open, OpenFault::Damaged),
-        "the last gate is {value}"
-    );
+    let head = unless(is_open, OpenFault::Absent);
+    is_refused(rt, alloc, &changed(0, value), head);
+    counts(rt, alloc, 28, value, u64::from(is_open))?;
+    let last = unless(!is_open, OpenFault::Damaged);
+    is_refused(rt, alloc, &changed(39, value), last);
     Ok(())
 }
 
@@ -127,7 +128,7 @@ fn an_area_with_one_byte_changed(rt: HostRuntime) -> Result<(), Fail> {
         gates_are(&rt, rt.alloc(), value)?;
     }
     has_changed(&rt, rt.alloc(), 32, 5, &SNAPSHOT, &PAYLOAD[..5])?;
-    assert_eq!(rt; fault_of(rt.alloc(), 32, 7), Some(OpenFault::Damaged));
+    is_refused(&rt, rt.alloc(), &changed(32, 7), Some(OpenFault::Damaged));
     has_changed(&rt, rt.alloc(), 13, 9, &OTHER_SNAPSHOT, &PAYLOAD)?;
     has_changed(&rt, rt.alloc(), 35, 0, &SNAPSHOT, &OTHER_PAYLOAD)?;
     Ok(())
@@ -176,20 +177,25 @@ fn closing_an_area(rt: HostRuntime) -> Result<(), Fail> {
     Ok(())
 }
 
+// The disk answers this to whether it has no area.
+fn is_empty(rt: &impl Abort, disk: &mut MemDisk, answer: Result<bool, DiskFault>) {
+    assert_eq!(rt; is_absent(disk), answer);
+}
+
 #[test]
 fn whether_there_is_an_area(rt: HostRuntime) -> Result<(), Fail> {
-    let alloc = rt.alloc();
-    let mut empty = MemDisk::new(alloc);
-    assert_eq!(rt; is_absent(&mut empty), Ok(true));
-    let mut one = MemDisk::from_bytes(alloc, &[1])?;
-    assert_eq!(rt; is_absent(&mut one), Ok(true));
-    let mut other = MemDisk::from_bytes(alloc, &[9, 1])?;
-    assert_eq!(rt; is_absent(&mut other), Ok(true));
+    is_empty(&rt, &mut MemDisk::new(rt.alloc()), Ok(true));
+    is_empty(&rt, &mut MemDisk::from_bytes(rt.alloc(), &[1])?, Ok(true));
+    is_empty(
+        &rt,
+        &mut MemDisk::from_bytes(rt.alloc(), &[9, 1])?,
+        Ok(true),
+    );
     // Damage is no absence.
-    let mut damaged = MemDisk::from_bytes(alloc, &[1, 0])?;
-    assert_eq!(rt; is_absent(&mut damaged), Ok(false));
+    let mut damaged = MemDisk::from_bytes(rt.alloc(), &[1, 0])?;
+    is_empty(&rt, &mut damaged, Ok(false));
     damaged.fail_at(1);
-    assert_eq!(rt; is_absent(&mut damaged), Err(DiskFault));
+    is_empty(&rt, &mut damaged, Err(DiskFault));
     Ok(())
 }
 
@@ -198,15 +204,9 @@ fn goes_on(rt: &impl Abort, alloc: Global, log: &mut Log<MemDisk>) -> Result<(),
     assert!(rt; !log.is_broken());
     let mut spare = MemDisk::new(alloc);
     close(&mut spare)?;
-    assert_eq!(rt; log.renew(&mut spare, 2, &[5]), Ok(()));
-    assert_eq!(rt; spare.bytes(), APPENDED.as_slice());
-    assert_eq!(rt; (log.generation(), log.count()), (2, 0));
-    Ok(())
-}
-
-fn takes(rt: &impl Abort, alloc: Global, log: &mut Log<MemDisk>) -> Result<(), Fail> {
-    let record = Record::of(alloc, &[6])?;
-    assert_eq!(rt; log.append(&record), Ok(()));
+    let renewed = log.renew(&mut spare, 2, &[5]);
+    assert_eq!(rt; (renewed, spare.bytes()), (Ok(()), APPENDED.as_slice()));
+    is_at(rt, log, 2, 0);
     Ok(())
 }
 
@@ -219,7 +219,7 @@ const RENEWED: [u8; 21] = [
 fn a_log_goes_on_on_another_disk(rt: HostRuntime) -> Result<(), Fail> {
     let mut log = opened_bytes(rt.alloc(), &APPENDED)?.log;
     goes_on(&rt, rt.alloc(), &mut log)?;
-    takes(&rt, rt.alloc(), &mut log)?;
+    takes(&rt, rt.alloc(), &mut log, &[6])?;
     assert_eq!(rt; log.retire().bytes(), RENEWED.as_slice());
     Ok(())
 }

@@ -9,34 +9,51 @@ fn record_of(alloc: Global, len: usize) -> Result<Record, RecordFault> {
 
 #[test]
 fn a_record_that_is_too_long(rt: HostRuntime) {
-    assert_eq!(rt;
-        record_of(rt.alloc(), 32_769).err(),
-        Some(RecordFault::TooLong)
-    );
-    assert_eq!(rt; record_of(rt.alloc(), 32_768).err(), None);
+    let longer = record_of(rt.alloc(), 32_769).err();
+    let longest = record_of(rt.alloc(), 32_768).err();
+    assert_eq!(rt; (longer, longest), (Some(RecordFault::TooLong), None));
 }
 
-#[test]
-fn an_area_that_is_filled(rt: HostRuntime) -> Result<(), Fail> {
-    let alloc = rt.alloc();
+// The log takes all of the longest records that it has room for, and not one more.
+fn fill(rt: &impl Abort, alloc: Global, log: &mut Log<MemDisk>) -> Result<(), RecordFault> {
     let longest = record_of(alloc, 32_768)?;
-    let mut log = formed(MemDisk::new(alloc), 1, &SNAPSHOT)?;
     for _ in 0..511 {
-        assert_eq!(rt; log.append(&longest), Ok(()));
+        appends(rt, log, &longest, Ok(()));
     }
-    assert_eq!(rt; log.append(&longest), Err(AppendFault::Full));
-    let too_long = record_of(alloc, 30_180)?;
-    assert!(rt; !log.has_room(&too_long));
-    assert_eq!(rt; log.append(&too_long), Err(AppendFault::Full));
-    assert_eq!(rt; log.count(), 511);
-    assert_eq!(rt; log.append(&record_of(alloc, 30_179)?), Ok(()));
-    assert_eq!(rt; log.append(&record_of(alloc, 0)?), Err(AppendFault::Full));
+    appends(rt, log, &longest, Err(AppendFault::Full));
+    Ok(())
+}
 
-    let disk = log.retire();
+// The log has no room for a record of so many bytes.
+fn refuses(
+    rt: &impl Abort,
+    alloc: Global,
+    log: &mut Log<MemDisk>,
+    len: usize,
+) -> Result<(), RecordFault> {
+    let too_long = record_of(alloc, len)?;
+    assert!(rt; !log.has_room(&too_long));
+    appends(rt, log, &too_long, Err(AppendFault::Full));
+    Ok(())
+}
+
+// The disk has an area as long as one may be.
+fn is_full(rt: &impl Abort, alloc: Global, disk: MemDisk) -> Result<(), Fail> {
     assert_eq!(rt; disk.bytes().len(), 16_777_216);
     let area = opened(alloc, disk)?;
     assert_eq!(rt; (area.log.count(), area.records.count()), (512, 512));
     Ok(())
+}
+
+#[test]
+fn an_area_that_is_filled(rt: HostRuntime) -> Result<(), Fail> {
+    let mut log = formed(MemDisk::new(rt.alloc()), 1, &SNAPSHOT)?;
+    fill(&rt, rt.alloc(), &mut log)?;
+    refuses(&rt, rt.alloc(), &mut log, 30_180)?;
+    is_at(&rt, &log, 1, 511);
+    appends(&rt, &mut log, &record_of(rt.alloc(), 30_179)?, Ok(()));
+    refuses(&rt, rt.alloc(), &mut log, 0)?;
+    is_full(&rt, rt.alloc(), log.retire())
 }
 
 // A file longer than an area may be: the head of an area with a snapshot of so many bytes 7, and zeros behind it.
@@ -49,17 +66,16 @@ fn long_file(alloc: Global, len: u32) -> Result<Vec<u8>, AllocError> {
     Ok(bytes)
 }
 
+// How long the snapshot is that is read of such a file, and how many records there are.
+fn read_of(alloc: Global, len: u32) -> Result<(usize, u64), OpenFault> {
+    let area = opened_bytes(alloc, &long_file(alloc, len)?)?;
+    Ok((area.snapshot.as_slice().len(), area.log.count()))
+}
+
 #[test]
-fn a_file_longer_than_an_area(rt: HostRuntime) -> Result<(), Fail> {
-    let alloc = rt.alloc();
+fn a_file_longer_than_an_area(rt: HostRuntime) {
     // The last gate is the last byte that an area may have.
-    let area = opened_bytes(alloc, &long_file(alloc, 16_777_202)?)?;
-    assert_eq!(rt; area.snapshot.as_slice().len(), 16_777_202);
-    assert_eq!(rt; area.log.count(), 0);
+    assert_eq!(rt; read_of(rt.alloc(), 16_777_202), Ok((16_777_202, 0)));
     // And one byte beyond it.
-    assert_eq!(rt;
-        opened_bytes(alloc, &long_file(alloc, 16_777_203)?).err(),
-        Some(OpenFault::Damaged)
-    );
-    Ok(())
+    assert_eq!(rt; read_of(rt.alloc(), 16_777_203), Err(OpenFault::Damaged));
 }

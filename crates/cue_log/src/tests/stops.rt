@@ -7,45 +7,70 @@ enum Trouble {
     Stops,
 }
 
+// Plans trouble for the k-th call from now.
+fn plan(disk: &mut MemDisk, trouble: Trouble, k: u64) {
+    match trouble {
+        Trouble::Fails => disk.fail_at(k),
+        Trouble::Stops => disk.stop_at(k),
+    }
+}
+
+// How many calls forming an area takes.
+fn calls_of_forming(alloc: Global) -> Result<u64, DiskFault> {
+    Ok(formed(MemDisk::new(alloc), 1, &SNAPSHOT)?.retire().calls())
+}
+
+// A record meets a fault of the disk, and the next one a broken log.
+fn breaks(rt: &impl Abort, alloc: Global, log: &mut Log<MemDisk>) -> Result<(), RecordFault> {
+    let added = Record::of(alloc, &PAYLOAD)?;
+    appends(rt, log, &added, Err(AppendFault::Disk));
+    assert!(rt; log.is_broken());
+    appends(rt, log, &added, Err(AppendFault::Broken));
+    Ok(())
+}
+
 // Forms an area on a disk with trouble at the k-th call of the append that follows, which is refused.
 fn troubled(rt: &impl Abort, alloc: Global, trouble: Trouble, k: u64) -> Result<MemDisk, Fail> {
-    let before = formed(MemDisk::new(alloc), 1, &SNAPSHOT)?.retire().calls();
+    let calls = calls_of_forming(alloc)?.saturating_add(k);
     let mut disk = MemDisk::new(alloc);
-    match trouble {
-        Trouble::Fails => disk.fail_at(before.saturating_add(k)),
-        Trouble::Stops => disk.stop_at(before.saturating_add(k)),
-    }
+    plan(&mut disk, trouble, calls);
     let mut log = formed(disk, 1, &SNAPSHOT)?;
-    let added = Record::of(alloc, &PAYLOAD)?;
-    assert_eq!(rt; log.append(&added), Err(AppendFault::Disk));
-    assert!(rt; log.is_broken());
-    assert_eq!(rt; log.append(&added), Err(AppendFault::Broken));
+    breaks(rt, alloc, &mut log)?;
     let disk = log.retire();
-    assert_eq!(rt;
-        disk.calls(),
-        before.saturating_add(k),
-        "a broken log makes no call"
-    );
+    // A broken log makes no call.
+    assert_eq!(rt; disk.calls(), calls);
     Ok(disk)
+}
+
+// The area that a disk has, with the snapshot and the record, or with the snapshot alone.
+fn is_left(rt: &impl Abort, alloc: Global, disk: MemDisk, is_there: bool) -> Result<(), OpenFault> {
+    let area = opened(alloc, disk)?;
+    if is_there {
+        has(rt, &area, &SNAPSHOT, &[PAYLOAD.as_slice()]);
+    } else {
+        has(rt, &area, &SNAPSHOT, &[]);
+    }
+    Ok(())
+}
+
+// What a crash leaves after trouble at the k-th call.
+fn leaves(rt: &impl Abort, alloc: Global, disk: &MemDisk, k: u64) -> Result<(), Fail> {
+    for junk in 0..=255u8 {
+        for extra in [0, 1, u64::MAX] {
+            // Only the write of the gate, and the sync behind it, can leave the record.
+            let is_there = k >= 3 && junk == 1;
+            is_left(rt, alloc, disk.crash(extra, &[junk])?, is_there)?;
+        }
+    }
+    Ok(())
 }
 
 #[test]
 fn an_append_with_trouble_at_each_call(rt: HostRuntime) -> Result<(), Fail> {
-    let alloc = rt.alloc();
     for trouble in [Trouble::Fails, Trouble::Stops] {
         for k in 1..=4u64 {
-            let disk = troubled(&rt, alloc, trouble, k)?;
-            for junk in 0..=255u8 {
-                for extra in [0, 1, u64::MAX] {
-                    let area = opened(alloc, disk.crash(extra, &[junk])?)?;
-                    // Only the write of the gate, and the sync behind it, can leave the record.
-                    if k >= 3 && junk == 1 {
-                        has(&rt, &area, &SNAPSHOT, &[PAYLOAD.as_slice()]);
-                    } else {
-                        has(&rt, &area, &SNAPSHOT, &[]);
-                    }
-                }
-            }
+            let disk = troubled(&rt, rt.alloc(), trouble, k)?;
+            leaves(&rt, rt.alloc(), &disk, k)?;
         }
     }
     Ok(())
@@ -53,12 +78,11 @@ fn an_append_with_trouble_at_each_call(rt: HostRuntime) -> Result<(), Fail> {
 
 #[test]
 fn opening_makes_what_was_read_stay(rt: HostRuntime) -> Result<(), Fail> {
-    let alloc = rt.alloc();
-    let disk = troubled(&rt, alloc, Trouble::Fails, 4)?;
-    let area = opened(alloc, disk)?;
+    let disk = troubled(&rt, rt.alloc(), Trouble::Fails, 4)?;
+    let area = opened(rt.alloc(), disk)?;
     has(&rt, &area, &SNAPSHOT, &[PAYLOAD.as_slice()]);
     let left = area.log.retire().crash(0, &[0])?;
-    has(&rt, &opened(alloc, left)?, &SNAPSHOT, &[PAYLOAD.as_slice()]);
+    is_left(&rt, rt.alloc(), left, true)?;
     Ok(())
 }
 
@@ -75,24 +99,27 @@ fn refused(disk: MemDisk) -> Result<Option<MemDisk>, DiskFault> {
     }
 }
 
+// What opening finds after a forming that stopped at the k-th call, where it finds no area.
+fn found_after(alloc: Global, k: u64) -> Result<Option<OpenFault>, Fail> {
+    let mut disk = MemDisk::new(alloc);
+    disk.stop_at(k);
+    let left = refused(disk)?.ok_or("no fault")?;
+    Ok(opened(alloc, left.crash(u64::MAX, &[])?).err())
+}
+
+// It finds this.
+fn finds(rt: &impl Abort, alloc: Global, k: u64, fault: Option<OpenFault>) -> Result<(), Fail> {
+    assert_eq!(rt; (k, found_after(alloc, k)?), (k, fault));
+    Ok(())
+}
+
 #[test]
 fn forming_with_trouble_at_each_call(rt: HostRuntime) -> Result<(), Fail> {
-    let alloc = rt.alloc();
-    let calls = formed(MemDisk::new(alloc), 1, &SNAPSHOT)?.retire().calls();
     // the length for the closing; the length, a gate, a sync; three writes, a sync; a gate, a sync
-    assert_eq!(rt; calls, 10);
-    for k in 2..=10u64 {
-        let mut disk = MemDisk::new(alloc);
-        disk.stop_at(k);
-        let left = refused(disk)?.ok_or("no fault")?;
-        let found = opened(alloc, left.crash(u64::MAX, &[])?).err();
-        // The gate is there once its write was stored.
-        let want = if k == 10 {
-            None
-        } else {
-            Some(OpenFault::Absent)
-        };
-        assert_eq!(rt; found, want, "stopped at {k}");
+    assert_eq!(rt; calls_of_forming(rt.alloc()), Ok(10));
+    for k in 2..=9u64 {
+        finds(&rt, rt.alloc(), k, Some(OpenFault::Absent))?;
     }
-    Ok(())
+    // The gate is there once its write was stored.
+    finds(&rt, rt.alloc(), 10, None)
 }

@@ -2,7 +2,7 @@ use Rattle.std.proofs.Common.{◌≡◌, min, ◌∙◌, ap, sym, subst, arith, 
 use Rattle.std.specs.Prelude.{IfOk}
 use Rattle.cue_disk.specs.Disk.{Contents}
 use Rattle.cue_log.specs.declared.area.TheConstants.{AREA_LIMIT}
-use Rattle.cue_log.proofs.Closed.{first_read}
+use Rattle.cue_log.proofs.Closed.{first_read, sync_leaves, length_leaves, read_leaves}
 use Rattle.cue_log.proofs.Fetched.{synced_reads, front_after}
 use Rattle.cue_log.proofs.fetching.fetch.Goals as goal
 
@@ -30,3 +30,33 @@ returns-clause-front g c = λ honest.
     front_after (λ text. text.items) c.read_text.result (held c.args.disk.now).bytes c.min.result
     (c.min.ensures ∙ ap (λ (n : ℕ). min n AREA_LIMIT) long) (omega (arith, long, c.if-len-lt2.false)) (sym gate ∙ c.if-gate-ne-OPEN.false)
     (subst (λ (bytes : List ℕ). IfOk c.read_text.result (λ text. text.items ≡ take (length text.items) bytes)) same3 (c.read_text.ensures.text honest3)) c.read_text.ensures.enough
+
+pub returns-in_err-sync-clause-any_moment : goal.returns-in_err-sync-clause-any_moment
+returns-in_err-sync-clause-any_moment g c = λ honest.
+    sync_leaves g.D.Disk.moment g.D.Disk.held g.D.Disk.held_at c.args.disk.now c.sync.new.self (g.met.D.Disk.held_now c.args.disk.now honest) (c.sync.ensures.crash honest) (c.sync.ensures.time honest)
+
+pub returns-in_err-len-clause-any_moment : goal.returns-in_err-len-clause-any_moment
+returns-in_err-len-clause-any_moment g c = λ honest.
+    let honest1 = c.sync.ensures.honest.1 honest in
+    length_leaves g.D.Disk.moment g.D.Disk.held g.D.Disk.held_at c.args.disk.now c.sync.new.self (g.met.D.Disk.held_now c.args.disk.now honest) (c.sync.ensures.crash honest) (c.sync.ensures.time honest)
+    c.len.new.self (c.len.ensures.same honest1) (c.len.ensures.time honest1)
+
+pub returns-then-len-lt2-clause-any_moment : goal.returns-then-len-lt2-clause-any_moment
+returns-then-len-lt2-clause-any_moment g c = λ honest.
+    let honest1 = c.sync.ensures.honest.1 honest in
+    length_leaves g.D.Disk.moment g.D.Disk.held g.D.Disk.held_at c.args.disk.now c.sync.new.self (g.met.D.Disk.held_now c.args.disk.now honest) (c.sync.ensures.crash honest) (c.sync.ensures.time honest)
+    c.len.new.self (c.len.ensures.same honest1) (c.len.ensures.time honest1)
+
+pub returns-in_err-read_at-clause-any_moment : goal.returns-in_err-read_at-clause-any_moment
+returns-in_err-read_at-clause-any_moment g c = λ honest.
+    let honest1 = c.sync.ensures.honest.1 honest in
+    let honest2 = c.len.ensures.honest.1 honest1 in
+    read_leaves g.D.Disk.moment g.D.Disk.held g.D.Disk.held_at c.args.disk.now c.sync.new.self (g.met.D.Disk.held_now c.args.disk.now honest) (c.sync.ensures.crash honest) (c.sync.ensures.time honest)
+    c.len.new.self (c.len.ensures.same honest1) (c.len.ensures.time honest1) c.read_at.new.self (c.read_at.ensures.same honest2) (c.read_at.ensures.time honest2)
+
+pub returns-then-gate-ne-OPEN-clause-any_moment : goal.returns-then-gate-ne-OPEN-clause-any_moment
+returns-then-gate-ne-OPEN-clause-any_moment g c = λ honest.
+    let honest1 = c.sync.ensures.honest.1 honest in
+    let honest2 = c.len.ensures.honest.1 honest1 in
+    read_leaves g.D.Disk.moment g.D.Disk.held g.D.Disk.held_at c.args.disk.now c.sync.new.self (g.met.D.Disk.held_now c.args.disk.now honest) (c.sync.ensures.crash honest) (c.sync.ensures.time honest)
+    c.len.new.self (c.len.ensures.same honest1) (c.len.ensures.time honest1) c.read_at.new.self (c.read_at.ensures.same honest2) (c.read_at.ensures.time honest2)

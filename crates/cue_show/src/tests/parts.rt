@@ -1,155 +1,213 @@
 //! Parts and lists of parts, with their limits.
 
 use crate::{Bytes, DeviceNo, Part, Parts};
-use std::alloc::{AllocError, Global};
+use std::alloc::Global;
 use std::process::Abort;
-use std::test::Fail;
+
+// The devices of a list of parts; whether they are distinct.
+const DISTINCT: [(&[u8], bool); 6] = [
+    (&[], true),
+    (&[0, 111], true),
+    (&[3, 4, 5], true),
+    (&[3, 3], false),
+    (&[3, 4, 3], false),
+    (&[111, 0, 5, 111], false),
+];
+
+// The devices of a list of parts, optional where the flag says so; whether some part is required, and whether a cue
+// can have them.
+const REQUIRED: [(&[(u8, bool)], bool, bool); 8] = [
+    (&[], false, false),
+    (&[(3, true)], false, false),
+    (&[(3, true), (4, true)], false, false),
+    (&[(3, false)], true, true),
+    (&[(3, false), (4, true)], true, true),
+    (&[(3, true), (4, false)], true, true),
+    (&[(3, true), (4, false), (5, true)], true, true),
+    (&[(3, true), (3, false)], true, false),
+];
+
+// As many devices as one more than a cue can have, and as many bytes as one more than a part can have.
+const DEVICES: [u8; 17] = [0, 1, 2, 3, 4, 5, 6, 7, 8, 9, 10, 11, 12, 13, 14, 15, 16];
+
+const BYTES: [u8; 33] = [255; 33];
+
+fn part_of(rt: &impl Abort, alloc: Global, device: u8, optional: bool, bytes: &[u8]) -> Part {
+    let device = DeviceNo::of_byte(device).expect(rt, "it is a device number");
+    Part::of(alloc, device, optional, bytes).expect(rt, "there is memory")
+}
 
 // A required part.
 pub(super) fn part(rt: &impl Abort, alloc: Global, device: u8, bytes: &[u8]) -> Part {
-    let device = DeviceNo::of_byte(device).expect(rt, "it is a device number");
-    Part::of(alloc, device, false, bytes).expect(rt, "there is memory")
+    part_of(rt, alloc, device, false, bytes)
 }
 
 // An optional part.
 pub(super) fn optional_part(rt: &impl Abort, alloc: Global, device: u8, bytes: &[u8]) -> Part {
-    let device = DeviceNo::of_byte(device).expect(rt, "it is a device number");
-    Part::of(alloc, device, true, bytes).expect(rt, "there is memory")
+    part_of(rt, alloc, device, true, bytes)
+}
+
+pub(super) fn push(rt: &impl Abort, parts: &mut Parts, part: Part) {
+    parts.push(part).expect(rt, "there is memory");
 }
 
 // Required parts of the devices, each with the same bytes.
-fn parts_of(
-    rt: &impl Abort,
-    alloc: Global,
-    devices: &[u8],
-    bytes: &[u8],
-) -> Result<Parts, AllocError> {
+fn parts_of(rt: &impl Abort, alloc: Global, devices: &[u8], bytes: &[u8]) -> Parts {
     let mut parts = Parts::new(alloc);
     for device in devices {
-        parts.push(part(rt, alloc, *device, bytes))?;
+        push(rt, &mut parts, part(rt, alloc, *device, bytes));
     }
-    Ok(parts)
+    parts
 }
 
 // A part without bytes for each of the devices, optional where the flag says so.
-fn flagged(rt: &impl Abort, alloc: Global, devices: &[(u8, bool)]) -> Result<Parts, AllocError> {
+fn flagged(rt: &impl Abort, alloc: Global, devices: &[(u8, bool)]) -> Parts {
     let mut parts = Parts::new(alloc);
     for (device, optional) in devices {
-        let part = if *optional {
-            optional_part(rt, alloc, *device, &[])
-        } else {
-            part(rt, alloc, *device, &[])
-        };
-        parts.push(part)?;
+        push(rt, &mut parts, part_of(rt, alloc, *device, *optional, &[]));
     }
-    Ok(parts)
+    parts
+}
+
+fn assert_part(rt: &impl Abort, part: &Part, device: u8, optional: bool, bytes: &[u8]) {
+    assert_eq!(rt; part.device.number(), device);
+    assert_eq!(rt; part.optional, optional);
+    assert_eq!(rt; part.bytes.as_slice(), bytes);
+}
+
+fn assert_other_part(rt: &impl Abort, part: &Part, other: &Part) {
+    assert!(rt; part != other);
+}
+
+fn assert_same_parts(rt: &impl Abort, parts: &Parts, same: &Parts) {
+    assert!(rt; parts == same);
+}
+
+fn assert_other_parts(rt: &impl Abort, parts: &Parts, other: &Parts) {
+    assert!(rt; parts != other);
+}
+
+// A clone, which is equal to the part.
+fn clone_of(rt: &impl Abort, part: &Part) -> Part {
+    let copy = part.clone().expect(rt, "there is memory");
+    assert!(rt; copy == *part);
+    copy
+}
+
+fn clone_of_parts(rt: &impl Abort, parts: &Parts) -> Parts {
+    parts.clone().expect(rt, "there is memory")
 }
 
 #[test]
-fn a_part_holds_its_bytes(rt: HostRuntime) -> Result<(), Fail> {
+fn a_part_holds_its_bytes(rt: HostRuntime) {
     let first = part(&rt, rt.alloc(), 3, &[10, 11]);
-    assert_eq!(rt; first.device.number(), 3);
-    assert!(rt; !first.optional);
-    assert_eq!(rt; first.bytes.as_slice(), [10, 11].as_slice());
-    let copy = first.clone()?;
-    assert!(rt; copy == first);
-    assert!(rt; part(&rt, rt.alloc(), 4, &[10, 11]) != first);
-    assert!(rt; part(&rt, rt.alloc(), 3, &[10]) != first);
+    assert_part(&rt, &first, 3, false, &[10, 11]);
+    assert_other_part(&rt, &first, &part(&rt, rt.alloc(), 4, &[10, 11]));
+    assert_other_part(&rt, &first, &part(&rt, rt.alloc(), 3, &[10]));
+    let copy = clone_of(&rt, &first);
     let bytes = Bytes::from_vec(first.bytes.into_vec());
     assert!(rt; bytes == copy.bytes);
-    Ok(())
 }
 
 #[test]
-fn a_part_is_required_or_optional(rt: HostRuntime) -> Result<(), Fail> {
+fn a_part_is_required_or_optional(rt: HostRuntime) {
     let alloc = rt.alloc();
     let optional = optional_part(&rt, alloc, 3, &[10, 11]);
-    assert_eq!(rt; optional.device.number(), 3);
-    assert!(rt; optional.optional);
-    assert_eq!(rt; optional.bytes.as_slice(), [10, 11].as_slice());
-    let copy = optional.clone()?;
-    assert!(rt; copy.optional);
-    assert!(rt; copy == optional);
-    assert!(rt; optional != part(&rt, alloc, 3, &[10, 11]));
-    assert!(rt; optional != optional_part(&rt, alloc, 3, &[10]));
-    let parts = flagged(&rt, alloc, &[(3, false), (4, true)])?;
-    assert!(rt; parts == parts.clone()?);
-    assert!(rt; parts == flagged(&rt, alloc, &[(3, false), (4, true)])?);
-    assert!(rt; parts != flagged(&rt, alloc, &[(3, false), (4, false)])?);
-    assert!(rt; parts != flagged(&rt, alloc, &[(3, true), (4, false)])?);
-    Ok(())
+    assert_part(&rt, &optional, 3, true, &[10, 11]);
+    assert!(rt; clone_of(&rt, &optional).optional);
+    assert_other_part(&rt, &optional, &part(&rt, alloc, 3, &[10, 11]));
+    assert_other_part(&rt, &optional, &optional_part(&rt, alloc, 3, &[10]));
+    assert_flags_are_compared(&rt, alloc);
+}
+
+// Lists of parts are equal where the flags are.
+fn assert_flags_are_compared(rt: &impl Abort, alloc: Global) {
+    let parts = flagged(rt, alloc, &[(3, false), (4, true)]);
+    assert_same_parts(rt, &parts, &clone_of_parts(rt, &parts));
+    assert_same_parts(rt, &parts, &flagged(rt, alloc, &[(3, false), (4, true)]));
+    assert_other_parts(rt, &parts, &flagged(rt, alloc, &[(3, false), (4, false)]));
+    assert_other_parts(rt, &parts, &flagged(rt, alloc, &[(3, true), (4, false)]));
 }
 
 #[test]
-fn a_list_of_parts_is_its_vec(rt: HostRuntime) -> Result<(), Fail> {
-    let parts = parts_of(&rt, rt.alloc(), &[3, 4], &[7])?;
-    let copy = parts.clone()?;
+fn a_list_of_parts_is_its_vec(rt: HostRuntime) {
+    let alloc = rt.alloc();
+    let parts = parts_of(&rt, alloc, &[3, 4], &[7]);
+    let copy = clone_of_parts(&rt, &parts);
     let items = parts.into_vec();
-    assert_eq!(rt; items.len(), 2);
-    assert!(rt; items[0] == part(&rt, rt.alloc(), 3, &[7]));
-    assert!(rt; items[1] == part(&rt, rt.alloc(), 4, &[7]));
+    assert_items(&rt, alloc, items.as_slice());
     let again = Parts::of(items);
     assert_eq!(rt; again.as_slice().len(), 2);
-    assert!(rt; again == copy);
-    assert!(rt; again != parts_of(&rt, rt.alloc(), &[4, 3], &[7])?);
-    assert!(rt; again != parts_of(&rt, rt.alloc(), &[3], &[7])?);
-    Ok(())
+    assert_same_parts(&rt, &again, &copy);
+    assert_other_parts(&rt, &again, &parts_of(&rt, alloc, &[4, 3], &[7]));
+    assert_other_parts(&rt, &again, &parts_of(&rt, alloc, &[3], &[7]));
+}
+
+// The items are the required parts of devices 3 and 4.
+fn assert_items(rt: &impl Abort, alloc: Global, items: &[Part]) {
+    assert_eq!(rt; items.len(), 2);
+    assert!(rt; items[0] == part(rt, alloc, 3, &[7]));
+    assert!(rt; items[1] == part(rt, alloc, 4, &[7]));
 }
 
 #[test]
-fn a_device_stands_in_one_part(rt: HostRuntime) -> Result<(), Fail> {
-    let cases: [(&[u8], bool); 6] = [
-        (&[], true),
-        (&[0, 111], true),
-        (&[3, 4, 5], true),
-        (&[3, 3], false),
-        (&[3, 4, 3], false),
-        (&[111, 0, 5, 111], false),
-    ];
-    for (devices, expected) in cases {
-        let parts = parts_of(&rt, rt.alloc(), devices, &[])?;
-        assert_eq!(rt; parts.has_distinct_devices(), expected, "{devices:?}");
+fn a_device_stands_in_one_part(rt: HostRuntime) {
+    for (devices, expected) in &DISTINCT {
+        assert_distinct(&rt, rt.alloc(), devices, *expected);
     }
-    let parts = parts_of(&rt, rt.alloc(), &[3, 4], &[])?;
-    for (device, expected) in [(3, true), (4, true), (5, false)] {
-        let device = DeviceNo::of_byte(device).ok_or("a device number")?;
-        assert_eq!(rt; parts.uses(device), expected);
-    }
-    Ok(())
+    let parts = parts_of(&rt, rt.alloc(), &[3, 4], &[]);
+    assert_uses(&rt, &parts, 3, true);
+    assert_uses(&rt, &parts, 4, true);
+    assert_uses(&rt, &parts, 5, false);
+}
+
+fn assert_distinct(rt: &impl Abort, alloc: Global, devices: &[u8], expected: bool) {
+    let parts = parts_of(rt, alloc, devices, &[]);
+    assert_eq!(rt; parts.has_distinct_devices(), expected, "{devices:?}");
+}
+
+fn assert_uses(rt: &impl Abort, parts: &Parts, device: u8, expected: bool) {
+    let device = DeviceNo::of_byte(device).expect(rt, "it is a device number");
+    assert_eq!(rt; parts.uses(device), expected);
 }
 
 #[test]
-fn a_cue_has_1_to_16_parts_of_at_most_32_bytes(rt: HostRuntime) -> Result<(), Fail> {
-    let devices: [u8; 17] = [0, 1, 2, 3, 4, 5, 6, 7, 8, 9, 10, 11, 12, 13, 14, 15, 16];
-    let bytes = [255; 33];
-    for (count, expected) in [(0, false), (1, true), (16, true), (17, false)] {
-        let parts = parts_of(&rt, rt.alloc(), &devices[..count], &bytes[..32])?;
-        assert_eq!(rt; parts.is_fit(), expected, "{count} parts");
-    }
-    assert!(rt; part(&rt, rt.alloc(), 3, &bytes[..32]).is_fit());
-    assert!(rt; !part(&rt, rt.alloc(), 3, &bytes).is_fit());
-    assert!(rt; !parts_of(&rt, rt.alloc(), &[3, 4], &bytes)?.is_fit());
-    assert!(rt; !parts_of(&rt, rt.alloc(), &[3, 3], &[])?.is_fit());
-    Ok(())
+fn a_cue_has_1_to_16_parts_of_at_most_32_bytes(rt: HostRuntime) {
+    let alloc = rt.alloc();
+    assert_fit(&rt, &parts_of(&rt, alloc, &[], &BYTES[..32]), false);
+    assert_fit(&rt, &parts_of(&rt, alloc, &[0], &BYTES[..32]), true);
+    assert_fit(
+        &rt,
+        &parts_of(&rt, alloc, &DEVICES[..16], &BYTES[..32]),
+        true,
+    );
+    assert_fit(&rt, &parts_of(&rt, alloc, &DEVICES, &BYTES[..32]), false);
+    assert!(rt; part(&rt, alloc, 3, &BYTES[..32]).is_fit());
+    assert!(rt; !part(&rt, alloc, 3, &BYTES).is_fit());
+    assert_fit(&rt, &parts_of(&rt, alloc, &[3, 4], &BYTES), false);
+    assert_fit(&rt, &parts_of(&rt, alloc, &[3, 3], &[]), false);
+}
+
+fn assert_fit(rt: &impl Abort, parts: &Parts, expected: bool) {
+    let count = parts.as_slice().len();
+    assert_eq!(rt; parts.is_fit(), expected, "{count} parts");
 }
 
 #[test]
-fn a_cue_has_a_required_part(rt: HostRuntime) -> Result<(), Fail> {
-    // Whether some part is required, and whether a cue can have them.
-    let cases: [(&[(u8, bool)], bool, bool); 8] = [
-        (&[], false, false),
-        (&[(3, true)], false, false),
-        (&[(3, true), (4, true)], false, false),
-        (&[(3, false)], true, true),
-        (&[(3, false), (4, true)], true, true),
-        (&[(3, true), (4, false)], true, true),
-        (&[(3, true), (4, false), (5, true)], true, true),
-        (&[(3, true), (3, false)], true, false),
-    ];
-    for (devices, has_required, is_fit) in cases {
-        let parts = flagged(&rt, rt.alloc(), devices)?;
-        assert_eq!(rt; parts.has_required_part(), has_required, "{devices:?}");
-        assert_eq!(rt; parts.is_fit(), is_fit, "{devices:?}");
+fn a_cue_has_a_required_part(rt: HostRuntime) {
+    for (devices, has_required, is_fit) in &REQUIRED {
+        assert_required(&rt, rt.alloc(), devices, *has_required, *is_fit);
     }
-    Ok(())
+}
+
+fn assert_required(
+    rt: &impl Abort,
+    alloc: Global,
+    devices: &[(u8, bool)],
+    has_required: bool,
+    is_fit: bool,
+) {
+    let parts = flagged(rt, alloc, devices);
+    assert_eq!(rt; parts.has_required_part(), has_required, "{devices:?}");
+    assert_eq!(rt; parts.is_fit(), is_fit, "{devices:?}");
 }

@@ -1,13 +1,31 @@
 //! Shows, each compared whole as one text, and its clone with it.
 
-use super::parts::{optional_part, part};
-use crate::{CueNo, DeviceNo, Parts, Show};
+use super::parts::{optional_part, part, push};
+use crate::{CueNo, DeviceNo, Part, Parts, Show};
 use std::alloc::{AllocError, Global};
 use std::process::Abort;
-use std::test::Fail;
 
 // The bytes of the parts: the first part of a cue has none, the second one, and so on.
 const BYTES: [u8; 3] = [10, 11, 255];
+
+// Devices with their ports; whether the example's table takes them.
+const NEW_DEVICES: [(u8, u16, bool); 5] = [
+    (5, 1, true),
+    (5, 65535, true),
+    (5, 0, false),
+    (3, 9001, false),
+    (4, 9003, false),
+];
+
+// Cues and their devices; whether the example's table has the devices, and whether its stack takes the cue.
+const NEW_CUES: [(&[u8], &[u8], bool, bool); 6] = [
+    (b"02", &[4, 3], true, true),
+    (b"2", &[4, 3], true, false),
+    (b"3", &[4, 5], false, false),
+    (b"3", &[4, 4], true, false),
+    (b"3", &[], true, false),
+    (b"3", &[3], true, true),
+];
 
 fn device(rt: &impl Abort, number: u8) -> DeviceNo {
     DeviceNo::of_byte(number).expect(rt, "it is a device number")
@@ -17,60 +35,86 @@ fn cue(rt: &impl Abort, text: &[u8]) -> CueNo {
     CueNo::read(text).expect(rt, "it is a cue number")
 }
 
-fn push_cue(text: &mut String, cue: Option<CueNo>) -> Result<(), AllocError> {
-    match cue {
-        Some(cue) => {
-            for byte in cue.text() {
-                text.push(char::from(*byte))?;
-            }
-        }
-        None => text.push('-')?,
+fn push_cue(text: &mut String, cue: CueNo) -> Result<(), AllocError> {
+    for byte in cue.text() {
+        text.push(char::from(*byte))?;
     }
     Ok(())
+}
+
+fn push_cue_or_none(text: &mut String, place: Option<CueNo>) -> Result<(), AllocError> {
+    match place {
+        Some(cue) => push_cue(text, cue),
+        None => text.push('-'),
+    }
+}
+
+fn push_part(text: &mut String, part: &Part) -> Result<(), AllocError> {
+    let sign = if part.optional { "?" } else { "" };
+    write!(
+        text,
+        " {}{sign}={:?}",
+        part.device.number(),
+        part.bytes.as_slice()
+    )
 }
 
 fn push_parts(text: &mut String, parts: Option<&Parts>) -> Result<(), AllocError> {
     if let Some(parts) = parts {
         for part in parts.as_slice() {
-            let sign = if part.optional { "?" } else { "" };
-            write!(
-                text,
-                " {}{sign}={:?}",
-                part.device.number(),
-                part.bytes.as_slice()
-            )?;
+            push_part(text, part)?;
         }
+    }
+    Ok(())
+}
+
+fn push_devices(text: &mut String, show: &Show) -> Result<(), AllocError> {
+    for (device, _) in show.devices() {
+        write!(text, "{}:{:?} ", device.number(), show.port(*device))?;
+    }
+    Ok(())
+}
+
+// The cue, the one that follows it, and its parts.
+fn push_cue_of(text: &mut String, show: &Show, cue: CueNo) -> Result<(), AllocError> {
+    text.push(' ')?;
+    push_cue(text, cue)?;
+    text.push('>')?;
+    push_cue_or_none(text, show.following(cue))?;
+    push_parts(text, show.parts(cue))
+}
+
+fn push_cues(text: &mut String, show: &Show) -> Result<(), AllocError> {
+    for (cue, _) in show.cues() {
+        push_cue_of(text, show, *cue)?;
     }
     Ok(())
 }
 
 // The devices with their ports, the cues with the cue that follows and their parts, and the place. An optional part
 // has a `?`.
-fn describe(alloc: Global, show: &Show) -> Result<String, AllocError> {
-    let mut text = String::new(alloc);
-    for (device, _) in show.devices() {
-        write!(text, "{}:{:?} ", device.number(), show.port(*device))?;
-    }
+fn describe(text: &mut String, show: &Show) -> Result<(), AllocError> {
+    push_devices(text, show)?;
     text.push_str("|")?;
-    for (cue, _) in show.cues() {
-        text.push_str(" ")?;
-        push_cue(&mut text, Some(*cue))?;
-        text.push_str(">")?;
-        push_cue(&mut text, show.following(*cue))?;
-        push_parts(&mut text, show.parts(*cue))?;
-    }
+    push_cues(text, show)?;
     text.push_str(" | ")?;
-    push_cue(&mut text, show.place())?;
-    Ok(text)
+    push_cue_or_none(text, show.place())
+}
+
+fn assert_text(rt: &impl Abort, alloc: Global, show: &Show, expected: &str) {
+    let mut text = String::new(alloc);
+    describe(&mut text, show).expect(rt, "there is memory");
+    assert_eq!(rt; text.as_str(), expected);
+}
+
+fn clone_of(rt: &impl Abort, show: &Show) -> Show {
+    show.try_clone().expect(rt, "there is memory")
 }
 
 // The show is as the text says, and so is its clone.
 fn assert_show(rt: &impl Abort, alloc: Global, show: &Show, expected: &str) {
-    let text = describe(alloc, show).expect(rt, "there is memory");
-    assert_eq!(rt; text.as_str(), expected);
-    let copy = show.try_clone().expect(rt, "there is memory");
-    let text = describe(alloc, &copy).expect(rt, "there is memory");
-    assert_eq!(rt; text.as_str(), expected);
+    assert_text(rt, alloc, show, expected);
+    assert_text(rt, alloc, &clone_of(rt, show), expected);
 }
 
 fn add_device(rt: &impl Abort, show: &mut Show, number: u8, port: u16) {
@@ -90,17 +134,18 @@ fn list(rt: &impl Abort, alloc: Global, devices: &[u8]) -> Parts {
     let mut list = Parts::new(alloc);
     for (i, device) in devices.iter().enumerate() {
         assert!(rt; i <= BYTES.len());
-        list.push(part(rt, alloc, *device, &BYTES[..i]))
-            .expect(rt, "there is memory");
+        push(rt, &mut list, part(rt, alloc, *device, &BYTES[..i]));
     }
     list
 }
 
-fn add_cue(rt: &impl Abort, alloc: Global, show: &mut Show, text: &[u8], devices: &[u8]) {
-    let number = cue(rt, text);
-    let parts = list(rt, alloc, devices);
+fn add_parts(rt: &impl Abort, show: &mut Show, number: CueNo, parts: Parts) {
     assert!(rt; show.can_add_cue(number, &parts));
     show.add_cue(number, parts).expect(rt, "there is memory");
+}
+
+fn add_cue(rt: &impl Abort, alloc: Global, show: &mut Show, text: &[u8], devices: &[u8]) {
+    add_parts(rt, show, cue(rt, text), list(rt, alloc, devices));
 }
 
 fn remove_cue(rt: &impl Abort, show: &mut Show, text: &[u8]) {
@@ -184,23 +229,28 @@ fn a_place_at_a_removed_cue_goes_on(rt: HostRuntime) {
     );
 }
 
+// The place becomes the cue behind this one.
+fn go_on(rt: &impl Abort, show: &mut Show, text: &[u8]) {
+    let next = show.following(cue(rt, text));
+    show.set_place(next);
+}
+
 #[test]
 fn a_place_can_be_what_follows(rt: HostRuntime) {
     let mut show = example(&rt, rt.alloc());
-    for (text, expected) in [(b"1", Some(cue(&rt, b"2"))), (b"3", None)] {
-        let next = show.following(cue(&rt, text));
-        show.set_place(next);
-        assert!(rt; show.place() == expected);
-    }
+    go_on(&rt, &mut show, b"1");
+    assert!(rt; show.place() == Some(cue(&rt, b"2")));
+    go_on(&rt, &mut show, b"3");
+    assert!(rt; show.place() == None);
 }
 
 #[test]
 fn a_removed_device_leaves_the_others_in_order(rt: HostRuntime) {
     let alloc = rt.alloc();
     let mut show = Show::new(alloc);
-    for (number, port) in [(3, 9001), (0, 1), (111, 65535)] {
-        add_device(&rt, &mut show, number, port);
-    }
+    add_device(&rt, &mut show, 3, 9001);
+    add_device(&rt, &mut show, 0, 1);
+    add_device(&rt, &mut show, 111, 65535);
     remove_device(&rt, &mut show, 0);
     assert_show(&rt, alloc, &show, "3:Some(9001) 111:Some(65535) | | -");
     assert!(rt; !show.can_remove_device(device(&rt, 0)));
@@ -209,69 +259,65 @@ fn a_removed_device_leaves_the_others_in_order(rt: HostRuntime) {
 #[test]
 fn a_device_is_added_once_and_with_a_port(rt: HostRuntime) {
     let show = example(&rt, rt.alloc());
-    for (number, port, expected) in [
-        (5, 1, true),
-        (5, 65535, true),
-        (5, 0, false),
-        (3, 9001, false),
-        (4, 9003, false),
-    ] {
-        let number = device(&rt, number);
-        assert_eq!(rt; show.can_add_device(number, port), expected);
+    for (number, port, expected) in &NEW_DEVICES {
+        assert_eq!(rt; show.can_add_device(device(&rt, *number), *port), *expected);
     }
+}
+
+// A cue has the device, so that it stays.
+fn assert_stays(rt: &impl Abort, show: &Show, number: u8) {
+    let number = device(rt, number);
+    assert!(rt; show.is_used(number));
+    assert!(rt; !show.can_remove_device(number));
 }
 
 #[test]
 fn a_device_that_a_cue_has_stays(rt: HostRuntime) {
     let mut show = example(&rt, rt.alloc());
-    let number = device(&rt, 3);
-    for text in [b"1", b"2"] {
-        assert!(rt; show.is_used(number));
-        assert!(rt; !show.can_remove_device(number));
-        remove_cue(&rt, &mut show, text);
-    }
-    assert!(rt; !show.is_used(number));
+    assert_stays(&rt, &show, 3);
+    remove_cue(&rt, &mut show, b"1");
+    assert_stays(&rt, &show, 3);
+    remove_cue(&rt, &mut show, b"2");
+    assert!(rt; !show.is_used(device(&rt, 3)));
     remove_device(&rt, &mut show, 3);
+}
+
+fn can_add_cue(rt: &impl Abort, show: &Show, text: &[u8], parts: &Parts) -> bool {
+    show.can_add_cue(cue(rt, text), parts)
 }
 
 #[test]
 fn a_cue_has_parts_of_devices_of_the_table(rt: HostRuntime) {
     let alloc = rt.alloc();
     let show = example(&rt, alloc);
-    let cases: [(&[u8], &[u8], bool, bool); 6] = [
-        (b"02", &[4, 3], true, true),
-        (b"2", &[4, 3], true, false),
-        (b"3", &[4, 5], false, false),
-        (b"3", &[4, 4], true, false),
-        (b"3", &[], true, false),
-        (b"3", &[3], true, true),
-    ];
-    for (text, devices, known, expected) in cases {
+    for (text, devices, known, expected) in &NEW_CUES {
         let parts = list(&rt, alloc, devices);
-        assert_eq!(rt; show.has_devices_of(&parts), known);
-        assert_eq!(rt; show.can_add_cue(cue(&rt, text), &parts), expected);
+        assert_eq!(rt; show.has_devices_of(&parts), *known);
+        assert_eq!(rt; can_add_cue(&rt, &show, text, &parts), *expected);
     }
 }
 
+// Adds cue 3 once it has a required part behind its optional one, and not before.
+fn add_cue_with_optional_part(rt: &impl Abort, alloc: Global, show: &mut Show) {
+    let mut parts = Parts::new(alloc);
+    push(rt, &mut parts, optional_part(rt, alloc, 4, &[7]));
+    assert!(rt; show.has_devices_of(&parts));
+    assert!(rt; !can_add_cue(rt, show, b"3", &parts));
+    push(rt, &mut parts, part(rt, alloc, 3, &[]));
+    add_parts(rt, show, cue(rt, b"3"), parts);
+}
+
 #[test]
-fn a_cue_keeps_its_optional_parts(rt: HostRuntime) -> Result<(), Fail> {
+fn a_cue_keeps_its_optional_parts(rt: HostRuntime) {
     let alloc = rt.alloc();
     let mut show = example(&rt, alloc);
-    let number = cue(&rt, b"3");
-    let mut parts = Parts::new(alloc);
-    parts.push(optional_part(&rt, alloc, 4, &[7]))?;
-    assert!(rt; show.has_devices_of(&parts));
-    assert!(rt; !show.can_add_cue(number, &parts));
-    parts.push(part(&rt, alloc, 3, &[]))?;
-    assert!(rt; show.can_add_cue(number, &parts));
-    show.add_cue(number, parts)?;
+    add_cue_with_optional_part(&rt, alloc, &mut show);
     assert_show(
         &rt,
         alloc,
         &show,
         "3:Some(9001) 4:Some(9002) | 1>2 3=[] 4=[10] 2>2.5 3=[] 2.5>3 4=[] 3>- 4?=[7] 3=[] | -",
     );
-    Ok(())
 }
 
 #[test]
@@ -280,7 +326,7 @@ fn a_table_holds_112_devices(rt: HostRuntime) {
     for number in 0..112 {
         add_device(&rt, &mut show, number, 9000);
     }
-    let copy = show.try_clone().expect(&rt, "there is memory");
+    let copy = clone_of(&rt, &show);
     assert_eq!(rt; copy.devices().len(), 112);
     for number in 0..112 {
         let number = device(&rt, number);
@@ -303,19 +349,28 @@ fn add_256_cues(rt: &impl Abort, alloc: Global, show: &mut Show, digit: u8) {
     }
 }
 
+// Device 3 and 1024 cues.
+fn full_show(rt: &impl Abort, alloc: Global) -> Show {
+    let mut show = Show::new(alloc);
+    add_device(rt, &mut show, 3, 9001);
+    for digit in b"1234" {
+        add_256_cues(rt, alloc, &mut show, *digit);
+    }
+    show
+}
+
+fn assert_full(rt: &impl Abort, show: &Show, parts: &Parts) {
+    assert_eq!(rt; show.cues().len(), 1024);
+    assert!(rt; show.is_full());
+    assert!(rt; !can_add_cue(rt, show, b"5", parts));
+}
+
 #[test]
 fn a_stack_holds_1024_cues(rt: HostRuntime) {
     let alloc = rt.alloc();
-    let mut show = Show::new(alloc);
-    add_device(&rt, &mut show, 3, 9001);
-    for digit in b"1234" {
-        add_256_cues(&rt, alloc, &mut show, *digit);
-    }
-    let copy = show.try_clone().expect(&rt, "there is memory");
-    assert_eq!(rt; copy.cues().len(), 1024);
-    assert!(rt; copy.is_full());
+    let mut show = full_show(&rt, alloc);
     let parts = list(&rt, alloc, &[3]);
-    assert!(rt; !copy.can_add_cue(cue(&rt, b"5"), &parts));
+    assert_full(&rt, &clone_of(&rt, &show), &parts);
     remove_cue(&rt, &mut show, b"1000");
-    assert!(rt; show.can_add_cue(cue(&rt, b"5"), &parts));
+    assert!(rt; can_add_cue(&rt, &show, b"5", &parts));
 }

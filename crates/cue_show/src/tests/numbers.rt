@@ -51,15 +51,15 @@ fn cue(rt: &impl Abort, text: &[u8]) -> CueNo {
     CueNo::read(text).expect(rt, "it is a cue number")
 }
 
+fn assert_keeps_text(rt: &impl Abort, text: &[u8]) {
+    assert_eq!(rt; cue(rt, text).text(), text);
+}
+
 #[test]
 fn cue_numbers_keep_their_text(rt: HostRuntime) {
     for text in &CUE_NUMBERS {
         assert_keeps_text(&rt, text);
     }
-}
-
-fn assert_keeps_text(rt: &impl Abort, text: &[u8]) {
-    assert_eq!(rt; cue(rt, text).text(), text);
 }
 
 #[test]
@@ -80,6 +80,10 @@ fn cue_numbers_are_compared_byte_for_byte(rt: HostRuntime) {
     assert!(rt; padded != pointed);
 }
 
+fn assert_device(rt: &impl Abort, device: Option<DeviceNo>, expected: Option<u8>) {
+    assert_eq!(rt; device.map(|device| device.number()), expected);
+}
+
 #[test]
 fn device_numbers_are_0_to_111(rt: HostRuntime) {
     for (number, expected) in &DEVICE_NUMBERS {
@@ -88,8 +92,4 @@ fn device_numbers_are_0_to_111(rt: HostRuntime) {
     for (number, expected) in &DEVICE_BYTES {
         assert_device(&rt, DeviceNo::of_byte(*number), *expected);
     }
-}
-
-fn assert_device(rt: &impl Abort, device: Option<DeviceNo>, expected: Option<u8>) {
-    assert_eq!(rt; device.map(|device| device.number()), expected);
 }

@@ -75,8 +75,23 @@ fn assert_part(rt: &impl Abort, part: &Part, device: u8, optional: bool, bytes: 
     assert_eq!(rt; part.bytes.as_slice(), bytes);
 }
 
-fn assert_other_part(rt: &impl Abort, part: &Part, other: &Part) {
-    assert!(rt; part != other);
+// A part with these bytes is another one.
+fn assert_other_part(
+    rt: &impl Abort,
+    alloc: Global,
+    part: &Part,
+    device: u8,
+    optional: bool,
+    bytes: &[u8],
+) {
+    assert!(rt; *part != part_of(rt, alloc, device, optional, bytes));
+}
+
+// A clone, which is equal to the part.
+fn clone_of(rt: &impl Abort, part: &Part) -> Part {
+    let copy = part.clone().expect(rt, "there is memory");
+    assert!(rt; copy == *part);
+    copy
 }
 
 fn assert_same_parts(rt: &impl Abort, parts: &Parts, same: &Parts) {
@@ -87,13 +102,6 @@ fn assert_other_parts(rt: &impl Abort, parts: &Parts, other: &Parts) {
     assert!(rt; parts != other);
 }
 
-// A clone, which is equal to the part.
-fn clone_of(rt: &impl Abort, part: &Part) -> Part {
-    let copy = part.clone().expect(rt, "there is memory");
-    assert!(rt; copy == *part);
-    copy
-}
-
 fn clone_of_parts(rt: &impl Abort, parts: &Parts) -> Parts {
     parts.clone().expect(rt, "there is memory")
 }
@@ -102,11 +110,24 @@ fn clone_of_parts(rt: &impl Abort, parts: &Parts) -> Parts {
 fn a_part_holds_its_bytes(rt: HostRuntime) {
     let first = part(&rt, rt.alloc(), 3, &[10, 11]);
     assert_part(&rt, &first, 3, false, &[10, 11]);
-    assert_other_part(&rt, &first, &part(&rt, rt.alloc(), 4, &[10, 11]));
-    assert_other_part(&rt, &first, &part(&rt, rt.alloc(), 3, &[10]));
+    assert_other_part(&rt, rt.alloc(), &first, 4, false, &[10, 11]);
+    assert_other_part(&rt, rt.alloc(), &first, 3, false, &[10]);
     let copy = clone_of(&rt, &first);
     let bytes = Bytes::from_vec(first.bytes.into_vec());
     assert!(rt; bytes == copy.bytes);
+}
+
+fn assert_other_flags(rt: &impl Abort, alloc: Global, parts: &Parts, devices: &[(u8, bool)]) {
+    assert_other_parts(rt, parts, &flagged(rt, alloc, devices));
+}
+
+// Lists of parts are equal where the flags are.
+fn assert_flags_are_compared(rt: &impl Abort, alloc: Global) {
+    let parts = flagged(rt, alloc, &[(3, false), (4, true)]);
+    assert_same_parts(rt, &parts, &clone_of_parts(rt, &parts));
+    assert_same_parts(rt, &parts, &flagged(rt, alloc, &[(3, false), (4, true)]));
+    assert_other_flags(rt, alloc, &parts, &[(3, false), (4, false)]);
+    assert_other_flags(rt, alloc, &parts, &[(3, true), (4, false)]);
 }
 
 #[test]
@@ -115,18 +136,20 @@ fn a_part_is_required_or_optional(rt: HostRuntime) {
     let optional = optional_part(&rt, alloc, 3, &[10, 11]);
     assert_part(&rt, &optional, 3, true, &[10, 11]);
     assert!(rt; clone_of(&rt, &optional).optional);
-    assert_other_part(&rt, &optional, &part(&rt, alloc, 3, &[10, 11]));
-    assert_other_part(&rt, &optional, &optional_part(&rt, alloc, 3, &[10]));
+    assert_other_part(&rt, alloc, &optional, 3, false, &[10, 11]);
+    assert_other_part(&rt, alloc, &optional, 3, true, &[10]);
     assert_flags_are_compared(&rt, alloc);
 }
 
-// Lists of parts are equal where the flags are.
-fn assert_flags_are_compared(rt: &impl Abort, alloc: Global) {
-    let parts = flagged(rt, alloc, &[(3, false), (4, true)]);
-    assert_same_parts(rt, &parts, &clone_of_parts(rt, &parts));
-    assert_same_parts(rt, &parts, &flagged(rt, alloc, &[(3, false), (4, true)]));
-    assert_other_parts(rt, &parts, &flagged(rt, alloc, &[(3, false), (4, false)]));
-    assert_other_parts(rt, &parts, &flagged(rt, alloc, &[(3, true), (4, false)]));
+// The items are the required parts of devices 3 and 4.
+fn assert_items(rt: &impl Abort, alloc: Global, items: &[Part]) {
+    assert_eq!(rt; items.len(), 2);
+    assert!(rt; items[0] == part(rt, alloc, 3, &[7]));
+    assert!(rt; items[1] == part(rt, alloc, 4, &[7]));
+}
+
+fn assert_is_not(rt: &impl Abort, alloc: Global, parts: &Parts, devices: &[u8]) {
+    assert_other_parts(rt, parts, &parts_of(rt, alloc, devices, &[7]));
 }
 
 #[test]
@@ -139,26 +162,8 @@ fn a_list_of_parts_is_its_vec(rt: HostRuntime) {
     let again = Parts::of(items);
     assert_eq!(rt; again.as_slice().len(), 2);
     assert_same_parts(&rt, &again, &copy);
-    assert_other_parts(&rt, &again, &parts_of(&rt, alloc, &[4, 3], &[7]));
-    assert_other_parts(&rt, &again, &parts_of(&rt, alloc, &[3], &[7]));
-}
-
-// The items are the required parts of devices 3 and 4.
-fn assert_items(rt: &impl Abort, alloc: Global, items: &[Part]) {
-    assert_eq!(rt; items.len(), 2);
-    assert!(rt; items[0] == part(rt, alloc, 3, &[7]));
-    assert!(rt; items[1] == part(rt, alloc, 4, &[7]));
-}
-
-#[test]
-fn a_device_stands_in_one_part(rt: HostRuntime) {
-    for (devices, expected) in &DISTINCT {
-        assert_distinct(&rt, rt.alloc(), devices, *expected);
-    }
-    let parts = parts_of(&rt, rt.alloc(), &[3, 4], &[]);
-    assert_uses(&rt, &parts, 3, true);
-    assert_uses(&rt, &parts, 4, true);
-    assert_uses(&rt, &parts, 5, false);
+    assert_is_not(&rt, alloc, &again, &[4, 3]);
+    assert_is_not(&rt, alloc, &again, &[3]);
 }
 
 fn assert_distinct(rt: &impl Abort, alloc: Global, devices: &[u8], expected: bool) {
@@ -172,32 +177,34 @@ fn assert_uses(rt: &impl Abort, parts: &Parts, device: u8, expected: bool) {
 }
 
 #[test]
-fn a_cue_has_1_to_16_parts_of_at_most_32_bytes(rt: HostRuntime) {
-    let alloc = rt.alloc();
-    assert_fit(&rt, &parts_of(&rt, alloc, &[], &BYTES[..32]), false);
-    assert_fit(&rt, &parts_of(&rt, alloc, &[0], &BYTES[..32]), true);
-    assert_fit(
-        &rt,
-        &parts_of(&rt, alloc, &DEVICES[..16], &BYTES[..32]),
-        true,
-    );
-    assert_fit(&rt, &parts_of(&rt, alloc, &DEVICES, &BYTES[..32]), false);
-    assert!(rt; part(&rt, alloc, 3, &BYTES[..32]).is_fit());
-    assert!(rt; !part(&rt, alloc, 3, &BYTES).is_fit());
-    assert_fit(&rt, &parts_of(&rt, alloc, &[3, 4], &BYTES), false);
-    assert_fit(&rt, &parts_of(&rt, alloc, &[3, 3], &[]), false);
+fn a_device_stands_in_one_part(rt: HostRuntime) {
+    for (devices, expected) in &DISTINCT {
+        assert_distinct(&rt, rt.alloc(), devices, *expected);
+    }
+    let parts = parts_of(&rt, rt.alloc(), &[3, 4], &[]);
+    assert_uses(&rt, &parts, 3, true);
+    assert_uses(&rt, &parts, 4, true);
+    assert_uses(&rt, &parts, 5, false);
 }
 
-fn assert_fit(rt: &impl Abort, parts: &Parts, expected: bool) {
-    let count = parts.as_slice().len();
+fn assert_fit(rt: &impl Abort, alloc: Global, devices: &[u8], bytes: &[u8], expected: bool) {
+    let parts = parts_of(rt, alloc, devices, bytes);
+    let count = devices.len();
     assert_eq!(rt; parts.is_fit(), expected, "{count} parts");
 }
 
 #[test]
-fn a_cue_has_a_required_part(rt: HostRuntime) {
-    for (devices, has_required, is_fit) in &REQUIRED {
-        assert_required(&rt, rt.alloc(), devices, *has_required, *is_fit);
-    }
+fn a_cue_has_1_to_16_parts_of_at_most_32_bytes(rt: HostRuntime) {
+    let alloc = rt.alloc();
+    let bytes = &BYTES[..32];
+    assert_fit(&rt, alloc, &[], bytes, false);
+    assert_fit(&rt, alloc, &[0], bytes, true);
+    assert_fit(&rt, alloc, &DEVICES[..16], bytes, true);
+    assert_fit(&rt, alloc, &DEVICES, bytes, false);
+    assert!(rt; part(&rt, alloc, 3, bytes).is_fit());
+    assert!(rt; !part(&rt, alloc, 3, &BYTES).is_fit());
+    assert_fit(&rt, alloc, &[3, 4], &BYTES, false);
+    assert_fit(&rt, alloc, &[3, 3], &[], false);
 }
 
 fn assert_required(
@@ -210,4 +217,11 @@ fn assert_required(
     let parts = flagged(rt, alloc, devices);
     assert_eq!(rt; parts.has_required_part(), has_required, "{devices:?}");
     assert_eq!(rt; parts.is_fit(), is_fit, "{devices:?}");
+}
+
+#[test]
+fn a_cue_has_a_required_part(rt: HostRuntime) {
+    for (devices, has_required, is_fit) in &REQUIRED {
+        assert_required(&rt, rt.alloc(), devices, *has_required, *is_fit);
+    }
 }

@@ -229,38 +229,48 @@ fn a_place_at_a_removed_cue_goes_on(rt: HostRuntime) {
     );
 }
 
-// The place becomes the cue behind this one.
-fn go_on(rt: &impl Abort, show: &mut Show, text: &[u8]) {
+// The place becomes the cue behind this one, or none.
+fn go_on(rt: &impl Abort, show: &mut Show, text: &[u8], expected: Option<CueNo>) {
     let next = show.following(cue(rt, text));
     show.set_place(next);
+    assert!(rt; show.place() == expected);
 }
 
 #[test]
 fn a_place_can_be_what_follows(rt: HostRuntime) {
     let mut show = example(&rt, rt.alloc());
-    go_on(&rt, &mut show, b"1");
-    assert!(rt; show.place() == Some(cue(&rt, b"2")));
-    go_on(&rt, &mut show, b"3");
-    assert!(rt; show.place() == None);
+    go_on(&rt, &mut show, b"1", Some(cue(&rt, b"2")));
+    go_on(&rt, &mut show, b"3", None);
+}
+
+// Devices 3, 0 and 111.
+fn three_devices(rt: &impl Abort, alloc: Global) -> Show {
+    let mut show = Show::new(alloc);
+    add_device(rt, &mut show, 3, 9001);
+    add_device(rt, &mut show, 0, 1);
+    add_device(rt, &mut show, 111, 65535);
+    show
 }
 
 #[test]
 fn a_removed_device_leaves_the_others_in_order(rt: HostRuntime) {
     let alloc = rt.alloc();
-    let mut show = Show::new(alloc);
-    add_device(&rt, &mut show, 3, 9001);
-    add_device(&rt, &mut show, 0, 1);
-    add_device(&rt, &mut show, 111, 65535);
+    let mut show = three_devices(&rt, alloc);
     remove_device(&rt, &mut show, 0);
     assert_show(&rt, alloc, &show, "3:Some(9001) 111:Some(65535) | | -");
     assert!(rt; !show.can_remove_device(device(&rt, 0)));
+}
+
+fn assert_device(rt: &impl Abort, show: &Show, number: u8, port: u16, expected: bool) {
+    let number = device(rt, number);
+    assert_eq!(rt; show.can_add_device(number, port), expected);
 }
 
 #[test]
 fn a_device_is_added_once_and_with_a_port(rt: HostRuntime) {
     let show = example(&rt, rt.alloc());
     for (number, port, expected) in &NEW_DEVICES {
-        assert_eq!(rt; show.can_add_device(device(&rt, *number), *port), *expected);
+        assert_device(&rt, &show, *number, *port, *expected);
     }
 }
 
@@ -286,14 +296,24 @@ fn can_add_cue(rt: &impl Abort, show: &Show, text: &[u8], parts: &Parts) -> bool
     show.can_add_cue(cue(rt, text), parts)
 }
 
+fn assert_cue(
+    rt: &impl Abort,
+    show: &Show,
+    text: &[u8],
+    parts: &Parts,
+    known: bool,
+    expected: bool,
+) {
+    assert_eq!(rt; show.has_devices_of(parts), known);
+    assert_eq!(rt; can_add_cue(rt, show, text, parts), expected);
+}
+
 #[test]
 fn a_cue_has_parts_of_devices_of_the_table(rt: HostRuntime) {
-    let alloc = rt.alloc();
-    let show = example(&rt, alloc);
+    let show = example(&rt, rt.alloc());
     for (text, devices, known, expected) in &NEW_CUES {
-        let parts = list(&rt, alloc, devices);
-        assert_eq!(rt; show.has_devices_of(&parts), *known);
-        assert_eq!(rt; can_add_cue(&rt, &show, text, &parts), *expected);
+        let parts = list(&rt, rt.alloc(), devices);
+        assert_cue(&rt, &show, text, &parts, *known, *expected);
     }
 }
 
@@ -320,19 +340,32 @@ fn a_cue_keeps_its_optional_parts(rt: HostRuntime) {
     );
 }
 
+// The devices 0 to 111.
+fn full_table(rt: &impl Abort, alloc: Global) -> Show {
+    let mut show = Show::new(alloc);
+    for number in 0..112 {
+        add_device(rt, &mut show, number, 9000);
+    }
+    show
+}
+
+fn assert_has_device(rt: &impl Abort, show: &Show, number: u8) {
+    let number = device(rt, number);
+    assert_eq!(rt; show.port(number), Some(9000));
+    assert!(rt; !show.can_add_device(number, 9000));
+}
+
+fn assert_full_table(rt: &impl Abort, show: &Show) {
+    assert_eq!(rt; show.devices().len(), 112);
+    for number in 0..112 {
+        assert_has_device(rt, show, number);
+    }
+}
+
 #[test]
 fn a_table_holds_112_devices(rt: HostRuntime) {
-    let mut show = Show::new(rt.alloc());
-    for number in 0..112 {
-        add_device(&rt, &mut show, number, 9000);
-    }
-    let copy = clone_of(&rt, &show);
-    assert_eq!(rt; copy.devices().len(), 112);
-    for number in 0..112 {
-        let number = device(&rt, number);
-        assert_eq!(rt; copy.port(number), Some(9000));
-        assert!(rt; !copy.can_add_device(number, 9000));
-    }
+    let show = full_table(&rt, rt.alloc());
+    assert_full_table(&rt, &clone_of(&rt, &show));
 }
 
 // 256 cues, each a digit and a number of three digits.
@@ -359,18 +392,22 @@ fn full_show(rt: &impl Abort, alloc: Global) -> Show {
     show
 }
 
-fn assert_full(rt: &impl Abort, show: &Show, parts: &Parts) {
+fn assert_full_stack(rt: &impl Abort, show: &Show, parts: &Parts) {
     assert_eq!(rt; show.cues().len(), 1024);
     assert!(rt; show.is_full());
     assert!(rt; !can_add_cue(rt, show, b"5", parts));
+}
+
+// The clone is full, and there is room where a cue is removed.
+fn assert_full(rt: &impl Abort, show: &mut Show, parts: &Parts) {
+    assert_full_stack(rt, &clone_of(rt, show), parts);
+    remove_cue(rt, show, b"1000");
+    assert!(rt; can_add_cue(rt, show, b"5", parts));
 }
 
 #[test]
 fn a_stack_holds_1024_cues(rt: HostRuntime) {
     let alloc = rt.alloc();
     let mut show = full_show(&rt, alloc);
-    let parts = list(&rt, alloc, &[3]);
-    assert_full(&rt, &clone_of(&rt, &show), &parts);
-    remove_cue(&rt, &mut show, b"1000");
-    assert!(rt; can_add_cue(&rt, &show, b"5", &parts));
+    assert_full(&rt, &mut show, &list(&rt, alloc, &[3]));
 }

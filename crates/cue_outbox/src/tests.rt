@@ -2,10 +2,9 @@
 use crate::{Out, pending, status};
 use cue_core::{Event, State};
 use cue_exchange::Reason;
-use cue_show::{CueNo, DeviceNo, Part, Parts};
+use cue_show::{Bytes, CueNo, DeviceNo, Part, Parts};
 use std::alloc::{AllocError, Global};
 use std::process::Abort;
-use std::test::Fail;
 
 mod asked;
 mod commands;
@@ -50,112 +49,163 @@ const MIXED: [Step; 3] = [
     Step::Cue(b"1", &[(3, false, b"\x0a\x0b"), (4, true, b"")]),
 ];
 
-fn cue(text: &[u8]) -> Result<CueNo, Fail> {
-    Ok(CueNo::read(text).ok_or("no cue number")?)
+fn cue(rt: &impl Abort, text: &[u8]) -> CueNo {
+    CueNo::read(text).expect(rt, "a cue number")
 }
 
-fn device(number: u8) -> Result<DeviceNo, Fail> {
-    Ok(DeviceNo::of_byte(number).ok_or("no device number")?)
+fn device(rt: &impl Abort, number: u8) -> DeviceNo {
+    DeviceNo::of_byte(number).expect(rt, "a device number")
 }
 
-fn parts(alloc: Global, tasks: &[Task]) -> Result<Parts, Fail> {
+fn part(rt: &impl Abort, alloc: Global, task: &Task) -> Result<Part, AllocError> {
+    let (number, optional, bytes) = task;
+    Part::of(alloc, device(rt, *number), *optional, bytes)
+}
+
+fn parts(rt: &impl Abort, alloc: Global, tasks: &[Task]) -> Result<Parts, AllocError> {
     let mut parts = Parts::new(alloc);
-    for (number, optional, bytes) in tasks {
-        parts.push(Part::of(alloc, device(*number)?, *optional, bytes)?)?;
+    for task in tasks {
+        parts.push(part(rt, alloc, task)?)?;
     }
     Ok(parts)
 }
 
-fn event(alloc: Global, step: &Step) -> Result<Event, Fail> {
+fn event(rt: &impl Abort, alloc: Global, step: &Step) -> Result<Event, AllocError> {
     Ok(match step {
-        Step::Device(number, port) => Event::Device(device(*number)?, *port),
-        Step::Cue(text, tasks) => Event::Cue(cue(text)?, parts(alloc, tasks)?),
-        Step::Place(text) => Event::Place(cue(text)?),
-        Step::Start(seq, text) => Event::Start(*seq, cue(text)?, 11000),
-        Step::Ready(seq, number) => Event::Ready(*seq, device(*number)?),
+        Step::Device(number, port) => Event::Device(device(rt, *number), *port),
+        Step::Cue(text, tasks) => Event::Cue(cue(rt, text), parts(rt, alloc, tasks)?),
+        Step::Place(text) => Event::Place(cue(rt, text)),
+        Step::Start(seq, text) => Event::Start(*seq, cue(rt, text), 11000),
+        Step::Ready(seq, number) => Event::Ready(*seq, device(rt, *number)),
         Step::Go(seq) => Event::Go(*seq),
-        Step::Done(seq, number) => Event::Done(*seq, device(*number)?),
+        Step::Done(seq, number) => Event::Done(*seq, device(rt, *number)),
         Step::Cancel(seq, reason) => Event::Cancel(*seq, *reason),
-        Step::LetGo(seq, number) => Event::LetGo(*seq, device(*number)?),
-        Step::Failed(seq, number) => Event::Failed(*seq, device(*number)?),
-        Step::Excuse(seq, number) => Event::Excuse(*seq, device(*number)?),
+        Step::LetGo(seq, number) => Event::LetGo(*seq, device(rt, *number)),
+        Step::Failed(seq, number) => Event::Failed(*seq, device(rt, *number)),
+        Step::Excuse(seq, number) => Event::Excuse(*seq, device(rt, *number)),
     })
 }
 
 // Applies the event, which has to be an acceptable one.
-fn apply(rt: &impl Abort, state: &mut State, event: &Event) -> Result<(), Fail> {
+fn apply(rt: &impl Abort, state: &mut State, event: &Event) -> Result<(), AllocError> {
     assert!(rt; state.can_apply(event));
-    Ok(state.apply(event)?)
+    state.apply(event)
 }
 
-fn run(rt: &impl Abort, alloc: Global, state: &mut State, steps: &[Step]) -> Result<(), Fail> {
+fn run(
+    rt: &impl Abort,
+    alloc: Global,
+    state: &mut State,
+    steps: &[Step],
+) -> Result<(), AllocError> {
     for step in steps {
-        apply(rt, state, &event(alloc, step)?)?;
+        apply(rt, state, &event(rt, alloc, step)?)?;
     }
     Ok(())
 }
 
-// The bytes of hexadecimal digits; spaces are for reading.
-fn bytes(alloc: Global, digits: &str) -> Result<Vec<u8>, AllocError> {
-    let mut found = Vec::new(alloc);
-    let mut high = None;
-    for c in digits.bytes() {
-        let digit = match c {
-            b'0'..=b'9' => c - b'0',
-            b'a'..=b'f' => c - b'a' + 10,
-            _ => continue,
-        };
-        match high {
-            None => high = Some(digit << 4),
-            Some(front) => {
-                found.push(front | digit)?;
-                high = None;
-            }
+// The value of a hexadecimal digit; spaces have none.
+fn value_of(digit: u8) -> Option<u8> {
+    match digit {
+        b'0'..=b'9' => Some(digit - b'0'),
+        b'a'..=b'f' => Some(digit - b'a' + 10),
+        _ => None,
+    }
+}
+
+// Puts the byte behind the others, once both halves of it are there; otherwise the half that is.
+fn push_half(bytes: &mut Vec<u8>, front: Option<u8>, half: u8) -> Result<Option<u8>, AllocError> {
+    match front {
+        None => Ok(Some(half << 4)),
+        Some(front) => {
+            bytes.push(front | half)?;
+            Ok(None)
         }
     }
-    Ok(found)
 }
 
-fn expect(rt: &impl Abort, alloc: Global, out: &Out, to: u16, digits: &str) -> Result<(), Fail> {
-    let want = bytes(alloc, digits)?;
-    assert_eq!(rt; out.to, to, "{digits}");
-    assert_eq!(rt; out.bytes.as_slice(), want.as_slice(), "{digits}");
-    Ok(())
-}
-
-fn expect_all(rt: &impl Abort, alloc: Global, outs: &[Out], wanted: &[Wanted]) -> Result<(), Fail> {
-    assert_eq!(rt; outs.len(), wanted.len());
-    for (out, (to, digits)) in outs.iter().zip(wanted) {
-        expect(rt, alloc, out, *to, digits)?;
+// Puts the bytes of hexadecimal digits behind the others; spaces are for reading.
+fn push_bytes(bytes: &mut Vec<u8>, digits: &str) -> Result<(), AllocError> {
+    let mut front = None;
+    for digit in digits.bytes() {
+        if let Some(half) = value_of(digit) {
+            front = push_half(bytes, front, half)?;
+        }
     }
     Ok(())
 }
 
-// The steps, from the show on, and then the commands that are pending.
-fn expect_pending(
+// The datagram with the bytes of hexadecimal digits.
+fn out(alloc: Global, to: u16, digits: &str) -> Result<Out, AllocError> {
+    let mut bytes = Vec::new(alloc);
+    push_bytes(&mut bytes, digits)?;
+    Ok(Out {
+        to,
+        bytes: Bytes::from_vec(bytes),
+    })
+}
+
+fn all_outs(alloc: Global, wanted: &[Wanted]) -> Result<Vec<Out>, AllocError> {
+    let mut outs = Vec::new(alloc);
+    for (to, digits) in wanted {
+        outs.push(out(alloc, *to, digits)?)?;
+    }
+    Ok(outs)
+}
+
+fn expect(
+    rt: &impl Abort,
+    alloc: Global,
+    sent: &Out,
+    to: u16,
+    digits: &str,
+) -> Result<(), AllocError> {
+    let wanted = out(alloc, to, digits)?;
+    assert_eq!(rt; *sent, wanted);
+    Ok(())
+}
+
+fn expect_all(
+    rt: &impl Abort,
+    alloc: Global,
+    sent: &[Out],
+    wanted: &[Wanted],
+) -> Result<(), AllocError> {
+    let wanted = all_outs(alloc, wanted)?;
+    assert_eq!(rt; sent, wanted.as_slice());
+    Ok(())
+}
+
+// The steps, from the show on.
+fn run_both(
     rt: &impl Abort,
     alloc: Global,
     state: &mut State,
     show: &[Step],
     steps: &[Step],
-    wanted: &[Wanted],
-) -> Result<(), Fail> {
+) -> Result<(), AllocError> {
     run(rt, alloc, state, show)?;
-    run(rt, alloc, state, steps)?;
+    run(rt, alloc, state, steps)
+}
+
+// The commands that are pending.
+fn expect_pending(
+    rt: &impl Abort,
+    alloc: Global,
+    state: &State,
+    wanted: &[Wanted],
+) -> Result<(), AllocError> {
     let outs = pending(alloc, state)?;
     expect_all(rt, alloc, &outs, wanted)
 }
 
-// The steps, from the show on, and then the status.
+// The status.
 fn expect_status(
     rt: &impl Abort,
     alloc: Global,
-    state: &mut State,
-    steps: &[Step],
+    state: &State,
     digits: &str,
-) -> Result<(), Fail> {
-    run(rt, alloc, state, &SHOW)?;
-    run(rt, alloc, state, steps)?;
+) -> Result<(), AllocError> {
     let out = status(alloc, 8000, state)?;
     expect(rt, alloc, &out, 8000, digits)
 }

@@ -1,9 +1,9 @@
 //! The commands to the devices that a batch of events asks anew.
-use super::{SHOW, Step, Wanted, event, expect_all, run};
+use super::{SHOW, Step, Wanted, event, expect_all, run_both};
 use crate::{numbers_asked, pending_of};
-use cue_core::State;
+use cue_core::{Event, State};
 use cue_exchange::Reason;
-use std::alloc::Global;
+use std::alloc::{AllocError, Global};
 use std::process::Abort;
 use std::test::Fail;
 
@@ -45,9 +45,7 @@ const BATCH: &[Step] = &[
     Step::LetGo(2, 4),
 ];
 
-fn expect_asked(rt: &impl Abort, alloc: Global, state: &mut State) -> Result<(), Fail> {
-    run(rt, alloc, state, &SHOW)?;
-    run(rt, alloc, state, &BOTH)?;
+fn expect_each(rt: &impl Abort, alloc: Global, state: &State) -> Result<(), AllocError> {
     for (numbers, wanted) in ROWS {
         let outs = pending_of(alloc, state, numbers)?;
         expect_all(rt, alloc, &outs, wanted)?;
@@ -55,19 +53,37 @@ fn expect_asked(rt: &impl Abort, alloc: Global, state: &mut State) -> Result<(),
     Ok(())
 }
 
+fn expect_asked(rt: &impl Abort, alloc: Global, state: &mut State) -> Result<(), Fail> {
+    run_both(rt, alloc, state, &SHOW, &BOTH)?;
+    Ok(expect_each(rt, alloc, state)?)
+}
+
 #[test]
 fn commands_of_some_attempts(rt: HostRuntime) -> Result<(), Fail> {
-    let mut state = State::empty(rt.alloc());
-    expect_asked(&rt, rt.alloc(), &mut state)
+    expect_asked(&rt, rt.alloc(), &mut State::empty(rt.alloc()))
+}
+
+fn events(rt: &impl Abort, alloc: Global, steps: &[Step]) -> Result<Vec<Event>, AllocError> {
+    let mut events = Vec::new(alloc);
+    for step in steps {
+        events.push(event(rt, alloc, step)?)?;
+    }
+    Ok(events)
+}
+
+fn expect_numbers(
+    rt: &impl Abort,
+    alloc: Global,
+    events: &[Event],
+    wanted: &[u32],
+) -> Result<(), Fail> {
+    let numbers = numbers_asked(alloc, events)?;
+    assert_eq!(rt; numbers.as_slice(), wanted);
+    Ok(())
 }
 
 #[test]
 fn numbers_rise_and_stand_once(rt: HostRuntime) -> Result<(), Fail> {
-    let mut events = Vec::new(rt.alloc());
-    for step in BATCH {
-        events.push(event(rt.alloc(), step)?)?;
-    }
-    let numbers = numbers_asked(rt.alloc(), &events)?;
-    assert_eq!(&rt; numbers.as_slice(), [5, 9, 12].as_slice());
-    Ok(())
+    let events = events(&rt, rt.alloc(), BATCH)?;
+    expect_numbers(&rt, rt.alloc(), &events, &[5, 9, 12])
 }

@@ -1,7 +1,9 @@
 //! The commands that the devices are still to answer.
-use super::{MIXED, SHOW, Step, Wanted, expect_pending};
+use super::{MIXED, SHOW, Step, Wanted, expect_pending, run_both};
 use cue_core::State;
 use cue_exchange::Reason;
+use std::alloc::{AllocError, Global};
+use std::process::Abort;
 use std::test::Fail;
 
 const STANDBY_3: Wanted = (
@@ -119,20 +121,40 @@ const EXCUSED: [Row; 7] = [
     ),
 ];
 
-#[test]
-fn commands_are_pending(rt: HostRuntime) -> Result<(), Fail> {
-    for (steps, wanted) in ROWS {
-        let mut state = State::empty(rt.alloc());
-        expect_pending(&rt, rt.alloc(), &mut state, &SHOW, steps, wanted)?;
+// The steps, from the show on, and then the commands that are pending.
+fn run_to(
+    rt: &impl Abort,
+    alloc: Global,
+    state: &mut State,
+    show: &[Step],
+    row: &Row,
+) -> Result<(), AllocError> {
+    run_both(rt, alloc, state, show, row.0)?;
+    expect_pending(rt, alloc, state, row.1)
+}
+
+fn expect_row(rt: &impl Abort, alloc: Global, show: &[Step], row: &Row) -> Result<(), AllocError> {
+    run_to(rt, alloc, &mut State::empty(alloc), show, row)
+}
+
+fn expect_each(
+    rt: &impl Abort,
+    alloc: Global,
+    show: &[Step],
+    rows: &[Row],
+) -> Result<(), AllocError> {
+    for row in rows {
+        expect_row(rt, alloc, show, row)?;
     }
     Ok(())
 }
 
 #[test]
+fn commands_are_pending(rt: HostRuntime) -> Result<(), Fail> {
+    Ok(expect_each(&rt, rt.alloc(), &SHOW, &ROWS)?)
+}
+
+#[test]
 fn an_excused_device_is_told_nothing(rt: HostRuntime) -> Result<(), Fail> {
-    for (steps, wanted) in EXCUSED {
-        let mut state = State::empty(rt.alloc());
-        expect_pending(&rt, rt.alloc(), &mut state, &MIXED, steps, wanted)?;
-    }
-    Ok(())
+    Ok(expect_each(&rt, rt.alloc(), &MIXED, &EXCUSED)?)
 }

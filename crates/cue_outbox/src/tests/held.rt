@@ -1,61 +1,98 @@
 //! Datagrams in a queue, and their bytes.
 use crate::{Out, Queue};
 use cue_show::Bytes;
-use std::alloc::Global;
+use std::alloc::{AllocError, Global};
 use std::process::Abort;
 use std::test::Fail;
 
-fn out(alloc: Global, to: u16) -> Result<Out, Fail> {
-    Ok(Out {
-        to,
-        bytes: Bytes::from_vec(Vec::from_slice(alloc, &to.to_be_bytes())?),
-    })
+fn bytes_of(alloc: Global, text: &[u8]) -> Result<Bytes, AllocError> {
+    Ok(Bytes::from_vec(Vec::from_slice(alloc, text)?))
 }
 
-fn push(alloc: Global, queue: &mut Queue, ports: &[u16]) -> Result<(), Fail> {
+fn out(alloc: Global, to: u16) -> Result<Out, AllocError> {
+    let bytes = bytes_of(alloc, &to.to_be_bytes())?;
+    Ok(Out { to, bytes })
+}
+
+fn outs(alloc: Global, ports: &[u16]) -> Result<Vec<Out>, AllocError> {
     let mut outs = Vec::new(alloc);
     for to in ports {
         outs.push(out(alloc, *to)?)?;
     }
-    Ok(queue.push_all(outs)?)
+    Ok(outs)
 }
 
-// Takes the datagrams to these ports from the front.
-fn take(rt: &impl Abort, alloc: Global, queue: &mut Queue, ports: &[u16]) -> Result<(), Fail> {
-    for to in ports {
-        let first = queue.take_first();
-        assert!(rt; first == Some(out(alloc, *to)?), "{to}");
-    }
-    Ok(())
+fn push(alloc: Global, queue: &mut Queue, ports: &[u16]) -> Result<(), AllocError> {
+    queue.push_all(outs(alloc, ports)?)
 }
 
-fn use_queue(rt: &impl Abort, alloc: Global, queue: &mut Queue) -> Result<(), Fail> {
-    assert!(rt; queue.is_empty());
-    assert!(rt; queue.take_first().is_none());
+fn fill(rt: &impl Abort, alloc: Global, queue: &mut Queue) -> Result<(), AllocError> {
     push(alloc, queue, &[1, 2])?;
     push(alloc, queue, &[])?;
     push(alloc, queue, &[3, 4, 5])?;
     assert_eq!(rt; queue.len(), 5);
-    take(rt, alloc, queue, &[1])?;
-    queue.truncate(3);
-    assert_eq!(rt; queue.len(), 3);
-    queue.truncate(7);
-    take(rt, alloc, queue, &[2, 3, 4])?;
+    Ok(())
+}
+
+// Takes the datagram to this port from the front.
+fn take(rt: &impl Abort, alloc: Global, queue: &mut Queue, to: u16) -> Result<(), AllocError> {
+    let wanted = out(alloc, to)?;
+    assert!(rt; queue.take_first() == Some(wanted), "{to}");
+    Ok(())
+}
+
+fn truncate(rt: &impl Abort, queue: &mut Queue, count: usize, left: usize) {
+    queue.truncate(count);
+    assert_eq!(rt; queue.len(), left);
+}
+
+fn expect_none(rt: &impl Abort, queue: &mut Queue) {
     assert!(rt; queue.is_empty());
+    assert!(rt; queue.take_first().is_none());
+}
+
+fn use_queue(rt: &impl Abort, alloc: Global, queue: &mut Queue) -> Result<(), Fail> {
+    expect_none(rt, queue);
+    fill(rt, alloc, queue)?;
+    take(rt, alloc, queue, 1)?;
+    truncate(rt, queue, 3, 3);
+    truncate(rt, queue, 7, 3);
+    for to in 2..5 {
+        take(rt, alloc, queue, to)?;
+    }
+    expect_none(rt, queue);
     Ok(())
 }
 
 #[test]
 fn datagrams_leave_in_order(rt: HostRuntime) -> Result<(), Fail> {
-    let mut queue = Queue::new(rt.alloc());
-    use_queue(&rt, rt.alloc(), &mut queue)
+    use_queue(&rt, rt.alloc(), &mut Queue::new(rt.alloc()))
+}
+
+fn expect_bytes(rt: &impl Abort, bytes: &[u8], wanted: &[u8]) {
+    assert_eq!(rt; bytes, wanted);
+}
+
+fn expect_other(
+    rt: &impl Abort,
+    alloc: Global,
+    bytes: &Bytes,
+    text: &[u8],
+) -> Result<(), AllocError> {
+    let other = bytes_of(alloc, text)?;
+    assert!(rt; *bytes != other);
+    Ok(())
+}
+
+fn use_bytes(rt: &impl Abort, alloc: Global) -> Result<(), Fail> {
+    let bytes = bytes_of(alloc, b"/x\0\0")?;
+    expect_bytes(rt, bytes.as_slice(), b"/x\0\0");
+    expect_other(rt, alloc, &bytes, b"/x\0")?;
+    expect_bytes(rt, bytes.into_vec().as_slice(), b"/x\0\0");
+    Ok(())
 }
 
 #[test]
 fn bytes_go_in_and_come_out(rt: HostRuntime) -> Result<(), Fail> {
-    let bytes = Bytes::from_vec(Vec::from_slice(rt.alloc(), b"/x\0\0")?);
-    assert_eq!(rt; bytes.as_slice(), b"/x\0\0".as_slice());
-    assert!(rt; bytes != Bytes::from_vec(Vec::from_slice(rt.alloc(), b"/x\0")?));
-    assert_eq!(rt; bytes.into_vec().as_slice(), b"/x\0\0".as_slice());
-    Ok(())
+    use_bytes(&rt, rt.alloc())
 }

@@ -1,7 +1,9 @@
 //! The status of a state.
-use super::{Step, expect_status};
+use super::{SHOW, Step, expect_status, run_both};
 use cue_core::State;
 use cue_exchange::Reason;
+use std::alloc::{AllocError, Global};
+use std::process::Abort;
 use std::test::Fail;
 
 // Events after the show, and what the status says then.
@@ -51,11 +53,35 @@ const ROWS: [Row; 6] = [
     ),
 ];
 
-#[test]
-fn states_are_shown(rt: HostRuntime) -> Result<(), Fail> {
-    for (steps, digits) in ROWS {
-        let mut state = State::empty(rt.alloc());
-        expect_status(&rt, rt.alloc(), &mut state, steps, digits)?;
+// The steps, from the show on, and then the status.
+fn run_to(
+    rt: &impl Abort,
+    alloc: Global,
+    state: &mut State,
+    show: &[Step],
+    row: &Row,
+) -> Result<(), AllocError> {
+    run_both(rt, alloc, state, show, row.0)?;
+    expect_status(rt, alloc, state, row.1)
+}
+
+fn expect_row(rt: &impl Abort, alloc: Global, show: &[Step], row: &Row) -> Result<(), AllocError> {
+    run_to(rt, alloc, &mut State::empty(alloc), show, row)
+}
+
+fn expect_each(
+    rt: &impl Abort,
+    alloc: Global,
+    show: &[Step],
+    rows: &[Row],
+) -> Result<(), AllocError> {
+    for row in rows {
+        expect_row(rt, alloc, show, row)?;
     }
     Ok(())
+}
+
+#[test]
+fn states_are_shown(rt: HostRuntime) -> Result<(), Fail> {
+    Ok(expect_each(&rt, rt.alloc(), &SHOW, &ROWS)?)
 }

@@ -8,16 +8,27 @@ mod walks;
 
 use super::*;
 use std::alloc::{AllocError, Global};
+use std::process::Abort;
+use std::test::Fail;
+
+/// Hexadecimal digits, and what the datagram that they spell says.
+type Row = (&'static str, &'static str);
+
+fn digit_of(c: u8) -> Option<u8> {
+    match c {
+        b'0'..=b'9' => Some(c - b'0'),
+        b'a'..=b'f' => Some(c - b'a' + 10),
+        _ => None,
+    }
+}
 
 /// The bytes of hexadecimal digits; spaces are for reading.
 fn bytes(alloc: Global, digits: &str) -> Result<Vec<u8>, AllocError> {
     let mut found = Vec::new(alloc);
     let mut high = None;
     for c in digits.bytes() {
-        let digit = match c {
-            b'0'..=b'9' => c - b'0',
-            b'a'..=b'f' => c - b'a' + 10,
-            _ => continue,
+        let Some(digit) = digit_of(c) else {
+            continue;
         };
         match high {
             None => high = Some(digit << 4),
@@ -37,6 +48,15 @@ fn show_text(out: &mut String, text: &[u8]) -> Result<(), AllocError> {
     Ok(())
 }
 
+fn show_blob(out: &mut String, content: &[u8]) -> Result<(), AllocError> {
+    out.push_str(" b")?;
+    for b in content {
+        let b = *b;
+        write!(out, "{b:02x}")?;
+    }
+    Ok(())
+}
+
 fn show_arg(out: &mut String, arg: &Arg<'_>) -> Result<(), AllocError> {
     match arg {
         Arg::Int(number) => {
@@ -47,26 +67,31 @@ fn show_arg(out: &mut String, arg: &Arg<'_>) -> Result<(), AllocError> {
             out.push_str(" s")?;
             show_text(out, text)
         }
-        Arg::Blob(content) => {
-            out.push_str(" b")?;
-            for b in *content {
-                let b = *b;
-                write!(out, "{b:02x}")?;
-            }
-            Ok(())
-        }
+        Arg::Blob(content) => show_blob(out, content),
     }
 }
 
+fn show_message(out: &mut String, message: &Message<'_>) -> Result<(), AllocError> {
+    show_text(out, message.address)?;
+    for arg in message.args.as_slice() {
+        show_arg(out, arg)?;
+    }
+    Ok(())
+}
+
+#[cycle(show)]
+fn show_items(out: &mut String, items: &[Packet<'_>]) -> Result<(), AllocError> {
+    for item in items {
+        out.push(' ')?;
+        show(out, item)?;
+    }
+    out.push(']')
+}
+
+#[cycle(show)]
 fn show(out: &mut String, packet: &Packet<'_>) -> Result<(), AllocError> {
     match packet {
-        Packet::Message(message) => {
-            show_text(out, message.address)?;
-            for arg in message.args.as_slice() {
-                show_arg(out, arg)?;
-            }
-            Ok(())
-        }
+        Packet::Message(message) => show_message(out, message),
         Packet::Discarded { address } => {
             out.push('?')?;
             show_text(out, address)
@@ -74,26 +99,39 @@ fn show(out: &mut String, packet: &Packet<'_>) -> Result<(), AllocError> {
         Packet::Bundle { tag, items } => {
             let tag = *tag;
             write!(out, "[{tag:x}")?;
-            for item in items {
-                out.push(' ')?;
-                show(out, item)?;
-            }
-            out.push(']')
+            show_items(out, items)
         }
+    }
+}
+
+fn show_datagram(out: &mut String, alloc: Global, datagram: &[u8]) -> Result<(), AllocError> {
+    match read(alloc, datagram) {
+        Ok(packet) => show(out, &packet),
+        Err(fault) => write!(out, "{fault:?}"),
     }
 }
 
 /// What a datagram says, or its fault.
 fn said(alloc: Global, datagram: &[u8]) -> Result<String, AllocError> {
     let mut out = String::new(alloc);
-    match read(alloc, datagram) {
-        Ok(packet) => show(&mut out, &packet)?,
-        Err(fault) => write!(out, "{fault:?}")?,
-    }
+    show_datagram(&mut out, alloc, datagram)?;
     Ok(out)
 }
 
-/// The same of hexadecimal digits.
-fn said_by(alloc: Global, digits: &str) -> Result<String, AllocError> {
-    said(alloc, &bytes(alloc, digits)?)
+/// The datagram says this.
+fn compare(rt: &impl Abort, alloc: Global, datagram: &[u8], want: &str) -> Result<(), Fail> {
+    assert_eq!(rt; said(alloc, datagram)?.as_str(), want);
+    Ok(())
+}
+
+fn compare_rows(rt: &impl Abort, alloc: Global, rows: &[Row]) -> Result<(), Fail> {
+    for row in rows {
+        compare(rt, alloc, &bytes(alloc, row.0)?, row.1)?;
+    }
+    Ok(())
+}
+
+/// Arguments for a message.
+fn args<'a>(alloc: Global, list: &[Arg<'a>]) -> Result<Args<'a>, AllocError> {
+    Ok(Args::from_vec(Vec::from_slice(alloc, list)?))
 }

@@ -1,27 +1,42 @@
 //! The messages of a packet, its time tags, and whether it can be written.
 
-use super::{bytes, show};
-use crate::{Arg, Args, Message, Packet, read};
-use std::alloc::Global;
+use super::{args, bytes, show};
+use crate::{Arg, Message, Packet, read};
+use std::alloc::{AllocError, Global};
+use std::process::Abort;
 use std::test::Fail;
+
+const DEEP: &str = "2362756e646c6500 0000000000000001
+     00000008 2f610000 2c000000
+     0000002c 2362756e646c6500 0000000000000001
+         00000008 2f620000 2c000000
+         0000000c 2f630000 2c660000 00000000
+     00000004 2f640000";
+
+fn show_messages(out: &mut String, alloc: Global, packet: &Packet<'_>) -> Result<(), AllocError> {
+    for message in packet.messages(alloc)? {
+        show(out, message)?;
+    }
+    Ok(())
+}
+
+fn compare_messages(
+    rt: &impl Abort,
+    alloc: Global,
+    packet: &Packet<'_>,
+    want: &str,
+) -> Result<(), Fail> {
+    let mut out = String::new(alloc);
+    show_messages(&mut out, alloc, packet)?;
+    assert_eq!(rt; out.as_str(), want);
+    Ok(())
+}
 
 #[test]
 fn messages_come_in_order_across_depths(rt: HostRuntime) -> Result<(), Fail> {
-    let datagram = bytes(
-        rt.alloc(),
-        "2362756e646c6500 0000000000000001
-         00000008 2f610000 2c000000
-         0000002c 2362756e646c6500 0000000000000001
-             00000008 2f620000 2c000000
-             0000000c 2f630000 2c660000 00000000
-         00000004 2f640000",
-    )?;
+    let datagram = bytes(rt.alloc(), DEEP)?;
     let packet = read(rt.alloc(), &datagram)?;
-    let mut out = String::new(rt.alloc());
-    for message in packet.messages(rt.alloc())? {
-        show(&mut out, message)?;
-    }
-    assert_eq!(rt; out.as_str(), "/a/b?/c/d");
+    compare_messages(&rt, rt.alloc(), &packet, "/a/b?/c/d")?;
     assert!(rt; !packet.plain());
     Ok(())
 }
@@ -57,20 +72,25 @@ fn a_time_tag_is_later_than_now(rt: HostRuntime) {
 }
 
 /// Whether a message with this address and one text can be written.
-fn is_plain(alloc: Global, address: &[u8], text: &[u8]) -> Result<bool, Fail> {
-    let mut list = Vec::new(alloc);
-    list.push(Arg::Text(text))?;
-    let args = Args::from_vec(list);
+fn is_plain(alloc: Global, address: &[u8], text: &[u8]) -> Result<bool, AllocError> {
+    let args = args(alloc, &[Arg::Text(text)])?;
     Ok(Packet::Message(Message { address, args }).plain())
 }
 
+/// An address, a text, and whether a message with them can be written.
+const TEXTS: [(&[u8], &[u8], bool); 6] = [
+    (b"/a", b"", true),
+    (b"/", b"go", true),
+    (b"", b"go", false),
+    (b"a", b"go", false),
+    (b"/a\0", b"go", false),
+    (b"/a", b"g\0o", false),
+];
+
 #[test]
 fn plain_packets_hold_no_null(rt: HostRuntime) -> Result<(), Fail> {
-    assert!(rt; is_plain(rt.alloc(), b"/a", b"")?);
-    assert!(rt; is_plain(rt.alloc(), b"/", b"go")?);
-    assert!(rt; !is_plain(rt.alloc(), b"", b"go")?);
-    assert!(rt; !is_plain(rt.alloc(), b"a", b"go")?);
-    assert!(rt; !is_plain(rt.alloc(), b"/a\0", b"go")?);
-    assert!(rt; !is_plain(rt.alloc(), b"/a", b"g\0o")?);
+    for (address, text, want) in TEXTS {
+        assert_eq!(rt; is_plain(rt.alloc(), address, text)?, want);
+    }
     Ok(())
 }

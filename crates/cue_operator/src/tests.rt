@@ -332,9 +332,16 @@ fn ask_many(rt: &impl Abort, alloc: Global, state: &mut State) -> Result<(), Fai
     compare_many(rt, alloc, state)
 }
 
+fn compare_small(rt: &impl Abort, alloc: Global) -> Result<(), Fail> {
+    ask_each(rt, alloc, &mut State::empty(alloc))
+}
+
+fn compare_large(rt: &impl Abort, alloc: Global) -> Result<(), Fail> {
+    ask_many(rt, alloc, &mut State::empty(alloc))
+}
+
 #[test]
 fn messages_ask_for_commands(rt: HostRuntime) -> Result<(), Fail> {
-    let alloc = rt.alloc();
-    ask_each(&rt, alloc, &mut State::empty(alloc))?;
-    ask_many(&rt, alloc, &mut State::empty(alloc))
+    compare_small(&rt, rt.alloc())?;
+    compare_large(&rt, rt.alloc())
 }

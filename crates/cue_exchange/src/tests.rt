@@ -5,7 +5,6 @@ use crate::live::Live;
 use cue_show::{CueNo, DeviceNo, Part, Parts};
 use std::alloc::{AllocError, Global};
 use std::process::Abort;
-use std::test::Fail;
 
 mod excused;
 mod found;
@@ -28,85 +27,94 @@ enum Step {
 // A step, the outcome where it ends its attempt, and the attempts behind it.
 type Row = (Step, Option<Outcome>, &'static str);
 
-fn cue(text: &[u8]) -> Result<CueNo, Fail> {
-    Ok(CueNo::read(text).ok_or("no cue number")?)
+fn cue(rt: &impl Abort, text: &[u8]) -> CueNo {
+    CueNo::read(text).expect(rt, "it is a cue number")
 }
 
-fn device(number: i32) -> Result<DeviceNo, Fail> {
-    Ok(DeviceNo::of(number).ok_or("no device number")?)
+fn device(rt: &impl Abort, number: i32) -> DeviceNo {
+    DeviceNo::of(number).expect(rt, "it is a device number")
 }
 
-fn push_part(parts: &mut Parts, alloc: Global, number: i32, optional: bool) -> Result<(), Fail> {
-    parts.push(Part::of(alloc, device(number)?, optional, b"\x0a\x0b")?)?;
-    Ok(())
+fn push_part(rt: &impl Abort, alloc: Global, parts: &mut Parts, number: i32, optional: bool) {
+    let device = device(rt, number);
+    let part = Part::of(alloc, device, optional, b"\x0a\x0b").expect(rt, "there is memory");
+    parts.push(part).expect(rt, "there is memory");
 }
 
 // Required parts of those devices, and behind them optional parts of these.
-fn parts(alloc: Global, required: &[i32], optional: &[i32]) -> Result<Parts, Fail> {
+fn parts(rt: &impl Abort, alloc: Global, required: &[i32], optional: &[i32]) -> Parts {
     let mut parts = Parts::new(alloc);
     for number in required {
-        push_part(&mut parts, alloc, *number, false)?;
+        push_part(rt, alloc, &mut parts, *number, false);
     }
     for number in optional {
-        push_part(&mut parts, alloc, *number, true)?;
+        push_part(rt, alloc, &mut parts, *number, true);
     }
-    Ok(parts)
+    parts
+}
+
+fn answers_of(rt: &impl Abort, alloc: Global, answers: &[(i32, bool, Answer)]) -> Answers {
+    let mut items = Vec::new(alloc);
+    for (number, optional, answer) in answers {
+        let item = DeviceAnswer {
+            device: device(rt, *number),
+            optional: *optional,
+            answer: *answer,
+        };
+        items.push(item).expect(rt, "there is memory");
+    }
+    Answers::of(items)
 }
 
 // An attempt of a stored state, with the devices at cue 1.1.
 fn stored_with(
+    rt: &impl Abort,
     alloc: Global,
     seq: u32,
     stage: Stage,
     answers: &[(i32, bool, Answer)],
-) -> Result<Attempt, Fail> {
-    let mut items = Vec::new(alloc);
-    for (number, optional, answer) in answers {
-        items.push(DeviceAnswer {
-            device: device(*number)?,
-            optional: *optional,
-            answer: *answer,
-        })?;
-    }
-    Ok(Attempt {
+) -> Attempt {
+    Attempt {
         seq,
-        cue: cue(b"1.1")?,
+        cue: cue(rt, b"1.1"),
         deadline: 11000,
         stage,
-        answers: Answers::of(items),
-    })
+        answers: answers_of(rt, alloc, answers),
+    }
 }
 
 // An attempt of a stored state, with one device, which is required.
 fn stored(
+    rt: &impl Abort,
     alloc: Global,
     seq: u32,
     number: i32,
     stage: Stage,
     answer: Answer,
-) -> Result<Attempt, Fail> {
-    stored_with(alloc, seq, stage, &[(number, false, answer)])
+) -> Attempt {
+    stored_with(rt, alloc, seq, stage, &[(number, false, answer)])
 }
 
 // Begins an attempt at cue 1, whose deadline is 11000.
-fn start(rt: &impl Abort, live: &mut Live, seq: u32, parts: &Parts) -> Result<(), Fail> {
+fn start(rt: &impl Abort, live: &mut Live, seq: u32, parts: &Parts) {
     assert!(rt; live.can_start(seq, 11000, parts));
-    live.start(seq, cue(b"1")?, 11000, parts)?;
-    Ok(())
+    live.start(seq, cue(rt, b"1"), 11000, parts)
+        .expect(rt, "there is memory");
 }
 
-fn put(rt: &impl Abort, live: &mut Live, attempt: Attempt) -> Result<(), Fail> {
+fn put(rt: &impl Abort, live: &mut Live, attempt: Attempt) {
     assert!(rt; live.can_put(&attempt));
-    live.put(attempt)?;
-    Ok(())
+    live.put(attempt).expect(rt, "there is memory");
 }
 
-fn ready(rt: &impl Abort, live: &mut Live, seq: u32, device: DeviceNo) {
+fn ready(rt: &impl Abort, live: &mut Live, seq: u32, number: i32) {
+    let device = device(rt, number);
     assert!(rt; live.can_ready(seq, device));
     live.ready(seq, device);
 }
 
-fn excuse(rt: &impl Abort, live: &mut Live, seq: u32, device: DeviceNo) {
+fn excuse(rt: &impl Abort, live: &mut Live, seq: u32, number: i32) {
+    let device = device(rt, number);
     assert!(rt; live.can_excuse(seq, device));
     live.excuse(seq, device);
 }
@@ -121,58 +129,65 @@ fn cancel(rt: &impl Abort, live: &mut Live, seq: u32, reason: Reason) {
     live.cancel(seq, reason);
 }
 
-fn done(rt: &impl Abort, live: &mut Live, seq: u32, device: DeviceNo) -> Option<Outcome> {
+fn done(rt: &impl Abort, live: &mut Live, seq: u32, number: i32) -> Option<Outcome> {
+    let device = device(rt, number);
     assert!(rt; live.can_done(seq, device));
     live.done(seq, device)
 }
 
-fn let_go(rt: &impl Abort, live: &mut Live, seq: u32, device: DeviceNo) -> Option<Outcome> {
+fn let_go(rt: &impl Abort, live: &mut Live, seq: u32, number: i32) -> Option<Outcome> {
+    let device = device(rt, number);
     assert!(rt; live.can_let_go(seq, device));
     live.let_go(seq, device)
 }
 
-fn failed(rt: &impl Abort, live: &mut Live, seq: u32, device: DeviceNo) -> Option<Outcome> {
+fn failed(rt: &impl Abort, live: &mut Live, seq: u32, number: i32) -> Option<Outcome> {
+    let device = device(rt, number);
     assert!(rt; live.can_fail(seq, device));
     live.failed(seq, device)
 }
 
 // Takes the step, which has to be one that may be taken.
-fn take(
-    rt: &impl Abort,
-    alloc: Global,
-    live: &mut Live,
-    step: &Step,
-) -> Result<Option<Outcome>, Fail> {
+fn take(rt: &impl Abort, alloc: Global, live: &mut Live, step: &Step) -> Option<Outcome> {
+    match step {
+        Step::Done(seq, number) => done(rt, live, *seq, *number),
+        Step::LetGo(seq, number) => let_go(rt, live, *seq, *number),
+        Step::Failed(seq, number) => failed(rt, live, *seq, *number),
+        _ => {
+            go_on(rt, alloc, live, step);
+            None
+        }
+    }
+}
+
+// Takes a step that ends no attempt.
+fn go_on(rt: &impl Abort, alloc: Global, live: &mut Live, step: &Step) {
     match step {
         Step::Start(seq, required, optional) => start(
             rt,
             live,
             *seq,
-            &parts(alloc, required, optional)?,
-        )?,
+            &parts(rt, alloc, required, optional),
+        ),
         Step::Put(seq, number, stage, answer) => put(
             rt,
             live,
-            stored(alloc, *seq, *number, *stage, *answer)?,
-        )?,
-        Step::Ready(seq, number) => ready(rt, live, *seq, device(*number)?),
-        Step::Excuse(seq, number) => excuse(rt, live, *seq, device(*number)?),
+            stored(rt, alloc, *seq, *number, *stage, *answer),
+        ),
+        Step::Ready(seq, number) => ready(rt, live, *seq, *number),
+        Step::Excuse(seq, number) => excuse(rt, live, *seq, *number),
         Step::Go(seq) => go(rt, live, *seq),
         Step::Cancel(seq, reason) => cancel(rt, live, *seq, *reason),
-        Step::Done(seq, number) => return Ok(done(rt, live, *seq, device(*number)?)),
-        Step::LetGo(seq, number) => return Ok(let_go(rt, live, *seq, device(*number)?)),
-        Step::Failed(seq, number) => return Ok(failed(rt, live, *seq, device(*number)?)),
+        Step::Done(..) | Step::LetGo(..) | Step::Failed(..) => {}
     }
-    Ok(None)
 }
 
 // The attempts in words, each on a line. An optional device has a `?`.
-fn lines(alloc: Global, live: &Live) -> Result<String, AllocError> {
-    let mut text = String::new(alloc);
+fn lines(text: &mut String, live: &Live) -> Result<(), AllocError> {
     for attempt in live.as_slice() {
-        line(&mut text, attempt)?;
+        line(text, attempt)?;
     }
-    Ok(text)
+    Ok(())
 }
 
 fn line(text: &mut String, attempt: &Attempt) -> Result<(), AllocError> {
@@ -181,21 +196,39 @@ fn line(text: &mut String, attempt: &Attempt) -> Result<(), AllocError> {
         "{} until {} {:?}:",
         attempt.seq, attempt.deadline, attempt.stage
     )?;
-    for x in attempt.answers.as_slice() {
-        let sign = if x.optional { "?" } else { "" };
-        write!(text, " {}{sign} {:?}", x.device.number(), x.answer)?;
+    for answer in attempt.answers.as_slice() {
+        push_answer(text, answer)?;
     }
     text.push_str("\n")
 }
 
+fn push_answer(text: &mut String, x: &DeviceAnswer) -> Result<(), AllocError> {
+    let sign = if x.optional { "?" } else { "" };
+    write!(text, " {}{sign} {:?}", x.device.number(), x.answer)
+}
+
+fn assert_lines(rt: &impl Abort, alloc: Global, live: &Live, expected: &str) {
+    let mut text = String::new(alloc);
+    lines(&mut text, live).expect(rt, "there is memory");
+    assert_eq!(rt; text.as_str(), expected);
+}
+
+fn clone_of(rt: &impl Abort, live: &Live) -> Live {
+    live.try_clone().expect(rt, "there is memory")
+}
+
+// The attempts are as the text says, and so are those of a clone.
+fn assert_live(rt: &impl Abort, alloc: Global, live: &Live, expected: &str) {
+    assert_lines(rt, alloc, live, expected);
+    assert_lines(rt, alloc, &clone_of(rt, live), expected);
+}
+
 // Takes the steps in turn, and compares what each leaves; a clone is equal at each moment.
-fn run(rt: &impl Abort, alloc: Global, rows: &[Row]) -> Result<Live, Fail> {
+fn run(rt: &impl Abort, alloc: Global, rows: &[Row]) -> Live {
     let mut live = Live::new(alloc);
     for (step, outcome, expected) in rows {
-        assert_eq!(rt; take(rt, alloc, &mut live, step)?, *outcome);
-        assert_eq!(rt; lines(alloc, &live)?.as_str(), *expected);
-        let copy = live.try_clone()?;
-        assert_eq!(rt; lines(alloc, &copy)?.as_str(), *expected);
+        assert_eq!(rt; take(rt, alloc, &mut live, step), *outcome);
+        assert_live(rt, alloc, &live, expected);
     }
-    Ok(live)
+    live
 }

@@ -1,11 +1,13 @@
 //! Optional devices: when one may be excused, and what becomes of one that was.
 use super::{Step, device, put, run, stored, stored_with};
-use crate::attempt::{Answer, Outcome, Reason, Stage};
+use crate::attempt::{Answer, Attempt, Outcome, Reason, Stage};
 use crate::live::Live;
-use std::test::Fail;
+use cue_show::DeviceNo;
+use std::alloc::Global;
+use std::process::Abort;
 
 #[test]
-fn a_cue_goes_without_a_device_that_was_excused(rt: HostRuntime) -> Result<(), Fail> {
+fn a_cue_goes_without_a_device_that_was_excused(rt: HostRuntime) {
     run(
         &rt,
         rt.alloc(),
@@ -42,12 +44,11 @@ fn a_cue_goes_without_a_device_that_was_excused(rt: HostRuntime) -> Result<(), F
             ),
             (Step::Done(1, 3), Some(Outcome::Complete), ""),
         ],
-    )?;
-    Ok(())
+    );
 }
 
 #[test]
-fn a_device_that_stood_by_is_excused(rt: HostRuntime) -> Result<(), Fail> {
+fn a_device_that_stood_by_is_excused(rt: HostRuntime) {
     run(
         &rt,
         rt.alloc(),
@@ -79,12 +80,11 @@ fn a_device_that_stood_by_is_excused(rt: HostRuntime) -> Result<(), Fail> {
             ),
             (Step::Failed(1, 3), Some(Outcome::Failed), ""),
         ],
-    )?;
-    Ok(())
+    );
 }
 
 #[test]
-fn a_device_that_was_not_excused_counts_fully(rt: HostRuntime) -> Result<(), Fail> {
+fn a_device_that_was_not_excused_counts_fully(rt: HostRuntime) {
     run(
         &rt,
         rt.alloc(),
@@ -116,12 +116,11 @@ fn a_device_that_was_not_excused_counts_fully(rt: HostRuntime) -> Result<(), Fai
             ),
             (Step::Failed(1, 4), Some(Outcome::Failed), ""),
         ],
-    )?;
-    Ok(())
+    );
 }
 
 #[test]
-fn a_device_that_was_excused_has_let_go(rt: HostRuntime) -> Result<(), Fail> {
+fn a_device_that_was_excused_has_let_go(rt: HostRuntime) {
     run(
         &rt,
         rt.alloc(),
@@ -148,15 +147,21 @@ fn a_device_that_was_excused_has_let_go(rt: HostRuntime) -> Result<(), Fail> {
             ),
             (Step::LetGo(1, 3), Some(Outcome::Cancelled), ""),
         ],
-    )?;
-    Ok(())
+    );
+}
+
+fn assert_may_be_excused(rt: &impl Abort, live: &Live, number: i32, may: bool) {
+    let device = device(rt, number);
+    assert_eq!(rt; live.can_excuse(1, device), may, "{number}");
+    assert!(rt; !live.can_excuse(2, device));
 }
 
 // Attempt 1 has a device of each answer that its stage knows; whether each may be excused.
 #[test]
-fn an_optional_device_is_excused_while_preparing(rt: HostRuntime) -> Result<(), Fail> {
+fn an_optional_device_is_excused_while_preparing(rt: HostRuntime) {
     let mut live = Live::new(rt.alloc());
     let attempt = stored_with(
+        &rt,
         rt.alloc(),
         1,
         Stage::Preparing,
@@ -167,9 +172,9 @@ fn an_optional_device_is_excused_while_preparing(rt: HostRuntime) -> Result<(), 
             (21, true, Answer::Ready),
             (22, true, Answer::Excused),
         ],
-    )?;
-    put(&rt, &mut live, attempt)?;
-    for (number, may) in [
+    );
+    put(&rt, &mut live, attempt);
+    for (number, may) in &[
         (10, false),
         (11, false),
         (20, true),
@@ -177,155 +182,183 @@ fn an_optional_device_is_excused_while_preparing(rt: HostRuntime) -> Result<(), 
         (22, false),
         (30, false),
     ] {
-        assert_eq!(rt; live.can_excuse(1, device(number)?), may, "{number}");
-        assert!(rt; !live.can_excuse(2, device(number)?));
+        assert_may_be_excused(&rt, &live, *number, *may);
     }
-    assert!(rt; !live.can_ready(1, device(22)?));
-    Ok(())
+    assert!(rt; !live.can_ready(1, device(&rt, 22)));
 }
 
-// Attempt 1 is Decided and attempt 2 Cancelling, each with an optional device of each answer that its stage knows.
+// Attempt 1 is Decided, with a device of each answer that its stage knows.
+fn decided(rt: &impl Abort, alloc: Global) -> Attempt {
+    let answers = [
+        (10, false, Answer::Waiting),
+        (11, true, Answer::Waiting),
+        (12, true, Answer::Done),
+        (13, true, Answer::Failed),
+        (14, true, Answer::Excused),
+    ];
+    stored_with(rt, alloc, 1, Stage::Decided, &answers)
+}
+
+// Attempt 2 is Cancelling, with a device of each answer that its stage knows.
+fn cancelling(rt: &impl Abort, alloc: Global) -> Attempt {
+    let answers = [
+        (20, false, Answer::Waiting),
+        (21, true, Answer::Waiting),
+        (22, true, Answer::LetGo),
+        (23, true, Answer::Failed),
+    ];
+    stored_with(rt, alloc, 2, Stage::Cancelling(Reason::Deadline), &answers)
+}
+
+// The devices of the two, each with its attempt.
+const LATER: [(u32, i32); 9] = [
+    (1, 10),
+    (1, 11),
+    (1, 12),
+    (1, 13),
+    (1, 14),
+    (2, 20),
+    (2, 21),
+    (2, 22),
+    (2, 23),
+];
+
+fn assert_is_not_excused(rt: &impl Abort, live: &Live, seq: u32, number: i32) {
+    assert!(rt; !live.can_excuse(seq, device(rt, number)), "{seq} {number}");
+}
+
+// One that was excused is asked nothing more.
+fn assert_asked_nothing(rt: &impl Abort, live: &Live, seq: u32, excused: DeviceNo) {
+    assert!(rt; !live.can_done(seq, excused));
+    assert!(rt; !live.can_fail(seq, excused));
+}
+
 #[test]
-fn no_device_is_excused_later(rt: HostRuntime) -> Result<(), Fail> {
-    let mut live = Live::new(rt.alloc());
-    let decided = stored_with(
-        rt.alloc(),
-        1,
-        Stage::Decided,
-        &[
-            (10, false, Answer::Waiting),
-            (11, true, Answer::Waiting),
-            (12, true, Answer::Done),
-            (13, true, Answer::Failed),
-            (14, true, Answer::Excused),
-        ],
-    )?;
-    put(&rt, &mut live, decided)?;
-    let cancelling = stored_with(
-        rt.alloc(),
-        2,
-        Stage::Cancelling(Reason::Deadline),
-        &[
-            (20, false, Answer::Waiting),
-            (21, true, Answer::Waiting),
-            (22, true, Answer::LetGo),
-            (23, true, Answer::Failed),
-        ],
-    )?;
-    put(&rt, &mut live, cancelling)?;
-    for (seq, number) in [
-        (1, 10),
-        (1, 11),
-        (1, 12),
-        (1, 13),
-        (1, 14),
-        (2, 20),
-        (2, 21),
-        (2, 22),
-        (2, 23),
-    ] {
-        assert!(rt; !live.can_excuse(seq, device(number)?), "{seq} {number}");
+fn no_device_is_excused_later(rt: HostRuntime) {
+    let mut live = live_with(&rt, rt.alloc(), decided(&rt, rt.alloc()));
+    put(&rt, &mut live, cancelling(&rt, rt.alloc()));
+    for (seq, number) in &LATER {
+        assert_is_not_excused(&rt, &live, *seq, *number);
     }
-    // One that was excused is asked nothing more.
-    let excused = device(14)?;
-    assert!(rt; !live.can_done(1, excused));
-    assert!(rt; !live.can_fail(1, excused));
-    Ok(())
+    assert_asked_nothing(&rt, &live, 1, device(&rt, 14));
 }
 
 // Whether the cue goes with a required device 3 and an optional device 4 that have these answers.
-#[test]
-fn a_cue_goes_where_each_device_may_go(rt: HostRuntime) -> Result<(), Fail> {
-    for (required, optional, may) in [
-        (Answer::Ready, Answer::Ready, true),
-        (Answer::Ready, Answer::Excused, true),
-        (Answer::Ready, Answer::Waiting, false),
-        (Answer::Waiting, Answer::Ready, false),
-        (Answer::Waiting, Answer::Excused, false),
-        (Answer::Waiting, Answer::Waiting, false),
-    ] {
-        let mut live = Live::new(rt.alloc());
-        let answers = [(3, false, required), (4, true, optional)];
-        let attempt = stored_with(rt.alloc(), 1, Stage::Preparing, &answers)?;
-        assert_eq!(rt; attempt.can_go(), may, "{required:?} {optional:?}");
-        put(&rt, &mut live, attempt)?;
-        assert_eq!(rt; live.can_go(1), may, "{required:?} {optional:?}");
-    }
-    Ok(())
+const GOING: [(Answer, Answer, bool); 6] = [
+    (Answer::Ready, Answer::Ready, true),
+    (Answer::Ready, Answer::Excused, true),
+    (Answer::Ready, Answer::Waiting, false),
+    (Answer::Waiting, Answer::Ready, false),
+    (Answer::Waiting, Answer::Excused, false),
+    (Answer::Waiting, Answer::Waiting, false),
+];
+
+fn live_with(rt: &impl Abort, alloc: Global, attempt: Attempt) -> Live {
+    let mut live = Live::new(alloc);
+    put(rt, &mut live, attempt);
+    live
 }
+
+fn assert_may_go(rt: &impl Abort, alloc: Global, required: Answer, optional: Answer, may: bool) {
+    let answers = [(3, false, required), (4, true, optional)];
+    let attempt = stored_with(rt, alloc, 1, Stage::Preparing, &answers);
+    assert_eq!(rt; attempt.can_go(), may, "{required:?} {optional:?}");
+    let live = live_with(rt, alloc, attempt);
+    assert_eq!(rt; live.can_go(1), may, "{required:?} {optional:?}");
+}
+
+#[test]
+fn a_cue_goes_where_each_device_may_go(rt: HostRuntime) {
+    for (required, optional, may) in &GOING {
+        assert_may_go(&rt, rt.alloc(), *required, *optional, *may);
+    }
+}
+
+const CANCELLING: Stage = Stage::Cancelling(Reason::Power);
 
 // Whether a stored attempt may be put with a required device 3 that waits, and an optional device 4.
-#[test]
-fn an_answer_stands_in_a_stored_attempt(rt: HostRuntime) -> Result<(), Fail> {
-    let live = Live::new(rt.alloc());
-    let cancelling = Stage::Cancelling(Reason::Power);
-    for (stage, answer, may) in [
-        (Stage::Preparing, Answer::Waiting, true),
-        (Stage::Preparing, Answer::Ready, true),
-        (Stage::Preparing, Answer::Done, false),
-        (Stage::Preparing, Answer::LetGo, false),
-        (Stage::Preparing, Answer::Failed, false),
-        (Stage::Preparing, Answer::Excused, true),
-        (Stage::Decided, Answer::Waiting, true),
-        (Stage::Decided, Answer::Ready, false),
-        (Stage::Decided, Answer::Done, true),
-        (Stage::Decided, Answer::LetGo, false),
-        (Stage::Decided, Answer::Failed, true),
-        (Stage::Decided, Answer::Excused, true),
-        (cancelling, Answer::Waiting, true),
-        (cancelling, Answer::Ready, false),
-        (cancelling, Answer::Done, false),
-        (cancelling, Answer::LetGo, true),
-        (cancelling, Answer::Failed, true),
-        (cancelling, Answer::Excused, false),
-    ] {
-        let answers = [(3, false, Answer::Waiting), (4, true, answer)];
-        let attempt = stored_with(rt.alloc(), 1, stage, &answers)?;
-        assert_eq!(rt; live.can_put(&attempt), may, "{stage:?} {answer:?}");
-    }
-    Ok(())
+const STORED: [(Stage, Answer, bool); 18] = [
+    (Stage::Preparing, Answer::Waiting, true),
+    (Stage::Preparing, Answer::Ready, true),
+    (Stage::Preparing, Answer::Done, false),
+    (Stage::Preparing, Answer::LetGo, false),
+    (Stage::Preparing, Answer::Failed, false),
+    (Stage::Preparing, Answer::Excused, true),
+    (Stage::Decided, Answer::Waiting, true),
+    (Stage::Decided, Answer::Ready, false),
+    (Stage::Decided, Answer::Done, true),
+    (Stage::Decided, Answer::LetGo, false),
+    (Stage::Decided, Answer::Failed, true),
+    (Stage::Decided, Answer::Excused, true),
+    (CANCELLING, Answer::Waiting, true),
+    (CANCELLING, Answer::Ready, false),
+    (CANCELLING, Answer::Done, false),
+    (CANCELLING, Answer::LetGo, true),
+    (CANCELLING, Answer::Failed, true),
+    (CANCELLING, Answer::Excused, false),
+];
+
+// Whether the attempt may be put where none is live.
+fn can_put(attempt: &Attempt, alloc: Global) -> bool {
+    Live::new(alloc).can_put(attempt)
+}
+
+fn assert_may_be_put(rt: &impl Abort, alloc: Global, stage: Stage, answer: Answer, may: bool) {
+    let answers = [(3, false, Answer::Waiting), (4, true, answer)];
+    let attempt = stored_with(rt, alloc, 1, stage, &answers);
+    assert_eq!(rt; can_put(&attempt, alloc), may, "{stage:?} {answer:?}");
 }
 
 #[test]
-fn no_required_device_is_excused(rt: HostRuntime) -> Result<(), Fail> {
-    let live = Live::new(rt.alloc());
-    for stage in [
-        Stage::Preparing,
-        Stage::Decided,
-        Stage::Cancelling(Reason::Abort),
-    ] {
-        let answers = [(3, false, Answer::Waiting), (4, false, Answer::Excused)];
-        let attempt = stored_with(rt.alloc(), 1, stage, &answers)?;
-        assert!(rt; !live.can_put(&attempt), "{stage:?}");
-        assert!(rt; live.can_put(&stored(rt.alloc(), 1, 3, stage, Answer::Waiting)?));
+fn an_answer_stands_in_a_stored_attempt(rt: HostRuntime) {
+    for (stage, answer, may) in &STORED {
+        assert_may_be_put(&rt, rt.alloc(), *stage, *answer, *may);
     }
-    Ok(())
+}
+
+fn assert_not_excused(rt: &impl Abort, alloc: Global, stage: Stage) {
+    let answers = [(3, false, Answer::Waiting), (4, false, Answer::Excused)];
+    let attempt = stored_with(rt, alloc, 1, stage, &answers);
+    assert!(rt; !can_put(&attempt, alloc), "{stage:?}");
+    let attempt = stored(rt, alloc, 1, 3, stage, Answer::Waiting);
+    assert!(rt; can_put(&attempt, alloc));
 }
 
 #[test]
-fn an_attempt_of_optional_devices_alone_is_not_put(rt: HostRuntime) -> Result<(), Fail> {
-    let live = Live::new(rt.alloc());
-    for (stage, answer) in [
-        (Stage::Preparing, Answer::Waiting),
-        (Stage::Preparing, Answer::Ready),
-        (Stage::Decided, Answer::Waiting),
-        (Stage::Cancelling(Reason::Release), Answer::Waiting),
-    ] {
-        let answers = [(3, true, answer), (4, true, answer)];
-        let attempt = stored_with(rt.alloc(), 1, stage, &answers)?;
-        assert!(rt; !live.can_put(&attempt), "{stage:?}");
-    }
-    let none = stored_with(rt.alloc(), 1, Stage::Preparing, &[])?;
-    assert!(rt; !live.can_put(&none));
-    Ok(())
+fn no_required_device_is_excused(rt: HostRuntime) {
+    assert_not_excused(&rt, rt.alloc(), Stage::Preparing);
+    assert_not_excused(&rt, rt.alloc(), Stage::Decided);
+    assert_not_excused(&rt, rt.alloc(), Stage::Cancelling(Reason::Abort));
+}
+
+// Two devices, both optional.
+fn assert_optional_alone(rt: &impl Abort, alloc: Global, stage: Stage, answer: Answer) {
+    let answers = [(3, true, answer), (4, true, answer)];
+    let attempt = stored_with(rt, alloc, 1, stage, &answers);
+    assert!(rt; !can_put(&attempt, alloc), "{stage:?}");
+}
+
+#[test]
+fn an_attempt_of_optional_devices_alone_is_not_put(rt: HostRuntime) {
+    let alloc = rt.alloc();
+    assert_optional_alone(&rt, alloc, Stage::Preparing, Answer::Waiting);
+    assert_optional_alone(&rt, alloc, Stage::Preparing, Answer::Ready);
+    assert_optional_alone(&rt, alloc, Stage::Decided, Answer::Waiting);
+    assert_optional_alone(
+        &rt,
+        alloc,
+        Stage::Cancelling(Reason::Release),
+        Answer::Waiting,
+    );
+    let none = stored_with(&rt, alloc, 1, Stage::Preparing, &[]);
+    assert!(rt; !can_put(&none, alloc));
 }
 
 // Where each device is Done or Excused, none is still to answer: the attempt would have ended.
 #[test]
-fn an_attempt_that_ended_is_not_put(rt: HostRuntime) -> Result<(), Fail> {
+fn an_attempt_that_ended_is_not_put(rt: HostRuntime) {
     let live = Live::new(rt.alloc());
     let answers = [(3, false, Answer::Done), (4, true, Answer::Excused)];
-    let attempt = stored_with(rt.alloc(), 1, Stage::Decided, &answers)?;
+    let attempt = stored_with(&rt, rt.alloc(), 1, Stage::Decided, &answers);
     assert!(rt; !live.can_put(&attempt));
-    Ok(())
 }

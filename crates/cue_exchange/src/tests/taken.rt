@@ -1,10 +1,9 @@
 //! The steps of the exchange in turn, with what becomes of each attempt written out by hand.
 use super::{Step, run};
 use crate::attempt::{Answer, Outcome, Reason, Stage};
-use std::test::Fail;
 
 #[test]
-fn a_cue_is_carried_out(rt: HostRuntime) -> Result<(), Fail> {
+fn a_cue_is_carried_out(rt: HostRuntime) {
     let live = run(
         &rt,
         rt.alloc(),
@@ -36,13 +35,12 @@ fn a_cue_is_carried_out(rt: HostRuntime) -> Result<(), Fail> {
             ),
             (Step::Done(1, 4), Some(Outcome::Complete), ""),
         ],
-    )?;
+    );
     assert!(rt; live.is_empty());
-    Ok(())
 }
 
 #[test]
-fn a_cue_fails(rt: HostRuntime) -> Result<(), Fail> {
+fn a_cue_fails(rt: HostRuntime) {
     let live = run(
         &rt,
         rt.alloc(),
@@ -74,13 +72,12 @@ fn a_cue_fails(rt: HostRuntime) -> Result<(), Fail> {
             ),
             (Step::Done(7, 4), Some(Outcome::Failed), ""),
         ],
-    )?;
+    );
     assert_eq!(rt; live.len(), 0);
-    Ok(())
 }
 
 #[test]
-fn a_preparation_is_given_up(rt: HostRuntime) -> Result<(), Fail> {
+fn a_preparation_is_given_up(rt: HostRuntime) {
     run(
         &rt,
         rt.alloc(),
@@ -118,12 +115,11 @@ fn a_preparation_is_given_up(rt: HostRuntime) -> Result<(), Fail> {
             ),
             (Step::LetGo(2, 3), Some(Outcome::Cancelled), ""),
         ],
-    )?;
-    Ok(())
+    );
 }
 
 #[test]
-fn an_attempt_ends_in_the_middle(rt: HostRuntime) -> Result<(), Fail> {
+fn an_attempt_ends_in_the_middle(rt: HostRuntime) {
     run(
         &rt,
         rt.alloc(),
@@ -159,12 +155,11 @@ fn an_attempt_ends_in_the_middle(rt: HostRuntime) -> Result<(), Fail> {
                 "1 until 11000 Preparing: 1 Waiting\n3 until 11000 Preparing: 3 Waiting\n4 until 11000 Preparing: 2 Waiting\n",
             ),
         ],
-    )?;
-    Ok(())
+    );
 }
 
 #[test]
-fn attempts_of_a_stored_state_are_put(rt: HostRuntime) -> Result<(), Fail> {
+fn attempts_of_a_stored_state_are_put(rt: HostRuntime) {
     run(
         &rt,
         rt.alloc(),
@@ -191,6 +186,5 @@ fn attempts_of_a_stored_state_are_put(rt: HostRuntime) -> Result<(), Fail> {
                 "2 until 11000 Decided: 20 Waiting\n5 until 11000 Preparing: 50 Ready\n7 until 11000 Preparing: 70 Waiting\n9 until 11000 Cancelling(Power): 90 Waiting\n",
             ),
         ],
-    )?;
-    Ok(())
+    );
 }

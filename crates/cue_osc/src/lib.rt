@@ -13,6 +13,3 @@ pub use fault::{Fault, WriteFault};
 pub use packet::{Arg, Args, BUNDLE_HEAD, MAX_DEPTH, MAX_LEN, Message, Packet};
 pub use reading::read;
 pub use writing::write;
-
-#[cfg(test)]
-mod tests;

@@ -18,6 +18,3 @@ pub use out::Out;
 pub use queue::Queue;
 pub use replies::reply;
 pub use status_reply::status;
-
-#[cfg(test)]
-mod tests;

@@ -19,6 +19,3 @@ pub use pattern::Pattern;
 pub use piece::{MAX_SHORT, Part, Piece};
 pub use ranges::{Range, Ranges};
 pub use texts::{Text, Texts};
-
-#[cfg(test)]
-mod tests;

@@ -1,8 +1,8 @@
 //! The commands to the devices that a batch of events asks anew.
 use super::{SHOW, Step, Wanted, event, expect_all, run_both};
-use crate::{numbers_asked, pending_of};
 use cue_core::{Event, State};
 use cue_exchange::Reason;
+use cue_outbox::{numbers_asked, pending_of};
 use std::alloc::{AllocError, Global};
 use std::process::Abort;
 use std::test::Fail;

@@ -1,7 +1,7 @@
 //! Datagrams that are read, and written again byte for byte.
 
 use super::{Row, args, bytes, compare, compare_rows};
-use crate::{Arg, Message, Packet, WriteFault, read, write};
+use cue_osc::{Arg, Message, Packet, WriteFault, read, write};
 use std::alloc::{AllocError, Global};
 use std::process::Abort;
 use std::test::Fail;

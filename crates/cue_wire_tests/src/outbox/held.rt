@@ -1,5 +1,5 @@
 //! Datagrams in a queue, and their bytes.
-use crate::{Out, Queue};
+use cue_outbox::{Out, Queue};
 use cue_show::Bytes;
 use std::alloc::{AllocError, Global};
 use std::process::Abort;

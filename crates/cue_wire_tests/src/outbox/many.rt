@@ -1,8 +1,8 @@
 //! As many commands as attempts can have at once, save for what a table of 112 devices leaves over.
 use super::{apply, cue, device, expect};
-use crate::{Out, pending};
 use cue_core::{Event, State};
 use cue_exchange::Reason;
+use cue_outbox::{Out, pending};
 use cue_show::{CueNo, Part, Parts};
 use std::alloc::{AllocError, Global};
 use std::process::Abort;

@@ -6,7 +6,7 @@ mod datagrams;
 mod faults;
 mod walks;
 
-use super::*;
+use cue_osc::*;
 use std::alloc::{AllocError, Global};
 use std::process::Abort;
 use std::test::Fail;

@@ -2,7 +2,7 @@
 ghost use Rattle.cue_osc.specs.Spelling.{IsText};
 
 use super::expect;
-use crate::reply;
+use cue_outbox::reply;
 use std::alloc::{AllocError, Global};
 use std::process::Abort;
 use std::test::Fail;

@@ -1,7 +1,7 @@
 //! Datagrams that are sent, byte for byte. The expected bytes were written by hand, in hexadecimal digits.
-use crate::{Out, pending, status};
 use cue_core::{Event, State};
 use cue_exchange::Reason;
+use cue_outbox::{Out, pending, status};
 use cue_show::{Bytes, CueNo, DeviceNo, Part, Parts};
 use std::alloc::{AllocError, Global};
 use std::process::Abort;

@@ -1,7 +1,7 @@
 //! The messages of a packet, its time tags, and whether it can be written.
 
 use super::{args, bytes, show};
-use crate::{Arg, Message, Packet, read};
+use cue_osc::{Arg, Message, Packet, read};
 use std::alloc::{AllocError, Global};
 use std::process::Abort;
 use std::test::Fail;

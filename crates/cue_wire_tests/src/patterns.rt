@@ -1,6 +1,6 @@
 //! Each construct of a pattern, with expected answers from the rules of OSC 1.0 and of this profile.
 
-use super::*;
+use cue_pattern::*;
 use std::alloc::Global;
 use std::test::Fail;
 

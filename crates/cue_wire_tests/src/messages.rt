@@ -3,8 +3,8 @@
 //! Each command is its name with its numbers, and a semicolon. A part is its device and its bytes; a question mark
 //! stands behind an optional device. `refused` and a code stand for a message that asks for no command.
 
-use crate::{Refused, commands};
 use cue_core::{Command, Event, ReplyKind, State, judge};
+use cue_operator::{Refused, commands};
 use cue_osc::{Packet, read};
 use cue_show::{CueNo, DeviceNo, Part, Parts};
 use std::alloc::{AllocError, Global};

@@ -1,7 +1,7 @@
 //! Datagrams that are refused, each with the first fault from front to back.
 
 use super::{Row, bytes, compare, compare_rows};
-use crate::{Fault, WriteFault};
+use cue_osc::{Fault, WriteFault};
 use std::alloc::{AllocError, Global};
 use std::process::Abort;
 use std::test::Fail;

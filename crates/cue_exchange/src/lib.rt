@@ -13,6 +13,3 @@ mod steps;
 pub use answers::Answers;
 pub use attempt::{Answer, Attempt, DeviceAnswer, Outcome, Reason, Stage};
 pub use live::Live;
-
-#[cfg(test)]
-mod tests;

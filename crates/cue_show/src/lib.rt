@@ -14,6 +14,3 @@ pub use device::DeviceNo;
 pub use number::CueNo;
 pub use part::{Part, Parts};
 pub use show::Show;
-
-#[cfg(test)]
-mod tests;

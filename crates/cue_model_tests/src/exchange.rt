@@ -1,7 +1,7 @@
 //! The exchange on small lists: steps taken in turn, and the attempts in words.
-use crate::answers::Answers;
-use crate::attempt::{Answer, Attempt, DeviceAnswer, Outcome, Reason, Stage};
-use crate::live::Live;
+use cue_exchange::answers::Answers;
+use cue_exchange::attempt::{Answer, Attempt, DeviceAnswer, Outcome, Reason, Stage};
+use cue_exchange::live::Live;
 use cue_show::{CueNo, DeviceNo, Part, Parts};
 use std::alloc::{AllocError, Global};
 use std::process::Abort;

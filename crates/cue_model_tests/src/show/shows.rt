@@ -1,7 +1,7 @@
 //! Shows, each compared whole as one text, and its clone with it.
 
 use super::parts::{optional_part, part, push};
-use crate::{CueNo, DeviceNo, Part, Parts, Show};
+use cue_show::{CueNo, DeviceNo, Part, Parts, Show};
 use std::alloc::{AllocError, Global};
 use std::process::Abort;
 

@@ -1,6 +1,6 @@
 //! Parts and lists of parts, with their limits.
 
-use crate::{Bytes, DeviceNo, Part, Parts};
+use cue_show::{Bytes, DeviceNo, Part, Parts};
 use std::alloc::Global;
 use std::process::Abort;
 
@@ -171,20 +171,11 @@ fn assert_distinct(rt: &impl Abort, alloc: Global, devices: &[u8], expected: boo
     assert_eq!(rt; parts.has_distinct_devices(), expected, "{devices:?}");
 }
 
-fn assert_uses(rt: &impl Abort, parts: &Parts, device: u8, expected: bool) {
-    let device = DeviceNo::of_byte(device).expect(rt, "it is a device number");
-    assert_eq!(rt; parts.uses(device), expected);
-}
-
 #[test]
 fn a_device_stands_in_one_part(rt: HostRuntime) {
     for (devices, expected) in &DISTINCT {
         assert_distinct(&rt, rt.alloc(), devices, *expected);
     }
-    let parts = parts_of(&rt, rt.alloc(), &[3, 4], &[]);
-    assert_uses(&rt, &parts, 3, true);
-    assert_uses(&rt, &parts, 4, true);
-    assert_uses(&rt, &parts, 5, false);
 }
 
 fn assert_fit(rt: &impl Abort, alloc: Global, devices: &[u8], bytes: &[u8], expected: bool) {

@@ -1,7 +1,7 @@
 //! Optional devices: when one may be excused, and what becomes of one that was.
 use super::{Step, device, put, run, stored, stored_with};
-use crate::attempt::{Answer, Attempt, Outcome, Reason, Stage};
-use crate::live::Live;
+use cue_exchange::attempt::{Answer, Attempt, Outcome, Reason, Stage};
+use cue_exchange::live::Live;
 use cue_show::DeviceNo;
 use std::alloc::Global;
 use std::process::Abort;

@@ -1,6 +1,6 @@
 //! Numbers at and beyond their ranges, and each shape of a cue number's text.
 
-use crate::{CueNo, DeviceNo};
+use cue_show::{CueNo, DeviceNo};
 use std::process::Abort;
 
 const CUE_NUMBERS: [&[u8]; 8] = [

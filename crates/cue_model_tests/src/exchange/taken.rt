@@ -1,6 +1,6 @@
 //! The steps of the exchange in turn, with what becomes of each attempt written out by hand.
 use super::{Step, run};
-use crate::attempt::{Answer, Outcome, Reason, Stage};
+use cue_exchange::attempt::{Answer, Outcome, Reason, Stage};
 
 #[test]
 fn a_cue_is_carried_out(rt: HostRuntime) {

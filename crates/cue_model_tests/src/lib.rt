@@ -1,0 +1,7 @@
+//! Tests of the show and of the exchange over public calls.
+#![tactic(auto)]
+
+#[cfg(test)]
+mod exchange;
+#[cfg(test)]
+mod show;

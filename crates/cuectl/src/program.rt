@@ -138,6 +138,22 @@ fn refused_port<R: Eprint>(rt: &R, port: u16, why: io::Error) -> Refusal {
     Refusal::Net
 }
 
+// Binds the port, says that it is ready, and runs the show there.
+fn serve_at<R: Net + Clock + Eprint>(
+    rt: &R,
+    alloc: Global,
+    dir: &str,
+    engine: &mut Engine<FileDisk>,
+    port: u16,
+    turns: u64,
+) -> Result<Ended, Refusal>
+    ensures { IfOk result (λ ended. ended.turns ≤ turns) }
+{
+    let socket = UdpSocket::bind(rt, local(port)).map_err(|why| refused_port(rt, port, why))?;
+    let _ = rt.eprintln(format_args!("cuectl: ready, {dir} at 127.0.0.1:{port}"));
+    serve_on(rt, alloc, engine, &socket, port, turns).map_err(|why| refused_port(rt, port, why))
+}
+
 // Prints how a run ended.
 fn print_turns<W: Write>(alloc: Global, ended: &Ended, writer: &mut W) -> Result<(), Refusal>
     ensures { OnOk result (Appends (W.contents writer.old) (W.contents writer.new) (turns_text ended.now.turns ended.now.unsent)) }
@@ -204,11 +220,12 @@ fn serve<R: Files<File = File> + Net + Clock + Eprint, W: Write>(
     ensures { OnOk result (IsRunTold turns (W.contents writer.old) (W.contents writer.new)) }
 {
     let mut engine = recovered(rt, alloc, dir)?;
-    let socket = UdpSocket::bind(rt, local(port)).map_err(|why| refused_port(rt, port, why))?;
-    let _ = rt.eprintln(format_args!("cuectl: ready, {dir} at 127.0.0.1:{port}"));
-    match serve_on(rt, alloc, &mut engine, &socket, port, turns) {
+    match serve_at(rt, alloc, dir, &mut engine, port, turns) {
         Ok(ended) => finish(rt, alloc, dir, engine, ended, writer),
-        Err(why) => Err(refused_port(rt, port, why)),
+        Err(refusal) => {
+            let_go(engine);
+            Err(refusal)
+        }
     }
 }
 

@@ -29,16 +29,18 @@ use std::io::Write;
 fn let_go(_engine: Engine<MemDisk>) {}
 
 // Drops the engine of a line that is not carried out.
-fn refused(_engine: Engine<MemDisk>, failure: Failure) -> Result<Engine<MemDisk>, Failure>
+fn refused(engine: Engine<MemDisk>, failure: Failure) -> Result<Engine<MemDisk>, Failure>
     ensures { result ≡ Err failure }
 {
+    let_go(engine);
     Err(failure)
 }
 
 // Drops the engine of a script that ends.
-fn stopped(_engine: Engine<MemDisk>, ending: Ending) -> Result<Engine<MemDisk>, Ending>
+fn stopped(engine: Engine<MemDisk>, ending: Ending) -> Result<Engine<MemDisk>, Ending>
     ensures { result ≡ Err ending }
 {
+    let_go(engine);
     Err(ending)
 }
 

@@ -1,7 +1,7 @@
 -- Reading what clap matched.
-use Rattle.std.proofs.Common.{◌≡◌, ℕ, ◌<◌, ◌^◌, List, Option, Some, None, Result, Ok, Err, ◌∙◌, sym, refl, ap, subst, ◌⊎◌, inl, inr, OnOk}
+use Rattle.std.proofs.Common.{◌≡◌, ℕ, ◌<◌, ◌^◌, List, Option, Some, None, Result, Ok, Err, ◌∙◌, sym, refl, ap, subst, ◌⊎◌, inl, inr, OnOk, codes}
 use Rattle.std.specs.Str.Parse.{ParsesUnsigned}
-use Rattle.clap.specs.Words.{ReadsOne, one_text, rows_of, Text, Kinds, IsAmong}
+use Rattle.clap.specs.Words.{ReadsOne, one_text, rows_of, Row, Text, Kinds, IsAmong}
 use Rattle.clap.specs.declared.parser.matches.Found.{Found}
 use Rattle.clap.proofs.WalkLemmas.{one_text-rows}
 use Rattle.clap.specs.declared.error.kind.ErrorKind.{ErrorKind}
@@ -9,6 +9,7 @@ use Rattle.clap.specs.declared.error.kind.ErrorKind.TheVariants.{DisplayHelp, Di
 use Rattle.cuectl.specs.declared.line.words.LineFault.{LineFault}
 use Rattle.cuectl.specs.declared.line.words.LineFault.TheVariants.{Help, Usage, Memory}
 use Rattle.cuectl.specs.Lines.{IsNumberIn, IsFaultOf, IsHelp, IsRefused, AsksForText}
+use Rattle.cuectl.specs.Unread.{LacksDir, LacksPort, LacksTurns, IsNoLine}
 
 -- what a getter read is the number that stands there, and it fits
 pub number_in : {E : Type 0} (gives : List ℕ → Result ℕ E → Type 0) (k : ℕ) (f : Found) (id : Text) (r : Option ℕ) (n : ℕ)
@@ -66,3 +67,12 @@ refused kinds kind (Help text) is has e = cc
 refused kinds kind Usage is (inl no_memory) e = absurd (is.1 no_memory)
 refused kinds kind Usage is (inr among) e = record { kind = kind; among = among; other = is.0 }
 refused kinds kind Memory is has e = cc
+
+-- serve is no line where it lacks what stands behind it
+pub no_serve : (rows : List Row) → LacksDir rows ⊎ LacksPort rows ⊎ LacksTurns rows → IsNoLine (codes "serve", rows)
+no_serve rows lacks = record {
+  form = λ other. let bad : codes "serve" ≡ codes "form" = other in cc;
+  serve = λ _. lacks;
+  show = λ other. let bad : codes "serve" ≡ codes "show" = other in cc;
+  script = λ other. let bad : codes "serve" ≡ codes "script" = other in cc;
+}

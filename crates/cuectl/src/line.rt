@@ -1,5 +1,5 @@
 //! The command line, read over `clap`.
-ghost use Rattle.std.specs.Prelude.{◌≡◌, ◌⊎◌, [], None, map, IfOk, IfErr, IsErrOf, OnOk, false, string_bytes};
+ghost use Rattle.std.specs.Prelude.{◌≡◌, ◌⊎◌, [], None, map, IfOk, IfErr, IsErrOf, OnOk, codes, false, string_bytes};
 ghost use Rattle.clap.specs.Words.{rule_of, found_of, rows_of, app_of, fault_of, kind_of, new_app, subcommand_of, with_rule};
 ghost use Rattle.cuectl.specs.Added.{FitsAnywhere};
 ghost use Rattle.cuectl.specs.Lines.{
@@ -144,6 +144,18 @@ fn turns_in(found: &ArgMatches<'_>) -> Result<u64, LineFault>
     }
 }
 
+// The command `serve`, with what stands behind it.
+fn serve_in(alloc: Global, found: &ArgMatches<'_>) -> Result<words::Line, LineFault>
+    ensures line { IfOk result (λ line. IsLine (codes "serve", rows_of (found_of found.now)) line) }
+    ensures usage { IsErrOf result Usage → IsNoLine (codes "serve", rows_of (found_of found.now)) }
+    ensures no_help { IfErr result (λ fault. IsHelp fault → ⊥) }
+{
+    let port = port_in(found)?;
+    let turns = turns_in(found)?;
+    let dir = dir_in(alloc, found)?;
+    Ok(words::Line::Serve { dir, port, turns })
+}
+
 // The command that was matched.
 fn line_in(alloc: Global, name: &str, found: &ArgMatches<'_>) -> Result<words::Line, LineFault>
     ensures line { IfOk result (λ line. IsLine (name.now, rows_of (found_of found.now)) line) }
@@ -155,10 +167,7 @@ fn line_in(alloc: Global, name: &str, found: &ArgMatches<'_>) -> Result<words::L
         return Ok(words::Line::Form { dir });
     }
     if name == "serve" {
-        let dir = dir_in(alloc, found)?;
-        let port = port_in(found)?;
-        let turns = turns_in(found)?;
-        return Ok(words::Line::Serve { dir, port, turns });
+        return serve_in(alloc, found);
     }
     if name == "show" {
         let dir = dir_in(alloc, found)?;

@@ -7,7 +7,7 @@
 //! `tick` of the clock at a moment; a recovery from `power` loss; or what of the state is asked for: `state`, `live`
 //! or `undecided`. A part is a device and its bytes: `3:up` a required one, `4?up` an optional one.
 
-use crate::{Ended, Event, Events, State, judge, undecided};
+use crate::{Ended, Event, Events, State, Verdict, judge, undecided};
 use cue_exchange::Reason;
 use reading::Request;
 use std::alloc::{AllocError, Global};
@@ -31,29 +31,54 @@ add_device 4 9002 = made Device 4 9002
 add_cue 1 3:up 4: = made Cue 1 3:up 4:
 add_cue 2 3: = made Cue 2 3:";
 
-// Judges the command, which has to be a fit one, and says what becomes of it.
+// The text has to be the expected one.
+fn expect(rt: &impl Abort, text: &str, expected: &str, asked: &str) {
+    assert_eq!(rt; text, expected, "{asked}");
+}
+
+// Judges the command, which has to be a fit one.
+fn judged(
+    rt: &impl Abort,
+    alloc: Global,
+    state: &State,
+    asked: &Request,
+) -> Result<(Verdict, Events), Fail> {
+    assert!(rt; asked.command.is_fit());
+    Ok(judge(alloc, state, asked.now, asked.from, &asked.command)?)
+}
+
+// Judges the command, and says what becomes of it.
 fn judge_only(
     rt: &impl Abort,
     alloc: Global,
     state: &State,
     asked: &Request,
 ) -> Result<String, Fail> {
-    assert!(rt; asked.command.is_fit());
-    let (verdict, events) = judge(alloc, state, asked.now, asked.from, &asked.command)?;
-    Ok(told::of_judged(alloc, verdict, &events)?)
+    let (verdict, events) = judged(rt, alloc, state, asked)?;
+    told::of_judged(alloc, verdict, &events)
 }
 
-// Judges the command, which has to be a fit one, carries it out, and says what becomes of it.
+// Judges the command, carries it out, and says what becomes of it.
 fn carry_out(
     rt: &impl Abort,
     alloc: Global,
     state: &mut State,
     asked: &Request,
 ) -> Result<String, Fail> {
-    assert!(rt; asked.command.is_fit());
-    let (verdict, events) = judge(alloc, state, asked.now, asked.from, &asked.command)?;
-    apply_each(rt, state, &events)?;
-    Ok(told::of_judged(alloc, verdict, &events)?)
+    let (verdict, events) = judged(rt, alloc, state, asked)?;
+    carry_through(rt, alloc, state, verdict, &events)
+}
+
+// What was judged happens; what becomes of it.
+fn carry_through(
+    rt: &impl Abort,
+    alloc: Global,
+    state: &mut State,
+    verdict: Verdict,
+    events: &Events,
+) -> Result<String, Fail> {
+    apply_each(rt, state, events)?;
+    told::of_judged(alloc, verdict, events)
 }
 
 fn apply_each(rt: &impl Abort, state: &mut State, events: &Events) -> Result<(), Fail> {
@@ -71,14 +96,19 @@ fn apply(rt: &impl Abort, state: &mut State, event: &Event) -> Result<(), Fail> 
     Ok(state.apply(event)?)
 }
 
-// The event happens where it may; whether it does, and a clone of it in words.
-fn happen(alloc: Global, state: &mut State, event: &Event) -> Result<String, Fail> {
-    let copy = event.clone()?;
+// The event happens where it may; whether it does.
+fn try_event(state: &mut State, event: &Event) -> Result<bool, Fail> {
     let may = state.can_apply(event);
     if may {
         state.apply(event)?;
     }
-    Ok(told::of_chance(alloc, may, &copy)?)
+    Ok(may)
+}
+
+// The event happens where it may; whether it does, and a clone of it in words.
+fn happen(alloc: Global, state: &mut State, event: &Event) -> Result<String, Fail> {
+    let may = try_event(state, event)?;
+    told::of_chance(alloc, may, &event.clone()?)
 }
 
 // The preparations are given up; their numbers.
@@ -92,13 +122,18 @@ fn give_up(
     for seq in seqs {
         apply(rt, state, &Event::Cancel(*seq, reason))?;
     }
-    Ok(told::of_numbers(alloc, seqs)?)
+    told::of_numbers(alloc, seqs)
 }
 
 // The state in words; its clone says the same.
 fn describe(rt: &impl Abort, alloc: Global, state: &State) -> Result<String, Fail> {
     let text = told::of_state(alloc, state)?;
-    assert_eq!(rt; told::of_clone(alloc, state)?.as_str(), text.as_str());
+    expect(
+        rt,
+        told::of_clone(alloc, state)?.as_str(),
+        text.as_str(),
+        "a clone",
+    );
     Ok(text)
 }
 
@@ -110,7 +145,7 @@ fn fit(alloc: Global, asked: &Request) -> Result<String, Fail> {
 
 fn undecided_in(alloc: Global, state: &State) -> Result<String, Fail> {
     let numbers = undecided(alloc, state)?;
-    Ok(told::of_numbers(alloc, &numbers)?)
+    told::of_numbers(alloc, &numbers)
 }
 
 fn power(rt: &impl Abort, alloc: Global, state: &mut State) -> Result<String, Fail> {
@@ -156,14 +191,26 @@ fn answer(
     words: &[&str],
 ) -> Result<String, Fail> {
     match words {
-        ["state"] => describe(rt, alloc, state),
-        ["live"] => Ok(told::of_live(alloc, state.live())?),
-        ["undecided"] => undecided_in(alloc, state),
-        ["power"] => power(rt, alloc, state),
         ["tick", now] => tick(rt, alloc, state, now),
         ["happen", words @ ..] => happen_so(alloc, state, words),
         ["fit", words @ ..] => fit_so(alloc, words),
         ["judge", words @ ..] => judge_so(rt, alloc, state, words),
+        words => answer_whole(rt, alloc, state, words),
+    }
+}
+
+// The same of a line that asks for something of the whole state, or is a command.
+fn answer_whole(
+    rt: &impl Abort,
+    alloc: Global,
+    state: &mut State,
+    words: &[&str],
+) -> Result<String, Fail> {
+    match words {
+        ["state"] => describe(rt, alloc, state),
+        ["live"] => told::of_live(alloc, state.live()),
+        ["undecided"] => undecided_in(alloc, state),
+        ["power"] => power(rt, alloc, state),
         words => carry_out_so(rt, alloc, state, words),
     }
 }
@@ -181,7 +228,7 @@ fn answer_to(
 fn take(rt: &impl Abort, alloc: Global, state: &mut State, line: &str) -> Result<(), Fail> {
     let (asked, expected) = line.split_once(" = ").ok_or("no line of a script")?;
     let text = answer_to(rt, alloc, state, asked)?;
-    assert_eq!(rt; text.as_str(), expected, "{asked}");
+    expect(rt, text.as_str(), expected, asked);
     Ok(())
 }
 
@@ -202,9 +249,13 @@ fn remade(state: &State, last_seq: u32, ended: Option<Ended>) -> Result<Option<S
 // Runs each script from the empty state, behind the one that goes first.
 fn run_each(rt: &impl Abort, alloc: Global, first: &str, scripts: &[&str]) -> Result<(), Fail> {
     for script in scripts {
-        run_both(rt, alloc, &mut State::empty(alloc), first, script)?;
+        run_new(rt, alloc, first, script)?;
     }
     Ok(())
+}
+
+fn run_new(rt: &impl Abort, alloc: Global, first: &str, second: &str) -> Result<(), Fail> {
+    run_both(rt, alloc, &mut State::empty(alloc), first, second)
 }
 
 fn run_both(

@@ -4,7 +4,7 @@ ghost use Rattle.std.specs.Prelude.{◌≡◌, [], ◌∷◌, IsTrue};
 ghost use Rattle.cue_core.specs.Steps.{are_acceptable};
 
 use super::reading::Request;
-use super::{SHOW, judge_only, remade, run, run_both, run_each, told};
+use super::{SHOW, expect, judge_only, remade, run, run_both, run_each, told};
 use crate::event::Ended;
 use crate::{Code, Command, Event, Events, State, Verdict, judge};
 use cue_exchange::{Outcome, Reason};
@@ -50,13 +50,13 @@ fn refuse(
         state,
         &Request::of_operator(Command::Bad(code), 0),
     )?;
-    assert_eq!(rt; said.as_str(), text);
+    expect(rt, said.as_str(), text, "a code");
     Ok(())
 }
 
 fn refuse_each(rt: &impl Abort, alloc: Global, state: &State) -> Result<(), Fail> {
-    for (code, text) in CODES {
-        refuse(rt, alloc, state, code, text)?;
+    for (code, text) in &CODES {
+        refuse(rt, alloc, state, *code, text)?;
     }
     Ok(())
 }
@@ -119,14 +119,16 @@ fn has(
     len: usize,
     text: &str,
 ) -> Result<(), Fail> {
-    assert_eq!(rt; events.len(), len);
-    assert_eq!(rt; events.is_empty(), len == 0);
-    assert!(rt; events.get(len).is_none());
-    assert_eq!(rt;
-        told::of_judged(alloc, Verdict::Made, events)?.as_str(),
-        text
-    );
+    assert!(rt; count(events) == (len, len == 0, true), "{text}");
+    let said = told::of_judged(alloc, Verdict::Made, events)?;
+    expect(rt, said.as_str(), text, "events");
     Ok(())
+}
+
+// How many events there are, whether there is none, and whether there is none behind them.
+fn count(events: &Events) -> (usize, bool, bool) {
+    let len = events.len();
+    (len, events.is_empty(), events.get(len).is_none())
 }
 
 // The number of the attempt that is to go.
@@ -137,13 +139,18 @@ fn to_go(event: Option<Event>) -> Option<u32> {
     }
 }
 
+// How many events are left each time, how they are told, and the number of the first of them.
+const LEFT: [(usize, &str, Option<u32>); 3] = [
+    (2, "made Go 1 Go 2", Some(1)),
+    (1, "made Go 2", Some(2)),
+    (0, "made", None),
+];
+
 fn take_both(rt: &impl Abort, alloc: Global, events: &mut Events) -> Result<(), Fail> {
-    has(rt, alloc, events, 2, "made Go 1 Go 2")?;
-    assert_eq!(rt; to_go(events.take_first()), Some(1));
-    has(rt, alloc, events, 1, "made Go 2")?;
-    assert_eq!(rt; to_go(events.take_first()), Some(2));
-    has(rt, alloc, events, 0, "made")?;
-    assert_eq!(rt; to_go(events.take_first()), None);
+    for (len, text, first) in LEFT {
+        has(rt, alloc, events, len, text)?;
+        assert!(rt; to_go(events.take_first()) == first, "{text}");
+    }
     Ok(())
 }
 

@@ -12,16 +12,23 @@ fn apply_words(rt: &impl Abort, alloc: Global, state: &mut State, text: &str) ->
     apply(rt, state, &reading::event(alloc, &words)?)
 }
 
+fn apply_numbered(
+    rt: &impl Abort,
+    alloc: Global,
+    state: &mut State,
+    name: &str,
+    number: u16,
+    rest: &str,
+) -> Result<(), Fail> {
+    let text = format!(in alloc; "{name} {number} {rest}")?;
+    apply_words(rt, alloc, state, text.as_str())
+}
+
 // Device 3, and cues 1 to 1024 for it.
 fn fill_the_stack(rt: &impl Abort, alloc: Global, state: &mut State) -> Result<(), Fail> {
     apply_words(rt, alloc, state, "Device 3 9001")?;
     for number in 1_u16..=1024 {
-        apply_words(
-            rt,
-            alloc,
-            state,
-            format!(in alloc; "Cue {number} 3:")?.as_str(),
-        )?;
+        apply_numbered(rt, alloc, state, "Cue", number, "3:")?;
     }
     Ok(())
 }
@@ -50,12 +57,7 @@ fn a_stack_holds_1024_cues(rt: HostRuntime) -> Result<(), Fail> {
 
 fn add_all_devices(rt: &impl Abort, alloc: Global, state: &mut State) -> Result<(), Fail> {
     for number in 0_u16..112 {
-        apply_words(
-            rt,
-            alloc,
-            state,
-            format!(in alloc; "Device {number} 9000")?.as_str(),
-        )?;
+        apply_numbered(rt, alloc, state, "Device", number, "9000")?;
     }
     Ok(())
 }
@@ -116,8 +118,8 @@ fn on_last(
     last_seq: u32,
     script: &str,
 ) -> Result<(), Fail> {
-    let mut other = remade(state, last_seq, state.ended())?.ok_or("no state")?;
-    run(rt, alloc, &mut other, script)
+    let other = remade(state, last_seq, state.ended())?;
+    run(rt, alloc, &mut other.expect(rt, "a state"), script)
 }
 
 // No moment for a deadline is left either.

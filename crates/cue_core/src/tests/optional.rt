@@ -3,7 +3,7 @@
 use super::{run, run_each};
 use crate::State;
 use cue_exchange::{Answer, Answers, Attempt, DeviceAnswer, Live, Stage};
-use cue_show::{CueNo, DeviceNo};
+use cue_show::{CueNo, DeviceNo, Show};
 use std::alloc::Global;
 use std::process::Abort;
 use std::test::Fail;
@@ -226,39 +226,46 @@ fn asked(number: i32, optional: bool) -> Result<DeviceAnswer, Fail> {
 }
 
 // Attempt 1 at cue 1, with the devices 3 and 4.
-fn attempt(alloc: Global, optional: (bool, bool)) -> Result<Attempt, Fail> {
-    let mut answers = Vec::new(alloc);
-    answers.push(asked(3, optional.0)?)?;
-    answers.push(asked(4, optional.1)?)?;
+fn attempt(alloc: Global, first: bool, second: bool) -> Result<Attempt, Fail> {
+    let cue = CueNo::read(b"1").ok_or("a cue number")?;
+    let answers = vec![in alloc; asked(3, first)?, asked(4, second)?]?;
     Ok(Attempt {
         seq: 1,
-        cue: CueNo::read(b"1").ok_or("a cue number")?,
+        cue,
         deadline: 11000,
         stage: Stage::Preparing,
         answers: Answers::of(answers),
     })
 }
 
-// Whether the attempt and the show make a state, where device 3 or 4 is optional in the attempt, or neither.
-fn tie(rt: &impl Abort, alloc: Global, state: &State) -> Result<(), Fail> {
-    for (optional, may) in [
-        ((false, true), true),
-        ((false, false), false),
-        ((true, false), false),
-    ] {
-        let attempt = attempt(alloc, optional)?;
-        let mut live = Live::new(alloc);
-        assert!(rt; live.can_put(&attempt));
-        live.put(attempt)?;
-        let made = State::of(state.show().try_clone()?, live, 1, None);
-        assert_eq!(rt; made.is_some(), may, "{optional:?}");
-    }
-    Ok(())
+// The attempt is live, and no other.
+fn alone(rt: &impl Abort, alloc: Global, attempt: Attempt) -> Result<Live, Fail> {
+    let mut live = Live::new(alloc);
+    assert!(rt; live.can_put(&attempt));
+    live.put(attempt)?;
+    Ok(live)
 }
+
+// Whether the attempt and the show make a state.
+fn is_tied(rt: &impl Abort, alloc: Global, show: &Show, attempt: Attempt) -> Result<bool, Fail> {
+    let live = alone(rt, alloc, attempt)?;
+    Ok(State::of(show.try_clone()?, live, 1, None).is_some())
+}
+
+// Whether device 3 and device 4 are optional in the attempt, and whether it and the show make a state.
+const TIES: [(bool, bool, bool); 3] = [
+    (false, true, true),
+    (false, false, false),
+    (true, false, false),
+];
 
 fn tie_to_mixed(rt: &impl Abort, alloc: Global, state: &mut State) -> Result<(), Fail> {
     run(rt, alloc, state, MIXED)?;
-    tie(rt, alloc, state)
+    for (first, second, may) in TIES {
+        let made = is_tied(rt, alloc, state.show(), attempt(alloc, first, second)?)?;
+        assert_eq!(rt; made, may, "{first} {second}");
+    }
+    Ok(())
 }
 
 #[test]

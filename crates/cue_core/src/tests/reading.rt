@@ -24,15 +24,19 @@ fn device(text: &str) -> Result<DeviceNo, Fail> {
 
 // A device and its bytes, as in `3:up`, or in `4?up` where the part is optional.
 fn part(alloc: Global, text: &str) -> Result<Part, Fail> {
-    let (number, optional, bytes) = match text.split_once("?") {
-        Some((number, bytes)) => (number, true, bytes),
-        None => {
-            let (number, bytes) = text.split_once(":").ok_or("no part")?;
-            (number, false, bytes)
-        }
-    };
-    let device = device(number)?;
-    Ok(Part::of(alloc, device, optional, bytes.as_bytes())?)
+    match text.split_once("?") {
+        Some((number, bytes)) => part_of(alloc, number, true, bytes),
+        None => required_part(alloc, text),
+    }
+}
+
+fn required_part(alloc: Global, text: &str) -> Result<Part, Fail> {
+    let (number, bytes) = text.split_once(":").ok_or("no part")?;
+    part_of(alloc, number, false, bytes)
+}
+
+fn part_of(alloc: Global, number: &str, optional: bool, bytes: &str) -> Result<Part, Fail> {
+    Ok(Part::of(alloc, device(number)?, optional, bytes.as_bytes())?)
 }
 
 fn parts(alloc: Global, words: &[&str]) -> Result<Parts, Fail> {
@@ -61,40 +65,87 @@ fn by_device(kind: ReplyKind, number: &str, seq: &str, from: &str) -> Result<Req
     })
 }
 
+fn standby(text: &str, now: &str) -> Result<Request, Fail> {
+    let command = Command::Standby(cue(text)?);
+    Ok(Request::of_operator(command, now.parse()?))
+}
+
+fn reply_kind(name: &str) -> Option<ReplyKind> {
+    match name {
+        "standing_by" => Some(ReplyKind::StandingBy),
+        "complete" => Some(ReplyKind::Complete),
+        "cancelled" => Some(ReplyKind::Cancelled),
+        "abort" => Some(ReplyKind::Abort),
+        _ => None,
+    }
+}
+
 pub(super) fn read(alloc: Global, words: &[&str]) -> Result<Request, Fail> {
     match words {
-        ["standby", text, now] => Ok(Request::of_operator(
-            Command::Standby(cue(text)?),
-            now.parse()?,
-        )),
-        ["standing_by", number, seq, from] => by_device(ReplyKind::StandingBy, number, seq, from),
-        ["complete", number, seq, from] => by_device(ReplyKind::Complete, number, seq, from),
-        ["cancelled", number, seq, from] => by_device(ReplyKind::Cancelled, number, seq, from),
-        ["abort", number, seq, from] => by_device(ReplyKind::Abort, number, seq, from),
-        words => Ok(Request::of_operator(command(alloc, words)?, 0)),
+        ["standby", text, now] => standby(text, now),
+        [name, number, seq, from] => match reply_kind(name) {
+            Some(kind) => by_device(kind, number, seq, from),
+            None => at_zero(alloc, words),
+        },
+        words => at_zero(alloc, words),
     }
+}
+
+// A command that asks for no moment.
+fn at_zero(alloc: Global, words: &[&str]) -> Result<Request, Fail> {
+    Ok(Request::of_operator(command(alloc, words)?, 0))
+}
+
+fn add_device(number: &str, port: &str) -> Result<Command, Fail> {
+    Ok(Command::AddDevice(device(number)?, port.parse()?))
+}
+
+fn add_cue(alloc: Global, text: &str, words: &[&str]) -> Result<Command, Fail> {
+    Ok(Command::AddCue(cue(text)?, parts(alloc, words)?))
 }
 
 fn command(alloc: Global, words: &[&str]) -> Result<Command, Fail> {
     match words {
         ["status"] => Ok(Command::Status),
-        ["add_device", number, port] => Ok(Command::AddDevice(device(number)?, port.parse()?)),
-        ["add_cue", text, words @ ..] => Ok(Command::AddCue(cue(text)?, parts(alloc, words)?)),
-        ["go", text] => Ok(Command::Go(cue(text)?)),
-        ["cancel", text] => Ok(Command::Cancel(cue(text)?)),
-        ["goto", text] => Ok(Command::Goto(cue(text)?)),
-        ["remove_cue", text] => Ok(Command::RemoveCue(cue(text)?)),
-        ["remove_device", number] => Ok(Command::RemoveDevice(device(number)?)),
-        ["release", number] => Ok(Command::Release(device(number)?)),
+        ["add_device", number, port] => add_device(number, port),
+        ["add_cue", text, words @ ..] => add_cue(alloc, text, words),
+        [name, text] => command_for_one(name, text),
         _ => Err("no command")?,
     }
 }
 
+// The command of that name for one device or cue.
+fn command_for_one(name: &str, text: &str) -> Result<Command, Fail> {
+    match name {
+        "remove_device" => Ok(Command::RemoveDevice(device(text)?)),
+        "release" => Ok(Command::Release(device(text)?)),
+        _ => command_for_cue(name, cue(text)?),
+    }
+}
+
+fn command_for_cue(name: &str, cue: CueNo) -> Result<Command, Fail> {
+    match name {
+        "go" => Ok(Command::Go(cue)),
+        "cancel" => Ok(Command::Cancel(cue)),
+        "goto" => Ok(Command::Goto(cue)),
+        "remove_cue" => Ok(Command::RemoveCue(cue)),
+        _ => Err("no command for a cue")?,
+    }
+}
+
+fn new_device(number: &str, port: &str) -> Result<Event, Fail> {
+    Ok(Event::Device(device(number)?, port.parse()?))
+}
+
+fn new_cue(alloc: Global, text: &str, words: &[&str]) -> Result<Event, Fail> {
+    Ok(Event::Cue(cue(text)?, parts(alloc, words)?))
+}
+
 pub(super) fn event(alloc: Global, words: &[&str]) -> Result<Event, Fail> {
     match words {
-        ["Device", number, port] => Ok(Event::Device(device(number)?, port.parse()?)),
+        ["Device", number, port] => new_device(number, port),
         ["NoDevice", number] => Ok(Event::NoDevice(device(number)?)),
-        ["Cue", text, words @ ..] => Ok(Event::Cue(cue(text)?, parts(alloc, words)?)),
+        ["Cue", text, words @ ..] => new_cue(alloc, text, words),
         ["NoCue", text] => Ok(Event::NoCue(cue(text)?)),
         ["Place", text] => Ok(Event::Place(cue(text)?)),
         words => event_of_attempt(words),
@@ -103,16 +154,20 @@ pub(super) fn event(alloc: Global, words: &[&str]) -> Result<Event, Fail> {
 
 fn event_of_attempt(words: &[&str]) -> Result<Event, Fail> {
     match words {
-        ["Start", seq, text, deadline] => start(seq.parse()?, text, deadline),
+        ["Start", seq, text, deadline] => start(seq, text, deadline),
         ["Go", seq] => Ok(Event::Go(seq.parse()?)),
-        ["Cancel", seq, name] => Ok(Event::Cancel(seq.parse()?, reason(name)?)),
+        ["Cancel", seq, name] => cancel(seq, name),
         [name, seq, number] => event_of_device(name, seq.parse()?, device(number)?),
         _ => Err("no event")?,
     }
 }
 
-fn start(seq: u32, text: &str, deadline: &str) -> Result<Event, Fail> {
-    Ok(Event::Start(seq, cue(text)?, deadline.parse()?))
+fn start(seq: &str, text: &str, deadline: &str) -> Result<Event, Fail> {
+    Ok(Event::Start(seq.parse()?, cue(text)?, deadline.parse()?))
+}
+
+fn cancel(seq: &str, name: &str) -> Result<Event, Fail> {
+    Ok(Event::Cancel(seq.parse()?, reason(name)?))
 }
 
 fn event_of_device(name: &str, seq: u32, device: DeviceNo) -> Result<Event, Fail> {

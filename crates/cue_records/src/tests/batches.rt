@@ -1,6 +1,6 @@
 //! Batches that are read, measured and written again.
 
-use super::{bytes, told};
+use super::{assert_bytes, bytes, halves, told};
 use crate::laws::acceptable_events_fit;
 use crate::{Batch, ReadFault, batch_len, read_batch, write_batch};
 use cue_core::{Event, State};
@@ -53,7 +53,7 @@ fn again(alloc: Global, bytes: &[u8]) -> Result<(Bytes, u64), ReadFault> {
 // These bytes are read, measured, and written again.
 fn has_text(rt: &impl Abort, alloc: Global, bytes: &[u8]) -> Result<(), ReadFault> {
     let (text, len) = again(alloc, bytes)?;
-    assert_eq!(rt; text.as_slice(), bytes);
+    assert_bytes(rt, text.as_slice(), bytes, "the text");
     assert_eq!(rt; len, bytes.len() as u64);
     Ok(())
 }
@@ -68,12 +68,23 @@ fn assert_batch(
     has_text(rt, alloc, bytes)
 }
 
+// The same of the bytes of these digits.
+fn assert_batch_of(
+    rt: &impl Abort,
+    alloc: Global,
+    digits: &str,
+    words: &str,
+) -> Result<(), ReadFault> {
+    let text = bytes(alloc, digits)?;
+    assert_batch(rt, alloc, &text, words)
+}
+
 #[test]
 fn each_kind_of_event(rt: HostRuntime) -> Result<(), Fail> {
     let alloc = rt.alloc();
     for line in BATCHES.lines() {
-        let (digits, words) = line.split_once(" = ").ok_or("no line of the table")?;
-        assert_batch(&rt, alloc, &bytes(alloc, digits)?, words)?;
+        let (digits, words) = halves(line)?;
+        assert_batch_of(&rt, alloc, digits, words)?;
     }
     Ok(())
 }
@@ -114,12 +125,28 @@ fn many(alloc: Global, count: u16) -> Result<Vec<u8>, AllocError> {
     Ok(text)
 }
 
-// The text is read as 4,096 events, measured, and written again.
+// There are 4,096 events of five bytes each.
+fn are_4096(rt: &impl Abort, events: &[Event]) {
+    assert_eq!(rt; events.len(), 4096);
+    assert_eq!(rt; batch_len(events), 20482);
+}
+
+// The text is read as 4,096 events.
 fn has_4096_events(rt: &impl Abort, alloc: Global, text: &[u8]) -> Result<(), ReadFault> {
     let batch = read_batch(alloc, text)?;
-    assert_eq!(rt; batch.as_slice().len(), 4096);
-    assert_eq!(rt; batch_len(batch.as_slice()), 20482);
+    are_4096(rt, batch.as_slice());
+    Ok(())
+}
+
+// 4,096 events are read, measured, and written again.
+fn read_4096_events(rt: &impl Abort, alloc: Global, text: &[u8]) -> Result<(), ReadFault> {
+    has_4096_events(rt, alloc, text)?;
     has_text(rt, alloc, text)
+}
+
+fn has_text_of_4096(rt: &impl Abort, alloc: Global) -> Result<(), ReadFault> {
+    let text = many(alloc, 4096)?;
+    read_4096_events(rt, alloc, &text)
 }
 
 // Why the text of so many events is not read.
@@ -130,31 +157,50 @@ fn refused(alloc: Global, count: u16) -> Result<Option<ReadFault>, AllocError> {
 
 #[test]
 fn a_batch_has_at_most_4096_events(rt: HostRuntime) -> Result<(), Fail> {
-    has_4096_events(&rt, rt.alloc(), &many(rt.alloc(), 4096)?)?;
+    has_text_of_4096(&rt, rt.alloc())?;
     assert_eq!(rt; refused(rt.alloc(), 4097)?, Some(ReadFault::Malformed));
     Ok(())
 }
 
-// The cue 1 with 300 parts of 300 bytes each.
-fn long_cue(alloc: Global, optional: bool) -> Result<Event, Fail> {
-    let device = DeviceNo::of_byte(3).ok_or("a device number")?;
-    let long: Vec<u8> = vec![in alloc; 7; 300]?;
+// 300 parts of 300 bytes each.
+fn long_parts(alloc: Global, device: DeviceNo, optional: bool) -> Result<Parts, AllocError> {
     let mut parts = Parts::new(alloc);
     for _ in 0..300 {
-        parts.push(Part::of(alloc, device, optional, &long)?)?;
+        parts.push(Part::of(alloc, device, optional, &[7; 300])?)?;
     }
+    Ok(parts)
+}
+
+// The cue 1 with such parts.
+fn long_cue(alloc: Global, optional: bool) -> Result<Event, Fail> {
+    let device = DeviceNo::of_byte(3).ok_or("a device number")?;
     let cue = CueNo::read(b"1").ok_or("a cue number")?;
+    let parts = long_parts(alloc, device, optional)?;
     Ok(Event::Cue(cue, parts))
+}
+
+// The length of a batch of the long cue, as it is measured.
+fn long_cue_len(alloc: Global, optional: bool) -> Result<u64, Fail> {
+    let cue = long_cue(alloc, optional)?;
+    Ok(batch_len(&[cue]))
+}
+
+// The length is the expected one.
+fn assert_len(rt: &impl Abort, found: u64, expected: u64) {
+    assert_eq!(rt; found, expected);
+}
+
+fn two_events_len() -> u64 {
+    batch_len(&[Event::Go(0), Event::Go(0)])
 }
 
 #[test]
 fn events_out_of_range_are_measured(rt: HostRuntime) -> Result<(), Fail> {
-    let alloc = rt.alloc();
-    assert_eq!(rt; batch_len(&[]), 2);
-    assert_eq!(rt; batch_len(&[Event::Go(0), Event::Go(0)]), 12);
-    let batch = Batch::from_vec(vec![in alloc; long_cue(alloc, false)?]?);
-    assert_eq!(rt; batch_len(batch.as_slice()), 2 + 1 + 2 + 1 + 300 * 302);
-    let batch = Batch::from_vec(vec![in alloc; long_cue(alloc, true)?]?);
-    assert_eq!(rt; batch_len(batch.as_slice()), 2 + 1 + 2 + 1 + 300 * 303);
+    assert_len(&rt, batch_len(&[]), 2);
+    assert_len(&rt, two_events_len(), 12);
+    let required = long_cue_len(rt.alloc(), false)?;
+    assert_len(&rt, required, 2 + 1 + 2 + 1 + 300 * 302);
+    let optional = long_cue_len(rt.alloc(), true)?;
+    assert_len(&rt, optional, 2 + 1 + 2 + 1 + 300 * 303);
     Ok(())
 }

@@ -1,8 +1,9 @@
 //! Bytes that are the text of no batch.
 
-use super::bytes;
+use super::{bytes, halves};
 use crate::{ReadFault, StateFault, read_batch};
-use std::alloc::Global;
+use std::alloc::{AllocError, Global};
+use std::fmt::Display;
 use std::process::Abort;
 use std::test::Fail;
 
@@ -61,41 +62,65 @@ fn assert_malformed(rt: &impl Abort, alloc: Global, bytes: &[u8], what: &str) {
 fn texts_of_no_batch(rt: HostRuntime) -> Result<(), Fail> {
     let alloc = rt.alloc();
     for line in MALFORMED.lines() {
-        let (digits, what) = line.split_once(" = ").ok_or("no line of the table")?;
+        let (digits, what) = halves(line)?;
         assert_malformed(&rt, alloc, &bytes(alloc, digits)?, what);
     }
     Ok(())
 }
 
-#[test]
-fn texts_that_are_cut_or_go_on(rt: HostRuntime) -> Result<(), Fail> {
-    let alloc = rt.alloc();
-    for digits in WHOLE.lines() {
-        let mut text = bytes(alloc, digits)?;
-        assert_eq!(rt; read_batch(alloc, &text).err(), None, "{digits}");
-        for len in 0..text.len() {
-            assert_malformed(&rt, alloc, &text[..len], digits);
-        }
-        text.push(0)?;
-        assert_malformed(&rt, alloc, &text, digits);
+// The batch is read; no beginning of it is one.
+fn assert_cut(rt: &impl Abort, alloc: Global, text: &[u8], digits: &str) {
+    assert_eq!(rt; read_batch(alloc, text).err(), None, "{digits}");
+    for len in 0..text.len() {
+        assert_malformed(rt, alloc, &text[..len], digits);
     }
+}
+
+// The batch is read. No beginning of it is one, nor the batch with a byte more.
+fn assert_whole(rt: &impl Abort, alloc: Global, digits: &str) -> Result<(), AllocError> {
+    let mut text = bytes(alloc, digits)?;
+    assert_cut(rt, alloc, &text, digits);
+    text.push(0)?;
+    assert_malformed(rt, alloc, &text, digits);
     Ok(())
 }
 
 #[test]
+fn texts_that_are_cut_or_go_on(rt: HostRuntime) -> Result<(), Fail> {
+    for digits in WHOLE.lines() {
+        assert_whole(&rt, rt.alloc(), digits)?;
+    }
+    Ok(())
+}
+
+// The fault is told in these words.
+fn assert_told(
+    rt: &impl Abort,
+    alloc: Global,
+    fault: &impl Display,
+    words: &str,
+) -> Result<(), AllocError> {
+    let text = format!(in alloc; "{}", fault)?;
+    assert_eq!(rt; text.as_str(), words);
+    Ok(())
+}
+
+fn assert_read_faults(rt: &impl Abort, alloc: Global) -> Result<(), AllocError> {
+    let malformed = "the bytes are no batch of events";
+    assert_told(rt, alloc, &ReadFault::Malformed, malformed)?;
+    assert_told(rt, alloc, &ReadFault::Memory, "out of memory")
+}
+
+fn assert_state_faults(rt: &impl Abort, alloc: Global) -> Result<(), AllocError> {
+    let version = "the text is of another version";
+    assert_told(rt, alloc, &StateFault::Version, version)?;
+    assert_told(rt, alloc, &StateFault::Malformed, "the bytes are no state")?;
+    assert_told(rt, alloc, &StateFault::Memory, "out of memory")
+}
+
+#[test]
 fn faults_in_words(rt: HostRuntime) -> Result<(), Fail> {
-    let alloc = rt.alloc();
-    let text = format!(in alloc; "{}; {}", ReadFault::Malformed, ReadFault::Memory)?;
-    assert_eq!(rt;
-        text.as_str(),
-        "the bytes are no batch of events; out of memory"
-    );
-    let text = format!(in alloc; "{}; {}", StateFault::Version, StateFault::Malformed)?;
-    assert_eq!(rt;
-        text.as_str(),
-        "the text is of another version; the bytes are no state"
-    );
-    let text = format!(in alloc; "{}", StateFault::Memory)?;
-    assert_eq!(rt; text.as_str(), "out of memory");
+    assert_read_faults(&rt, rt.alloc())?;
+    assert_state_faults(&rt, rt.alloc())?;
     Ok(())
 }

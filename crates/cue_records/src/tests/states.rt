@@ -1,7 +1,7 @@
 //! States that are read and written again, and bytes that are the text of none.
 
-use super::{bytes, told};
-use crate::{StateFault, read_batch, read_state, write_state};
+use super::{assert_bytes, bytes, halves, told};
+use crate::{Batch, ReadFault, StateFault, read_batch, read_state, write_state};
 use cue_core::{Event, State};
 use std::alloc::{AllocError, Global};
 use std::process::Abort;
@@ -58,6 +58,26 @@ const MALFORMED: &str = "\
 02 02 032329 04232a 0002 013101030000 013201040000 00 00000002 0000000000 02 00000002 0131 0000000000000000 01 00 00000002 0132 0000000000000000 01 00 = a number twice
 02 01 032329 0002 013101030000 013201030000 00 00000002 0000000000 02 00000001 0131 0000000000000000 01 00 00000002 0132 0000000000000000 01 00 = a device in two attempts";
 
+// The state is as the words say.
+fn has_words(rt: &impl Abort, alloc: Global, state: &State, words: &str) -> Result<(), AllocError> {
+    let text = told::of_state(alloc, state)?;
+    assert_eq!(rt; text.as_str(), words);
+    Ok(())
+}
+
+// The text of the state is these bytes.
+fn has_text(
+    rt: &impl Abort,
+    alloc: Global,
+    state: &State,
+    bytes: &[u8],
+    words: &str,
+) -> Result<(), AllocError> {
+    let text = write_state(alloc, state)?;
+    assert_bytes(rt, text.as_slice(), bytes, words);
+    Ok(())
+}
+
 // The state is as the words say, and its text is these bytes.
 fn assert_state(
     rt: &impl Abort,
@@ -66,11 +86,8 @@ fn assert_state(
     bytes: &[u8],
     words: &str,
 ) -> Result<(), AllocError> {
-    let text = told::of_state(alloc, state)?;
-    assert_eq!(rt; text.as_str(), words);
-    let again = write_state(alloc, state)?;
-    assert_eq!(rt; again.as_slice(), bytes, "{words}");
-    Ok(())
+    has_words(rt, alloc, state, words)?;
+    has_text(rt, alloc, state, bytes, words)
 }
 
 // The bytes are read as the state that the words say, which is written as these bytes.
@@ -88,10 +105,27 @@ fn assert_read(
 fn states_are_read_and_written(rt: HostRuntime) -> Result<(), Fail> {
     let alloc = rt.alloc();
     for line in STATES.lines() {
-        let (digits, words) = line.split_once(" = ").ok_or("no line of the table")?;
+        let (digits, words) = halves(line)?;
         assert_read(&rt, alloc, &bytes(alloc, digits)?, words)?;
     }
     Ok(())
+}
+
+// The halves of the line, counted from 0.
+fn line_at(line: usize) -> Result<(&'static str, &'static str), Fail> {
+    halves(STATES.lines().nth(line).ok_or("no such line")?)
+}
+
+// The state is as the words say, and its text is the bytes of these digits.
+fn assert_told(
+    rt: &impl Abort,
+    alloc: Global,
+    state: &State,
+    digits: &str,
+    words: &str,
+) -> Result<(), AllocError> {
+    let text = bytes(alloc, digits)?;
+    assert_state(rt, alloc, state, &text, words)
 }
 
 // The state is the one of the line, counted from 0.
@@ -101,10 +135,8 @@ pub(super) fn assert_line(
     state: &State,
     line: usize,
 ) -> Result<(), Fail> {
-    let line = STATES.lines().nth(line).ok_or("no such line")?;
-    let (digits, words) = line.split_once(" = ").ok_or("no line of the table")?;
-    let text = bytes(alloc, digits)?;
-    assert_state(rt, alloc, state, &text, words)?;
+    let (digits, words) = line_at(line)?;
+    assert_told(rt, alloc, state, digits, words)?;
     Ok(())
 }
 
@@ -125,14 +157,40 @@ const EVENTS: &str =
 const EXCUSING: &str =
     "0006 01032329 0104232a 0d0131020300020a0b040100 06000000010131 0000000000002af8 070000000103 0e0000000104";
 
+// The batch that the digits tell.
+fn batch_of(alloc: Global, digits: &str) -> Result<Batch, ReadFault> {
+    let text = bytes(alloc, digits)?;
+    read_batch(alloc, &text)
+}
+
+// Applies the events of the batch that the digits tell.
+fn apply_told(
+    rt: &impl Abort,
+    alloc: Global,
+    state: &mut State,
+    events: &str,
+) -> Result<(), ReadFault> {
+    let batch = batch_of(alloc, events)?;
+    Ok(apply(rt, state, batch.as_slice())?)
+}
+
+// The state is the first of the table, and the events make the one of the line of it.
+fn assert_makes(
+    rt: &impl Abort,
+    alloc: Global,
+    state: &mut State,
+    events: &str,
+    line: usize,
+) -> Result<(), Fail> {
+    assert_line(rt, alloc, state, 0)?;
+    apply_told(rt, alloc, state, events)?;
+    assert_line(rt, alloc, state, line)
+}
+
 // From the empty state the events make the state of the line.
 fn assert_made(rt: &impl Abort, alloc: Global, events: &str, line: usize) -> Result<(), Fail> {
     let mut state = State::empty(alloc);
-    assert_line(rt, alloc, &state, 0)?;
-    let text = bytes(alloc, events)?;
-    let batch = read_batch(alloc, &text)?;
-    apply(rt, &mut state, batch.as_slice())?;
-    assert_line(rt, alloc, &state, line)
+    assert_makes(rt, alloc, &mut state, events, line)
 }
 
 #[test]
@@ -156,7 +214,7 @@ pub(super) fn assert_refused(
 fn texts_of_no_state(rt: HostRuntime) -> Result<(), Fail> {
     let alloc = rt.alloc();
     for line in MALFORMED.lines() {
-        let (digits, what) = line.split_once(" = ").ok_or("no line of the table")?;
+        let (digits, what) = halves(line)?;
         assert_refused(
             &rt,
             alloc,
@@ -169,12 +227,17 @@ fn texts_of_no_state(rt: HostRuntime) -> Result<(), Fail> {
     Ok(())
 }
 
-// No beginning of the text is one, nor the text with a byte more.
-pub(super) fn assert_whole(rt: &impl Abort, alloc: Global, digits: &str) -> Result<(), AllocError> {
-    let mut text = bytes(alloc, digits)?;
+// No beginning of the text is one.
+fn assert_cut(rt: &impl Abort, alloc: Global, text: &[u8], digits: &str) {
     for len in 0..text.len() {
         assert_refused(rt, alloc, &text[..len], StateFault::Malformed, digits);
     }
+}
+
+// No beginning of the text is one, nor the text with a byte more.
+pub(super) fn assert_whole(rt: &impl Abort, alloc: Global, digits: &str) -> Result<(), AllocError> {
+    let mut text = bytes(alloc, digits)?;
+    assert_cut(rt, alloc, &text, digits);
     text.push(0)?;
     assert_refused(rt, alloc, &text, StateFault::Malformed, digits);
     Ok(())
@@ -184,7 +247,7 @@ pub(super) fn assert_whole(rt: &impl Abort, alloc: Global, digits: &str) -> Resu
 fn texts_that_are_cut_or_go_on(rt: HostRuntime) -> Result<(), Fail> {
     let alloc = rt.alloc();
     for line in STATES.lines() {
-        let (digits, _) = line.split_once(" = ").ok_or("no line of the table")?;
+        let (digits, _) = halves(line)?;
         assert_whole(&rt, alloc, digits)?;
     }
     Ok(())

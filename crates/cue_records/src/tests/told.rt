@@ -2,8 +2,8 @@
 
 use crate::Batch;
 use cue_core::{Ended, Event, State};
-use cue_exchange::{Attempt, Live};
-use cue_show::{CueNo, Parts, Show};
+use cue_exchange::{Attempt, Live, Reason};
+use cue_show::{CueNo, DeviceNo, Parts, Show};
 use std::alloc::{AllocError, Global};
 
 // The events, each behind a blank.
@@ -17,20 +17,49 @@ pub(super) fn of_batch(alloc: Global, batch: &Batch) -> Result<String, AllocErro
 
 fn push_event(text: &mut String, event: &Event) -> Result<(), AllocError> {
     match event {
-        Event::Device(device, port) => write!(text, " Device {} {}", device.number(), *port),
-        Event::NoDevice(device) => write!(text, " NoDevice {}", device.number()),
+        Event::Device(device, port) => push_port(text, *device, *port),
+        Event::NoDevice(device) => push_device(text, " NoDevice", *device),
         Event::Cue(cue, parts) => push_new_cue(text, *cue, parts),
         Event::NoCue(cue) => push_named(text, " NoCue ", *cue),
         Event::Place(cue) => push_named(text, " Place ", *cue),
         Event::Start(seq, cue, deadline) => push_start(text, *seq, *cue, *deadline),
-        Event::Ready(seq, device) => write!(text, " Ready {} {}", *seq, device.number()),
-        Event::Go(seq) => write!(text, " Go {}", *seq),
-        Event::Done(seq, device) => write!(text, " Done {} {}", *seq, device.number()),
-        Event::Cancel(seq, reason) => write!(text, " Cancel {} {:?}", *seq, *reason),
-        Event::LetGo(seq, device) => write!(text, " LetGo {} {}", *seq, device.number()),
-        Event::Failed(seq, device) => write!(text, " Failed {} {}", *seq, device.number()),
-        Event::Excuse(seq, device) => write!(text, " Excuse {} {}", *seq, device.number()),
+        Event::Ready(seq, device) => push_answer(text, " Ready", *seq, *device),
+        Event::Go(seq) => push_number(text, " Go", *seq),
+        Event::Done(seq, device) => push_answer(text, " Done", *seq, *device),
+        Event::Cancel(seq, reason) => push_cancel(text, *seq, *reason),
+        Event::LetGo(seq, device) => push_answer(text, " LetGo", *seq, *device),
+        Event::Failed(seq, device) => push_answer(text, " Failed", *seq, *device),
+        Event::Excuse(seq, device) => push_answer(text, " Excuse", *seq, *device),
     }
+}
+
+fn push_number(text: &mut String, name: &str, number: u32) -> Result<(), AllocError> {
+    text.push_str(name)?;
+    write!(text, " {}", number)
+}
+
+fn push_device(text: &mut String, name: &str, device: DeviceNo) -> Result<(), AllocError> {
+    push_number(text, name, u32::from(device.number()))
+}
+
+fn push_port(text: &mut String, device: DeviceNo, port: u16) -> Result<(), AllocError> {
+    push_device(text, " Device", device)?;
+    write!(text, " {}", port)
+}
+
+fn push_answer(
+    text: &mut String,
+    name: &str,
+    seq: u32,
+    device: DeviceNo,
+) -> Result<(), AllocError> {
+    push_number(text, name, seq)?;
+    push_device(text, "", device)
+}
+
+fn push_cancel(text: &mut String, seq: u32, reason: Reason) -> Result<(), AllocError> {
+    push_number(text, " Cancel", seq)?;
+    write!(text, " {:?}", reason)
 }
 
 fn push_named(text: &mut String, name: &str, cue: CueNo) -> Result<(), AllocError> {
@@ -56,13 +85,14 @@ fn push_flag(text: &mut String, optional: bool) -> Result<(), AllocError> {
 fn push_parts(text: &mut String, parts: &Parts) -> Result<(), AllocError> {
     for part in parts.as_slice() {
         push_flag(text, part.optional)?;
-        write!(text, " {}{:?}", part.device.number(), part.bytes.as_slice())?;
+        push_device(text, "", part.device)?;
+        write!(text, "{:?}", part.bytes.as_slice())?;
     }
     Ok(())
 }
 
 fn push_start(text: &mut String, seq: u32, cue: CueNo, deadline: u64) -> Result<(), AllocError> {
-    write!(text, " Start {}", seq)?;
+    push_number(text, " Start", seq)?;
     push_named(text, " ", cue)?;
     write!(text, " {}", deadline)
 }
@@ -74,7 +104,7 @@ pub(super) fn of_state(alloc: Global, state: &State) -> Result<String, AllocErro
     push_devices(&mut text, state.show())?;
     push_cues(&mut text, state.show())?;
     push_place(&mut text, state.show().place())?;
-    write!(text, ", last {}", state.last_seq())?;
+    push_number(&mut text, ", last", state.last_seq())?;
     push_ended(&mut text, state.ended())?;
     push_live(&mut text, state.live())?;
     Ok(text)
@@ -83,7 +113,8 @@ pub(super) fn of_state(alloc: Global, state: &State) -> Result<String, AllocErro
 fn push_devices(text: &mut String, show: &Show) -> Result<(), AllocError> {
     text.push_str("devices")?;
     for (device, port) in show.devices() {
-        write!(text, " {}:{}", device.number(), *port)?;
+        push_device(text, "", *device)?;
+        write!(text, ":{}", *port)?;
     }
     Ok(())
 }
@@ -113,17 +144,23 @@ fn push_ended(text: &mut String, ended: Option<Ended>) -> Result<(), AllocError>
 fn push_live(text: &mut String, live: &Live) -> Result<(), AllocError> {
     for attempt in live.as_slice() {
         push_attempt(text, attempt)?;
+        push_answers(text, attempt)?;
     }
     Ok(())
 }
 
+// The number, the cue, the deadline and the stage.
 fn push_attempt(text: &mut String, attempt: &Attempt) -> Result<(), AllocError> {
-    write!(text, ", attempt {}", attempt.seq)?;
+    push_number(text, ", attempt", attempt.seq)?;
     push_named(text, " ", attempt.cue)?;
-    write!(text, " until {} {:?}", attempt.deadline, attempt.stage)?;
+    write!(text, " until {} {:?}", attempt.deadline, attempt.stage)
+}
+
+fn push_answers(text: &mut String, attempt: &Attempt) -> Result<(), AllocError> {
     for x in attempt.answers.as_slice() {
         push_flag(text, x.optional)?;
-        write!(text, " {} {:?}", x.device.number(), x.answer)?;
+        push_device(text, "", x.device)?;
+        write!(text, " {:?}", x.answer)?;
     }
     Ok(())
 }

@@ -1,8 +1,10 @@
 //! Texts of this version, of the one before it, and of others.
 
-use super::bytes;
 use super::states::{assert_line, assert_refused, assert_whole};
-use crate::{StateFault, read_batch, read_state, write_batch, write_state};
+use super::{assert_bytes, bytes, halves};
+use crate::{ReadFault, StateFault, read_batch, read_state, write_batch, write_state};
+use cue_core::State;
+use cue_show::Bytes;
 use std::alloc::{AllocError, Global};
 use std::process::Abort;
 use std::test::Fail;
@@ -19,13 +21,23 @@ const OLD: &str = "\
 01 02 032329 04232a 0001 013102 0300 0400 00 00000001 0000000000 01 00000001 0131 0000000000000000 05 0004
 01 02 032329 04232a 0001 013102 0300 0400 00 00000001 0000000000 01 00000001 0131 0000000000000000 06 0000";
 
+// These bytes are read as the state of the line.
+fn assert_reads_line(
+    rt: &impl Abort,
+    alloc: Global,
+    bytes: &[u8],
+    line: usize,
+) -> Result<(), Fail> {
+    let state = read_state(alloc, bytes).expect(rt, "it is a state");
+    assert_line(rt, alloc, &state, line)
+}
+
 #[test]
 fn old_texts_are_read_and_written_anew(rt: HostRuntime) -> Result<(), Fail> {
     let alloc = rt.alloc();
     for (line, digits) in OLD.lines().enumerate() {
         let text = bytes(alloc, digits)?;
-        let state = read_state(alloc, &text)?;
-        assert_line(&rt, alloc, &state, line)?;
+        assert_reads_line(&rt, alloc, &text, line)?;
     }
     Ok(())
 }
@@ -49,7 +61,7 @@ const MALFORMED: &str = "\
 fn texts_of_no_state_in_their_version(rt: HostRuntime) -> Result<(), Fail> {
     let alloc = rt.alloc();
     for line in MALFORMED.lines() {
-        let (digits, what) = line.split_once(" = ").ok_or("no line of the table")?;
+        let (digits, what) = halves(line)?;
         let text = bytes(alloc, digits)?;
         assert_refused(&rt, alloc, &text, StateFault::Malformed, what);
     }
@@ -60,18 +72,62 @@ fn texts_of_no_state_in_their_version(rt: HostRuntime) -> Result<(), Fail> {
 const AREA: &str =
     "01 0000000000000002 0000001f 02 01032329 0002 013101030000 013201030000 0131 00000000 0000000000 00 01 00000005 0001050132 00";
 
+// The state is written as these bytes.
+fn assert_text(
+    rt: &impl Abort,
+    alloc: Global,
+    state: &State,
+    bytes: &[u8],
+) -> Result<(), AllocError> {
+    let text = write_state(alloc, state)?;
+    assert_bytes(rt, text.as_slice(), bytes, "the state");
+    Ok(())
+}
+
+// The state is the one of the line, and is written as these bytes.
+fn assert_line_and_text(
+    rt: &impl Abort,
+    alloc: Global,
+    state: &State,
+    bytes: &[u8],
+    line: usize,
+) -> Result<(), Fail> {
+    assert_line(rt, alloc, state, line)?;
+    assert_text(rt, alloc, state, bytes)?;
+    Ok(())
+}
+
+// These bytes are read as the state of the line, which is written as these bytes.
+fn assert_snapshot(rt: &impl Abort, alloc: Global, bytes: &[u8], line: usize) -> Result<(), Fail> {
+    let state = read_state(alloc, bytes).expect(rt, "it is a state");
+    assert_line_and_text(rt, alloc, &state, bytes, line)
+}
+
+// The text of the batch that these bytes are read as.
+fn written_again(alloc: Global, bytes: &[u8]) -> Result<Bytes, ReadFault> {
+    let batch = read_batch(alloc, bytes)?;
+    Ok(write_batch(alloc, batch.as_slice())?)
+}
+
+// These bytes are read as a batch, which is written as this payload.
+fn assert_payload(
+    rt: &impl Abort,
+    alloc: Global,
+    bytes: &[u8],
+    payload: &[u8],
+) -> Result<(), ReadFault> {
+    let text = written_again(alloc, bytes)?;
+    assert_bytes(rt, text.as_slice(), payload, "the payload");
+    Ok(())
+}
+
 #[test]
 fn the_texts_in_an_area(rt: HostRuntime) -> Result<(), Fail> {
     let alloc = rt.alloc();
     let area = bytes(alloc, AREA)?;
     assert_eq!(rt; area.len(), 55);
-    let state = read_state(alloc, &area[13..44])?;
-    assert_line(&rt, alloc, &state, 1)?;
-    let snapshot = write_state(alloc, &state)?;
-    assert_eq!(rt; snapshot.as_slice(), &area[13..44]);
-    let batch = read_batch(alloc, &area[49..54])?;
-    let payload = write_batch(alloc, batch.as_slice())?;
-    assert_eq!(rt; payload.as_slice(), [0, 1, 5, 1, 0x32].as_slice());
+    assert_snapshot(&rt, alloc, &area[13..44], 1)?;
+    assert_payload(&rt, alloc, &area[49..54], &[0, 1, 5, 1, 0x32])?;
     Ok(())
 }
 
@@ -99,21 +155,48 @@ fn of_cues(alloc: Global, version: u8, count: u16) -> Result<Vec<u8>, AllocError
     Ok(text)
 }
 
-// A text of so many cues is read, and one of a cue more is not.
-fn assert_most(rt: &impl Abort, alloc: Global, version: u8, most: u16) -> Result<(), Fail> {
-    let state = read_state(alloc, &of_cues(alloc, version, most)?)?;
-    assert_eq!(rt; state.show().cues().len(), usize::from(most));
-    let written = write_state(alloc, &state)?;
-    assert_eq!(rt; written.as_slice(), of_cues(alloc, 2, most)?.as_slice());
-    let more = of_cues(alloc, version, most + 1)?;
-    assert_refused(rt, alloc, &more, StateFault::Malformed, "a cue more");
+// The state has so many cues, and is written as their text in this version.
+fn assert_text_of_cues(
+    rt: &impl Abort,
+    alloc: Global,
+    state: &State,
+    count: u16,
+) -> Result<(), AllocError> {
+    assert_eq!(rt; state.show().cues().len(), usize::from(count));
+    let text = of_cues(alloc, 2, count)?;
+    assert_text(rt, alloc, state, &text)
+}
+
+// The text is read as a state of so many cues.
+fn assert_cues(rt: &impl Abort, alloc: Global, text: &[u8], count: u16) -> Result<(), AllocError> {
+    let state = read_state(alloc, text).expect(rt, "it is a state");
+    assert_text_of_cues(rt, alloc, &state, count)
+}
+
+// A text of so many cues is not read.
+fn assert_too_many(
+    rt: &impl Abort,
+    alloc: Global,
+    version: u8,
+    count: u16,
+) -> Result<(), AllocError> {
+    let text = of_cues(alloc, version, count)?;
+    assert_refused(rt, alloc, &text, StateFault::Malformed, "a cue more");
     Ok(())
+}
+
+// A text of so many cues is read, and one of a cue more is not.
+fn assert_most(rt: &impl Abort, alloc: Global, version: u8, most: u16) -> Result<(), AllocError> {
+    let text = of_cues(alloc, version, most)?;
+    assert_cues(rt, alloc, &text, most)?;
+    assert_too_many(rt, alloc, version, most.saturating_add(1))
 }
 
 #[test]
 fn the_most_cues_of_a_version(rt: HostRuntime) -> Result<(), Fail> {
     assert_most(&rt, rt.alloc(), 1, 256)?;
-    assert_most(&rt, rt.alloc(), 2, 1024)
+    assert_most(&rt, rt.alloc(), 2, 1024)?;
+    Ok(())
 }
 
 // The text of the empty state.

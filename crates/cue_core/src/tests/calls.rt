@@ -154,15 +154,23 @@ fn take_both(rt: &impl Abort, alloc: Global, events: &mut Events) -> Result<(), 
     Ok(())
 }
 
+fn has_none(rt: &impl Abort, alloc: Global) -> Result<(), Fail> {
+    has(rt, alloc, &Events::none(), 0, "made")
+}
+
+fn has_one(rt: &impl Abort, alloc: Global) -> Result<(), Fail> {
+    has(rt, alloc, &Events::one(Event::Go(7)), 1, "made Go 7")
+}
+
+fn has_two(rt: &impl Abort, alloc: Global) -> Result<(), Fail> {
+    take_both(rt, alloc, &mut Events::two(Event::Go(1), Event::Go(2)))
+}
+
 #[test]
 fn events_are_kept_in_order(rt: HostRuntime) -> Result<(), Fail> {
-    has(&rt, rt.alloc(), &Events::none(), 0, "made")?;
-    has(&rt, rt.alloc(), &Events::one(Event::Go(7)), 1, "made Go 7")?;
-    take_both(
-        &rt,
-        rt.alloc(),
-        &mut Events::two(Event::Go(1), Event::Go(2)),
-    )
+    has_none(&rt, rt.alloc())?;
+    has_one(&rt, rt.alloc())?;
+    has_two(&rt, rt.alloc())
 }
 
 const RELEASED: &str = "\
@@ -248,6 +256,11 @@ const ENDED: [(u32, Option<Ended>, bool); 8] = [
     ),
 ];
 
+// Whether the parts of the state make one with this last number and this attempt that ended last.
+fn can_remake(state: &State, last_seq: u32, ended: Option<Ended>) -> Result<bool, AllocError> {
+    Ok(remade(state, last_seq, ended)?.is_some())
+}
+
 // Attempt 1 is live.
 fn make(rt: &impl Abort, alloc: Global, state: &mut State) -> Result<(), Fail> {
     run_both(
@@ -257,8 +270,8 @@ fn make(rt: &impl Abort, alloc: Global, state: &mut State) -> Result<(), Fail> {
         SHOW,
         "standby 1 1000 = made Start 1 1 11000",
     )?;
-    for (last_seq, ended, may) in ENDED {
-        assert_eq!(rt; remade(state, last_seq, ended)?.is_some(), may);
+    for (last_seq, ended, may) in &ENDED {
+        assert_eq!(rt; can_remake(state, *last_seq, *ended)?, *may);
     }
     Ok(())
 }

@@ -2,7 +2,7 @@
 
 use super::{SHOW, apply, reading, remade, run};
 use crate::State;
-use std::alloc::Global;
+use std::alloc::{AllocError, Global};
 use std::process::Abort;
 use std::test::Fail;
 
@@ -110,6 +110,11 @@ fn eight_attempts_are_live_over_104_devices(rt: HostRuntime) -> Result<(), Fail>
     prepare_eight(&rt, rt.alloc(), &mut State::empty(rt.alloc()))
 }
 
+// The state with another last number.
+fn with_last(rt: &impl Abort, state: &State, last_seq: u32) -> Result<State, AllocError> {
+    Ok(remade(state, last_seq, state.ended())?.expect(rt, "a state"))
+}
+
 // Runs the script on the state with another last number.
 fn on_last(
     rt: &impl Abort,
@@ -118,8 +123,7 @@ fn on_last(
     last_seq: u32,
     script: &str,
 ) -> Result<(), Fail> {
-    let other = remade(state, last_seq, state.ended())?;
-    run(rt, alloc, &mut other.expect(rt, "a state"), script)
+    run(rt, alloc, &mut with_last(rt, state, last_seq)?, script)
 }
 
 // No moment for a deadline is left either.

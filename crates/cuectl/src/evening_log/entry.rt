@@ -74,6 +74,12 @@ impl Reply<'_> {
     /// The reply as its line tells it.
     pub fn text(&self, alloc: Global) -> Result<String, AllocError> {
         let mut text = format!(in alloc; "{} asked ", self.port)?;
+        self.tell(&mut text)?;
+        Ok(text)
+    }
+
+    // Tells behind the port what was asked, and what came of it.
+    fn tell(&self, text: &mut String) -> Result<(), AllocError> {
         if self.address.is_empty() {
             text.push_str("-")?;
         } else {
@@ -87,7 +93,7 @@ impl Reply<'_> {
         if self.refused > 0 {
             write!(text, ", code {}, {}", self.code, code_words(self.code))?;
         }
-        Ok(text)
+        Ok(())
     }
 }
 

@@ -12,8 +12,6 @@ pub mod laws;
 mod medium;
 mod memory;
 mod plan;
-#[cfg(test)]
-mod tests;
 
 pub use disk::{Disk, DiskFault};
 pub use file::{FileDisk, FileFault};

@@ -13,8 +13,6 @@ mod reading;
 mod record;
 mod records;
 mod snapshot;
-#[cfg(test)]
-mod tests;
 
 pub use area::{AREA_LIMIT, PAYLOAD_LIMIT, close, is_absent};
 pub use log::{AppendFault, Log};

@@ -2,7 +2,7 @@
 ghost use Rattle.std.specs.Prelude.{◌≡◌, ◌+◌, ◌-◌, ◌^◌, [], min, OnErr};
 ghost use Rattle.cue_disk.specs.Effect.{settled};
 
-use crate::{Disk, DiskFault};
+use cue_disk::{Disk, DiskFault};
 
 const SIZE: usize = 3;
 

@@ -1,5 +1,5 @@
 // A memory disk by worked examples, and a disk that promises nothing beside it.
-use super::*;
+use cue_disk::*;
 use std::alloc::Global;
 use std::process::Abort;
 use std::test::Fail;

@@ -1,6 +1,6 @@
 // Areas by worked examples: their bytes, what each change of a byte does, and what a stop or a fault leaves.
-use super::*;
 use cue_disk::{Disk, DiskFault, MemDisk};
+use cue_log::*;
 use std::alloc::{AllocError, Global};
 use std::process::Abort;
 use std::test::Fail;

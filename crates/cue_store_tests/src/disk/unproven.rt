@@ -8,14 +8,14 @@ const SIZE: usize = 3;
 
 /// Three bytes without a promise. It tests its bounds itself, since its callers promise nothing either.
 #[derive(Drop)]
-pub struct UnprovenDisk {
+pub(super) struct UnprovenDisk {
     cells: [u8; SIZE],
     len: usize,
     failures: u64,
 }
 
 impl UnprovenDisk {
-    pub fn new() -> UnprovenDisk {
+    pub(super) fn new() -> UnprovenDisk {
         UnprovenDisk {
             cells: [0; SIZE],
             len: 0,

@@ -5,6 +5,7 @@ pub mod Kept
 pub mod Rules
 pub mod Sound
 pub mod Facts
+pub mod JudgedShow
 pub mod Judged
 pub mod Few
 pub mod Cancels

@@ -61,7 +61,7 @@ impl Medium {
     ghost use Rattle.cue_disk.specs.Medium.{medium_held, medium_moment, medium_held_at, state_of, UndoesWrites, Touches, IsUnchanged};
 
     /// One with these bytes, all of them on the disk.
-    pub fn of(alloc: Global, bytes: Vec<u8>) -> Medium
+    pub(crate) fn of(alloc: Global, bytes: Vec<u8>) -> Medium
         ensures held { medium_held result ≡ settled bytes.items }
         ensures moment { medium_moment result ≡ 0 }
     {
@@ -74,18 +74,18 @@ impl Medium {
         }
     }
 
-    pub fn alloc(&self) -> Global {
+    pub(crate) fn alloc(&self) -> Global {
         self.alloc
     }
 
-    pub fn bytes(&self) -> &[u8]
+    pub(crate) fn bytes(&self) -> &[u8]
         ensures { result.now ≡ (medium_held self.now).bytes }
     {
         &self.bytes
     }
 
     /// Fills the buffer with the bytes from an offset on.
-    pub fn read(&self, at: usize, buf: &mut [u8])
+    pub(crate) fn read(&self, at: usize, buf: &mut [u8])
         requires { at + length buf.old ≤ length (medium_held self.now).bytes }
         ensures { buf.new ≡ take (length buf.old) (drop at (medium_held self.now).bytes) }
     {
@@ -93,7 +93,7 @@ impl Medium {
     }
 
     /// Stores bytes from an offset on, as the part that a write of `asked` bytes got to.
-    pub fn write(&mut self, at: usize, asked: usize, stored: &[u8]) -> Result<(), AllocError>
+    pub(crate) fn write(&mut self, at: usize, asked: usize, stored: &[u8]) -> Result<(), AllocError>
         requires room { at ≤ length (medium_held self.old).bytes }
         requires part { length stored.now ≤ asked }
         ensures written { OnOk result (medium_held self.new ≡ after_write (medium_held self.old) at asked stored.now) }
@@ -125,7 +125,7 @@ impl Medium {
     }
 
     /// Makes all of the bytes stable.
-    pub fn sync(&mut self) -> Result<(), AllocError>
+    pub(crate) fn sync(&mut self) -> Result<(), AllocError>
         ensures settled { OnOk result (medium_held self.new ≡ settled (medium_held self.old).bytes) }
         ensures unchanged { OnErr result (IsUnchanged self.old self.new) }
         ensures time { Elapses (medium_moment self.old) (medium_moment self.new)
@@ -141,7 +141,7 @@ impl Medium {
     }
 
     /// What a write that is planned to end so stores: all of its bytes, the first half of them, or nothing.
-    pub fn write_as(&mut self, fate: Fate, at: usize, bytes: &[u8]) -> Result<(), AllocError>
+    pub(crate) fn write_as(&mut self, fate: Fate, at: usize, bytes: &[u8]) -> Result<(), AllocError>
         requires { at ≤ length (medium_held self.old).bytes }
         ensures held { medium_held self.new ≡ written_as fate (is_err result) at bytes.now (medium_held self.old) }
         ensures time { Elapses (medium_moment self.old) (medium_moment self.new)
@@ -155,7 +155,7 @@ impl Medium {
     }
 
     /// What a sync that is planned to end so makes stable: all, or nothing.
-    pub fn sync_as(&mut self, fate: Fate) -> Result<(), AllocError>
+    pub(crate) fn sync_as(&mut self, fate: Fate) -> Result<(), AllocError>
         ensures held { medium_held self.new ≡ synced_as fate (is_err result) (medium_held self.old) }
         ensures time { Elapses (medium_moment self.old) (medium_moment self.new)
             (medium_held_at self.old) (medium_held_at self.new) (medium_held self.new) }

@@ -25,7 +25,7 @@ impl Plan {
     ghost use Rattle.cue_disk.specs.Plan.{no_plan, fate_of, after_one};
 
     /// No call is to fail.
-    pub fn none() -> Plan
+    pub(crate) fn none() -> Plan
         ensures { result ≡ no_plan }
     {
         Plan {
@@ -35,7 +35,7 @@ impl Plan {
     }
 
     /// What is planned for the next call.
-    pub fn next(&self) -> Fate
+    pub(crate) fn next(&self) -> Fate
         ensures { result ≡ fate_of self.now 1 }
     {
         match self.stop_in {
@@ -52,7 +52,7 @@ impl Plan {
     }
 
     /// Counts a call.
-    pub fn count(&mut self)
+    pub(crate) fn count(&mut self)
         ensures { self.new ≡ after_one self.old }
     {
         self.fail_in = self.fail_in.saturating_sub(1);

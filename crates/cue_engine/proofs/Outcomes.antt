@@ -1,5 +1,5 @@
 -- What a result says that is passed on at another type of value.
-use Rattle.std.proofs.Common.{◌≡◌, ◌⊎◌, inl, inr, Result, Ok, Err, ap, subst}
+use Rattle.std.proofs.Common.{◌⊎◌, inl, inr, Result, Ok, Err, ap, subst}
 use Rattle.std.specs.Prelude.{OnErr, IsErrOf}
 
 recast : {T U E : Type 0} → E → Result T E → Result U E

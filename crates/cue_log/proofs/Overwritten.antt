@@ -3,7 +3,7 @@ use Rattle.std.proofs.Common.{◌≡◌, ℕ, ◌+◌, ◌<◌, ◌≤◌, List,
 use Rattle.std.proofs.lemmas.List.{drop_all, length-take, take_at, drop_at, drop-drop, take-take, take-append-le}
 use Rattle.std.proofs.Math.Seq.{drop-nil}
 use Rattle.cue_disk.specs.Disk.{overwritten}
-use Rattle.cue_log.specs.Area.{body_text, framed, formed_text, record_text, eight_bytes, four_bytes}
+use Rattle.cue_log.specs.Area.{body_text, framed, record_text, eight_bytes, four_bytes}
 use Rattle.cue_log.specs.Record.{IsFramed, payload_in}
 use Rattle.cue_log.specs.Log.{prepared}
 

@@ -4,8 +4,8 @@ mod length;
 mod reader;
 mod writing;
 
-pub use length::{cue_len, parts_len};
-pub use reader::Reader;
-pub use writing::{
+pub(crate) use length::{cue_len, parts_len};
+pub(crate) use reader::Reader;
+pub(crate) use writing::{
     put_byte, put_cue, put_entry, put_new_cue, put_numbered, put_u32, reason_number,
 };

@@ -15,7 +15,7 @@ pub enum Version {
 
 impl Version {
     /// The first version in which the parts have a text.
-    pub fn of_parts(parts: &Parts) -> Version
+    pub(crate) fn of_parts(parts: &Parts) -> Version
         ensures { result ≡ version_for parts.now }
     {
         if are_required(parts) {
@@ -27,7 +27,7 @@ impl Version {
 }
 
 /// Whether each of the parts is required.
-pub fn are_required(parts: &Parts) -> bool
+pub(crate) fn are_required(parts: &Parts) -> bool
     ensures { result ≡ are_required parts.now }
 {
     parts.as_slice().iter().all(|part| !part.optional)

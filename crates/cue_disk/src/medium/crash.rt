@@ -8,7 +8,7 @@ use std::alloc::AllocError;
 
 impl Medium {
     /// The bytes that a crash leaves, of the synced length and `extra`, with `junk` in those that it may change.
-    pub fn crashed(&self, extra: u64, junk: &[u8]) -> Result<Vec<u8>, AllocError>
+    pub(crate) fn crashed(&self, extra: u64, junk: &[u8]) -> Result<Vec<u8>, AllocError>
         ensures { IfOk result (λ image. IsCrashed (medium_held self.now) extra junk.now image.items) }
     {
         let more = u64::min(extra, (self.bytes.len() - self.synced) as u64) as usize;

@@ -12,7 +12,7 @@ use crate::packet::Arg;
 const NEGATIVE: u32 = 1 << 31;
 
 /// Four bytes as a number.
-pub fn u32_at(bytes: &[u8]) -> Result<(u32, &[u8]), Fault>
+pub(crate) fn u32_at(bytes: &[u8]) -> Result<(u32, &[u8]), Fault>
     ensures { Gives (λ x. (x.0, x.1.now)) result (number_at w32 bytes.now) }
 {
     if bytes.len() < 4 {
@@ -24,7 +24,7 @@ pub fn u32_at(bytes: &[u8]) -> Result<(u32, &[u8]), Fault>
 }
 
 /// Eight bytes as a number.
-pub fn u64_at(bytes: &[u8]) -> Result<(u64, &[u8]), Fault>
+pub(crate) fn u64_at(bytes: &[u8]) -> Result<(u64, &[u8]), Fault>
     ensures { Gives (λ x. (x.0, x.1.now)) result (number_at w64 bytes.now) }
 {
     if bytes.len() < 8 {
@@ -76,7 +76,7 @@ fn padded(bytes: &[u8], len: usize, padding: usize) -> Option<(&[u8], &[u8])>
 
 /// An OSC-string.
 #[tactic(auto, unfolding(crate::specs::Reading::string_at))]
-pub fn string(bytes: &[u8]) -> Result<(&[u8], &[u8]), Fault>
+pub(crate) fn string(bytes: &[u8]) -> Result<(&[u8], &[u8]), Fault>
     ensures { Gives (λ x. (x.0.now, x.1.now)) result (string_at bytes.now) }
 {
     let len = text_len(bytes);
@@ -104,7 +104,7 @@ fn blob(bytes: &[u8]) -> Result<(&[u8], &[u8]), Fault>
 
 /// An argument with this type tag, which is `i`, `s` or `b`.
 #[tactic(auto, unfolding(crate::specs::Reading::arg_at))]
-pub fn arg(kind: u8, bytes: &[u8]) -> Result<(Arg<'_>, &[u8]), Fault>
+pub(crate) fn arg(kind: u8, bytes: &[u8]) -> Result<(Arg<'_>, &[u8]), Fault>
     ensures { Gives (λ x. (arg_view x.0, x.1.now)) result (arg_at kind bytes.now) }
 {
     if kind == b'i' {

@@ -57,7 +57,7 @@ fn tagged<'a>(alloc: Global, bytes: &'a [u8]) -> Result<Option<Args<'a>>, Fault>
 /// A message, all of the bytes. It is inlined where elements are read, so that it is made in its place.
 #[tactic(auto, unfolding(crate::specs::Reading::message_at, crate::specs::Reading::behind_address))]
 #[inline(always)]
-pub fn message<'a>(alloc: Global, bytes: &'a [u8]) -> Result<Packet<'a>, Fault>
+pub(crate) fn message<'a>(alloc: Global, bytes: &'a [u8]) -> Result<Packet<'a>, Fault>
     ensures { Gives view result (message_at bytes.now) }
 {
     let (address, rest) = string(bytes)?;

@@ -82,7 +82,7 @@ fn put_args(out: &mut Vec<u8>, args: &[Arg<'_>]) -> Result<(), AllocError>
 }
 
 /// A message, with its type tag string.
-pub fn put_message(out: &mut Vec<u8>, message: &Message<'_>) -> Result<(), AllocError>
+pub(crate) fn put_message(out: &mut Vec<u8>, message: &Message<'_>) -> Result<(), AllocError>
     requires { length (message_text message.now.address.now message.now.args) ≤ 4096 }
     ensures ok { OnOk result (out.new.items ≡ out.old.items ++ message_text message.now.address.now message.now.args) }
     ensures in_range { OnOk result (AllByRecursion IsArgInRange message.now.args) }

@@ -52,7 +52,7 @@ fn room_after_message(message: &Message<'_>, room: usize) -> Option<usize>
 
 /// What is left of so many bytes behind the spelling of a packet, if it fits.
 #[cycle(room)]
-pub fn room_after(packet: &Packet<'_>, room: usize) -> Option<usize>
+pub(crate) fn room_after(packet: &Packet<'_>, room: usize) -> Option<usize>
     ensures { result ≡ room_left room (length (text_of (view packet.now))) }
 {
     match packet {

@@ -28,7 +28,7 @@ pub enum Kind {
 }
 
 /// The kind with the number.
-pub fn kind_of(number: u8) -> Option<Kind>
+pub(crate) fn kind_of(number: u8) -> Option<Kind>
     ensures { result ≡ kind_of number }
 {
     match number {
@@ -51,7 +51,7 @@ pub fn kind_of(number: u8) -> Option<Kind>
 }
 
 /// The number of an event's kind.
-pub fn event_number(event: &Event) -> u8
+pub(crate) fn event_number(event: &Event) -> u8
     ensures { result ≡ event_number event.now }
 {
     match event {

@@ -8,7 +8,7 @@ use crate::version::Version;
 use cue_core::Event;
 
 /// How long the events are, one behind the other.
-pub fn events_len(events: &[Event]) -> u64
+pub(crate) fn events_len(events: &[Event]) -> u64
     ensures { result ≡ min (length (flat_map event_text events.now)) u64.MAX }
 {
     let mut len: u64 = 0;

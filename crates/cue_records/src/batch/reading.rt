@@ -137,7 +137,7 @@ impl<'a> Reader<'a> {
 
 /// The events of the bytes, all of the bytes.
 #[tactic(auto, unfolding(crate::specs::BatchReading::batch_of))]
-pub fn batch_of(alloc: Global, bytes: &[u8]) -> Result<Batch, ReadFault>
+pub(crate) fn batch_of(alloc: Global, bytes: &[u8]) -> Result<Batch, ReadFault>
     ensures { Gives (λ batch. batch) result (batch_of bytes.now) }
 {
     let mut reader = Reader { rest: bytes };

@@ -12,7 +12,7 @@ use cue_show::CueNo;
 use std::alloc::AllocError;
 
 /// The events, one behind the other.
-pub fn put_events(out: &mut Vec<u8>, events: &[Event]) -> Result<(), AllocError>
+pub(crate) fn put_events(out: &mut Vec<u8>, events: &[Event]) -> Result<(), AllocError>
     requires { IsTrue (list_all is_event events.now) }
     ensures { OnOk result (out.new.items ≡ out.old.items ++ flat_map event_text events.now) }
 {

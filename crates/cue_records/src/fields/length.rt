@@ -8,7 +8,7 @@ use crate::version::Version;
 use cue_show::{CueNo, Part, Parts};
 
 /// How long a cue number is, with its length before it.
-pub fn cue_len(cue: CueNo) -> u64
+pub(crate) fn cue_len(cue: CueNo) -> u64
     ensures value { result ≡ length (text_text cue) }
     ensures short { result ≤ 1 + MAX_CUE_BYTES }
 {
@@ -42,7 +42,7 @@ fn part_list_len(version: Version, parts: &[Part]) -> u64
 }
 
 /// How long the parts of a cue are, with their count before them.
-pub fn parts_len(version: Version, parts: &Parts) -> u64
+pub(crate) fn parts_len(version: Version, parts: &Parts) -> u64
     ensures { result ≡ min (length (parts_text version parts.now)) u64.MAX }
 {
     part_list_len(version, parts.as_slice()).saturating_add(1)

@@ -19,7 +19,7 @@ pub struct Reader<'a> {
 
 impl<'a> Reader<'a> {
     /// One byte.
-    pub fn byte(&mut self) -> Result<u8, ReadFault>
+    pub(crate) fn byte(&mut self) -> Result<u8, ReadFault>
         ensures { Gives (λ x. (x, self.new.rest.now)) result (byte_at self.old.rest.now) }
     {
         match self.rest {
@@ -32,7 +32,7 @@ impl<'a> Reader<'a> {
     }
 
     /// So many bytes.
-    pub fn bytes(&mut self, count: usize) -> Result<&'a [u8], ReadFault>
+    pub(crate) fn bytes(&mut self, count: usize) -> Result<&'a [u8], ReadFault>
         ensures { Gives (λ x. (x.now, self.new.rest.now)) result (bytes_at count self.old.rest.now) }
     {
         let bytes = self.rest;
@@ -45,7 +45,7 @@ impl<'a> Reader<'a> {
     }
 
     /// Two bytes as a number.
-    pub fn u16(&mut self) -> Result<u16, ReadFault>
+    pub(crate) fn u16(&mut self) -> Result<u16, ReadFault>
         ensures { Gives (λ x. (x, self.new.rest.now)) result (number_at w16 self.old.rest.now) }
     {
         let b = self.bytes(2)?;
@@ -53,7 +53,7 @@ impl<'a> Reader<'a> {
     }
 
     /// Four bytes as a number.
-    pub fn u32(&mut self) -> Result<u32, ReadFault>
+    pub(crate) fn u32(&mut self) -> Result<u32, ReadFault>
         ensures { Gives (λ x. (x, self.new.rest.now)) result (number_at w32 self.old.rest.now) }
     {
         let b = self.bytes(4)?;
@@ -61,7 +61,7 @@ impl<'a> Reader<'a> {
     }
 
     /// Eight bytes as a number.
-    pub fn u64(&mut self) -> Result<u64, ReadFault>
+    pub(crate) fn u64(&mut self) -> Result<u64, ReadFault>
         ensures { Gives (λ x. (x, self.new.rest.now)) result (number_at w64 self.old.rest.now) }
     {
         let b = self.bytes(8)?;
@@ -70,7 +70,7 @@ impl<'a> Reader<'a> {
 
     /// A length in one byte, and so many bytes.
     #[tactic(auto, unfolding(crate::specs::Reading::text_at))]
-    pub fn text(&mut self) -> Result<&'a [u8], ReadFault>
+    pub(crate) fn text(&mut self) -> Result<&'a [u8], ReadFault>
         ensures { Gives (λ x. (x.now, self.new.rest.now)) result (text_at self.old.rest.now) }
     {
         let count = self.byte()?;
@@ -79,7 +79,7 @@ impl<'a> Reader<'a> {
 
     /// A device number.
     #[tactic(auto, unfolding(crate::specs::Reading::device_at))]
-    pub fn device(&mut self) -> Result<DeviceNo, ReadFault>
+    pub(crate) fn device(&mut self) -> Result<DeviceNo, ReadFault>
         ensures { Gives (λ x. (x, self.new.rest.now)) result (device_at self.old.rest.now) }
     {
         let number = self.byte()?;
@@ -88,7 +88,7 @@ impl<'a> Reader<'a> {
 
     /// A port.
     #[tactic(auto, unfolding(crate::specs::Reading::port_at))]
-    pub fn port(&mut self) -> Result<u16, ReadFault>
+    pub(crate) fn port(&mut self) -> Result<u16, ReadFault>
         ensures { Gives (λ x. (x, self.new.rest.now)) result (port_at self.old.rest.now) }
     {
         let port = self.u16()?;
@@ -100,7 +100,7 @@ impl<'a> Reader<'a> {
 
     /// The number of an attempt.
     #[tactic(auto, unfolding(crate::specs::Reading::sequence_at))]
-    pub fn sequence(&mut self) -> Result<u32, ReadFault>
+    pub(crate) fn sequence(&mut self) -> Result<u32, ReadFault>
         ensures { Gives (λ x. (x, self.new.rest.now)) result (sequence_at self.old.rest.now) }
     {
         let seq = self.u32()?;
@@ -112,7 +112,7 @@ impl<'a> Reader<'a> {
 
     /// A cue number.
     #[tactic(auto, unfolding(crate::specs::Reading::cue_at))]
-    pub fn cue(&mut self) -> Result<CueNo, ReadFault>
+    pub(crate) fn cue(&mut self) -> Result<CueNo, ReadFault>
         ensures { Gives (λ x. (x, self.new.rest.now)) result (cue_at self.old.rest.now) }
     {
         let text = self.text()?;
@@ -121,7 +121,7 @@ impl<'a> Reader<'a> {
 
     /// The reason of a cancelled attempt.
     #[tactic(auto, unfolding(crate::specs::Reading::reason_at))]
-    pub fn reason(&mut self) -> Result<Reason, ReadFault>
+    pub(crate) fn reason(&mut self) -> Result<Reason, ReadFault>
         ensures { Gives (λ x. (x, self.new.rest.now)) result (reason_at self.old.rest.now) }
     {
         let number = self.byte()?;
@@ -191,7 +191,7 @@ impl<'a> Reader<'a> {
 
     /// A count, and so many parts of distinct devices, at least one of them required.
     #[tactic(auto, unfolding(crate::specs::Reading::parts_at))]
-    pub fn parts(&mut self, alloc: Global, version: Version) -> Result<Parts, ReadFault>
+    pub(crate) fn parts(&mut self, alloc: Global, version: Version) -> Result<Parts, ReadFault>
         ensures { Gives (λ x. (x, self.new.rest.now)) result (parts_at version self.old.rest.now) }
     {
         let count = self.part_count()?;
@@ -204,7 +204,7 @@ impl<'a> Reader<'a> {
 
     /// A device and its port.
     #[tactic(auto, unfolding(crate::specs::Reading::entry_at))]
-    pub fn entry(&mut self) -> Result<(DeviceNo, u16), ReadFault>
+    pub(crate) fn entry(&mut self) -> Result<(DeviceNo, u16), ReadFault>
         ensures { Gives (λ x. (x, self.new.rest.now)) result (entry_at self.old.rest.now) }
     {
         let device = self.device()?;
@@ -214,7 +214,11 @@ impl<'a> Reader<'a> {
 
     /// A cue and its parts.
     #[tactic(auto, unfolding(crate::specs::Reading::new_cue_at))]
-    pub fn new_cue(&mut self, alloc: Global, version: Version) -> Result<(CueNo, Parts), ReadFault>
+    pub(crate) fn new_cue(
+        &mut self,
+        alloc: Global,
+        version: Version,
+    ) -> Result<(CueNo, Parts), ReadFault>
         ensures { Gives (λ x. (x, self.new.rest.now)) result (new_cue_at version self.old.rest.now) }
     {
         let cue = self.cue()?;

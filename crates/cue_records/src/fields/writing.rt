@@ -10,7 +10,7 @@ use cue_show::{CueNo, DeviceNo, Part, Parts};
 use std::alloc::AllocError;
 
 /// One byte.
-pub fn put_byte(out: &mut Vec<u8>, byte: u8) -> Result<(), AllocError>
+pub(crate) fn put_byte(out: &mut Vec<u8>, byte: u8) -> Result<(), AllocError>
     ensures { OnOk result (out.new.items ≡ out.old.items ++ byte_text byte) }
 {
     out.push(byte)?;
@@ -18,7 +18,7 @@ pub fn put_byte(out: &mut Vec<u8>, byte: u8) -> Result<(), AllocError>
 }
 
 /// Four bytes.
-pub fn put_u32(out: &mut Vec<u8>, number: u32) -> Result<(), AllocError>
+pub(crate) fn put_u32(out: &mut Vec<u8>, number: u32) -> Result<(), AllocError>
     ensures { OnOk result (out.new.items ≡ out.old.items ++ number_text number) }
 {
     out.extend_from_slice(&number.to_be_bytes())
@@ -34,7 +34,7 @@ fn put_text(out: &mut Vec<u8>, text: &[u8]) -> Result<(), AllocError>
 }
 
 /// A cue number.
-pub fn put_cue(out: &mut Vec<u8>, cue: CueNo) -> Result<(), AllocError>
+pub(crate) fn put_cue(out: &mut Vec<u8>, cue: CueNo) -> Result<(), AllocError>
     ensures { OnOk result (out.new.items ≡ out.old.items ++ text_text cue) }
 {
     put_text(out, cue.text())
@@ -85,7 +85,7 @@ fn put_parts(out: &mut Vec<u8>, version: Version, parts: &Parts) -> Result<(), A
 }
 
 /// A device and its port.
-pub fn put_entry(out: &mut Vec<u8>, device: DeviceNo, port: u16) -> Result<(), AllocError>
+pub(crate) fn put_entry(out: &mut Vec<u8>, device: DeviceNo, port: u16) -> Result<(), AllocError>
     ensures { OnOk result (out.new.items ≡ out.old.items ++ entry_text (device, port)) }
 {
     out.push(device.number())?;
@@ -93,7 +93,7 @@ pub fn put_entry(out: &mut Vec<u8>, device: DeviceNo, port: u16) -> Result<(), A
 }
 
 /// A cue and its parts.
-pub fn put_new_cue(
+pub(crate) fn put_new_cue(
     out: &mut Vec<u8>,
     version: Version,
     cue: CueNo,
@@ -107,7 +107,7 @@ pub fn put_new_cue(
 }
 
 /// A number, and one byte.
-pub fn put_numbered(out: &mut Vec<u8>, seq: u32, byte: u8) -> Result<(), AllocError>
+pub(crate) fn put_numbered(out: &mut Vec<u8>, seq: u32, byte: u8) -> Result<(), AllocError>
     ensures { OnOk result (out.new.items ≡ out.old.items ++ (number_text seq ++ byte_text byte)) }
 {
     out.extend_from_slice(&seq.to_be_bytes())?;
@@ -115,7 +115,7 @@ pub fn put_numbered(out: &mut Vec<u8>, seq: u32, byte: u8) -> Result<(), AllocEr
 }
 
 /// The number of a reason.
-pub fn reason_number(reason: Reason) -> u8
+pub(crate) fn reason_number(reason: Reason) -> u8
     ensures { result ≡ reason_number reason }
 {
     match reason {

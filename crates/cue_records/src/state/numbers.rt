@@ -9,7 +9,7 @@ use crate::version::Version;
 use cue_exchange::{Answer, Reason, Stage};
 
 /// The version with the number.
-pub fn version_of(number: u8) -> Option<Version>
+pub(crate) fn version_of(number: u8) -> Option<Version>
     ensures { result ≡ version_of number }
 {
     match number {
@@ -20,7 +20,7 @@ pub fn version_of(number: u8) -> Option<Version>
 }
 
 /// The number of a stage.
-pub fn stage_number(stage: Stage) -> u8
+pub(crate) fn stage_number(stage: Stage) -> u8
     ensures { result ≡ stage_number stage }
 {
     match stage {
@@ -31,7 +31,7 @@ pub fn stage_number(stage: Stage) -> u8
 }
 
 /// The stage with the number.
-pub fn stage_of(number: u8) -> Option<Stage>
+pub(crate) fn stage_of(number: u8) -> Option<Stage>
     ensures { result ≡ stage_of number }
 {
     match number {
@@ -47,7 +47,7 @@ pub fn stage_of(number: u8) -> Option<Stage>
 }
 
 /// The number of an answer.
-pub fn answer_number(answer: Answer) -> u8
+pub(crate) fn answer_number(answer: Answer) -> u8
     ensures { result ≡ answer_number answer }
 {
     match answer {
@@ -61,7 +61,7 @@ pub fn answer_number(answer: Answer) -> u8
 }
 
 /// The answer with the number.
-pub fn answer_of(number: u8) -> Option<Answer>
+pub(crate) fn answer_of(number: u8) -> Option<Answer>
     ensures { result ≡ answer_of number }
 {
     match number {

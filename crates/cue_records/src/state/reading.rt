@@ -320,7 +320,7 @@ fn are_below(seq: u32, live: &[Attempt]) -> bool
 
 /// The state that stands behind the number of the version, to the end.
 #[tactic(auto, unfolding(crate::specs::StateReading::standing_of))]
-pub fn standing_of(alloc: Global, version: Version, bytes: &[u8]) -> Result<State, ReadFault>
+pub(crate) fn standing_of(alloc: Global, version: Version, bytes: &[u8]) -> Result<State, ReadFault>
     ensures { Gives (λ x. x) result (standing_of version bytes.now) }
 {
     let mut reader = Reader { rest: bytes };

@@ -15,7 +15,7 @@ use cue_show::{CueNo, Show};
 use std::alloc::AllocError;
 
 /// The devices, the cues and the place.
-pub fn put_show(out: &mut Vec<u8>, show: &Show) -> Result<(), AllocError>
+pub(crate) fn put_show(out: &mut Vec<u8>, show: &Show) -> Result<(), AllocError>
     ensures { OnOk result (out.new.items ≡ out.old.items ++ show_text Two show.now) }
 {
     put_table(out, show)?;
@@ -66,7 +66,7 @@ fn put_place(out: &mut Vec<u8>, place: Option<CueNo>) -> Result<(), AllocError>
 }
 
 /// The attempt that ended last, and how.
-pub fn put_ended(out: &mut Vec<u8>, ended: Option<Ended>) -> Result<(), AllocError>
+pub(crate) fn put_ended(out: &mut Vec<u8>, ended: Option<Ended>) -> Result<(), AllocError>
     ensures { OnOk result (out.new.items ≡ out.old.items ++ ended_text ended) }
 {
     match ended {
@@ -76,7 +76,7 @@ pub fn put_ended(out: &mut Vec<u8>, ended: Option<Ended>) -> Result<(), AllocErr
 }
 
 /// The live attempts, behind their count.
-pub fn put_live(out: &mut Vec<u8>, live: &Live) -> Result<(), AllocError>
+pub(crate) fn put_live(out: &mut Vec<u8>, live: &Live) -> Result<(), AllocError>
     ensures { OnOk result (out.new.items ≡ out.old.items ++ live_text live.now) }
 {
     put_byte(out, live_count(live))?;

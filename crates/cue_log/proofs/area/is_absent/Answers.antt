@@ -1,4 +1,3 @@
-use Rattle.std.proofs.Common.{◌≡◌}
 use Rattle.cue_log.proofs.Closed.{sync_leaves, length_leaves, read_leaves}
 use Rattle.cue_log.proofs.area.is_absent.Goals as goal
 

@@ -10,10 +10,10 @@ use Rattle.cuectl.specs.declared.line.words.LineFault.{LineFault}
 use Rattle.cuectl.specs.declared.line.words.LineFault.TheVariants.{Help, Usage, Memory}
 use Rattle.cuectl.specs.Lines.{AsksForText, HasPortZero, IsHelp, IsLineOf, IsNoCommand, IsRefused, cuectl_app}
 use Rattle.cue_keeper.specs.declared.fault.StoreFault.TheVariants as store
-use Rattle.cuectl.specs.declared.program.refusal.Refusal.{Refusal}
-use Rattle.cuectl.specs.declared.program.refusal.Refusal.TheVariants as refused
+use Rattle.cuectl.specs.declared.program.fault.ProgramFault.{ProgramFault}
+use Rattle.cuectl.specs.declared.program.fault.ProgramFault.TheVariants as program
 use Rattle.cuectl.specs.declared.script.ending.Failure.TheVariants.{Broken, Store}
-use Rattle.cuectl.specs.Endings.{done_status, refusal_status}
+use Rattle.cuectl.specs.Endings.{done_status, program_status}
 use Rattle.cuectl.specs.Performing.{EndsSo, IsStateTold, NamesScript}
 use Rattle.cuectl.specs.ShowText.{show_text}
 use Rattle.cuectl.proofs.ScriptLemmas.{small_store}
@@ -65,40 +65,40 @@ pub state_told : {T E : Type 0} (result : Result T E) (s : ShowState) (old new :
 state_told (Ok done) s old new told = record { state = s; printed = told }
 state_told (Err fault) s old new told = tt
 
--- no refusal has the status 0
-never_zero : (refusal : Refusal) → refusal_status refusal ≡ 0 → ⊥
-never_zero (refused.Failed Broken) zero = cc
-never_zero (refused.Failed (Store store.NotEmpty)) zero = cc
-never_zero (refused.Failed (Store store.Unformed)) zero = cc
-never_zero (refused.Failed (Store store.Damaged)) zero = cc
-never_zero (refused.Failed (Store store.Version)) zero = cc
-never_zero (refused.Failed (Store store.Malformed)) zero = cc
-never_zero (refused.Failed (Store store.Full)) zero = cc
-never_zero (refused.Failed (Store store.Exhausted)) zero = cc
-never_zero (refused.Failed (Store store.Memory)) zero = cc
-never_zero (refused.Failed (Store store.Disk)) zero = cc
-never_zero refused.NotFound zero = cc
-never_zero refused.Io zero = cc
-never_zero refused.Net zero = cc
+-- no fault has the status 0
+never_zero : (fault : ProgramFault) → program_status fault ≡ 0 → ⊥
+never_zero (program.Failed Broken) zero = cc
+never_zero (program.Failed (Store store.NotEmpty)) zero = cc
+never_zero (program.Failed (Store store.Unformed)) zero = cc
+never_zero (program.Failed (Store store.Damaged)) zero = cc
+never_zero (program.Failed (Store store.Version)) zero = cc
+never_zero (program.Failed (Store store.Malformed)) zero = cc
+never_zero (program.Failed (Store store.Full)) zero = cc
+never_zero (program.Failed (Store store.Exhausted)) zero = cc
+never_zero (program.Failed (Store store.Memory)) zero = cc
+never_zero (program.Failed (Store store.Disk)) zero = cc
+never_zero program.NotFound zero = cc
+never_zero program.Io zero = cc
+never_zero program.Net zero = cc
 
 -- what holds of the output where a command was carried out holds where its status is 0
-pub told_at_zero : {T : Type 0} (done : Result T Refusal) (status : ℕ) (mid new : Option (List ℕ)) (P : Option (List ℕ) → Type 0) → status ≡ done_status done → OnOk done (P mid) → OnOk done (new ≡ mid) → status ≡ 0 → P new
+pub told_at_zero : {T : Type 0} (done : Result T ProgramFault) (status : ℕ) (mid new : Option (List ℕ)) (P : Option (List ℕ) → Type 0) → status ≡ done_status done → OnOk done (P mid) → OnOk done (new ≡ mid) → status ≡ 0 → P new
 told_at_zero (Ok done) status mid new P is told kept zero = subst P (sym kept) told
-told_at_zero (Err refusal) status mid new P is told kept zero = absurd (never_zero refusal (sym is ∙ zero))
+told_at_zero (Err fault) status mid new P is told kept zero = absurd (never_zero fault (sym is ∙ zero))
 
-small_refusal : (refusal : Refusal) → (refusal_status refusal ≤ 3) × (refusal_status refusal ≢ 2)
-small_refusal (refused.Failed Broken) = (lit≤ tt, λ is. cc)
-small_refusal (refused.Failed (Store fault)) = small_store fault
-small_refusal refused.NotFound = (lit≤ tt, λ is. cc)
-small_refusal refused.Io = (lit≤ tt, λ is. cc)
-small_refusal refused.Net = (lit≤ tt, λ is. cc)
+small_fault : (fault : ProgramFault) → (program_status fault ≤ 3) × (program_status fault ≢ 2)
+small_fault (program.Failed Broken) = (lit≤ tt, λ is. cc)
+small_fault (program.Failed (Store fault)) = small_store fault
+small_fault program.NotFound = (lit≤ tt, λ is. cc)
+small_fault program.Io = (lit≤ tt, λ is. cc)
+small_fault program.Net = (lit≤ tt, λ is. cc)
 
 -- the status of a command is at most 3, and never 2
-pub small_done : {T : Type 0} (done : Result T Refusal) (status : ℕ) → status ≡ done_status done → (status ≤ 3) × (status ≢ 2)
+pub small_done : {T : Type 0} (done : Result T ProgramFault) (status : ℕ) → status ≡ done_status done → (status ≤ 3) × (status ≢ 2)
 small_done {T} done status is =
     let P : ℕ → Type 0 = λ n. (n ≤ 3) × (n ≢ 2) in
     subst P (sym is) (go done)
   where
-    go : (d : Result T Refusal) → (done_status d ≤ 3) × (done_status d ≢ 2)
+    go : (d : Result T ProgramFault) → (done_status d ≤ 3) × (done_status d ≢ 2)
     go (Ok x) = (lit≤ tt, λ is. cc)
-    go (Err refusal) = small_refusal refusal
+    go (Err fault) = small_fault fault

@@ -12,8 +12,8 @@ use Rattle.cuectl.specs.declared.script.ending.Failure.{Failure}
 use Rattle.cuectl.specs.declared.script.ending.Failure.TheVariants.{Broken, Store}
 use Rattle.cuectl.specs.declared.script.ending.StreamFailure.{StreamFailure}
 use Rattle.cuectl.specs.declared.script.ending.StreamFailure.TheVariants.{Io, Memory}
-use Rattle.cuectl.specs.declared.program.refusal.Refusal.{Refusal}
-use Rattle.cuectl.specs.declared.program.refusal.Refusal.TheVariants as refused
+use Rattle.cuectl.specs.declared.program.fault.ProgramFault.{ProgramFault}
+use Rattle.cuectl.specs.declared.program.fault.ProgramFault.TheVariants as program
 
 -- a line `! NAME`
 abbrev pub fault_line : List ℕ → List ℕ
@@ -79,20 +79,20 @@ abbrev pub failure_of : Error → StreamFailure
 failure_of error = if is_memory (error_kind error) then Memory else Io
 
 -- the line that a refused command prints
-abbrev pub refusal_line : Refusal → List ℕ
-refusal_line (refused.Failed failure) = failure_line failure
-refusal_line refused.NotFound = fault_line (codes "NotFound")
-refusal_line refused.Io = fault_line (codes "Io")
-refusal_line refused.Net = fault_line (codes "Net")
+abbrev pub program_line : ProgramFault → List ℕ
+program_line (program.Failed failure) = failure_line failure
+program_line program.NotFound = fault_line (codes "NotFound")
+program_line program.Io = fault_line (codes "Io")
+program_line program.Net = fault_line (codes "Net")
 
 -- 1 where the store refuses, 3 where the machine does
-abbrev pub refusal_status : Refusal → ℕ
-refusal_status (refused.Failed failure) = failure_status failure
-refusal_status refused.NotFound = 3
-refusal_status refused.Io = 3
-refusal_status refused.Net = 3
+abbrev pub program_status : ProgramFault → ℕ
+program_status (program.Failed failure) = failure_status failure
+program_status program.NotFound = 3
+program_status program.Io = 3
+program_status program.Net = 3
 
 -- 0 where a command was carried out
-abbrev pub done_status : {T : Type 0} → Result T Refusal → ℕ
+abbrev pub done_status : {T : Type 0} → Result T ProgramFault → ℕ
 done_status (Ok done) = 0
-done_status (Err refusal) = refusal_status refusal
+done_status (Err fault) = program_status fault

@@ -8,10 +8,10 @@ ghost use Rattle.cuectl.specs.Performing.{EndsSo, HasEnded, IsRunTold, IsStateTo
 ghost use Rattle.cuectl.specs.Script.{HasRun};
 ghost use Rattle.cuectl.specs.ShowText.{show_text};
 ghost use Rattle.cuectl.specs.declared.line.words.LineFault.TheVariants.{Memory, Usage};
-ghost use Rattle.cuectl.specs.declared.program.refusal.Refusal.TheVariants.{Io};
+ghost use Rattle.cuectl.specs.declared.program.fault.ProgramFault.TheVariants.{Io};
 
+pub mod fault;
 mod files;
-pub mod refusal;
 
 use crate::evening_log::LoggedWire;
 use crate::evening_log::alone::StandbyLog;
@@ -25,8 +25,8 @@ use cue_core::State;
 use cue_disk::FileDisk;
 use cue_engine::Engine;
 use cue_keeper::{Fault, Keeper};
+use fault::{ProgramFault, print_fault, status_of};
 use files::{create_both, open_both, refused_store, say, say_failures};
-use refusal::{Refusal, print_refusal, status_of};
 use std::alloc::Global;
 use std::fs::{File, Files};
 use std::io::{self, Eprint, Read, Write};
@@ -34,16 +34,16 @@ use std::net::{Net, UdpSocket};
 use std::time::Clock;
 
 // Prints, and sees that all of it left.
-fn print<W: Write>(writer: &mut W, text: &[u8]) -> Result<(), Refusal>
+fn print<W: Write>(writer: &mut W, text: &[u8]) -> Result<(), ProgramFault>
     ensures printed { OnOk result (Appends (W.contents writer.old) (W.contents writer.new) text.now) }
-    ensures io { IfErr result (λ refusal. refusal ≡ Io) }
+    ensures io { IfErr result (λ fault. fault ≡ Io) }
 {
     match writer.write_all(text) {
         Ok(()) => match writer.flush() {
             Ok(()) => Ok(()),
-            Err(_) => Err(Refusal::Io),
+            Err(_) => Err(ProgramFault::Io),
         },
-        Err(_) => Err(Refusal::Io),
+        Err(_) => Err(ProgramFault::Io),
     }
 }
 
@@ -57,7 +57,7 @@ fn form_on<R: Eprint>(
     dir: &str,
     first: FileDisk,
     second: FileDisk,
-) -> Result<(), Refusal> {
+) -> Result<(), ProgramFault> {
     match Engine::form(alloc, first, second) {
         Ok(engine) => {
             let_go(engine);
@@ -73,7 +73,7 @@ fn form<R: Files<File = File> + Eprint, W: Write>(
     alloc: Global,
     dir: &str,
     writer: &mut W,
-) -> Result<(), Refusal>
+) -> Result<(), ProgramFault>
     ensures { OnOk result (Appends (W.contents writer.old) (W.contents writer.new) formed_text) }
 {
     let (first, second) = create_both(rt, alloc, dir)?;
@@ -82,7 +82,7 @@ fn form<R: Files<File = File> + Eprint, W: Write>(
 }
 
 // Prints a state.
-fn print_state<W: Write>(alloc: Global, state: &State, writer: &mut W) -> Result<(), Refusal>
+fn print_state<W: Write>(alloc: Global, state: &State, writer: &mut W) -> Result<(), ProgramFault>
     ensures { OnOk result (Appends (W.contents writer.old) (W.contents writer.new) (show_text state.now)) }
 {
     let text = show_text(alloc, state)?;
@@ -94,7 +94,7 @@ fn opened<R: Files<File = File> + Eprint>(
     rt: &R,
     alloc: Global,
     dir: &str,
-) -> Result<Keeper<FileDisk>, Refusal> {
+) -> Result<Keeper<FileDisk>, ProgramFault> {
     let (first, second) = open_both(rt, alloc, dir)?;
     match Keeper::open(alloc, first, second) {
         Ok(keeper) => Ok(keeper),
@@ -108,7 +108,7 @@ fn show<R: Files<File = File> + Eprint, W: Write>(
     alloc: Global,
     dir: &str,
     writer: &mut W,
-) -> Result<(), Refusal>
+) -> Result<(), ProgramFault>
     ensures { OnOk result (IsStateTold (W.contents writer.old) (W.contents writer.new)) }
 {
     let keeper = opened(rt, alloc, dir)?;
@@ -133,9 +133,9 @@ fn serve_on<'a, R: Clock + Eprint>(
 }
 
 // Why the port cannot be served.
-fn refused_port<R: Eprint>(rt: &R, port: u16, why: io::Error) -> Refusal {
+fn refused_port<R: Eprint>(rt: &R, port: u16, why: io::Error) -> ProgramFault {
     let _ = rt.eprintln(format_args!("cuectl: 127.0.0.1:{port}: {why}"));
-    Refusal::Net
+    ProgramFault::Net
 }
 
 // Binds the port, says that it is ready, and runs the show there.
@@ -146,7 +146,7 @@ fn serve_at<R: Net + Clock + Eprint>(
     engine: &mut Engine<FileDisk>,
     port: u16,
     turns: u64,
-) -> Result<Ended, Refusal>
+) -> Result<Ended, ProgramFault>
     ensures { IfOk result (λ ended. ended.turns ≤ turns) }
 {
     let socket = UdpSocket::bind(rt, local(port)).map_err(|why| refused_port(rt, port, why))?;
@@ -155,7 +155,7 @@ fn serve_at<R: Net + Clock + Eprint>(
 }
 
 // Prints how a run ended.
-fn print_turns<W: Write>(alloc: Global, ended: &Ended, writer: &mut W) -> Result<(), Refusal>
+fn print_turns<W: Write>(alloc: Global, ended: &Ended, writer: &mut W) -> Result<(), ProgramFault>
     ensures { OnOk result (Appends (W.contents writer.old) (W.contents writer.new) (turns_text ended.now.turns ended.now.unsent)) }
 {
     let text = format!(in alloc; "turns {} unsent {}\n", ended.turns, ended.unsent)?;
@@ -163,11 +163,16 @@ fn print_turns<W: Write>(alloc: Global, ended: &Ended, writer: &mut W) -> Result
 }
 
 // Why a run was not carried on; where a disk failed, which file, and how.
-fn refused_run<R: Eprint>(rt: &R, dir: &str, engine: Engine<FileDisk>, fault: Fault) -> Refusal {
+fn refused_run<R: Eprint>(
+    rt: &R,
+    dir: &str,
+    engine: Engine<FileDisk>,
+    fault: Fault,
+) -> ProgramFault {
     let (first, second) = engine.close();
     say(rt, dir, fault);
     say_failures(rt, &first, &second);
-    Refusal::from(fault)
+    ProgramFault::from(fault)
 }
 
 // Prints how a run ended, or says why it failed.
@@ -178,7 +183,7 @@ fn finish<R: Eprint, W: Write>(
     engine: Engine<FileDisk>,
     ended: Ended,
     writer: &mut W,
-) -> Result<(), Refusal>
+) -> Result<(), ProgramFault>
     ensures { OnOk result (Appends (W.contents writer.old) (W.contents writer.new) (turns_text ended.turns ended.unsent)) }
 {
     match ended.fault {
@@ -189,7 +194,7 @@ fn finish<R: Eprint, W: Write>(
         Some(RunFault::Source) => {
             let_go(engine);
             say(rt, "127.0.0.1", "the socket or the clock failed");
-            Err(Refusal::Net)
+            Err(ProgramFault::Net)
         }
         Some(RunFault::Engine(fault)) => Err(refused_run(rt, dir, engine, fault)),
     }
@@ -200,7 +205,7 @@ fn recovered<R: Files<File = File> + Eprint>(
     rt: &R,
     alloc: Global,
     dir: &str,
-) -> Result<Engine<FileDisk>, Refusal> {
+) -> Result<Engine<FileDisk>, ProgramFault> {
     let (first, second) = open_both(rt, alloc, dir)?;
     match Engine::recover(alloc, first, second) {
         Ok(engine) => Ok(engine),
@@ -216,15 +221,15 @@ fn serve<R: Files<File = File> + Net + Clock + Eprint, W: Write>(
     port: u16,
     turns: u64,
     writer: &mut W,
-) -> Result<(), Refusal>
+) -> Result<(), ProgramFault>
     ensures { OnOk result (IsRunTold turns (W.contents writer.old) (W.contents writer.new)) }
 {
     let mut engine = recovered(rt, alloc, dir)?;
     match serve_at(rt, alloc, dir, &mut engine, port, turns) {
         Ok(ended) => finish(rt, alloc, dir, engine, ended, writer),
-        Err(refusal) => {
+        Err(fault) => {
             let_go(engine);
-            Err(refusal)
+            Err(fault)
         }
     }
 }
@@ -244,10 +249,10 @@ fn refused_line<R: Eprint, W: Write>(rt: &R, fault: LineFault, writer: &mut W) -
                 "the command line is not understood",
                 "see cuectl --help",
             );
-            print_refusal(writer, b"! Usage\n");
+            print_fault(writer, b"! Usage\n");
             2
         }
-        LineFault::Memory => status_of(Err(Refusal::MEMORY), writer),
+        LineFault::Memory => status_of(Err(ProgramFault::MEMORY), writer),
     }
 }
 
@@ -273,8 +278,8 @@ fn carry_out<R: Files<File = File> + Net + Clock + Eprint, I: Read, W: Write>(
 }
 
 /// Carries a command line out, the program's name first, and answers the exit status: 0 where it is done, 1 where the
-/// show or the script refuses, 2 where the words are no command, 3 where the machine does. A refusal is printed as `!
-/// NAME`; why, and of which file or port, stands on standard error.
+/// show or the script refuses, 2 where the words are no command, 3 where the machine does. A refusal is printed as
+/// `! NAME`; why, and of which file or port, stands on standard error.
 pub fn perform<R: Files<File = File> + Net + Clock + Eprint + AllocGlobal, I: Read, W: Write>(
     rt: &R,
     words: &[String],

@@ -1,5 +1,5 @@
 //! The two files of a folder: opened and made, and what is said where that fails.
-use super::refusal::Refusal;
+use super::fault::ProgramFault;
 use cue_disk::{FileDisk, FileFault};
 use cue_keeper::StoreFault;
 use std::alloc::{AllocError, Global};
@@ -20,19 +20,22 @@ fn paths(alloc: Global, dir: &str) -> Result<(String, String), AllocError> {
 }
 
 // Why a file was not opened.
-fn refused_file<R: Eprint>(rt: &R, path: &str, fault: FileFault) -> Refusal {
+fn refused_file<R: Eprint>(rt: &R, path: &str, fault: FileFault) -> ProgramFault {
     say(rt, path, fault);
     match fault {
-        FileFault::NotFound => Refusal::NotFound,
-        FileFault::Io(_) => Refusal::Io,
+        FileFault::NotFound => ProgramFault::NotFound,
+        FileFault::Io(_) => ProgramFault::Io,
     }
 }
 
-fn open_one<R: Files<File = File> + Eprint>(rt: &R, path: &str) -> Result<FileDisk, Refusal> {
+fn open_one<R: Files<File = File> + Eprint>(rt: &R, path: &str) -> Result<FileDisk, ProgramFault> {
     FileDisk::open(rt, path).map_err(|fault| refused_file(rt, path, fault))
 }
 
-fn create_one<R: Files<File = File> + Eprint>(rt: &R, path: &str) -> Result<FileDisk, Refusal> {
+fn create_one<R: Files<File = File> + Eprint>(
+    rt: &R,
+    path: &str,
+) -> Result<FileDisk, ProgramFault> {
     FileDisk::create(rt, path).map_err(|fault| refused_file(rt, path, fault))
 }
 
@@ -41,7 +44,7 @@ pub fn open_both<R: Files<File = File> + Eprint>(
     rt: &R,
     alloc: Global,
     dir: &str,
-) -> Result<(FileDisk, FileDisk), Refusal> {
+) -> Result<(FileDisk, FileDisk), ProgramFault> {
     let (first, second) = paths(alloc, dir)?;
     Ok((
         open_one(rt, first.as_str())?,
@@ -54,7 +57,7 @@ pub fn create_both<R: Files<File = File> + Eprint>(
     rt: &R,
     alloc: Global,
     dir: &str,
-) -> Result<(FileDisk, FileDisk), Refusal> {
+) -> Result<(FileDisk, FileDisk), ProgramFault> {
     let (first, second) = paths(alloc, dir)?;
     Ok((
         create_one(rt, first.as_str())?,
@@ -67,11 +70,11 @@ pub fn refused_store<R: Eprint>(
     rt: &R,
     dir: &str,
     refused: (StoreFault, FileDisk, FileDisk),
-) -> Refusal {
+) -> ProgramFault {
     let (fault, first, second) = refused;
     say(rt, dir, fault);
     say_failures(rt, &first, &second);
-    Refusal::from(fault)
+    ProgramFault::from(fault)
 }
 
 /// How the files failed, where they did.

@@ -3,7 +3,7 @@
 
     model.py < SCRIPT          prints what the controller would print, and ends with its status
 
-It shares no line with the controller. tests/compare runs both over random scripts.
+It shares no line with the controller. tests/runs/compare runs both over random scripts.
 """
 import re
 import struct

@@ -1,6 +1,6 @@
 """Random sessions for the controller: most of their lines make sense in the state that they have come to, some do not.
 
-A session goes along with tests/model.py, so it knows what is live, and it counts what it meets.
+A session goes along with tests/oracles/model.py, so it knows what is live, and it counts what it meets.
 """
 import random
 from collections import Counter

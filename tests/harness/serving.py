@@ -10,7 +10,8 @@ import tempfile
 import time
 from pathlib import Path
 
-ROOT = Path(__file__).resolve().parent.parent
+HERE = Path(__file__).resolve().parent
+ROOT = HERE.parent.parent
 
 
 def program(given=None):
@@ -55,7 +56,7 @@ def run(*words, **more):
 def library(folder, name):
     """A library for LD_PRELOAD, made of a file of this folder."""
     made = Path(folder) / f"{name}.so"
-    source = ROOT / "tests" / f"{name}.c"
+    source = HERE / f"{name}.c"
     subprocess.run(["cc", "-shared", "-fPIC", "-O2", "-o", str(made), str(source)], check=True)
     return str(made)
 

@@ -1,8 +1,7 @@
-"""The files that the controller writes, made of the events of tests/model.py: batches, states, areas, turn-overs.
+"""The files that the controller writes, made of the events of model.py: batches, states, areas, turn-overs.
 
-A second reading of docs/FORMAT.md for the writing side, beside tests/strict_reader.py for the reading side.
+A second reading of docs/FORMAT.md for the writing side, beside store_reader.py for the reading side.
 """
-import model
 
 RECORDS = 256  # an area with so many of them is turned over before the next one
 KINDS = ["device", "no_device", "cue", "no_cue", "place", "start", "ready", "go", "done", "cancel", "let_go", "failed", None,

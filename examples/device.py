@@ -3,10 +3,17 @@
 
     device.py NUMBER PORT            the device's number (0 to 111) and its port on 127.0.0.1
     device.py NUMBER PORT unable     it cannot prepare: each cue is given up, or goes without it where it is optional
+
+    --prepare SECONDS    how long it prepares, 0 at first
+    --motion SECONDS     how long it moves, 0 at first
+    --fault SECONDS      so long after it is ready it finds that it cannot go on
 """
+import argparse
 import socket
 import struct
-import sys
+import time
+
+REPEAT = 0.25  # seconds between two copies of an abort that nobody asked for
 
 
 def text(value):
@@ -23,52 +30,141 @@ def take_text(data, at):
     return data[at:end].decode(), end + 4 - end % 4
 
 
-def read_command(data):
-    """The address and the attempt's number of a command; the device's own number and the rest follow them."""
-    address, at = take_text(data, 0)
-    _tags, at = take_text(data, at)
-    return address, struct.unpack_from(">i", data, at)[0]
-
-
 class Device:
-    ANSWERS = {"/msc/standby": "standing_by", "/msc/go_2pc": "complete", "/msc/cancel": "cancelled"}
+    """It is in one attempt: the one with the highest number that it has heard of. Each lower number is over."""
 
-    def __init__(self, number, able=True):
+    WORKS = ("preparing", "moving")
+    NEXT = {"preparing": "standing_by", "moving": "complete", "standing_by": "abort", "abort": "abort"}
+
+    def __init__(self, number, able=True, prepare=0.0, motion=0.0, fault=None):
         self.number, self.able = number, able
-        self.done = {}  # for each attempt, the last answer that this device gave
+        self.seconds = {"preparing": prepare, "moving": motion, "standing_by": fault}
+        self.attempt, self.asked = 0, None  # its number, and the cue and the bytes of its standby
+        self.step, self.due = None, None  # a work, or the last answer; and when something comes next without a command
+        self.printed = None
 
-    def answer_to(self, address, attempt):
-        """Acts once for each command of an attempt, and answers every copy of it."""
-        answer = self.ANSWERS.get(address)
+    def hear(self, data, now):
+        """What to answer to a datagram; None where there is nothing to say, or not yet."""
+        address, at = take_text(data, 0)
+        _tags, at = take_text(data, at)
+        if address == "/reply" and self.step == "abort" and take_text(data, at)[0] == f"/device/{self.number}/abort":
+            self.due = None  # the abort has come to the controller
+        if address not in ("/msc/standby", "/msc/go_2pc", "/msc/cancel"):
+            return None
+        attempt, device = struct.unpack_from(">ii", data, at)
+        if device != self.number:
+            return None  # for another device
+        if attempt > self.attempt and self.step != "moving":
+            self.attempt, self.asked, self.step, self.due = attempt, None, None, None  # what was prepared is let go
+        return self.say(attempt, self.answer_to(address, attempt, data[at + 8:], now))
+
+    def answer_to(self, address, attempt, asked, now):
+        if attempt != self.attempt:
+            return self.answer_to_another(address, attempt)
+        if self.step == "moving":
+            return None  # it goes on moving: the answer comes when that is done
+        if address == "/msc/standby":
+            return self.on_standby(asked, now)
+        return self.on_go(now) if address == "/msc/go_2pc" else self.on_cancel(now)
+
+    def answer_to_another(self, address, attempt):
+        """To a number that is over; or to a higher one, which has to wait until the motion is done."""
+        if address == "/msc/cancel":
+            return "cancelled"  # it has nothing to give up
+        return None if attempt > self.attempt and address == "/msc/standby" else "abort"
+
+    def on_standby(self, asked, now):
+        if self.step is None and self.able:
+            self.asked = asked
+            self.enter("preparing", now)
+        if asked == self.asked and self.step in ("preparing", "standing_by"):
+            return self.answer()  # the first one, or a copy of it
+        if self.step not in ("complete", "abort"):
+            self.enter("abort", now)
+        return "abort"  # it is unable, or done with the number, or the cue or the bytes are others
+
+    def on_go(self, now):
+        if self.step == "standing_by":
+            self.enter("moving", now)
+        elif self.step not in ("complete", "abort"):
+            self.enter("abort", now)  # it is not ready for this number: it does not move
+        return self.answer()
+
+    def on_cancel(self, now):
+        self.enter("cancelled", now)
+        return self.answer()
+
+    def enter(self, step, now):
+        """Here a real device starts a motor, or stops it."""
+        seconds = self.seconds.get(step)
+        self.step, self.due = step, None if seconds is None else now + seconds
+
+    def answer(self):
+        """It answers only when its work is done."""
+        return None if self.step in self.WORKS else self.step
+
+    def tick(self, now):
+        """What to answer without a command: a work is done, or it cannot go on."""
+        if self.due is None or now < self.due:
+            return None
+        self.enter(self.NEXT[self.step], now)
+        if self.step == "abort":
+            self.due = now + REPEAT  # nobody asked for it, so nobody repeats a command: again, until its reply comes
+        return self.say(self.attempt, self.step)
+
+    def say(self, attempt, answer):
         if answer is None:
-            return None  # replies of the controller, and whatever else: nothing to do
-        before = self.done.get(attempt)
-        if answer == "complete" and before not in ("standing_by", "complete"):
-            answer = "abort"  # GO for an attempt that this device never prepared: it does not move
-        elif answer == "standing_by" and before is not None:
-            answer = before  # a copy, or one that was overtaken by a later command
-        elif answer == "standing_by" and not self.able:
-            answer = "abort"
-        if answer != before:
-            self.act(answer, attempt)
-        self.done[attempt] = answer
+            return None
+        line = f"device {self.number} attempt {attempt}: {answer}"
+        if line != self.printed:
+            print(line, flush=True)
+        self.printed = line
         return message(f"/device/{self.number}/{answer}", attempt)
 
-    def act(self, answer, attempt):
-        """Here a real device prepares, moves or lets go; it answers only after that."""
-        print(f"device {self.number} attempt {attempt}: {answer}", flush=True)
+
+def receive(wire, due):
+    """The next datagram and its sender; None where none comes before the device has something to do."""
+    wire.settimeout(None if due is None else max(0.001, due - time.monotonic()))
+    try:
+        return wire.recvfrom(4096)
+    except socket.timeout:
+        return None, None
+
+
+def hear(device, data):
+    try:
+        return device.hear(data, time.monotonic())
+    except (ValueError, struct.error):
+        return None  # this is no message of the controller
+
+
+def run(wire, device):
+    """One loop over the socket, and nothing in it that waits but the socket."""
+    controller = None
+    while True:
+        data, sender = receive(wire, device.due)
+        answers = []
+        if data is not None:
+            controller = sender
+            answers.append(hear(device, data))
+        answers.append(device.tick(time.monotonic()))
+        for answer in filter(None, answers):
+            wire.sendto(answer, controller)
 
 
 def main():
-    number, port = int(sys.argv[1]), int(sys.argv[2])
-    device = Device(number, able=sys.argv[3:] != ["unable"])
+    parser = argparse.ArgumentParser(description="A device for cuectl. It prints what it does in place of moving.")
+    parser.add_argument("number", type=int, help="0 to 111")
+    parser.add_argument("port", type=int, help="its port on 127.0.0.1")
+    parser.add_argument("unable", nargs="?", choices=["unable"], help="it cannot prepare")
+    for name, what in (("prepare", "it prepares"), ("motion", "it moves")):
+        parser.add_argument(f"--{name}", type=float, default=0.0, metavar="SECONDS", help=f"how long {what}")
+    parser.add_argument("--fault", type=float, metavar="SECONDS", help="so long after it is ready it cannot go on")
+    words = parser.parse_args()
+    device = Device(words.number, not words.unable, words.prepare, words.motion, words.fault)
     with socket.socket(socket.AF_INET, socket.SOCK_DGRAM) as wire:
-        wire.bind(("127.0.0.1", port))
-        while True:
-            data, controller = wire.recvfrom(4096)
-            answer = device.answer_to(*read_command(data))
-            if answer is not None:
-                wire.sendto(answer, controller)
+        wire.bind(("127.0.0.1", words.port))
+        run(wire, device)
 
 
 if __name__ == "__main__":

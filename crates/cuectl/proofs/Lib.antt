@@ -3,7 +3,3 @@ mod ClapWalk
 mod CommandLemmas
 mod LineLemmas
 mod PerformLemmas
-mod RunLemmas
-mod ScriptLemmas
-mod ScriptLineLemmas
-mod StandLemmas

@@ -12,11 +12,11 @@ use Rattle.cuectl.specs.Lines.{AsksForText, HasPortZero, IsHelp, IsLineOf, IsNoC
 use Rattle.cue_keeper.specs.declared.fault.StoreFault.TheVariants as store
 use Rattle.cuectl.specs.declared.program.fault.ProgramFault.{ProgramFault}
 use Rattle.cuectl.specs.declared.program.fault.ProgramFault.TheVariants as program
-use Rattle.cuectl.specs.declared.script.ending.Failure.TheVariants.{Broken, Store}
+use Rattle.cue_script.specs.declared.ending.Failure.TheVariants.{Broken, Store}
 use Rattle.cuectl.specs.Endings.{done_status, program_status}
 use Rattle.cuectl.specs.Performing.{EndsSo, IsStateTold, NamesScript}
 use Rattle.cuectl.specs.ShowText.{show_text}
-use Rattle.cuectl.proofs.ScriptLemmas.{small_store}
+use Rattle.cue_script.proofs.ScriptLemmas.{small_store}
 
 -- the line of words that name a script is a script
 pub is_script : (o : Option (Text × List Row)) (line : Line) → IsLineOf o line → NamesScript o → line ≡ Script

@@ -1,16 +1,7 @@
 pub mod Added
-pub mod Alone
+pub mod Copies
 pub mod Endings
 pub mod Lines
-pub mod MemSources
 pub mod Performing
-pub mod Playing
-pub mod Running
-pub mod Script
-pub mod ScriptLines
-pub mod ScriptViews
 pub mod ShowText
-pub mod Sources
-pub mod Streams
-pub mod Udp
 pub mod Unread

@@ -6,7 +6,7 @@ use Rattle.cue_core.specs.State.{ShowState, empty_state}
 use Rattle.cuectl.specs.declared.line.words.Line.{Line}
 use Rattle.cuectl.specs.declared.line.words.Line.TheVariants.{Form, Serve, Show, Script}
 use Rattle.cuectl.specs.Lines.{IsLineOf, cuectl_app}
-use Rattle.cuectl.specs.Script.{HasRun}
+use Rattle.cue_script.specs.Script.{HasRun}
 use Rattle.cuectl.specs.ShowText.{show_text}
 
 -- what `form` prints

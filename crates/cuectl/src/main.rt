@@ -1,15 +1,11 @@
 //! `cuectl`: a two-phase cue controller for theatre machinery.
 #![tactic(auto)]
 
-mod evening_log;
 mod line;
 mod program;
-mod run;
-mod script;
 mod show_text;
 #[cfg(test)]
 mod tests;
-mod udp;
 
 use std::env;
 use std::io::{self, BufWriter, ErrorKind, Write};

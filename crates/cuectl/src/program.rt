@@ -5,27 +5,31 @@ ghost use Rattle.clap.specs.Words.{fault_of, subcommand_of};
 ghost use Rattle.cue_core.specs.State.{empty_state};
 ghost use Rattle.cuectl.specs.Lines.{AsksForText, IsHelp, IsNoCommand, cuectl_app};
 ghost use Rattle.cuectl.specs.Performing.{EndsSo, HasEnded, IsRunTold, IsStateTold, NamesScript, formed_text, turns_text};
-ghost use Rattle.cuectl.specs.Script.{HasRun};
+ghost use Rattle.cue_script.specs.Script.{HasRun};
 ghost use Rattle.cuectl.specs.ShowText.{show_text};
 ghost use Rattle.cuectl.specs.declared.line.words.LineFault.TheVariants.{Memory, Usage};
 ghost use Rattle.cuectl.specs.declared.program.fault.ProgramFault.TheVariants.{Io};
 
+mod copies;
 pub mod fault;
 mod files;
+mod lock;
+mod looking;
 
-use crate::evening_log::LoggedWire;
-use crate::evening_log::alone::StandbyLog;
+use copies::copied;
 use crate::line::line;
 use crate::line::words::{Line, LineFault};
-use crate::run::{Ended, RunFault, run_watched};
-use crate::script::script;
 use crate::show_text::show_text;
-use crate::udp::{UdpSource, UdpWire, local};
 use cue_core::State;
 use cue_disk::FileDisk;
 use cue_engine::Engine;
-use cue_keeper::{Fault, Keeper};
+use cue_evening::{EveningLog, LoggedWire, say_ready};
+use cue_keeper::Fault;
+use cue_run::{Ended, RunFault, UdpSource, UdpWire, local, run_watched};
+use cue_script::script;
 use fault::{ProgramFault, print_fault, status_of};
+use lock::lock_store;
+use looking::opened;
 use files::{create_both, open_both, refused_store, say, say_failures};
 use std::alloc::Global;
 use std::fs::{File, Files};
@@ -89,19 +93,6 @@ fn print_state<W: Write>(alloc: Global, state: &State, writer: &mut W) -> Result
     print(writer, &text)
 }
 
-// Opens the files of a folder as a store.
-fn opened<R: Files<File = File> + Eprint>(
-    rt: &R,
-    alloc: Global,
-    dir: &str,
-) -> Result<Keeper<FileDisk>, ProgramFault> {
-    let (first, second) = open_both(rt, alloc, dir)?;
-    match Keeper::open(alloc, first, second) {
-        Ok(keeper) => Ok(keeper),
-        Err(refused) => Err(refused_store(rt, dir, refused)),
-    }
-}
-
 // Prints the show of a folder.
 fn show<R: Files<File = File> + Eprint, W: Write>(
     rt: &R,
@@ -127,9 +118,9 @@ fn serve_on<'a, R: Clock + Eprint>(
     ensures { IfOk result (λ ended. ended.turns ≤ turns) }
 {
     let mut source = UdpSource::new(rt, socket, port)?;
-    let mut wire = LoggedWire::new(rt, alloc, UdpWire::new(socket));
-    let mut watch = StandbyLog::new(rt, alloc, engine.state().last_seq());
-    Ok(run_watched(alloc, engine, &mut source, &mut wire, turns, &mut watch))
+    let mut wire = LoggedWire::new(alloc, UdpWire::new(socket));
+    let mut log = EveningLog::new(rt, alloc);
+    Ok(run_watched(alloc, engine, &mut source, &mut wire, turns, &mut log))
 }
 
 // Why the port cannot be served.
@@ -138,20 +129,20 @@ fn refused_port<R: Eprint>(rt: &R, port: u16, why: io::Error) -> ProgramFault {
     ProgramFault::Net
 }
 
-// Binds the port, says that it is ready, and runs the show there.
+// Says that it is ready, and runs the show.
 fn serve_at<R: Net + Clock + Eprint>(
     rt: &R,
     alloc: Global,
     dir: &str,
     engine: &mut Engine<FileDisk>,
+    socket: &UdpSocket,
     port: u16,
     turns: u64,
 ) -> Result<Ended, ProgramFault>
     ensures { IfOk result (λ ended. ended.turns ≤ turns) }
 {
-    let socket = UdpSocket::bind(rt, local(port)).map_err(|why| refused_port(rt, port, why))?;
-    let _ = rt.eprintln(format_args!("cuectl: ready, {dir} at 127.0.0.1:{port}"));
-    serve_on(rt, alloc, engine, &socket, port, turns).map_err(|why| refused_port(rt, port, why))
+    say_ready(rt, dir, port);
+    serve_on(rt, alloc, engine, socket, port, turns).map_err(|why| refused_port(rt, port, why))
 }
 
 // Prints how a run ended.
@@ -200,20 +191,44 @@ fn finish<R: Eprint, W: Write>(
     }
 }
 
-// Opens the files of a folder and recovers their show.
-fn recovered<R: Files<File = File> + Eprint>(
+// Why a folder is not served whose port cannot be had: for a fault of its store, where it has one. Nothing is written.
+fn refused_unbound<R: Eprint>(
     rt: &R,
     alloc: Global,
     dir: &str,
-) -> Result<Engine<FileDisk>, ProgramFault> {
-    let (first, second) = open_both(rt, alloc, dir)?;
-    match Engine::recover(alloc, first, second) {
-        Ok(engine) => Ok(engine),
-        Err(refused) => Err(refused_store(rt, dir, refused)),
+    port: u16,
+    why: io::Error,
+    disks: (FileDisk, FileDisk),
+) -> ProgramFault {
+    let (mut first, mut second) = disks;
+    let refusal = match copied(alloc, &mut first, &mut second) {
+        Ok(copies) => copies.refusal(alloc),
+        Err(fault) => Some(fault),
+    };
+    match refusal {
+        Some(fault) => refused_store(rt, dir, (fault, first, second)),
+        None => refused_port(rt, port, why),
     }
 }
 
-// Runs the show of a folder at a port.
+// Binds the port, and then recovers the show of both files. Nothing is written before the port is bound.
+fn bound<R: Net + Eprint>(
+    rt: &R,
+    alloc: Global,
+    dir: &str,
+    port: u16,
+    disks: (FileDisk, FileDisk),
+) -> Result<(UdpSocket, Engine<FileDisk>), ProgramFault> {
+    match UdpSocket::bind(rt, local(port)) {
+        Ok(socket) => match Engine::recover(alloc, disks.0, disks.1) {
+            Ok(engine) => Ok((socket, engine)),
+            Err(refused) => Err(refused_store(rt, dir, refused)),
+        },
+        Err(why) => Err(refused_unbound(rt, alloc, dir, port, why, disks)),
+    }
+}
+
+// Runs the show of a folder at a port, and holds the lock of its store meanwhile.
 fn serve<R: Files<File = File> + Net + Clock + Eprint, W: Write>(
     rt: &R,
     alloc: Global,
@@ -224,8 +239,10 @@ fn serve<R: Files<File = File> + Net + Clock + Eprint, W: Write>(
 ) -> Result<(), ProgramFault>
     ensures { OnOk result (IsRunTold turns (W.contents writer.old) (W.contents writer.new)) }
 {
-    let mut engine = recovered(rt, alloc, dir)?;
-    match serve_at(rt, alloc, dir, &mut engine, port, turns) {
+    let disks = open_both(rt, alloc, dir)?;
+    let _lock = lock_store(rt, alloc, dir)?;
+    let (socket, mut engine) = bound(rt, alloc, dir, port, disks)?;
+    match serve_at(rt, alloc, dir, &mut engine, &socket, port, turns) {
         Ok(ended) => finish(rt, alloc, dir, engine, ended, writer),
         Err(fault) => {
             let_go(engine);

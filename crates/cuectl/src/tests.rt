@@ -1,11 +1,8 @@
 //! The program on files and sockets of its own. The table, the datagram and its reply are written by hand.
 use crate::program::perform;
-use crate::run::mem_source::{MemAnswer, MemSource};
-use crate::run::{Ended, RunFault, run};
-use crate::udp::{UdpSource, UdpWire, local};
-use cue_disk::{FileDisk, MemDisk};
-use cue_engine::{Engine, MemWire};
-use std::alloc::Global;
+use cue_disk::FileDisk;
+use cue_engine::Engine;
+use cue_run::{UdpSource, UdpWire, local, run};
 use std::fs::{self, File, Files};
 use std::io::Eprint;
 use std::net::{Net, UdpSocket};
@@ -147,48 +144,4 @@ fn a_datagram_is_answered_and_kept(rt: HostRuntime) -> Result<(), Fail> {
     )?;
     fs::remove_dir_all(&rt, "kept")?;
     Ok(())
-}
-
-// Takes the datagram and a tick from a source that then fails, and looks at what was sent.
-fn take_two(rt: &impl Abort, alloc: Global, engine: &mut Engine<MemDisk>) -> Result<(), Fail> {
-    let bytes = Vec::from_slice(alloc, &DEVICE)?;
-    let mut source = MemSource::new(vec![in alloc;
-        MemAnswer::Datagram {
-            now: 0,
-            from: 8000,
-            bytes
-        },
-        MemAnswer::Tick { now: 250 },
-        MemAnswer::Fault,
-    ]?);
-    let mut wire = MemWire::new(alloc);
-    let ended = run(alloc, engine, &mut source, &mut wire, 9);
-    let expected = Ended {
-        turns: 2,
-        unsent: 0,
-        fault: Some(RunFault::Source),
-    };
-    assert_eq!(rt; ended, expected);
-    match wire.sent() {
-        Some([reply]) => {
-            assert_eq!(rt; reply.to, 8000);
-            assert_eq!(rt; reply.bytes.as_slice(), MADE.as_slice());
-        }
-        _ => assert!(rt; false, "one datagram is sent"),
-    }
-    Ok(())
-}
-
-/// A run over a source, a wire and disks in memory takes what the source gives up to its fault, and sends its reply.
-#[test]
-fn a_run_in_memory(rt: HostRuntime) -> Result<(), Fail> {
-    let alloc = rt.alloc();
-    match Engine::form(alloc, MemDisk::new(alloc), MemDisk::new(alloc)) {
-        Ok(mut engine) => {
-            let took = take_two(&rt, alloc, &mut engine);
-            let_go(engine);
-            took
-        }
-        Err((fault, _, _)) => Err(Fail::from(fault)),
-    }
 }

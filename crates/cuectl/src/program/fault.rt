@@ -1,12 +1,12 @@
 //! Why a command was not carried out.
 ghost use Rattle.std.specs.Prelude.{◌≡◌, OnOk};
 ghost use Rattle.cuectl.specs.Endings.{done_status, program_line, program_status};
-ghost use Rattle.cuectl.specs.declared.script.ending.Failure.TheVariants.{Store};
+ghost use Rattle.cue_script.specs.declared.ending.Failure.TheVariants.{Store};
 ghost use Rattle.cuectl.specs.declared.program.fault.ProgramFault.TheVariants.{Failed};
 ghost use Rattle.cue_keeper.specs.declared.fault.StoreFault.TheVariants.{Memory};
 
-use crate::script::ending::Failure;
 use cue_keeper::{Fault, StoreFault};
+use cue_script::Failure;
 use std::alloc::AllocError;
 use std::io::Write;
 

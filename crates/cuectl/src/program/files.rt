@@ -12,11 +12,14 @@ pub fn say<R: Eprint, D: Display + Drop>(rt: &R, what: &str, why: D) {
     let _ = rt.eprintln(format_args!("cuectl: {what}: {why}"));
 }
 
-// The two files of a folder.
-fn paths(alloc: Global, dir: &str) -> Result<(String, String), AllocError> {
-    let first = format!(in alloc; "{dir}/a.area")?;
-    let second = format!(in alloc; "{dir}/b.area")?;
-    Ok((first, second))
+/// The first file of a folder, which is the one that is locked.
+pub fn first_path(alloc: Global, dir: &str) -> Result<String, AllocError> {
+    Ok(format!(in alloc; "{dir}/a.area")?)
+}
+
+// The second file of a folder.
+fn second_path(alloc: Global, dir: &str) -> Result<String, AllocError> {
+    Ok(format!(in alloc; "{dir}/b.area")?)
 }
 
 // Why a file was not opened.
@@ -45,7 +48,7 @@ pub fn open_both<R: Files<File = File> + Eprint>(
     alloc: Global,
     dir: &str,
 ) -> Result<(FileDisk, FileDisk), ProgramFault> {
-    let (first, second) = paths(alloc, dir)?;
+    let (first, second) = (first_path(alloc, dir)?, second_path(alloc, dir)?);
     Ok((
         open_one(rt, first.as_str())?,
         open_one(rt, second.as_str())?,
@@ -58,7 +61,7 @@ pub fn create_both<R: Files<File = File> + Eprint>(
     alloc: Global,
     dir: &str,
 ) -> Result<(FileDisk, FileDisk), ProgramFault> {
-    let (first, second) = paths(alloc, dir)?;
+    let (first, second) = (first_path(alloc, dir)?, second_path(alloc, dir)?);
     Ok((
         create_one(rt, first.as_str())?,
         create_one(rt, second.as_str())?,

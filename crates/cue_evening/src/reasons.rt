@@ -1,0 +1,116 @@
+//! The lines of attempts: what was recovered, why a preparation was given up, and how an attempt ended.
+use crate::course::{Cause, Failure, Followed};
+use cue_core::Event;
+use cue_exchange::{Attempt, Outcome, Reason, Stage};
+use cue_show::{CueNo, DeviceNo};
+use std::alloc::{AllocError, Global};
+use std::fmt::Write;
+
+// What a recovery found an attempt at, and what becomes of it.
+fn recovered_words(stage: Stage) -> &'static str {
+    match stage {
+        Stage::Preparing => "is preparing",
+        Stage::Decided => "was given, GO is sent again",
+        Stage::Cancelling(Reason::Power) => "was preparing, given up",
+        Stage::Cancelling(_) => "was given up, CANCEL is sent again",
+    }
+}
+
+/// The line of the attempts that are live after a recovery.
+pub fn recovered_line(alloc: Global, live: &[Attempt]) -> Result<String, AllocError> {
+    let mut text = format!(in alloc; "recovered: ")?;
+    for (place, attempt) in live.iter().enumerate() {
+        if place > 0 {
+            text.push_str("; ")?;
+        }
+        let cue = attempt.cue.text().escape_ascii();
+        let words = recovered_words(attempt.stage);
+        write!(text, "attempt {} cue {cue} {words}", attempt.seq)?;
+    }
+    Ok(text)
+}
+
+/// The device by which a preparation was given up, where the event at this place gives it up.
+pub fn device_behind(events: &[Event], place: usize) -> Option<DeviceNo> {
+    match events.split_at_checked(place) {
+        Some((_, [_, Event::Failed(_, device) | Event::LetGo(_, device), ..])) => Some(*device),
+        _ => None,
+    }
+}
+
+fn push_cue(text: &mut String, cue: Option<CueNo>) -> Result<(), AllocError> {
+    if let Some(cue) = cue {
+        write!(text, " cue {}", cue.text().escape_ascii())?;
+    }
+    Ok(())
+}
+
+fn push_device(
+    text: &mut String,
+    device: Option<DeviceNo>,
+    words: &'static str,
+) -> Result<(), AllocError> {
+    match device {
+        Some(device) => write!(text, "device {}{words}", device.number()),
+        None => write!(text, "a device{words}"),
+    }
+}
+
+/// The line of an attempt that is given up for a reason, by a device where it has one.
+pub fn cancel_line(
+    alloc: Global,
+    seq: u32,
+    cue: Option<CueNo>,
+    reason: Reason,
+    device: Option<DeviceNo>,
+) -> Result<String, AllocError> {
+    let mut text = format!(in alloc; "CANCEL attempt {seq}")?;
+    push_cue(&mut text, cue)?;
+    text.push_str(": ")?;
+    match reason {
+        Reason::Operator => text.push_str("the operator gave it up")?,
+        Reason::Deadline => text.push_str("ten seconds passed")?,
+        Reason::Abort => push_device(&mut text, device, " aborted")?,
+        Reason::Power => text.push_str("the power was lost")?,
+        Reason::Release => push_device(&mut text, device, " was released")?,
+    }
+    Ok(text)
+}
+
+fn cause_words(cause: Cause) -> &'static str {
+    match cause {
+        Cause::Aborted => "aborted",
+        Cause::Released => "was released",
+        Cause::Unseen => "failed",
+    }
+}
+
+fn outcome_words(outcome: Outcome) -> &'static str {
+    match outcome {
+        Outcome::Complete => "complete",
+        Outcome::Cancelled => "cancelled",
+        Outcome::Failed => "failed",
+    }
+}
+
+fn push_failures(text: &mut String, failures: &[Failure]) -> Result<(), AllocError> {
+    for failure in failures {
+        let words = cause_words(failure.cause);
+        write!(text, ", device {} {words}", failure.device.number())?;
+    }
+    Ok(())
+}
+
+/// The line of an attempt that has ended, at a moment in milliseconds since 1970.
+pub fn end_line(alloc: Global, followed: &Followed, now: u64) -> Result<String, AllocError> {
+    let cue = followed.cue.text().escape_ascii();
+    let words = outcome_words(followed.outcome());
+    let mut text = format!(in alloc; "END attempt {} cue {cue}: {words}", followed.seq)?;
+    if followed.stage.is_decided() {
+        push_failures(&mut text, followed.failures.as_slice())?;
+    }
+    let millis = now.saturating_sub(followed.since);
+    let tenths = millis % 1000 / 100;
+    write!(text, ", {}.{tenths} s after standby", millis / 1000)?;
+    Ok(text)
+}

@@ -1,0 +1,296 @@
+//! The lines of replies.
+use crate::busy::{held_device, waiting_devices};
+use crate::code_words::code_words;
+use crate::course::Cause;
+use crate::entry::Reply;
+use crate::names::{push_cues, push_devices, push_numbers};
+use cue_core::{Code, Event, State};
+use cue_exchange::{Attempt, Live};
+use cue_show::{CueNo, DeviceNo, Part, Parts};
+use std::alloc::{AllocError, Global};
+use std::fmt::Write;
+
+// Whether an address speaks to many.
+fn is_wide(address: &[u8]) -> bool {
+    address
+        .iter()
+        .any(|x| matches!(x, b'?' | b'*' | b'[' | b'{'))
+}
+
+// The cue that an address names, and the method with its slash.
+fn cue_in(address: &[u8]) -> Option<(CueNo, &[u8])> {
+    let named = address.strip_prefix(b"/cue/".as_slice())?;
+    let end = named.iter().position(|x| *x == b'/')?;
+    let (number, method) = named.split_at_checked(end)?;
+    Some((CueNo::read(number)?, method))
+}
+
+/// Why a device fails by what this address asks for.
+pub fn cause_in(address: &[u8]) -> Cause {
+    if address.ends_with(b"/abort".as_slice()) {
+        Cause::Aborted
+    } else if address.ends_with(b"/release".as_slice()) {
+        Cause::Released
+    } else {
+        Cause::Unseen
+    }
+}
+
+/// A reply, and what its line adds to its numbers.
+#[derive(Drop)]
+pub struct Answer<'a> {
+    pub reply: &'a Reply,
+    /// Whether the reply left.
+    pub is_sent: bool,
+    /// The events that its commands made.
+    pub made: &'a [Event],
+    /// The state on which its commands were judged, where that is known.
+    pub state: Option<&'a State>,
+}
+
+impl Answer<'_> {
+    /// The reply as its line says it.
+    pub fn text(&self, alloc: Global) -> Result<String, AllocError> {
+        let mut text = format!(in alloc; "{} asked ", self.reply.port)?;
+        self.push_address(&mut text)?;
+        self.push_counts(&mut text)?;
+        let more = self.more(alloc)?;
+        if !more.is_empty() {
+            write!(text, ": {}", more.as_str())?;
+        }
+        if !self.is_sent {
+            text.push_str(", the reply was not sent")?;
+        }
+        Ok(text)
+    }
+
+    fn push_address(&self, text: &mut String) -> Result<(), AllocError> {
+        if self.reply.address.is_empty() {
+            text.push_str("-")?;
+        } else {
+            write!(text, "{}", self.reply.address.escape_ascii())?;
+        }
+        Ok(())
+    }
+
+    // Whether the address speaks to many, and what was not made of it is no refusal in words: nothing was stood by
+    // there, or the arguments were those of another method.
+    fn has_bystanders(&self) -> bool {
+        let code = self.reply.code;
+        let applies = self.reply.made > 0 || self.reply.known > 0;
+        let is_aside = code == i32::from(Code::NotLive.number())
+            || code == i32::from(Code::Arguments.number());
+        applies && is_aside && is_wide(&self.reply.address)
+    }
+
+    fn push_counts(&self, text: &mut String) -> Result<(), AllocError> {
+        let reply = self.reply;
+        write!(text, ": made {} known {}", reply.made, reply.known)?;
+        if reply.refused == 1 && self.has_bystanders() {
+            text.push_str(", 1 other did not apply")?;
+        } else if reply.refused > 0 && self.has_bystanders() {
+            write!(text, ", {} others did not apply", reply.refused)?;
+        } else {
+            write!(text, " refused {}", reply.refused)?;
+            self.push_code(text)?;
+        }
+        Ok(())
+    }
+
+    fn push_code(&self, text: &mut String) -> Result<(), AllocError> {
+        let code = self.reply.code;
+        if self.reply.refused > 0 {
+            write!(text, ", code {code}, {}", code_words(code))?;
+        }
+        Ok(())
+    }
+
+    // What was made of the show, or who keeps the command from being made; empty where neither is known.
+    fn more(&self, alloc: Global) -> Result<String, AllocError> {
+        let mut more = String::new(alloc);
+        self.push_why(alloc, &mut more)?;
+        self.push_new(alloc, &mut more)?;
+        if is_wide(&self.reply.address) {
+            self.push_removed_devices(alloc, &mut more)?;
+            self.push_removed_cues(alloc, &mut more)?;
+            self.push_place(&mut more)?;
+        }
+        Ok(more)
+    }
+
+    fn push_why(&self, alloc: Global, more: &mut String) -> Result<(), AllocError> {
+        if self.reply.refused == 0 {
+            return Ok(());
+        }
+        match (self.state, cue_in(&self.reply.address)) {
+            (Some(state), Some((cue, method))) => {
+                push_refusal(alloc, more, state, self.reply.code, cue, method)
+            }
+            _ => Ok(()),
+        }
+    }
+
+    // The device and the cue that are new; a message makes one of each at most.
+    fn push_new(&self, alloc: Global, more: &mut String) -> Result<(), AllocError> {
+        for event in self.made {
+            match event {
+                Event::Device(device, port) => push_new_device(more, *device, *port)?,
+                Event::Cue(cue, parts) => push_new_cue(alloc, more, *cue, parts)?,
+                _ => {}
+            }
+        }
+        Ok(())
+    }
+
+    fn push_removed_devices(&self, alloc: Global, more: &mut String) -> Result<(), AllocError> {
+        let mut devices = Vec::new(alloc);
+        for event in self.made {
+            if let Event::NoDevice(device) = event {
+                devices.push(*device)?;
+            }
+        }
+        if !devices.is_empty() {
+            push_comma(more)?;
+            push_devices(more, &devices)?;
+            more.push_str(" removed")?;
+        }
+        Ok(())
+    }
+
+    fn push_removed_cues(&self, alloc: Global, more: &mut String) -> Result<(), AllocError> {
+        let mut cues = Vec::new(alloc);
+        for event in self.made {
+            if let Event::NoCue(cue) = event {
+                cues.push(*cue)?;
+            }
+        }
+        if !cues.is_empty() {
+            push_comma(more)?;
+            push_cues(more, &cues)?;
+            more.push_str(" removed")?;
+        }
+        Ok(())
+    }
+
+    // The cue that the operator was moved to last.
+    fn push_place(&self, more: &mut String) -> Result<(), AllocError> {
+        let mut place = None;
+        for event in self.made {
+            if let Event::Place(cue) = event {
+                place = Some(*cue);
+            }
+        }
+        if let Some(cue) = place {
+            push_comma(more)?;
+            write!(more, "the place is cue {}", cue.text().escape_ascii())?;
+        }
+        Ok(())
+    }
+}
+
+// Parts what follows from what stands there already.
+fn push_comma(more: &mut String) -> Result<(), AllocError> {
+    if !more.is_empty() {
+        more.push_str(", ")?;
+    }
+    Ok(())
+}
+
+fn push_new_device(more: &mut String, device: DeviceNo, port: u16) -> Result<(), AllocError> {
+    push_comma(more)?;
+    write!(more, "device {} at {port}", device.number())?;
+    Ok(())
+}
+
+// The devices of the parts that are optional, or of those that are required.
+fn devices_of(alloc: Global, parts: &Parts, optional: bool) -> Result<Vec<DeviceNo>, AllocError> {
+    parts
+        .as_slice()
+        .iter()
+        .filter(|x| x.optional == optional)
+        .map(|x| x.device)
+        .collect(alloc)
+}
+
+fn push_new_cue(
+    alloc: Global,
+    more: &mut String,
+    cue: CueNo,
+    parts: &Parts,
+) -> Result<(), AllocError> {
+    push_comma(more)?;
+    write!(more, "cue {}, ", cue.text().escape_ascii())?;
+    push_devices(more, &devices_of(alloc, parts, false)?)?;
+    let optional = devices_of(alloc, parts, true)?;
+    if !optional.is_empty() {
+        more.push_str(", optional ")?;
+        push_numbers(more, &optional)?;
+    }
+    Ok(())
+}
+
+// Who keeps a command at a cue from being made: behind a `go` that comes too early the devices that the attempt waits
+// for, behind a busy cue its attempt, or that of its device.
+fn push_refusal(
+    alloc: Global,
+    more: &mut String,
+    state: &State,
+    code: i32,
+    cue: CueNo,
+    method: &[u8],
+) -> Result<(), AllocError> {
+    let is_late = code == i32::from(Code::NotReady.number());
+    let is_busy = code == i32::from(Code::Busy.number());
+    if is_late && method == b"/go".as_slice() {
+        match state.live().of_cue(cue) {
+            Some(attempt) => push_waiting(alloc, more, attempt),
+            None => Ok(()),
+        }
+    } else if is_busy && (method == b"/standby".as_slice() || method == b"/remove".as_slice()) {
+        push_holder(more, state, cue)
+    } else {
+        Ok(())
+    }
+}
+
+fn push_waiting(alloc: Global, more: &mut String, attempt: &Attempt) -> Result<(), AllocError> {
+    if attempt.stage.is_cancelling() {
+        return more.push_str("the attempt was given up");
+    }
+    let devices = waiting_devices(alloc, attempt)?;
+    if devices.is_empty() {
+        return Ok(());
+    }
+    more.push_str("waiting for ")?;
+    push_devices(more, &devices)
+}
+
+fn push_holder(more: &mut String, state: &State, cue: CueNo) -> Result<(), AllocError> {
+    if let Some(attempt) = state.live().of_cue(cue) {
+        let number = cue.text().escape_ascii();
+        return write!(more, "cue {number} is in attempt {}", attempt.seq);
+    }
+    match state.show().parts(cue) {
+        Some(parts) => push_held(more, state.live(), parts.as_slice()),
+        None => Ok(()),
+    }
+}
+
+fn push_held(more: &mut String, live: &Live, parts: &[Part]) -> Result<(), AllocError> {
+    match held_device(live, parts) {
+        Some(device) => push_held_device(more, live, device),
+        None => Ok(()),
+    }
+}
+
+fn push_held_device(more: &mut String, live: &Live, device: DeviceNo) -> Result<(), AllocError> {
+    match live.of_device(device) {
+        Some(attempt) => {
+            let cue = attempt.cue.text().escape_ascii();
+            let number = device.number();
+            let seq = attempt.seq;
+            write!(more, "device {number} is in attempt {seq} of cue {cue}")
+        }
+        None => Ok(()),
+    }
+}

@@ -1,0 +1,4 @@
+pub mod MemSources
+pub mod Running
+pub mod Sources
+pub mod Udp

@@ -1,0 +1,17 @@
+//! The run of a show: where datagrams and ticks come from, where datagrams go, and the loop between them.
+#![tactic(auto)]
+
+pub mod laws;
+mod mem_source;
+mod source;
+#[cfg(test)]
+mod tests;
+mod turns;
+mod udp;
+mod watch;
+
+pub use mem_source::{MemAnswer, MemSource};
+pub use source::{Source, SourceFault, Turn};
+pub use turns::{Ended, RunFault, run, run_watched};
+pub use udp::{UdpSource, UdpWire, local};
+pub use watch::{Unwatched, Watch};

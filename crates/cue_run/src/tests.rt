@@ -1,0 +1,67 @@
+//! A run in memory. The datagram and its reply are written by hand.
+use crate::{Ended, MemAnswer, MemSource, RunFault, run};
+use cue_disk::MemDisk;
+use cue_engine::{Engine, MemWire};
+use std::alloc::Global;
+use std::process::Abort;
+use std::test::Fail;
+
+/// `/show/device` with 3 and 9001.
+const DEVICE: [u8; 28] = [
+    0x2f, 0x73, 0x68, 0x6f, 0x77, 0x2f, 0x64, 0x65, 0x76, 0x69, 0x63, 0x65, 0, 0, 0, 0, 0x2c, 0x69,
+    0x69, 0, 0, 0, 0, 3, 0, 0, 0x23, 0x29,
+];
+
+/// `/reply` with that address, one made and three zeros.
+const MADE: [u8; 48] = [
+    0x2f, 0x72, 0x65, 0x70, 0x6c, 0x79, 0, 0, 0x2c, 0x73, 0x69, 0x69, 0x69, 0x69, 0, 0, 0x2f, 0x73,
+    0x68, 0x6f, 0x77, 0x2f, 0x64, 0x65, 0x76, 0x69, 0x63, 0x65, 0, 0, 0, 0, 0, 0, 0, 1, 0, 0, 0, 0,
+    0, 0, 0, 0, 0, 0, 0, 0,
+];
+
+// Drops an engine. It stands apart, since what is dropped fills the goals of the function around it.
+fn let_go<T: Drop>(_engine: T) {}
+
+// Takes the datagram and a tick from a source that then fails, and looks at what was sent.
+fn take_two(rt: &impl Abort, alloc: Global, engine: &mut Engine<MemDisk>) -> Result<(), Fail> {
+    let bytes = Vec::from_slice(alloc, &DEVICE)?;
+    let mut source = MemSource::new(vec![in alloc;
+        MemAnswer::Datagram {
+            now: 0,
+            from: 8000,
+            bytes
+        },
+        MemAnswer::Tick { now: 250 },
+        MemAnswer::Fault,
+    ]?);
+    let mut wire = MemWire::new(alloc);
+    let ended = run(alloc, engine, &mut source, &mut wire, 9);
+    let expected = Ended {
+        turns: 2,
+        unsent: 0,
+        fault: Some(RunFault::Source),
+    };
+    assert_eq!(rt; ended, expected);
+    match wire.sent() {
+        Some([reply]) => {
+            assert_eq!(rt; reply.to, 8000);
+            assert_eq!(rt; reply.bytes.as_slice(), MADE.as_slice());
+        }
+        _ => assert!(rt; false, "one datagram is sent"),
+    }
+    Ok(())
+}
+
+/// A run over a source, a wire and disks in memory takes what the source gives up to its fault, and sends its reply.
+#[test]
+fn a_run_in_memory(rt: HostRuntime) -> Result<(), Fail> {
+    let alloc = rt.alloc();
+    match Engine::form(alloc, MemDisk::new(alloc), MemDisk::new(alloc)) {
+        Ok(mut engine) => {
+            let took = take_two(&rt, alloc, &mut engine);
+            let_go(engine);
+            took
+        }
+        Err((fault, _, _)) => Err(Fail::from(fault)),
+    }
+}

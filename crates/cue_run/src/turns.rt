@@ -1,0 +1,207 @@
+//! The run of a show: it takes what a source gives, and hands out what that owes.
+ghost use Rattle.std.specs.Prelude.{◌≡◌, ◌≤◌, ◌↔◌, [], length, Some, IfOk, OnOk, OnErr, IfErr, IsErrOf};
+ghost use Rattle.cue_core.specs.Steps.{folded};
+ghost use Rattle.cue_keeper.specs.Stands.{StandsAs};
+ghost use Rattle.cue_engine.specs.Given.{given};
+ghost use Rattle.cue_engine.specs.Inputs.{input_view};
+ghost use Rattle.cue_engine.specs.Words.{state_of, queue_of, first_of, second_of};
+ghost use Rattle.cue_run.specs.Running.{IsTaken, Turned, Ran, LeavesEither};
+
+use cue_disk::Disk;
+use cue_engine::{Engine, Input, Wire};
+use cue_keeper::Fault;
+use crate::source::{Source, Turn};
+use std::alloc::Global;
+use crate::watch::{Unwatched, Watch};
+
+/// The buffer is longer than the longest datagram, so that one that is too long is seen to be so.
+const BUFFER: usize = 4_100;
+
+/// Why a run ended before its turns and before its source did.
+#[derive(Clone, Copy, Debug, PartialEq, Eq)]
+pub enum RunFault {
+    /// The source failed.
+    Source,
+    /// The engine did not take what came.
+    Engine(Fault),
+}
+
+/// How a run ended.
+#[derive(Clone, Copy, Debug, PartialEq, Eq)]
+pub struct Ended {
+    /// How many inputs were taken.
+    pub turns: u64,
+    /// How many sends were refused; it stops at `u64::MAX`.
+    pub unsent: u64,
+    /// None where it had its turns or the source ended.
+    pub fault: Option<RunFault>,
+}
+
+// Takes an input and hands out what is owed then; answers how many sends were refused.
+fn take_one<D: Disk, W: Wire>(
+    engine: &mut Engine<D>,
+    wire: &mut W,
+    now: u64,
+    input: Input<'_>,
+) -> Result<u64, Fault>
+    requires { queue_of engine.old ≡ [] }
+    ensures taken { IfOk result (λ refused. IsTaken (state_of engine.old) now (input_view input.entry) (W.told wire.old) refused (state_of engine.new) (W.told wire.new)) }
+    ensures same_state { OnErr result (state_of engine.new ≡ state_of engine.old) }
+    ensures nothing_told { OnErr result (W.told wire.new ≡ W.told wire.old) }
+    ensures emptied { queue_of engine.new ≡ [] }
+    ensures first_honest { D.is_honest (first_of engine.new) ↔ D.is_honest (first_of engine.old) }
+    ensures second_honest { D.is_honest (second_of engine.new) ↔ D.is_honest (second_of engine.old) }
+    ensures stands { D.is_honest (first_of engine.old) → D.is_honest (second_of engine.old) → StandsAs (D.held (first_of engine.old)) (D.held (second_of engine.old)) (state_of engine.old)
+        → (IsErrOf result Fault.Disk → ⊥) → StandsAs (D.held (first_of engine.new)) (D.held (second_of engine.new)) (state_of engine.new) }
+    ensures leaves { D.is_honest (first_of engine.old) → D.is_honest (second_of engine.old) → StandsAs (D.held (first_of engine.old)) (D.held (second_of engine.old)) (state_of engine.old)
+        → OnErr result (LeavesEither (D.held (first_of engine.new)) (D.held (second_of engine.new)) (state_of engine.old) (folded (state_of engine.old) (given (state_of engine.old) now (input_view input.entry)).batch)) }
+{
+    match engine.take(now, input) {
+        Ok(_) => Ok(engine.hand_out(wire)),
+        Err(fault) => Err(fault),
+    }
+}
+
+// One turn. None: the source ended.
+fn turn_once<D: Disk, S: Source, W: Wire>(
+    engine: &mut Engine<D>,
+    source: &mut S,
+    wire: &mut W,
+    buffer: &mut [u8],
+) -> Result<Option<u64>, RunFault>
+    requires { queue_of engine.old ≡ [] }
+    ensures turned { Turned (length buffer.old) (S.left source.old) (S.left source.new) (state_of engine.old) (state_of engine.new) (W.told wire.old) (W.told wire.new)
+        (λ after. D.is_honest (first_of engine.old) → D.is_honest (second_of engine.old) → StandsAs (D.held (first_of engine.old)) (D.held (second_of engine.old)) (state_of engine.old)
+        → LeavesEither (D.held (first_of engine.new)) (D.held (second_of engine.new)) (state_of engine.old) after) result }
+    ensures emptied { queue_of engine.new ≡ [] }
+    ensures first_honest { D.is_honest (first_of engine.new) ↔ D.is_honest (first_of engine.old) }
+    ensures second_honest { D.is_honest (second_of engine.new) ↔ D.is_honest (second_of engine.old) }
+    ensures stands { D.is_honest (first_of engine.old) → D.is_honest (second_of engine.old) → StandsAs (D.held (first_of engine.old)) (D.held (second_of engine.old)) (state_of engine.old)
+        → (IsErrOf result (RunFault.Engine Fault.Disk) → ⊥) → StandsAs (D.held (first_of engine.new)) (D.held (second_of engine.new)) (state_of engine.new) }
+{
+    match source.next(buffer) {
+        Ok(Turn::End) => Ok(None),
+        Ok(Turn::Tick { now }) => match take_one(engine, wire, now, Input::Tick) {
+            Ok(refused) => Ok(Some(refused)),
+            Err(fault) => Err(RunFault::Engine(fault)),
+        },
+        Ok(Turn::Datagram { now, from, n }) => {
+            let bytes = &buffer[..n];
+            match take_one(engine, wire, now, Input::Datagram { from, bytes }) {
+                Ok(refused) => Ok(Some(refused)),
+                Err(fault) => Err(RunFault::Engine(fault)),
+            }
+        }
+        Err(_) => Err(RunFault::Source),
+    }
+}
+
+// Hands out what is owed, and then takes turns in order.
+fn run_turns<D: Disk, S: Source, W: Wire, V: Watch<W>>(
+    engine: &mut Engine<D>,
+    source: &mut S,
+    wire: &mut W,
+    watch: &mut V,
+    buffer: &mut [u8],
+    turns: u64,
+) -> Ended
+    ensures ran { Ran (length buffer.old) (S.left source.old) (state_of engine.old) (queue_of engine.old) (W.told wire.old) turns result.turns result.unsent result.fault
+        (S.left source.new) (state_of engine.new) (W.told wire.new)
+        (λ after. D.is_honest (first_of engine.old) → D.is_honest (second_of engine.old) → StandsAs (D.held (first_of engine.old)) (D.held (second_of engine.old)) (state_of engine.old)
+        → LeavesEither (D.held (first_of engine.new)) (D.held (second_of engine.new)) (state_of engine.new) after) }
+    ensures at_most { result.turns ≤ turns }
+    ensures emptied { queue_of engine.new ≡ [] }
+    ensures stands { D.is_honest (first_of engine.old) → D.is_honest (second_of engine.old) → StandsAs (D.held (first_of engine.old)) (D.held (second_of engine.old)) (state_of engine.old)
+        → (result.fault ≡ Some (RunFault.Engine Fault.Disk) → ⊥) → StandsAs (D.held (first_of engine.new)) (D.held (second_of engine.new)) (state_of engine.new) }
+{
+    let mut unsent = engine.hand_out(wire);
+    watch.look(engine.state(), &[], wire);
+    for taken in 0..turns {
+        match turn_once(engine, source, wire, buffer) {
+            Ok(Some(refused)) => {
+                unsent = unsent.saturating_add(refused);
+                watch.look(engine.state(), engine.last_batch(), wire);
+            }
+            Ok(None) => {
+                return Ended {
+                    turns: taken,
+                    unsent,
+                    fault: None,
+                };
+            }
+            Err(fault) => {
+                return Ended {
+                    turns: taken,
+                    unsent,
+                    fault: Some(fault),
+                };
+            }
+        }
+    }
+    Ended {
+        turns,
+        unsent,
+        fault: None,
+    }
+}
+
+/// Hands out what is owed, and then takes at most so many inputs, handing out after each what it owes. It ends at its
+/// turns, where the source ends, or at the first fault; nothing is handed out for an input that was not taken. After
+/// each input that was taken `watch` looks at the state.
+pub fn run_watched<D: Disk, S: Source, W: Wire, V: Watch<W>>(
+    alloc: Global,
+    engine: &mut Engine<D>,
+    source: &mut S,
+    wire: &mut W,
+    turns: u64,
+    watch: &mut V,
+) -> Ended
+    // What was taken is what the source gave first, the state and the wire are what the definition makes of it, and it
+    // ended for its reason.
+    ensures ran { Ran BUFFER (S.left source.old) (state_of engine.old) (queue_of engine.old) (W.told wire.old) turns result.turns result.unsent result.fault
+        (S.left source.new) (state_of engine.new) (W.told wire.new)
+        (λ after. D.is_honest (first_of engine.old) → D.is_honest (second_of engine.old) → StandsAs (D.held (first_of engine.old)) (D.held (second_of engine.old)) (state_of engine.old)
+        → LeavesEither (D.held (first_of engine.new)) (D.held (second_of engine.new)) (state_of engine.new) after) }
+    ensures at_most { result.turns ≤ turns }
+    ensures emptied { queue_of engine.new ≡ [] }
+    // Whatever a crash leaves of the disks then stands for that state alone, but where a disk failed.
+    ensures stands { D.is_honest (first_of engine.old) → D.is_honest (second_of engine.old) → StandsAs (D.held (first_of engine.old)) (D.held (second_of engine.old)) (state_of engine.old)
+        → (result.fault ≡ Some (RunFault.Engine Fault.Disk) → ⊥) → StandsAs (D.held (first_of engine.new)) (D.held (second_of engine.new)) (state_of engine.new) }
+{
+    match vec![in alloc; 0u8; BUFFER] {
+        Ok(mut buffer) => run_turns(engine, source, wire, watch, &mut buffer, turns),
+        Err(_) => {
+            let unsent = engine.hand_out(wire);
+            Ended {
+                turns: 0,
+                unsent,
+                fault: Some(RunFault::Engine(Fault::Memory)),
+            }
+        }
+    }
+}
+
+/// Hands out what is owed, and then takes at most so many inputs, handing out after each what it owes. It ends at its
+/// turns, where the source ends, or at the first fault; nothing is handed out for an input that was not taken. Nobody
+/// looks on.
+pub fn run<D: Disk, S: Source, W: Wire>(
+    alloc: Global,
+    engine: &mut Engine<D>,
+    source: &mut S,
+    wire: &mut W,
+    turns: u64,
+) -> Ended
+    // What was taken is what the source gave first, the state and the wire are what the definition makes of it, and it
+    // ended for its reason.
+    ensures ran { Ran BUFFER (S.left source.old) (state_of engine.old) (queue_of engine.old) (W.told wire.old) turns result.turns result.unsent result.fault
+        (S.left source.new) (state_of engine.new) (W.told wire.new)
+        (λ after. D.is_honest (first_of engine.old) → D.is_honest (second_of engine.old) → StandsAs (D.held (first_of engine.old)) (D.held (second_of engine.old)) (state_of engine.old)
+        → LeavesEither (D.held (first_of engine.new)) (D.held (second_of engine.new)) (state_of engine.new) after) }
+    ensures at_most { result.turns ≤ turns }
+    ensures emptied { queue_of engine.new ≡ [] }
+    // Whatever a crash leaves of the disks then stands for that state alone, but where a disk failed.
+    ensures stands { D.is_honest (first_of engine.old) → D.is_honest (second_of engine.old) → StandsAs (D.held (first_of engine.old)) (D.held (second_of engine.old)) (state_of engine.old)
+        → (result.fault ≡ Some (RunFault.Engine Fault.Disk) → ⊥) → StandsAs (D.held (first_of engine.new)) (D.held (second_of engine.new)) (state_of engine.new) }
+{
+    run_watched(alloc, engine, source, wire, turns, &mut Unwatched)
+}

@@ -1,0 +1,22 @@
+//! Who looks on while a show runs.
+ghost use Rattle.std.specs.Prelude.{◌≡◌};
+
+use cue_core::{Event, State};
+use cue_engine::Wire;
+
+/// Looks on while a show runs: after the first hand-out, and after each input that was taken and handed out. It can
+/// change neither the show nor what is sent.
+pub trait Watch<W: Wire> {
+    /// Looks at the state, at the events of the input that was taken (none at the first look), and at the wire, which
+    /// may have kept notes of what was sent.
+    fn look(&mut self, state: &State, batch: &[Event], wire: &mut W)
+        ensures told { W.told wire.new ≡ W.told wire.old };
+}
+
+/// Nobody looks on.
+#[derive(Drop)]
+pub struct Unwatched;
+
+impl<W: Wire> Watch<W> for Unwatched {
+    fn look(&mut self, _state: &State, _batch: &[Event], _wire: &mut W) {}
+}

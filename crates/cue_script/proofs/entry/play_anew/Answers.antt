@@ -1,0 +1,14 @@
+use Rattle.std.specs.Prelude.{[]}
+use Rattle.std.proofs.Common.{subst}
+use Rattle.cue_core.specs.State.{ShowState, empty_state}
+use Rattle.cue_script.specs.Script.{Wrote}
+use Rattle.cue_script.proofs.ScriptLemmas.{not_formed}
+use Rattle.cue_script.proofs.entry.play_anew.Goals as goal
+
+pub returns-in-Ok-clause-wrote : goal.returns-in-Ok-clause-wrote
+returns-in-Ok-clause-wrote g c =
+    let P : ShowState → Type 0 = λ s. Wrote c.play_lines.result s c.args.text.now [] (g.W.Write.contents c.args.writer.now) (g.W.Write.contents c.play_lines.new.writer) in
+    subst P c.in-Ok.ensures.state c.play_lines.ensures.wrote
+
+pub returns-clause-wrote : goal.returns-clause-wrote
+returns-clause-wrote g c = not_formed empty_state c.args.text.now (g.W.Write.contents c.args.writer.now) c.requires

@@ -1,0 +1,15 @@
+//! Scripts: lines of text that tell of datagrams, ticks and power loss, and what is sent for them.
+#![tactic(auto)]
+
+mod ending;
+mod entry;
+pub mod laws;
+mod line;
+mod play;
+mod print;
+mod stream;
+#[cfg(test)]
+mod tests;
+
+pub use ending::{Ending, Failure, StreamFailure};
+pub use entry::{SCRIPT_LIMIT, script};

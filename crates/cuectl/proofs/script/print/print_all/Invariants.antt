@@ -1,7 +1,0 @@
-use Rattle.std.specs.Prelude.{◌≡◌, map, take}
-use Rattle.cuectl.specs.ScriptViews.{sent_view}
-use Rattle.cuectl.specs.Script.{printed}
-use Rattle.cuectl.proofs.script.print.print_all.Given as goal
-
-abbrev pub invariant-loop-sent : goal.invariant-loop-sent
-invariant-loop-sent l = l.text.items ≡ printed (map sent_view (take l.sent-index l.all))

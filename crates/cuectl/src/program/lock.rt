@@ -1,0 +1,69 @@
+//! The lock that a `serve` holds on a store for as long as it runs. It keeps another `serve` from the store, and
+//! nothing else: it is a help, and no promise.
+use super::fault::ProgramFault;
+use super::files::{first_path, say};
+use std::alloc::Global;
+use std::fs::{File, Files, OpenOptions, TryLockError};
+use std::io::{self, Eprint};
+
+/// How many times the lock is asked for. A `show` may hold it for a moment; a `serve` holds it for as long as it runs.
+const LOCK_TRIES: u32 = 1_000;
+
+/// The lock of a store: held until it is dropped, and by no process that has ended.
+#[derive(Drop)]
+pub struct StoreLock {
+    // `None`: the file system knows no locks
+    _file: Option<File>,
+}
+
+// Asks for the lock, some times where another holds it.
+fn ask(file: &File) -> Result<(), TryLockError> {
+    for _ in 1..LOCK_TRIES {
+        match file.try_lock() {
+            Err(TryLockError::WouldBlock) => {}
+            answer => return answer,
+        }
+    }
+    file.try_lock()
+}
+
+// The file that is locked, opened once more: a lock belongs to an opening of its own.
+fn open<R: Files<File = File>>(rt: &R, path: &str) -> io::Result<File> {
+    OpenOptions::new().read(true).write(true).open(rt, path)
+}
+
+/// Takes the lock of a store, before anything of it is read or written. `Io` where another `serve` holds it. Where the
+/// file system knows no locks, standard error says so, and the store is served without one.
+pub fn lock_store<R: Files<File = File> + Eprint>(
+    rt: &R,
+    alloc: Global,
+    dir: &str,
+) -> Result<StoreLock, ProgramFault> {
+    let path = first_path(alloc, dir)?;
+    let file = open(rt, path.as_str()).map_err(|why| {
+        say(rt, path.as_str(), why);
+        ProgramFault::Io
+    })?;
+    match ask(&file) {
+        Ok(()) => Ok(StoreLock { _file: Some(file) }),
+        Err(TryLockError::WouldBlock) => {
+            say(rt, dir, "another serve has this store");
+            Err(ProgramFault::Io)
+        }
+        Err(TryLockError::Error(why)) => {
+            say(rt, dir, format_args!("the store is not locked against another serve: {why}"));
+            Ok(StoreLock { _file: None })
+        }
+    }
+}
+
+/// Whether a `serve` holds the lock of a store now. Where that cannot be known, none does.
+pub fn is_served<R: Files<File = File>>(rt: &R, alloc: Global, dir: &str) -> bool {
+    let Ok(path) = first_path(alloc, dir) else {
+        return false;
+    };
+    match open(rt, path.as_str()) {
+        Ok(file) => matches!(&file.try_lock_shared(), Err(TryLockError::WouldBlock)),
+        Err(_) => false,
+    }
+}

@@ -1,0 +1,72 @@
+//! How `show` reads a store that another process may serve meanwhile: again, where what it read may be of two moments.
+use super::copies::{copied_at_once, is_read_again};
+use super::fault::ProgramFault;
+use super::files::{open_both, refused_store, say};
+use super::lock::is_served;
+use cue_disk::{FileDisk, MemDisk};
+use cue_keeper::{Keeper, StoreFault};
+use std::alloc::Global;
+use std::fs::{File, Files};
+use std::io::Eprint;
+
+/// How many times both files are read at most.
+const READINGS: u32 = 10;
+
+/// What a reading of both files gave.
+enum Seen {
+    /// The store.
+    Whole(Keeper<MemDisk>),
+    /// The store is refused.
+    Refused(StoreFault),
+    /// A file was turned over while they were read.
+    Changing,
+}
+
+// Reads both files once.
+fn look(alloc: Global, first: &mut FileDisk, second: &mut FileDisk) -> Seen {
+    match copied_at_once(alloc, first, second) {
+        Ok(Some(copies)) => match copies.open(alloc) {
+            Ok(keeper) => Seen::Whole(keeper),
+            Err(fault) => Seen::Refused(fault),
+        },
+        Ok(None) => Seen::Changing,
+        Err(fault) => Seen::Refused(fault),
+    }
+}
+
+// Reads both files until the answer is one of a single moment, `READINGS` times at most. What a store at rest answers
+// is answered at once.
+fn look_again<R: Files<File = File>>(
+    rt: &R,
+    alloc: Global,
+    dir: &str,
+    first: &mut FileDisk,
+    second: &mut FileDisk,
+) -> Seen {
+    for _ in 1..READINGS {
+        match look(alloc, first, second) {
+            Seen::Changing => {}
+            Seen::Refused(fault) if is_read_again(fault) && is_served(rt, alloc, dir) => {}
+            seen => return seen,
+        }
+    }
+    look(alloc, first, second)
+}
+
+/// Opens the store of a folder in memory. Nothing is written to its files, and no sync is sent to them. `Io` where they
+/// were turned over at each reading.
+pub fn opened<R: Files<File = File> + Eprint>(
+    rt: &R,
+    alloc: Global,
+    dir: &str,
+) -> Result<Keeper<MemDisk>, ProgramFault> {
+    let (mut first, mut second) = open_both(rt, alloc, dir)?;
+    match look_again(rt, alloc, dir, &mut first, &mut second) {
+        Seen::Whole(keeper) => Ok(keeper),
+        Seen::Refused(fault) => Err(refused_store(rt, dir, (fault, first, second))),
+        Seen::Changing => {
+            say(rt, dir, "the files change while they are read; ask again");
+            Err(ProgramFault::Io)
+        }
+    }
+}

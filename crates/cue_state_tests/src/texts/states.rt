@@ -1,8 +1,8 @@
 //! States that are read and written again, and bytes that are the text of none.
 
 use super::{assert_bytes, bytes, halves, told};
-use crate::{Batch, ReadFault, StateFault, read_batch, read_state, write_state};
 use cue_core::{Event, State};
+use cue_records::{Batch, ReadFault, StateFault, read_batch, read_state, write_state};
 use std::alloc::{AllocError, Global};
 use std::process::Abort;
 use std::test::Fail;

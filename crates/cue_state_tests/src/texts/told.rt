@@ -1,8 +1,8 @@
 //! Events and states in words.
 
-use crate::Batch;
 use cue_core::{Ended, Event, State};
 use cue_exchange::{Attempt, Live, Reason};
+use cue_records::Batch;
 use cue_show::{CueNo, DeviceNo, Parts, Show};
 use std::alloc::{AllocError, Global};
 

@@ -1,7 +1,7 @@
 //! Optional devices: the table of replies and releases for one of them, and cues that go with it and without it.
 
 use super::{run, run_each};
-use crate::State;
+use cue_core::State;
 use cue_exchange::{Answer, Answers, Attempt, DeviceAnswer, Live, Stage};
 use cue_show::{CueNo, DeviceNo, Show};
 use std::alloc::Global;

@@ -1,7 +1,7 @@
 //! Bytes that are the text of no batch.
 
 use super::{bytes, halves};
-use crate::{ReadFault, StateFault, read_batch};
+use cue_records::{ReadFault, StateFault, read_batch};
 use std::alloc::{AllocError, Global};
 use std::fmt::Display;
 use std::process::Abort;

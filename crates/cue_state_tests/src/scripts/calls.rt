@@ -5,8 +5,7 @@ ghost use Rattle.cue_core.specs.Steps.{are_acceptable};
 
 use super::reading::Request;
 use super::{SHOW, expect, judge_only, remade, run, run_both, run_each, told};
-use crate::event::Ended;
-use crate::{Code, Command, Event, Events, State, Verdict, judge};
+use cue_core::{Code, Command, Ended, Event, Events, State, Verdict, judge};
 use cue_exchange::{Outcome, Reason};
 use cue_show::DeviceNo;
 use std::alloc::{AllocError, Global};

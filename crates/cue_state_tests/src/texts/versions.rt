@@ -2,8 +2,8 @@
 
 use super::states::{assert_line, assert_refused, assert_whole};
 use super::{assert_bytes, bytes, halves};
-use crate::{ReadFault, StateFault, read_batch, read_state, write_batch, write_state};
 use cue_core::State;
+use cue_records::{ReadFault, StateFault, read_batch, read_state, write_batch, write_state};
 use cue_show::Bytes;
 use std::alloc::{AllocError, Global};
 use std::process::Abort;

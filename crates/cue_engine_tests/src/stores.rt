@@ -1,7 +1,7 @@
 // Kept states by worked examples: the bytes of both disks, each refusal, and what a stop or a fault leaves.
-use super::*;
 use cue_core::Event;
 use cue_disk::MemDisk;
+use cue_keeper::{Fault, Keeper, StoreFault};
 use cue_log::PAYLOAD_LIMIT;
 use cue_records::batch_len;
 use cue_show::{CueNo, DeviceNo};

@@ -1,7 +1,7 @@
 // Whole datagrams by worked examples: what is counted, what is handed over, the bytes of both disks, and what a stop
 // leaves. The expected bytes were written by hand.
-use crate::{Engine, Input, MemWire, Taken};
 use cue_disk::MemDisk;
+use cue_engine::{Engine, Input, MemWire, Taken};
 use cue_keeper::{Fault, StoreFault};
 use std::alloc::{AllocError, Global};
 use std::process::Abort;

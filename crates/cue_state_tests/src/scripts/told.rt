@@ -1,6 +1,6 @@
 //! Verdicts, events and states in words.
 
-use crate::{Ended, Event, Events, State, Verdict};
+use cue_core::{Ended, Event, Events, State, Verdict};
 use cue_exchange::{Attempt, DeviceAnswer, Live, Reason};
 use cue_show::{CueNo, DeviceNo, Part, Parts, Show};
 use std::alloc::{AllocError, Global};

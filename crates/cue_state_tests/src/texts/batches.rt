@@ -1,9 +1,9 @@
 //! Batches that are read, measured and written again.
 
 use super::{assert_bytes, bytes, halves, told};
-use crate::laws::acceptable_events_fit;
-use crate::{Batch, ReadFault, batch_len, read_batch, write_batch};
 use cue_core::{Event, State};
+use cue_records::laws::acceptable_events_fit;
+use cue_records::{Batch, ReadFault, batch_len, read_batch, write_batch};
 use cue_show::{Bytes, CueNo, DeviceNo, Part, Parts};
 use std::alloc::{AllocError, Global};
 use std::process::Abort;

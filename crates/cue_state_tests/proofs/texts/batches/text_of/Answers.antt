@@ -1,6 +1,6 @@
 use Rattle.std.proofs.Common.{◌≡◌, [], ◌∷◌, true, refl}
 use Rattle.cue_core.specs.Steps.{acceptable}
-use Rattle.cue_records.proofs.tests.batches.text_of.Goals as goal
+use Rattle.cue_state_tests.proofs.texts.batches.text_of.Goals as goal
 
 pub write_batch-requires : goal.write_batch-requires
 write_batch-requires c =

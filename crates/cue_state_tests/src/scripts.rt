@@ -7,7 +7,7 @@
 //! `tick` of the clock at a moment; a recovery from `power` loss; or what of the state is asked for: `state`, `live`
 //! or `undecided`. A part is a device and its bytes: `3:up` a required one, `4?up` an optional one.
 
-use crate::{Ended, Event, Events, State, Verdict, judge, undecided};
+use cue_core::{Ended, Event, Events, State, Verdict, judge, undecided};
 use cue_exchange::Reason;
 use reading::Request;
 use std::alloc::{AllocError, Global};

@@ -1,6 +1,6 @@
 //! Commands and events from their words.
 
-use crate::{Command, Event, ReplyKind};
+use cue_core::{Command, Event, ReplyKind};
 use cue_exchange::Reason;
 use cue_show::{CueNo, DeviceNo, Part, Parts};
 use std::alloc::Global;

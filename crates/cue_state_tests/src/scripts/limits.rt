@@ -1,7 +1,7 @@
 //! The limits: of cues, of live attempts, of the clock and of the sequence numbers.
 
 use super::{SHOW, apply, reading, remade, run};
-use crate::State;
+use cue_core::State;
 use std::alloc::{AllocError, Global};
 use std::process::Abort;
 use std::test::Fail;

@@ -1,7 +1,7 @@
 // Pairs of areas by worked examples: their bytes, each refusal, and what a stop or a fault leaves.
-use super::*;
 use cue_disk::MemDisk;
 use cue_log::{AppendFault, Record};
+use cue_snap::{FormFault, OpenFault, Opened2, Snap, TurnOverFault};
 use std::alloc::Global;
 use std::process::Abort;
 use std::test::Fail;

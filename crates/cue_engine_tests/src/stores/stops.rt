@@ -14,11 +14,13 @@ enum Side {
     Second,
 }
 
-// What stands on the two disks before a batch.
+// What stands on the two disks before a batch, and whether the first byte that a crash may change then takes each value,
+// or four alone. Of a turn-over the other values are tried at pairs of areas, where to open one is cheap.
 #[derive(Clone, Copy)]
 struct Scene<'a> {
     first: &'a [u8],
     second: &'a [u8],
+    each_value: bool,
 }
 
 // How many calls opening a store makes on each disk.
@@ -81,25 +83,80 @@ fn leaves(
 }
 
 // Each byte as the first one that the crash may change.
-fn leaves_each_first(rt: &impl Abort, alloc: Global, kept: &Answered) -> Result<(), Fail> {
-    for extra in [0, 1, u64::MAX] {
-        for first in 0..=255u8 {
-            leaves(rt, alloc, kept, extra, &[first])?;
-        }
+fn leaves_each_first(
+    rt: &impl Abort,
+    alloc: Global,
+    kept: &Answered,
+    extra: u64,
+) -> Result<(), Fail> {
+    for first in 0..=255u8 {
+        leaves(rt, alloc, kept, extra, &[first])?;
     }
     Ok(())
 }
 
 // One byte at all others.
-fn leaves_each_other(rt: &impl Abort, alloc: Global, kept: &Answered) -> Result<(), Fail> {
-    for extra in [0, 1, u64::MAX] {
-        for other in [0u8, 1, 255] {
-            let mut junk = [other; 64];
-            for first in [0u8, 1, 2, 255] {
-                junk[0] = first;
-                leaves(rt, alloc, kept, extra, &junk)?;
-            }
+fn leaves_each_other(
+    rt: &impl Abort,
+    alloc: Global,
+    kept: &Answered,
+    extra: u64,
+) -> Result<(), Fail> {
+    for other in [0u8, 1, 255] {
+        let mut junk = [other; 64];
+        for first in [0u8, 1, 2, 255] {
+            junk[0] = first;
+            leaves(rt, alloc, kept, extra, &junk)?;
         }
+    }
+    Ok(())
+}
+
+// Whether a crash that leaves so many bytes more than were synced may change one.
+fn may_change(rt: &impl Abort, disk: &MemDisk, extra: u64) -> bool {
+    let zero = disk.crash(extra, &[0]).expect(rt, "an image");
+    let one = disk.crash(extra, &[1]).expect(rt, "an image");
+    zero.bytes() != one.bytes()
+}
+
+// Whatever a crash leaves that keeps so many bytes more than were synced.
+fn leaves_with(
+    rt: &impl Abort,
+    alloc: Global,
+    kept: &Answered,
+    extra: u64,
+    each_value: bool,
+) -> Result<(), Fail> {
+    if !may_change(rt, &kept.first, extra) && !may_change(rt, &kept.second, extra) {
+        return leaves(rt, alloc, kept, extra, &[]);
+    }
+    if each_value {
+        leaves_each_first(rt, alloc, kept, extra)?;
+    }
+    leaves_each_other(rt, alloc, kept, extra)
+}
+
+// How long the two disks are that such a crash leaves.
+fn lengths(rt: &impl Abort, kept: &Answered, extra: u64) -> (usize, usize) {
+    let first = kept.first.crash(extra, &[]).expect(rt, "an image");
+    let second = kept.second.crash(extra, &[]).expect(rt, "an image");
+    (first.bytes().len(), second.bytes().len())
+}
+
+// Whatever a crash leaves. Images of the same lengths are the same, and are opened once.
+fn leaves_each(
+    rt: &impl Abort,
+    alloc: Global,
+    kept: &Answered,
+    each_value: bool,
+) -> Result<(), Fail> {
+    let mut before = None;
+    for extra in [0, 1, u64::MAX] {
+        let found = lengths(rt, kept, extra);
+        if before != Some(found) {
+            leaves_with(rt, alloc, kept, extra, each_value)?;
+        }
+        before = Some(found);
     }
     Ok(())
 }
@@ -114,8 +171,7 @@ fn troubles(
 ) -> Result<u64, Fail> {
     for k in 1..40u64 {
         let kept = troubled(alloc, scene, side, trouble, k)?;
-        leaves_each_first(rt, alloc, &kept)?;
-        leaves_each_other(rt, alloc, &kept)?;
+        leaves_each(rt, alloc, &kept, scene.each_value)?;
         if kept.answer.is_ok() {
             return Ok(k - 1);
         }
@@ -142,25 +198,31 @@ fn has_calls(
 #[test]
 fn a_batch_with_trouble_at_each_call(rt: HostRuntime) -> Result<(), Fail> {
     let alloc = rt.alloc();
-    let live = area(alloc, 1, 59)?;
+    let live = area(alloc, 1, 1)?;
     let scene = Scene {
         first: &live,
         second: &[],
+        each_value: true,
     };
     // the record, a sync, its gate, a sync
     has_calls(&rt, alloc, scene, 4, 0)
 }
 
-#[test]
-fn a_turn_over_with_trouble_at_each_call(rt: HostRuntime) -> Result<(), Fail> {
-    let alloc = rt.alloc();
+// The 257th batch on a first area, with these bytes on the second disk.
+fn first_turn_over(rt: &impl Abort, alloc: Global, second: &[u8]) -> Result<(), Fail> {
     let live = area(alloc, 1, 253)?;
     let scene = Scene {
         first: &live,
-        second: &[],
+        second,
+        each_value: false,
     };
-    // what closes and forms an area comes before those four
-    has_calls(&rt, alloc, scene, 0, 14)
+    // what closes and forms an area comes before the four of a batch
+    has_calls(rt, alloc, scene, 0, 14)
+}
+
+#[test]
+fn a_turn_over_with_trouble_at_each_call(rt: HostRuntime) -> Result<(), Fail> {
+    first_turn_over(&rt, rt.alloc(), &[])
 }
 
 #[test]
@@ -172,6 +234,7 @@ fn a_second_turn_over_with_trouble_at_each_call(rt: HostRuntime) -> Result<(), F
     let scene = Scene {
         first: &older,
         second: &live,
+        each_value: false,
     };
     has_calls(&rt, alloc, scene, 15, 0)
 }
@@ -181,13 +244,7 @@ const TORN: [u8; 16] = [0, 1, 1, 1, 1, 0xff, 0xff, 0, 1, 1, 0, 0, 0, 0, 1, 1];
 
 #[test]
 fn a_turn_over_after_a_torn_one(rt: HostRuntime) -> Result<(), Fail> {
-    let alloc = rt.alloc();
-    let live = area(alloc, 1, 253)?;
-    let scene = Scene {
-        first: &live,
-        second: &TORN,
-    };
-    has_calls(&rt, alloc, scene, 0, 14)
+    first_turn_over(&rt, rt.alloc(), &TORN)
 }
 
 // Forms a store on two disks of which one has trouble at the k-th call, and hands them back.

@@ -51,25 +51,88 @@ fn is(pair: &Opened2<MemDisk>, want: Want) -> bool {
         && pair.tail.count() == want.tail
 }
 
-// Whatever a crash leaves of two disks is opened as the one or as the other.
-fn leave(
-    rt: &impl Abort,
-    alloc: Global,
-    a: &MemDisk,
-    b: &MemDisk,
-    before: Want,
-    after: Want,
-) -> Result<(), Fail> {
-    for extra in [0, 1, u64::MAX] {
-        for junk in [0u8, 1, 2, 255] {
-            let pair = opened(alloc, a.crash(extra, &[junk])?, b.crash(extra, &[junk])?)?;
-            assert!(rt;
-                is(&pair, before) || is(&pair, after),
-                "{extra} bytes more, {junk}"
-            );
+// A crash of two disks: how many bytes it leaves more than were synced, and what the pair may be opened as then. Where
+// `before` is None, there may be no area.
+#[derive(Clone, Copy)]
+struct Crash<'a> {
+    first: &'a MemDisk,
+    second: &'a MemDisk,
+    extra: u64,
+    before: Option<Want<'a>>,
+    after: Want<'a>,
+}
+
+// A crash of these disks.
+fn crash<'a>(
+    disks: &'a (MemDisk, MemDisk),
+    before: Option<Want<'a>>,
+    after: Want<'a>,
+) -> Crash<'a> {
+    let (first, second) = disks;
+    Crash {
+        first,
+        second,
+        extra: 0,
+        before,
+        after,
+    }
+}
+
+// The images that it leaves with this junk.
+fn images(rt: &impl Abort, crash: Crash, junk: &[u8]) -> (MemDisk, MemDisk) {
+    let first = crash.first.crash(crash.extra, junk).expect(rt, "an image");
+    let second = crash.second.crash(crash.extra, junk).expect(rt, "an image");
+    (first, second)
+}
+
+// They are opened as the one or as the other.
+fn leaves(rt: &impl Abort, alloc: Global, crash: Crash, junk: &[u8]) {
+    let (first, second) = images(rt, crash, junk);
+    let fits = match (opened(alloc, first, second), crash.before) {
+        (Ok(pair), Some(before)) => is(&pair, before) || is(&pair, crash.after),
+        (Ok(pair), None) => is(&pair, crash.after),
+        (Err(fault), before) => before.is_none() && fault == OpenFault::Unformed,
+    };
+    assert!(rt; fits, "{} bytes more, {junk:?}", crash.extra);
+}
+
+// Each byte as the first one that the crash may change.
+fn leaves_each_first(rt: &impl Abort, alloc: Global, crash: Crash) {
+    for first in 0..=255u8 {
+        leaves(rt, alloc, crash, &[first]);
+    }
+}
+
+// One byte at all others.
+fn leaves_each_other(rt: &impl Abort, alloc: Global, crash: Crash) {
+    for other in [0u8, 1, 255] {
+        let mut junk = [other; 64];
+        for first in [0u8, 1, 2, 255] {
+            junk[0] = first;
+            leaves(rt, alloc, crash, &junk);
         }
     }
-    Ok(())
+}
+
+// How long the images are.
+fn lengths(rt: &impl Abort, crash: Crash) -> (usize, usize) {
+    let (first, second) = images(rt, crash, &[]);
+    (first.bytes().len(), second.bytes().len())
+}
+
+// Whatever a crash leaves of two disks is opened as the one or as the other. Images of the same lengths are the same,
+// and are opened once.
+fn leave(rt: &impl Abort, alloc: Global, crash: Crash) {
+    let mut last = None;
+    for extra in [0, 1, u64::MAX] {
+        let crash = Crash { extra, ..crash };
+        let found = lengths(rt, crash);
+        if last != Some(found) {
+            leaves_each_first(rt, alloc, crash);
+            leaves_each_other(rt, alloc, crash);
+        }
+        last = Some(found);
+    }
 }
 
 const FORMED_ONCE: Want<'static> = Want {
@@ -107,13 +170,13 @@ fn append_calls(
     for k in 1..=20u64 {
         let mut snap = troubled(alloc, &FORMED, &[], on_first, trouble, k)?;
         let done = snap.append(&added);
-        let (a, b) = snap.close();
+        let disks = snap.close();
         if done.is_ok() {
-            leave(rt, alloc, &a, &b, APPENDED_ONCE, APPENDED_ONCE)?;
+            leave(rt, alloc, crash(&disks, Some(APPENDED_ONCE), APPENDED_ONCE));
             return Ok(k - 1);
         }
         assert_eq!(rt; done, Err(AppendFault::Disk));
-        leave(rt, alloc, &a, &b, FORMED_ONCE, APPENDED_ONCE)?;
+        leave(rt, alloc, crash(&disks, Some(FORMED_ONCE), APPENDED_ONCE));
     }
     Err("trouble at each call".into())
 }
@@ -129,64 +192,92 @@ fn an_append_with_trouble_at_each_call(rt: HostRuntime) -> Result<(), Fail> {
     Ok(())
 }
 
-// The same of a turn-over on an empty disk.
-fn first_turn_calls(
+// What stands on the spare disk before a turn-over, and what comes of it.
+#[derive(Clone, Copy)]
+struct Turn {
+    spare: &'static [u8],
+    snapshot: &'static [u8],
+    before: Want<'static>,
+    after: Want<'static>,
+}
+
+// The first turn-over, on an empty disk.
+const FIRST: Turn = Turn {
+    spare: &[],
+    snapshot: &[5],
+    before: APPENDED_ONCE,
+    after: TURNED_ONCE,
+};
+
+// The first turn-over behind one that a crash tore: a body behind a gate that is not open.
+const BEHIND_TORN: Turn = Turn {
+    spare: &[0, 1, 1, 1, 1, 0xff, 0xff, 0, 1, 1, 0, 0, 0, 0, 1, 1],
+    ..FIRST
+};
+
+// The second turn-over, on the disk that has the older area.
+const SECOND: Turn = Turn {
+    spare: &TURNED,
+    snapshot: &[6],
+    before: TURNED_ONCE,
+    after: TURNED_TWICE,
+};
+
+// The same of a turn-over.
+fn turn_calls(
     rt: &impl Abort,
     alloc: Global,
+    turn: Turn,
     on_first: bool,
     trouble: Trouble,
 ) -> Result<u64, Fail> {
     for k in 1..=20u64 {
-        let mut snap = troubled(alloc, &APPENDED, &[], on_first, trouble, k)?;
-        let done = snap.turn_over(&[5]);
-        let (a, b) = snap.close();
+        let mut snap = troubled(alloc, &APPENDED, turn.spare, on_first, trouble, k)?;
+        let done = snap.turn_over(turn.snapshot);
+        let disks = snap.close();
         if done.is_ok() {
-            leave(rt, alloc, &a, &b, TURNED_ONCE, TURNED_ONCE)?;
+            leave(rt, alloc, crash(&disks, Some(turn.after), turn.after));
             return Ok(k - 1);
         }
         assert_eq!(rt; done, Err(TurnOverFault::Disk));
-        leave(rt, alloc, &a, &b, APPENDED_ONCE, TURNED_ONCE)?;
+        leave(rt, alloc, crash(&disks, Some(turn.before), turn.after));
     }
     Err("trouble at each call".into())
 }
 
-// The same of a turn-over on a disk that has the older area.
-fn second_turn_calls(
-    rt: &impl Abort,
-    alloc: Global,
-    on_first: bool,
-    trouble: Trouble,
-) -> Result<u64, Fail> {
-    for k in 1..=20u64 {
-        let mut snap = troubled(alloc, &APPENDED, &TURNED, on_first, trouble, k)?;
-        let done = snap.turn_over(&[6]);
-        let (a, b) = snap.close();
-        if done.is_ok() {
-            leave(rt, alloc, &a, &b, TURNED_TWICE, TURNED_TWICE)?;
-            return Ok(k - 1);
-        }
-        assert_eq!(rt; done, Err(TurnOverFault::Disk));
-        leave(rt, alloc, &a, &b, TURNED_ONCE, TURNED_TWICE)?;
-    }
-    Err("trouble at each call".into())
-}
-
-#[test]
-fn a_turn_over_with_trouble_at_each_call(rt: HostRuntime) -> Result<(), Fail> {
-    let alloc = rt.alloc();
+// A turn-over makes so many calls on each disk, and trouble at each of them loses nothing.
+fn turns(rt: &impl Abort, alloc: Global, turn: Turn, first: u64, second: u64) -> Result<(), Fail> {
     for trouble in [Trouble::Fails, Trouble::Stops] {
-        // the length; the length, a gate, a sync; three writes, a sync; a gate, a sync
-        assert_eq!(rt; first_turn_calls(&rt, alloc, false, trouble)?, 10);
-        assert_eq!(rt; first_turn_calls(&rt, alloc, true, trouble)?, 0);
-        // the length, the gate read and closed, a sync; the length; three writes, a sync; a gate, a sync
-        assert_eq!(rt; second_turn_calls(&rt, alloc, true, trouble)?, 11);
-        assert_eq!(rt; second_turn_calls(&rt, alloc, false, trouble)?, 0);
+        assert_eq!(rt; turn_calls(rt, alloc, turn, true, trouble)?, first);
+        assert_eq!(rt; turn_calls(rt, alloc, turn, false, trouble)?, second);
     }
     Ok(())
 }
 
+#[test]
+fn a_turn_over_with_trouble_at_each_call(rt: HostRuntime) -> Result<(), Fail> {
+    // the length; the length, a gate, a sync; three writes, a sync; a gate, a sync
+    turns(&rt, rt.alloc(), FIRST, 0, 10)
+}
+
+#[test]
+fn a_turn_over_behind_a_torn_one(rt: HostRuntime) -> Result<(), Fail> {
+    turns(&rt, rt.alloc(), BEHIND_TORN, 0, 10)
+}
+
+#[test]
+fn a_second_turn_over_with_trouble_at_each_call(rt: HostRuntime) -> Result<(), Fail> {
+    // the length, the gate read and closed, a sync; the length; three writes, a sync; a gate, a sync
+    turns(&rt, rt.alloc(), SECOND, 11, 0)
+}
+
 // Forms a pair on two disks of which one has trouble, and hands them back: whether it was formed.
-fn formed_on(alloc: Global, on_first: bool, trouble: Trouble, k: u64) -> (bool, MemDisk, MemDisk) {
+fn formed_on(
+    alloc: Global,
+    on_first: bool,
+    trouble: Trouble,
+    k: u64,
+) -> (bool, (MemDisk, MemDisk)) {
     let mut a = MemDisk::new(alloc);
     let mut b = MemDisk::new(alloc);
     if on_first {
@@ -195,30 +286,9 @@ fn formed_on(alloc: Global, on_first: bool, trouble: Trouble, k: u64) -> (bool, 
         plan(&mut b, trouble, k);
     }
     match Snap::form(a, b, &SNAPSHOT) {
-        Ok(snap) => {
-            let (a, b) = snap.close();
-            (true, a, b)
-        }
-        Err((_, a, b)) => (false, a, b),
+        Ok(snap) => (true, snap.close()),
+        Err((_, a, b)) => (false, (a, b)),
     }
-}
-
-// Whatever a crash leaves of two disks has no area, or the first one.
-fn leave_none_or_first(
-    rt: &impl Abort,
-    alloc: Global,
-    a: &MemDisk,
-    b: &MemDisk,
-) -> Result<(), Fail> {
-    for extra in [0, 1, u64::MAX] {
-        for junk in [0u8, 1, 2, 255] {
-            match opened(alloc, a.crash(extra, &[junk])?, b.crash(extra, &[junk])?) {
-                Ok(pair) => assert!(rt; is(&pair, FORMED_ONCE), "{extra} bytes more, {junk}"),
-                Err(fault) => assert_eq!(rt; fault, OpenFault::Unformed),
-            }
-        }
-    }
-    Ok(())
 }
 
 // Forms a pair with trouble at each call of a disk, until none is met, and answers how many were.
@@ -229,12 +299,12 @@ fn form_calls(
     trouble: Trouble,
 ) -> Result<u64, Fail> {
     for k in 1..=20u64 {
-        let (done, a, b) = formed_on(alloc, on_first, trouble, k);
+        let (done, disks) = formed_on(alloc, on_first, trouble, k);
         if done {
-            leave(rt, alloc, &a, &b, FORMED_ONCE, FORMED_ONCE)?;
+            leave(rt, alloc, crash(&disks, Some(FORMED_ONCE), FORMED_ONCE));
             return Ok(k - 1);
         }
-        leave_none_or_first(rt, alloc, &a, &b)?;
+        leave(rt, alloc, crash(&disks, None, FORMED_ONCE));
     }
     Err("trouble at each call".into())
 }

@@ -63,7 +63,7 @@ struct Crash<'a> {
 }
 
 // A crash of these disks.
-fn crash<'a>(
+fn crash_of<'a>(
     disks: &'a (MemDisk, MemDisk),
     before: Option<Want<'a>>,
     after: Want<'a>,
@@ -172,11 +172,19 @@ fn append_calls(
         let done = snap.append(&added);
         let disks = snap.close();
         if done.is_ok() {
-            leave(rt, alloc, crash(&disks, Some(APPENDED_ONCE), APPENDED_ONCE));
+            leave(
+                rt,
+                alloc,
+                crash_of(&disks, Some(APPENDED_ONCE), APPENDED_ONCE),
+            );
             return Ok(k - 1);
         }
         assert_eq!(rt; done, Err(AppendFault::Disk));
-        leave(rt, alloc, crash(&disks, Some(FORMED_ONCE), APPENDED_ONCE));
+        leave(
+            rt,
+            alloc,
+            crash_of(&disks, Some(FORMED_ONCE), APPENDED_ONCE),
+        );
     }
     Err("trouble at each call".into())
 }
@@ -236,11 +244,11 @@ fn turn_calls(
         let done = snap.turn_over(turn.snapshot);
         let disks = snap.close();
         if done.is_ok() {
-            leave(rt, alloc, crash(&disks, Some(turn.after), turn.after));
+            leave(rt, alloc, crash_of(&disks, Some(turn.after), turn.after));
             return Ok(k - 1);
         }
         assert_eq!(rt; done, Err(TurnOverFault::Disk));
-        leave(rt, alloc, crash(&disks, Some(turn.before), turn.after));
+        leave(rt, alloc, crash_of(&disks, Some(turn.before), turn.after));
     }
     Err("trouble at each call".into())
 }
@@ -301,10 +309,10 @@ fn form_calls(
     for k in 1..=20u64 {
         let (done, disks) = formed_on(alloc, on_first, trouble, k);
         if done {
-            leave(rt, alloc, crash(&disks, Some(FORMED_ONCE), FORMED_ONCE));
+            leave(rt, alloc, crash_of(&disks, Some(FORMED_ONCE), FORMED_ONCE));
             return Ok(k - 1);
         }
-        leave(rt, alloc, crash(&disks, None, FORMED_ONCE));
+        leave(rt, alloc, crash_of(&disks, None, FORMED_ONCE));
     }
     Err("trouble at each call".into())
 }

@@ -14,8 +14,8 @@ enum Side {
     Second,
 }
 
-// What stands on the two disks before a batch, and whether the first byte that a crash may change then takes each value,
-// or four alone. Of a turn-over the other values are tried at pairs of areas, where to open one is cheap.
+// What stands on the two disks before a batch, and whether the first byte that a crash may change takes each value then
+// or four alone. Of a turn-over all values are tried at pairs of areas, where to open one is cheap.
 #[derive(Clone, Copy)]
 struct Scene<'a> {
     first: &'a [u8],

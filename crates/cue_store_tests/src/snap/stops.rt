@@ -200,11 +200,11 @@ fn an_append_with_trouble_at_each_call(rt: HostRuntime) -> Result<(), Fail> {
     Ok(())
 }
 
-// What stands on the spare disk before a turn-over, and what comes of it.
+// What stands on the spare disk before a turn-over, the one byte of its snapshot, and what comes of it.
 #[derive(Clone, Copy)]
 struct Turn {
     spare: &'static [u8],
-    snapshot: &'static [u8],
+    snapshot: u8,
     before: Want<'static>,
     after: Want<'static>,
 }
@@ -212,7 +212,7 @@ struct Turn {
 // The first turn-over, on an empty disk.
 const FIRST: Turn = Turn {
     spare: &[],
-    snapshot: &[5],
+    snapshot: 5,
     before: APPENDED_ONCE,
     after: TURNED_ONCE,
 };
@@ -226,7 +226,7 @@ const BEHIND_TORN: Turn = Turn {
 // The second turn-over, on the disk that has the older area.
 const SECOND: Turn = Turn {
     spare: &TURNED,
-    snapshot: &[6],
+    snapshot: 6,
     before: TURNED_ONCE,
     after: TURNED_TWICE,
 };
@@ -241,7 +241,7 @@ fn turn_calls(
 ) -> Result<u64, Fail> {
     for k in 1..=20u64 {
         let mut snap = troubled(alloc, &APPENDED, turn.spare, on_first, trouble, k)?;
-        let done = snap.turn_over(turn.snapshot);
+        let done = snap.turn_over(&[turn.snapshot]);
         let disks = snap.close();
         if done.is_ok() {
             leave(rt, alloc, crash_of(&disks, Some(turn.after), turn.after));

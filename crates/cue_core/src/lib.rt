@@ -20,6 +20,3 @@ pub use events::Events;
 pub use judging::judge;
 pub use refusal::Refusal;
 pub use state::{State, undecided};
-
-#[cfg(test)]
-mod tests;

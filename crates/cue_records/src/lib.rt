@@ -14,6 +14,3 @@ mod version;
 pub use batch::{Batch, MAX_EVENTS, batch_len, read_batch, write_batch};
 pub use fault::{ReadFault, StateFault};
 pub use state::{MAX_STATE_BYTES, OLD_MAX_CUES, OLD_VERSION, VERSION, read_state, write_state};
-
-#[cfg(test)]
-mod tests;

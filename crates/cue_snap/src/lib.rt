@@ -7,8 +7,6 @@ mod forming;
 pub mod laws;
 mod opening;
 mod snap;
-#[cfg(test)]
-mod tests;
 mod turning;
 
 pub use forming::FormFault;

@@ -1,5 +1,6 @@
 mod ClapRows
 mod ClapWalk
 mod CommandLemmas
+mod CopyLemmas
 mod LineLemmas
 mod PerformLemmas

@@ -1,5 +1,5 @@
 //! Copies of both files of a store, in memory: what they stand for is known without a write or a sync of the files.
-ghost use Rattle.std.specs.Prelude.{◌≡◌, IfOk, IsErrOf};
+ghost use Rattle.std.specs.Prelude.{◌≡◌, ◌≤◌, length, IfOk, OnOk, IsErrOf};
 ghost use Rattle.cue_disk.specs.Memory.{IsNew};
 ghost use Rattle.cue_snap.specs.Pair.{IsSpoiled, NeitherHas};
 ghost use Rattle.cue_keeper.specs.Stands.{Stands};
@@ -16,6 +16,9 @@ use std::alloc::{AllocError, Global};
 /// How many bytes at the front of a file say which area it has: the head gate, the generation, and the length of the
 /// snapshot. A file with an area is changed without a change there in one way: records are added at its end.
 const HEAD: usize = 13;
+
+/// How many times a file is read on at most, because it has grown meanwhile.
+const GROWTHS: u32 = 100;
 
 /// The heads of both files at one moment. Where a file is shorter, zeros stand for what is missing.
 #[derive(Clone, Copy, PartialEq, Eq)]
@@ -37,10 +40,8 @@ pub fn is_read_again(fault: StoreFault) -> bool
     ensures { result ≡ is_read_again fault }
 {
     match fault {
-        StoreFault::Damaged
-        | StoreFault::Malformed
-        | StoreFault::Version
-        | StoreFault::Unformed => true,
+        StoreFault::Damaged | StoreFault::Malformed | StoreFault::Version | StoreFault::Unformed =>
+            true,
         StoreFault::NotEmpty
         | StoreFault::Full
         | StoreFault::Exhausted
@@ -63,7 +64,8 @@ fn fault_in_memory(fault: StoreFault) -> StoreFault
 fn head(disk: &mut FileDisk) -> Result<[u8; HEAD], StoreFault> {
     let mut head = [0; HEAD];
     let len = disk.len().map_err(|_| StoreFault::Disk)?.min(HEAD as u64) as usize;
-    disk.read_at(0, &mut head[..len]).map_err(|_| StoreFault::Disk)?;
+    disk.read_at(0, &mut head[..len])
+        .map_err(|_| StoreFault::Disk)?;
     Ok(head)
 }
 
@@ -75,12 +77,28 @@ fn heads_of(first: &mut FileDisk, second: &mut FileDisk) -> Result<Heads, StoreF
     })
 }
 
-// As much of a file as an area may have.
-fn bytes_of(alloc: Global, disk: &mut FileDisk) -> Result<Vec<u8>, StoreFault> {
-    let len = disk.len().map_err(|_| StoreFault::Disk)?.min(AREA_LIMIT) as usize;
-    let mut bytes = Vec::new(alloc);
+// Reads on behind the bytes that were read, up to this length of the file.
+fn read_on(disk: &mut FileDisk, bytes: &mut Vec<u8>, len: usize) -> Result<(), StoreFault>
+    requires { length bytes.old.items ≤ len }
+    ensures { OnOk result (length bytes.new.items ≡ len) }
+{
+    let have = bytes.len();
     bytes.resize(len, 0).map_err(|_| StoreFault::Memory)?;
-    disk.read_at(0, &mut bytes).map_err(|_| StoreFault::Disk)?;
+    disk.read_at(have as u64, &mut bytes[have..])
+        .map_err(|_| StoreFault::Disk)
+}
+
+// As much of a file as an area may have. A file that has grown meanwhile is read on: a record whose gate was read as
+// open is then there in whole.
+fn bytes_of(alloc: Global, disk: &mut FileDisk) -> Result<Vec<u8>, StoreFault> {
+    let mut bytes = Vec::new(alloc);
+    for _ in 0..GROWTHS {
+        let len = disk.len().map_err(|_| StoreFault::Disk)?.min(AREA_LIMIT) as usize;
+        if len <= bytes.len() {
+            break;
+        }
+        read_on(disk, &mut bytes, len)?;
+    }
     Ok(bytes)
 }
 

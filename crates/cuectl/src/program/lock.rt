@@ -51,7 +51,11 @@ pub fn lock_store<R: Files<File = File> + Eprint>(
             Err(ProgramFault::Io)
         }
         Err(TryLockError::Error(why)) => {
-            say(rt, dir, format_args!("the store is not locked against another serve: {why}"));
+            say(
+                rt,
+                dir,
+                format_args!("the store is not locked against another serve: {why}"),
+            );
             Ok(StoreLock { _file: None })
         }
     }

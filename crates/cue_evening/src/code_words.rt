@@ -1,4 +1,4 @@
-//! The codes of replies in words, as the table for the stage manager has them.
+//! The codes of replies in words, as the table of codes has them.
 use cue_core::{Code, Refusal};
 
 /// The codes of single commands.

@@ -229,8 +229,8 @@ fn push_new_cue(
     Ok(())
 }
 
-// Who keeps a command at a cue from being made: behind a `go` that comes too early the devices that the attempt waits
-// for, behind a busy cue its attempt, or that of its device.
+// Who keeps a command at a cue from being made: of a `go` that comes too early the devices that the attempt waits for,
+// of a busy cue its attempt, or that of its device.
 fn push_refusal(
     alloc: Global,
     more: &mut String,

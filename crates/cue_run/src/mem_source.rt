@@ -1,4 +1,4 @@
-//! A source in memory: it gives the answers of a list, and ends behind them.
+//! A source in memory: it gives the answers of a list, and then ends.
 ghost use Rattle.std.specs.Prelude.{◌≡◌, ◌≤◌, Some, length, take};
 ghost use Rattle.cue_run.specs.Sources.{gave, cut, IsWithin};
 ghost use Rattle.cue_run.specs.MemSources.{answer_view, left_by, answers_view};

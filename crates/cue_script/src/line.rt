@@ -37,7 +37,7 @@ fn cut_at(mark: u8, text: &[u8]) -> Option<(&[u8], &[u8])>
     }
 }
 
-/// The first line of a text, without its line feed, and the text behind it.
+/// The first line of a text, without its line feed, and the text after it.
 pub fn first_line(text: &[u8]) -> (&[u8], &[u8])
     requires { 0 < length text.now }
     ensures line { lines_of text.now ≡ result.0.now ∷ lines_of result.1.now }

@@ -14,7 +14,7 @@ fn line_of(alloc: Global, sent: &Sent) -> Result<String, AllocError>
     format!(in alloc; "> {port} {digits}\n")
 }
 
-// Puts the line of a datagram behind the text.
+// Puts the line of a datagram after the text.
 fn print(alloc: Global, sent: &Sent, text: &mut Vec<u8>) -> Result<(), AllocError>
     ensures { OnOk result (text.new.items ≡ text.old.items ++ line_of (sent_view sent.now)) }
 {

@@ -144,7 +144,7 @@ fn turns_in(found: &ArgMatches<'_>) -> Result<u64, LineFault>
     }
 }
 
-// The command `serve`, with what stands behind it.
+// The command `serve`, with what stands after it.
 fn serve_in(alloc: Global, found: &ArgMatches<'_>) -> Result<words::Line, LineFault>
     ensures line { IfOk result (λ line. IsLine (codes "serve", rows_of (found_of found.now)) line) }
     ensures usage { IsErrOf result Usage → IsNoLine (codes "serve", rows_of (found_of found.now)) }
@@ -195,7 +195,7 @@ fn fault_of(alloc: Global, error: &Error) -> LineFault
 
 /// Reads a command line, the program's name first, as `clap` matches it.
 pub fn line(alloc: Global, words: &[String]) -> Result<words::Line, LineFault>
-    // The line is the command that the words name, with what stands behind it there.
+    // The line is the command that the words name, with what stands after it there.
     ensures line { IfOk result (λ line. IsLineOf (subcommand_of cuectl_app (map string_bytes words.now)) line) }
     // Words at which clap stops are no command, and words that ask for help or for the version are told apart.
     ensures taken { OnOk result (fault_of cuectl_app (map string_bytes words.now) ≡ []) }

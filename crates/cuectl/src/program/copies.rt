@@ -77,7 +77,7 @@ fn heads_of(first: &mut FileDisk, second: &mut FileDisk) -> Result<Heads, StoreF
     })
 }
 
-// Reads on behind the bytes that were read, up to this length of the file.
+// Reads on after the bytes that were read, up to this length of the file.
 fn read_on(disk: &mut FileDisk, bytes: &mut Vec<u8>, len: usize) -> Result<(), StoreFault>
     requires { length bytes.old.items ≤ len }
     ensures { OnOk result (length bytes.new.items ≡ len) }

@@ -7,12 +7,12 @@ ghost use Rattle.cue_engine.specs.Inputs.{input_view};
 ghost use Rattle.cue_engine.specs.Words.{state_of, queue_of, first_of, second_of};
 ghost use Rattle.cue_run.specs.Running.{IsTaken, Turned, Ran, LeavesEither};
 
+use crate::source::{Source, Turn};
+use crate::watch::{Unwatched, Watch};
 use cue_disk::Disk;
 use cue_engine::{Engine, Input, Wire};
 use cue_keeper::Fault;
-use crate::source::{Source, Turn};
 use std::alloc::Global;
-use crate::watch::{Unwatched, Watch};
 
 /// The buffer is longer than the longest datagram, so that one that is too long is seen to be so.
 const BUFFER: usize = 4_100;

@@ -6,13 +6,13 @@ ghost use Rattle.cue_script.specs.Endings.{failure_of};
 ghost use Rattle.cue_script.specs.Script.{HasRun, Wrote};
 ghost use Rattle.cue_script.specs.Streams.{FailedAs, HasCause};
 
-use cue_disk::MemDisk;
-use cue_engine::Engine;
 use crate::ending::{Ending, Failure, StreamFailure};
 use crate::play::play_lines;
+use crate::stream::Streams;
+use cue_disk::MemDisk;
+use cue_engine::Engine;
 use std::alloc::Global;
 use std::io::{self, Read, Write};
-use crate::stream::Streams;
 
 /// The longest script, in bytes.
 pub const SCRIPT_LIMIT: u64 = 1_048_576;

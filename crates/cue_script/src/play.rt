@@ -14,8 +14,8 @@ ghost use Rattle.cue_script.specs.Playing.{IsReady, IsAfter, Goes, EndsAt, EndsU
 ghost use Rattle.cue_script.specs.Script.{printed, Wrote};
 ghost use Rattle.cue_script.specs.Streams.{HasCause};
 
-use crate::entry::SCRIPT_LIMIT;
 use crate::ending::{Ending, Failure, StreamFailure};
+use crate::entry::SCRIPT_LIMIT;
 use crate::line::{ScriptLine, first_line, read_line};
 use crate::print::print_all;
 use crate::stream::Streams;

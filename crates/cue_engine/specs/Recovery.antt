@@ -1,5 +1,5 @@
 -- What a recovery leaves on two disks, and why it is refused.
-use Rattle.std.specs.Prelude.{◌≡◌, ◌⊎◌, ◌<◌, ◌+◌, ◌-◌, ◌^◌, ℕ, List, length, IsTrue, Result, Ok, Err}
+use Rattle.std.specs.Prelude.{◌≡◌, ◌⊎◌, ◌<◌, ◌≤◌, ◌+◌, ◌-◌, ◌^◌, ℕ, List, length, IsTrue, Result, Ok, Err}
 use Rattle.cue_disk.specs.Disk.{Contents, IsImage}
 use Rattle.cue_log.specs.Area.{Area, area_text}
 use Rattle.cue_log.specs.declared.area.TheConstants.{AREA_LIMIT}
@@ -8,6 +8,8 @@ use Rattle.cue_core.specs.State.{ShowState}
 use Rattle.cue_core.specs.Happenings.{events_at, recovered}
 use Rattle.cue_records.specs.Batch.{batch_text}
 use Rattle.cue_records.specs.State.{state_text}
+use Rattle.cue_keeper.specs.declared.fault.StoreFault.{StoreFault}
+use Rattle.cue_keeper.specs.declared.fault.StoreFault.TheVariants as store
 use Rattle.cue_keeper.specs.Due.{is_due}
 use Rattle.cue_keeper.specs.Stands.{StandsFor, Stands, StandsEither}
 use Rattle.cue_core.specs.Batches.{closed}
@@ -36,10 +38,11 @@ IsLeftOrStands then_a then_b x y = (IsImage then_a x × IsImage then_b y) ⊎ St
 abbrev pub cancels_length : ShowState → ℕ
 cancels_length s = length (batch_text (events_at s recovered))
 
--- The two read as an area that stands for the state, and its cancels need a new area.
+-- The two read as an area that stands for the state, and its cancels, of which there are some, need a new area.
 pub record NeedsArea (x y : List ℕ) (area : Area) (s : ShowState) : Type 0 where
   pub reads : PairReads area x y
   pub stands : StandsFor area s
+  pub some : 1 ≤ length (events_at s recovered)
   pub due : IsTrue (is_due (length area.payloads) (length (area_text area)) (cancels_length s))
 
 -- A new area is needed, and no generation is left for it.
@@ -60,3 +63,8 @@ pub record NoRoomLeft (x y : List ℕ) : Type 0 where
 abbrev pub RefusedBut : {T E D : Type 0} → E → Type 0 → Result T (E × D × D) → Type 0
 RefusedBut fault fact (Ok made) = Unit {0}
 RefusedBut fault fact (Err refused) = (refused.0 ≡ fault → ⊥) → fact
+
+-- it is refused with this fault, unless memory ran out or a device failed
+abbrev pub MustBeRefusedAs : {T D : Type 0} → StoreFault → Result T (StoreFault × D × D) → Type 0
+MustBeRefusedAs fault (Ok made) = ⊥
+MustBeRefusedAs fault (Err refused) = (refused.0 ≡ fault) ⊎ (refused.0 ≡ store.Memory) ⊎ (refused.0 ≡ store.Disk)

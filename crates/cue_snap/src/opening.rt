@@ -74,6 +74,7 @@ impl<D: Disk> Snap<D> {
         ensures reads { D.is_honest first → D.is_honest second → IfOk result (λ opened. PairLeaves (D.held (first_opened opened)) (D.held (second_opened opened)) (live_area_read opened)) }
         ensures area { D.is_honest first → D.is_honest second → IfOk result (λ opened. live_area_of D.held opened.snap ≡ live_area_read opened) }
         ensures works { IfOk result (λ opened. is_broken opened.snap ≡ false) }
+        ensures went_through { IfOk result (λ opened. (D.failures (first_opened opened) ≡ D.failures first) × (D.failures (second_opened opened) ≡ D.failures second)) }
         ensures counted { IfOk result (λ opened. count_of opened.snap ≡ length opened.tail) }
 
         // Each refusal has its reason.

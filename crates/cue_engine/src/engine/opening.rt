@@ -1,5 +1,5 @@
 // How an engine comes to be: over a store that is formed, or over one that is recovered.
-ghost use Rattle.std.specs.Prelude.{◌≡◌, ◌≤◌, ◌⊎◌, ◌↔◌, [], false, IfOk, OnOk};
+ghost use Rattle.std.specs.Prelude.{◌≡◌, ◌≤◌, ◌<◌, ◌-◌, ◌^◌, ◌⊎◌, ◌↔◌, [], false, IfOk, OnOk};
 ghost use Rattle.cue_disk.specs.Disk.{LeavesAtEachMoment, IsImage, MoreFailures};
 ghost use Rattle.cue_snap.specs.Pair.{NeitherHas, SomeIsThere, IsSpoiled, IsUnformedOr, PairLeaves, AfterBarrier};
 ghost use Rattle.cue_snap.specs.Observed.{first_after, second_after, RefusedAs};
@@ -10,7 +10,7 @@ ghost use Rattle.cue_keeper.specs.Refusals.{HasOtherVersion, StandsForNone};
 ghost use Rattle.cue_keeper.specs.Observed as kept;
 ghost use Rattle.cue_outbox.specs.Sending.{datagrams, all_pending};
 ghost use Rattle.cue_core.specs.Batches.{closed};
-ghost use Rattle.cue_engine.specs.Recovery.{ClosedFrom, IsLeftOrStands, NoGenerationLeft, NoRoomLeft, RefusedBut};
+ghost use Rattle.cue_engine.specs.Recovery.{ClosedFrom, IsLeftOrStands, MustBeRefusedAs, NoGenerationLeft, NoRoomLeft, RefusedBut};
 ghost use Rattle.cue_engine.specs.Words.{keeper_of, state_of, queue_of, first_of, second_of};
 
 use super::{Engine, let_go};
@@ -82,7 +82,12 @@ impl<D: Disk> Engine<D> {
         ensures exhausted { D.is_honest first → D.is_honest second → RefusedAs StoreFault.Exhausted (NoGenerationLeft (D.held first).bytes (D.held second).bytes) result }
         ensures full { D.is_honest first → D.is_honest second → RefusedAs StoreFault.Full (NoRoomLeft (D.held first).bytes (D.held second).bytes) result }
         ensures disk { RefusedAs StoreFault.Disk (MoreFailures (D.failures first) (D.failures (first_after first_of result)) ⊎ MoreFailures (D.failures second) (D.failures (second_after second_of result))) result }
+        // Want of memory hides no fault of a device: each call went through.
+        ensures memory { RefusedAs StoreFault.Memory ((D.failures (first_after first_of result) ≡ D.failures first) × (D.failures (second_after second_of result) ≡ D.failures second)) result }
         ensures no_other { RefusedAs StoreFault.NotEmpty ⊥ result }
+        // Exhausted and Full come wherever they can.
+        ensures due_at_the_last { D.is_honest first → D.is_honest second → NoGenerationLeft (D.held first).bytes (D.held second).bytes → MustBeRefusedAs StoreFault.Exhausted result }
+        ensures due_without_room { D.is_honest first → D.is_honest second → (none : NoRoomLeft (D.held first).bytes (D.held second).bytes) → none.area.generation < 2 ^ 64 - 1 → MustBeRefusedAs StoreFault.Full result }
         // A store that stands for a state is never called unformed, damaged, of another version or malformed.
         ensures readable { D.is_honest first → D.is_honest second → (s : ShowState) → Stands (D.held first).bytes (D.held second).bytes s
             → RefusedAs StoreFault.Unformed ⊥ result × RefusedAs StoreFault.Damaged ⊥ result × RefusedAs StoreFault.Version ⊥ result × RefusedAs StoreFault.Malformed ⊥ result }
@@ -116,6 +121,10 @@ fn close_opened<D: Disk>(alloc: Global, keeper: Keeper<D>) -> Result<Engine<D>, 
     ensures full { D.is_honest (kept.first_of keeper) → D.is_honest (kept.second_of keeper) → RefusedAs StoreFault.Full (NoRoomLeft (D.held (kept.first_of keeper)).bytes (D.held (kept.second_of keeper)).bytes) result }
     ensures disk { RefusedAs StoreFault.Disk (MoreFailures (D.failures (kept.first_of keeper)) (D.failures (first_after first_of result)) ⊎ MoreFailures (D.failures (kept.second_of keeper)) (D.failures (second_after second_of result))) result }
     ensures no_other { RefusedAs StoreFault.NotEmpty ⊥ result × RefusedAs StoreFault.Unformed ⊥ result × RefusedAs StoreFault.Damaged ⊥ result × RefusedAs StoreFault.Version ⊥ result × RefusedAs StoreFault.Malformed ⊥ result }
+    ensures due_at_the_last { D.is_honest (kept.first_of keeper) → D.is_honest (kept.second_of keeper)
+        → NoGenerationLeft (D.held (kept.first_of keeper)).bytes (D.held (kept.second_of keeper)).bytes → MustBeRefusedAs StoreFault.Exhausted result }
+    ensures due_without_room { D.is_honest (kept.first_of keeper) → D.is_honest (kept.second_of keeper)
+        → (none : NoRoomLeft (D.held (kept.first_of keeper)).bytes (D.held (kept.second_of keeper)).bytes) → none.area.generation < 2 ^ 64 - 1 → MustBeRefusedAs StoreFault.Full result }
     ensures any_moment { D.is_honest (kept.first_of keeper) → D.is_honest (kept.second_of keeper)
         → LeavesPairsAtEachMoment D.moment D.held_at (kept.first_of keeper) (kept.second_of keeper) (first_after first_of result) (second_after second_of result) (StandsEither (kept.state_of keeper) (closed (kept.state_of keeper))) }
     ensures unwritten { RefusedBut StoreFault.Disk ((first_after first_of result ≡ kept.first_of keeper) × (second_after second_of result ≡ kept.second_of keeper)) result }
@@ -146,10 +155,10 @@ fn close_opened<D: Disk>(alloc: Global, keeper: Keeper<D>) -> Result<Engine<D>, 
 // Why the cancels are not accepted, as a fault of the store.
 fn store_fault(fault: Fault) -> StoreFault
     requires { fault ≡ Fault.Broken → ⊥ }
-    ensures exhausted { result ≡ StoreFault.Exhausted → fault ≡ Fault.Exhausted }
-    ensures full { result ≡ StoreFault.Full → fault ≡ Fault.Full }
-    ensures disk { result ≡ StoreFault.Disk → fault ≡ Fault.Disk }
-    ensures disk_as_such { fault ≡ Fault.Disk → result ≡ StoreFault.Disk }
+    ensures memory { (result ≡ StoreFault.Memory) ↔ (fault ≡ Fault.Memory) }
+    ensures exhausted { (result ≡ StoreFault.Exhausted) ↔ (fault ≡ Fault.Exhausted) }
+    ensures full { (result ≡ StoreFault.Full) ↔ (fault ≡ Fault.Full) }
+    ensures disk { (result ≡ StoreFault.Disk) ↔ (fault ≡ Fault.Disk) }
     ensures no_other { (result ≡ StoreFault.Memory) ⊎ (result ≡ StoreFault.Exhausted) ⊎ (result ≡ StoreFault.Full) ⊎ (result ≡ StoreFault.Disk) }
 {
     match fault {

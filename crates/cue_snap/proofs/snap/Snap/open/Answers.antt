@@ -1,4 +1,4 @@
-use Rattle.std.proofs.Common.{◌≡◌, ◌≤◌, ◌↔◌, List, ℕ, sym, subst}
+use Rattle.std.proofs.Common.{◌≡◌, ◌≤◌, ◌↔◌, List, ℕ, sym, ◌∙◌, ap, subst}
 use Rattle.cue_disk.specs.Disk.{LeavesAtEachMoment, IsImage}
 use Rattle.cue_snap.specs.Pair.{IsSpoiled, PairReads, PairLeaves}
 use Rattle.cue_snap.specs.Found.{disk_in}
@@ -31,6 +31,10 @@ returns-in-Ok-choose-clause-reads g c = λ honest_a honest_b.
 
 pub returns-in-Ok-choose-clause-area : goal.returns-in-Ok-choose-clause-area
 returns-in-Ok-choose-clause-area g c = λ honest_a honest_b. (c.in-Ok-choose.ensures.chosen (c.in-Ok.ensures.honest.1 honest_a) (c.in-Ok-find.ensures.honest.1 honest_b)).same_area
+
+pub returns-in-Ok-choose-clause-went_through : goal.returns-in-Ok-choose-clause-went_through
+returns-in-Ok-choose-clause-went_through g c =
+    (ap g.D.Disk.failures c.in-Ok-choose.ensures.first ∙ c.in-Ok.ensures.memory, ap g.D.Disk.failures c.in-Ok-choose.ensures.second ∙ c.in-Ok-find.ensures.memory)
 
 pub returns-in-Ok-choose-clause-first_moments : goal.returns-in-Ok-choose-clause-first_moments
 returns-in-Ok-choose-clause-first_moments g c = λ honest.

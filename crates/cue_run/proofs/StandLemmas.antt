@@ -1,10 +1,9 @@
 -- What a fault leaves of two disks.
-use Rattle.std.proofs.Common.{◌≡◌, ℕ, Bool, true, false, Err, refl, sym, subst, inl, inr, arith}
-use Rattle.std.specs.Prelude.{◌⊎◌, ◌↔◌, IsErrOf}
+use Rattle.std.proofs.Common.{◌≡◌, ℕ, Bool, true, false, Some, refl, sym, subst, arith}
 use Rattle.cue_disk.specs.Disk.{Contents, IsImage}
 use Rattle.cue_core.specs.State.{ShowState}
 use Rattle.cue_keeper.specs.declared.fault.Fault.{Fault}
-use Rattle.cue_keeper.specs.declared.fault.Fault.TheVariants.{Broken, Memory, Exhausted, Full, Disk}
+use Rattle.cue_keeper.specs.declared.fault.Fault.TheVariants.{Broken}
 use Rattle.cue_keeper.specs.Pairs.{LeavesPairsAtEachMoment}
 use Rattle.cue_keeper.specs.Stands.{StandsEither, StandsAs}
 use Rattle.cue_run.specs.Running.{LeavesEither}
@@ -29,27 +28,11 @@ stands_still {D = D} held a b new_a new_b s new_s same_a same_b same_s h =
 pub honest_still : {D : Type 0} (is_honest : D → Type 0) (new old : D) → new ≡ old → (is_honest new → is_honest old) × (is_honest old → is_honest new)
 honest_still is_honest new old same = (subst is_honest same, subst is_honest (sym same))
 
--- each fault but that of a disk changes nothing
-pub but_disk : (T U : Type 0) (f : Fault) (P : Type 0)
-    → (IsErrOf {T = T} {E = Fault} (Err f) Broken ⊎ IsErrOf {T = T} {E = Fault} (Err f) Memory ⊎ IsErrOf {T = T} {E = Fault} (Err f) Exhausted ⊎ IsErrOf {T = T} {E = Fault} (Err f) Full → P)
-    → (IsErrOf {T = U} {E = Fault} (Err f) Disk → ⊥) → P
-but_disk T U Broken P same other = same (inl refl)
-but_disk T U Memory P same other = same (inr (inl refl))
-but_disk T U Exhausted P same other = same (inr (inr (inl refl)))
-but_disk T U Full P same other = same (inr (inr (inr refl)))
-but_disk T U Disk P same other = absurd (other refl)
+-- the one fault that there is
+pub of_some : (f : Fault) → Some f ≡ Some Broken → f ≡ Broken
+of_some f same = cc
 
--- A fault changes nothing, or it is a disk's, and the keeper worked before.
-pub by_fault : (T : Type 0) (f : Fault) (broken : Bool) (P : Type 0)
-    → (IsErrOf {T = T} {E = Fault} (Err f) Broken ↔ (broken ≡ true))
-    → (IsErrOf {T = T} {E = Fault} (Err f) Broken ⊎ IsErrOf {T = T} {E = Fault} (Err f) Memory ⊎ IsErrOf {T = T} {E = Fault} (Err f) Exhausted ⊎ IsErrOf {T = T} {E = Fault} (Err f) Full → P)
-    → (broken ≡ false → P) → P
-by_fault T Broken broken P is same worked = same (inl refl)
-by_fault T Memory broken P is same worked = same (inr (inl refl))
-by_fault T Exhausted broken P is same worked = same (inr (inr (inl refl)))
-by_fault T Full broken P is same worked = same (inr (inr (inr refl)))
-by_fault T Disk true P is same worked = absurd (not_broken T (is.1 refl))
-  where
-    not_broken : (T : Type 0) → (IsErrOf {T = T} {E = Fault} (Err Disk) Broken) → ⊥
-    not_broken T e = cc
-by_fault T Disk false P is same worked = worked refl
+-- what holds of a broken keeper, and of one that works
+pub unless_broken : (broken : Bool) (P : Type 0) → (broken ≡ true → P) → (broken ≡ false → P) → P
+unless_broken true P is works = is refl
+unless_broken false P is works = works refl

@@ -13,5 +13,5 @@ mod watch;
 pub use mem_source::{MemAnswer, MemSource};
 pub use source::{Source, SourceFault, Turn};
 pub use turns::{Ended, RunFault, run, run_watched};
-pub use udp::{UdpSource, UdpWire, local};
+pub use udp::{Receive, Tries, UdpReceiver, UdpSource, UdpWire, first_turn, local, udp_limits};
 pub use watch::{Unwatched, Watch};

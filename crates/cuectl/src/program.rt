@@ -25,7 +25,7 @@ use cue_disk::FileDisk;
 use cue_engine::Engine;
 use cue_evening::{EveningLog, LoggedWire, say_ready};
 use cue_keeper::Fault;
-use cue_run::{Ended, RunFault, UdpSource, UdpWire, local, run_watched};
+use cue_run::{Ended, RunFault, UdpReceiver, UdpSource, UdpWire, local, run_watched};
 use cue_script::script;
 use fault::{ProgramFault, print_fault, status_of};
 use files::{create_both, open_both, refused_store, say, say_failures};
@@ -117,7 +117,7 @@ fn serve_on<'a, R: Clock + Eprint>(
 ) -> io::Result<Ended>
     ensures { IfOk result (λ ended. ended.turns ≤ turns) }
 {
-    let mut source = UdpSource::new(rt, socket, port)?;
+    let mut source = UdpSource::new(rt, UdpReceiver::new(socket)?, port)?;
     let mut wire = LoggedWire::new(alloc, UdpWire::new(socket));
     let mut log = EveningLog::new(rt, alloc);
     Ok(run_watched(alloc, engine, &mut source, &mut wire, turns, &mut log))

@@ -4,6 +4,7 @@ use Rattle.std.specs.Result.{result_err}
 use Rattle.std.proofs.Common.{◌≡◌, ◌⊎◌, inl, inr, ℕ, ◌+◌, ◌≤◌, if◌then◌else◌, Bool, true, false, List, [], length, nat_le, Some, None, Result, Ok, Err, IsTrue, refl, sym, ◌∙◌, ap, subst, arith, true≢false}
 use Rattle.std.proofs.lemmas.Bool.Decides.{nat_tests}
 use Rattle.cue_disk.specs.declared.disk.Disk.{Ghosts}
+use Rattle.cue_log.specs.Area.{fresh, with_payload}
 use Rattle.cue_snap.specs.declared.snap.Snap.{Snap}
 use Rattle.cue_snap.specs.Pair.{PairLeaves}
 use Rattle.cue_snap.specs.Observed.{first_of, second_of, live_of, spare_of, is_first_live, is_broken, generation_of, count_of, end_of, live_area_of}
@@ -12,6 +13,7 @@ use Rattle.cue_core.specs.State.{ShowState}
 use Rattle.cue_core.specs.Steps.{folded}
 use Rattle.cue_core.proofs.Conditions.{both}
 use Rattle.cue_records.specs.Batch.{is_batch, batch_text}
+use Rattle.cue_records.specs.State.{state_text}
 use Rattle.cue_keeper.specs.declared.fault.Fault.{Fault}
 use Rattle.cue_keeper.specs.declared.fault.Fault.TheVariants as fault
 use Rattle.cue_keeper.specs.Due.{is_due}
@@ -79,6 +81,7 @@ module _ {D : Type 0} {disk : Ghosts D} where
     works = tt;
     generation = λ _. tt;
     count = λ _. tt;
+    area = λ _ _ _. tt;
     any_moment = λ first second _.
         rests disk.moment disk.held disk.held_at disk.failures disk.is_honest (first_of pair) (second_of pair) (StandsEither s (folded s batch)) (now (first_of pair)) (now (second_of pair))
         (λ h k x y left_x left_y. inl (stands h k x y left_x left_y)) first second;
@@ -112,6 +115,7 @@ module _ {D : Type 0} {disk : Ghosts D} where
     works = tt;
     generation = λ _. tt;
     count = λ _. tt;
+    area = λ _ _ _. tt;
     any_moment = λ first second _. moves.leaves first second;
     first_failures = moves.failures_a;
     second_failures = moves.failures_b;
@@ -132,8 +136,9 @@ module _ {D : Type 0} {disk : Ghosts D} where
       → is_broken new ≡ false
       → generation_of new ≡ (if is_due (count_of old) (end_of old) (length (batch_text batch)) then generation_of old + 1 else generation_of old)
       → count_of new ≡ (if is_due (count_of old) (end_of old) (length (batch_text batch)) then 1 else count_of old + 1)
+      → (disk.is_honest (first_of old) → disk.is_honest (second_of old) → NeedsNewArea old batch → live_area_of disk.held new ≡ with_payload (fresh (generation_of old + 1) (state_text s)) (batch_text batch))
       → Commits s batch None old new
-  done s batch old new some works not_last has_room moves still generation count = record {
+  done s batch old new some works not_last has_room moves still generation count area = record {
     cause = tt;
     after = tt;
     broken = λ is. absurd (true≢false (sym is ∙ works));
@@ -143,6 +148,7 @@ module _ {D : Type 0} {disk : Ghosts D} where
     works = still;
     generation = λ _. generation;
     count = λ _. count;
+    area = area;
     any_moment = λ first second _. moves.leaves first second;
     first_failures = moves.failures_a;
     second_failures = moves.failures_b;
@@ -165,6 +171,7 @@ module _ {D : Type 0} {disk : Ghosts D} where
     works = tt;
     generation = λ _. tt;
     count = λ _. tt;
+    area = λ _ _ _. tt;
     any_moment = λ _ _ works. absurd (true≢false (sym is ∙ works));
     first_failures = omega arith;
     second_failures = omega arith;
@@ -189,6 +196,7 @@ module _ {D : Type 0} {disk : Ghosts D} where
     works = works;
     generation = λ some. absurd (not_some batch none some);
     count = λ some. absurd (not_some batch none some);
+    area = λ _ _ needs. absurd (not_some batch none needs.0);
     any_moment = λ first second _.
         rests disk.moment disk.held disk.held_at disk.failures disk.is_honest (first_of pair) (second_of pair) (StandsEither s (folded s batch)) (now (first_of pair)) (now (second_of pair))
         (λ h k x y left_x left_y. inl (stands h k x y left_x left_y)) first second;

@@ -4,10 +4,13 @@ use Rattle.std.specs.Prelude.{Option, Some, MatchOption, IfSome, IfNone, ⊤}
 use Rattle.cue_disk.specs.declared.disk.Disk.{Ghosts}
 use Rattle.cue_disk.specs.Disk.{MoreFailures}
 use Rattle.cue_snap.specs.declared.snap.Snap.{Snap}
-use Rattle.cue_snap.specs.Observed.{first_of, second_of, is_broken, generation_of, count_of}
+use Rattle.cue_log.specs.Area.{fresh, with_payload}
+use Rattle.cue_snap.specs.Observed.{first_of, second_of, is_broken, generation_of, count_of, live_area_of}
 use Rattle.cue_core.specs.declared.event.Event.{Event}
 use Rattle.cue_core.specs.State.{ShowState}
 use Rattle.cue_core.specs.Steps.{folded}
+use Rattle.cue_records.specs.Batch.{batch_text}
+use Rattle.cue_records.specs.State.{state_text}
 use Rattle.cue_keeper.specs.declared.fault.Fault.{Fault}
 use Rattle.cue_keeper.specs.declared.fault.Fault.TheVariants as fault
 use Rattle.cue_keeper.specs.declared.keeper.Keeper.{Keeper}
@@ -65,6 +68,13 @@ pub record Commits {D : Type 0} {disk : Ghosts D} (s : ShowState) (batch : List 
       1 ≤ length batch
       → IfNone refused (generation_of new ≡ (if turns_over old batch then generation_of old + 1 else generation_of old))
   pub count : 1 ≤ length batch → IfNone refused (count_of new ≡ (if turns_over old batch then 1 else count_of old + 1))
+  -- a new area has the state as it is written today, and the batch as its one record
+  pub area :
+      disk.is_honest (first_of old)
+      → disk.is_honest (second_of old)
+      → NeedsNewArea old batch
+      → IfNone refused
+      (live_area_of disk.held new ≡ with_payload (fresh (generation_of old + 1) (state_text s)) (batch_text batch))
   -- a stop at any moment leaves the state from before or the one after the whole batch
   pub any_moment :
       disk.is_honest (first_of old)

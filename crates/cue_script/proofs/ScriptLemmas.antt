@@ -1,8 +1,8 @@
 -- What a script has written, line by line.
-use Rattle.std.specs.Prelude.{◌≡◌, ◌≢◌, ℕ, ◌+◌, ◌<◌, ◌≤◌, ◌++◌, Bool, List, [], ◌∷◌, length, map, take, Option, Some, None, slice_index_or, IfSome, IfOk, IfErr, OnOk, Result, Ok, Err}
+use Rattle.std.specs.Prelude.{◌≡◌, ◌≢◌, ℕ, ◌+◌, ◌<◌, ◌≤◌, ◌++◌, Bool, true, List, [], ◌∷◌, length, map, take, Option, Some, None, slice_index_or, IfSome, IfOk, IfErr, OnOk, Result, Ok, Err}
 use Rattle.std.specs.Option.{option_map}
 use Rattle.std.specs.Io.KnownBytes.{Appends}
-use Rattle.std.proofs.Common.{ap, refl, arith, sym, ◌∙◌, append_assoc, subst, lit≤}
+use Rattle.std.proofs.Common.{ap, refl, arith, sym, ◌∙◌, append_assoc, subst, lit≤, inl, inr}
 use Rattle.std.proofs.lemmas.Grind.{flat_map-append}
 use Rattle.std.proofs.lemmas.List.{append-nil, map-append, take_more, take_all, length-take}
 use Rattle.cue_core.specs.State.{ShowState}
@@ -16,6 +16,10 @@ use Rattle.cue_engine.specs.declared.mem_wire.Sent.{Sent}
 use Rattle.cue_engine.specs.Runs.{Happening, recovered, given_at, run}
 use Rattle.cue_engine.specs.Told.{sents_view}
 use Rattle.cue_engine.specs.Wires.{Handed, handed, AllHanded}
+use Rattle.cue_disk.specs.Disk.{Contents}
+use Rattle.cue_disk.specs.Effect.{settled}
+use Rattle.cue_log.specs.Area.{IsAbsent}
+use Rattle.cue_snap.specs.Pair.{SomeIsThere}
 use Rattle.cue_script.specs.declared.entry.TheConstants.{SCRIPT_LIMIT}
 use Rattle.cue_script.specs.declared.ending.Ending.{Ending}
 use Rattle.cue_script.specs.declared.ending.Ending.TheVariants.{Done, BadLine, BadInput, Failed, Stopped}
@@ -23,7 +27,7 @@ use Rattle.cue_keeper.specs.declared.fault.StoreFault.{StoreFault}
 use Rattle.cue_keeper.specs.declared.fault.StoreFault.TheVariants as store
 use Rattle.cue_script.specs.declared.ending.Failure.TheVariants.{Broken, Store}
 use Rattle.cue_script.specs.declared.ending.StreamFailure.{StreamFailure}
-use Rattle.cue_script.specs.Endings.{ending_line, status_of, store_status}
+use Rattle.cue_script.specs.Endings.{can_come, ending_line, status_of, store_status}
 use Rattle.cue_script.specs.ScriptLines.{lines_of, happening_in}
 use Rattle.cue_script.specs.ScriptViews.{sent_view}
 use Rattle.cue_script.specs.Playing.{Goes, EndsAt, EndsUnheard}
@@ -184,7 +188,7 @@ ran_until BadLine first text rest others line s old mid new held split short end
 ran_until BadInput first text rest others line s old mid new held split short ends = absurd ends
 ran_until (Failed failure) first text rest others line s old mid new held split short ends =
     let P : Option (List ℕ) → Type 0 = λ now. Ran first text (line ∷ lines_of others) [] old now in
-    (line ∷ lines_of others, subst P (sym ends) (ran first text rest (line ∷ lines_of others) s old mid held split short))
+    (ends.0, (line ∷ lines_of others, subst P (sym ends.1) (ran first text rest (line ∷ lines_of others) s old mid held split short)))
 ran_until (Stopped failure) first text rest others line s old mid new held split short ends = tt
 
 -- a last line behind it
@@ -204,7 +208,7 @@ pub wrote_with : (ending : Ending) (first : ShowState) (text last : List ℕ) (o
 wrote_with Done first text last old mid new held more = ran_with first text last [] old mid new held more
 wrote_with BadLine first text last old mid new held more = record { bad = held.bad; others = held.others; no_form = held.no_form; ran = ran_with first text last (held.bad ∷ held.others) old mid new held.ran more }
 wrote_with BadInput first text last old mid new held more = (held.0, appends_both old mid new [] last held.1 more)
-wrote_with (Failed failure) first text last old mid new held more = (held.0, ran_with first text last held.0 old mid new held.1 more)
+wrote_with (Failed failure) first text last old mid new held more = (held.0, (held.1.0, ran_with first text last held.1.0 old mid new held.1.1 more))
 wrote_with (Stopped failure) first text last old mid new held more = tt
 
 -- a text of which no more than so many bytes were read was read whole
@@ -230,9 +234,9 @@ pub too_long : (known : Option (List ℕ)) (first : ShowState) (old : Option (Li
 too_long None first old long = tt
 too_long (Some text) first old long = (long, appends_none old)
 
--- nothing was run where no engine was formed
-pub not_formed : (first : ShowState) (text : List ℕ) (old : Option (List ℕ)) → length text ≤ SCRIPT_LIMIT → (left : List (List ℕ)) × Ran first text left [] old old
-not_formed first text old short = (lines_of text, ran first text text (lines_of text) first old old (running_first first text old) refl short)
+-- nothing was run where no engine was formed, and two new disks are refused for want of memory, or by themselves
+pub not_formed : (fault : StoreFault) (first : ShowState) (text : List ℕ) (old : Option (List ℕ)) → length text ≤ SCRIPT_LIMIT → can_come (Store fault) ≡ true → Wrote (Failed (Store fault)) first text [] old old
+not_formed fault first text old short comes = (comes, (lines_of text, ran first text text (lines_of text) first old old (running_first first text old) refl short))
 
 pub has_run : (known : Option (List ℕ)) (ending : Ending) (first : ShowState) (line : List ℕ) (status : ℕ) (old mid new : Option (List ℕ)) → IfSome known (λ text. Wrote ending first text [] old mid) → line ≡ ending_line ending →
     Appends mid new line → status ≡ status_of ending → IfSome known (λ text. HasRun first text status old new)
@@ -272,3 +276,26 @@ pub small_status : (ending : Ending) (status : ℕ) → status ≡ status_of end
 small_status ending status is =
     let P : ℕ → Type 0 = λ n. (n ≤ 3) × (n ≢ 2) in
     subst P (sym is) (small ending)
+
+-- an empty disk has no area
+absent : (held : Contents) → held ≡ settled [] → IsAbsent held.bytes
+absent held is =
+    let P : Contents → Type 0 = λ now. IsAbsent now.bytes in
+    subst P (sym is) tt
+
+-- two empty disks have none
+pub no_area : (one two : Contents) → one ≡ settled [] → two ≡ settled [] → SomeIsThere one.bytes two.bytes → ⊥
+no_area one two first second (inl there) = there (absent one first)
+no_area one two first second (inr there) = there (absent two second)
+
+-- a recovery of what stands for a state is refused for want of room, of a generation or of memory, or by a disk
+pub comes_of_recovery : (fault : StoreFault) → (fault ≡ store.NotEmpty → ⊥) → (fault ≡ store.Unformed → ⊥) → (fault ≡ store.Damaged → ⊥) → (fault ≡ store.Version → ⊥) → (fault ≡ store.Malformed → ⊥) → can_come (Store fault) ≡ true
+comes_of_recovery store.NotEmpty empty unformed damaged version malformed = absurd (empty refl)
+comes_of_recovery store.Unformed empty unformed damaged version malformed = absurd (unformed refl)
+comes_of_recovery store.Damaged empty unformed damaged version malformed = absurd (damaged refl)
+comes_of_recovery store.Version empty unformed damaged version malformed = absurd (version refl)
+comes_of_recovery store.Malformed empty unformed damaged version malformed = absurd (malformed refl)
+comes_of_recovery store.Full empty unformed damaged version malformed = refl
+comes_of_recovery store.Exhausted empty unformed damaged version malformed = refl
+comes_of_recovery store.Memory empty unformed damaged version malformed = refl
+comes_of_recovery store.Disk empty unformed damaged version malformed = refl

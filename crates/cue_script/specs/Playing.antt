@@ -1,5 +1,5 @@
 -- Helper: a script that is being run, step by step.
-use Rattle.std.specs.Prelude.{◌≡◌, ℕ, false, List, [], Option, Some, None}
+use Rattle.std.specs.Prelude.{◌≡◌, ℕ, false, true, List, [], Option, Some, None}
 use Rattle.std.specs.Io.KnownBytes.{Appends}
 use Rattle.cue_core.specs.State.{ShowState}
 use Rattle.cue_core.specs.Steps.{folded}
@@ -10,6 +10,7 @@ use Rattle.cue_engine.specs.Runs.{Happening, given_at}
 use Rattle.cue_engine.specs.Words.{keeper_of, queue_of, state_of}
 use Rattle.cue_script.specs.declared.ending.Ending.{Ending}
 use Rattle.cue_script.specs.declared.ending.Ending.TheVariants.{Done, BadLine, BadInput, Failed, Stopped}
+use Rattle.cue_script.specs.Endings.{can_come}
 use Rattle.cue_script.specs.ScriptLines.{happening_in}
 use Rattle.cue_script.specs.Script.{printed}
 
@@ -36,7 +37,7 @@ abbrev pub EndsUnheard : Ending → (old new : Option (List ℕ)) → Type 0
 EndsUnheard Done old new = ⊥
 EndsUnheard BadLine old new = ⊥
 EndsUnheard BadInput old new = ⊥
-EndsUnheard (Failed failure) old new = new ≡ old
+EndsUnheard (Failed failure) old new = (can_come failure ≡ true) × (new ≡ old)
 EndsUnheard (Stopped failure) old new = Unit {0}
 
 -- a line ends the script, and nothing was written for it; nothing is said of the output where a call of the writer failed
@@ -44,5 +45,5 @@ abbrev pub EndsAt : Ending → List ℕ → (old new : Option (List ℕ)) → Ty
 EndsAt Done line old new = ⊥
 EndsAt BadLine line old new = (happening_in line ≡ None) × (new ≡ old)
 EndsAt BadInput line old new = ⊥
-EndsAt (Failed failure) line old new = new ≡ old
+EndsAt (Failed failure) line old new = (can_come failure ≡ true) × (new ≡ old)
 EndsAt (Stopped failure) line old new = Unit {0}

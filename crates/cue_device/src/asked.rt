@@ -1,5 +1,8 @@
 //! What the controller sends a device.
 
+ghost use Rattle.std.specs.Prelude.{◌≡◌};
+ghost use Rattle.cue_device.specs.Hearing.{seq_of, task_of};
+
 use crate::part_bytes::PartBytes;
 use cue_show::CueNo;
 
@@ -25,10 +28,22 @@ pub enum Command {
 
 impl Command {
     /// The number of the attempt.
-    pub fn seq(&self) -> u32 {
+    pub fn seq(&self) -> u32
+        ensures { result ≡ seq_of self.now }
+    {
         match self {
             Command::Standby { seq, .. } => *seq,
             Command::Go { seq } | Command::Cancel { seq } => *seq,
+        }
+    }
+
+    /// What a standby asks the device to prepare for; none of the others.
+    pub fn task(&self) -> Option<Task>
+        ensures { result ≡ task_of self.now }
+    {
+        match self {
+            Command::Standby { task, .. } => Some(*task),
+            Command::Go { .. } | Command::Cancel { .. } => None,
         }
     }
 }

@@ -1,5 +1,9 @@
 //! How far a device has come in an attempt, and what one command makes of it.
 
+ghost use Rattle.std.specs.Prelude.{◌≡◌};
+ghost use Rattle.cue_device.specs.Hearing.{is_for};
+ghost use Rattle.cue_device.specs.Table.{act, say, stay};
+
 use crate::asked::Task;
 use crate::words::{Answer, Order};
 
@@ -31,7 +35,19 @@ pub struct Attempt {
     pub task: Option<Task>,
 }
 
-/// What a command makes of an attempt: the phase from now on, what is ordered and what is answered.
+impl Attempt {
+    // Whether this is the task that the attempt is for.
+    pub(crate) fn is_for(&self, task: &Task) -> bool
+        ensures { result ≡ is_for task.now self.now.task }
+    {
+        match self.task {
+            Some(known) => known == *task,
+            None => false,
+        }
+    }
+}
+
+/// What a command, or what the machine tells, makes of an attempt: the phase from now on, what is ordered and what is answered.
 #[derive(Clone, Copy, PartialEq, Eq, Debug)]
 pub struct Turn {
     pub phase: Phase,
@@ -41,7 +57,9 @@ pub struct Turn {
 
 impl Turn {
     // Nothing changes, and nothing is said.
-    pub(crate) fn stay(phase: Phase) -> Turn {
+    pub(crate) fn stay(phase: Phase) -> Turn
+        ensures { result ≡ stay phase }
+    {
         Turn {
             phase,
             order: None,
@@ -50,7 +68,9 @@ impl Turn {
     }
 
     // The device answers, and orders nothing.
-    pub(crate) fn say(phase: Phase, answer: Answer) -> Turn {
+    pub(crate) fn say(phase: Phase, answer: Answer) -> Turn
+        ensures { result ≡ say phase answer }
+    {
         Turn {
             phase,
             order: None,
@@ -59,7 +79,9 @@ impl Turn {
     }
 
     // The device orders its machine something, and answers later.
-    pub(crate) fn act(phase: Phase, order: Order) -> Turn {
+    pub(crate) fn act(phase: Phase, order: Order) -> Turn
+        ensures { result ≡ act phase order }
+    {
         Turn {
             phase,
             order: Some(order),

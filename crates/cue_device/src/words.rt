@@ -1,5 +1,8 @@
 //! What a device orders its machine, and what it answers the controller.
 
+ghost use Rattle.std.specs.Prelude.{◌≡◌};
+ghost use Rattle.cue_device.specs.Hearing.{ordered_for, answered_for};
+
 /// What the machine is to do now, for the attempt of this number.
 #[derive(Clone, Copy, PartialEq, Eq, Debug)]
 pub enum Order {
@@ -14,7 +17,9 @@ pub enum Order {
 
 impl Order {
     /// The number of the attempt.
-    pub fn seq(self) -> u32 {
+    pub fn seq(self) -> u32
+        ensures { result ≡ ordered_for self }
+    {
         match self {
             Order::Prepare(seq) | Order::Move(seq) | Order::GiveUp(seq) => seq,
         }
@@ -36,7 +41,9 @@ pub enum Answer {
 
 impl Answer {
     /// The number of the attempt.
-    pub fn seq(self) -> u32 {
+    pub fn seq(self) -> u32
+        ensures { result ≡ answered_for self }
+    {
         match self {
             Answer::StandingBy(seq) | Answer::Complete(seq) => seq,
             Answer::Cancelled(seq) | Answer::Abort(seq) => seq,

@@ -15,7 +15,6 @@
 
 enum { TICK = 250 }; /* milliseconds between two calls of cue_tick */
 
-static const char *const WORDS[] = {"", "standing_by", "complete", "cancelled", "abort"};
 static volatile sig_atomic_t fault; /* the motor's own signal */
 
 static struct {
@@ -74,7 +73,6 @@ static void say(int wire, const struct sockaddr_in *to, const struct cue_answer 
 {
     if (answer->length == 0)
         return;
-    printf("device answers %s %u\n", WORDS[answer->word], (unsigned)answer->number);
     sendto(wire, answer->bytes, answer->length, 0, (const struct sockaddr *)to, sizeof *to);
 }
 

@@ -2,7 +2,7 @@
  *
  * Your program has the socket, the clock and the motor. It hands each datagram to `cue_hear`, carries out the order
  * that comes back, and tells the end of each order. After each call it sends the answer, where there is one. The calls
- * keep the duties of docs/DEVICES.md. They take no memory, wait for nothing, and need nothing of the C library.
+ * keep the duties of docs/DEVICES.md. They take no memory, wait for nothing, and need nothing of the C library but memcpy.
  *
  * One `struct cue_device` is one device. Give it to one call at a time: where an interrupt tells of the motor, let it
  * set a flag, and tell from your loop. Each call answers a null pointer and a state that no call has left with
@@ -24,7 +24,7 @@ enum cue_order {
                          what you still hold for an earlier number */
     CUE_MOVE = 2,     /* carry out what you prepared; then call cue_moved */
     CUE_GIVE_UP = 3,  /* stop preparing, or let go of what you prepared; then call cue_gave_up */
-    CUE_BAD_CALL = 4  /* a null pointer, a number out of range, or a state that no call has left */
+    CUE_BAD_CALL = 4  /* a null pointer, a number out of range, or a state that is none: it was never made by cue_new */
 };
 
 /* How far the device has come in the attempt of its last number. */
@@ -39,19 +39,10 @@ enum cue_phase {
     CUE_FAILED = 7
 };
 
-/* What a device answers. */
-enum cue_word {
-    CUE_NO_ANSWER = 0,
-    CUE_STANDING_BY = 1, /* it has prepared */
-    CUE_COMPLETE = 2,    /* it has carried the cue out */
-    CUE_CANCELLED = 3,   /* it holds nothing for the attempt */
-    CUE_ABORT = 4        /* it cannot go on */
-};
-
 /* A device. Your program keeps it, in static memory if you like, and reads it; the calls alone write it. */
 struct cue_device {
     uint32_t number;       /* the device's number, 0 to 111 */
-    uint32_t last;         /* the highest number of an attempt that it has heard of, 0 to 2147483647 */
+    uint32_t last;         /* the highest number of an attempt that it has heard of, 0 at first */
     uint32_t phase;        /* enum cue_phase, of the attempt `last` */
     uint32_t doing;        /* enum cue_order: the order whose end the machine has not told; 0 where it is free */
     uint32_t doing_number; /* the attempt of that order; 0 where it is free */
@@ -64,10 +55,8 @@ struct cue_device {
 
 /* What to send, at once. It need not be set before a call. */
 struct cue_answer {
-    uint32_t word;     /* enum cue_word */
-    uint32_t number;   /* the number of the attempt; 0 where there is no answer */
-    uint32_t length;   /* how many bytes to send, 28 to 40; 0: send nothing */
-    uint8_t bytes[64]; /* the datagram, then zeros */
+    uint32_t length;   /* how many bytes to send, 24 to 40; 0: send nothing */
+    uint8_t bytes[64]; /* the datagram, then zeros. It begins with its address, as /device/3/complete, and a zero */
 };
 
 /* The exports of the library. They do not look for null pointers: call those below. */
@@ -82,11 +71,8 @@ uint32_t cue_device_tick(const struct cue_device *device, struct cue_answer *ans
 /* Nothing to send. */
 static inline uint32_t cue_bad_call(struct cue_answer *answer)
 {
-    if (answer != NULL) {
-        answer->word = CUE_NO_ANSWER;
-        answer->number = 0;
+    if (answer != NULL)
         answer->length = 0;
-    }
     return CUE_BAD_CALL;
 }
 
@@ -97,7 +83,7 @@ static inline uint32_t cue_bad_call(struct cue_answer *answer)
  * range. */
 static inline uint32_t cue_new(struct cue_device *device, uint32_t number, uint32_t over)
 {
-    return device == NULL ? CUE_BAD_CALL : cue_device_new(device, number, over);
+    return device == NULL ? (uint32_t)CUE_BAD_CALL : cue_device_new(device, number, over);
 }
 
 /* A datagram of `length` bytes has come: call it for each one, also while the machine works. Send the answer to the

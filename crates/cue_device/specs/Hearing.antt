@@ -26,6 +26,10 @@ use Rattle.cue_device.specs.Table.{same_standby, other_standby, same_go, same_ca
 abbrev pub rested : ℕ → ℕ → Device
 rested number over = record { number = number; last = over; attempt = None; doing = None; unheard = false }
 
+-- a device with these parts
+abbrev pub with_parts : ℕ → ℕ → Option Attempt → Option Order → Bool → Device
+with_parts number last attempt doing unheard = record { number = number; last = last; attempt = attempt; doing = doing; unheard = unheard }
+
 -- the task of the attempt
 abbrev pub task_now : Option Attempt → Option Task
 task_now None = None

@@ -2,7 +2,7 @@
 ghost use Rattle.std.specs.Prelude.{◌≡◌, Some, is_none};
 ghost use Rattle.std.specs.Option.{option_map};
 ghost use Rattle.cue_device.specs.declared.hearing.Told.TheVariants.{Prepared, Moved, GaveUp, Cannot};
-ghost use Rattle.cue_device.specs.Hearing.{after_command, after_reply, after_told, again, answer_ticked, answer_told, begun, doing_after, ends, freed, heard, is_for, left_after, noted, place, rested, said, phase_now, seq_of, task_now, taken, task_of, told_in, told_of, unheard_after};
+ghost use Rattle.cue_device.specs.Hearing.{after_command, after_reply, after_told, again, answer_ticked, answer_told, begun, doing_after, ends, freed, heard, is_for, left_after, noted, place, rested, said, phase_now, seq_of, task_now, taken, task_of, told_in, told_of, unheard_after, with_parts};
 
 use crate::asked::{Command, Task};
 use crate::phase::{Attempt, Phase, Turn};
@@ -70,6 +70,26 @@ impl Device {
             attempt: None,
             doing: None,
             unheard: false,
+        }
+    }
+
+    /// The device with these parts, as `number`, `last`, `phase` and `task`, `doing` and `tick` gave them: for a caller
+    /// that keeps the parts in place of the value, as C does.
+    pub fn of(
+        number: DeviceNo,
+        last: u32,
+        attempt: Option<Attempt>,
+        doing: Option<Order>,
+        unheard: bool,
+    ) -> Device
+        ensures { result ≡ with_parts number last attempt doing unheard }
+    {
+        Device {
+            number,
+            last,
+            attempt,
+            doing,
+            unheard,
         }
     }
 

@@ -39,14 +39,14 @@ static void compare(const char *call, uint32_t order, struct outcome wanted)
 {
     struct cue_device state = {table.number, table.last, table.phase, table.doing, table.doing_number, table.unheard,
                                0, 0, {0}, {0}};
-    struct cue_answer said = {wanted.word, wanted.number, 0, {0}};
+    struct cue_answer said = {0, {0}};
     if (table.has_task) {
         state.cue_length = table.task.cue_length;
         state.bytes_length = table.task.bytes_length;
         memcpy(state.cue, table.task.cue, 16);
         memcpy(state.bytes, table.task.bytes, 32);
     }
-    if (wanted.word != CUE_NO_ANSWER)
+    if (wanted.word != SILENCE)
         said.length = (uint32_t)put_answer(said.bytes, table.number, wanted.word, wanted.number);
     if (order != wanted.order)
         differ("the order", call);
@@ -130,7 +130,7 @@ static void hear(void)
     struct task its = task();
     if (chance < 12) {
         static const char *const WORDS[] = {"abort", "abort", "complete", "abort1"};
-        uint32_t codes[4] = {below(2), below(2), below(2), below(256)};
+        uint32_t codes[4] = {1, 0, 0, below(256)};
         char text[40];
         sprintf(text, "/device/%u/%s", (unsigned)to, WORDS[below(4)]);
         length = put_reply(datagram, text, codes);
@@ -138,7 +138,8 @@ static void hear(void)
         for (length = 0; length < 60 && below(40); length++)
             datagram[length] = (uint8_t)below(256);
     } else {
-        length = put_command(datagram, (enum command)below(COMMANDS), number(), to, &its);
+        uint32_t of = number();
+        length = put_command(datagram, (enum command)below(COMMANDS), of, to, &its);
     }
     if (length > 0 && below(6) == 0)
         change();
@@ -154,9 +155,10 @@ static void tell(void)
     uint32_t order = table.doing && below(8) ? table.doing : 1 + below(3);
     uint32_t of = table.doing && below(8) ? table.doing_number : number();
     length = 0;
-    if (below(12) == 0)
+    uint32_t chance = below(12);
+    if (chance == 0)
         compare("cue_cannot", cue_cannot(&device, of, &answer), table_cannot(&table, of));
-    else if (below(12) == 0)
+    else if (chance == 1)
         compare("cue_tick", cue_tick(&device, &answer), table_tick(&table));
     else if (order == CUE_PREPARE)
         compare("cue_prepared", cue_prepared(&device, of, &answer), table_told(&table, order, of));
@@ -195,7 +197,6 @@ static void bad_calls(void)
 #define BAD(field, value) bad = good; bad.field = value; wants_bad_call(#field " " #value, bad)
     BAD(number, 112);
     BAD(number, 0xffffffff);
-    BAD(last, 0x80000000);
     BAD(phase, 8);
     BAD(phase, 0xffffffff);
     BAD(doing, CUE_BAD_CALL);

@@ -132,59 +132,59 @@ struct cell {
  * for another task. */
 static const struct cell SAME[4][8] = {
     [STANDBY] = {
-        [CUE_PREPARING] = {CUE_PREPARING, CUE_NO_ORDER, CUE_NO_ANSWER},
-        [CUE_READY] = {CUE_READY, CUE_NO_ORDER, CUE_STANDING_BY},
-        [CUE_MOVING] = {CUE_MOVING, CUE_NO_ORDER, CUE_NO_ANSWER},
-        [CUE_DONE] = {CUE_DONE, CUE_NO_ORDER, CUE_ABORT},
-        [CUE_LETTING_GO] = {CUE_LETTING_GO, CUE_NO_ORDER, CUE_NO_ANSWER},
-        [CUE_LET_GO] = {CUE_LET_GO, CUE_NO_ORDER, CUE_ABORT},
-        [CUE_FAILED] = {CUE_FAILED, CUE_NO_ORDER, CUE_ABORT},
+        [CUE_PREPARING] = {CUE_PREPARING, CUE_NO_ORDER, SILENCE},
+        [CUE_READY] = {CUE_READY, CUE_NO_ORDER, STANDING_BY},
+        [CUE_MOVING] = {CUE_MOVING, CUE_NO_ORDER, SILENCE},
+        [CUE_DONE] = {CUE_DONE, CUE_NO_ORDER, ABORT},
+        [CUE_LETTING_GO] = {CUE_LETTING_GO, CUE_NO_ORDER, SILENCE},
+        [CUE_LET_GO] = {CUE_LET_GO, CUE_NO_ORDER, ABORT},
+        [CUE_FAILED] = {CUE_FAILED, CUE_NO_ORDER, ABORT},
     },
     [GO] = {
-        [CUE_PREPARING] = {CUE_FAILED, CUE_NO_ORDER, CUE_ABORT},
-        [CUE_READY] = {CUE_MOVING, CUE_MOVE, CUE_NO_ANSWER},
-        [CUE_MOVING] = {CUE_MOVING, CUE_NO_ORDER, CUE_NO_ANSWER},
-        [CUE_DONE] = {CUE_DONE, CUE_NO_ORDER, CUE_COMPLETE},
-        [CUE_LETTING_GO] = {CUE_FAILED, CUE_NO_ORDER, CUE_ABORT},
-        [CUE_LET_GO] = {CUE_FAILED, CUE_NO_ORDER, CUE_ABORT},
-        [CUE_FAILED] = {CUE_FAILED, CUE_NO_ORDER, CUE_ABORT},
+        [CUE_PREPARING] = {CUE_FAILED, CUE_NO_ORDER, ABORT},
+        [CUE_READY] = {CUE_MOVING, CUE_MOVE, SILENCE},
+        [CUE_MOVING] = {CUE_MOVING, CUE_NO_ORDER, SILENCE},
+        [CUE_DONE] = {CUE_DONE, CUE_NO_ORDER, COMPLETE},
+        [CUE_LETTING_GO] = {CUE_FAILED, CUE_NO_ORDER, ABORT},
+        [CUE_LET_GO] = {CUE_FAILED, CUE_NO_ORDER, ABORT},
+        [CUE_FAILED] = {CUE_FAILED, CUE_NO_ORDER, ABORT},
     },
     [CANCEL] = {
-        [CUE_PREPARING] = {CUE_LETTING_GO, CUE_GIVE_UP, CUE_NO_ANSWER},
-        [CUE_READY] = {CUE_LETTING_GO, CUE_GIVE_UP, CUE_NO_ANSWER},
-        [CUE_MOVING] = {CUE_MOVING, CUE_NO_ORDER, CUE_NO_ANSWER},
-        [CUE_DONE] = {CUE_DONE, CUE_NO_ORDER, CUE_NO_ANSWER},
-        [CUE_LETTING_GO] = {CUE_LETTING_GO, CUE_NO_ORDER, CUE_NO_ANSWER},
-        [CUE_LET_GO] = {CUE_LET_GO, CUE_NO_ORDER, CUE_CANCELLED},
-        [CUE_FAILED] = {CUE_FAILED, CUE_NO_ORDER, CUE_CANCELLED},
+        [CUE_PREPARING] = {CUE_LETTING_GO, CUE_GIVE_UP, SILENCE},
+        [CUE_READY] = {CUE_LETTING_GO, CUE_GIVE_UP, SILENCE},
+        [CUE_MOVING] = {CUE_MOVING, CUE_NO_ORDER, SILENCE},
+        [CUE_DONE] = {CUE_DONE, CUE_NO_ORDER, SILENCE},
+        [CUE_LETTING_GO] = {CUE_LETTING_GO, CUE_NO_ORDER, SILENCE},
+        [CUE_LET_GO] = {CUE_LET_GO, CUE_NO_ORDER, CANCELLED},
+        [CUE_FAILED] = {CUE_FAILED, CUE_NO_ORDER, CANCELLED},
     },
     [COMMANDS] = {
-        [CUE_PREPARING] = {CUE_FAILED, CUE_GIVE_UP, CUE_ABORT},
-        [CUE_READY] = {CUE_FAILED, CUE_GIVE_UP, CUE_ABORT},
-        [CUE_MOVING] = {CUE_FAILED, CUE_NO_ORDER, CUE_ABORT},
-        [CUE_DONE] = {CUE_FAILED, CUE_NO_ORDER, CUE_ABORT},
-        [CUE_LETTING_GO] = {CUE_FAILED, CUE_NO_ORDER, CUE_ABORT},
-        [CUE_LET_GO] = {CUE_FAILED, CUE_NO_ORDER, CUE_ABORT},
-        [CUE_FAILED] = {CUE_FAILED, CUE_NO_ORDER, CUE_ABORT},
+        [CUE_PREPARING] = {CUE_FAILED, CUE_GIVE_UP, ABORT},
+        [CUE_READY] = {CUE_FAILED, CUE_GIVE_UP, ABORT},
+        [CUE_MOVING] = {CUE_FAILED, CUE_NO_ORDER, ABORT},
+        [CUE_DONE] = {CUE_FAILED, CUE_NO_ORDER, ABORT},
+        [CUE_LETTING_GO] = {CUE_FAILED, CUE_NO_ORDER, ABORT},
+        [CUE_LET_GO] = {CUE_FAILED, CUE_NO_ORDER, ABORT},
+        [CUE_FAILED] = {CUE_FAILED, CUE_NO_ORDER, ABORT},
     },
 };
 
 /* A command of a higher number than it has heard of: where the machine is free, and where it is still at work. */
 static const struct cell NEW[2][COMMANDS] = {
-    {[STANDBY] = {CUE_PREPARING, CUE_PREPARE, CUE_NO_ANSWER},
-     [GO] = {CUE_FAILED, CUE_NO_ORDER, CUE_ABORT},
-     [CANCEL] = {CUE_LET_GO, CUE_NO_ORDER, CUE_CANCELLED}},
-    {[STANDBY] = {CUE_FAILED, CUE_NO_ORDER, CUE_ABORT},
-     [GO] = {CUE_FAILED, CUE_NO_ORDER, CUE_ABORT},
-     [CANCEL] = {CUE_LET_GO, CUE_NO_ORDER, CUE_CANCELLED}},
+    {[STANDBY] = {CUE_PREPARING, CUE_PREPARE, SILENCE},
+     [GO] = {CUE_FAILED, CUE_NO_ORDER, ABORT},
+     [CANCEL] = {CUE_LET_GO, CUE_NO_ORDER, CANCELLED}},
+    {[STANDBY] = {CUE_FAILED, CUE_NO_ORDER, ABORT},
+     [GO] = {CUE_FAILED, CUE_NO_ORDER, ABORT},
+     [CANCEL] = {CUE_LET_GO, CUE_NO_ORDER, CANCELLED}},
 };
 
 /* A command of a number that is over: nothing changes. */
-static const uint32_t OVER[COMMANDS] = {[STANDBY] = CUE_ABORT, [GO] = CUE_ABORT, [CANCEL] = CUE_CANCELLED};
+static const uint32_t OVER[COMMANDS] = {[STANDBY] = ABORT, [GO] = ABORT, [CANCEL] = CANCELLED};
 
 static struct outcome outcome(uint32_t order, uint32_t word, uint32_t number)
 {
-    struct outcome made = {order, word, word == CUE_NO_ANSWER ? 0 : number};
+    struct outcome made = {order, word, word == SILENCE ? 0 : number};
     return made;
 }
 
@@ -225,7 +225,7 @@ struct outcome table_hear(struct table *device, const uint8_t *datagram, size_t 
             return obey(device, (enum command)command, number, &task);
     if (is_reply_to_abort(device, datagram, length))
         device->unheard = 0;
-    return outcome(CUE_NO_ORDER, CUE_NO_ANSWER, 0);
+    return outcome(CUE_NO_ORDER, SILENCE, 0);
 }
 
 /* The machine tells the end of an order. */
@@ -233,13 +233,13 @@ struct outcome table_told(struct table *device, uint32_t order, uint32_t number)
 {
     static const struct {
         uint32_t from, to, word;
-    } END[] = {[CUE_PREPARE] = {CUE_PREPARING, CUE_READY, CUE_STANDING_BY},
-               [CUE_MOVE] = {CUE_MOVING, CUE_DONE, CUE_COMPLETE},
-               [CUE_GIVE_UP] = {CUE_LETTING_GO, CUE_LET_GO, CUE_CANCELLED}};
+    } END[] = {[CUE_PREPARE] = {CUE_PREPARING, CUE_READY, STANDING_BY},
+               [CUE_MOVE] = {CUE_MOVING, CUE_DONE, COMPLETE},
+               [CUE_GIVE_UP] = {CUE_LETTING_GO, CUE_LET_GO, CANCELLED}};
     if (device->doing == order && device->doing_number == number)
         device->doing = device->doing_number = 0;
     if (number != device->last || device->phase != END[order].from)
-        return outcome(CUE_NO_ORDER, CUE_NO_ANSWER, 0);
+        return outcome(CUE_NO_ORDER, SILENCE, 0);
     device->phase = END[order].to;
     return outcome(CUE_NO_ORDER, END[order].word, number);
 }
@@ -250,13 +250,13 @@ struct outcome table_cannot(struct table *device, uint32_t number)
     if (device->doing_number == number)
         device->doing = device->doing_number = 0;
     if (number != device->last || device->phase == CUE_OVER || device->phase == CUE_DONE || device->phase == CUE_LET_GO)
-        return outcome(CUE_NO_ORDER, CUE_NO_ANSWER, 0);
+        return outcome(CUE_NO_ORDER, SILENCE, 0);
     device->phase = CUE_FAILED;
     device->unheard = 1;
-    return outcome(CUE_NO_ORDER, CUE_ABORT, number);
+    return outcome(CUE_NO_ORDER, ABORT, number);
 }
 
 struct outcome table_tick(const struct table *device)
 {
-    return outcome(CUE_NO_ORDER, device->unheard ? CUE_ABORT : CUE_NO_ANSWER, device->last);
+    return outcome(CUE_NO_ORDER, device->unheard ? ABORT : SILENCE, device->last);
 }

@@ -5,8 +5,11 @@
 
 #include "cue_device.h"
 
-/* What a device hears, by its number and the table's rows. */
+/* What a device hears, by the table's rows. */
 enum command { STANDBY, GO, CANCEL, COMMANDS };
+
+/* What it answers. */
+enum word { SILENCE, STANDING_BY, COMPLETE, CANCELLED, ABORT };
 
 struct task {
     uint32_t cue_length, bytes_length;

@@ -5,6 +5,7 @@
 #![tactic(auto)]
 
 mod asked;
+mod fields;
 mod hearing;
 mod over_bytes;
 mod part_bytes;
@@ -20,6 +21,6 @@ pub use asked::{Command, Task};
 pub use hearing::{Device, Heard};
 pub use part_bytes::PartBytes;
 pub use phase::{Attempt, Phase};
-pub use reading::command;
+pub use reading::{LAST_NUMBER, command};
 pub use words::{Answer, Order};
 pub use writing::{MAX_ANSWER, write};

@@ -1,7 +1,8 @@
 //! A device over bytes: a datagram in, an order and a datagram out.
 
+use crate::fields::after;
 use crate::hearing::Device;
-use crate::reading::{after, command};
+use crate::reading::command;
 use crate::words::{Answer, Order};
 use crate::writing::{MAX_ANSWER, write};
 

@@ -2,7 +2,8 @@
  *
  * Your program has the socket, the clock and the motor. It hands each datagram to `cue_hear`, carries out the order
  * that comes back, and tells the end of each order. After each call it sends the answer, where there is one. The calls
- * keep the duties of docs/DEVICES.md. They take no memory, wait for nothing, and need nothing of the C library but memcpy.
+ * keep the duties of docs/DEVICES.md. They take no memory, wait for nothing, and need nothing of the C library but
+ * memcpy.
  *
  * One `struct cue_device` is one device. Give it to one call at a time: where an interrupt tells of the motor, let it
  * set a flag, and tell from your loop. Each call answers a null pointer and a state that no call has left with
@@ -55,7 +56,7 @@ struct cue_device {
 
 /* What to send, at once. It need not be set before a call. */
 struct cue_answer {
-    uint32_t length;   /* how many bytes to send, 24 to 40; 0: send nothing */
+    uint32_t length;   /* how many bytes to send, 24 to 32; 0: send nothing */
     uint8_t bytes[64]; /* the datagram, then zeros. It begins with its address, as /device/3/complete, and a zero */
 };
 

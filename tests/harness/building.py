@@ -1,0 +1,43 @@
+"""Builds what is written in C: the library of devices, and programs on it."""
+import subprocess
+from pathlib import Path
+
+HERE = Path(__file__).resolve().parent
+ROOT = HERE.parent.parent
+WARNINGS = ["-Wall", "-Wextra", "-Werror"]
+SANITIZERS = ["-g", "-fsanitize=address,undefined", "-fno-sanitize-recover=undefined"]
+
+
+def device_library(given=None):
+    """The path of the given library, or of the proved one, which is proved and built where it is missing or old."""
+    if given:
+        return str(Path(given).resolve())
+    crate = ROOT / "crates" / "cue_device_c"
+    library = crate / "out" / "libcue_device_c.a"
+    parts = [file for name in ("cue_device", "cue_device_c") for kind in ("src", "specs", "proofs")
+             for file in (ROOT / "crates" / name / kind).rglob("*") if file.is_file()]
+    if not library.exists() or library.stat().st_mtime < max(file.stat().st_mtime for file in parts):
+        print("     proving and building crates/cue_device_c: some minutes", flush=True)
+        subprocess.run(["rt", "lib"], cwd=crate, stdout=subprocess.DEVNULL, check=True)
+        library.touch()
+    return str(library)
+
+
+def has_sanitizers(folder):
+    """Whether the compiler and its libraries have them."""
+    empty = Path(folder) / "empty.c"
+    empty.write_text("int main(void) { return 0; }\n")
+    words = ["cc", *SANITIZERS, str(empty), "-o", str(Path(folder) / "empty")]
+    return subprocess.run(words, stderr=subprocess.DEVNULL, check=False).returncode == 0
+
+
+def program(folder, name, *words):
+    """A program of these files and flags, with every warning an error; its path."""
+    made = str(Path(folder) / name)
+    subprocess.run(["cc", "-O1", *WARNINGS, f"-I{ROOT / 'include'}", *map(str, words), "-o", made], check=True)
+    return made
+
+
+def winch(folder, library=None):
+    """examples/winch.c over the library."""
+    return program(folder, "winch", ROOT / "examples" / "winch.c", device_library(library))

@@ -4,8 +4,6 @@
 pub mod laws;
 mod mem_source;
 mod source;
-#[cfg(test)]
-mod tests;
 mod turns;
 mod udp;
 mod watch;

@@ -1,7 +1,8 @@
-//! A run in memory. The datagram and its reply are written by hand.
-use crate::{Ended, MemAnswer, MemSource, RunFault, run};
+//! A run in memory, with a watch that counts. The datagram and its reply are written by hand.
+use cue_core::{Event, State};
 use cue_disk::MemDisk;
 use cue_engine::{Engine, MemWire};
+use cue_run::{Ended, MemAnswer, MemSource, RunFault, Watch, run_watched};
 use std::alloc::Global;
 use std::process::Abort;
 use std::test::Fail;
@@ -19,8 +20,22 @@ const MADE: [u8; 48] = [
     0, 0, 0, 0, 0, 0, 0, 0,
 ];
 
+/// Counts how often it looked, and how many events it saw.
+#[derive(Drop)]
+struct Count {
+    looks: usize,
+    events: usize,
+}
+
+impl Watch<MemWire> for Count {
+    fn look(&mut self, _state: &State, batch: &[Event], _wire: &mut MemWire) {
+        self.looks = self.looks.saturating_add(1);
+        self.events = self.events.saturating_add(batch.len());
+    }
+}
+
 // Drops an engine. It stands apart, since what is dropped fills the goals of the function around it.
-fn let_go<T: Drop>(_engine: T) {}
+fn discard<T: Drop>(_engine: T) {}
 
 // Takes the datagram and a tick from a source that then fails, and looks at what was sent.
 fn take_two(rt: &impl Abort, alloc: Global, engine: &mut Engine<MemDisk>) -> Result<(), Fail> {
@@ -35,13 +50,23 @@ fn take_two(rt: &impl Abort, alloc: Global, engine: &mut Engine<MemDisk>) -> Res
         MemAnswer::Fault,
     ]?);
     let mut wire = MemWire::new(alloc);
-    let ended = run(alloc, engine, &mut source, &mut wire, 9);
+    let mut count = Count {
+        looks: 0,
+        events: 0,
+    };
+    let ended = run_watched(alloc, engine, &mut source, &mut wire, 9, &mut count);
     let expected = Ended {
         turns: 2,
         unsent: 0,
         fault: Some(RunFault::Source),
     };
     assert_eq!(rt; ended, expected);
+    assert_eq!(rt;
+        count.looks,
+        3,
+        "one look at first, and one after each input"
+    );
+    assert_eq!(rt; count.events, 1);
     match wire.sent() {
         Some([reply]) => {
             assert_eq!(rt; reply.to, 8000);
@@ -52,14 +77,15 @@ fn take_two(rt: &impl Abort, alloc: Global, engine: &mut Engine<MemDisk>) -> Res
     Ok(())
 }
 
-/// A run over a source, a wire and disks in memory takes what the source gives up to its fault, and sends its reply.
+/// A run over a source, a wire and disks in memory takes what the source gives up to its fault, sends its reply, and
+/// has its watch look on.
 #[test]
 fn a_run_in_memory(rt: HostRuntime) -> Result<(), Fail> {
     let alloc = rt.alloc();
     match Engine::form(alloc, MemDisk::new(alloc), MemDisk::new(alloc)) {
         Ok(mut engine) => {
             let took = take_two(&rt, alloc, &mut engine);
-            let_go(engine);
+            discard(engine);
             took
         }
         Err((fault, _, _)) => Err(Fail::from(fault)),

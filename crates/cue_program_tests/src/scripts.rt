@@ -1,5 +1,5 @@
 //! Scripts with their whole output, lines of no form, limits, and streams that fail.
-use crate::script;
+use cue_script::script;
 use std::alloc::Global;
 use std::io::{self, ErrorKind, Read, Write};
 use std::process::Abort;

@@ -23,14 +23,14 @@ is_cancel_to q d (go_2pc p e) = false
 is_cancel_to q d (cancel p e) = nat_eq p q && nat_eq e d
 
 -- the device d is told anything in q
-abbrev pub is_told : ℕ → ℕ → Order → Bool
-is_told q d (standby p e c b) = nat_eq p q && nat_eq e d
-is_told q d (go_2pc p e) = nat_eq p q && nat_eq e d
-is_told q d (cancel p e) = nat_eq p q && nat_eq e d
+abbrev pub is_order_to : ℕ → ℕ → Order → Bool
+is_order_to q d (standby p e c b) = nat_eq p q && nat_eq e d
+is_order_to q d (go_2pc p e) = nat_eq p q && nat_eq e d
+is_order_to q d (cancel p e) = nat_eq p q && nat_eq e d
 
 -- the state asks anything of the device in q
 abbrev pub asks : ℕ → ℕ → ShowState → Bool
-asks q d s = list_any (λ (o : ℕ × Order). is_told q d o.1) (pending s)
+asks q d s = list_any (λ (o : ℕ × Order). is_order_to q d o.1) (pending s)
 
 -- the state asks the device to go, or to cancel
 abbrev pub asks_to_go : ℕ → ℕ → ShowState → Bool

@@ -7,7 +7,7 @@ use Rattle.cue_log.specs.declared.area.TheConstants.{AREA_LIMIT}
 use Rattle.cue_snap.specs.Observed.{first_after, second_after}
 use Rattle.cue_core.specs.declared.event.Event.{Event}
 use Rattle.cue_core.specs.State.{ShowState}
-use Rattle.cue_core.specs.Steps.{folded}
+use Rattle.cue_core.specs.Steps.{after_events}
 use Rattle.cue_core.specs.Happenings.{events_at, recovered}
 use Rattle.cue_records.specs.State.{state_text}
 use Rattle.cue_keeper.specs.Due.{is_due}
@@ -62,9 +62,9 @@ unwritten fault first_in second_in P Q a b (Err refused) same p q = λ other. (s
 -- ---- the state that was closed
 
 -- the cancels of what is undecided close the state
-pub closed_by : (s t : ShowState) (es : List Event) → t ≡ s → es ≡ events_at t recovered → folded s es ≡ closed s
+pub closed_by : (s t : ShowState) (es : List Event) → t ≡ s → es ≡ events_at t recovered → after_events s es ≡ closed s
 unfolding closed
-closed_by s t es same is = ap (folded s) (is ∙ ap (λ (u : ShowState). events_at u recovered) same)
+closed_by s t es same is = ap (after_events s) (is ∙ ap (λ (u : ShowState). events_at u recovered) same)
 
 -- what was made keeps the closed state of one that stood
 pub closed_from : {T E : Type 0} (state_in : T → ShowState) (x y : List ℕ) (s : ShowState) (r : Result T E) → Stands x y s → IfOk r (λ made. state_in made ≡ closed s) → IfOk r (λ made. ClosedFrom x y (state_in made))

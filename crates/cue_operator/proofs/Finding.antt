@@ -32,14 +32,7 @@ use Rattle.cue_operator.specs.Commands.{unless_none, commands_matched, commands_
 use Rattle.cue_operator.specs.LookUp.{behind_front, cut_at_slash, name_and_verb, cue_verbs_at, device_verbs_at, cue_methods_at, device_methods_at, looked_up, number_at, device_written, device_named}
 use Rattle.cue_operator.proofs.Literals.{literal-pattern}
 use Rattle.cue_operator.proofs.LookUps.{both, text_sym, equal_text, all-cues, all-devices, literal-is-looked-up}
-
-not_so : (b : Bool) → IsTrue (not b) → b ≡ false
-not_so true g = cc
-not_so false g = refl
-
-neither : (a b : Bool) → (a || b) ≡ false → (a ≡ false) × (b ≡ false)
-neither true b e = cc
-neither false b e = (refl, e)
+use Rattle.cue_show.proofs.TestLemmas.{not_so, neither}
 
 same_itself : (t : List ℕ) → same_text t t ≡ true
 same_itself [] = refl

@@ -15,7 +15,7 @@ use Rattle.cue_exchange.specs.Live.{disjoint, pairwise, goes_before}
 use Rattle.cue_exchange.proofs.LiveRules.{order_of}
 use Rattle.cue_core.specs.State.{ShowState, cue_parts, is_state}
 use Rattle.cue_core.specs.Pending.{Order, standby, go_2pc, cancel, bytes_for, order_at, order_for, pending}
-use Rattle.cue_core.proofs.Rules.{rules_of}
+use Rattle.cue_core.proofs.rules.RuleLemmas.{rules_of}
 use Rattle.cue_outbox.specs.Sending.{order, order_content, send_content, datagram, datagrams, orders, all_pending}
 use Rattle.cue_outbox.specs.Laws.{CommandsDiffer}
 use Rattle.cue_outbox.proofs.Lists.{Pairs, pairs_all, pairs_append, each_weaker, each_passes, each_fails, each_mapped, each_found, each_flat}

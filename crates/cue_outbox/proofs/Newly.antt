@@ -13,14 +13,14 @@ use Rattle.cue_exchange.specs.declared.attempt.Attempt.{Attempt}
 use Rattle.cue_exchange.specs.Answers.{is_preparing, waits}
 use Rattle.cue_exchange.specs.Live.{attempt_of, has_number}
 use Rattle.cue_core.specs.State.{ShowState, cue_parts, is_state}
-use Rattle.cue_core.specs.Steps.{folded}
+use Rattle.cue_core.specs.Steps.{after_events}
 use Rattle.cue_core.specs.Pending.{Order, standby, go_2pc, cancel, bytes_for, order_at, order_for, pending}
 use Rattle.cue_core.specs.InTurn.{steps, events_of}
-use Rattle.cue_core.proofs.InTurn.{steps-acceptable}
-use Rattle.cue_core.proofs.Conditions.{both, join, same_number, same_self}
-use Rattle.cue_core.proofs.Finding.{rising, found_has}
-use Rattle.cue_core.proofs.Rules.{rules_of}
-use Rattle.cue_core.proofs.Sound.{sound_of}
+use Rattle.cue_core.proofs.verdicts.StepLemmas.{steps-acceptable}
+use Rattle.cue_core.proofs.lists.ConditionLemmas.{both, join, same_number, same_self}
+use Rattle.cue_core.proofs.live.FindingLemmas.{rising, found_has}
+use Rattle.cue_core.proofs.rules.RuleLemmas.{rules_of}
+use Rattle.cue_core.proofs.rules.SoundLemmas.{sound_of}
 use Rattle.cue_outbox.specs.Sending.{Send, order, order_content, send_content, datagram, datagrams, orders, all_pending}
 use Rattle.cue_outbox.specs.New.{same_datagram, is_new, newly_pending}
 use Rattle.cue_outbox.specs.Asked.{number_of, is_asked, pending_of, NewlyPendingAreAsked, StepsAskAnew, AskedCommandsDiffer}
@@ -29,7 +29,7 @@ use Rattle.cue_outbox.proofs.ReadBack.{read_back}
 use Rattle.cue_outbox.proofs.Told.{IsTold, live_told}
 use Rattle.cue_outbox.proofs.Writable.{sent, if_waits, IsWritableOrder, writable_for, all_writable}
 use Rattle.cue_outbox.proofs.Apart.{Apart, key, content_key, key_in, all_other, apart_pending}
-use Rattle.cue_outbox.proofs.Since.{told, Stays, Since, begun, moved_on, stayed, since, is_state-folded}
+use Rattle.cue_outbox.proofs.Since.{told, Stays, Since, begun, moved_on, stayed, since, is_state-after_events}
 
 -- ---- commands of other attempts, or of another stage, are other datagrams
 
@@ -254,16 +254,16 @@ filter_orders new test (o ∷ os) h = by (new (o.0, order o.1)) (test o) h.0 (fi
 pub newly-pending-are-asked : NewlyPendingAreAsked
 unfolding newly_pending
 newly-pending-are-asked s events numbers i g asked =
-    let t = folded s events in
-    let j = is_state-folded s events i g in
-    filter_orders (is_new (datagrams (all_pending s))) (λ o. is_among (number_of o.1) numbers) (pending (folded s events))
-    (each_flat (IsNow (folded s events)) (λ (o : ℕ × Order). is_new (datagrams (all_pending s)) (o.0, order o.1) ≡ is_among (number_of o.1) numbers) (λ a. told (folded s events) a)
+    let t = after_events s events in
+    let j = is_state-after_events s events i g in
+    filter_orders (is_new (datagrams (all_pending s))) (λ o. is_among (number_of o.1) numbers) (pending (after_events s events))
+    (each_flat (IsNow (after_events s events)) (λ (o : ℕ × Order). is_new (datagrams (all_pending s)) (o.0, order o.1) ≡ is_among (number_of o.1) numbers) (λ a. told (after_events s events) a)
     (λ b n. each_both (IsOf b) (λ (o : ℕ × Order). is_new (datagrams (all_pending s)) (o.0, order o.1) ≡ is_asked b.seq events) (λ (o : ℕ × Order). is_new (datagrams (all_pending s)) (o.0, order o.1) ≡ is_among (number_of o.1) numbers)
     (λ o k e. e ∙ (sym (asked b.seq) ∙ ap (λ q. is_among q numbers) (sym k.number)))
-    (told (folded s events) b) (told_of (folded s events) b) (new_as_asked s (folded s events) b (is_asked b.seq events) i n (since s events b.seq b i g n.there)))
-    (folded s events).live
-    (each_both (λ (b : Attempt). attempt_of (folded s events).live b.seq ≡ Some b) (IsTold (folded s events)) (IsNow (folded s events)) (λ b e told_b. record { there = e; writable = writable_for (folded s events) b told_b })
-    (folded s events).live (each_itself (folded s events).live (sound_of (folded s events) j).rises) (live_told (folded s events) j)))
+    (told (after_events s events) b) (told_of (after_events s events) b) (new_as_asked s (after_events s events) b (is_asked b.seq events) i n (since s events b.seq b i g n.there)))
+    (after_events s events).live
+    (each_both (λ (b : Attempt). attempt_of (after_events s events).live b.seq ≡ Some b) (IsTold (after_events s events)) (IsNow (after_events s events)) (λ b e told_b. record { there = e; writable = writable_for (after_events s events) b told_b })
+    (after_events s events).live (each_itself (after_events s events).live (sound_of (after_events s events) j).rises) (live_told (after_events s events) j)))
 
 pub steps-ask-anew : StepsAskAnew
 steps-ask-anew s now from commands numbers h fit asked =

@@ -23,7 +23,7 @@ use Rattle.cue_show.proofs.ChangeLemmas.{is_cue_of-parts_of}
 use Rattle.cue_show.proofs.ShowLemmas.{show_rules}
 use Rattle.cue_core.specs.declared.event.Ended.{Ended}
 use Rattle.cue_core.specs.State.{ShowState, is_state}
-use Rattle.cue_core.proofs.Rules.{rules_of}
+use Rattle.cue_core.proofs.rules.RuleLemmas.{rules_of}
 use Rattle.cue_outbox.specs.Sending.{answer, status, order_content, send_content, status_of, ended_number, ended_outcome}
 use Rattle.cue_exchange.specs.Outcomes.{outcome_number}
 use Rattle.cue_outbox.specs.Laws.{RepliesAreRead, StatusIsRead}

@@ -6,7 +6,7 @@ use Rattle.cue_core.specs.declared.event.Event.{Event}
 use Rattle.cue_core.specs.declared.event.Event.TheVariants.{Device, NoDevice, Cue, NoCue, Place, Start, Ready, Go, Done, Cancel, LetGo, Failed, Excuse}
 use Rattle.cue_core.specs.State.{ShowState, is_state}
 use Rattle.cue_core.specs.declared.command.Command.{Command}
-use Rattle.cue_core.specs.Steps.{are_acceptable, folded}
+use Rattle.cue_core.specs.Steps.{are_acceptable, after_events}
 use Rattle.cue_core.specs.Judge.{is_fit}
 use Rattle.cue_core.specs.InTurn.{steps, events_of}
 use Rattle.cue_core.specs.Pending.{Order, standby, go_2pc, cancel, pending}
@@ -48,7 +48,7 @@ pending_of numbers s = orders (filter (λ o. is_among (number_of o.1) numbers) (
 abbrev pub NewlyPendingAreAsked : Type 0
 NewlyPendingAreAsked =
     (s : ShowState) (events : List Event) (numbers : List ℕ) → IsTrue (is_state s) → IsTrue (are_acceptable s events) → ((q : ℕ) → is_among q numbers ≡ is_asked q events)
-    → newly_pending s (folded s events) ≡ pending_of numbers (folded s events)
+    → newly_pending s (after_events s events) ≡ pending_of numbers (after_events s events)
 
 -- And so after the commands of a datagram, judged in turn: the newly pending are those of the attempts that their
 -- events ask anew.
@@ -56,7 +56,7 @@ abbrev pub StepsAskAnew : Type 0
 StepsAskAnew =
     (s : ShowState) (now from : ℕ) (commands : List Command) (numbers : List ℕ) → IsTrue (is_state s) → IsTrue (list_all is_fit commands)
     → ((q : ℕ) → is_among q numbers ≡ is_asked q (events_of (steps s now from commands)))
-    → newly_pending s (folded s (events_of (steps s now from commands))) ≡ pending_of numbers (folded s (events_of (steps s now from commands)))
+    → newly_pending s (after_events s (events_of (steps s now from commands))) ≡ pending_of numbers (after_events s (events_of (steps s now from commands)))
 
 -- no two pending commands of some attempts are the same datagram
 abbrev pub AskedCommandsDiffer : Type 0

@@ -6,7 +6,7 @@ ghost use Rattle.std.specs.Option.{option_map};
 ghost use Rattle.cue_show.specs.declared.limits.TheConstants.{MAX_PART_BYTES};
 ghost use Rattle.cue_show.specs.Devices.{is_among};
 ghost use Rattle.cue_show.specs.Parts.{is_part};
-ghost use Rattle.cue_exchange.specs.declared.limits.TheConstants.{LAST_NUMBER};
+ghost use Rattle.cue_exchange.specs.declared.limits.TheConstants.{MAX_NUMBER};
 ghost use Rattle.cue_core.specs.State.{cue_parts};
 ghost use Rattle.cue_core.specs.Pending.{bytes_for, standby, go_2pc, cancel};
 ghost use Rattle.cue_outbox.specs.Sending.{all_pending, datagram, datagrams, order};
@@ -64,7 +64,7 @@ fn push_orders(
     state: &State,
     attempt: &Attempt,
 ) -> Result<(), AllocError>
-    requires { attempt.now.seq ≤ LAST_NUMBER }
+    requires { attempt.now.seq ≤ MAX_NUMBER }
     ensures { let owed = datagrams_for state.now attempt.now attempt.now.answers in
         OnOk result (outs_view outs.new.items ≡ outs_view outs.old.items ++ owed) }
 {
@@ -97,7 +97,7 @@ fn order_for(
     parts: &[Part],
     answer: DeviceAnswer,
 ) -> Result<Option<Out>, AllocError>
-    requires number { attempt.now.seq ≤ LAST_NUMBER }
+    requires number { attempt.now.seq ≤ MAX_NUMBER }
     requires parts { parts.now ≡ cue_parts state.now.show attempt.now.cue }
     requires each { IsTrue (list_all is_part parts.now) }
     ensures { IfOk result (λ out. option_map out_view out ≡ datagram_for state.now attempt.now answer) }
@@ -118,7 +118,7 @@ fn order_to(
     parts: &[Part],
     device: DeviceNo,
 ) -> Result<Out, AllocError>
-    requires number { attempt.now.seq ≤ LAST_NUMBER }
+    requires number { attempt.now.seq ≤ MAX_NUMBER }
     requires each { IsTrue (list_all is_part parts.now) }
     ensures { IfOk result (λ out. out_view out ≡ datagram (to, order (order_in attempt.now parts.now device))) }
 {
@@ -152,7 +152,7 @@ fn standby(
     cue: CueNo,
     bytes: &[u8],
 ) -> Result<Out, AllocError>
-    requires number { seq ≤ LAST_NUMBER }
+    requires number { seq ≤ MAX_NUMBER }
     requires short { length bytes.now ≤ MAX_PART_BYTES }
     ensures { IfOk result (λ out. out_view out ≡ datagram (to, order (standby seq device cue bytes.now))) }
 {
@@ -167,7 +167,7 @@ fn standby(
 
 #[tactic(auto, unfolding(crate::specs::Sending::send_content, crate::specs::Sending::order_content, crate::specs::Sending::datagram))]
 fn go_2pc(alloc: Global, to: u16, seq: u32, device: DeviceNo) -> Result<Out, AllocError>
-    requires { seq ≤ LAST_NUMBER }
+    requires { seq ≤ MAX_NUMBER }
     ensures { IfOk result (λ out. out_view out ≡ datagram (to, order (go_2pc seq device))) }
 {
     let args = vec![in alloc; int(seq), int(u32::from(device.number()))]?;
@@ -176,7 +176,7 @@ fn go_2pc(alloc: Global, to: u16, seq: u32, device: DeviceNo) -> Result<Out, All
 
 #[tactic(auto, unfolding(crate::specs::Sending::send_content, crate::specs::Sending::order_content, crate::specs::Sending::datagram))]
 fn cancel(alloc: Global, to: u16, seq: u32, device: DeviceNo) -> Result<Out, AllocError>
-    requires { seq ≤ LAST_NUMBER }
+    requires { seq ≤ MAX_NUMBER }
     ensures { IfOk result (λ out. out_view out ≡ datagram (to, order (cancel seq device))) }
 {
     let args = vec![in alloc; int(seq), int(u32::from(device.number()))]?;

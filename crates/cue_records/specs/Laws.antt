@@ -8,8 +8,9 @@ use Rattle.cue_records.specs.Batch.{batch_text, is_batch, is_event}
 use Rattle.cue_records.specs.BatchReading.{batch_of}
 use Rattle.cue_records.specs.State.{IsStateText}
 use Rattle.cue_records.specs.StateReading.{state_of}
-use Rattle.cue_records.specs.declared.batch.TheConstants.{MAX_EVENTS}
-use Rattle.cue_records.specs.declared.state.TheConstants.{VERSION, OLD_VERSION, OLD_MAX_CUES, MAX_STATE_BYTES}
+use Rattle.cue_records.specs.declared.limits.TheConstants.{MAX_EVENTS}
+use Rattle.cue_records.specs.declared.limits.TheConstants.{OLD_MAX_CUES, MAX_STATE_BYTES}
+use Rattle.cue_records.specs.declared.state.TheConstants.{VERSION, OLD_VERSION}
 
 -- the text of a batch reads back as the batch
 abbrev pub BatchesAreReadBack : Type 0

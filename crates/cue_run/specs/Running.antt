@@ -1,7 +1,7 @@
 -- What a run comes to.
 use Rattle.std.specs.Prelude.{◌≡◌, ◌^◌, ◌-◌, ◌⊎◌, ℕ, List, [], ◌∷◌, ◌++◌, length, map, min, Option, Some, None, Result, Ok, Err}
 use Rattle.cue_core.specs.State.{ShowState}
-use Rattle.cue_core.specs.Steps.{folded}
+use Rattle.cue_core.specs.Steps.{after_events}
 use Rattle.cue_disk.specs.Disk.{Contents, IsImage}
 use Rattle.cue_keeper.specs.Stands.{StandsEither}
 use Rattle.cue_keeper.specs.declared.fault.Fault.TheVariants.{Memory}
@@ -22,7 +22,7 @@ story s inputs = run s (map (λ t. took t.0 t.1) inputs)
 
 -- an input was taken, and all that it owes was handed over
 pub record IsTaken (s : ShowState) (now : ℕ) (input : Input) (told : Option (List Handed)) (refused : ℕ) (s_then : ShowState) (told_then : Option (List Handed)) : Type 0 where
-  pub state : s_then ≡ folded s (given s now input).batch
+  pub state : s_then ≡ after_events s (given s now input).batch
   pub handed : AllHanded told (datagrams (given s now input).sends) refused told_then
 
 -- So far these inputs were taken, as the source gave them, and what was owed at first and what they owe was handed over.
@@ -44,7 +44,7 @@ Turned size left left_then s s_then told told_then may_leave (Ok None) =
 Turned size left left_then s s_then told told_then may_leave (Err fault.Source) =
     GaveAll size left (fails ∷ []) left_then × (s_then ≡ s) × (told_then ≡ told)
 Turned size left left_then s s_then told told_then may_leave (Err (fault.Engine f)) =
-    (t : ℕ × Input) × GaveAll size left (comes t.0 t.1 ∷ []) left_then × (s_then ≡ s) × (told_then ≡ told) × may_leave (folded s (given s t.0 t.1).batch)
+    (t : ℕ × Input) × GaveAll size left (comes t.0 t.1 ∷ []) left_then × (s_then ≡ s) × (told_then ≡ told) × may_leave (after_events s (given s t.0 t.1).batch)
 
 -- why a run ended
 abbrev pub EndedBy : (size : ℕ) (asked turns : ℕ) (left left_then : Option (List Answer)) (s : ShowState) (may_leave : ShowState → Type 0) → Option RunFault → Type 0
@@ -52,7 +52,7 @@ EndedBy size asked turns left left_then s may_leave None = ((turns ≡ asked) ×
 EndedBy size asked turns left left_then s may_leave (Some fault.Source) = GaveAll size left (fails ∷ []) left_then
 EndedBy size asked turns left left_then s may_leave (Some (fault.Engine f)) =
     ((f ≡ Memory) × (turns ≡ 0) × (left_then ≡ left))
-    ⊎ ((t : ℕ × Input) × GaveAll size left (comes t.0 t.1 ∷ []) left_then × may_leave (folded s (given s t.0 t.1).batch))
+    ⊎ ((t : ℕ × Input) × GaveAll size left (comes t.0 t.1 ∷ []) left_then × may_leave (after_events s (given s t.0 t.1).batch))
 
 -- a whole run: what was taken, and why it ended
 pub record Ran (size : ℕ) (left : Option (List Answer)) (s : ShowState) (owed : List (ℕ × List ℕ)) (told : Option (List Handed)) (asked turns unsent : ℕ) (why : Option RunFault) (left_then : Option (List Answer)) (s_then : ShowState) (told_then : Option (List Handed)) (may_leave : ShowState → Type 0) : Type 0 where

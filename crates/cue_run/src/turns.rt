@@ -1,6 +1,6 @@
 //! The run of a show: it takes what a source gives, and hands out what that owes.
 ghost use Rattle.std.specs.Prelude.{◌≡◌, ◌≤◌, ◌↔◌, [], length, Some, IfOk, OnOk, OnErr, IfErr, IsErrOf};
-ghost use Rattle.cue_core.specs.Steps.{folded};
+ghost use Rattle.cue_core.specs.Steps.{after_events};
 ghost use Rattle.cue_keeper.specs.Stands.{StandsAs};
 ghost use Rattle.cue_engine.specs.Given.{given};
 ghost use Rattle.cue_engine.specs.Inputs.{input_view};
@@ -54,7 +54,7 @@ fn take_one<D: Disk, W: Wire>(
     ensures stands { D.is_honest (first_of engine.old) → D.is_honest (second_of engine.old) → StandsAs (D.held (first_of engine.old)) (D.held (second_of engine.old)) (state_of engine.old)
         → (IsErrOf result Fault.Disk → ⊥) → StandsAs (D.held (first_of engine.new)) (D.held (second_of engine.new)) (state_of engine.new) }
     ensures leaves { D.is_honest (first_of engine.old) → D.is_honest (second_of engine.old) → StandsAs (D.held (first_of engine.old)) (D.held (second_of engine.old)) (state_of engine.old)
-        → OnErr result (LeavesEither (D.held (first_of engine.new)) (D.held (second_of engine.new)) (state_of engine.old) (folded (state_of engine.old) (given (state_of engine.old) now (input_view input.entry)).batch)) }
+        → OnErr result (LeavesEither (D.held (first_of engine.new)) (D.held (second_of engine.new)) (state_of engine.old) (after_events (state_of engine.old) (given (state_of engine.old) now (input_view input.entry)).batch)) }
 {
     match engine.take(now, input) {
         Ok(_) => Ok(engine.hand_out(wire)),

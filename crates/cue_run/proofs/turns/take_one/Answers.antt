@@ -1,5 +1,5 @@
 use Rattle.std.proofs.Common.{ℕ, refl, inl}
-use Rattle.cue_core.specs.Steps.{folded}
+use Rattle.cue_core.specs.Steps.{after_events}
 use Rattle.cue_keeper.specs.Stands.{StandsAs}
 use Rattle.cue_keeper.specs.Observed as kept
 use Rattle.cue_engine.specs.declared.taken.Taken.{Taken}
@@ -28,7 +28,7 @@ returns-in-Err-clause-leaves g c = λ first second stands.
     let new = c.take.new.self in
     let fault = c.in-Err.ensures in
     let s = state_of old in
-    let after = folded s (given s c.args.now (input_view c.args.input)).batch in
+    let after = after_events s (given s c.args.now (input_view c.args.input)).batch in
     by_fault Taken c.in-Err.fault (kept.is_broken (keeper_of old)) (LeavesEither (d.held (first_of new)) (d.held (second_of new)) s after) fault.broken
     (λ same. λ x y left_x left_y. inl (stands_still d.held (first_of old) (second_of old) (first_of new) (second_of new) s s
     (rw (fault.unchanged same) refl) (rw (fault.unchanged same) refl) refl stands x y left_x left_y))

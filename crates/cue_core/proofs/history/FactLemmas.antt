@@ -20,11 +20,11 @@ use Rattle.cue_core.specs.Steps.{acceptable, after}
 use Rattle.cue_core.specs.Events.{is_start, is_start_of, is_go_of, is_cancel_of, is_end_of}
 use Rattle.cue_core.specs.History.{state_of, is_history, parts_by, devices_by, is_live_by, stood_by, was_excused, FactsByHistory}
 use Rattle.cue_core.specs.InOrder.{may_go_by, keeps_order, is_in_order, GoAfterReady}
-use Rattle.cue_core.proofs.Conditions.{both, join, cases, agrees, same-agrees, all_zip, any_not, same_number}
-use Rattle.cue_core.proofs.Finding.{found, found_has}
-use Rattle.cue_core.proofs.Tells.{not_decided, Tells, devices_told, is_last, last_by, ready_by, excused_by}
-use Rattle.cue_core.proofs.Kept.{IsSound, Kept, Settles}
-use Rattle.cue_core.proofs.Sound.{kept-history, sound-history}
+use Rattle.cue_core.proofs.lists.ConditionLemmas.{both, join, cases, agrees, same-agrees, all_zip, any_not, same_number}
+use Rattle.cue_core.proofs.live.FindingLemmas.{found, found_has}
+use Rattle.cue_core.proofs.history.AttemptLemmas.{not_decided, Tells, devices_told, is_last, last_by, ready_by, excused_by}
+use Rattle.cue_core.proofs.history.NumberLemmas.{IsSound, Kept, Settles}
+use Rattle.cue_core.proofs.rules.SoundLemmas.{kept-history, sound-history}
 
 -- ---- the last number
 

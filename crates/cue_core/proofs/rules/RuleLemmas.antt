@@ -18,7 +18,7 @@ use Rattle.cue_exchange.specs.declared.attempt.Stage.{Stage}
 use Rattle.cue_exchange.specs.declared.attempt.Stage.TheVariants.{Decided, Cancelling}
 use Rattle.cue_exchange.specs.declared.attempt.Attempt.{Attempt}
 use Rattle.cue_exchange.specs.declared.attempt.DeviceAnswer.{DeviceAnswer}
-use Rattle.cue_exchange.specs.declared.limits.TheConstants.{LAST_NUMBER}
+use Rattle.cue_exchange.specs.declared.limits.TheConstants.{MAX_NUMBER}
 use Rattle.cue_exchange.specs.Answers.{stands, devices_of, first_answers, entered, with_answer, some_waits, is_decided, is_cancelling, is_concluding}
 use Rattle.cue_exchange.specs.Live.{disjoint, attempt_of, attempt_of_cue, has_number, are_live, is_attempt, is_number, is_moment, have_sound_devices, goes_before}
 use Rattle.cue_exchange.specs.Live.{has_cue as is_of_cue}
@@ -29,34 +29,34 @@ use Rattle.cue_core.specs.declared.event.Ended.{Ended}
 use Rattle.cue_core.specs.declared.event.Event.{Event}
 use Rattle.cue_core.specs.declared.event.Event.TheVariants as event
 use Rattle.cue_core.specs.State.{ShowState, cue_parts, is_of_part, are_of_parts, is_at_cue, is_ended, are_tied, is_state}
-use Rattle.cue_core.specs.Steps.{acceptable, after, can_begin, place_after, ended_as, settled}
-use Rattle.cue_core.proofs.Conditions.{both, join, all_zip, all_from, all_mapped, same_number, pairwise_from}
-use Rattle.cue_core.proofs.Finding.{rising, rising-changed, attempt_of-changed, attempt_of-without_ended, if_open, found-closed, found, found-changed, found_none_kept, found_has, found_passes, passes_none}
+use Rattle.cue_core.specs.Steps.{acceptable, after, can_begin, place_after, ended_as, after_last_answer}
+use Rattle.cue_core.proofs.lists.ConditionLemmas.{both, join, all_zip, all_from, all_mapped, same_number, pairwise_from}
+use Rattle.cue_core.proofs.live.FindingLemmas.{rising, rising-changed, attempt_of-changed, attempt_of-without_ended, if_open, found-closed, found, found-changed, found_none_kept, found_has, found_passes, passes_none}
 
 pub record Rules (s : ShowState) : Type 0 where
   pub show : IsTrue (is_show s.show)
   pub live : IsTrue (are_live s.live)
   pub at : IsTrue (list_all (is_at_cue s.show) s.live)
   pub within : IsTrue (list_all (λ a. nat_le a.seq s.last_seq) s.live)
-  pub last : IsTrue (nat_le s.last_seq LAST_NUMBER)
+  pub last : IsTrue (nat_le s.last_seq MAX_NUMBER)
   pub ended : IsTrue (is_ended s.live s.last_seq s.ended)
 
 pub rules_of : (s : ShowState) → IsTrue (is_state s) → Rules s
 rules_of s h =
     let p = both (is_show s.show) (are_live s.live && are_tied s) h in
     let q = both (are_live s.live) (are_tied s) p.1 in
-    let u = both (list_all (is_at_cue s.show) s.live) (list_all (λ a. nat_le a.seq s.last_seq) s.live && (nat_le s.last_seq LAST_NUMBER && is_ended s.live s.last_seq s.ended)) q.1 in
-    let w = both (list_all (λ a. nat_le a.seq s.last_seq) s.live) (nat_le s.last_seq LAST_NUMBER && is_ended s.live s.last_seq s.ended) u.1 in
-    let x = both (nat_le s.last_seq LAST_NUMBER) (is_ended s.live s.last_seq s.ended) w.1 in
+    let u = both (list_all (is_at_cue s.show) s.live) (list_all (λ a. nat_le a.seq s.last_seq) s.live && (nat_le s.last_seq MAX_NUMBER && is_ended s.live s.last_seq s.ended)) q.1 in
+    let w = both (list_all (λ a. nat_le a.seq s.last_seq) s.live) (nat_le s.last_seq MAX_NUMBER && is_ended s.live s.last_seq s.ended) u.1 in
+    let x = both (nat_le s.last_seq MAX_NUMBER) (is_ended s.live s.last_seq s.ended) w.1 in
     record { show = p.0; live = q.0; at = u.0; within = w.0; last = x.0; ended = x.1 }
 
 pub is_state-from : (s : ShowState) → Rules s → IsTrue (is_state s)
 is_state-from s r =
     join (is_show s.show) (are_live s.live && are_tied s) r.show
     (join (are_live s.live) (are_tied s) r.live
-    (join (list_all (is_at_cue s.show) s.live) (list_all (λ a. nat_le a.seq s.last_seq) s.live && (nat_le s.last_seq LAST_NUMBER && is_ended s.live s.last_seq s.ended)) r.at
-    (join (list_all (λ a. nat_le a.seq s.last_seq) s.live) (nat_le s.last_seq LAST_NUMBER && is_ended s.live s.last_seq s.ended) r.within
-    (join (nat_le s.last_seq LAST_NUMBER) (is_ended s.live s.last_seq s.ended) r.last r.ended))))
+    (join (list_all (is_at_cue s.show) s.live) (list_all (λ a. nat_le a.seq s.last_seq) s.live && (nat_le s.last_seq MAX_NUMBER && is_ended s.live s.last_seq s.ended)) r.at
+    (join (list_all (λ a. nat_le a.seq s.last_seq) s.live) (nat_le s.last_seq MAX_NUMBER && is_ended s.live s.last_seq s.ended) r.within
+    (join (nat_le s.last_seq MAX_NUMBER) (is_ended s.live s.last_seq s.ended) r.last r.ended))))
 
 -- ---- the cue of each attempt
 
@@ -255,7 +255,7 @@ rules-start s q c t r g =
       live = are_live-started q c t (cue_parts s.show c) s.live r.live b.start;
       at = all_push (is_at_cue s.show) s.live (new_attempt q c t (cue_parts s.show c)) r.at (at-new s.show q c t b.cue);
       within = all_push (λ a. nat_le a.seq q) s.live (new_attempt q c t (cue_parts s.show c)) (all_from (λ a. nat_le a.seq s.last_seq) (λ a. nat_le a.seq q) s.live (λ a k. later a.seq b.next k) r.within) (itself q);
-      last = (both (nat_le 1 q) (nat_le q LAST_NUMBER) b.number).1;
+      last = (both (nat_le 1 q) (nat_le q MAX_NUMBER) b.number).1;
       ended = ended-from s.live (started q c t (cue_parts s.show c) s.live) s.last_seq q (let n = b.next in omega arith) s.ended (λ p l n. none-started p (new_attempt q c t (cue_parts s.show c)) s.live n (other p b.next l)) r.ended;
     }
   where
@@ -271,9 +271,9 @@ rules-start s q c t r g =
 -- ---- a last answer
 
 -- after a last answer q is either live with a device that is to answer, or has ended
-settled-ended : (s : ShowState) (q : ℕ) (live : List Attempt) (a : Attempt) → IsTrue (rising live) → attempt_of live q ≡ Some a → IsTrue (is_number q) → IsTrue (nat_le q s.last_seq) → IsTrue (is_ended live s.last_seq s.ended)
+after_last_answer-ended : (s : ShowState) (q : ℕ) (live : List Attempt) (a : Attempt) → IsTrue (rising live) → attempt_of live q ≡ Some a → IsTrue (is_number q) → IsTrue (nat_le q s.last_seq) → IsTrue (is_ended live s.last_seq s.ended)
     → IsTrue (is_ended (without_ended q live) s.last_seq (ended_as q (ended_in q live) s.ended))
-settled-ended s q live a rises e number most h = by (some_waits a.answers) refl
+after_last_answer-ended s q live a rises e number most h = by (some_waits a.answers) refl
   where
     gone : some_waits a.answers ≡ false → attempt_of (without_ended q live) q ≡ None
     gone w = attempt_of-without_ended q live rises ∙ (ap (λ o. option_and_then if_open o) e ∙ rw w refl)
@@ -282,8 +282,8 @@ settled-ended s q live a rises e number most h = by (some_waits a.answers) refl
     by true w = rw (found-closed q live rises, e, w) (ended-from live (without_ended q live) s.last_seq s.last_seq (omega arith) s.ended (λ p l n. found_none_kept (has_number p) (goes_on q) live n) h)
     by false w = rw (found-closed q live rises, e, w) (join (is_number q) (nat_le q s.last_seq && not (is_some (attempt_of (without_ended q live) q))) number (join (nat_le q s.last_seq) (not (is_some (attempt_of (without_ended q live) q))) most (rw (gone w) refl)))
 
-rules-settled : (s : ShowState) (q d : ℕ) (given : Answer) (test : Attempt → Bool) → Rules s → IsTrue (holds q test s.live) → IsTrue (are_live (without_ended q (answered q d given s.live))) → Rules (settled s q (answered q d given s.live))
-rules-settled s q d given test r g h =
+rules-after_last_answer : (s : ShowState) (q d : ℕ) (given : Answer) (test : Attempt → Bool) → Rules s → IsTrue (holds q test s.live) → IsTrue (are_live (without_ended q (answered q d given s.live))) → Rules (after_last_answer s q (answered q d given s.live))
+rules-after_last_answer s q d given test r g h =
     let f = found q test s.live (rises_of s.live r.live) g in
     let same = same_number f.0.seq q (found_passes (has_number q) s.live f.0 f.1) in
     record {
@@ -292,7 +292,7 @@ rules-settled s q d given test r g h =
       at = all_filter (is_at_cue s.show) (goes_on q) (answered q d given s.live) (at-changed s.show q (answers_as d given) (cue-answers_as d given) s.live r.at);
       within = all_filter (λ a. nat_le a.seq s.last_seq) (goes_on q) (answered q d given s.live) (within-changed s.last_seq q (answers_as d given) (cue-answers_as d given) s.live r.within);
       last = r.last;
-      ended = settled-ended s q (answered q d given s.live) (answers_as d given f.0)
+      ended = after_last_answer-ended s q (answered q d given s.live) (answers_as d given f.0)
           (rising-changed q (answers_as d given) (cue-answers_as d given).seq s.live (rises_of s.live r.live))
           (found-changed q (answers_as d given) (cue-answers_as d given).seq s.live f.0 f.1)
           (rw same at (number_of f.0 (found_has is_attempt (has_number q) s.live f.0 (attempts_of s.live r.live) f.1)))
@@ -312,10 +312,10 @@ rules-after s (event.Place c) r g = rules-show s (with_place s.show (Some c)) r 
 rules-after s (event.Start q c t) r g = rules-start s q c t r g
 rules-after s (event.Ready q d) r g = rules-changed s q (answers_as d answer.Ready) (cue-answers_as d answer.Ready) r (are_live-ready q d s.live r.live g)
 rules-after s (event.Go q) r g = rules-go s q r g
-rules-after s (event.Done q d) r g = rules-settled s q d answer.Done (waits_in is_decided d) r g (are_live-done q d s.live r.live g)
+rules-after s (event.Done q d) r g = rules-after_last_answer s q d answer.Done (waits_in is_decided d) r g (are_live-done q d s.live r.live g)
 rules-after s (event.Cancel q reason) r g = rules-changed s q (moves_to (Cancelling reason)) (cue-moves_to (Cancelling reason)) r (are_live-cancel q reason s.live r.live g)
-rules-after s (event.LetGo q d) r g = rules-settled s q d answer.LetGo (waits_in is_cancelling d) r g (are_live-let_go q d s.live r.live g)
-rules-after s (event.Failed q d) r g = rules-settled s q d answer.Failed (waits_in is_concluding d) r g (are_live-failed q d s.live r.live g)
+rules-after s (event.LetGo q d) r g = rules-after_last_answer s q d answer.LetGo (waits_in is_cancelling d) r g (are_live-let_go q d s.live r.live g)
+rules-after s (event.Failed q d) r g = rules-after_last_answer s q d answer.Failed (waits_in is_concluding d) r g (are_live-failed q d s.live r.live g)
 rules-after s (event.Excuse q d) r g = rules-changed s q (answers_as d answer.Excused) (cue-answers_as d answer.Excused) r (are_live-excused q d s.live r.live g)
 
 pub is_state-after : (s : ShowState) (e : Event) → IsTrue (is_state s) → IsTrue (acceptable s e) → IsTrue (is_state (after s e))

@@ -18,11 +18,11 @@ use Rattle.cue_core.specs.declared.command.Code.TheVariants as code
 use Rattle.cue_core.specs.declared.command.ReplyKind.{ReplyKind}
 use Rattle.cue_core.specs.declared.command.ReplyKind.TheVariants as reply
 use Rattle.cue_core.specs.State.{ShowState, with_live}
-use Rattle.cue_core.specs.Steps.{folded, settled}
-use Rattle.cue_core.specs.Judge.{Judged, made, refused, abort_early, on_reply, on_reply_to, on_reply_in, is_from_another}
+use Rattle.cue_core.specs.Steps.{after_events, after_last_answer}
+use Rattle.cue_core.specs.Judge.{Judgement, made, refused, abort_early, on_reply, on_reply_to, on_reply_in, is_from_another}
 use Rattle.cue_core.specs.Replies.{Said, is_made, is_reply_made}
-use Rattle.cue_core.proofs.Conditions.{both, same_number}
-use Rattle.cue_core.proofs.Finding.{found_passes}
+use Rattle.cue_core.proofs.lists.ConditionLemmas.{both, same_number}
+use Rattle.cue_core.proofs.live.FindingLemmas.{found_passes}
 
 -- ---- the cell of a reply
 
@@ -70,7 +70,7 @@ pub record Falls (s : ShowState) (r : Said) : Type 0 where
   pub answered : device_answer attempt.answers r.device ≡ Some given
 
 pub falls : (s : ShowState) (r : Said) → IsTrue (is_reply_made s r) → Falls s r
-falls s r h = at (attempt_of s.live r.number) refl (let P : Judged → Type 0 = λ j. IsTrue (is_made j.0) in subst P (reply_of s r (attempt_of s.live r.number) (comes_made s r h) refl) h)
+falls s r h = at (attempt_of s.live r.number) refl (let P : Judgement → Type 0 = λ j. IsTrue (is_made j.0) in subst P (reply_of s r (attempt_of s.live r.number) (comes_made s r h) refl) h)
   where
     within : (a : Attempt) (o : Option DeviceAnswer) → device_answer a.answers r.device ≡ o → attempt_of s.live r.number ≡ Some a → IsTrue (is_made (option_map_or (λ w. on_reply_in r.kind a.seq w a.stage w.answer) o (refused code.NotPart)).0) → Falls s r
     within a None g e k = absurd (cc)
@@ -83,10 +83,10 @@ falls s r h = at (attempt_of s.live r.number) refl (let P : Judged → Type 0 = 
 -- ---- an attempt that is carried out or given up
 
 -- the reply is the device's last answer
-pub record Ends (q : ℕ) (x : DeviceAnswer) (given : Answer) (judged : Judged) : Type 0 where
+pub record Ends (q : ℕ) (x : DeviceAnswer) (given : Answer) (judgement_of : Judgement) : Type 0 where
   pub last : Answer
   pub waited : IsTrue (is_waiting given)
-  pub makes : (s : ShowState) → folded s judged.1 ≡ settled s q (answered q x.device last s.live)
+  pub makes : (s : ShowState) → after_events s judgement_of.1 ≡ after_last_answer s q (answered q x.device last s.live)
 
 ends_late : (q : ℕ) (x : DeviceAnswer) (b : Bool) → Ends q x answer.Waiting (if b then made (event.LetGo q x.device ∷ []) else made (event.Failed q x.device ∷ []))
 ends_late q x true = record { last = answer.LetGo; waited = refl; makes = λ s. refl }
@@ -150,39 +150,39 @@ abbrev pub anew : DeviceAnswer → DeviceAnswer
 anew x = record x { answer = answer.Waiting }
 
 -- the attempt goes on, and the device has answered
-pub record Stays (q : ℕ) (x : DeviceAnswer) (judged : Judged) : Type 0 where
+pub record Stays (q : ℕ) (x : DeviceAnswer) (judgement_of : Judgement) : Type 0 where
   pub last : Answer
-  pub makes : (s : ShowState) → folded s judged.1 ≡ with_live s (answered q x.device last s.live)
+  pub makes : (s : ShowState) → after_events s judgement_of.1 ≡ with_live s (answered q x.device last s.live)
 
 -- the device stands by, and is too late once the attempt is given up
-pub record Readies (kind : ReplyKind) (q : ℕ) (x : DeviceAnswer) (given : Answer) (judged : Judged) : Type 0 where
-  pub makes : (s : ShowState) → folded s judged.1 ≡ with_live s (answered q x.device answer.Ready s.live)
+pub record Readies (kind : ReplyKind) (q : ℕ) (x : DeviceAnswer) (given : Answer) (judgement_of : Judgement) : Type 0 where
+  pub makes : (s : ShowState) → after_events s judgement_of.1 ≡ with_live s (answered q x.device answer.Ready s.live)
   pub asked : IsTrue (not (is_excused given))
-  pub late : (s : ShowState) (n : ℕ) (w : DeviceAnswer) → folded s (on_reply_in kind n w (Cancelling Abort) w.answer).1 ≡ s
+  pub late : (s : ShowState) (n : ℕ) (w : DeviceAnswer) → after_events s (on_reply_in kind n w (Cancelling Abort) w.answer).1 ≡ s
 
 -- the device is excused, and is let go of once the attempt is given up
-pub record Excuses (kind : ReplyKind) (q : ℕ) (x : DeviceAnswer) (given : Answer) (judged : Judged) : Type 0 where
-  pub makes : (s : ShowState) → folded s judged.1 ≡ with_live s (answered q x.device answer.Excused s.live)
+pub record Excuses (kind : ReplyKind) (q : ℕ) (x : DeviceAnswer) (given : Answer) (judgement_of : Judgement) : Type 0 where
+  pub makes : (s : ShowState) → after_events s judgement_of.1 ≡ with_live s (answered q x.device answer.Excused s.live)
   pub asked : IsTrue (not (is_excused given))
-  pub later : (s : ShowState) → folded s (on_reply_in kind q (anew x) (Cancelling Abort) answer.Waiting).1 ≡ settled s q (answered q x.device answer.LetGo s.live)
+  pub later : (s : ShowState) → after_events s (on_reply_in kind q (anew x) (Cancelling Abort) answer.Waiting).1 ≡ after_last_answer s q (answered q x.device answer.LetGo s.live)
 
 -- the attempt is given up, and the device has failed, as it has where the attempt was given up before
-pub record Aborts (kind : ReplyKind) (q : ℕ) (x : DeviceAnswer) (given : Answer) (judged : Judged) : Type 0 where
-  pub makes : (s : ShowState) → folded s judged.1 ≡ settled s q (answered q x.device answer.Failed (moved q (Cancelling Abort) s.live))
+pub record Aborts (kind : ReplyKind) (q : ℕ) (x : DeviceAnswer) (given : Answer) (judgement_of : Judgement) : Type 0 where
+  pub makes : (s : ShowState) → after_events s judgement_of.1 ≡ after_last_answer s q (answered q x.device answer.Failed (moved q (Cancelling Abort) s.live))
   pub asked : IsTrue (not (is_excused given))
-  pub later : (s : ShowState) → folded s (on_reply_in kind q (anew x) (Cancelling Abort) answer.Waiting).1 ≡ settled s q (answered q x.device answer.Failed s.live)
+  pub later : (s : ShowState) → after_events s (on_reply_in kind q (anew x) (Cancelling Abort) answer.Waiting).1 ≡ after_last_answer s q (answered q x.device answer.Failed s.live)
 
 -- what a reply may make
-abbrev pub Prepares : ReplyKind → ℕ → DeviceAnswer → Answer → Judged → Type 0
-Prepares kind q x given judged = Readies kind q x given judged ⊎ (Excuses kind q x given judged ⊎ Aborts kind q x given judged)
+abbrev pub Prepares : ReplyKind → ℕ → DeviceAnswer → Answer → Judgement → Type 0
+Prepares kind q x given judgement_of = Readies kind q x given judgement_of ⊎ (Excuses kind q x given judgement_of ⊎ Aborts kind q x given judgement_of)
 
-abbrev pub ready_stays : {kind : ReplyKind} {q : ℕ} {x : DeviceAnswer} {given : Answer} {judged : Judged} → Readies kind q x given judged → Stays q x judged
+abbrev pub ready_stays : {kind : ReplyKind} {q : ℕ} {x : DeviceAnswer} {given : Answer} {judgement_of : Judgement} → Readies kind q x given judgement_of → Stays q x judgement_of
 ready_stays u = record { last = answer.Ready; makes = u.makes }
 
-abbrev pub excused_stays : {kind : ReplyKind} {q : ℕ} {x : DeviceAnswer} {given : Answer} {judged : Judged} → Excuses kind q x given judged → Stays q x judged
+abbrev pub excused_stays : {kind : ReplyKind} {q : ℕ} {x : DeviceAnswer} {given : Answer} {judgement_of : Judgement} → Excuses kind q x given judgement_of → Stays q x judgement_of
 excused_stays u = record { last = answer.Excused; makes = u.makes }
 
-too_late : (s : ShowState) (n : ℕ) (w : DeviceAnswer) (x : Answer) → folded s (on_reply_in reply.StandingBy n w (Cancelling Abort) x).1 ≡ s
+too_late : (s : ShowState) (n : ℕ) (w : DeviceAnswer) (x : Answer) → after_events s (on_reply_in reply.StandingBy n w (Cancelling Abort) x).1 ≡ s
 too_late s n w answer.Waiting = refl
 too_late s n w answer.Ready = refl
 too_late s n w answer.Done = refl

@@ -4,19 +4,7 @@ use Rattle.std.specs.Prelude.{IsTrue, map}
 use Rattle.std.specs.List.{list_all, list_any}
 use Rattle.cue_exchange.specs.Live.{pairwise}
 use Rattle.std.proofs.lemmas.Bool.Decides.{nat_tests}
-
-pub both : (b c : Bool) → IsTrue (b && c) → IsTrue b × IsTrue c
-both true c h = (refl, h)
-both false c h = cc
-
-pub join : (b c : Bool) → IsTrue b → IsTrue c → IsTrue (b && c)
-join true c p q = q
-join false c p q = cc
-
--- the cases of a test
-pub cases : (b : Bool) → (b ≡ true) ⊎ (b ≡ false)
-cases true = inl refl
-cases false = inr refl
+pub use Rattle.cue_show.proofs.TestLemmas.{both, join, cases, neither, same_number, same_self, number_sym}
 
 pub all_from : {A : Type 0} (P Q : A → Bool) (xs : List A) → ((x : A) → IsTrue (P x) → IsTrue (Q x)) → IsTrue (list_all P xs) → IsTrue (list_all Q xs)
 all_from P Q [] f h = refl
@@ -43,12 +31,6 @@ pub any_not : {A : Type 0} (P : A → Bool) (xs : List A) → list_any (λ x. no
 any_not P [] = refl
 any_not P (x ∷ xs) = any_not_at (P x) (list_any (λ x. not (P x)) xs) (list_all P xs) (any_not P xs)
 
-pub same_number : (a b : ℕ) → IsTrue (nat_eq a b) → a ≡ b
-same_number a b h = Prim.grind (arith, h)
-
-pub same_self : (a : ℕ) → nat_eq a a ≡ true
-same_self a = Prim.grind arith
-
 -- the two tests have one outcome
 abbrev pub agrees : Bool → Bool → Bool
 agrees true b = b
@@ -73,13 +55,6 @@ none_passes P (x ∷ xs) h = at (P x) h (none_passes P xs)
     at : (b : Bool) → (b || list_any P xs) ≡ false → (list_any P xs ≡ false → IsTrue (list_all (λ x. not (P x)) xs)) → IsTrue (not b && list_all (λ x. not (P x)) xs)
     at true e f = cc
     at false e f = f e
-
-pub both_false : (b c : Bool) → (b || c) ≡ false → (b ≡ false) × (c ≡ false)
-both_false false c h = (refl, h)
-both_false true c h = let e : true ≡ false = h in (cc, cc)
-
-pub number_sym : (a b : ℕ) → nat_eq a b ≡ nat_eq b a
-number_sym a b = Prim.grind (arith, nat_tests)
 
 pub all_of : {A : Type 0} (P : A → Bool) (xs : List A) → ((x : A) → IsTrue (P x)) → IsTrue (list_all P xs)
 all_of P [] f = refl

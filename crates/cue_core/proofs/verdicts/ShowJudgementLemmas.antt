@@ -13,7 +13,7 @@ use Rattle.cue_show.specs.Parts.{are_parts, is_part, has_required_part, same_par
 use Rattle.cue_show.specs.Show.{Cues, ShowLists, port_of, parts_of, has_device, has_cue, is_used, is_full, is_place, are_known, is_cue_of}
 use Rattle.cue_show.proofs.ShowLemmas.{show_rules, stack_parts}
 use Rattle.cue_show.specs.declared.limits.TheConstants.{MAX_PARTS}
-use Rattle.cue_exchange.specs.declared.limits.TheConstants.{LAST_NUMBER}
+use Rattle.cue_exchange.specs.declared.limits.TheConstants.{MAX_NUMBER}
 use Rattle.cue_exchange.specs.Live.{devices_in, attempt_of_cue, is_number, is_moment}
 use Rattle.cue_exchange.specs.Steps.{are_free, are_sound_parts, has_room, are_below, can_start}
 use Rattle.cue_core.specs.declared.limits.TheConstants.{STANDBY_MS}
@@ -23,8 +23,8 @@ use Rattle.cue_core.specs.declared.command.Code.TheVariants as code
 use Rattle.cue_core.specs.State.{ShowState, cue_parts}
 use Rattle.cue_core.specs.Steps.{acceptable, after, are_acceptable}
 use Rattle.cue_core.specs.Judge.{made, known, refused, on_add_device, on_remove_device, on_add_cue, on_new_cue, on_goto, on_remove_cue, on_standby, on_standby_of, prepares}
-use Rattle.cue_core.proofs.Conditions.{both, join, all_from, same_self}
-use Rattle.cue_core.proofs.Rules.{Rules}
+use Rattle.cue_core.proofs.lists.ConditionLemmas.{both, join, all_from, same_self}
+use Rattle.cue_core.proofs.rules.RuleLemmas.{Rules}
 
 pub one : (s : ShowState) (e : Event) → IsTrue (acceptable s e) → IsTrue (are_acceptable s (e ∷ []))
 one s e g = join (acceptable s e) true g refl
@@ -116,7 +116,7 @@ sound_parts parts h =
     let r = both (distinct (devices_in parts)) (list_all is_part parts) q.1 in
     join (has_required_part parts) (distinct (devices_in parts)) p.0 r.0
 
-start_fits : (s : ShowState) (c : List ℕ) (t : ℕ) (parts : List Part) → Rules s → parts_of s.show c ≡ Some parts → IsTrue (are_free (devices_in parts) s.live) → IsTrue (has_room s.live) → nat_le LAST_NUMBER s.last_seq ≡ false → IsTrue (is_moment t)
+start_fits : (s : ShowState) (c : List ℕ) (t : ℕ) (parts : List Part) → Rules s → parts_of s.show c ≡ Some parts → IsTrue (are_free (devices_in parts) s.live) → IsTrue (has_room s.live) → nat_le MAX_NUMBER s.last_seq ≡ false → IsTrue (is_moment t)
     → IsTrue (acceptable s (event.Start (s.last_seq + 1) c t))
 start_fits s c t parts r e free room below moment =
     join (nat_eq (s.last_seq + 1) (s.last_seq + 1)) (has_cue s.show c && can_start (s.last_seq + 1) t (cue_parts s.show c) s.live) (same_self (s.last_seq + 1))
@@ -128,16 +128,16 @@ start_fits s c t parts r e free room below moment =
     (join (are_below (s.last_seq + 1) s.live) (are_free (devices_in parts) s.live && are_sound_parts parts) (all_from (λ a. nat_le a.seq s.last_seq) (λ a. nat_lt a.seq (s.last_seq + 1)) s.live (λ a k. above a.seq k) r.within)
     (join (are_free (devices_in parts) s.live) (are_sound_parts parts) free (sound_parts parts (stacked s.show c s.show.cues parts (stack_parts s.show s.show.cues (show_rules s.show r.show).stack).each e)))))))))
   where
-    number : (n : ℕ) → nat_le LAST_NUMBER n ≡ false → IsTrue (nat_le 1 (n + 1) && nat_le (n + 1) LAST_NUMBER)
-    number n k = let up : IsTrue (nat_le 1 (n + 1)) = Prim.grind (arith, nat_tests) in let low : IsTrue (nat_le (n + 1) LAST_NUMBER) = Prim.grind (arith, nat_tests, k) in join (nat_le 1 (n + 1)) (nat_le (n + 1) LAST_NUMBER) up low
+    number : (n : ℕ) → nat_le MAX_NUMBER n ≡ false → IsTrue (nat_le 1 (n + 1) && nat_le (n + 1) MAX_NUMBER)
+    number n k = let up : IsTrue (nat_le 1 (n + 1)) = Prim.grind (arith, nat_tests) in let low : IsTrue (nat_le (n + 1) MAX_NUMBER) = Prim.grind (arith, nat_tests, k) in join (nat_le 1 (n + 1)) (nat_le (n + 1) MAX_NUMBER) up low
 
     above : (n : ℕ) → IsTrue (nat_le n s.last_seq) → IsTrue (nat_lt n (s.last_seq + 1))
     above n k = Prim.grind (arith, nat_tests, k)
 
 standby_of_fits : (s : ShowState) (now : ℕ) (c : List ℕ) (parts : List Part) → Rules s → parts_of s.show c ≡ Some parts → IsTrue (are_acceptable s (on_standby_of s now c parts).1)
-standby_of_fits s now c parts r e = by (prepares s c) (are_free (devices_in parts) s.live) (has_room s.live) (nat_le LAST_NUMBER s.last_seq) (is_moment (now + STANDBY_MS)) refl refl refl refl
+standby_of_fits s now c parts r e = by (prepares s c) (are_free (devices_in parts) s.live) (has_room s.live) (nat_le MAX_NUMBER s.last_seq) (is_moment (now + STANDBY_MS)) refl refl refl refl
   where
-    by : (p f h l m : Bool) → are_free (devices_in parts) s.live ≡ f → has_room s.live ≡ h → nat_le LAST_NUMBER s.last_seq ≡ l → is_moment (now + STANDBY_MS) ≡ m
+    by : (p f h l m : Bool) → are_free (devices_in parts) s.live ≡ f → has_room s.live ≡ h → nat_le MAX_NUMBER s.last_seq ≡ l → is_moment (now + STANDBY_MS) ≡ m
         → IsTrue (are_acceptable s (if p then known else if not f then refused code.Busy else if not h then refused code.Full else if l then refused code.Exhausted else if not m then refused code.Clock else made (event.Start (s.last_seq + 1) c (now + STANDBY_MS) ∷ [])).1)
     by true f h l m a b d g = refl
     by false false h l m a b d g = refl

@@ -4,17 +4,17 @@ use Rattle.std.specs.Prelude.{IsTrue}
 use Rattle.std.proofs.lemmas.List.{take_more, drop_more}
 use Rattle.cue_core.specs.declared.event.Event.{Event}
 use Rattle.cue_core.specs.State.{ShowState}
-use Rattle.cue_core.specs.Steps.{acceptable, after, are_acceptable, folded}
-use Rattle.cue_core.proofs.Conditions.{both}
+use Rattle.cue_core.specs.Steps.{acceptable, after, are_acceptable, after_events}
+use Rattle.cue_core.proofs.lists.ConditionLemmas.{both}
 
 -- first the ones, then the others
-pub folded-append : (s : ShowState) (xs ys : List Event) → folded s (xs ++ ys) ≡ folded (folded s xs) ys
-folded-append s [] ys = refl
-folded-append s (e ∷ xs) ys = folded-append (after s e) xs ys
+pub after_events-append : (s : ShowState) (xs ys : List Event) → after_events s (xs ++ ys) ≡ after_events (after_events s xs) ys
+after_events-append s [] ys = refl
+after_events-append s (e ∷ xs) ys = after_events-append (after s e) xs ys
 
 -- one event more
-pub folded-more : (s : ShowState) (es : List Event) (i : ℕ) (e : Event) → i < length es → e ≡ get_or es i e → folded s (take (i + 1) es) ≡ after (folded s (take i es)) e
-folded-more s es i e l h = ap (λ xs. folded s xs) (take_more es i e l) ∙ (folded-append s (take i es) (get_or es i e ∷ []) ∙ ap (λ x. after (folded s (take i es)) x) (sym h))
+pub after_events-more : (s : ShowState) (es : List Event) (i : ℕ) (e : Event) → i < length es → e ≡ get_or es i e → after_events s (take (i + 1) es) ≡ after (after_events s (take i es)) e
+after_events-more s es i e l h = ap (λ xs. after_events s xs) (take_more es i e l) ∙ (after_events-append s (take i es) (get_or es i e ∷ []) ∙ ap (λ x. after (after_events s (take i es)) x) (sym h))
 
 -- of events that are acceptable in turn the first is, and then the others
 pub acceptable-next : (s : ShowState) (es : List Event) (i : ℕ) (e : Event) → i < length es → e ≡ get_or es i e → IsTrue (are_acceptable s (drop i es)) → IsTrue (acceptable s e) × IsTrue (are_acceptable (after s e) (drop (i + 1) es))

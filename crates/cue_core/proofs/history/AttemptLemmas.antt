@@ -11,7 +11,7 @@ use Rattle.cue_exchange.specs.declared.attempt.Reason.{Reason}
 use Rattle.cue_exchange.specs.declared.attempt.Stage.TheVariants.{Preparing, Decided, Cancelling}
 use Rattle.cue_exchange.specs.declared.attempt.DeviceAnswer.{DeviceAnswer}
 use Rattle.cue_exchange.specs.declared.attempt.Attempt.{Attempt}
-use Rattle.cue_exchange.specs.Answers.{is_ready, is_excused, is_waiting, is_preparing, is_decided, is_cancelling, is_concluding, is_known_in, is_required, stands, waits, some_waits, entering, enters, entered, answer_passes, answers_with, asked, devices_of}
+use Rattle.cue_exchange.specs.Answers.{is_ready, is_excused, is_waiting, is_preparing, is_decided, is_cancelling, is_concluding, is_known_in, is_required, stands, waits, some_waits, entering, enters, entered, answer_passes, answers_with, first_answer, devices_of}
 use Rattle.cue_exchange.specs.Live.{devices_in}
 use Rattle.cue_exchange.specs.Steps.{answers_as, moves_to, new_attempt}
 use Rattle.cue_core.specs.declared.event.Event.{Event}
@@ -19,8 +19,8 @@ use Rattle.cue_core.specs.declared.event.Event.TheVariants as event
 use Rattle.cue_core.specs.Events.{is_start_of, is_ready_of, is_excuse_of, is_go_of, is_cancel_of, is_end_of, is_about}
 use Rattle.cue_core.specs.State.{is_of_part, are_of_parts}
 use Rattle.cue_core.specs.History.{parts_by, devices_by, stood_by, was_excused}
-use Rattle.cue_core.proofs.Conditions.{all_of, both, join, all_zip, all_from, all_mapped, agrees, same_self, same_number, number_sym, same-agrees, none_passes}
-use Rattle.cue_core.proofs.Rules.{are_of_parts-with_answer, are_of_parts-entered, are_of_parts-first_answers}
+use Rattle.cue_core.proofs.lists.ConditionLemmas.{all_of, both, join, all_zip, all_from, all_mapped, agrees, same_self, same_number, number_sym, same-agrees, none_passes}
+use Rattle.cue_core.proofs.rules.RuleLemmas.{are_of_parts-with_answer, are_of_parts-entered, are_of_parts-first_answers}
 
 -- the device is done with: it has answered for the last time, or was excused
 abbrev pub is_last : Answer → Bool
@@ -134,9 +134,9 @@ tells-start q c t parts h go cancel ready excused end same = record {
   parts = rw same (are_of_parts-first_answers parts);
   decided = sym go;
   cancelled = sym cancel;
-  ready = λ p. rw (all_mapped (ready_by (event.Start q c t ∷ h) q) asked parts) (all_of (λ x. ready_by (event.Start q c t ∷ h) q (asked x)) parts (λ x. rw (ready x.device) refl));
-  excused = λ p. rw (all_mapped (excused_by (event.Start q c t ∷ h) q) asked parts) (all_of (λ x. excused_by (event.Start q c t ∷ h) q (asked x)) parts (λ x. rw (excused x.device) refl));
-  ended = rw (all_mapped (last_by (event.Start q c t ∷ h) q) asked parts) (all_of (λ x. last_by (event.Start q c t ∷ h) q (asked x)) parts (λ x. rw (end x.device) refl));
+  ready = λ p. rw (all_mapped (ready_by (event.Start q c t ∷ h) q) first_answer parts) (all_of (λ x. ready_by (event.Start q c t ∷ h) q (first_answer x)) parts (λ x. rw (ready x.device) refl));
+  excused = λ p. rw (all_mapped (excused_by (event.Start q c t ∷ h) q) first_answer parts) (all_of (λ x. excused_by (event.Start q c t ∷ h) q (first_answer x)) parts (λ x. rw (excused x.device) refl));
+  ended = rw (all_mapped (last_by (event.Start q c t ∷ h) q) first_answer parts) (all_of (λ x. last_by (event.Start q c t ∷ h) q (first_answer x)) parts (λ x. rw (end x.device) refl));
 }
 
 -- ---- an answer

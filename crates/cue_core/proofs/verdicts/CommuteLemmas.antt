@@ -18,14 +18,15 @@ use Rattle.cue_exchange.specs.Steps.{answers_as, moves_to, answered, moved, with
 use Rattle.cue_core.specs.declared.command.Code.TheVariants as code
 use Rattle.cue_core.specs.declared.command.ReplyKind.{ReplyKind}
 use Rattle.cue_core.specs.State.{ShowState, with_live, is_state, are_tied}
-use Rattle.cue_core.specs.Steps.{folded, settled}
-use Rattle.cue_core.specs.Judge.{Judged, refused, on_reply_to, on_reply_in}
+use Rattle.cue_core.specs.Steps.{after_events, after_last_answer}
+use Rattle.cue_core.specs.Judge.{Judgement, refused, on_reply_to, on_reply_in}
 use Rattle.cue_core.specs.Replies.{Said, is_made, is_reply_made, after_reply, RepliesCommute}
-use Rattle.cue_core.proofs.Conditions.{both, same_number, number_sym}
-use Rattle.cue_core.proofs.Finding.{rising, rising-changed, found-changed, found_has, attempt_of-without_ended, if_open}
-use Rattle.cue_core.proofs.Changes.{given_number, moved_number, answered_both, moved_excused, moved_over, asked_anew, unexcused, settled_open, device_answer-other, device_answer-entered, waiting_some}
-use Rattle.cue_core.proofs.Cells.{comes, comes_made, reply_of, device_found, cell_at, Falls, falls, Ends, ends, anew, Stays, Readies, Excuses, Aborts, Prepares, ready_stays, excused_stays, prepares}
-use Rattle.cue_core.proofs.Sound.{attempt_rules, sound_of}
+use Rattle.cue_core.proofs.lists.ConditionLemmas.{both, same_number, number_sym}
+use Rattle.cue_core.proofs.live.FindingLemmas.{rising, rising-changed, found-changed, found_has, attempt_of-without_ended, if_open}
+use Rattle.cue_core.proofs.live.ChangeLemmas.{given_number, moved_number, answered_both, moved_excused, moved_over, asked_anew, unexcused, settled_open, device_answer-other, device_answer-entered, waiting_some}
+use Rattle.cue_core.proofs.verdicts.CellLemmas.{comes, comes_made, reply_of, device_found, cell_at, Falls, falls, Ends, ends, anew, Stays, Readies, Excuses, Aborts, Prepares, ready_stays, excused_stays, prepares}
+use Rattle.cue_core.proofs.rules.RuleLemmas.{rules_of}
+use Rattle.cue_core.proofs.rules.SoundLemmas.{attempt_rules, sound_of}
 
 abbrev says : ℕ → ReplyKind → ℕ → ℕ → Said
 says from kind d q = record { from = from; kind = kind; device = d; number = q }
@@ -48,7 +49,7 @@ module _ (s : ShowState) (q : ℕ) (a : Attempt) (rises : IsTrue (rising s.live)
   heard z r = after_reply z (said r)
 
   -- the cell of the reply
-  abbrev cell : Heard s q a → Judged
+  abbrev cell : Heard s q a → Judgement
   cell r = on_reply_in r.kind q r.given a.stage r.given.answer
 
   -- the devices of the two replies differ
@@ -75,11 +76,11 @@ module _ (s : ShowState) (q : ℕ) (a : Attempt) (rises : IsTrue (rising s.live)
   abbrev given_up : List Attempt
   given_up = moved q (Cancelling Abort) s.live
 
-  first_is : (r : Heard s q a) → heard s r ≡ folded s (cell r).1
-  first_is r = ap (λ (j : Judged). folded s j.1) (cell_at s (said r) a r.given r.comes here r.answered)
+  first_is : (r : Heard s q a) → heard s r ≡ after_events s (cell r).1
+  first_is r = ap (λ (j : Judgement). after_events s j.1) (cell_at s (said r) a r.given r.comes here r.answered)
 
-  second_is : (r : Heard s q a) (l : List Attempt) (b : Attempt) (x : DeviceAnswer) → attempt_of l q ≡ Some b → device_answer b.answers r.given.device ≡ Some x → heard (with_live s l) r ≡ folded (with_live s l) (on_reply_in r.kind q x b.stage x.answer).1
-  second_is r l b x e g = ap (λ (j : Judged). folded (with_live s l) j.1) (cell_at (with_live s l) (said r) b x r.comes e g)
+  second_is : (r : Heard s q a) (l : List Attempt) (b : Attempt) (x : DeviceAnswer) → attempt_of l q ≡ Some b → device_answer b.answers r.given.device ≡ Some x → heard (with_live s l) r ≡ after_events (with_live s l) (on_reply_in r.kind q x b.stage x.answer).1
+  second_is r l b x e g = ap (λ (j : Judgement). after_events (with_live s l) j.1) (cell_at (with_live s l) (said r) b x r.comes e g)
 
   -- the attempt, once the device of a reply has answered
   answered_here : (r : Heard s q a) (x : Answer) → attempt_of (answered q r.given.device x s.live) q ≡ Some (answers_as r.given.device x a)
@@ -90,7 +91,7 @@ module _ (s : ShowState) (q : ℕ) (a : Attempt) (rises : IsTrue (rising s.live)
   other_answered r t x n = device_answer-other r.given.device t.given.device x a.answers n ∙ t.answered
 
   -- the first reply, and then the second, where both are last answers
-  ends_then : (r t : Heard s q a) → Differ r t → (u : Closes r) (v : Closes t) → heard (heard s r) t ≡ settled s q (answered q t.given.device v.last (answered q r.given.device u.last s.live))
+  ends_then : (r t : Heard s q a) → Differ r t → (u : Closes r) (v : Closes t) → heard (heard s r) t ≡ after_last_answer s q (answered q t.given.device v.last (answered q r.given.device u.last s.live))
   ends_then r t n u v =
       let d : ℕ = r.given.device in
       let l : List Attempt = answered q d u.last s.live in
@@ -107,7 +108,7 @@ module _ (s : ShowState) (q : ℕ) (a : Attempt) (rises : IsTrue (rising s.live)
       ap (λ z. heard z t) (first_is r ∙ u.makes s) ∙ (second_is t l (answers_as r.given.device u.last a) t.given (answered_here r u.last) (other_answered r t u.last n) ∙ v.makes (with_live s l))
 
   -- where the attempt goes on after the first, and the second aborts
-  stays_then_abort : (r t : Heard s q a) → Differ r t → (u : GoesOn r) → GivesUp t → heard (heard s r) t ≡ settled s q (answered q t.given.device answer.Failed (moved q (Cancelling Abort) (answered q r.given.device u.last s.live)))
+  stays_then_abort : (r t : Heard s q a) → Differ r t → (u : GoesOn r) → GivesUp t → heard (heard s r) t ≡ after_last_answer s q (answered q t.given.device answer.Failed (moved q (Cancelling Abort) (answered q r.given.device u.last s.live)))
   stays_then_abort r t n u v =
       let l : List Attempt = answered q r.given.device u.last s.live in
       ap (λ z. heard z t) (first_is r ∙ u.makes s) ∙ (second_is t l (answers_as r.given.device u.last a) t.given (answered_here r u.last) (other_answered r t u.last n) ∙ v.makes (with_live s l))
@@ -126,25 +127,25 @@ module _ (s : ShowState) (q : ℕ) (a : Attempt) (rises : IsTrue (rising s.live)
   failed_rise r = rising-changed q (answers_as r.given.device answer.Failed) (given_number r.given.device answer.Failed) given_up (rising-changed q (moves_to (Cancelling Abort)) (moved_number (Cancelling Abort)) s.live rises)
 
   -- where the first aborts, and the second is too late
-  abort_then_ready : (r t : Heard s q a) → GivesUp r → Stands t → heard (heard s r) t ≡ settled s q (failed_all r)
+  abort_then_ready : (r t : Heard s q a) → GivesUp r → Stands t → heard (heard s r) t ≡ after_last_answer s q (failed_all r)
   abort_then_ready r t u v =
       let gone : attempt_of (without_ended q (failed_all r)) q ≡ if_open (failed_one r) = attempt_of-without_ended q (failed_all r) (failed_rise r) ∙ ap (λ o. option_and_then if_open o) (failed_here r) in
-      ap (λ z. heard z t) (first_is r ∙ u.makes s) ∙ (ap (λ (j : Judged). folded (settled s q (failed_all r)) j.1) (reply_of (settled s q (failed_all r)) (said t) (if_open (failed_one r)) t.comes gone) ∙ at (failed_all r) (failed_one r) refl (some_waits (failed_one r).answers))
+      ap (λ z. heard z t) (first_is r ∙ u.makes s) ∙ (ap (λ (j : Judgement). after_events (after_last_answer s q (failed_all r)) j.1) (reply_of (after_last_answer s q (failed_all r)) (said t) (if_open (failed_one r)) t.comes gone) ∙ at (failed_all r) (failed_one r) refl (some_waits (failed_one r).answers))
     where
-      told : (l : List Attempt) (b : Attempt) (o : Option DeviceAnswer) → folded (settled s q l) (option_map_or (λ w. on_reply_in t.kind b.seq w (Cancelling Abort) w.answer) o (refused code.NotPart)).1 ≡ settled s q l
+      told : (l : List Attempt) (b : Attempt) (o : Option DeviceAnswer) → after_events (after_last_answer s q l) (option_map_or (λ w. on_reply_in t.kind b.seq w (Cancelling Abort) w.answer) o (refused code.NotPart)).1 ≡ after_last_answer s q l
       told l b None = refl
-      told l b (Some z) = v.late (settled s q l) b.seq z
+      told l b (Some z) = v.late (after_last_answer s q l) b.seq z
 
-      staged : (l : List Attempt) (b : Attempt) → b.stage ≡ Cancelling Abort → folded (settled s q l) (on_reply_to t.kind t.given.device b).1 ≡ settled s q l
-      staged l b p = ap (λ (stage : Stage). folded (settled s q l) (option_map_or (λ w. on_reply_in t.kind b.seq w stage w.answer) (device_answer b.answers t.given.device) (refused code.NotPart)).1) p ∙ told l b (device_answer b.answers t.given.device)
+      staged : (l : List Attempt) (b : Attempt) → b.stage ≡ Cancelling Abort → after_events (after_last_answer s q l) (on_reply_to t.kind t.given.device b).1 ≡ after_last_answer s q l
+      staged l b p = ap (λ (stage : Stage). after_events (after_last_answer s q l) (option_map_or (λ w. on_reply_in t.kind b.seq w stage w.answer) (device_answer b.answers t.given.device) (refused code.NotPart)).1) p ∙ told l b (device_answer b.answers t.given.device)
 
-      at : (l : List Attempt) (b : Attempt) → b.stage ≡ Cancelling Abort → (w : Bool) → folded (settled s q l) (option_map_or (on_reply_to t.kind t.given.device) (if w then Some b else None) (refused code.Stale)).1 ≡ settled s q l
+      at : (l : List Attempt) (b : Attempt) → b.stage ≡ Cancelling Abort → (w : Bool) → after_events (after_last_answer s q l) (option_map_or (on_reply_to t.kind t.given.device) (if w then Some b else None) (refused code.Stale)).1 ≡ after_last_answer s q l
       at l b p true = staged l b p
       at l b p false = refl
 
   -- where the first aborts, and the second is the device's last answer
   abort_then : (r t : Heard s q a) → Differ r t → GivesUp r → IsTrue (not (is_excused t.given.answer)) → (v : Ends q t.given answer.Waiting (on_reply_in t.kind q (anew t.given) (Cancelling Abort) answer.Waiting))
-      → heard (heard s r) t ≡ settled s q (answered q t.given.device v.last (failed_all r))
+      → heard (heard s r) t ≡ after_last_answer s q (answered q t.given.device v.last (failed_all r))
   abort_then r t n u k v =
       let e : ℕ = t.given.device in
       let l : List Attempt = failed_all r in
@@ -161,7 +162,7 @@ module _ (s : ShowState) (q : ℕ) (a : Attempt) (rises : IsTrue (rising s.live)
   EitherOrder r t = heard (heard s r) t ≡ heard (heard s t) r
 
   ending : (r t : Heard s q a) → Differ r t → Differ t r → Closes r → Closes t → EitherOrder r t
-  ending r t n o u v = ends_then r t n u v ∙ (ap (λ (l : List Attempt). settled s q l) (answered_both q t.given.device r.given.device v.last u.last s.live o) ∙ sym (ends_then t r o v u))
+  ending r t n o u v = ends_then r t n u v ∙ (ap (λ (l : List Attempt). after_last_answer s q l) (answered_both q t.given.device r.given.device v.last u.last s.live o) ∙ sym (ends_then t r o v u))
 
   staying : (r t : Heard s q a) → Differ r t → Differ t r → GoesOn r → GoesOn t → EitherOrder r t
   staying r t n o u v = stays_then r t n u v ∙ (ap (λ (l : List Attempt). with_live s l) (answered_both q t.given.device r.given.device v.last u.last s.live o) ∙ sym (stays_then t r o v u))
@@ -170,22 +171,22 @@ module _ (s : ShowState) (q : ℕ) (a : Attempt) (rises : IsTrue (rising s.live)
   ready_and_abort : (r t : Heard s q a) → Differ r t → Stands r → GivesUp t → EitherOrder r t
   ready_and_abort r t n u v =
       stays_then_abort r t n (ready_stays u) v
-      ∙ (ap (λ (l : List Attempt). settled s q (answered q t.given.device answer.Failed l)) (moved_over q r.given.device (Cancelling Abort) answer.Ready a s.live rises here refl (unexcused r.given a.answers apart r.answered u.asked))
+      ∙ (ap (λ (l : List Attempt). after_last_answer s q (answered q t.given.device answer.Failed l)) (moved_over q r.given.device (Cancelling Abort) answer.Ready a s.live rises here refl (unexcused r.given a.answers apart r.answered u.asked))
       ∙ sym (abort_then_ready t r v u))
 
   -- a device is excused, and another gives the attempt up
   excuse_and_abort : (r t : Heard s q a) → Differ r t → Differ t r → LetsOff r → GivesUp t → EitherOrder r t
   excuse_and_abort r t n o u v =
       stays_then_abort r t n (excused_stays u) v
-      ∙ (ap (λ (l : List Attempt). settled s q (answered q t.given.device answer.Failed l)) (moved_excused q r.given.device Abort s.live)
-      ∙ (ap (λ (l : List Attempt). settled s q l) (answered_both q t.given.device r.given.device answer.Failed answer.LetGo given_up o)
+      ∙ (ap (λ (l : List Attempt). after_last_answer s q (answered q t.given.device answer.Failed l)) (moved_excused q r.given.device Abort s.live)
+      ∙ (ap (λ (l : List Attempt). after_last_answer s q l) (answered_both q t.given.device r.given.device answer.Failed answer.LetGo given_up o)
       ∙ sym (abort_then t r o v u.asked (record { last = answer.LetGo; waited = refl; makes = u.later }))))
 
   -- each gives the attempt up
   aborting : (r t : Heard s q a) → Differ r t → Differ t r → GivesUp r → GivesUp t → EitherOrder r t
   aborting r t n o u v =
       abort_then r t n u v.asked (record { last = answer.Failed; waited = refl; makes = v.later })
-      ∙ (ap (λ (l : List Attempt). settled s q l) (answered_both q t.given.device r.given.device answer.Failed answer.Failed given_up o)
+      ∙ (ap (λ (l : List Attempt). after_last_answer s q l) (answered_both q t.given.device r.given.device answer.Failed answer.Failed given_up o)
       ∙ sym (abort_then t r o v u.asked (record { last = answer.Failed; waited = refl; makes = u.later })))
 
   preparing : (r t : Heard s q a) → Differ r t → Differ t r → Prepares r.kind q r.given r.given.answer (cell r) → Prepares t.kind q t.given t.given.answer (cell t) → EitherOrder r t
@@ -216,7 +217,7 @@ unlike d e n = at (nat_eq d e) refl
 -- no device stands twice in a live attempt
 apart_in : (s : ShowState) (q : ℕ) (a : Attempt) → IsTrue (is_state s) → attempt_of s.live q ≡ Some a → IsTrue (distinct (devices_of a.answers))
 apart_in s q a h e =
-    let live : IsTrue (are_live s.live) = (both (are_live s.live) (are_tied s) (both (is_show s.show) (are_live s.live && are_tied s) h).1).0 in
+    let live : IsTrue (are_live s.live) = (rules_of s h).live in
     let each : IsTrue (list_all is_attempt s.live) = (both (list_all is_attempt s.live) (pairwise goes_before s.live) (both (nat_le (length s.live) MAX_LIVE) (list_all is_attempt s.live && pairwise goes_before s.live) live).1).0 in
     (attempt_rules a (found_has is_attempt (has_number q) s.live a each e)).distinct
 
@@ -231,7 +232,7 @@ one_number s f g k m d e q h n hr ht =
     let a : Attempt = u.attempt in
     let cr : IsTrue (comes s r) = comes_made s r hr in
     let ct : IsTrue (comes s t) = comes_made s t ht in
-    let made_here : Judged → Type 0 = λ j. IsTrue (is_made j.0) in
+    let made_here : Judgement → Type 0 = λ j. IsTrue (is_made j.0) in
     let same : v.attempt ≡ a = some_same v.attempt a (sym v.found ∙ u.found) in
     let ge : device_answer a.answers e ≡ Some v.given = ap (λ (b : Attempt). device_answer b.answers e) (sym same) ∙ v.answered in
     let pd : u.given.device ≡ d = device_found d a.answers u.given u.answered in

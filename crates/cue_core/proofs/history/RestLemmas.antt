@@ -12,8 +12,8 @@ use Rattle.cue_core.specs.Events.{is_go_of, is_start_of}
 use Rattle.cue_core.specs.State.{ShowState}
 use Rattle.cue_core.specs.Steps.{after}
 use Rattle.cue_core.specs.Batches.{is_live_in, is_decided_in, LiveByStart, DecidedByGo}
-use Rattle.cue_core.proofs.Conditions.{both, join}
-use Rattle.cue_core.proofs.Truth.{or_left, or_right, or_assoc, either, same, any-append, any-mapped, any-kept}
+use Rattle.cue_core.proofs.lists.ConditionLemmas.{both, join}
+use Rattle.cue_core.proofs.lists.AnyLemmas.{or_left, or_right, or_assoc, either, same, any-append, any-mapped, any-kept}
 
 -- ---- one event
 

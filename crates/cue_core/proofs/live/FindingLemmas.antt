@@ -7,7 +7,7 @@ use Rattle.cue_exchange.specs.declared.attempt.Attempt.{Attempt}
 use Rattle.cue_exchange.specs.Answers.{some_waits}
 use Rattle.cue_exchange.specs.Live.{attempt_of, pairwise}
 use Rattle.cue_exchange.specs.Steps.{holds, changed, without_ended, goes_on}
-use Rattle.cue_core.proofs.Conditions.{both, join, same_number, all_from, all_mapped}
+use Rattle.cue_core.proofs.lists.ConditionLemmas.{both, join, same_number, all_from, all_mapped}
 use Rattle.std.proofs.lemmas.Bool.Decides.{nat_tests}
 
 -- ---- finding in any list

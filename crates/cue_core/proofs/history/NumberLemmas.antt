@@ -21,9 +21,9 @@ use Rattle.cue_core.specs.State.{ShowState, cue_parts}
 use Rattle.cue_core.specs.Steps.{acceptable, after, can_begin}
 use Rattle.cue_core.specs.Events.{is_ready_of, is_excuse_of, is_go_of, is_cancel_of, is_end_of, is_about}
 use Rattle.cue_core.specs.History.{devices_by, state_of}
-use Rattle.cue_core.proofs.Conditions.{both, cases, all_from, all_mapped, same_number, same_self, both_false}
-use Rattle.cue_core.proofs.Finding.{rising, lacks-below, attempt_of-lacks, attempt_of-without_ended, attempt_of-without_ended_other, if_open, rising-changed, found, found-changed, found-others, found_has, found_passes}
-use Rattle.cue_core.proofs.Tells.{Tells, IsQuiet, quiet, tells-on, devices_by-on, tells-start, tells-ready, tells-excuse, tells-go, tells-cancel, IsLastAnswer, tells-end, of_device, is_last, gone_by}
+use Rattle.cue_core.proofs.lists.ConditionLemmas.{both, cases, all_from, all_mapped, same_number, same_self, neither}
+use Rattle.cue_core.proofs.live.FindingLemmas.{rising, lacks-below, attempt_of-lacks, attempt_of-without_ended, attempt_of-without_ended_other, if_open, rising-changed, found, found-changed, found-others, found_has, found_passes}
+use Rattle.cue_core.proofs.history.AttemptLemmas.{Tells, IsQuiet, quiet, tells-on, devices_by-on, tells-start, tells-ready, tells-excuse, tells-go, tells-cancel, IsLastAnswer, tells-end, of_device, is_last, gone_by}
 
 -- what the rules of a state say that is used here
 pub record IsSound (s : ShowState) : Type 0 where
@@ -93,7 +93,7 @@ told_at h q o a e k = let P : Option Attempt → Type 0 = λ x. Settles h q x in
 
 none_about : (q : ℕ) (P : Event → Bool) (h : List Event) → ((e : Event) → is_about q e ≡ false → P e ≡ false) → list_any (is_about q) h ≡ false → list_any P h ≡ false
 none_about q P [] f n = refl
-none_about q P (e ∷ h) f n = let k = both_false (is_about q e) (list_any (is_about q) h) n in rw (f e k.0) (none_about q P h f k.1)
+none_about q P (e ∷ h) f n = let k = neither (is_about q e) (list_any (is_about q) h) n in rw (f e k.0) (none_about q P h f k.1)
 
 started_found : (q : ℕ) (a : Attempt) (live : List Attempt) → attempt_of live q ≡ None → nat_eq a.seq q ≡ true → attempt_of (live ++ a ∷ []) q ≡ Some a
 started_found q a live n e = find-append (has_number q) live (a ∷ []) ∙ rw (n, e) refl
@@ -281,14 +281,14 @@ above_other s q (event.LetGo p d) i g l = below_other p s.last_seq q (at_most_la
 above_other s q (event.Failed p d) i g l = below_other p s.last_seq q (at_most_last s p (waits_in is_concluding d) i g) l
 above_other s q (event.Excuse p d) i g l = below_other p s.last_seq q (at_most_last s p (λ a. is_preparing a.stage && is_excusable d a.answers) i g) l
 
-neither : (b c : Bool) → b ≡ false → c ≡ false → (b || c) ≡ false
-neither false c e f = f
-neither true c e f = cc
+or_none : (b c : Bool) → b ≡ false → c ≡ false → (b || c) ≡ false
+or_none false c e f = f
+or_none true c e f = cc
 
 pub kept-step : (h : List Event) (e : Event) → Kept h (state_of h) → IsSound (state_of h) → IsTrue (acceptable (state_of h) e) → Kept (e ∷ h) (state_of (e ∷ h))
 kept-step h e k i g = record {
   settles = λ q. step_settles h q e k i g;
-  unused = λ q l. let grew = last-after (state_of h) e g in neither (is_about q e) (list_any (is_about q) h) (above_other (state_of h) q e i g l) (k.unused q (omega arith));
+  unused = λ q l. let grew = last-after (state_of h) e g in or_none (is_about q e) (list_any (is_about q) h) (above_other (state_of h) q e i g l) (k.unused q (omega arith));
 }
 
 pub kept-none : Kept [] (state_of [])

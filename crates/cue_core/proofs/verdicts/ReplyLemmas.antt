@@ -19,12 +19,12 @@ use Rattle.cue_core.specs.declared.command.Code.TheVariants as code
 use Rattle.cue_core.specs.declared.command.ReplyKind.{ReplyKind}
 use Rattle.cue_core.specs.declared.command.ReplyKind.TheVariants as reply
 use Rattle.cue_core.specs.State.{ShowState}
-use Rattle.cue_core.specs.Steps.{after, folded}
+use Rattle.cue_core.specs.Steps.{after, after_events}
 use Rattle.cue_core.specs.Judge.{made, refused, on_reply, on_reply_to, on_reply_in, is_from_another}
 use Rattle.cue_core.specs.Replies.{Said, LeavesOthers, RepliesLeaveOthers}
-use Rattle.cue_core.proofs.Conditions.{both, join, same_number, same_self}
-use Rattle.cue_core.proofs.Finding.{found_passes}
-use Rattle.cue_core.proofs.Kept.{attempt_of-after_other}
+use Rattle.cue_core.proofs.lists.ConditionLemmas.{both, join, same_number, same_self}
+use Rattle.cue_core.proofs.live.FindingLemmas.{found_passes}
+use Rattle.cue_core.proofs.history.NumberLemmas.{attempt_of-after_other}
 
 -- the event is one that a reply to q makes
 abbrev of_reply : ℕ → Event → Bool
@@ -64,7 +64,7 @@ leaves_one s q (event.LetGo n d) h = record { show = refl; last = refl; others =
 leaves_one s q (event.Failed n d) h = record { show = refl; last = refl; others = λ p k. attempt_of-after_other s p (event.Failed n d) (other_number n q p h k) }
 leaves_one s q (event.Excuse n d) h = record { show = refl; last = refl; others = λ p k. attempt_of-after_other s p (event.Excuse n d) (other_number n q p h k) }
 
-leaves_all : (q : ℕ) (es : List Event) (s : ShowState) → IsTrue (list_all (of_reply q) es) → LeavesOthers q s (folded s es)
+leaves_all : (q : ℕ) (es : List Event) (s : ShowState) → IsTrue (list_all (of_reply q) es) → LeavesOthers q s (after_events s es)
 leaves_all q [] s h = record { show = refl; last = refl; others = λ p k. refl }
 leaves_all q (e ∷ es) s h =
     let p = both (of_reply q e) (list_all (of_reply q) es) h in

@@ -25,11 +25,12 @@ use Rattle.cue_core.specs.declared.command.Command.{Command}
 use Rattle.cue_core.specs.declared.command.Command.TheVariants as command
 use Rattle.cue_core.specs.State.{ShowState, is_state}
 use Rattle.cue_core.specs.Steps.{acceptable, after, are_acceptable}
-use Rattle.cue_core.specs.Judge.{made, known, refused, judged, is_fit, on_go, on_go_of, on_cancel, on_cancel_of, on_release, on_release_of, on_release_in, release_early, abort_early, abort_late, on_reply, on_reply_to, on_reply_in, is_from_another}
-use Rattle.cue_core.proofs.Conditions.{both, join, same_number, same_self}
-use Rattle.cue_core.proofs.Finding.{found_has, found_passes}
-use Rattle.cue_core.proofs.Rules.{Rules, rules_of}
-use Rattle.cue_core.proofs.JudgedShow.{one, two, add_device_fits, remove_device_fits, add_cue_fits, goto_fits, remove_cue_fits, standby_fits}
+use Rattle.cue_core.specs.Judge.{made, known, refused, judgement_of, is_fit, on_go, on_go_of, on_cancel, on_cancel_of, on_release, on_release_of, on_release_in, release_early, abort_early, abort_late, on_reply, on_reply_to, on_reply_in, is_from_another}
+use Rattle.cue_core.proofs.lists.ConditionLemmas.{both, join, same_number, same_self}
+use Rattle.cue_core.proofs.live.FindingLemmas.{found_has, found_passes}
+use Rattle.cue_core.proofs.rules.RuleLemmas.{Rules, rules_of}
+use Rattle.cue_core.proofs.verdicts.ShowJudgementLemmas.{one, two, add_device_fits, remove_device_fits, add_cue_fits, goto_fits, remove_cue_fits, standby_fits}
+use Rattle.cue_show.proofs.TestLemmas.{or_left, or_right}
 
 -- ---- a live attempt
 
@@ -52,14 +53,6 @@ changed_itself f a = at (nat_eq a.seq a.seq) (same_self a.seq)
     at : (b : Bool) → b ≡ true → (if b then f a else a) ≡ f a
     at true e = refl
     at false e = cc
-
-or_left : (b c : Bool) → IsTrue b → IsTrue (b || c)
-or_left true c h = refl
-or_left false c h = cc
-
-or_right : (b c : Bool) → IsTrue c → IsTrue (b || c)
-or_right true c h = refl
-or_right false c h = h
 
 -- and of the attempt as it is changed
 found_holds_changed : (t test : Attempt → Bool) (f : Attempt → Attempt) → ((b : Attempt) → (f b).seq ≡ b.seq) → (live : List Attempt) (a : Attempt) → find t live ≡ Some a → IsTrue (test (f a)) → IsTrue (holds a.seq test (map (changed a.seq f) live))
@@ -342,19 +335,19 @@ reply_fits s from kind d q r = by (has_device s.show d) (is_from_another s d fro
 
 -- ---- all commands
 
-pub judged-acceptable : (s : ShowState) (now from : ℕ) (c : Command) → IsTrue (is_state s) → IsTrue (is_fit c) → IsTrue (are_acceptable s (judged s now from c).1)
-judged-acceptable s now from command.Status h fit = refl
-judged-acceptable s now from (command.AddDevice d port) h fit = add_device_fits s d port fit
-judged-acceptable s now from (command.AddCue c parts) h fit = add_cue_fits s c parts fit
-judged-acceptable s now from (command.Standby c) h fit = standby_fits s now c (rules_of s h)
-judged-acceptable s now from (command.Go c) h fit = go_fits s c
-judged-acceptable s now from (command.Cancel c) h fit = cancel_fits s c
-judged-acceptable s now from (command.Goto c) h fit = goto_fits s c
-judged-acceptable s now from (command.RemoveCue c) h fit = remove_cue_fits s c
-judged-acceptable s now from (command.Reply kind d q) h fit = reply_fits s from kind d q (rules_of s h)
-judged-acceptable s now from (command.Release d) h fit = release_fits s d (rules_of s h)
-judged-acceptable s now from (command.RemoveDevice d) h fit = remove_device_fits s d
-judged-acceptable s now from (command.Bad c) h fit = refl
+pub judgement_of-acceptable : (s : ShowState) (now from : ℕ) (c : Command) → IsTrue (is_state s) → IsTrue (is_fit c) → IsTrue (are_acceptable s (judgement_of s now from c).1)
+judgement_of-acceptable s now from command.Status h fit = refl
+judgement_of-acceptable s now from (command.AddDevice d port) h fit = add_device_fits s d port fit
+judgement_of-acceptable s now from (command.AddCue c parts) h fit = add_cue_fits s c parts fit
+judgement_of-acceptable s now from (command.Standby c) h fit = standby_fits s now c (rules_of s h)
+judgement_of-acceptable s now from (command.Go c) h fit = go_fits s c
+judgement_of-acceptable s now from (command.Cancel c) h fit = cancel_fits s c
+judgement_of-acceptable s now from (command.Goto c) h fit = goto_fits s c
+judgement_of-acceptable s now from (command.RemoveCue c) h fit = remove_cue_fits s c
+judgement_of-acceptable s now from (command.Reply kind d q) h fit = reply_fits s from kind d q (rules_of s h)
+judgement_of-acceptable s now from (command.Release d) h fit = release_fits s d (rules_of s h)
+judgement_of-acceptable s now from (command.RemoveDevice d) h fit = remove_device_fits s d
+judgement_of-acceptable s now from (command.Bad c) h fit = refl
 
 -- what holds of a result by one fact holds by another that follows
 pub if_ok_from : {A E : Type 0} (P Q : A → Type 0) (r : Result A E) → ((x : A) → P x → Q x) → IfOk r P → IfOk r Q

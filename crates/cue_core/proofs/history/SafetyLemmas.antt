@@ -19,13 +19,14 @@ use Rattle.cue_core.specs.Events.{is_start_of, is_go_of, is_cancel_of, is_end_of
 use Rattle.cue_core.specs.History.{state_of, is_history, parts_by}
 use Rattle.cue_core.specs.InOrder.{may_go_by, keeps_order, is_in_order}
 use Rattle.cue_core.specs.Pending.{Order, order_at, order_for, bytes_for, pending}
-use Rattle.cue_core.specs.Safety.{is_go_to, is_cancel_to, is_told, asks, asks_to_go, asks_to_cancel, ever, NeverAskedBoth, NothingMoreIsAsked, OneHolder, DecidedStays}
-use Rattle.cue_core.proofs.Conditions.{both, same_number, pairwise_from}
-use Rattle.cue_core.proofs.Finding.{found}
-use Rattle.cue_core.proofs.Rules.{rules_of}
-use Rattle.cue_core.proofs.Tells.{Tells, is_last, waiting_not}
-use Rattle.cue_core.proofs.Sound.{is_state-history, sound-history, kept-history}
-use Rattle.cue_core.proofs.Facts.{facts-by-history, go-after-ready, told_of}
+use Rattle.cue_core.specs.Safety.{is_go_to, is_cancel_to, is_order_to, asks, asks_to_go, asks_to_cancel, ever, NeverAskedBoth, NothingMoreIsAsked, OneHolder, DecidedStays}
+use Rattle.cue_core.proofs.lists.ConditionLemmas.{both, same_number, pairwise_from}
+use Rattle.cue_core.proofs.live.FindingLemmas.{found}
+use Rattle.cue_core.proofs.rules.RuleLemmas.{rules_of}
+use Rattle.cue_core.proofs.history.AttemptLemmas.{Tells, is_last, waiting_not}
+use Rattle.cue_core.proofs.rules.SoundLemmas.{is_state-history, sound-history, kept-history}
+use Rattle.cue_core.proofs.history.FactLemmas.{facts-by-history, go-after-ready, told_of}
+use Rattle.cue_show.proofs.TestLemmas.{not_so}
 
 -- an order of an attempt that passes says of what stage the attempt is, and that the device d is still to answer
 order_says : (pick : Order → Bool) (stage : Stage → Bool) (q d : ℕ) → ((t : Stage) (p e : ℕ) (c b : List ℕ) → IsTrue (pick (order_at t p e c b)) → IsTrue (nat_eq p q && (stage t && nat_eq e d)))
@@ -94,7 +95,7 @@ cancel_says q d Preparing p e c b h = cc
 cancel_says q d Decided p e c b h = cc
 cancel_says q d (Cancelling r) p e c b h = h
 
-told_says : (q d : ℕ) (t : Stage) (p e : ℕ) (c b : List ℕ) → IsTrue (is_told q d (order_at t p e c b)) → IsTrue (nat_eq p q && (true && nat_eq e d))
+told_says : (q d : ℕ) (t : Stage) (p e : ℕ) (c b : List ℕ) → IsTrue (is_order_to q d (order_at t p e c b)) → IsTrue (nat_eq p q && (true && nat_eq e d))
 told_says q d Preparing p e c b h = h
 told_says q d Decided p e c b h = h
 told_says q d (Cancelling r) p e c b h = h
@@ -116,7 +117,7 @@ asked_cancel h q d p k = let f = asked_of h (is_cancel_to q d) is_cancelling q d
 
 -- where a state asks anything of a device, the history has no end of it
 asked_left : (h : List Event) (q d : ℕ) → IsTrue (is_history h) → IsTrue (asks q d (state_of h)) → list_any (is_end_of q d) h ≡ false
-asked_left h q d p k = let f = asked_of h (is_told q d) (λ t. true) q d (told_says q d) p k in waiting_not is_last refl (λ n. list_any (is_end_of q n) h) d f.0.answers f.1.ended f.3
+asked_left h q d p k = let f = asked_of h (is_order_to q d) (λ t. true) q d (told_says q d) p k in waiting_not is_last refl (λ n. list_any (is_end_of q n) h) d f.0.answers f.1.ended f.3
 
 pub nothing-more-is-asked : NothingMoreIsAsked
 nothing-more-is-asked h q d p ended = at (asks q d (state_of h)) (list_any (is_end_of q d) h) ended (asked_left h q d p)
@@ -140,10 +141,6 @@ ever_told test P f (e ∷ past) p k = at (test (state_of (e ∷ past))) (f (e �
     at false g m k = later (P e) (list_any P past) (m k)
 
 -- ---- an order that is kept has not both
-
-not_so : (b : Bool) → IsTrue (not b) → b ≡ false
-not_so true h = cc
-not_so false h = refl
 
 both_none : (q : ℕ) (h : List Event) → IsTrue (is_in_order h) → IsTrue (not (list_any (is_go_of q) h && list_any (is_cancel_of q) h))
 both_none q [] p = refl

@@ -17,11 +17,11 @@ use Rattle.cue_core.specs.State.{ShowState}
 use Rattle.cue_core.specs.Steps.{acceptable, after, are_acceptable}
 use Rattle.cue_core.specs.History.{state_of, is_history}
 use Rattle.cue_core.specs.Happenings.{Happening, commanded, ticked, recovered, can_come, cancels, is_undecided, events_at, onto, history_of, CommandsMakeHistories, CommandsInOrder}
-use Rattle.cue_core.proofs.Conditions.{both, join, all_from, all_zip, same_number, same_self}
-use Rattle.cue_core.proofs.Finding.{rising}
-use Rattle.cue_core.proofs.Sound.{is_state-history, sound_of}
-use Rattle.cue_core.proofs.Facts.{go-after-ready}
-use Rattle.cue_core.proofs.Judged.{judged-acceptable}
+use Rattle.cue_core.proofs.lists.ConditionLemmas.{both, join, all_from, all_zip, same_number, same_self}
+use Rattle.cue_core.proofs.live.FindingLemmas.{rising}
+use Rattle.cue_core.proofs.rules.SoundLemmas.{is_state-history, sound_of}
+use Rattle.cue_core.proofs.history.FactLemmas.{go-after-ready}
+use Rattle.cue_core.proofs.verdicts.JudgementLemmas.{judgement_of-acceptable}
 
 -- a test on a number is left alone by a change of another
 holds-others : (p q : ℕ) (test : Attempt → Bool) (f : Attempt → Attempt) → ((a : Attempt) → (f a).seq ≡ a.seq) → nat_eq p q ≡ false → (live : List Attempt) → holds q test (map (changed p f) live) ≡ holds q test live
@@ -73,7 +73,7 @@ history-onto (e ∷ es) past h g =
     history-onto es (e ∷ past) (join (acceptable (state_of past) e) (is_history past) p.0 h) p.1
 
 pub events-acceptable : (past : List Event) (x : Happening) → IsTrue (is_history past) → IsTrue (can_come x) → IsTrue (are_acceptable (state_of past) (events_at (state_of past) x))
-events-acceptable past (commanded now from c) h fit = judged-acceptable (state_of past) now from c (is_state-history past h) fit
+events-acceptable past (commanded now from c) h fit = judgement_of-acceptable (state_of past) now from c (is_state-history past h) fit
 events-acceptable past (ticked now) h fit = cancels-acceptable (is_due now) Deadline (state_of past) (λ a k. (both (is_preparing a.stage) (nat_le a.deadline now) k).0) (sound_of (state_of past) (is_state-history past h)).rises
 events-acceptable past recovered h fit = cancels-acceptable is_undecided Power (state_of past) (λ a k. k) (sound_of (state_of past) (is_state-history past h)).rises
 

@@ -14,9 +14,9 @@ use Rattle.cue_exchange.specs.Answers.{is_waiting, is_excused, some_waits, devic
 use Rattle.cue_exchange.specs.Live.{attempt_of, is_among, distinct}
 use Rattle.cue_exchange.specs.Steps.{changed, answers_as, moves_to, answered, moved, goes_on, ended_in, outcome_of}
 use Rattle.cue_core.specs.State.{ShowState, with_live}
-use Rattle.cue_core.specs.Steps.{settled, ended_as}
-use Rattle.cue_core.proofs.Conditions.{both, join, all_from, same_number}
-use Rattle.cue_core.proofs.Finding.{rising, lacks, after_same, found_mapped, found-closed, if_closed}
+use Rattle.cue_core.specs.Steps.{after_last_answer, ended_as}
+use Rattle.cue_core.proofs.lists.ConditionLemmas.{both, join, all_from, same_number}
+use Rattle.cue_core.proofs.live.FindingLemmas.{rising, lacks, after_same, found_mapped, found-closed, if_closed}
 
 cons_eq : {A : Type 0} (x y : A) (xs ys : List A) → x ≡ y → xs ≡ ys → x ∷ xs ≡ y ∷ ys
 cons_eq x y xs ys p q = ap (λ z. z ∷ xs) p ∙ ap (λ zs. y ∷ zs) q
@@ -189,7 +189,7 @@ filter_all : {A : Type 0} (p : A → Bool) (xs : List A) → IsTrue (list_all p 
 filter_all p [] h = refl
 filter_all p (x ∷ xs) h = let k = both (p x) (list_all p xs) h in rw k.0 (ap (λ ys. x ∷ ys) (filter_all p xs k.1))
 
-pub settled_open : (s : ShowState) (q : ℕ) (live : List Attempt) (a : Attempt) → IsTrue (rising live) → attempt_of live q ≡ Some a → some_waits a.answers ≡ true → settled s q live ≡ with_live s live
+pub settled_open : (s : ShowState) (q : ℕ) (live : List Attempt) (a : Attempt) → IsTrue (rising live) → attempt_of live q ≡ Some a → some_waits a.answers ≡ true → after_last_answer s q live ≡ with_live s live
 settled_open s q live a h e w =
     let open_one : if_closed a ≡ None = rw w refl in
     let none : find (λ (b : Attempt). not (goes_on q b)) live ≡ None = found-closed q live h ∙ (ap (λ (o : Option Attempt). option_and_then if_closed o) e ∙ open_one) in

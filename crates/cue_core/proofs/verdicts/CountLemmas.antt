@@ -18,17 +18,17 @@ use Rattle.cue_core.specs.declared.command.ReplyKind.{ReplyKind}
 use Rattle.cue_core.specs.declared.command.ReplyKind.TheVariants as reply
 use Rattle.cue_core.specs.declared.command.Verdict.TheVariants.{Made, Known, No}
 use Rattle.cue_core.specs.State.{ShowState}
-use Rattle.cue_core.specs.Judge.{Judged, judged, made, abort_early, abort_late, release_early, on_reply_in, on_reply_to, on_release_in, on_release_of}
+use Rattle.cue_core.specs.Judge.{Judgement, judgement_of, made, abort_early, abort_late, release_early, on_reply_in, on_reply_to, on_release_in, on_release_of}
 
-pub record HasItsEvents (j : Judged) : Type 0 where
+pub record HasItsEvents (j : Judgement) : Type 0 where
   pub few : length j.1 ≤ 2
   pub made : (j.0 ≡ Made) ↔ (j.1 ≢ [])
 
-if-has : (b : Bool) (x y : Judged) → HasItsEvents x → HasItsEvents y → HasItsEvents (if b then x else y)
+if-has : (b : Bool) (x y : Judgement) → HasItsEvents x → HasItsEvents y → HasItsEvents (if b then x else y)
 if-has true x y h k = h
 if-has false x y h k = k
 
-or-has : {A : Type 0} (f : A → Judged) (o : Option A) (d : Judged) → ((x : A) → HasItsEvents (f x)) → HasItsEvents d → HasItsEvents (option_map_or f o d)
+or-has : {A : Type 0} (f : A → Judgement) (o : Option A) (d : Judgement) → ((x : A) → HasItsEvents (f x)) → HasItsEvents d → HasItsEvents (option_map_or f o d)
 or-has f None d h k = k
 or-has f (Some x) d h k = h x
 
@@ -166,16 +166,16 @@ release_of-has : (d : ℕ) (a : Attempt) → HasItsEvents (on_release_of d a)
 release_of-has d a = or-has (λ x. on_release_in a.seq x a.stage x.answer) (device_answer a.answers d) _ (λ x. release_in-has a.seq x a.stage x.answer) none-refused
 
 -- each verdict has its events
-pub judged-has : (s : ShowState) (now from : ℕ) (c : Command) → HasItsEvents (judged s now from c)
-judged-has s now from command.Status = none-known
-judged-has s now from (command.AddDevice d p) = search (if-has, or-has, none-known, none-refused, one, two)
-judged-has s now from (command.AddCue c ps) = search (if-has, or-has, none-known, none-refused, one, two)
-judged-has s now from (command.Standby c) = search (if-has, or-has, none-known, none-refused, one, two) depth 12
-judged-has s now from (command.Go c) = search (if-has, or-has, none-known, none-refused, one, two)
-judged-has s now from (command.Cancel c) = search (if-has, or-has, none-known, none-refused, one, two)
-judged-has s now from (command.Goto c) = search (if-has, or-has, none-known, none-refused, one, two)
-judged-has s now from (command.RemoveCue c) = search (if-has, or-has, none-known, none-refused, one, two)
-judged-has s now from (command.Reply k d q) = search (if-has, or-has, none-known, none-refused, reply_to-has) depth 12
-judged-has s now from (command.Release d) = search (if-has, or-has, none-known, none-refused, release_of-has) depth 12
-judged-has s now from (command.RemoveDevice d) = search (if-has, or-has, none-known, none-refused, one, two)
-judged-has s now from (command.Bad c) = none-refused
+pub judgement_of-has : (s : ShowState) (now from : ℕ) (c : Command) → HasItsEvents (judgement_of s now from c)
+judgement_of-has s now from command.Status = none-known
+judgement_of-has s now from (command.AddDevice d p) = search (if-has, or-has, none-known, none-refused, one, two)
+judgement_of-has s now from (command.AddCue c ps) = search (if-has, or-has, none-known, none-refused, one, two)
+judgement_of-has s now from (command.Standby c) = search (if-has, or-has, none-known, none-refused, one, two) depth 12
+judgement_of-has s now from (command.Go c) = search (if-has, or-has, none-known, none-refused, one, two)
+judgement_of-has s now from (command.Cancel c) = search (if-has, or-has, none-known, none-refused, one, two)
+judgement_of-has s now from (command.Goto c) = search (if-has, or-has, none-known, none-refused, one, two)
+judgement_of-has s now from (command.RemoveCue c) = search (if-has, or-has, none-known, none-refused, one, two)
+judgement_of-has s now from (command.Reply k d q) = search (if-has, or-has, none-known, none-refused, reply_to-has) depth 12
+judgement_of-has s now from (command.Release d) = search (if-has, or-has, none-known, none-refused, release_of-has) depth 12
+judgement_of-has s now from (command.RemoveDevice d) = search (if-has, or-has, none-known, none-refused, one, two)
+judgement_of-has s now from (command.Bad c) = none-refused

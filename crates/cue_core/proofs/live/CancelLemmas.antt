@@ -7,14 +7,14 @@ use Rattle.cue_exchange.specs.declared.attempt.Stage.TheVariants.{Cancelling}
 use Rattle.cue_exchange.specs.declared.attempt.Attempt.{Attempt}
 use Rattle.cue_exchange.specs.Answers.{is_preparing}
 use Rattle.cue_exchange.specs.Steps.{changed, moves_to, holds}
-use Rattle.cue_core.proofs.Conditions.{join}
-use Rattle.cue_core.proofs.Truth.{all_implied, all_mapped}
+use Rattle.cue_core.proofs.lists.ConditionLemmas.{join}
+use Rattle.cue_core.proofs.lists.AnyLemmas.{all_implied, all_mapped}
 use Rattle.cue_core.specs.declared.event.Event.{Event}
 use Rattle.cue_core.specs.declared.event.Event.TheVariants.{Cancel}
 use Rattle.cue_core.specs.State.{ShowState}
-use Rattle.cue_core.specs.Steps.{after, folded}
+use Rattle.cue_core.specs.Steps.{after, after_events}
 use Rattle.cue_core.specs.Batches.{closed, ClosedStays}
-use Rattle.cue_core.proofs.Truth.{or_left, or_right, either, gives, given, itself, same, none-filtered}
+use Rattle.cue_core.proofs.lists.AnyLemmas.{or_left, or_right, either, gives, given, itself, same, none-filtered}
 
 abbrev cancel : Reason → Attempt → Event
 cancel r a = Cancel a.seq r
@@ -34,7 +34,7 @@ left-moved r b todo a h = by (nat_eq a.seq b.seq) refl
     by true e = refl
     by false e = given (is_preparing a.stage) _ (λ p. either (nat_eq b.seq a.seq) _ _ (λ m. let k : nat_eq a.seq b.seq ≡ true = rw (same b.seq a.seq m) (itself a.seq) in absurd (true≢false (cc))) (λ m. m) (gives (is_preparing a.stage) _ h p))
 
-all-cancelled : (r : Reason) (todo : List Attempt) (s : ShowState) → list_all (is_left todo) s.live ≡ true → list_all (λ a. not (is_preparing a.stage)) (folded s (map (cancel r) todo)).live ≡ true
+all-cancelled : (r : Reason) (todo : List Attempt) (s : ShowState) → list_all (is_left todo) s.live ≡ true → list_all (λ a. not (is_preparing a.stage)) (after_events s (map (cancel r) todo)).live ≡ true
 all-cancelled r [] s h = all_implied (is_left []) (λ a. not (is_preparing a.stage)) (λ a k. by (is_preparing a.stage) k) s.live h
   where
     by : (b : Bool) → (not b || false) ≡ true → not b ≡ true
@@ -58,7 +58,7 @@ none-preparing s = all-cancelled Power (filter (λ a. is_preparing a.stage) s.li
 
 none-left : (s : ShowState) → list_all (λ a. not (is_preparing a.stage)) s.live ≡ true → closed s ≡ s
 unfolding closed
-none-left s h = ap (λ xs. folded s (map (cancel Power) xs)) (none-filtered (λ a. is_preparing a.stage) s.live h)
+none-left s h = ap (λ xs. after_events s (map (cancel Power) xs)) (none-filtered (λ a. is_preparing a.stage) s.live h)
 
 pub closed-stays : ClosedStays
 closed-stays s = none-left (closed s) (none-preparing s)

@@ -2,15 +2,8 @@
 use Rattle.std.proofs.Common.{◌≡◌, ℕ, Bool, true, false, not, ◌||◌, List, [], ◌∷◌, ◌++◌, map, filter, cond, nat_eq, nat_lt, refl, sym, arith, true≢false}
 use Rattle.std.proofs.lemmas.Bool.Decides.{nat_tests}
 use Rattle.std.specs.List.{list_all, list_any, flat_map}
-use Rattle.cue_core.proofs.Conditions.{both, join}
-
-pub or_right : (a b : Bool) → b ≡ true → (a || b) ≡ true
-or_right true b h = refl
-or_right false b h = h
-
-pub or_left : (a b : Bool) → a ≡ true → (a || b) ≡ true
-or_left true b h = refl
-or_left false b h = absurd (true≢false (sym h))
+use Rattle.cue_core.proofs.lists.ConditionLemmas.{both, join}
+pub use Rattle.cue_show.proofs.TestLemmas.{or_left, or_right, same_number as same, same_self as itself}
 
 -- one of two, each of which gives the claim
 pub either : (a b c : Bool) → (a ≡ true → c ≡ true) → (b ≡ true → c ≡ true) → (a || b) ≡ true → c ≡ true
@@ -28,12 +21,6 @@ given false c f = refl
 pub or_assoc : (a b c : Bool) → ((a || b) || c) ≡ true → (a || (b || c)) ≡ true
 or_assoc true b c h = refl
 or_assoc false b c h = h
-
-pub itself : (q : ℕ) → nat_eq q q ≡ true
-itself q = grind (arith, nat_tests)
-
-pub same : (a b : ℕ) → nat_eq a b ≡ true → a ≡ b
-same a b h = grind (arith, nat_tests)
 
 pub apart : (a b : ℕ) → nat_lt a b ≡ true → nat_eq b a ≡ false
 apart a b h = grind (arith, nat_tests)

@@ -8,7 +8,7 @@ use Rattle.cue_exchange.specs.declared.attempt.Stage.{Stage}
 use Rattle.cue_exchange.specs.declared.attempt.Stage.TheVariants.{Preparing, Decided, Cancelling}
 use Rattle.cue_exchange.specs.declared.attempt.DeviceAnswer.{DeviceAnswer}
 use Rattle.cue_exchange.specs.declared.attempt.Attempt.{Attempt}
-use Rattle.cue_exchange.specs.declared.limits.TheConstants.{LAST_NUMBER, MAX_LIVE}
+use Rattle.cue_exchange.specs.declared.limits.TheConstants.{MAX_NUMBER, MAX_LIVE}
 use Rattle.cue_exchange.specs.Answers.{is_waiting, is_excused, is_preparing, is_known_in, is_required, has_required, stands, waits, some_waits, devices_of}
 use Rattle.cue_exchange.specs.Live.{are_live, is_attempt, is_sound, is_open, is_number, is_moment, have_sound_devices, pairwise, goes_before, disjoint, distinct}
 use Rattle.cue_show.specs.Show.{is_show}
@@ -16,10 +16,10 @@ use Rattle.cue_core.specs.declared.event.Event.{Event}
 use Rattle.cue_core.specs.State.{ShowState, is_state, are_tied, is_at_cue, is_ended}
 use Rattle.cue_core.specs.Steps.{acceptable}
 use Rattle.cue_core.specs.History.{state_of, is_history}
-use Rattle.cue_core.proofs.Conditions.{both, all_from, pairwise_from}
-use Rattle.cue_core.proofs.Rules.{is_state-after}
-use Rattle.cue_core.proofs.Tells.{is_last}
-use Rattle.cue_core.proofs.Kept.{IsSound, Kept, kept-step, kept-none}
+use Rattle.cue_core.proofs.lists.ConditionLemmas.{both, all_from, pairwise_from}
+use Rattle.cue_core.proofs.rules.RuleLemmas.{is_state-after, rules_of}
+use Rattle.cue_core.proofs.history.AttemptLemmas.{is_last}
+use Rattle.cue_core.proofs.history.NumberLemmas.{IsSound, Kept, kept-step, kept-none}
 
 -- a device that is Waiting is not done with
 waiting_left : (answer : Answer) → IsTrue (is_waiting answer) → is_last answer ≡ false
@@ -85,16 +85,13 @@ attempt_rules a h =
 
 pub sound_of : (s : ShowState) → IsTrue (is_state s) → IsSound s
 sound_of s h =
-    let p = both (is_show s.show) (are_live s.live && are_tied s) h in
-    let q = both (are_live s.live) (are_tied s) p.1 in
-    let r = both (nat_le (length s.live) MAX_LIVE) (list_all is_attempt s.live && pairwise goes_before s.live) q.0 in
-    let t = both (list_all is_attempt s.live) (pairwise goes_before s.live) r.1 in
-    let u = both (list_all (is_at_cue s.show) s.live) (list_all (λ a. nat_le a.seq s.last_seq) s.live && (nat_le s.last_seq LAST_NUMBER && is_ended s.live s.last_seq s.ended)) q.1 in
-    let w = both (list_all (λ a. nat_le a.seq s.last_seq) s.live) (nat_le s.last_seq LAST_NUMBER && is_ended s.live s.last_seq s.ended) u.1 in
+    let rules = rules_of s h in
+    let few = both (nat_le (length s.live) MAX_LIVE) (list_all is_attempt s.live && pairwise goes_before s.live) rules.live in
+    let t = both (list_all is_attempt s.live) (pairwise goes_before s.live) few.1 in
     record {
       rises = pairwise_from goes_before (λ a b. nat_lt a.seq b.seq) s.live (λ a b k. (both (nat_lt a.seq b.seq) (disjoint (devices_of a.answers) (devices_of b.answers)) k).0) t.1;
       stand = all_from is_attempt (λ a. list_all (stands a.stage) a.answers) s.live (λ a k. (attempt_rules a k).stand) t.0;
-      within = w.0;
+      within = rules.within;
       left = all_from is_attempt (λ a. not (all_last a.answers)) s.live (λ a k. let m = attempt_rules a k in one_left a.stage a.answers m.required m.stand m.open_one) t.0;
     }
 

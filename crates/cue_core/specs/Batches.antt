@@ -37,12 +37,18 @@ AcceptableAreHistories = (es : List Event) → IsTrue (are_acceptable empty_stat
 
 -- Events that are acceptable in turn keep the rules of a state.
 abbrev pub EventsKeepRules : Type 0
-EventsKeepRules = (s : ShowState) (es : List Event) → IsTrue (is_state s) → IsTrue (are_acceptable s es) → IsTrue (is_state (after_events s es))
+EventsKeepRules =
+    (s : ShowState) (es : List Event) → IsTrue (is_state s) → IsTrue (are_acceptable s es)
+    → IsTrue (is_state (after_events s es))
 
 -- An attempt that is live after events was live before, or its Start is one of them.
 abbrev pub LiveByStart : Type 0
-LiveByStart = (s : ShowState) (es : List Event) (q : ℕ) → IsTrue (is_live_in (after_events s es) q) → IsTrue (is_live_in s q || list_any (is_start_of q) es)
+LiveByStart =
+    (s : ShowState) (es : List Event) (q : ℕ) → IsTrue (is_live_in (after_events s es) q)
+    → IsTrue (is_live_in s q || list_any (is_start_of q) es)
 
 -- An attempt that is Decided after events was Decided before, or its Go is one of them.
 abbrev pub DecidedByGo : Type 0
-DecidedByGo = (s : ShowState) (es : List Event) (q : ℕ) → IsTrue (is_decided_in (after_events s es) q) → IsTrue (is_decided_in s q || list_any (is_go_of q) es)
+DecidedByGo =
+    (s : ShowState) (es : List Event) (q : ℕ) → IsTrue (is_decided_in (after_events s es) q)
+    → IsTrue (is_decided_in s q || list_any (is_go_of q) es)

@@ -22,12 +22,20 @@ pub record Step : Type 0 where
 -- the command judged on the state, with what became of it
 abbrev pub step_of : ShowState → ℕ → ℕ → Command → Step
 step_of s now from asked =
-    record { before = s; now = now; from = from; command = asked; verdict = (judgement_of s now from asked).0; events = (judgement_of s now from asked).1 }
+    record {
+      before = s;
+      now = now;
+      from = from;
+      command = asked;
+      verdict = (judgement_of s now from asked).0;
+      events = (judgement_of s now from asked).1;
+    }
 
 -- each command judged on the state after those before it
 abbrev pub steps : ShowState → ℕ → ℕ → List Command → List Step
 steps s now from [] = []
-steps s now from (asked ∷ others) = step_of s now from asked ∷ steps (after_events s (judgement_of s now from asked).1) now from others
+steps s now from (asked ∷ others) =
+    step_of s now from asked ∷ steps (after_events s (judgement_of s now from asked).1) now from others
 
 -- the events of all, in turn
 abbrev pub events_of : List Step → List Event
@@ -48,10 +56,12 @@ StepsAreAcceptable =
 abbrev pub StepsGoOn : Type 0
 StepsGoOn =
     (s : ShowState) (now from : ℕ) (first others : List Command)
-    → steps s now from (first ++ others) ≡ steps s now from first ++ steps (after_events s (events_of (steps s now from first))) now from others
+    → steps s now from (first ++ others)
+    ≡ steps s now from first ++ steps (after_events s (events_of (steps s now from first))) now from others
 
 -- The history of what came and of the commands after it is that of what came, with the events of the commands in turn.
 abbrev pub StepsMakeHistories : Type 0
 StepsMakeHistories =
     (before : List Happening) (now from : ℕ) (commands : List Command)
-    → history_of (then_commanded now from commands before) ≡ onto (events_of (steps (state_of (history_of before)) now from commands)) (history_of before)
+    → history_of (then_commanded now from commands before)
+    ≡ onto (events_of (steps (state_of (history_of before)) now from commands)) (history_of before)

@@ -74,7 +74,8 @@ first_line (l ∷ ls) last = if l.0 then l.1 else first_line ls last
 
 abbrev pub on_add_device : ShowState → ℕ → ℕ → Judgement
 on_add_device s d port =
-    option_map_or (λ p. if nat_eq p port then known else refused code.Duplicate) (port_of s.show d) (made (event.Device d port ∷ []))
+    option_map_or (λ p. if nat_eq p port then known else refused code.Duplicate)
+    (port_of s.show d) (made (event.Device d port ∷ []))
 
 abbrev pub on_remove_device : ShowState → ℕ → Judgement
 on_remove_device s d =
@@ -139,7 +140,9 @@ on_go_of a =
     (refused code.NotReady)
 
 abbrev pub on_go : ShowState → List ℕ → Judgement
-on_go s c = if not (has_cue s.show c) then refused code.NoMethod else option_map_or on_go_of (attempt_of_cue s.live c) (refused code.NotLive)
+on_go s c =
+    if not (has_cue s.show c) then refused code.NoMethod
+    else option_map_or on_go_of (attempt_of_cue s.live c) (refused code.NotLive)
 
 abbrev pub on_cancel_of : Attempt → Judgement
 on_cancel_of a =
@@ -150,12 +153,16 @@ on_cancel_of a =
     (made (event.Cancel a.seq Operator ∷ []))
 
 abbrev pub on_cancel : ShowState → List ℕ → Judgement
-on_cancel s c = if not (has_cue s.show c) then refused code.NoMethod else option_map_or on_cancel_of (attempt_of_cue s.live c) (refused code.NotLive)
+on_cancel s c =
+    if not (has_cue s.show c) then refused code.NoMethod
+    else option_map_or on_cancel_of (attempt_of_cue s.live c) (refused code.NotLive)
 
 -- the operator waits no longer for a device of a Preparing attempt: an optional one is excused, and for a required
 -- one the preparation is given up
 abbrev pub release_early : ℕ → DeviceAnswer → Judgement
-release_early q x = if x.optional then made (event.Excuse q x.device ∷ []) else made (event.Cancel q Release ∷ event.LetGo q x.device ∷ [])
+release_early q x =
+    if x.optional then made (event.Excuse q x.device ∷ [])
+    else made (event.Cancel q Release ∷ event.LetGo q x.device ∷ [])
 
 -- the operator waits no longer for the device: the attempt, the device as it is recorded, the stage, and the answer
 -- of the record
@@ -181,10 +188,13 @@ on_release_in q x (Cancelling r) answer.Excused = known
 
 -- a device of a live attempt is let go of
 abbrev pub on_release_of : ℕ → Attempt → Judgement
-on_release_of d a = option_map_or (λ x. on_release_in a.seq x a.stage x.answer) (device_answer a.answers d) (refused code.NotLive)
+on_release_of d a =
+    option_map_or (λ x. on_release_in a.seq x a.stage x.answer) (device_answer a.answers d) (refused code.NotLive)
 
 abbrev pub on_release : ShowState → ℕ → Judgement
-on_release s d = if not (has_device s.show d) then refused code.NoMethod else option_map_or (on_release_of d) (attempt_of_device s.live d) (refused code.NotLive)
+on_release s d =
+    if not (has_device s.show d) then refused code.NoMethod
+    else option_map_or (on_release_of d) (attempt_of_device s.live d) (refused code.NotLive)
 
 -- ---- the table of replies: the attempt, the device as it is recorded, the stage, and the answer of the record
 
@@ -251,7 +261,9 @@ on_cancelled q x (Cancelling r) answer.Excused = refused code.Stale
 -- a device of a Preparing attempt cannot go on: an optional one is excused, and for a required one the preparation is
 -- given up
 abbrev pub abort_early : ℕ → DeviceAnswer → Judgement
-abort_early q x = if x.optional then made (event.Excuse q x.device ∷ []) else made (event.Cancel q Abort ∷ event.Failed q x.device ∷ [])
+abort_early q x =
+    if x.optional then made (event.Excuse q x.device ∷ [])
+    else made (event.Cancel q Abort ∷ event.Failed q x.device ∷ [])
 
 -- a device of a Cancelling attempt cannot go on: of an optional one nothing more is asked, and a required one has
 -- failed
@@ -286,7 +298,8 @@ on_reply_in reply.Abort = on_abort
 
 -- a reply to a live attempt
 abbrev pub on_reply_to : ReplyKind → ℕ → Attempt → Judgement
-on_reply_to kind d a = option_map_or (λ x. on_reply_in kind a.seq x a.stage x.answer) (device_answer a.answers d) (refused code.NotPart)
+on_reply_to kind d a =
+    option_map_or (λ x. on_reply_in kind a.seq x a.stage x.answer) (device_answer a.answers d) (refused code.NotPart)
 
 -- a reply that came from the port of another
 abbrev pub is_from_another : ShowState → ℕ → ℕ → Bool

@@ -33,7 +33,8 @@ after_reply s r = after_events s (on_reply s r.from r.kind r.device r.number).1
 -- order.
 abbrev pub RepliesCommute : Type 0
 RepliesCommute =
-    (s : ShowState) (r t : Said) → IsTrue (is_state s) → r.number ≡ t.number → r.device ≢ t.device → IsTrue (is_reply_made s r) → IsTrue (is_reply_made s t)
+    (s : ShowState) (r t : Said) → IsTrue (is_state s) → r.number ≡ t.number → r.device ≢ t.device
+    → IsTrue (is_reply_made s r) → IsTrue (is_reply_made s t)
     → after_reply (after_reply s r) t ≡ after_reply (after_reply s t) r
 
 -- what a reply to q leaves as it was: the show with its place, the last number, and every other attempt

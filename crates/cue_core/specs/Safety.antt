@@ -46,17 +46,25 @@ ever test (e ∷ past) = test (state_of (e ∷ past)) || ever test past
 
 -- No device is ever asked to both go and cancel in one attempt.
 abbrev pub NeverAskedBoth : Type 0
-NeverAskedBoth = (h : List Event) (q d : ℕ) → IsTrue (is_history h) → IsTrue (not (ever (asks_to_go q d) h && ever (asks_to_cancel q d) h))
+NeverAskedBoth =
+    (h : List Event) (q d : ℕ) → IsTrue (is_history h)
+    → IsTrue (not (ever (asks_to_go q d) h && ever (asks_to_cancel q d) h))
 
 -- A device that is done with in an attempt, since it has answered for the last time or was excused, is asked nothing
 -- more in it.
 abbrev pub NothingMoreIsAsked : Type 0
-NothingMoreIsAsked = (h : List Event) (q d : ℕ) → IsTrue (is_history h) → IsTrue (list_any (is_end_of q d) h) → IsTrue (not (asks q d (state_of h)))
+NothingMoreIsAsked =
+    (h : List Event) (q d : ℕ) → IsTrue (is_history h) → IsTrue (list_any (is_end_of q d) h)
+    → IsTrue (not (asks q d (state_of h)))
 
 -- At most one live attempt holds a device.
 abbrev pub OneHolder : Type 0
-OneHolder = (h : List Event) → IsTrue (is_history h) → IsTrue (pairwise (λ a b. disjoint (devices_of a.answers) (devices_of b.answers)) (state_of h).live)
+OneHolder =
+    (h : List Event) → IsTrue (is_history h)
+    → IsTrue (pairwise (λ a b. disjoint (devices_of a.answers) (devices_of b.answers)) (state_of h).live)
 
 -- An attempt that was decided is Decided for as long as it is live.
 abbrev pub DecidedStays : Type 0
-DecidedStays = (h : List Event) (q : ℕ) (a : Attempt) → IsTrue (is_history h) → IsTrue (is_decided_by h q) → attempt_of (state_of h).live q ≡ Some a → IsTrue (is_decided a.stage)
+DecidedStays =
+    (h : List Event) (q : ℕ) (a : Attempt) → IsTrue (is_history h) → IsTrue (is_decided_by h q)
+    → attempt_of (state_of h).live q ≡ Some a → IsTrue (is_decided a.stage)

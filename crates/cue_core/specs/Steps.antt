@@ -39,7 +39,13 @@ ended_as q (Some o) old = Some (record { seq = q; outcome = o })
 
 -- a device of q has answered for the last time: q ends where it was the last
 abbrev pub after_last_answer : ShowState → ℕ → List Attempt → ShowState
-after_last_answer s q live = record { show = s.show; live = without_ended q live; last_seq = s.last_seq; ended = ended_as q (ended_in q live) s.ended }
+after_last_answer s q live =
+    record {
+      show = s.show;
+      live = without_ended q live;
+      last_seq = s.last_seq;
+      ended = ended_as q (ended_in q live) s.ended;
+    }
 
 -- the cue that follows that of q, or none
 abbrev pub place_after : ShowLists → List Attempt → ℕ → Option (List ℕ)
@@ -52,9 +58,16 @@ after s (NoDevice d) = with_show s (without_device s.show d)
 after s (Cue c parts) = with_show s (with_cue s.show c parts)
 after s (NoCue c) = with_show s (without_cue s.show c)
 after s (Place c) = with_show s (with_place s.show (Some c))
-after s (Start q c t) = record { show = s.show; live = started q c t (cue_parts s.show c) s.live; last_seq = q; ended = s.ended }
+after s (Start q c t) =
+    record { show = s.show; live = started q c t (cue_parts s.show c) s.live; last_seq = q; ended = s.ended }
 after s (Ready q d) = with_live s (answered q d answer.Ready s.live)
-after s (Go q) = record { show = with_place s.show (place_after s.show s.live q); live = moved q Decided s.live; last_seq = s.last_seq; ended = s.ended }
+after s (Go q) =
+    record {
+      show = with_place s.show (place_after s.show s.live q);
+      live = moved q Decided s.live;
+      last_seq = s.last_seq;
+      ended = s.ended;
+    }
 after s (Done q d) = after_last_answer s q (answered q d answer.Done s.live)
 after s (Cancel q r) = with_live s (moved q (Cancelling r) s.live)
 after s (LetGo q d) = after_last_answer s q (answered q d answer.LetGo s.live)

@@ -48,8 +48,10 @@ impl State {
 
     /// The state of these parts, where they keep the rules of a state together. For who reads a stored state.
     pub fn of(show: Show, live: Live, last_seq: u32, ended: Option<Ended>) -> Option<State>
-        ensures found { IfSome result (λ s. s ≡ record { show = show; live = live; last_seq = last_seq; ended = ended }) }
-        ensures exact { IsSome result ↔ IsTrue (is_state (record { show = show; live = live; last_seq = last_seq; ended = ended })) }
+        ensures found { IfSome result (λ s. s
+            ≡ record { show = show; live = live; last_seq = last_seq; ended = ended }) }
+        ensures exact { IsSome result
+            ↔ IsTrue (is_state (record { show = show; live = live; last_seq = last_seq; ended = ended })) }
     {
         // Called for its clause that the show keeps its rules.
         let _place = show.place();

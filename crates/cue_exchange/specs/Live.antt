@@ -32,7 +32,8 @@ have_sound_devices answers = has_required answers && distinct (devices_of answer
 
 -- a number, a deadline, and sound devices, each with an answer that the stage knows
 abbrev pub is_sound : Attempt → Bool
-is_sound a = is_number a.seq && (is_moment a.deadline && (have_sound_devices a.answers && list_all (stands a.stage) a.answers))
+is_sound a =
+    is_number a.seq && (is_moment a.deadline && (have_sound_devices a.answers && list_all (stands a.stage) a.answers))
 
 -- the rules of one live attempt
 abbrev pub is_attempt : Attempt → Bool

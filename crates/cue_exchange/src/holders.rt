@@ -33,7 +33,8 @@ pub(crate) fn no_holders() -> Holders
 
 // The devices of these answers are in the attempt with the number.
 fn mark(holders: &mut Holders, seq: u32, items: &[DeviceAnswer])
-    ensures { (d : ℕ) → d ≤ MAX_DEVICE_NUMBER → slice_index holders.new d ≡ (if is_one_of d items.now then seq else slice_index holders.old d) }
+    ensures { (d : ℕ) → d ≤ MAX_DEVICE_NUMBER → slice_index holders.new d
+        ≡ (if is_one_of d items.now then seq else slice_index holders.old d) }
 {
     for item in items {
         holders[usize::from(item.device.number())] = seq;

@@ -15,9 +15,10 @@ use Rattle.cue_records.specs.Reading.{◌>>=◌, Reads, where_it, where_at, made
 -- the kind with the number
 abbrev pub kind_of : ℕ → Option Kind
 kind_of n =
-    if n == 1 then Some kind.Device else if n == 2 then Some kind.NoDevice else if n == 3 then Some kind.Cue else if n == 4 then Some kind.NoCue
-    else if n == 5 then Some kind.Place else if n == 6 then Some kind.Start else if n == 7 then Some kind.Ready else if n == 8 then Some kind.Go
-    else if n == 9 then Some kind.Done else if n == 10 then Some kind.Cancel else if n == 11 then Some kind.LetGo else if n == 12 then Some kind.Failed
+    if n == 1 then Some kind.Device else if n == 2 then Some kind.NoDevice else if n == 3 then Some kind.Cue
+    else if n == 4 then Some kind.NoCue else if n == 5 then Some kind.Place else if n == 6 then Some kind.Start
+    else if n == 7 then Some kind.Ready else if n == 8 then Some kind.Go else if n == 9 then Some kind.Done
+    else if n == 10 then Some kind.Cancel else if n == 11 then Some kind.LetGo else if n == 12 then Some kind.Failed
     else if n == 13 then Some kind.MixedCue else if n == 14 then Some kind.Excuse else None
 
 -- a kind

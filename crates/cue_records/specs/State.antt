@@ -64,7 +64,9 @@ answers_text answers = map (λ x. answer_number x.answer) answers
 
 -- a number, a cue, a moment, a stage and the answers; the devices are those of the cue
 abbrev pub attempt_text : Attempt → List ℕ
-attempt_text a = number_text a.seq ++ (text_text a.cue ++ (moment_text a.deadline ++ (byte_text (stage_number a.stage) ++ answers_text a.answers)))
+attempt_text a =
+    number_text a.seq ++ (text_text a.cue
+    ++ (moment_text a.deadline ++ (byte_text (stage_number a.stage) ++ answers_text a.answers)))
 
 -- a count in one byte, and so many attempts
 abbrev pub live_text : List Attempt → List ℕ
@@ -95,7 +97,9 @@ has_text Flagged s = true
 
 -- the number of the version, the show, the last number, the attempt that ended last, and the live ones
 abbrev pub text_in : PartsForm → ShowState → List ℕ
-text_in form s = byte_text (version_number form) ++ (show_text form s.show ++ (number_text s.last_seq ++ (ended_text s.ended ++ live_text s.live)))
+text_in form s =
+    byte_text (version_number form) ++ (show_text form s.show
+    ++ (number_text s.last_seq ++ (ended_text s.ended ++ live_text s.live)))
 
 -- the text of a state as it is written, which each state has
 abbrev pub state_text : ShowState → List ℕ

@@ -91,7 +91,9 @@ show_at form s bytes = table_at s bytes >>= λ t. stack_at form t.0 t.1 >>= λ u
 
 -- the attempt with the number that ended so; none for two zeros
 abbrev pub ended_of : ℕ × ℕ → Option (Option Ended)
-ended_of x = if x.1 == 0 then where_it (x.0 == 0) None else (outcome_numbered x.1 >>= λ o. Some (Some (record { seq = x.0; outcome = o })))
+ended_of x =
+    if x.1 == 0 then where_it (x.0 == 0) None
+    else (outcome_numbered x.1 >>= λ o. Some (Some (record { seq = x.0; outcome = o })))
 
 -- the attempt that ended last
 unfoldable pub ended_at : Reads (Option Ended)
@@ -100,8 +102,9 @@ ended_at = made_at ended_of (both_at (number_at w32) byte_at)
 -- the stage with the number
 abbrev pub stage_of : ℕ → Option Stage
 stage_of n =
-    if n == 1 then Some Preparing else if n == 2 then Some Decided else if n == 3 then Some (Cancelling Operator) else if n == 4 then Some (Cancelling Deadline)
-    else if n == 5 then Some (Cancelling Abort) else if n == 6 then Some (Cancelling Power) else if n == 7 then Some (Cancelling Release) else None
+    if n == 1 then Some Preparing else if n == 2 then Some Decided else if n == 3 then Some (Cancelling Operator)
+    else if n == 4 then Some (Cancelling Deadline) else if n == 5 then Some (Cancelling Abort)
+    else if n == 6 then Some (Cancelling Power) else if n == 7 then Some (Cancelling Release) else None
 
 -- a stage
 unfoldable pub stage_at : Reads Stage
@@ -110,7 +113,8 @@ stage_at = made_at stage_of byte_at
 -- the answer with the number
 abbrev pub answer_of : ℕ → Option Answer
 answer_of n =
-    if n == 0 then Some answer.Waiting else if n == 1 then Some answer.Ready else if n == 2 then Some answer.Done else if n == 3 then Some answer.LetGo else if n == 4 then Some answer.Failed
+    if n == 0 then Some answer.Waiting else if n == 1 then Some answer.Ready else if n == 2 then Some answer.Done
+    else if n == 3 then Some answer.LetGo else if n == 4 then Some answer.Failed
     else if n == 5 then Some answer.Excused else None
 
 -- one answer
@@ -120,7 +124,9 @@ one_answer_at = made_at answer_of byte_at
 -- an answer for the device of each part
 unfoldable pub answers_at : List Part → Reads (List DeviceAnswer)
 answers_at [] bytes = Some ([], bytes)
-answers_at (p ∷ ps) bytes = one_answer_at bytes >>= λ a. answers_at ps a.1 >>= λ xs. Some (record { device = p.device; optional = p.optional; answer = a.0 } ∷ xs.0, xs.1)
+answers_at (p ∷ ps) bytes =
+    one_answer_at bytes >>= λ a. answers_at ps a.1
+    >>= λ xs. Some (record { device = p.device; optional = p.optional; answer = a.0 } ∷ xs.0, xs.1)
 
 -- what stands before the answers of an attempt: a number, a cue, a moment and a stage
 unfoldable pub head_at : Reads (ℕ × (List ℕ × (ℕ × Stage)))
@@ -129,7 +135,8 @@ head_at = both_at sequence_at (both_at cue_at (both_at (number_at w64) stage_at)
 -- an attempt at a cue of the show
 unfoldable pub attempt_at : ShowLists → Reads Attempt
 attempt_at show bytes =
-    head_at bytes >>= λ h. parts_of show h.0.1.0 >>= λ ps. answers_at ps h.1 >>= λ xs. Some (record { seq = h.0.0; cue = h.0.1.0; deadline = h.0.1.1.0; stage = h.0.1.1.1; answers = xs.0 }, xs.1)
+    head_at bytes >>= λ h. parts_of show h.0.1.0 >>= λ ps. answers_at ps h.1 >>= λ xs. Some
+    (record { seq = h.0.0; cue = h.0.1.0; deadline = h.0.1.1.0; stage = h.0.1.1.1; answers = xs.0 }, xs.1)
 
 -- the attempt may be live behind these
 abbrev pub can_follow : List Attempt → Attempt → Bool
@@ -146,7 +153,8 @@ live_at show live bytes = byte_at bytes >>= λ n. fold_at (attempt_step show) n.
 -- what stands behind the show, to the end: the last number, the attempt that ended last, and the live ones
 unfoldable pub tail_of : ShowLists → List Attempt → List ℕ → Option (ℕ × (Option Ended × List Attempt))
 tail_of show live bytes =
-    number_at w32 bytes >>= λ q. ended_at q.1 >>= λ e. live_at show live e.1 >>= λ all. where_it (length all.1 == 0) (q.0, (e.0, all.0))
+    number_at w32 bytes >>= λ q. ended_at q.1 >>= λ e. live_at show live e.1
+    >>= λ all. where_it (length all.1 == 0) (q.0, (e.0, all.0))
 
 -- ---- the state
 
@@ -156,7 +164,9 @@ where_state s = where_it (is_state s) s
 
 -- what stands behind the number of the version
 unfoldable pub standing_of : PartsForm → List ℕ → Option ShowState
-standing_of form bytes = show_at form empty_show bytes >>= λ show. tail_of show.0 [] show.1 >>= λ t. where_state (record { show = show.0; live = t.1.1; last_seq = t.0; ended = t.1.0 })
+standing_of form bytes =
+    show_at form empty_show bytes >>= λ show. tail_of show.0 [] show.1
+    >>= λ t. where_state (record { show = show.0; live = t.1.1; last_seq = t.0; ended = t.1.0 })
 
 -- the state whose text the bytes are
 unfoldable pub state_of : List ℕ → Option ShowState

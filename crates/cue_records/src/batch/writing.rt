@@ -54,7 +54,8 @@ fn put_body(out: &mut Vec<u8>, event: &Event) -> Result<(), AllocError>
 
 // A number, a cue and a moment.
 fn put_start(out: &mut Vec<u8>, seq: u32, cue: CueNo, deadline: u64) -> Result<(), AllocError>
-    ensures { OnOk result (out.new.items ≡ out.old.items ++ (number_text seq ++ (text_text cue ++ moment_text deadline))) }
+    ensures { OnOk result (out.new.items ≡ out.old.items
+        ++ (number_text seq ++ (text_text cue ++ moment_text deadline))) }
 {
     out.extend_from_slice(&seq.to_be_bytes())?;
     put_cue(out, cue)?;

@@ -7,8 +7,8 @@ ghost use Rattle.cue_records.specs.StateReading.{fold_at, device_step, cue_step,
 
 use crate::fault::ReadFault;
 use crate::fields::Reader;
-use crate::parts_form::PartsForm;
 use crate::limits::OLD_MAX_CUES;
+use crate::parts_form::PartsForm;
 use crate::state::numbers::{answer_of, stage_of};
 use cue_core::{Ended, State};
 use cue_exchange::{Answer, Answers, Attempt, DeviceAnswer, Live, Outcome, Stage};
@@ -32,7 +32,8 @@ impl<'a> Reader<'a> {
 
     // So many devices more.
     fn add_devices(&mut self, show: &mut Show, count: u8) -> Result<(), ReadFault>
-        ensures { Gives (λ _. (show.new, self.new.rest.now)) result (fold_at device_step count show.old self.old.rest.now) }
+        ensures { Gives (λ _. (show.new, self.new.rest.now)) result
+            (fold_at device_step count show.old self.old.rest.now) }
     {
         for _ in 0..count {
             self.add_device(show)?;
@@ -61,7 +62,8 @@ impl<'a> Reader<'a> {
         show: &mut Show,
         count: u16,
     ) -> Result<(), ReadFault>
-        ensures { Gives (λ _. (show.new, self.new.rest.now)) result (fold_at (cue_step form) count show.old self.old.rest.now) }
+        ensures { Gives (λ _. (show.new, self.new.rest.now)) result
+            (fold_at (cue_step form) count show.old self.old.rest.now) }
     {
         for _ in 0..count {
             self.add_cue(alloc, form, show)?;
@@ -222,7 +224,8 @@ impl<'a> Reader<'a> {
         live: &mut Live,
         count: u8,
     ) -> Result<(), ReadFault>
-        ensures { Gives (λ _. (live.new, self.new.rest.now)) result (fold_at (attempt_step show.now) count live.old self.old.rest.now) }
+        ensures { Gives (λ _. (live.new, self.new.rest.now)) result
+            (fold_at (attempt_step show.now) count live.old self.old.rest.now) }
     {
         for _ in 0..count {
             self.add_attempt(alloc, show, live)?;

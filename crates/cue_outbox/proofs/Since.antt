@@ -1,4 +1,4 @@
--- What events that are acceptable in turn leave of the commands of each live attempt: either they ask its devices anew, or what its
+-- What events that are acceptable in turn leave of the orders of each live attempt: either they ask its devices anew, or what its
 -- devices are still to be told was pending before.
 use Rattle.std.proofs.Common.{◌≡◌, ℕ, ◌+◌, ◌<◌, ◌≤◌, List, [], ◌∷◌, map, find, refl, sym, ◌∙◌, ap, subst, Bool, true, false, not, cond, ◌&&◌, ◌||◌, nat_eq, nat_le, arith, Option, None, Some, IsTrue}
 use Rattle.std.specs.Prelude.{IfSome, is_some, unwrap_or}
@@ -74,7 +74,7 @@ told_same s t a (x ∷ xs) parts ports =
     ap (λ (o : Option (ℕ × Order)). cons_option o (filter_map (order_for t a) xs)) (order_same s t a x ports.0 parts)
     ∙ ap (λ (os : List (ℕ × Order)). cons_option (order_for s a x) os) (told_same s t a xs parts ports.1)
 
--- no event of the attempts, and the commands of the attempt as they were
+-- no event of the attempts, and the orders of the attempt as they were
 same_since : (s t : ShowState) (p : ℕ) (b : Attempt) → told t b ≡ told s b → attempt_of s.live p ≡ Some b → Since s t p b false
 same_since s t p b e h =
     stayed refl b h
@@ -152,7 +152,7 @@ parts_left show c a rules at =
 
 -- ---- a device answers
 
--- a command that is kept is one of before
+-- an order that is kept is one of before
 kept_or_gone : (test : ℕ × Order → Bool) (o : ℕ × Order) (olds news : List (ℕ × Order)) (w v : Bool) → (v ≡ true → w ≡ true) → (IsTrue (list_all test olds) → IsTrue (list_all test news))
     → IsTrue (list_all test (cons_option (cond w (Some o) None) olds)) → IsTrue (list_all test (cons_option (cond v (Some o) None) news))
 kept_or_gone test o olds news true true k f h = let p = both (test o) (list_all test olds) h in join (test o) (list_all test news) p.0 (f p.1)
@@ -188,7 +188,7 @@ changed_was : (q p : ℕ) (f : Attempt → Attempt) → ((a : Attempt) → (f a)
     → (a : Attempt) × (attempt_of live p ≡ Some a) × (changed q f a ≡ b)
 changed_was q p f keeps live b h = was (changed q f) (attempt_of live p) b (sym (attempt_of-changed q p f keeps live) ∙ h)
 
--- the commands in t are those in s
+-- the orders in t are those in s
 carried : (s t : ShowState) (a b : Attempt) → told t b ≡ told s b → Stays s a s b → Stays s a t b
 carried s t a b e h = record { stage = h.stage; among = record { each = λ test k. let P : List (ℕ × Order) → Type 0 = λ os. IsTrue (list_all test os) in subst P (sym e) (h.among.each test k) } }
 

@@ -1,7 +1,7 @@
 use Rattle.std.proofs.Common.{◌≡◌, ◌∙◌, rules}
 use Rattle.std.specs.Prelude.{is_ok}
 use Rattle.cue_outbox.proofs.Numbers.{found-among}
-use Rattle.cue_outbox.proofs.commands.is_among.Goals as goal
+use Rattle.cue_outbox.proofs.orders.is_among.Goals as goal
 
 pub returns : goal.returns
 returns c =

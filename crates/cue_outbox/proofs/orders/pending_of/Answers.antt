@@ -7,8 +7,8 @@ use Rattle.cue_outbox.specs.Asked.{pending_of}
 use Rattle.cue_outbox.specs.Owed.{datagrams_for}
 use Rattle.cue_outbox.specs.Views.{outs_view}
 use Rattle.cue_outbox.proofs.Counted.{owed-more}
-use Rattle.cue_outbox.proofs.commands.pending_of.Goals as goal
-use Rattle.cue_outbox.proofs.commands.pending_of.Goals.{then-is_among+in_ok-push_orders, else-is_among}
+use Rattle.cue_outbox.proofs.orders.pending_of.Goals as goal
+use Rattle.cue_outbox.proofs.orders.pending_of.Goals.{then-is_among+in_ok-push_orders, else-is_among}
 
 pub loop-attempt-preserved : goal.loop-attempt-preserved
 loop-attempt-preserved c =

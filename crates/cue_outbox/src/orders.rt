@@ -1,4 +1,4 @@
-//! The commands that the devices are still to answer.
+//! The orders that the devices are still to answer.
 ghost use Rattle.std.specs.Prelude.{◌≡◌, ◌≤◌, ◌++◌, IfOk, OnOk, IsTrue, length};
 ghost use Rattle.std.specs.List.{list_all};
 ghost use Rattle.std.specs.List.Sorted.{IsStrictlyIncreasing};
@@ -22,8 +22,8 @@ use cue_osc::Arg;
 use cue_show::{CueNo, DeviceNo, Part, Show};
 use std::alloc::{AllocError, Global};
 
-/// The commands that the devices are still to answer: for each live attempt by rising number, for each device that is
-/// still to answer, in part order, the command of the attempt's stage, to the device's port.
+/// The orders that the devices are still to answer: for each live attempt by rising number, for each device that is
+/// still to answer, in part order, the order of the attempt's stage, to the device's port.
 pub fn pending(alloc: Global, state: &State) -> Result<Vec<Out>, AllocError>
     ensures { IfOk result (λ outs. outs_view outs.items ≡ datagrams (all_pending state.now)) }
 {
@@ -34,9 +34,9 @@ pub fn pending(alloc: Global, state: &State) -> Result<Vec<Out>, AllocError>
     Ok(outs)
 }
 
-/// The commands to the devices of the attempts with these numbers, in the order of `pending`; a number that is not
+/// The orders to the devices of the attempts with these numbers, in the order of `pending`; a number that is not
 /// live gives nothing. With the numbers that `numbers_asked` gives of a batch, and on the state after it, these are
-/// the commands that were not pending before.
+/// the orders that were not pending before.
 pub fn pending_of(alloc: Global, state: &State, numbers: &[u32]) -> Result<Vec<Out>, AllocError>
     requires { IsStrictlyIncreasing numbers.now }
     ensures { IfOk result (λ outs. outs_view outs.items ≡ datagrams (pending_of numbers.now state.now)) }
@@ -57,7 +57,7 @@ fn is_among(numbers: &[u32], number: u32) -> bool
     numbers.binary_search(&number).is_ok()
 }
 
-// Puts the commands of an attempt behind the others.
+// Puts the orders of an attempt behind the others.
 fn push_orders(
     alloc: Global,
     outs: &mut Vec<Out>,
@@ -88,8 +88,8 @@ fn parts_of(show: &Show, cue: CueNo) -> &[Part]
     }
 }
 
-// The command to a device, where it is still to answer. Each device of a live attempt has a port, as the law
-// `commands_have_ports` says.
+// The order to a device, where it is still to answer. Each device of a live attempt has a port, as the law
+// `orders_have_ports` says.
 fn order_for(
     alloc: Global,
     state: &State,
@@ -110,7 +110,7 @@ fn order_for(
     Ok(Some(out))
 }
 
-// The command of the attempt's stage.
+// The order of the attempt's stage.
 fn order_to(
     alloc: Global,
     to: u16,

@@ -28,12 +28,13 @@ use Rattle.cue_outbox.specs.Sending.{answer, status, order_content, send_content
 use Rattle.cue_exchange.specs.Outcomes.{outcome_number}
 use Rattle.cue_outbox.specs.Laws.{RepliesAreRead, StatusIsRead}
 use Rattle.cue_outbox.proofs.Facts.{number_text, number_short, last_fits, live_fits, ended_fits}
+use Rattle.cue_osc.specs.declared.limits.TheConstants.{MAX_LEN}
 
 -- a message that can be written
 pub record IsWritable (c : Content) : Type 0 where
   pub plain : IsPlain 8 c
   pub in_range : IsInRange c
-  pub short : length (text_of c) ≤ 4096
+  pub short : length (text_of c) ≤ MAX_LEN
 
 -- and is read again
 pub read_back : (c : Content) → IsWritable c → datagram_at (text_of c) ≡ Ok c

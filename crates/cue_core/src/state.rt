@@ -30,7 +30,8 @@ impl Model for State {
 
     ghost view = { λ s. record { show = s.show; live = s.live; last_seq = s.last_seq; ended = s.ended } };
 
-    ghost invariant = { λ s. IsTrue (is_state (record { show = s.show; live = s.live; last_seq = s.last_seq; ended = s.ended })) };
+    ghost invariant = { λ s. IsTrue
+        (is_state (record { show = s.show; live = s.live; last_seq = s.last_seq; ended = s.ended })) };
 }
 
 impl State {

@@ -39,7 +39,10 @@ impl Model for Live {
 
     ghost view = { λ l. l.attempts.items };
 
-    ghost invariant = { λ l. record { live : IsTrue (are_live l.attempts.items); holders : AreHolders l.holders l.attempts.items } };
+    ghost invariant = { λ l. record {
+      live : IsTrue (are_live l.attempts.items);
+      holders : AreHolders l.holders l.attempts.items;
+    } };
 }
 
 impl Live {

@@ -35,7 +35,8 @@ fn is_all_braced(inside: &[u8]) -> bool
 /// The piece that begins with a `[`, of which `behind` follows it.
 fn bracket_at(behind: &[u8]) -> Option<(Token<'_>, &[u8])>
     ensures { MatchOption result (piece_between bracketed_piece (text_before close_bracket behind.now) ≡ None)
-        (λ r. Reads (piece_between bracketed_piece (text_before close_bracket behind.now)) behind.now (piece_of r.0) r.1.now) }
+        (λ r. Reads (piece_between bracketed_piece (text_before close_bracket behind.now))
+        behind.now (piece_of r.0) r.1.now) }
 {
     let (inside, rest) = cut_first(b']', behind);
     let rest = rest?;
@@ -49,7 +50,8 @@ fn bracket_at(behind: &[u8]) -> Option<(Token<'_>, &[u8])>
 /// The piece that begins with a `{`, of which `behind` follows it.
 fn brace_at(behind: &[u8]) -> Option<(Token<'_>, &[u8])>
     ensures { MatchOption result (piece_between braced_piece (text_before close_brace behind.now) ≡ None)
-        (λ r. Reads (piece_between braced_piece (text_before close_brace behind.now)) behind.now (piece_of r.0) r.1.now) }
+        (λ r. Reads (piece_between braced_piece (text_before close_brace behind.now))
+        behind.now (piece_of r.0) r.1.now) }
 {
     let (inside, rest) = cut_first(b'}', behind);
     let rest = rest?;

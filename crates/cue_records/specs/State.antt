@@ -88,7 +88,8 @@ abbrev pub is_other_version : List ℕ → Bool
 is_other_version [] = false
 is_other_version (b ∷ bytes) = is_none (form_of_version b)
 
--- the state has a text with parts of this form: with plain parts only where it has at most 256 cues, of required parts alone
+-- the state has a text with parts of this form: with plain parts only where it has at most 256 cues, of required parts
+-- alone
 abbrev pub has_text : PartsForm → ShowState → Bool
 has_text Plain s = nat_le (length s.show.cues) OLD_MAX_CUES && list_all (λ e. are_required e.1) s.show.cues
 has_text Flagged s = true

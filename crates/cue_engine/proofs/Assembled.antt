@@ -5,7 +5,7 @@ use Rattle.std.proofs.Common.{◌≡◌, ℕ, ◌++◌, List, Result, Ok, Err, I
 use Rattle.cue_disk.specs.declared.disk.Disk.{Ghosts}
 use Rattle.cue_core.specs.declared.event.Event.{Event}
 use Rattle.cue_core.specs.State.{ShowState}
-use Rattle.cue_core.specs.Steps.{folded, are_acceptable}
+use Rattle.cue_core.specs.Steps.{after_events, are_acceptable}
 use Rattle.cue_keeper.specs.declared.fault.Fault.{Fault}
 use Rattle.cue_keeper.specs.declared.keeper.Keeper.{Keeper}
 use Rattle.cue_keeper.specs.Accepting.{Accepts}
@@ -22,7 +22,7 @@ use Rattle.cue_engine.specs.Taking.{Takes}
 use Rattle.cue_engine.specs.Words.{keeper_of, state_of, queue_of, last_batch_of}
 
 -- a draft that lacks these events
-pub in_step : (kept : ShowState) (draft : Draft) (before : ShowState) (es : List Event) → draft.state ≡ before → draft.behind.items ≡ es → IsTrue (are_acceptable before es) → folded before es ≡ kept → InStep kept draft
+pub in_step : (kept : ShowState) (draft : Draft) (before : ShowState) (es : List Event) → draft.state ≡ before → draft.missing.items ≡ es → IsTrue (are_acceptable before es) → after_events before es ≡ kept → InStep kept draft
 in_step kept draft before es state behind may is = (λ _. rw (state, behind) may, λ _. rw (state, behind) is)
 
 -- what `keep` says of the queue, the batch and the counts is what `take` says
@@ -32,7 +32,7 @@ pub takes : {D : Type 0} {disk : Ghosts D} (old new : Engine D disk) (what : Giv
     → Accepts heard.batch.items (result_err r) (keeper_of old) (keeper_of new)
     → IfOk r (λ counts. Takes what counts old new)
 takes old new what heard (Ok counts) gives owes accepts = record {
-  state = accepts.state ∙ ap (folded (state_of old)) gives.batch;
+  state = accepts.state ∙ ap (after_events (state_of old)) gives.batch;
   queue = owes.1 ∙ ap (λ (sends : List (ℕ × List ℕ)). queue_of old ++ sends) gives.sends;
   last_batch = owes.2 ∙ gives.batch;
   counts = owes.0 ∙ gives.counts;

@@ -7,7 +7,7 @@ use Rattle.cue_log.specs.declared.area.TheConstants.{AREA_LIMIT}
 use Rattle.cue_snap.specs.Observed.{first_after, second_after, RefusedAs}
 use Rattle.cue_snap.proofs.Reader.{one_of_a_pair}
 use Rattle.cue_core.specs.State.{ShowState}
-use Rattle.cue_core.specs.Steps.{folded}
+use Rattle.cue_core.specs.Steps.{after_events}
 use Rattle.cue_core.specs.Happenings.{events_at, recovered}
 use Rattle.cue_records.specs.State.{state_text}
 use Rattle.cue_keeper.specs.declared.fault.Fault.{Fault}
@@ -136,7 +136,7 @@ unwritten fault first_in second_in P Q a b (Err refused) same p q = λ other. (s
 -- ---- the state that was closed
 
 -- what holds of the state behind its cancels holds of the closed one
-pub closed_so : (s : ShowState) (P : ShowState → Type 0) → P (folded s (events_at s recovered)) → P (closed s)
+pub closed_so : (s : ShowState) (P : ShowState → Type 0) → P (after_events s (events_at s recovered)) → P (closed s)
 unfolding closed
 closed_so s P so = so
 

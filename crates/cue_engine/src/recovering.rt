@@ -9,7 +9,7 @@ ghost use Rattle.cue_outbox.specs.Sending.{datagrams, all_pending};
 ghost use Rattle.cue_core.specs.Batches.{closed};
 ghost use Rattle.cue_engine.specs.Takes.{FitsRecord, CanFollow, Follows, InStep};
 
-use crate::drafts::{Draft, catch_up};
+use crate::drafts::{Draft, sync_to};
 use crate::keeping::accept_batch;
 use crate::ticking::cancels;
 use cue_core::{Event, State, undecided};
@@ -49,14 +49,14 @@ fn close_on(
 ) -> Result<(Vec<Event>, Queue), AllocError>
     requires can_follow { CanFollow draft.old }
     requires follows { Follows kept.now draft.old }
-    ensures marked { draft.new.is_of_use ≡ false }
+    ensures marked { draft.new.is_valid ≡ false }
     ensures draft { OnOk result (draft.new.state ≡ closed kept.now) }
     ensures batch { IfOk result (λ r. r.0.items ≡ events_at kept.now recovered) }
     ensures acceptable { IfOk result (λ r. IsTrue (are_acceptable kept.now r.0.items)) }
     ensures fits { IfOk result (λ r. FitsRecord r.0.items) }
     ensures queue { IfOk result (λ r. r.1 ≡ datagrams (all_pending (closed kept.now))) }
 {
-    catch_up(kept, draft)?;
+    sync_to(kept, draft)?;
     let batch = cancels_undecided(alloc, kept)?;
     draft.state.apply_all(&batch)?;
     let queue = queue_pending(alloc, &draft.state)?;

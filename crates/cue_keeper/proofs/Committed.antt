@@ -10,8 +10,8 @@ use Rattle.cue_snap.specs.Pair.{PairLeaves}
 use Rattle.cue_snap.specs.Observed.{first_of, second_of, live_of, spare_of, is_first_live, is_broken, generation_of, count_of, end_of, live_area_of}
 use Rattle.cue_core.specs.declared.event.Event.{Event}
 use Rattle.cue_core.specs.State.{ShowState}
-use Rattle.cue_core.specs.Steps.{folded}
-use Rattle.cue_core.proofs.Conditions.{both}
+use Rattle.cue_core.specs.Steps.{after_events}
+use Rattle.cue_core.proofs.lists.ConditionLemmas.{both}
 use Rattle.cue_records.specs.Batch.{is_batch, batch_text}
 use Rattle.cue_records.specs.State.{state_text}
 use Rattle.cue_keeper.specs.declared.fault.Fault.{Fault}
@@ -83,7 +83,7 @@ module _ {D : Type 0} {disk : Ghosts D} where
     count = λ _. tt;
     area = λ _ _ _. tt;
     any_moment = λ first second _.
-        rests disk.moment disk.held disk.held_at disk.failures disk.is_honest (first_of pair) (second_of pair) (StandsEither s (folded s batch)) (now (first_of pair)) (now (second_of pair))
+        rests disk.moment disk.held disk.held_at disk.failures disk.is_honest (first_of pair) (second_of pair) (StandsEither s (after_events s batch)) (now (first_of pair)) (now (second_of pair))
         (λ h k x y left_x left_y. inl (stands h k x y left_x left_y)) first second;
     first_failures = omega arith;
     second_failures = omega arith;
@@ -101,7 +101,7 @@ module _ {D : Type 0} {disk : Ghosts D} where
       → is_broken old ≡ false
       → (NeedsNewArea old batch → IsAtTheLast old → ⊥)
       → (NeedsNewArea old batch → HasAGeneration old → HasNoRoom s batch → ⊥)
-      → Moves disk.moment disk.held_at disk.failures disk.is_honest (first_of old) (second_of old) (first_of new) (second_of new) (StandsEither s (folded s batch))
+      → Moves disk.moment disk.held_at disk.failures disk.is_honest (first_of old) (second_of old) (first_of new) (second_of new) (StandsEither s (after_events s batch))
       → HasFailed old new
       → is_broken new ≡ true
       → Commits s batch (Some fault.Disk) old new
@@ -132,7 +132,7 @@ module _ {D : Type 0} {disk : Ghosts D} where
       → is_broken old ≡ false
       → (NeedsNewArea old batch → IsAtTheLast old → ⊥)
       → (NeedsNewArea old batch → HasAGeneration old → HasNoRoom s batch → ⊥)
-      → Moves disk.moment disk.held_at disk.failures disk.is_honest (first_of old) (second_of old) (first_of new) (second_of new) (StandsEither s (folded s batch))
+      → Moves disk.moment disk.held_at disk.failures disk.is_honest (first_of old) (second_of old) (first_of new) (second_of new) (StandsEither s (after_events s batch))
       → is_broken new ≡ false
       → generation_of new ≡ (if is_due (count_of old) (end_of old) (length (batch_text batch)) then generation_of old + 1 else generation_of old)
       → count_of new ≡ (if is_due (count_of old) (end_of old) (length (batch_text batch)) then 1 else count_of old + 1)
@@ -198,7 +198,7 @@ module _ {D : Type 0} {disk : Ghosts D} where
     count = λ some. absurd (not_some batch none some);
     area = λ _ _ needs. absurd (not_some batch none needs.0);
     any_moment = λ first second _.
-        rests disk.moment disk.held disk.held_at disk.failures disk.is_honest (first_of pair) (second_of pair) (StandsEither s (folded s batch)) (now (first_of pair)) (now (second_of pair))
+        rests disk.moment disk.held disk.held_at disk.failures disk.is_honest (first_of pair) (second_of pair) (StandsEither s (after_events s batch)) (now (first_of pair)) (now (second_of pair))
         (λ h k x y left_x left_y. inl (stands h k x y left_x left_y)) first second;
     first_failures = omega arith;
     second_failures = omega arith;

@@ -6,8 +6,8 @@ use Rattle.cue_snap.proofs.Reader.{one_of_a_pair, good_pair}
 use Rattle.cue_core.specs.State.{ShowState}
 use Rattle.cue_records.specs.declared.fault.StateFault.{StateFault}
 use Rattle.cue_records.specs.declared.fault.StateFault.TheVariants as fault
-use Rattle.cue_records.specs.declared.version.Version.{Version}
-use Rattle.cue_records.specs.declared.version.Version.TheVariants.{One, Two}
+use Rattle.cue_records.specs.declared.parts_form.PartsForm.{PartsForm}
+use Rattle.cue_records.specs.declared.parts_form.PartsForm.TheVariants.{Plain, Flagged}
 use Rattle.cue_records.specs.State.{IsStateText, text_in, is_other_version}
 use Rattle.cue_keeper.specs.Stands.{StandsFor}
 use Rattle.cue_keeper.specs.Laws.{WhatStandsIsOpened, WhatIsClosedIsOpened}
@@ -15,11 +15,11 @@ use Rattle.cue_keeper.proofs.Standing.{one_state}
 
 -- a text of a state begins with this version or with the older one
 pub own_version : (bytes : List ℕ) (s : ShowState) → IsStateText bytes s → is_other_version bytes ≡ false
-own_version bytes s text = by text.version text.is
+own_version bytes s text = by text.form text.is
   where
-    by : (version : Version) → bytes ≡ text_in version s → is_other_version bytes ≡ false
-    by One is = ap is_other_version is
-    by Two is = ap is_other_version is
+    by : (form : PartsForm) → bytes ≡ text_in form s → is_other_version bytes ≡ false
+    by Plain is = ap is_other_version is
+    by Flagged is = ap is_other_version is
 
 -- what is malformed is told of no other version
 pub other_than : {T U : Type 0} (f : StateFault) (other : Bool) → IsErrOf {T = T} (Err f) fault.Malformed → (IsErrOf {T = U} (Err f) fault.Version ↔ IsTrue other) → other ≡ false

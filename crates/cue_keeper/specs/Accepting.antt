@@ -8,7 +8,7 @@ use Rattle.cue_log.specs.Area.{fresh, with_payload}
 use Rattle.cue_snap.specs.Observed.{first_of, second_of, is_broken, generation_of, count_of, live_area_of}
 use Rattle.cue_core.specs.declared.event.Event.{Event}
 use Rattle.cue_core.specs.State.{ShowState}
-use Rattle.cue_core.specs.Steps.{folded}
+use Rattle.cue_core.specs.Steps.{after_events}
 use Rattle.cue_records.specs.Batch.{batch_text}
 use Rattle.cue_records.specs.State.{state_text}
 use Rattle.cue_keeper.specs.declared.fault.Fault.{Fault}
@@ -81,7 +81,7 @@ pub record Commits {D : Type 0} {disk : Ghosts D} (s : ShowState) (batch : List 
       → disk.is_honest (second_of old)
       → is_broken old ≡ false
       → LeavesPairsAtEachMoment disk.moment disk.held_at (first_of old) (second_of old) (first_of new) (second_of new)
-      (StandsEither s (folded s batch))
+      (StandsEither s (after_events s batch))
   pub first_failures : disk.failures (first_of old) ≤ disk.failures (first_of new)
   pub second_failures : disk.failures (second_of old) ≤ disk.failures (second_of new)
   pub first_honest : disk.is_honest (first_of new) ↔ disk.is_honest (first_of old)
@@ -93,12 +93,12 @@ pub record Accepts {D : Type 0} {disk : Ghosts D} (batch : List Event) (refused 
   -- the state with the batch, and on a fault the old one
   pub state :
       MatchOption refused
-      (kept.state_of new ≡ folded (kept.state_of old) batch)
+      (kept.state_of new ≡ after_events (kept.state_of old) batch)
       (λ _. kept.state_of new ≡ kept.state_of old)
   -- from Ok on whatever a stop leaves stands for it
   pub stands :
       disk.is_honest (kept.first_of old)
       → disk.is_honest (kept.second_of old)
       → IfNone refused
-      (StandsAs (disk.held (kept.first_of new)) (disk.held (kept.second_of new)) (folded (kept.state_of old) batch))
+      (StandsAs (disk.held (kept.first_of new)) (disk.held (kept.second_of new)) (after_events (kept.state_of old) batch))
   pub pair : Commits (kept.state_of old) batch refused (kept.pair_of old) (kept.pair_of new)

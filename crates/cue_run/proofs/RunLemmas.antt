@@ -2,7 +2,7 @@
 use Rattle.std.proofs.Common.{◌≡◌, ℕ, ◌+◌, ◌-◌, ◌^◌, ◌≤◌, Bool, List, [], ◌∷◌, ◌++◌, length, min, Option, Some, None, Err, refl, sym, ap, ◌∙◌, subst, inr, arith, length-append, append_assoc, append-nil}
 use Rattle.cue_disk.specs.declared.disk.Disk.{Ghosts}
 use Rattle.cue_core.specs.State.{ShowState}
-use Rattle.cue_core.specs.Steps.{folded}
+use Rattle.cue_core.specs.Steps.{after_events}
 use Rattle.cue_outbox.specs.Sending.{datagram, datagrams, Send}
 use Rattle.cue_engine.specs.Given.{Input, given}
 use Rattle.cue_engine.specs.Wires.{Handed, handed, Grew, how_many_refused, AllHanded}
@@ -32,15 +32,15 @@ answers_more : (is : List (ℕ × Input)) (t : ℕ × Input) → given_answers i
 answers_more [] t = refl
 answers_more (i ∷ is) t = ap (λ (others : List Answer). comes i.0 i.1 ∷ others) (answers_more is t)
 
-story_state : (s : ShowState) (is : List (ℕ × Input)) (t : ℕ × Input) → (story s (is ++ t ∷ [])).state ≡ folded (story s is).state (given (story s is).state t.0 t.1).batch
+story_state : (s : ShowState) (is : List (ℕ × Input)) (t : ℕ × Input) → (story s (is ++ t ∷ [])).state ≡ after_events (story s is).state (given (story s is).state t.0 t.1).batch
 story_state s [] t = refl
-story_state s (i ∷ is) t = story_state (folded s (given s i.0 i.1).batch) is t
+story_state s (i ∷ is) t = story_state (after_events s (given s i.0 i.1).batch) is t
 
 story_sends : (s : ShowState) (is : List (ℕ × Input)) (t : ℕ × Input) → (story s (is ++ t ∷ [])).sends ≡ (story s is).sends ++ (given (story s is).state t.0 t.1).sends
 story_sends s [] t = append-nil (given s t.0 t.1).sends
 story_sends s (i ∷ is) t =
-    ap (λ (xs : List (ℕ × Send)). (given s i.0 i.1).sends ++ xs) (story_sends (folded s (given s i.0 i.1).batch) is t)
-    ∙ sym (append_assoc (given s i.0 i.1).sends (story (folded s (given s i.0 i.1).batch) is).sends (given (story (folded s (given s i.0 i.1).batch) is).state t.0 t.1).sends)
+    ap (λ (xs : List (ℕ × Send)). (given s i.0 i.1).sends ++ xs) (story_sends (after_events s (given s i.0 i.1).batch) is t)
+    ∙ sym (append_assoc (given s i.0 i.1).sends (story (after_events s (given s i.0 i.1).batch) is).sends (given (story (after_events s (given s i.0 i.1).batch) is).state t.0 t.1).sends)
 
 datagrams_more : (xs ys : List (ℕ × Send)) → datagrams xs ++ datagrams ys ≡ datagrams (xs ++ ys)
 datagrams_more [] ys = refl
@@ -100,7 +100,7 @@ run_more size now_size left mid left_then s now_s s_then owed told mid_told told
       inputs = h.inputs ++ t ∷ [];
       gave = subst (λ (xs : List Answer). GaveAll size left xs left_then) (answers_more h.inputs t) (gave_all_more size left (given_answers h.inputs) mid (comes t.0 t.1 ∷ []) left_then h.gave (subst (λ (n : ℕ). GaveAll n mid (comes t.0 t.1 ∷ []) left_then) same one.1));
       number = omega (arith, h.number, length-append h.inputs (t ∷ []));
-      state = taken.state ∙ (ap (λ (x : ShowState). folded x (given x t.0 t.1).batch) h.state ∙ sym (story_state s h.inputs t));
+      state = taken.state ∙ (ap (λ (x : ShowState). after_events x (given x t.0 t.1).batch) h.state ∙ sym (story_state s h.inputs t));
       refused = h.refused + refused;
       handed = subst (λ (os : List (ℕ × List ℕ)). AllHanded told os (h.refused + refused) told_then) (sends_are t) (all_handed_both told mid_told told_then (owed ++ datagrams (story s h.inputs).sends) (datagrams (given now_s t.0 t.1).sends) h.refused refused h.handed taken.handed);
       counted = omega (arith, is, h.counted);
@@ -146,7 +146,7 @@ module _ {D : Type 0} {disk : Ghosts D} where
         leaves = λ first second working.
             let first = works.keeps.first_honest.1 first in
             let second = works.keeps.second_honest.1 second in
-            left_now disk.moment disk.held disk.held_at (kept.first_of met) (kept.second_of met) (kept.first_of new) (kept.second_of new) s (folded s (given s turn.0.now turn.0.input).batch)
+            left_now disk.moment disk.held disk.held_at (kept.first_of met) (kept.second_of met) (kept.first_of new) (kept.second_of new) s (after_events s (given s turn.0.now turn.0.input).batch)
             (now (kept.first_of new) (pair.first_honest.1 first)) (now (kept.second_of new) (pair.second_honest.1 second))
             (pair.any_moment first second (works.broken ∙ working));
       }))

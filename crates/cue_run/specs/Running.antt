@@ -2,7 +2,7 @@
 use Rattle.std.specs.Prelude.{◌≡◌, ◌≤◌, ◌^◌, ◌-◌, ◌⊎◌, ◌↔◌, ℕ, true, false, List, [], ◌∷◌, ◌++◌, length, map, min}
 use Rattle.std.specs.Prelude.{Option, Some, None, Result, Ok, Err}
 use Rattle.cue_core.specs.State.{ShowState}
-use Rattle.cue_core.specs.Steps.{folded}
+use Rattle.cue_core.specs.Steps.{after_events}
 use Rattle.cue_disk.specs.declared.disk.Disk.{Ghosts}
 use Rattle.cue_disk.specs.Disk.{Contents, IsImage}
 use Rattle.cue_keeper.specs.declared.fault.Fault.{Fault}
@@ -32,7 +32,7 @@ story s inputs = run s (map (λ t. took t.0 t.1) inputs)
 -- an input was taken, and all that it owes was handed over
 pub record IsTaken (s : ShowState) (now : ℕ) (input : Input) (told : Option (List Handed)) (refused : ℕ)
     (s_then : ShowState) (told_then : Option (List Handed)) : Type 0 where
-  pub state : s_then ≡ folded s (given s now input).batch
+  pub state : s_then ≡ after_events s (given s now input).batch
   pub handed : AllHanded told (datagrams (given s now input).sends) refused told_then
 
 -- So far these inputs were taken, as the source gave them, and what was owed at first and what they owe was handed over.
@@ -101,7 +101,7 @@ pub record Refuses {D : Type 0} {disk : Ghosts D} (size : ℕ) (f : Fault) (old 
       → disk.is_honest (kept.second_of old)
       → kept.is_broken old ≡ false
       → LeavesEither (disk.held (kept.first_of new)) (disk.held (kept.second_of new)) (kept.state_of met)
-      (folded (kept.state_of met) (given (kept.state_of met) next.now next.input).batch)
+      (after_events (kept.state_of met) (given (kept.state_of met) next.now next.input).batch)
 
 -- Why a run ended. Memory is also the end of one that had none for its buffer, and asked nothing of the source.
 abbrev pub EndedBy : {D : Type 0} {disk : Ghosts D} → (size asked turns : ℕ) → Option RunFault → (old new : Keeper D disk)

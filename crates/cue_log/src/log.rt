@@ -23,7 +23,8 @@ pub enum AppendFault {
     /// The text of the area would be longer than `AREA_LIMIT`. Nothing has changed.
     #[error("the area is full")]
     Full,
-    /// A device call failed: the record is there or it is not, and of a group all are or none. The log is `Broken` from then on.
+    /// A device call failed: the record is there or it is not, and of a group all are or none. The log is `Broken` from
+    /// then on.
     #[error("the disk failed")]
     Disk,
 }

@@ -1,5 +1,19 @@
 //! The program: what each command does, prints and answers.
-ghost use Rattle.std.specs.Prelude.{◌≡◌, ◌≢◌, ◌≤◌, ◌⊎◌, [], false, map, string_bytes, IfErr, IfOk, IfSome, IsErrOf, OnOk};
+ghost use Rattle.std.specs.Prelude.{
+  ◌≡◌,
+  ◌≢◌,
+  ◌≤◌,
+  ◌⊎◌,
+  [],
+  false,
+  map,
+  string_bytes,
+  IfErr,
+  IfOk,
+  IfSome,
+  IsErrOf,
+  OnOk,
+};
 ghost use Rattle.std.specs.Io.KnownBytes.{Appends};
 ghost use Rattle.clap.specs.Words.{fault_of, subcommand_of};
 ghost use Rattle.cue_core.specs.State.{empty_state};
@@ -7,7 +21,15 @@ ghost use Rattle.cuectl.specs.Lines.{AsksForText, IsHelp, IsNoCommand, cuectl_ap
 ghost use Rattle.cue_keeper.specs.Observed.{is_broken};
 ghost use Rattle.cue_engine.specs.Words.{state_of, keeper_of};
 ghost use Rattle.cuectl.specs.Endings.{run_fault, unbound_fault};
-ghost use Rattle.cuectl.specs.Performing.{EndsSo, HasEnded, IsRunTold, IsStateTold, NamesScript, formed_text, turns_text};
+ghost use Rattle.cuectl.specs.Performing.{
+  EndsSo,
+  HasEnded,
+  IsRunTold,
+  IsStateTold,
+  NamesScript,
+  formed_text,
+  turns_text,
+};
 ghost use Rattle.cue_script.specs.Script.{HasRun};
 ghost use Rattle.cuectl.specs.ShowText.{show_text};
 ghost use Rattle.cuectl.specs.declared.line.words.LineFault.TheVariants.{Memory, Usage};
@@ -347,8 +369,10 @@ pub fn perform<R: Files<File = File> + Net + Clock + Eprint + AllocGlobal, I: Re
     ensures refused { result ≡ 1 → fault_of cuectl_app (map string_bytes words.now) ≡ [] }
     ensures usage { result ≡ 2 → IsNoCommand (map string_bytes words.now) }
     // Where they name a script, what is written is what its lines make, by its status.
-    ensures script { fault_of cuectl_app (map string_bytes words.now) ≡ [] → NamesScript (subcommand_of cuectl_app (map string_bytes words.now))
-        → IfSome (I.remaining reader.old) (λ text. HasRun empty_state text result (W.contents writer.old) (W.contents writer.new)) }
+    ensures script { fault_of cuectl_app (map string_bytes words.now) ≡ []
+        → NamesScript (subcommand_of cuectl_app (map string_bytes words.now))
+        → IfSome (I.remaining reader.old)
+        (λ text. HasRun empty_state text result (W.contents writer.old) (W.contents writer.new)) }
 {
     let alloc = rt.alloc();
     match line(alloc, words) {

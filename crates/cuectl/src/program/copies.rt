@@ -1,5 +1,20 @@
 //! Copies of both files of a store, in memory: what they stand for is known without a write or a sync of the files.
-ghost use Rattle.std.specs.Prelude.{◌≡◌, ◌≤◌, ◌-◌, ◌++◌, ◌↔◌, length, take, drop, Some, None, IfOk, IfSome, OnOk, IsErrOf};
+ghost use Rattle.std.specs.Prelude.{
+  ◌≡◌,
+  ◌≤◌,
+  ◌-◌,
+  ◌++◌,
+  ◌↔◌,
+  length,
+  take,
+  drop,
+  Some,
+  None,
+  IfOk,
+  IfSome,
+  OnOk,
+  IsErrOf,
+};
 ghost use Rattle.cue_log.specs.declared.area.TheConstants.{AREA_LIMIT};
 ghost use Rattle.cue_disk.specs.Memory.{IsNew};
 ghost use Rattle.cue_snap.specs.Pair.{IsSpoiled, NeitherHas};
@@ -148,7 +163,8 @@ fn bytes_of<D: Disk>(alloc: Global, disk: &mut D) -> Result<Vec<u8>, StoreFault>
 /// Copies both files as they are read, the first one first. It makes no write and no sync of them.
 pub fn copied<D: Disk>(alloc: Global, first: &mut D, second: &mut D) -> Result<Copies, StoreFault>
     ensures first { D.is_honest first.old → IfOk result (λ copies. copies.first.items ≡ copy_of (D.held first.old)) }
-    ensures second { D.is_honest second.old → IfOk result (λ copies. copies.second.items ≡ copy_of (D.held second.old)) }
+    ensures second { D.is_honest second.old → IfOk result
+        (λ copies. copies.second.items ≡ copy_of (D.held second.old)) }
     ensures first_kept { D.is_honest first.old → D.held first.new ≡ D.held first.old }
     ensures second_kept { D.is_honest second.old → D.held second.new ≡ D.held second.old }
     ensures first_honest { D.is_honest first.new ↔ D.is_honest first.old }

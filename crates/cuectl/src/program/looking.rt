@@ -31,7 +31,8 @@ fn look<D: Disk>(alloc: Global, first: &mut D, second: &mut D) -> Seen
     ensures second_kept { D.is_honest second.old → D.held second.new ≡ D.held second.old }
     ensures first_honest { D.is_honest first.new ↔ D.is_honest first.old }
     ensures second_honest { D.is_honest second.new ↔ D.is_honest second.old }
-    ensures stood { D.is_honest first.old → D.is_honest second.old → StandsAsSeen (D.held first.old) (D.held second.old) result }
+    ensures stood { D.is_honest first.old → D.is_honest second.old
+        → StandsAsSeen (D.held first.old) (D.held second.old) result }
 {
     match copied_at_once(alloc, first, second) {
         Ok(Some(copies)) => match copies.open(alloc) {
@@ -56,7 +57,8 @@ fn look_again<R: Files<File = File>, D: Disk>(
     ensures second_kept { D.is_honest second.old → D.held second.new ≡ D.held second.old }
     ensures first_honest { D.is_honest first.new ↔ D.is_honest first.old }
     ensures second_honest { D.is_honest second.new ↔ D.is_honest second.old }
-    ensures stood { D.is_honest first.old → D.is_honest second.old → StandsAsSeen (D.held first.old) (D.held second.old) result }
+    ensures stood { D.is_honest first.old → D.is_honest second.old
+        → StandsAsSeen (D.held first.old) (D.held second.old) result }
 {
     for _ in 1..READINGS {
         match look(alloc, first, second) {

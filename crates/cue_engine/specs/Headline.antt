@@ -7,7 +7,7 @@ use Rattle.std.specs.Prelude.{◌≡◌, ◌⊎◌, ℕ, Bool, true, false, List
 use Rattle.std.specs.List.{AllByRecursion, list_all}
 use Rattle.cue_core.specs.declared.event.Event.{Event}
 use Rattle.cue_core.specs.State.{ShowState, is_state}
-use Rattle.cue_core.specs.Steps.{folded}
+use Rattle.cue_core.specs.Steps.{after_events}
 use Rattle.cue_keeper.specs.Stands.{Stands, StandsEither}
 use Rattle.cue_outbox.specs.Sending.{Send, all_pending, datagrams}
 use Rattle.cue_engine.specs.Given.{Input, given, given_recovery}
@@ -56,7 +56,7 @@ abbrev pub Permits : Store → Incident → Type 0
 Permits (running s owed) (taken now input) = Unit {0}
 Permits (running s owed) handed_out = Unit {0}
 Permits (running s owed) (stopped n x y) = Stands x y s
-Permits (running s owed) (stopped_in_take now input n x y) = StandsEither s (folded s (given s now input).batch) x y
+Permits (running s owed) (stopped_in_take now input n x y) = StandsEither s (after_events s (given s now input).batch) x y
 Permits (running s owed) (recovered t) = ⊥
 Permits (running s owed) (stopped_in_recovery u v) = ⊥
 Permits (at_rest x y) (taken now input) = ⊥
@@ -68,7 +68,7 @@ Permits (at_rest x y) (stopped_in_recovery u v) = LeavesClosing x y u v
 
 -- an engine that took an input has the state after the batch, and owes what is sent for it, too
 abbrev pub having_taken : Store → ℕ → Input → Store
-having_taken (running s owed) now input = running (folded s (given s now input).batch) (owed ++ (given s now input).sends)
+having_taken (running s owed) now input = running (after_events s (given s now input).batch) (owed ++ (given s now input).sends)
 having_taken (at_rest x y) now input = at_rest x y
 
 abbrev pub having_handed_out : Store → Store
@@ -139,7 +139,7 @@ is_cut_off (stopped_in_recovery x y) = true
 abbrev pub AreKept : ShowState → List Incident → List (List Event) → Type 0
 AreKept s [] kept = kept ≡ []
 AreKept s (i ∷ is) kept =
-    ((others : List (List Event)) × ((kept ≡ with_batch (batch_of s i) others) × AreKept (folded s (batch_of s i)) is others))
+    ((others : List (List Event)) × ((kept ≡ with_batch (batch_of s i) others) × AreKept (after_events s (batch_of s i)) is others))
     ⊎ ((is_cut_off i ≡ true) × AreKept s is kept)
 
 -- ---- the promise
@@ -155,7 +155,7 @@ StandsAt (at_rest x y) s = Stands x y s
 pub record CameTo (s : ShowState) (is : List Incident) : Type 0 where
   pub kept : List (List Event)
   pub prefix : AreKept s is kept
-  pub stands : StandsAt (left_by_all (begun s) is) (folded s (joined kept))
+  pub stands : StandsAt (left_by_all (begun s) is) (after_events s (joined kept))
   pub decided : IsTrue (list_all (rests s (joined kept)) (all_handed (begun s) is))
   pub in_bytes : AllByRecursion (λ d. BytesRest s (joined kept) d.1) (datagrams (all_handed (begun s) is))
 
@@ -169,7 +169,7 @@ WhateverHappens = (s : ShowState) (is : List Incident) → IsTrue (is_state s) �
 pub record IsPromised (s : ShowState) (is : List Incident) (given_state : ShowState) : Type 0 where
   pub kept : List (List Event)
   pub prefix : AreKept s is kept
-  pub gives : given_state ≡ closed (folded s (joined kept))
+  pub gives : given_state ≡ closed (after_events s (joined kept))
   pub decided : IsTrue (list_all (rests s (joined kept)) (all_handed (begun s) is))
   pub in_bytes : AllByRecursion (λ d. BytesRest s (joined kept) d.1) (datagrams (all_handed (begun s) is))
 

@@ -1,32 +1,34 @@
--- The four device calls of an append, one after another: what a crash leaves at any moment of them.
-use Rattle.std.proofs.Common.{◌≡◌, inl, ℕ, ◌+◌, ◌≤◌, List, [], ◌∷◌, length, sym, ◌∙◌, ap, subst, arith, length-append}
-use Rattle.cue_disk.specs.Disk.{Contents, IsImage, IsStable, Writes, overwritten, LeavesAtEachMoment, Elapses, Torn}
+-- The four device calls that append records, one after another: what a crash leaves at any moment of them.
+use Rattle.std.specs.Prelude.{IsErr, ◌↔◌}
+use Rattle.std.proofs.Common.{◌≡◌, Result, inl, ℕ, ◌+◌, ◌≤◌, true, List, [], ◌∷◌, length, sym, ◌∙◌, ap, subst, arith, length-append}
+use Rattle.cue_disk.specs.Disk.{Contents, IsImage, IsStable, Writes, overwritten, LeavesAtEachMoment, Elapses, Torn, MoreFailures}
+use Rattle.cue_disk.specs.declared.disk.Disk.{Ghosts}
 use Rattle.cue_disk.proofs.Crash.{image_torn}
 use Rattle.cue_disk.proofs.Moments.{started, goes_on}
 use Rattle.cue_log.specs.declared.area.TheConstants.{AREA_LIMIT}
-use Rattle.cue_log.specs.Area.{Area, IsArea, area_text, with_payload, framed}
-use Rattle.cue_log.specs.Record.{IsFramed, payload_in}
+use Rattle.cue_log.specs.Area.{Area, IsArea, area_text, records_text, group_text, room_of, are_records, with_payloads}
 use Rattle.cue_log.specs.Reading.{area_in}
 use Rattle.cue_log.specs.Log.{IsSettled, IsEither}
-use Rattle.cue_log.proofs.Texts.{area_text-push, length-framed}
+use Rattle.cue_log.specs.Appending.{Writes as AppendsOn}
+use Rattle.cue_log.proofs.Texts.{area_text-append, length-records}
 use Rattle.cue_log.proofs.Complete.{area_in_is}
-use Rattle.cue_log.proofs.Settled.{settled_reads}
+use Rattle.cue_log.proofs.Settled.{settled_reads, at_err, counts_at_err}
 use Rattle.cue_log.proofs.Committed.{behind_gate, body_torn, gate_torn, gate_written, length-behind_gate}
 
-module _ {D : Type 0} (moment : D → ℕ) (held : D → Contents) (held_at : D → ℕ → Contents) (stored : List ℕ) (end : ℕ) (d0 : D) (settled : IsSettled (held d0) end) (frame : IsFramed stored) (room : end + 1 + length stored ≤ AREA_LIMIT) (now : held_at d0 (moment d0) ≡ held d0) where
+module _ {D : Type 0} (moment : D → ℕ) (held : D → Contents) (held_at : D → ℕ → Contents) (payloads : List (List ℕ)) (stored : List ℕ) (end : ℕ) (d0 : D) (settled : IsSettled (held d0) end) (frame : 1 ∷ stored ≡ group_text payloads) (short : are_records payloads ≡ true) (room : end + 1 + length stored ≤ AREA_LIMIT) (now : held_at d0 (moment d0) ≡ held d0) where
   abbrev pub area : Area
   area = area_in (held d0).bytes
 
   abbrev pub Either : List ℕ → Type 0
-  Either = IsEither area (with_payload area (payload_in stored))
+  Either = IsEither area (with_payloads area payloads)
 
   module _ (d1 : D) (writes : Writes (end + 1) (length stored) (held d0) (held d1)) (time : Elapses (moment d0) (moment d1) (held_at d0) (held_at d1) (held d1)) where
     body_image : (image : List ℕ) → IsImage (held d1) image → Either image
     body_image image left =
-        inl (body_torn area (held d0).bytes stored end settled.is frame settled.same_end room image
+        inl (body_torn area payloads (held d0).bytes stored end settled.is frame short settled.same_end room image
         (image_torn (end + 1) (length stored) (held d0) (held d1) image (omega (arith, settled.is.ends, settled.same_end)) settled.stable writes left))
 
-    -- the record behind the closed gate
+    -- the records behind the closed gate
     pub body_leaves : LeavesAtEachMoment moment held_at d0 d1 Either
     body_leaves =
         goes_on moment held_at d0 d0 d1 Either (held d1)
@@ -40,10 +42,10 @@ module _ {D : Type 0} (moment : D → ℕ) (held : D → Contents) (held_at : D 
       module _ (d3 : D) (written : (held d1).bytes ≡ overwritten (held d0).bytes (end + 1) stored) (same : (held d2).bytes ≡ (held d1).bytes) (stable : IsStable (held d2)) (writes3 : Writes end 1 (held d2) (held d3)) (time3 : Elapses (moment d2) (moment d3) (held_at d2) (held_at d3) (held d3)) where
         gate_image : (image : List ℕ) → IsImage (held d3) image → Either image
         gate_image image left =
-            let bytes : (held d2).bytes ≡ behind_gate area (held d0).bytes stored end settled.is frame settled.same_end room = same ∙ written in
-            gate_torn area (held d0).bytes stored end settled.is frame settled.same_end room image
+            let bytes : (held d2).bytes ≡ behind_gate area payloads (held d0).bytes stored end settled.is frame short settled.same_end room = same ∙ written in
+            gate_torn area payloads (held d0).bytes stored end settled.is frame short settled.same_end room image
             (subst (λ (old : List ℕ). Torn end 1 old image) bytes
-            (image_torn end 1 (held d2) (held d3) image (omega (arith, ap length bytes, length-behind_gate area (held d0).bytes stored end settled.is frame settled.same_end room)) stable writes3 left))
+            (image_torn end 1 (held d2) (held d3) image (omega (arith, ap length bytes, length-behind_gate area payloads (held d0).bytes stored end settled.is frame short settled.same_end room)) stable writes3 left))
 
         -- the gate open
         pub gate_leaves : LeavesAtEachMoment moment held_at d0 d3 Either
@@ -55,19 +57,35 @@ module _ {D : Type 0} (moment : D → ℕ) (held : D → Contents) (held_at : D 
           last_leaves = goes_on moment held_at d0 d3 d4 Either (held d4) gate_leaves time4 (λ image left. gate_image image (fewer4 image left))
 
           module _ (written3 : (held d3).bytes ≡ overwritten (held d2).bytes end (1 ∷ [])) (same4 : (held d4).bytes ≡ (held d3).bytes) where
-            appended : IsArea (with_payload area (payload_in stored)) (held d4).bytes
+            appended : IsArea (with_payloads area payloads) (held d4).bytes
             appended =
-                let bytes : (held d4).bytes ≡ overwritten (behind_gate area (held d0).bytes stored end settled.is frame settled.same_end room) end (1 ∷ []) =
+                let bytes : (held d4).bytes ≡ overwritten (behind_gate area payloads (held d0).bytes stored end settled.is frame short settled.same_end room) end (1 ∷ []) =
                 same4 ∙ written3 ∙ ap (λ (l : List ℕ). overwritten l end (1 ∷ [])) (same ∙ written) in
-                subst (λ (l : List ℕ). IsArea (with_payload area (payload_in stored)) l) (sym bytes)
-                (gate_written area (held d0).bytes stored end settled.is frame settled.same_end room)
+                subst (λ (l : List ℕ). IsArea (with_payloads area payloads) l) (sym bytes)
+                (gate_written area payloads (held d0).bytes stored end settled.is frame short settled.same_end room)
 
-            pub area_after : area_in (held d4).bytes ≡ with_payload area (payload_in stored)
-            area_after = area_in_is (with_payload area (payload_in stored)) (held d4).bytes appended
+            pub area_after : area_in (held d4).bytes ≡ with_payloads area payloads
+            area_after = area_in_is (with_payloads area payloads) (held d4).bytes appended
 
-            pub settled_after : IsStable (held d4) → IsSettled (held d4) (end + length stored)
+            pub settled_after : IsStable (held d4) → IsSettled (held d4) (end + room_of payloads)
             settled_after stable4 = record {
               is = subst (λ (a : Area). IsArea a (held d4).bytes) (sym area_after) appended;
               stable = stable4;
-              same_end = omega (arith, settled.same_end, ap (λ (a : Area). length (area_text a)) area_after, ap length (area_text-push area (payload_in stored)), length-append (area_text area) (1 ∷ framed (payload_in stored)), length-framed (payload_in stored), frame.len);
+              same_end = omega (arith, settled.same_end, ap (λ (a : Area). length (area_text a)) area_after, ap length (area_text-append area payloads), length-append (area_text area) (records_text payloads), length-records payloads);
             }
+
+-- A call of it failed.
+pub failed : {T E D : Type 0} (disk : Ghosts D) (payloads : List (List ℕ)) (result : Result T E) (end : ℕ) (old new : D)
+    → IsErr result
+    → (disk.is_honest old → LeavesAtEachMoment disk.moment disk.held_at old new (IsEither (area_in (disk.held old).bytes) (with_payloads (area_in (disk.held old).bytes) payloads)))
+    → MoreFailures (disk.failures old) (disk.failures new) × (disk.failures old ≤ disk.failures new)
+    → (disk.is_honest new ↔ disk.is_honest old)
+    → AppendsOn disk payloads result end old new
+failed disk payloads result end old new is leaves counted honest = record {
+  any_moment = leaves;
+  area = λ _. at_err _ result is;
+  settled = λ _. at_err _ result is;
+  bytes = λ _. at_err _ result is;
+  count = counts_at_err result (disk.failures old) (disk.failures new) is counted;
+  honest = honest;
+}

@@ -1,20 +1,16 @@
--- What a crash leaves while a record is appended.
-use Rattle.std.proofs.Common.{◌≡◌, ◌≢◌, inl, inr, ℕ, ◌+◌, ◌<◌, ◌≤◌, List, [], ◌∷◌, ◌++◌, length, get_or, take, drop, sym, ◌∙◌, ap, subst, arith, append_assoc, length-append}
+-- What a crash leaves while records are appended.
+use Rattle.std.proofs.Common.{◌≡◌, ◌≢◌, inl, inr, ℕ, ◌+◌, ◌<◌, ◌≤◌, true, List, [], ◌∷◌, ◌++◌, length, get_or, take, drop, sym, ◌∙◌, ap, subst, arith, append_assoc, length-append}
 use Rattle.std.proofs.lemmas.Bool.{cases_eq}
 use Rattle.std.proofs.lemmas.List.{length-take, drop_at, take-take, take-append-le}
 use Rattle.cue_disk.specs.Disk.{Torn, overwritten}
 use Rattle.cue_disk.proofs.Crash.{overwritten_torn, overwritten_within, length-overwritten}
 use Rattle.cue_log.specs.declared.area.TheConstants.{AREA_LIMIT}
-use Rattle.cue_log.specs.Area.{Area, IsArea, area_text, with_payload, framed}
-use Rattle.cue_log.specs.Record.{IsFramed, payload_in}
+use Rattle.cue_log.specs.Area.{Area, IsArea, area_text, records_text, group_text, are_records, with_payloads}
 use Rattle.cue_log.specs.Log.{IsEither}
-use Rattle.cue_log.proofs.Texts.{split_at, reads, front_reads, area_text-push, are_records-push, length-framed}
+use Rattle.cue_log.proofs.Texts.{split_at, reads, front_reads, area_text-append, are_records-append, length-records, length-group}
 
--- A text with one gate more, and what was framed behind it: the gate says whether that counts.
-module _ (area : Area) (bytes stored : List ℕ) (end : ℕ) (is : IsArea area bytes) (frame : IsFramed stored) (ends : end ≡ length (area_text area)) (room : end + 1 + length stored ≤ AREA_LIMIT) where
-  abbrev payload : List ℕ
-  payload = payload_in stored
-
+-- A text with one gate more, and records that were framed after it: the gate says whether they count.
+module _ (area : Area) (payloads : List (List ℕ)) (bytes stored : List ℕ) (end : ℕ) (is : IsArea area bytes) (frame : 1 ∷ stored ≡ group_text payloads) (short : are_records payloads ≡ true) (ends : end ≡ length (area_text area)) (room : end + 1 + length stored ≤ AREA_LIMIT) where
   abbrev rest : List ℕ
   rest = drop (end + 1 + length stored) bytes
 
@@ -40,25 +36,25 @@ module _ (area : Area) (bytes stored : List ℕ) (end : ℕ) (is : IsArea area b
   pub length-behind_gate : end + 1 + length stored ≤ length behind_gate
   length-behind_gate = omega (arith, length-overwritten bytes stored (end + 1) (omega (arith, is.ends, ends)))
 
-  -- an open gate counts the record
-  opened : (image : List ℕ) → image ≡ area_text area ++ 1 ∷ (stored ++ rest) → IsArea (with_payload area payload) image
+  -- an open gate counts the records
+  opened : (image : List ℕ) → image ≡ area_text area ++ 1 ∷ (stored ++ rest) → IsArea (with_payloads area payloads) image
   opened image split =
-      let joined : image ≡ area_text (with_payload area payload) ++ 0 ∷ rest =
+      let joined : image ≡ area_text (with_payloads area payloads) ++ 0 ∷ rest =
       split
-      ∙ ap (λ (l : List ℕ). area_text area ++ 1 ∷ (l ++ rest)) frame.text
+      ∙ ap (λ (l : List ℕ). area_text area ++ (l ++ rest)) frame
       ∙ (simp append_assoc)
-      ∙ ap (λ (l : List ℕ). l ++ 0 ∷ rest) (sym (area_text-push area payload)) in
-      reads (with_payload area payload) 0 rest image joined (λ equal. absurd (cc (equal)))
-      (omega (arith, ap length (area_text-push area payload), length-append (area_text area) (1 ∷ framed payload), length-framed payload, frame.len, room, ends))
+      ∙ ap (λ (l : List ℕ). l ++ 0 ∷ rest) (sym (area_text-append area payloads)) in
+      reads (with_payloads area payloads) 0 rest image joined (λ equal. absurd (cc (equal)))
+      (omega (arith, ap length (area_text-append area payloads), length-append (area_text area) (records_text payloads), length-records payloads, ap length frame, length-group payloads, room, ends))
       is.generation
-      (are_records-push area.payloads payload is.records frame.short)
+      (are_records-append area.payloads payloads is.records short)
 
   -- any other gate does not
-  shut : (gate : ℕ) (image : List ℕ) → gate ≢ 1 → image ≡ area_text area ++ gate ∷ (stored ++ rest) → IsArea area image
-  shut gate image closed split = reads area gate (stored ++ rest) image split closed is.fits is.generation is.records
+  closed_at : (gate : ℕ) (image : List ℕ) → gate ≢ 1 → image ≡ area_text area ++ gate ∷ (stored ++ rest) → IsArea area image
+  closed_at gate image closed split = reads area gate (stored ++ rest) image split closed is.fits is.generation is.records
 
-  -- A torn gate leaves the area with the record or without.
-  pub gate_torn : (image : List ℕ) → Torn end 1 behind_gate image → IsEither area (with_payload area payload) image
+  -- A torn gate leaves the area with the records or without.
+  pub gate_torn : (image : List ℕ) → Torn end 1 behind_gate image → IsEither area (with_payloads area payloads) image
   gate_torn image torn =
       let long : end < length image = omega (arith, torn.no_shorter, length-behind_gate) in
       let gate : ℕ = get_or image end 0 in
@@ -66,7 +62,7 @@ module _ (area : Area) (bytes stored : List ℕ) (end : ℕ) (is : IsArea area b
       split_at image end long ∙ (λ i. (torn.before ∙ text_first) i ++ gate ∷ (torn.after ∙ stored_next) i) in
       elim (cases_eq gate 1) [
         | inl open_ ↦ inr (opened image (split ∙ ap (λ (n : ℕ). area_text area ++ n ∷ (stored ++ rest)) open_))
-        | inr closed ↦ inl (shut gate image closed split)
+        | inr closed ↦ inl (closed_at gate image closed split)
       ]
 
   -- what is written behind the last gate leaves the area
@@ -76,7 +72,7 @@ module _ (area : Area) (bytes stored : List ℕ) (end : ℕ) (is : IsArea area b
       (subst (λ (n : ℕ). take (n + 1) image ≡ take (n + 1) bytes) ends torn.before)
 
   -- the gate's write done
-  pub gate_written : IsArea (with_payload area payload) (overwritten behind_gate end (1 ∷ []))
+  pub gate_written : IsArea (with_payloads area payloads) (overwritten behind_gate end (1 ∷ []))
   gate_written =
       let image : List ℕ = overwritten behind_gate end (1 ∷ []) in
       let torn : Torn end 1 behind_gate image = overwritten_torn behind_gate (1 ∷ []) end 1 (omega (arith, length-behind_gate)) (omega arith) in

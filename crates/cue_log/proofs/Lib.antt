@@ -1,8 +1,10 @@
 pub mod Texts
 pub mod Settled
 pub mod Complete
+pub mod Groups
 pub mod Committed
 pub mod Appended
+pub mod Adding
 pub mod Filled
 pub mod Closed
 pub mod Steps

@@ -3,8 +3,7 @@ use Rattle.std.proofs.Common.{◌≡◌, ℕ, ◌+◌, ◌<◌, ◌≤◌, List,
 use Rattle.std.proofs.lemmas.List.{drop_all, length-take, take_at, drop_at, drop-drop, take-take, take-append-le}
 use Rattle.std.proofs.Math.Seq.{drop-nil}
 use Rattle.cue_disk.specs.Disk.{overwritten}
-use Rattle.cue_log.specs.Area.{body_text, framed, record_text, eight_bytes, four_bytes}
-use Rattle.cue_log.specs.Record.{IsFramed, payload_in}
+use Rattle.cue_log.specs.Area.{body_text, eight_bytes, four_bytes}
 use Rattle.cue_log.specs.Log.{prepared}
 
 -- the second write right behind the first
@@ -47,7 +46,3 @@ formed-overwritten [] body =
     overwritten-front (0 ∷ []) (1 ∷ []) body 0 1 (omega arith) refl
     ∙ ap (λ (l : List ℕ). (1 ∷ body) ++ l) (drop_all (0 + length (1 ∷ body)) (0 ∷ []) (omega arith) ∙ sym (drop-nil (0 + length (1 ∷ body))))
 formed-overwritten (gate ∷ bytes) body = overwritten-front (gate ∷ bytes) (1 ∷ []) body 0 1 (omega arith) refl
-
--- a record that was framed, at its place
-pub record-overwritten : (old stored payload : List ℕ) (end : ℕ) → IsFramed stored → payload_in stored ≡ payload → overwritten old end (1 ∷ stored) ≡ overwritten old end (record_text payload)
-record-overwritten old stored payload end frame is = ap (λ (l : List ℕ). overwritten old end (1 ∷ l)) (frame.text ∙ ap (λ (l : List ℕ). framed l ++ 0 ∷ []) is)

@@ -1,7 +1,7 @@
 -- What a settled disk reads as, whatever a crash leaves of it.
 use Rattle.std.proofs.Common.{◌≡◌, ◌∙◌, ap, List, ℕ, length, sym, subst, Result, Ok, Err}
-use Rattle.std.specs.Prelude.{OnOk}
-use Rattle.cue_disk.specs.Disk.{Contents, IsStable}
+use Rattle.std.specs.Prelude.{OnOk, IsErr, ◌≤◌}
+use Rattle.cue_disk.specs.Disk.{Contents, IsStable, MoreFailures, CountsFailure}
 use Rattle.cue_disk.proofs.Crash.{image_stable}
 use Rattle.cue_log.specs.Area.{Area, IsArea, area_text}
 use Rattle.cue_log.specs.Reading.{area_in}
@@ -16,6 +16,16 @@ settled_reads held end settled image left = subst (λ (bytes : List ℕ). IsArea
 pub at_ok : {T E : Type 0} {P : Type 0} (result : Result T E) → P → OnOk result P
 at_ok (Ok value) holds = holds
 at_ok (Err fault) holds = tt
+
+-- where nothing is `Ok`, all that would hold then does
+pub at_err : {T E : Type 0} (P : Type 0) (result : Result T E) → IsErr result → OnOk result P
+at_err P (Ok value) failed = absurd (cc (failed))
+at_err P (Err fault) failed = tt
+
+-- a failure that is counted
+pub counts_at_err : {T E : Type 0} (result : Result T E) (old new : ℕ) → IsErr result → MoreFailures old new × (old ≤ new) → CountsFailure result old new
+counts_at_err (Ok value) old new failed more = absurd (cc (failed))
+counts_at_err (Err fault) old new failed more = more
 
 -- what follows from what holds at `Ok`
 pub if_ok : {T E : Type 0} {P Q : Type 0} (result : Result T E) → (P → Q) → OnOk result P → OnOk result Q

@@ -1,10 +1,10 @@
 -- Area texts as lists: where they end, and which bytes read as one.
-use Rattle.std.proofs.Common.{◌≡◌, ◌≢◌, ℕ, ◌+◌, ◌<◌, ◌≤◌, ◌^◌, true, nat_le, List, [], ◌∷◌, ◌++◌, length, get_or, take, drop, refl, sym, ◌∙◌, ap, arith, append_assoc, length-append, take-append-drop}
+use Rattle.std.proofs.Common.{◌≡◌, ◌≢◌, ℕ, ◌+◌, ◌<◌, ◌^◌, true, nat_le, List, [], ◌∷◌, ◌++◌, length, get_or, take, drop, refl, sym, ◌∙◌, ap, arith, append_assoc, length-append, take-append-drop}
 use Rattle.std.proofs.lemmas.Bool.{and_parts, and_from}
-use Rattle.std.proofs.lemmas.Bool.Decides.{nat_tests}
-use Rattle.std.proofs.lemmas.List.{append-nil, length-take, take_at, take-take, get_or_at, get_or-take, drop_more}
+use Rattle.std.proofs.lemmas.List.Sums.{sum_by-cons}
+use Rattle.std.proofs.lemmas.List.{length-take, take_at, take-take, get_or_at, get_or-take, drop_more}
 use Rattle.cue_log.specs.declared.area.TheConstants.{AREA_LIMIT, PAYLOAD_LIMIT}
-use Rattle.cue_log.specs.Area.{Area, IsArea, area_text, records_text, are_records, framed, with_payload, body_text, four_bytes, eight_bytes}
+use Rattle.cue_log.specs.Area.{Area, IsArea, area_text, records_text, are_records, framed, with_payloads, group_text, room_of, body_text, four_bytes, eight_bytes}
 
 -- a list in front of an index, at it and behind it
 pub split_at : (l : List ℕ) (n : ℕ) → n < length l → l ≡ take n l ++ get_or l n 0 ∷ drop (n + 1) l
@@ -32,16 +32,16 @@ front_reads area bytes other is same = let end = length (area_text area) in reco
   records = is.records;
 }
 
--- one record more in the text
-records_text-push : (payloads : List (List ℕ)) (payload : List ℕ) → records_text (payloads ++ payload ∷ []) ≡ records_text payloads ++ 1 ∷ framed payload
-records_text-push [] payload = append-nil (1 ∷ framed payload)
-records_text-push (first ∷ payloads) payload =
-    ap (λ (l : List ℕ). 1 ∷ framed first ++ l) (records_text-push payloads payload) ∙ sym (append_assoc (1 ∷ framed first) (records_text payloads) (1 ∷ framed payload))
+-- records more in the text
+pub records_text-append : (payloads more : List (List ℕ)) → records_text (payloads ++ more) ≡ records_text payloads ++ records_text more
+records_text-append [] more = refl
+records_text-append (first ∷ payloads) more =
+    ap (λ (l : List ℕ). 1 ∷ framed first ++ l) (records_text-append payloads more) ∙ sym (append_assoc (1 ∷ framed first) (records_text payloads) (records_text more))
 
-pub area_text-push : (area : Area) (payload : List ℕ) → area_text (with_payload area payload) ≡ area_text area ++ 1 ∷ framed payload
-area_text-push area payload =
+pub area_text-append : (area : Area) (more : List (List ℕ)) → area_text (with_payloads area more) ≡ area_text area ++ records_text more
+area_text-append area more =
     let head : List ℕ = 1 ∷ body_text area.generation area.snapshot in
-    ap (λ (l : List ℕ). head ++ l) (records_text-push area.payloads payload) ∙ sym (append_assoc head (records_text area.payloads) (1 ∷ framed payload))
+    ap (λ (l : List ℕ). head ++ l) (records_text-append area.payloads more) ∙ sym (append_assoc head (records_text area.payloads) (records_text more))
 
 -- the length of a framed text
 pub length-four_bytes : (n : ℕ) → length (four_bytes n) ≡ 4
@@ -55,12 +55,22 @@ length-eight_bytes n = refl
 pub length-framed : (payload : List ℕ) → length (framed payload) ≡ 4 + length payload
 length-framed payload = omega (arith, length-append (four_bytes (length payload)) payload, length-four_bytes (length payload))
 
--- one short payload more
-pub are_records-push : (payloads : List (List ℕ)) (payload : List ℕ) → are_records payloads ≡ true → length payload ≤ PAYLOAD_LIMIT → are_records (payloads ++ payload ∷ []) ≡ true
-are_records-push [] payload records short = grind (arith, nat_tests)
-are_records-push (first ∷ payloads) payload records short =
+-- how many bytes records take
+pub length-records : (payloads : List (List ℕ)) → length (records_text payloads) ≡ room_of payloads
+length-records [] = refl
+length-records (payload ∷ payloads) =
+    omega (arith, length-append (1 ∷ framed payload) (records_text payloads), length-framed payload, length-records payloads, sum_by-cons length payload payloads)
+
+-- the same with the closed gate after them
+pub length-group : (payloads : List (List ℕ)) → length (group_text payloads) ≡ room_of payloads + 1
+length-group payloads = omega (arith, length-append (records_text payloads) (0 ∷ []), length-records payloads)
+
+-- short payloads more
+pub are_records-append : (payloads more : List (List ℕ)) → are_records payloads ≡ true → are_records more ≡ true → are_records (payloads ++ more) ≡ true
+are_records-append [] more records short = short
+are_records-append (first ∷ payloads) more records short =
     let parts = and_parts (nat_le (length first) PAYLOAD_LIMIT) (are_records payloads) records in
-    and_from (nat_le (length first) PAYLOAD_LIMIT) (are_records (payloads ++ payload ∷ [])) parts.0 (are_records-push payloads payload parts.1 short)
+    and_from (nat_le (length first) PAYLOAD_LIMIT) (are_records (payloads ++ more)) parts.0 (are_records-append payloads more parts.1 short)
 
 -- where the last gate stands
 pub length-area_text : (area : Area) → length (area_text area) ≡ 13 + length area.snapshot + length (records_text area.payloads)

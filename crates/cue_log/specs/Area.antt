@@ -1,5 +1,5 @@
 -- What the bytes of an area stand for.
-use Rattle.std.specs.Prelude.{◌≡◌, ◌≢◌, ◌<◌, ◌^◌, ℕ, nat_le, Bool, true, ◌&&◌, List, [], ◌∷◌, ◌++◌, length, take, slice_index}
+use Rattle.std.specs.Prelude.{◌≡◌, ◌≢◌, ◌<◌, ◌+◌, ◌*◌, ◌^◌, ℕ, nat_le, Bool, true, ◌&&◌, List, [], ◌∷◌, ◌++◌, length, take, sum_by, slice_index}
 use Rattle.std.specs.Int.{to_be_bytes, w32, w64}
 use Rattle.cue_log.specs.declared.area.TheConstants.{AREA_LIMIT, PAYLOAD_LIMIT}
 
@@ -61,6 +61,18 @@ formed_text generation snapshot = 1 ∷ (body_text generation snapshot ++ 0 ∷ 
 -- what a record adds from the last gate on: that gate open, the payload, and a gate that is not open
 abbrev pub record_text : List ℕ → List ℕ
 record_text payload = 1 ∷ (framed payload ++ 0 ∷ [])
+
+-- the same of records that come together
+abbrev pub group_text : List (List ℕ) → List ℕ
+group_text payloads = records_text payloads ++ 0 ∷ []
+
+-- how many bytes records take of an area: five each, beside their payloads
+abbrev pub room_of : List (List ℕ) → ℕ
+room_of payloads = 5 * length payloads + sum_by length payloads
+
+-- records more
+abbrev pub with_payloads : Area → List (List ℕ) → Area
+with_payloads area payloads = record { generation = area.generation; snapshot = area.snapshot; payloads = area.payloads ++ payloads }
 
 -- one record more
 abbrev pub with_payload : Area → List ℕ → Area

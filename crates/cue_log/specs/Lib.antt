@@ -3,6 +3,7 @@ pub mod Reading
 pub mod Log
 pub mod Record
 pub mod Observed
+pub mod Appending
 pub mod Opened
 pub mod Parts
 pub mod Laws

@@ -6,6 +6,7 @@ mod appending;
 mod area;
 mod fetching;
 mod forming;
+mod group;
 pub mod laws;
 mod log;
 mod opening;
@@ -15,6 +16,7 @@ mod records;
 mod snapshot;
 
 pub use area::{AREA_LIMIT, PAYLOAD_LIMIT, close, is_absent};
+pub use group::RecordGroup;
 pub use log::{AppendFault, Log};
 pub use opening::{OpenFault, Opened};
 pub use record::{Record, RecordFault};

@@ -8,12 +8,13 @@ mod queries;
 use crate::appending::commit;
 use crate::area::AREA_LIMIT;
 use crate::forming::form_on;
+use crate::group::RecordGroup;
 use crate::record::Record;
 use cue_disk::{Disk, DiskFault};
 use std::mem;
 use thiserror::Error;
 
-/// Why a record is not appended.
+/// Why a record, or a group of them, is not appended.
 #[derive(Clone, Copy, Debug, PartialEq, Eq, Error)]
 pub enum AppendFault {
     /// A device call failed in an earlier `append`. Open the area again.
@@ -22,7 +23,7 @@ pub enum AppendFault {
     /// The text of the area would be longer than `AREA_LIMIT`. Nothing has changed.
     #[error("the area is full")]
     Full,
-    /// A device call failed: the record is there or it is not. The log is `Broken` from then on.
+    /// A device call failed: the record is there or it is not, and of a group all are or none. The log is `Broken` from then on.
     #[error("the disk failed")]
     Disk,
 }
@@ -46,10 +47,13 @@ pub struct Log<D: Disk> {
 }
 
 impl<D: Disk> Log<D> {
-    ghost use Rattle.std.specs.Prelude.{◌≡◌, ◌≤◌, ◌<◌, ◌+◌, ◌⊎◌, ◌↔◌, false, true, length, OnOk, OnErr, IfOk, IsErrOf};
-    ghost use Rattle.cue_disk.specs.Disk.{LeavesAtEachMoment, CountsFailure, MoreFailures, overwritten};
-    ghost use Rattle.cue_log.specs.Area.{fresh, with_payload, formed_text, record_text};
-    ghost use Rattle.cue_log.specs.Log.{IsClosed, IsEither, IsNoneOr, IsSettled, IsNumbered, ReadsAs};
+    ghost use Rattle.std.specs.Prelude.{◌≡◌, ◌≤◌, ◌<◌, ◌+◌, ◌↔◌, ◌∷◌, [], false, length, OnOk, OnErr, IfOk};
+    ghost use Rattle.cue_disk.specs.Disk.{LeavesAtEachMoment, CountsFailure, overwritten};
+    ghost use Rattle.cue_log.specs.Area.{fresh, formed_text};
+    ghost use Rattle.cue_log.specs.Appending.{Appends};
+    ghost use Rattle.cue_log.specs.Reading.{payloads_in};
+    ghost use Rattle.cue_log.specs.Record.{IsGroup};
+    ghost use Rattle.cue_log.specs.Log.{IsClosed, IsNoneOr, IsSettled, IsNumbered, ReadsAs};
     ghost use Rattle.cue_log.specs.Observed.{disk_of, generation_of, end_of, count_of, is_broken, area_of, disk_after, formed_disk};
 
     /// Forms an area with this generation and snapshot and no record, on a disk that is empty or was closed. It takes
@@ -101,46 +105,41 @@ impl<D: Disk> Log<D> {
         }
     }
 
-    /// Adds a record behind the last one. It takes no memory. After a fault the log tells the numbers that it had
-    /// before.
+    /// Adds a record after the last one. It takes no memory.
     pub fn append(&mut self, added: &Record) -> Result<(), AppendFault>
-        // Broken comes first, then Full; both leave all as it was.
-        ensures broken { IsErrOf result AppendFault.Broken ↔ (is_broken self.old ≡ true) }
-        ensures full { IsErrOf result AppendFault.Full ↔ ((is_broken self.old ≡ false) × (AREA_LIMIT < end_of self.old + 6 + length added.now)) }
-        ensures unchanged { IsErrOf result AppendFault.Broken ⊎ IsErrOf result AppendFault.Full → self.new ≡ self.old }
+        ensures appends { Appends (added.now ∷ []) result self.old self.new }
+    {
+        self.add(added.text(), 1)
+    }
 
-        // Disk is the device's own failure, and breaks the log.
-        ensures disk { IsErrOf result AppendFault.Disk → MoreFailures (D.failures (disk_of self.old)) (D.failures (disk_of self.new)) }
-        ensures breaks { IsErrOf result AppendFault.Disk → is_broken self.new ≡ true }
-        ensures failures { D.failures (disk_of self.old) ≤ D.failures (disk_of self.new) }
+    /// Adds records after the last one, with the two writes and two syncs of one: after a stop none of them is there,
+    /// or all are. It takes no memory, and makes no device call where there is no record.
+    pub fn append_all(&mut self, added: &RecordGroup) -> Result<(), AppendFault>
+        ensures appends { Appends added.now result self.old self.new }
+    {
+        self.add(added.text(), added.count())
+    }
 
-        // What is there after Ok, whatever a stop leaves.
-        ensures appended { D.is_honest (disk_of self.old) → OnOk result (ReadsAs (D.held (disk_of self.new)) (with_payload (area_of D.held self.old) added.now)) }
-        ensures area { D.is_honest (disk_of self.old) → OnOk result (area_of D.held self.new ≡ with_payload (area_of D.held self.old) added.now) }
-        ensures bytes { D.is_honest (disk_of self.old) → OnOk result ((D.held (disk_of self.new)).bytes ≡ overwritten (D.held (disk_of self.old)).bytes (end_of self.old) (record_text added.now)) }
-        ensures works { OnOk result (is_broken self.new ≡ false) }
-        ensures numbers { OnOk result ((count_of self.new ≡ count_of self.old + 1) × (end_of self.new ≡ end_of self.old + 5 + length added.now)) }
-        ensures numbers_kept { OnErr result ((count_of self.new ≡ count_of self.old) × (end_of self.new ≡ end_of self.old)) }
-        ensures generation { generation_of self.new ≡ generation_of self.old }
-
-        // A stop at any moment leaves the area as it was, or with the record.
-        ensures any_moment { D.is_honest (disk_of self.old) → is_broken self.old ≡ false → LeavesAtEachMoment D.moment D.held_at (disk_of self.old) (disk_of self.new)
-            (IsEither (area_of D.held self.old) (with_payload (area_of D.held self.old) added.now)) }
-        ensures honest { D.is_honest (disk_of self.new) ↔ D.is_honest (disk_of self.old) }
+    // Adds so many framed records.
+    fn add(&mut self, text: &[u8], count: u64) -> Result<(), AppendFault>
+        requires framed { IsGroup text.now count }
+        ensures appends { Appends (payloads_in text.now) result self.old self.new }
     {
         if self.broken {
             return Err(AppendFault::Broken);
         }
-        if !self.has_room(added) {
+        if count == 0 {
+            return Ok(());
+        }
+        if text.len() as u64 > AREA_LIMIT - self.end {
             return Err(AppendFault::Full);
         }
-        let framed = added.framed();
-        if let Err(DiskFault) = commit(&mut self.disk, self.end, framed) {
+        if let Err(DiskFault) = commit(&mut self.disk, self.end, text) {
             self.broken = true;
             return Err(AppendFault::Disk);
         }
-        self.end += framed.len() as u64;
-        self.count += 1;
+        self.end += text.len() as u64 - 1;
+        self.count += count;
         Ok(())
     }
 

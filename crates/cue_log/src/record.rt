@@ -1,8 +1,9 @@
 // A record: a payload that is kept as an area stores it, so that writing it takes no memory.
-ghost use Rattle.std.specs.Prelude.{◌≡◌, ◌<◌, ◌≤◌, ◌+◌, ◌↔◌, length, IfOk, IsErrOf};
-ghost use Rattle.cue_log.specs.Record.{IsFramed, payload_in};
+ghost use Rattle.std.specs.Prelude.{◌≡◌, ◌<◌, ◌≤◌, ◌+◌, ◌↔◌, ◌∷◌, [], length, IfOk, IsErrOf};
+ghost use Rattle.cue_log.specs.Reading.{payloads_in};
+ghost use Rattle.cue_log.specs.Record.{IsFramed, AreFramed, payload_in};
 
-use crate::area::{CLOSED, PAYLOAD_LIMIT};
+use crate::area::{CLOSED, OPEN, PAYLOAD_LIMIT};
 use std::alloc::{AllocError, AllocFailed, Global};
 use std::marker::Model;
 use thiserror::Error;
@@ -32,7 +33,7 @@ impl From<AllocError> for RecordFault {
 /// A payload of at most `PAYLOAD_LIMIT` bytes, ready to be appended. Contracts see it as the list of its bytes.
 #[derive(Debug, Drop)]
 pub struct Record {
-    // length, payload, closed gate
+    // open gate, length, payload, closed gate
     bytes: Vec<u8>,
 }
 
@@ -73,26 +74,28 @@ impl Record {
         ensures payload { result.now ≡ self.now }
         ensures short { length result.now ≤ PAYLOAD_LIMIT }
     {
-        &self.bytes[4..self.bytes.len() - 1]
+        &self.bytes[5..self.bytes.len() - 1]
     }
 
-    /// What an area stores of it behind its gate.
-    pub(crate) fn framed(&self) -> &[u8]
-        ensures framed { IsFramed result.now }
-        ensures payload { payload_in result.now ≡ self.now }
+    /// What an area stores of it, from its gate on.
+    pub(crate) fn text(&self) -> &[u8]
+        ensures framed { AreFramed result.now }
+        ensures payload { payloads_in result.now ≡ self.now ∷ [] }
+        ensures len { length result.now ≡ 6 + length self.now }
     {
         &self.bytes
     }
 }
 
-// The bytes that an area stores of a payload: its length, itself, and a closed gate.
+// The bytes that an area stores of a payload: an open gate, its length, itself, and a closed gate.
 #[tactic(auto, unfolding(crate::specs::Area::four_bytes))]
 fn frame(alloc: Global, payload: &[u8]) -> Result<Vec<u8>, AllocError>
     requires { length payload.now ≤ PAYLOAD_LIMIT }
     ensures framed { IfOk result (λ bytes. IsFramed bytes.items) }
     ensures payload { IfOk result (λ bytes. payload_in bytes.items ≡ payload.now) }
 {
-    let mut bytes = Vec::with_capacity(alloc, 5 + payload.len())?;
+    let mut bytes = Vec::with_capacity(alloc, 6 + payload.len())?;
+    bytes.push(OPEN)?;
     bytes.extend_from_slice(&(payload.len() as u32).to_be_bytes())?;
     bytes.extend_from_slice(payload)?;
     bytes.push(CLOSED)?;

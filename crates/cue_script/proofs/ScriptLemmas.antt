@@ -6,7 +6,7 @@ use Rattle.std.proofs.Common.{ap, refl, arith, sym, ◌∙◌, append_assoc, sub
 use Rattle.std.proofs.lemmas.Grind.{flat_map-append}
 use Rattle.std.proofs.lemmas.List.{append-nil, map-append, take_more, take_all, length-take}
 use Rattle.cue_core.specs.State.{ShowState}
-use Rattle.cue_core.specs.Steps.{folded}
+use Rattle.cue_core.specs.Steps.{after_events}
 use Rattle.cue_keeper.specs.Stands.{Stands}
 use Rattle.cue_keeper.proofs.Standing.{one_state}
 use Rattle.cue_outbox.specs.Sending.{Send, datagram, datagrams, all_pending}
@@ -87,15 +87,15 @@ told_whole queue n (Some xs) (Some ys) all none each is =
 run-none : (s : ShowState) → (run s []).state ≡ s
 run-none s = refl
 
-pub run-more-state : (s : ShowState) (hs : List Happening) (h : Happening) → (run s (hs ++ h ∷ [])).state ≡ folded (run s hs).state (given_at (run s hs).state h).batch
+pub run-more-state : (s : ShowState) (hs : List Happening) (h : Happening) → (run s (hs ++ h ∷ [])).state ≡ after_events (run s hs).state (given_at (run s hs).state h).batch
 run-more-state s [] h = refl
-run-more-state s (g ∷ gs) h = run-more-state (folded s (given_at s g).batch) gs h
+run-more-state s (g ∷ gs) h = run-more-state (after_events s (given_at s g).batch) gs h
 
 pub run-more-sends : (s : ShowState) (hs : List Happening) (h : Happening) → (run s (hs ++ h ∷ [])).sends ≡ (run s hs).sends ++ (given_at (run s hs).state h).sends
 run-more-sends s [] h = append-nil (given_at s h).sends
 run-more-sends s (g ∷ gs) h =
-    ap (λ (xs : List (ℕ × Send)). (given_at s g).sends ++ xs) (run-more-sends (folded s (given_at s g).batch) gs h)
-    ∙ sym (append_assoc (given_at s g).sends (run (folded s (given_at s g).batch) gs).sends (given_at (run (folded s (given_at s g).batch) gs).state h).sends)
+    ap (λ (xs : List (ℕ × Send)). (given_at s g).sends ++ xs) (run-more-sends (after_events s (given_at s g).batch) gs h)
+    ∙ sym (append_assoc (given_at s g).sends (run (after_events s (given_at s g).batch) gs).sends (given_at (run (after_events s (given_at s g).batch) gs).state h).sends)
 
 pub output-none : (s : ShowState) → output s [] ≡ []
 unfolding output
@@ -109,7 +109,7 @@ output-more s hs h =
     ∙ printed-append (datagrams (run s hs).sends) (datagrams (given_at (run s hs).state h).sends)
 
 -- what recovery makes of bytes that stand for a state
-pub closed_state : (s t : ShowState) (x y : List ℕ) → Stands x y s → ClosedFrom x y t → t ≡ folded s (given_at s recovered).batch
+pub closed_state : (s t : ShowState) (x y : List ℕ) → Stands x y s → ClosedFrom x y t → t ≡ after_events s (given_at s recovered).batch
 unfolding closed
 closed_state s t x y stands from = from.is ∙ ap closed (one_state x y from.before s from.stood stands)
 
@@ -144,13 +144,13 @@ running_more first text rest others line s t old mid new held split goes =
       all = held.all ∙ ap (λ (xs : List (List ℕ)). held.lines ++ xs) split ∙ sym (append_assoc held.lines (line ∷ []) (lines_of others));
       each = map-append happening_in held.lines (line ∷ []) ∙ ap (λ (xs : List (Option Happening)). xs ++ happening_in line ∷ []) held.each
           ∙ ap (λ (x : Option Happening). map Some held.happened ++ x ∷ []) goes.tells ∙ sym (map-append Some held.happened (goes.happening ∷ []));
-      is = goes.is ∙ ap (λ (u : ShowState). folded u (given_at u goes.happening).batch) held.is ∙ sym (run-more-state first held.happened goes.happening);
+      is = goes.is ∙ ap (λ (u : ShowState). after_events u (given_at u goes.happening).batch) held.is ∙ sym (run-more-state first held.happened goes.happening);
       wrote = subst P (sym (output-more first held.happened goes.happening)) (appends_both old mid new _ _ held.wrote (subst Q held.is goes.wrote));
     }
 
 -- a line of which this is known went on
 pub goes_behind : {T E : Type 0} (r : Result T E) (state : T → ShowState) (line : List ℕ) (h : Happening) (s : ShowState) (old new : Option (List ℕ)) → happening_in line ≡ Some h →
-    IfOk r (λ next. state next ≡ folded s (given_at s h).batch) → OnOk r (Appends old new (printed (datagrams (given_at s h).sends))) → IfOk r (λ next. Goes line s (state next) old new)
+    IfOk r (λ next. state next ≡ after_events s (given_at s h).batch) → OnOk r (Appends old new (printed (datagrams (given_at s h).sends))) → IfOk r (λ next. Goes line s (state next) old new)
 goes_behind (Ok next) state line h s old new tells is wrote = record { happening = h; tells = tells; is = is; wrote = wrote }
 goes_behind (Err ending) state line h s old new tells is wrote = tt
 

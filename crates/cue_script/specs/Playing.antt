@@ -2,7 +2,7 @@
 use Rattle.std.specs.Prelude.{◌≡◌, ℕ, false, true, List, [], Option, Some, None}
 use Rattle.std.specs.Io.KnownBytes.{Appends}
 use Rattle.cue_core.specs.State.{ShowState}
-use Rattle.cue_core.specs.Steps.{folded}
+use Rattle.cue_core.specs.Steps.{after_events}
 use Rattle.cue_keeper.specs.Observed.{is_broken}
 use Rattle.cue_outbox.specs.Sending.{datagrams}
 use Rattle.cue_engine.specs.declared.engine.Engine.{Engine}
@@ -22,14 +22,14 @@ pub record IsReady {D : Type 0} {disk : _} (engine : Engine D disk) : Type 0 whe
 -- an engine that works, after this happened in a state: it owes what is sent then
 pub record IsAfter {D : Type 0} {disk : _} (s : ShowState) (h : Happening) (engine : Engine D disk) : Type 0 where
   pub works : is_broken (keeper_of engine) ≡ false
-  pub is : state_of engine ≡ folded s (given_at s h).batch
+  pub is : state_of engine ≡ after_events s (given_at s h).batch
   pub owes : queue_of engine ≡ datagrams (given_at s h).sends
 
 -- A line told of what happened, the state is the one after it, and what is sent then was written.
 pub record Goes (line : List ℕ) (s t : ShowState) (old new : Option (List ℕ)) : Type 0 where
   pub happening : Happening
   pub tells : happening_in line ≡ Some happening
-  pub is : t ≡ folded s (given_at s happening).batch
+  pub is : t ≡ after_events s (given_at s happening).batch
   pub wrote : Appends old new (printed (datagrams (given_at s happening).sends))
 
 -- what happened cannot be carried out, or its output not be written, and that ends the script; nothing is said of the

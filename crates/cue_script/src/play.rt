@@ -1,7 +1,7 @@
 //! Running a script line by line.
 ghost use Rattle.std.specs.Prelude.{◌≡◌, ◌≤◌, [], length, false, true, IfOk, IfErr, OnOk};
 ghost use Rattle.std.specs.Io.KnownBytes.{Appends};
-ghost use Rattle.cue_core.specs.Steps.{folded};
+ghost use Rattle.cue_core.specs.Steps.{after_events};
 ghost use Rattle.cue_outbox.specs.Sending.{datagrams};
 ghost use Rattle.cue_engine.specs.Inputs.{input_view};
 ghost use Rattle.cue_engine.specs.Runs.{took, recovered, given_at};
@@ -159,7 +159,7 @@ fn run_line<W: Write>(
     requires { IsReady engine }
     ensures ready { IfOk result (λ next. IsReady next) }
     ensures state { IfOk result
-        (λ next. state_of next ≡ folded (state_of engine) (given_at (state_of engine) (line_view line.now)).batch) }
+        (λ next. state_of next ≡ after_events (state_of engine) (given_at (state_of engine) (line_view line.now)).batch) }
     ensures wrote { OnOk result (Appends (W.contents writer.old) (W.contents writer.new) (printed (datagrams (given_at (state_of engine) (line_view line.now)).sends))) }
     ensures ends { IfErr result (λ ending. EndsUnheard ending (W.contents writer.old) (W.contents writer.new)) }
     ensures no_failure { OnOk result (streams.new ≡ streams.old) }

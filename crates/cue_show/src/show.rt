@@ -34,7 +34,8 @@ impl Model for Show {
 
     ghost view = { λ s. record { devices = s.devices.entries; cues = s.cues.entries; place = s.place } };
 
-    ghost invariant = { λ s. IsTrue (is_show (record { devices = s.devices.entries; cues = s.cues.entries; place = s.place })) };
+    ghost invariant = { λ s. IsTrue
+        (is_show (record { devices = s.devices.entries; cues = s.cues.entries; place = s.place })) };
 }
 
 impl Show {

@@ -8,7 +8,7 @@ mod queries;
 use crate::forming::{FormFault, form_first, look};
 use crate::turning::turn;
 use cue_disk::{Disk, DiskFault};
-use cue_log::{AppendFault, Log, Record};
+use cue_log::{AppendFault, Log, Record, RecordGroup};
 use thiserror::Error;
 
 /// Why a pair is not turned over.
@@ -42,11 +42,12 @@ pub struct Snap<D: Disk> {
 }
 
 impl<D: Disk> Snap<D> {
-    ghost use Rattle.std.specs.Prelude.{◌≡◌, ◌≤◌, ◌<◌, ◌+◌, ◌-◌, ◌^◌, ◌⊎◌, ◌↔◌, ℕ, List, false, true, not, length, IfOk, OnOk, OnErr, IsErrOf};
+    ghost use Rattle.std.specs.Prelude.{◌≡◌, ◌≤◌, ◌<◌, ◌+◌, ◌-◌, ◌^◌, ◌⊎◌, ◌↔◌, ℕ, List, [], ◌∷◌, false, true, not, length, IfOk, OnOk, OnErr, IsErrOf};
     ghost use Rattle.cue_disk.specs.Disk.{LeavesAtEachMoment, IsImage, IsStable, MoreFailures, overwritten};
-    ghost use Rattle.cue_log.specs.Area.{fresh, with_payload, formed_text, record_text};
+    ghost use Rattle.cue_log.specs.Area.{fresh, formed_text};
     ghost use Rattle.cue_log.specs.declared.area.TheConstants.{AREA_LIMIT};
     ghost use Rattle.cue_snap.specs.Pair.{PairIsEither, PairLeaves, NeitherHas, SomeIsThere, IsUnformedOr, AfterBarrier};
+    ghost use Rattle.cue_snap.specs.Appending.{Appends};
     ghost use Rattle.cue_snap.specs.Found.{IsPairOf};
     ghost use Rattle.cue_snap.specs.Observed.{live_of, spare_of, is_first_live, generation_of, end_of, count_of, is_broken, live_area_of, turned, first_of, second_of, first_after, second_after, RefusedAs};
 
@@ -117,36 +118,9 @@ impl<D: Disk> Snap<D> {
         }
     }
 
-    /// Adds a record to the live area. It takes no memory. After a fault the pair tells the numbers that it had before:
-    /// whether a record of which `Disk` was answered is there, is known once the pair is opened again.
+    /// Adds a record to the live area. It takes no memory.
     pub fn append(&mut self, added: &Record) -> Result<(), AppendFault>
-        // Broken comes first, then Full; both leave all as it was.
-        ensures broken { IsErrOf result AppendFault.Broken ↔ (is_broken self.old ≡ true) }
-        ensures full { IsErrOf result AppendFault.Full ↔ ((is_broken self.old ≡ false) × (AREA_LIMIT < end_of self.old + 6 + length added.now)) }
-        ensures unchanged { IsErrOf result AppendFault.Broken ⊎ IsErrOf result AppendFault.Full → self.new ≡ self.old }
-
-        // Disk is the device's own failure, and breaks the pair.
-        ensures disk { IsErrOf result AppendFault.Disk → MoreFailures (D.failures (live_of self.old)) (D.failures (live_of self.new)) }
-        ensures breaks { IsErrOf result AppendFault.Disk → is_broken self.new ≡ true }
-        ensures failures { D.failures (live_of self.old) ≤ D.failures (live_of self.new) }
-
-        // What is there after Ok, whatever a stop leaves.
-        ensures appended { D.is_honest (live_of self.old) → D.is_honest (spare_of self.old)
-            → OnOk result (PairLeaves (D.held (live_of self.new)) (D.held (spare_of self.new)) (with_payload (live_area_of D.held self.old) added.now)) }
-        ensures area { D.is_honest (live_of self.old) → OnOk result (live_area_of D.held self.new ≡ with_payload (live_area_of D.held self.old) added.now) }
-        ensures bytes { D.is_honest (live_of self.old) → OnOk result ((D.held (live_of self.new)).bytes ≡ overwritten (D.held (live_of self.old)).bytes (end_of self.old) (record_text added.now)) }
-        ensures works { OnOk result (is_broken self.new ≡ false) }
-        ensures numbers { OnOk result ((count_of self.new ≡ count_of self.old + 1) × (end_of self.new ≡ end_of self.old + 5 + length added.now)) }
-        ensures numbers_kept { OnErr result ((count_of self.new ≡ count_of self.old) × (end_of self.new ≡ end_of self.old)) }
-        ensures generation { generation_of self.new ≡ generation_of self.old }
-
-        // The spare disk is not touched. A stop at any moment leaves the area as it was, or with the record.
-        ensures spare { spare_of self.new ≡ spare_of self.old }
-        ensures sides { is_first_live self.new ≡ is_first_live self.old }
-        ensures any_moment { D.is_honest (live_of self.old) → D.is_honest (spare_of self.old) → is_broken self.old ≡ false
-            → (y : List ℕ) → IsImage (D.held (spare_of self.old)) y → LeavesAtEachMoment D.moment D.held_at (live_of self.old) (live_of self.new)
-            (λ x. PairIsEither (live_area_of D.held self.old) (with_payload (live_area_of D.held self.old) added.now) x y) }
-        ensures honest { D.is_honest (live_of self.new) ↔ D.is_honest (live_of self.old) }
+        ensures appends { Appends (added.now ∷ []) result self.old self.new }
     {
         if self.broken {
             return Err(AppendFault::Broken);
@@ -155,6 +129,26 @@ impl<D: Disk> Snap<D> {
             return Err(AppendFault::Full);
         }
         let appended = self.log.append(added);
+        self.broken = self.log.is_broken();
+        appended
+    }
+
+    /// Adds records to the live area, with the two writes and two syncs of one: after a stop none of them is there, or
+    /// all are. It takes no memory, and makes no device call where there is no record. Where the area lacks room for
+    /// all of them, none is added: `has_room_for` says so before they are made.
+    pub fn append_all(&mut self, added: &RecordGroup) -> Result<(), AppendFault>
+        ensures appends { Appends added.now result self.old self.new }
+    {
+        if self.broken {
+            return Err(AppendFault::Broken);
+        }
+        if added.count() == 0 {
+            return Ok(());
+        }
+        if !self.log.has_room_for_all(added) {
+            return Err(AppendFault::Full);
+        }
+        let appended = self.log.append_all(added);
         self.broken = self.log.is_broken();
         appended
     }

@@ -6,6 +6,7 @@ use std::process::Abort;
 use std::test::Fail;
 
 mod areas;
+mod groups;
 mod limits;
 mod stops;
 
@@ -49,6 +50,20 @@ fn opened(alloc: Global, disk: MemDisk) -> Result<Opened<MemDisk>, OpenFault> {
 // Opens these bytes.
 fn opened_bytes(alloc: Global, bytes: &[u8]) -> Result<Opened<MemDisk>, OpenFault> {
     opened(alloc, MemDisk::from_bytes(alloc, bytes)?)
+}
+
+#[derive(Clone, Copy, Debug)]
+enum Trouble {
+    Fails,
+    Stops,
+}
+
+// Plans trouble for the k-th call from now.
+fn plan(disk: &mut MemDisk, trouble: Trouble, k: u64) {
+    match trouble {
+        Trouble::Fails => disk.fail_at(k),
+        Trouble::Stops => disk.stop_at(k),
+    }
 }
 
 // The log is of this generation, has so many records, and goes on.

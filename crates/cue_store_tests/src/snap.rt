@@ -1,6 +1,6 @@
 // Pairs of areas by worked examples: their bytes, each refusal, and what a stop or a fault leaves.
 use cue_disk::MemDisk;
-use cue_log::{AppendFault, Record};
+use cue_log::{AppendFault, Record, RecordGroup};
 use cue_snap::{FormFault, OpenFault, Opened2, Snap, TurnOverFault};
 use std::alloc::Global;
 use std::process::Abort;
@@ -29,6 +29,12 @@ const APPENDED: [u8; 40] = [
 // The area of generation 2 with the snapshot 5.
 const TURNED: [u8; 15] = [1, 0, 0, 0, 0, 0, 0, 0, 2, 0, 0, 0, 1, 5, 0];
 
+// The area of generation 1 with the records 6 and 7.
+const BOTH: [u8; 41] = [
+    1, 0, 0, 0, 0, 0, 0, 0, 1, 0, 0, 0, 15, 1, 0, 0, 0, 0, 0, 0, 0, 0, 0, 0, 0, 0, 0, 0, 1, 0, 0,
+    0, 1, 6, 1, 0, 0, 0, 1, 7, 0,
+];
+
 // Damage: an open head gate, and no area behind it.
 const DAMAGED: [u8; 5] = [1, 0, 0, 0, 0];
 
@@ -53,6 +59,14 @@ fn opened_bytes(alloc: Global, first: &[u8], second: &[u8]) -> Result<Opened2<Me
     let first = MemDisk::from_bytes(alloc, first)?;
     let second = MemDisk::from_bytes(alloc, second)?;
     Ok(opened(alloc, first, second)?)
+}
+
+// Two records: 6 and 7.
+fn both(alloc: Global) -> Result<RecordGroup, Fail> {
+    let mut group = RecordGroup::new(alloc)?;
+    group.push(&Record::of(alloc, &[6])?)?;
+    group.push(&Record::of(alloc, &[7])?)?;
+    Ok(group)
 }
 
 // The pair holds these bytes.

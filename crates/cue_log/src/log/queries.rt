@@ -1,12 +1,13 @@
 // What a log tells of itself. None of it makes a device call.
 use super::Log;
 use crate::area::AREA_LIMIT;
+use crate::group::RecordGroup;
 use crate::record::Record;
 use cue_disk::Disk;
 
 impl<D: Disk> Log<D> {
-    ghost use Rattle.std.specs.Prelude.{◌≡◌, ◌≤◌, ◌+◌, ◌↔◌, false, length, IsTrue};
-    ghost use Rattle.cue_log.specs.Area.{area_text};
+    ghost use Rattle.std.specs.Prelude.{◌≡◌, ◌≤◌, ◌+◌, ◌*◌, ◌↔◌, false, length, IsTrue};
+    ghost use Rattle.cue_log.specs.Area.{area_text, room_of};
     ghost use Rattle.cue_log.specs.Log.{ReadsAs};
     ghost use Rattle.cue_log.specs.Observed.{disk_of, generation_of, end_of, count_of, is_broken, area_of};
 
@@ -14,7 +15,23 @@ impl<D: Disk> Log<D> {
     pub fn has_room(&self, added: &Record) -> bool
         ensures { IsTrue result ↔ (end_of self.now + 6 + length added.now ≤ AREA_LIMIT) }
     {
-        self.end + 1 + added.framed().len() as u64 <= AREA_LIMIT
+        self.end + added.text().len() as u64 <= AREA_LIMIT
+    }
+
+    /// The same of records that come together.
+    pub fn has_room_for_all(&self, added: &RecordGroup) -> bool
+        ensures { IsTrue result ↔ (end_of self.now + 1 + room_of added.now ≤ AREA_LIMIT) }
+    {
+        added.text().len() as u64 <= AREA_LIMIT - self.end
+    }
+
+    /// Whether it would stay within it with so many records more, whose payloads have so many bytes together. A caller
+    /// asks it before it makes the records.
+    pub fn has_room_for(&self, count: u64, bytes: u64) -> bool
+        ensures { IsTrue result ↔ (end_of self.now + 1 + 5 * count + bytes ≤ AREA_LIMIT) }
+    {
+        let room = AREA_LIMIT - 1 - self.end;
+        bytes <= room && count <= (room - bytes) / 5
     }
 
     /// The generation that the area was formed with.

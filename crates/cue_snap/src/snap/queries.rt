@@ -4,7 +4,7 @@ use cue_disk::Disk;
 use cue_log::Record;
 
 impl<D: Disk> Snap<D> {
-    ghost use Rattle.std.specs.Prelude.{◌≡◌, ◌≤◌, ◌+◌, ◌↔◌, false, length, IsTrue};
+    ghost use Rattle.std.specs.Prelude.{◌≡◌, ◌≤◌, ◌+◌, ◌*◌, ◌↔◌, false, length, IsTrue};
     ghost use Rattle.cue_log.specs.declared.area.TheConstants.{AREA_LIMIT};
     ghost use Rattle.cue_log.specs.Area.{area_text};
     ghost use Rattle.cue_snap.specs.Pair.{PairLeaves};
@@ -15,6 +15,14 @@ impl<D: Disk> Snap<D> {
         ensures { IsTrue result ↔ (end_of self.now + 6 + length added.now ≤ AREA_LIMIT) }
     {
         self.log.has_room(added)
+    }
+
+    /// Whether it would stay within it with so many records more, whose payloads have so many bytes together. A caller
+    /// asks it before it makes the records.
+    pub fn has_room_for(&self, count: u64, bytes: u64) -> bool
+        ensures { IsTrue result ↔ (end_of self.now + 1 + 5 * count + bytes ≤ AREA_LIMIT) }
+    {
+        self.log.has_room_for(count, bytes)
     }
 
     /// The generation of the live area.

@@ -1,20 +1,6 @@
 // A stop or a fault at each device call, and every byte that a crash may leave at the gate.
 use super::*;
 
-#[derive(Clone, Copy, Debug)]
-enum Trouble {
-    Fails,
-    Stops,
-}
-
-// Plans trouble for the k-th call from now.
-fn plan(disk: &mut MemDisk, trouble: Trouble, k: u64) {
-    match trouble {
-        Trouble::Fails => disk.fail_at(k),
-        Trouble::Stops => disk.stop_at(k),
-    }
-}
-
 // How many calls forming an area takes.
 fn calls_of_forming(alloc: Global) -> Result<u64, DiskFault> {
     Ok(formed(MemDisk::new(alloc), 1, &SNAPSHOT)?.retire().calls())

@@ -80,6 +80,23 @@ fn a_pair_goes_on_after_a_turn_over(rt: HostRuntime) -> Result<(), Fail> {
     Ok(())
 }
 
+#[test]
+fn a_pair_takes_records_together(rt: HostRuntime) -> Result<(), Fail> {
+    let alloc = rt.alloc();
+    let mut snap = formed(MemDisk::new(alloc), MemDisk::new(alloc))?;
+    let group = both(alloc)?;
+    // Two records with two bytes fit, and no more bytes than an area may have.
+    assert_eq!(rt;
+        (snap.has_room_for(2, 2), snap.has_room_for(2, 16_777_178)),
+        (true, false)
+    );
+    assert_eq!(rt; snap.append_all(&group), Ok(()));
+    assert_eq!(rt; snap.append_all(&RecordGroup::new(alloc)?), Ok(()));
+    assert_eq!(rt; snap.count(), 2);
+    holds(&rt, snap, &BOTH, &[]);
+    Ok(())
+}
+
 // The pair is of this generation, with this base and so many records.
 fn has(rt: &impl Abort, pair: &Opened2<MemDisk>, generation: u64, base: &[u8], tail: u64) {
     assert_eq!(rt;

@@ -159,6 +159,35 @@ const TURNED_TWICE: Want<'static> = Want {
     tail: 0,
 };
 
+const BOTH_APPENDED: Want<'static> = Want {
+    generation: 1,
+    base: &SNAPSHOT,
+    tail: 2,
+};
+
+// Two records with trouble at the k-th call of the live disk: a crash then leaves none of them, or both.
+fn none_or_both(rt: &impl Abort, alloc: Global, trouble: Trouble, k: u64) -> Result<(), Fail> {
+    let mut snap = troubled(alloc, &FORMED, &[], true, trouble, k)?;
+    let group = both(alloc)?;
+    assert_eq!(rt; snap.append_all(&group), Err(AppendFault::Disk));
+    assert_eq!(rt; snap.append_all(&group), Err(AppendFault::Broken));
+    let disks = snap.close();
+    let crash = crash_of(&disks, Some(FORMED_ONCE), BOTH_APPENDED);
+    leave(rt, alloc, crash);
+    Ok(())
+}
+
+#[test]
+fn records_together_with_trouble_at_each_call(rt: HostRuntime) -> Result<(), Fail> {
+    for trouble in [Trouble::Fails, Trouble::Stops] {
+        // the records, a sync, the first gate, a sync
+        for k in 1..=4u64 {
+            none_or_both(&rt, rt.alloc(), trouble, k)?;
+        }
+    }
+    Ok(())
+}
+
 // Appends with trouble at each call of a disk, until none is met, and answers how many were.
 fn append_calls(
     rt: &impl Abort,

@@ -1,6 +1,14 @@
 //! The attempts that hang on one device: it alone is required, and the others of the cue are optional.
 ghost use Rattle.std.specs.Prelude.{◌≡◌};
-ghost use Rattle.cue_evening.specs.Alone.{required_count, has_optional, hangs_on_one, first_required, alone_required, is_new, named};
+ghost use Rattle.cue_evening.specs.Alone.{
+  required_count,
+  has_optional,
+  hangs_on_one,
+  first_required,
+  alone_required,
+  is_new,
+  named,
+};
 
 use cue_exchange::{Answers, Attempt};
 use cue_show::DeviceNo;

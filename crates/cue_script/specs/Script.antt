@@ -1,5 +1,6 @@
 -- A script: what is written for what happens in it, and how it ends.
-use Rattle.std.specs.Prelude.{◌≡◌, ℕ, ◌≤◌, ◌<◌, true, List, [], ◌∷◌, ◌++◌, length, map, codes, decimal, Option, Some, None}
+use Rattle.std.specs.Prelude.{◌≡◌, ℕ, ◌≤◌, ◌<◌, true, List, [], ◌∷◌, ◌++◌, length, map, codes, decimal, Option, Some}
+use Rattle.std.specs.Prelude.{None}
 use Rattle.std.specs.Io.KnownBytes.{Appends}
 use Rattle.std.specs.List.{flat_map}
 use Rattle.hex.specs.Hex.{encode_lower}
@@ -23,7 +24,8 @@ printed sent = flat_map line_of sent
 unfoldable pub output : ShowState → List Happening → List ℕ
 output first hs = printed (datagrams (run first hs).sends)
 
--- The first lines of a text told of what happened, and the others are left; what is written is the output, and behind it this last line.
+-- The first lines of a text told of what happened, and the others are left; what is written is the output, and behind
+-- it this last line.
 pub record Ran (first : ShowState) (text : List ℕ) (left : List (List ℕ)) (last : List ℕ) (old new : Option (List ℕ)) : Type 0 where
   pub happened : List Happening
   pub lines : List (List ℕ)
@@ -39,12 +41,14 @@ pub record RanToBadLine (first : ShowState) (text last : List ℕ) (old new : Op
   pub no_form : happening_in bad ≡ None
   pub ran : Ran first text (bad ∷ others) last old new
 
--- what is written of a text where a script ends so, its last line given: nothing is said where a call of the reader or the writer failed
+-- what is written of a text where a script ends so, its last line given: nothing is said where a call of the reader
+-- or the writer failed
 abbrev pub Wrote : Ending → ShowState → List ℕ → List ℕ → Option (List ℕ) → Option (List ℕ) → Type 0
 Wrote Done first text last old new = Ran first text [] last old new
 Wrote BadLine first text last old new = RanToBadLine first text last old new
 Wrote BadInput first text last old new = (SCRIPT_LIMIT < length text) × Appends old new last
-Wrote (Failed failure) first text last old new = (can_come failure ≡ true) × ((left : List (List ℕ)) × Ran first text left last old new)
+Wrote (Failed failure) first text last old new =
+    (can_come failure ≡ true) × ((left : List (List ℕ)) × Ran first text left last old new)
 Wrote (Stopped failure) first text last old new = Unit {0}
 
 -- A script was run from this state on, and ended with this status.

@@ -1,5 +1,6 @@
 -- The text of a script: its lines, and what a line tells of.
-use Rattle.std.specs.Prelude.{ℕ, ◌&&◌, ◌==◌, not, nat_le, if◌then◌else◌, List, [], ◌∷◌, length, take, drop, Option, Some, None, codes}
+use Rattle.std.specs.Prelude.{ℕ, ◌&&◌, ◌==◌, not, nat_le, if◌then◌else◌, List, [], ◌∷◌, length, take, drop, Option}
+use Rattle.std.specs.Prelude.{Some, None, codes}
 use Rattle.std.specs.List.{onto_first}
 use Rattle.std.specs.Option.{option_map, option_and_then, option_or}
 use Rattle.std.specs.Result.{result_ok}
@@ -21,7 +22,8 @@ before_front byte cut = (byte ∷ cut.0, cut.1)
 -- what stands before the first such byte, and what stands behind it; none where there is no such byte
 abbrev pub cut_at : ℕ → List ℕ → Option (List ℕ × List ℕ)
 cut_at mark [] = None
-cut_at mark (byte ∷ bytes) = if byte == mark then Some ([], bytes) else option_map (before_front byte) (cut_at mark bytes)
+cut_at mark (byte ∷ bytes) =
+    if byte == mark then Some ([], bytes) else option_map (before_front byte) (cut_at mark bytes)
 
 -- one decimal digit or more, leading zeros allowed, of a value of at most `most`
 abbrev pub number_in : ℕ → List ℕ → Option ℕ
@@ -42,7 +44,8 @@ found >>= f = option_and_then f found
 abbrev pub behind : List ℕ → List ℕ → Option (List ℕ)
 behind front line = if bytes_eq (take (length front) line) front then Some (drop (length front) line) else None
 
--- the words in front of a line `d NOW FROM HEX`, with a single space behind each: the moment, the port, and what is left
+-- the words in front of a line `d NOW FROM HEX`, with a single space behind each: the moment, the port, and what is
+-- left
 abbrev pub heading_in : List ℕ → Option (ℕ × ℕ × List ℕ)
 heading_in line = do
   words ← behind (codes "d ") line
@@ -73,7 +76,8 @@ arrives a = took a.now (datagram a.from a.bytes)
 abbrev pub ticks : ℕ → Happening
 ticks now = took now tick
 
--- what a line tells of: `x` of power loss, `t NOW` of a tick of the clock, `d NOW FROM HEX` of a datagram; none for a line of another form
+-- what a line tells of: `x` of power loss, `t NOW` of a tick of the clock, `d NOW FROM HEX` of a datagram; none for a
+-- line of another form
 unfoldable pub happening_in : List ℕ → Option Happening
 happening_in line =
     if bytes_eq line (codes "x") then Some recovered else option_or (option_map ticks (tick_in line)) (option_map arrives (arrival_in line))

@@ -25,7 +25,8 @@ fn read_at_most<R: Read>(
     limit: u64,
 ) -> io::Result<Option<Vec<u8>>>
     requires { limit < 2 ^ 64 - 1 }
-    ensures read { IfOk result (λ found. IfSome (R.remaining reader.old) (λ text. MatchOption found (limit < length text) (λ bytes. (bytes.items ≡ text) × (length text ≤ limit)))) }
+    ensures read { IfOk result (λ found. IfSome (R.remaining reader.old)
+        (λ text. MatchOption found (limit < length text) (λ bytes. (bytes.items ≡ text) × (length text ≤ limit)))) }
     ensures limit { IfOk result (λ found. IfSome found (λ bytes. length bytes.items ≤ limit)) }
     ensures no_failure { OnOk result (streams.new ≡ streams.old) }
     ensures cause { IfErr result (λ error. FailedAs (failure_of error) streams.old streams.new) }
@@ -58,7 +59,8 @@ fn play_all<R: Read, W: Write>(
     reader: &mut R,
     writer: &mut W,
 ) -> Ending
-    ensures wrote { IfSome (R.remaining reader.old) (λ text. Wrote result empty_state text [] (W.contents writer.old) (W.contents writer.new)) }
+    ensures wrote { IfSome (R.remaining reader.old)
+        (λ text. Wrote result empty_state text [] (W.contents writer.old) (W.contents writer.new)) }
     ensures cause { HasCause result streams.old streams.new }
 {
     match read_at_most(alloc, streams, reader, SCRIPT_LIMIT) {
@@ -79,7 +81,8 @@ fn write_last<W: Write>(streams: &mut Streams, writer: &mut W, line: &[u8]) -> i
 /// Runs a script on two disks in memory that it has formed, and answers its exit status. What it writes is known for a
 /// reader and a writer whose bytes are. Status 3 comes where memory, a disk, the reader or the writer failed.
 pub fn script<R: Read, W: Write>(alloc: Global, reader: &mut R, writer: &mut W) -> u8
-    ensures ran { IfSome (R.remaining reader.old) (λ text. HasRun empty_state text result (W.contents writer.old) (W.contents writer.new)) }
+    ensures ran { IfSome (R.remaining reader.old)
+        (λ text. HasRun empty_state text result (W.contents writer.old) (W.contents writer.new)) }
     ensures statuses { (result ≤ 3) × (result ≢ 2) }
 {
     let mut streams = Streams::new();

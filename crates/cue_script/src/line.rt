@@ -2,7 +2,15 @@
 ghost use Rattle.std.specs.Prelude.{◌≡◌, ℕ, ◌<◌, ◌≤◌, ◌^◌, ◌∷◌, length, IfOk, IfSome};
 ghost use Rattle.std.specs.Option.{option_map};
 ghost use Rattle.cue_script.specs.Endings.{is_want_of_memory};
-ghost use Rattle.cue_script.specs.ScriptLines.{lines_of, cut_at, number_in, heading_in, arrival_in, tick_in, happening_in};
+ghost use Rattle.cue_script.specs.ScriptLines.{
+  lines_of,
+  cut_at,
+  number_in,
+  heading_in,
+  arrival_in,
+  tick_in,
+  happening_in,
+};
 ghost use Rattle.cue_script.specs.ScriptViews.{cut_view, heading_view, arrival_view, line_view};
 
 use hex::FromHexError;

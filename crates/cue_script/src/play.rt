@@ -158,7 +158,8 @@ fn run_line<W: Write>(
 ) -> Result<Engine<MemDisk>, Ending>
     requires { IsReady engine }
     ensures ready { IfOk result (λ next. IsReady next) }
-    ensures state { IfOk result (λ next. state_of next ≡ after_events (state_of engine) (given_at (state_of engine) (line_view line.now)).batch) }
+    ensures state { IfOk result
+        (λ next. state_of next ≡ after_events (state_of engine) (given_at (state_of engine) (line_view line.now)).batch) }
     ensures wrote { OnOk result (Appends (W.contents writer.old) (W.contents writer.new) (printed (datagrams (given_at (state_of engine) (line_view line.now)).sends))) }
     ensures ends { IfErr result (λ ending. EndsUnheard ending (W.contents writer.old) (W.contents writer.new)) }
     ensures no_failure { OnOk result (streams.new ≡ streams.old) }
@@ -180,7 +181,8 @@ fn play_line<W: Write>(
 ) -> Result<Engine<MemDisk>, Ending>
     requires { IsReady engine }
     ensures ready { IfOk result (λ next. IsReady next) }
-    ensures goes { IfOk result (λ next. Goes line.now (state_of engine) (state_of next) (W.contents writer.old) (W.contents writer.new)) }
+    ensures goes { IfOk result
+        (λ next. Goes line.now (state_of engine) (state_of next) (W.contents writer.old) (W.contents writer.new)) }
     ensures ends { IfErr result (λ ending. EndsAt ending line.now (W.contents writer.old) (W.contents writer.new)) }
     ensures no_failure { OnOk result (streams.new ≡ streams.old) }
     ensures cause { IfErr result (λ ending. HasCause ending streams.old streams.new) }

@@ -43,7 +43,8 @@ impl Streams {
 
     /// Reads all that is left.
     pub fn read_to_end<R: Read>(&mut self, reader: &mut R, bytes: &mut Vec<u8>) -> io::Result<()>
-        ensures bytes { OnOk result (IfSome (R.remaining reader.old) (λ rest. bytes.new.items ≡ bytes.old.items ++ rest)) }
+        ensures bytes { OnOk result (IfSome (R.remaining reader.old)
+            (λ rest. bytes.new.items ≡ bytes.old.items ++ rest)) }
         ensures told { Tells result self.old self.new }
     {
         let answer = match reader.read_to_end(bytes) {

@@ -5,4 +5,5 @@ use Rattle.clap.specs.declared.builder.command.Command.{Command}
 
 -- wherever it is put, it is a command there as it is here
 abbrev pub FitsAnywhere : Command → Type 0
-FitsAnywhere sub = (old new : Command) → AddsSubcommand old sub new → app_of new ≡ with_subcommand (app_of old) (shape_of sub)
+FitsAnywhere sub =
+    (old new : Command) → AddsSubcommand old sub new → app_of new ≡ with_subcommand (app_of old) (shape_of sub)

@@ -1,5 +1,7 @@
 -- What is read of a store that another process may serve.
-use Rattle.std.specs.Prelude.{Bool, true, false}
+use Rattle.std.specs.Prelude.{◌≡◌, ℕ, Bool, true, false, List, length, take}
+use Rattle.cue_disk.specs.Disk.{Contents}
+use Rattle.cue_log.specs.declared.area.TheConstants.{AREA_LIMIT}
 use Rattle.cue_keeper.specs.declared.fault.StoreFault.{StoreFault}
 use Rattle.cue_keeper.specs.declared.fault.StoreFault.TheVariants as store
 
@@ -26,3 +28,11 @@ fault_in_memory store.Malformed = store.Malformed
 fault_in_memory store.Full = store.Full
 fault_in_memory store.Exhausted = store.Exhausted
 fault_in_memory store.Memory = store.Memory
+
+-- a copy of what a disk holds: as much of it as an area may have
+abbrev pub copy_of : Contents → List ℕ
+copy_of held = take AREA_LIMIT held.bytes
+
+-- the bytes are the front of these
+abbrev pub IsFront : List ℕ → List ℕ → Type 0
+IsFront bytes whole = bytes ≡ take (length bytes) whole

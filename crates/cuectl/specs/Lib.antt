@@ -3,6 +3,7 @@ pub mod Copies
 pub mod Endings
 pub mod Lines
 pub mod Locking
+pub mod Looking
 pub mod Performing
 pub mod ShowText
 pub mod Unread

@@ -35,7 +35,8 @@ stage_word (Cancelling reason) = codes "cancelling"
 
 -- the line `attempt Q C STAGE`
 abbrev pub attempt_line : Attempt → List ℕ
-attempt_line attempt = codes "attempt " ++ (decimal attempt.seq ++ (32 ∷ attempt.cue ++ (32 ∷ stage_word attempt.stage ++ (10 ∷ []))))
+attempt_line attempt =
+    codes "attempt " ++ (decimal attempt.seq ++ (32 ∷ attempt.cue ++ (32 ∷ stage_word attempt.stage ++ (10 ∷ []))))
 
 -- the first three lines
 abbrev pub head_text : ShowState → List ℕ
@@ -45,4 +46,6 @@ head_text s = codes "last " ++ (decimal s.last_seq ++ (10 ∷
 
 -- the first three lines, and a line for each device, each cue and each attempt
 unfoldable pub show_text : ShowState → List ℕ
-show_text s = head_text s ++ (flat_map device_line s.show.devices ++ (flat_map cue_line s.show.cues ++ flat_map attempt_line s.live))
+show_text s =
+    head_text s ++ (flat_map device_line s.show.devices ++ (flat_map cue_line s.show.cues
+    ++ flat_map attempt_line s.live))

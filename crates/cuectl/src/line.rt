@@ -1,6 +1,16 @@
 //! The command line, read over `clap`.
 ghost use Rattle.std.specs.Prelude.{◌≡◌, ◌⊎◌, [], None, map, IfOk, IfErr, IsErrOf, OnOk, codes, false, string_bytes};
-ghost use Rattle.clap.specs.Words.{rule_of, found_of, rows_of, app_of, fault_of, kind_of, new_app, subcommand_of, with_rule};
+ghost use Rattle.clap.specs.Words.{
+  rule_of,
+  found_of,
+  rows_of,
+  app_of,
+  fault_of,
+  kind_of,
+  new_app,
+  subcommand_of,
+  with_rule,
+};
 ghost use Rattle.cuectl.specs.Added.{FitsAnywhere};
 ghost use Rattle.cuectl.specs.Lines.{
   dir_rule,
@@ -201,7 +211,8 @@ pub fn line(alloc: Global, words: &[String]) -> Result<words::Line, LineFault>
     ensures taken { OnOk result (fault_of cuectl_app (map string_bytes words.now) ≡ []) }
     // They are refused only where clap stops for another reason, where they name no command, or where the port is 0.
     ensures usage { IsErrOf result Usage → IsNoCommand (map string_bytes words.now) }
-    ensures help { IfErr result (λ fault. IsHelp fault → AsksForText (fault_of cuectl_app (map string_bytes words.now))) }
+    ensures help { IfErr result (λ fault. IsHelp fault
+        → AsksForText (fault_of cuectl_app (map string_bytes words.now))) }
 {
     let command = cuectl(alloc)?;
     match command.try_get_matches_from(words) {

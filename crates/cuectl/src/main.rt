@@ -1,14 +1,19 @@
 //! `cuectl`: a two-phase cue controller for theatre machinery.
 #![tactic(auto)]
 
+ghost use Rattle.std.specs.Prelude.{◌≡◌};
+ghost use Rattle.cue_script.specs.Endings.{failure_of};
+ghost use Rattle.cue_script.specs.declared.ending.Ending.TheVariants.{Stopped};
+
 mod line;
 mod program;
 mod show_text;
 #[cfg(test)]
 mod tests;
 
+use cue_script::{Ending, StreamFailure};
 use std::env;
-use std::io::{self, BufWriter, ErrorKind, Write};
+use std::io::{self, BufWriter, Write};
 use std::process::ExitCode;
 
 // The words of the command line.
@@ -25,16 +30,20 @@ fn perform(rt: &HostRuntime) -> io::Result<u8> {
     Ok(program::perform(rt, &words, &mut reader, &mut writer))
 }
 
+// How the program ends where it did not begin.
+fn not_begun(error: &io::Error) -> Ending
+    ensures { result ≡ Stopped (failure_of error.now) }
+{
+    Ending::Stopped(StreamFailure::of(error))
+}
+
 fn main(rt: HostRuntime) -> ExitCode {
     match perform(&rt) {
         Ok(status) => ExitCode::from(status),
         Err(error) => {
-            let name = match error.kind() {
-                ErrorKind::OutOfMemory => b"! Memory\n".as_slice(),
-                _ => b"! Io\n".as_slice(),
-            };
-            let _ = io::writer(&rt).write_all(name);
-            ExitCode::from(3)
+            let ending = not_begun(&error);
+            let _ = io::writer(&rt).write_all(ending.line());
+            ExitCode::from(ending.status())
         }
     }
 }

@@ -1,12 +1,35 @@
 //! The program: what each command does, prints and answers.
-ghost use Rattle.std.specs.Prelude.{◌≡◌, ◌≢◌, ◌≤◌, ◌⊎◌, [], map, string_bytes, IfErr, IfOk, IfSome, IsErrOf, OnOk};
+ghost use Rattle.std.specs.Prelude.{
+  ◌≡◌,
+  ◌≢◌,
+  ◌≤◌,
+  ◌⊎◌,
+  [],
+  false,
+  map,
+  string_bytes,
+  IfErr,
+  IfOk,
+  IfSome,
+  IsErrOf,
+  OnOk,
+};
 ghost use Rattle.std.specs.Io.KnownBytes.{Appends};
 ghost use Rattle.clap.specs.Words.{fault_of, subcommand_of};
 ghost use Rattle.cue_core.specs.State.{empty_state};
 ghost use Rattle.cuectl.specs.Lines.{AsksForText, IsHelp, IsNoCommand, cuectl_app};
+ghost use Rattle.cue_keeper.specs.Observed.{is_broken};
 ghost use Rattle.cue_engine.specs.Words.{state_of, keeper_of};
 ghost use Rattle.cuectl.specs.Endings.{run_fault, unbound_fault};
-ghost use Rattle.cuectl.specs.Performing.{EndsSo, HasEnded, IsRunTold, IsStateTold, NamesScript, formed_text, turns_text};
+ghost use Rattle.cuectl.specs.Performing.{
+  EndsSo,
+  HasEnded,
+  IsRunTold,
+  IsStateTold,
+  NamesScript,
+  formed_text,
+  turns_text,
+};
 ghost use Rattle.cue_script.specs.Script.{HasRun};
 ghost use Rattle.cuectl.specs.ShowText.{show_text};
 ghost use Rattle.cuectl.specs.declared.line.words.LineFault.TheVariants.{Memory, Usage};
@@ -21,7 +44,7 @@ mod looking;
 use crate::line::line;
 use crate::line::words::{Line, LineFault};
 use crate::show_text::show_text;
-use copies::copied;
+use copies::refusal_of;
 use cue_core::State;
 use cue_disk::FileDisk;
 use cue_engine::Engine;
@@ -237,10 +260,7 @@ fn refused_unbound<R: Eprint>(
     disks: (FileDisk, FileDisk),
 ) -> ProgramFault {
     let (mut first, mut second) = disks;
-    let refusal = match copied(alloc, &mut first, &mut second) {
-        Ok(copies) => copies.refusal(alloc),
-        Err(fault) => Some(fault),
-    };
+    let refusal = refusal_of(alloc, &mut first, &mut second);
     refused_as(rt, dir, port, why, refusal, (first, second))
 }
 
@@ -251,7 +271,9 @@ fn bound<R: Net + Eprint>(
     dir: &str,
     port: u16,
     disks: (FileDisk, FileDisk),
-) -> Result<(UdpSocket, Engine<FileDisk>), ProgramFault> {
+) -> Result<(UdpSocket, Engine<FileDisk>), ProgramFault>
+    ensures works { IfOk result (λ bound. is_broken (keeper_of bound.1) ≡ false) }
+{
     match UdpSocket::bind(rt, local(port)) {
         Ok(socket) => match Engine::recover(alloc, disks.0, disks.1) {
             Ok(engine) => Ok((socket, engine)),
@@ -347,8 +369,10 @@ pub fn perform<R: Files<File = File> + Net + Clock + Eprint + AllocGlobal, I: Re
     ensures refused { result ≡ 1 → fault_of cuectl_app (map string_bytes words.now) ≡ [] }
     ensures usage { result ≡ 2 → IsNoCommand (map string_bytes words.now) }
     // Where they name a script, what is written is what its lines make, by its status.
-    ensures script { fault_of cuectl_app (map string_bytes words.now) ≡ [] → NamesScript (subcommand_of cuectl_app (map string_bytes words.now))
-        → IfSome (I.remaining reader.old) (λ text. HasRun empty_state text result (W.contents writer.old) (W.contents writer.new)) }
+    ensures script { fault_of cuectl_app (map string_bytes words.now) ≡ []
+        → NamesScript (subcommand_of cuectl_app (map string_bytes words.now))
+        → IfSome (I.remaining reader.old)
+        (λ text. HasRun empty_state text result (W.contents writer.old) (W.contents writer.new)) }
 {
     let alloc = rt.alloc();
     match line(alloc, words) {

@@ -108,7 +108,7 @@ fn take_on<R: Net + Clock + AllocGlobal + Abort>(
 }
 
 // Drops an engine. It stands apart, since what is dropped fills the goals of the function around it.
-fn let_go<T: Drop>(_engine: T) {}
+fn discard<T: Drop>(_engine: T) {}
 
 // The same with the show of the folder.
 fn take_three<R: Files<File = File> + Net + Clock + AllocGlobal + Abort>(
@@ -118,7 +118,7 @@ fn take_three<R: Files<File = File> + Net + Clock + AllocGlobal + Abort>(
     match recovered(rt) {
         Ok(mut engine) => {
             let took = take_on(rt, operator, &mut engine);
-            let_go(engine);
+            discard(engine);
             took
         }
         Err(fail) => Err(fail),

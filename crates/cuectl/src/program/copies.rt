@@ -1,13 +1,29 @@
 //! Copies of both files of a store, in memory: what they stand for is known without a write or a sync of the files.
-ghost use Rattle.std.specs.Prelude.{◌≡◌, ◌≤◌, length, IfOk, OnOk, IsErrOf};
+ghost use Rattle.std.specs.Prelude.{
+  ◌≡◌,
+  ◌≤◌,
+  ◌-◌,
+  ◌++◌,
+  ◌↔◌,
+  length,
+  take,
+  drop,
+  Some,
+  None,
+  IfOk,
+  IfSome,
+  OnOk,
+  IsErrOf,
+};
+ghost use Rattle.cue_log.specs.declared.area.TheConstants.{AREA_LIMIT};
 ghost use Rattle.cue_disk.specs.Memory.{IsNew};
 ghost use Rattle.cue_snap.specs.Pair.{IsSpoiled, NeitherHas};
 ghost use Rattle.cue_keeper.specs.Stands.{Stands};
 ghost use Rattle.cue_keeper.specs.Refusals.{HasOtherVersion, StandsForNone};
 ghost use Rattle.cue_keeper.specs.Observed.{state_of};
-ghost use Rattle.cuectl.specs.Copies.{fault_in_memory, is_read_again};
+ghost use Rattle.cuectl.specs.Copies.{IsFront, copy_of, fault_in_memory, is_read_again};
 
-use cue_disk::{Disk, FileDisk, MemDisk};
+use cue_disk::{Disk, MemDisk};
 use cue_engine::Engine;
 use cue_keeper::{Keeper, StoreFault};
 use cue_log::AREA_LIMIT;
@@ -67,7 +83,10 @@ fn fault_in_memory(fault: StoreFault) -> StoreFault
 }
 
 // The front of a file.
-fn head(disk: &mut FileDisk) -> Result<[u8; HEAD], StoreFault> {
+fn head<D: Disk>(disk: &mut D) -> Result<[u8; HEAD], StoreFault>
+    ensures kept { D.is_honest disk.old → D.held disk.new ≡ D.held disk.old }
+    ensures honest { D.is_honest disk.new ↔ D.is_honest disk.old }
+{
     let mut head = [0; HEAD];
     let len = disk.len().map_err(|_| StoreFault::Disk)?.min(HEAD as u64) as usize;
     disk.read_at(0, &mut head[..len])
@@ -76,7 +95,12 @@ fn head(disk: &mut FileDisk) -> Result<[u8; HEAD], StoreFault> {
 }
 
 // The front of both files.
-fn heads_of(first: &mut FileDisk, second: &mut FileDisk) -> Result<Heads, StoreFault> {
+fn heads_of<D: Disk>(first: &mut D, second: &mut D) -> Result<Heads, StoreFault>
+    ensures first_kept { D.is_honest first.old → D.held first.new ≡ D.held first.old }
+    ensures second_kept { D.is_honest second.old → D.held second.new ≡ D.held second.old }
+    ensures first_honest { D.is_honest first.new ↔ D.is_honest first.old }
+    ensures second_honest { D.is_honest second.new ↔ D.is_honest second.old }
+{
     Ok(Heads {
         first: head(first)?,
         second: head(second)?,
@@ -84,9 +108,14 @@ fn heads_of(first: &mut FileDisk, second: &mut FileDisk) -> Result<Heads, StoreF
 }
 
 // Reads on after the bytes that were read, up to this length of the file.
-fn read_on(disk: &mut FileDisk, bytes: &mut Vec<u8>, len: usize) -> Result<(), StoreFault>
-    requires { length bytes.old.items ≤ len }
-    ensures { OnOk result (length bytes.new.items ≡ len) }
+fn read_on<D: Disk>(disk: &mut D, bytes: &mut Vec<u8>, len: usize) -> Result<(), StoreFault>
+    requires longer { length bytes.old.items ≤ len }
+    requires within { D.is_honest disk.old → len ≤ length (D.held disk.old).bytes }
+    ensures len { OnOk result (length bytes.new.items ≡ len) }
+    ensures read { D.is_honest disk.old → OnOk result (bytes.new.items ≡ bytes.old.items
+        ++ take (len - length bytes.old.items) (drop (length bytes.old.items) (D.held disk.old).bytes)) }
+    ensures kept { D.is_honest disk.old → D.held disk.new ≡ D.held disk.old }
+    ensures honest { D.is_honest disk.new ↔ D.is_honest disk.old }
 {
     let have = bytes.len();
     bytes.resize(len, 0).map_err(|_| StoreFault::Memory)?;
@@ -94,43 +123,88 @@ fn read_on(disk: &mut FileDisk, bytes: &mut Vec<u8>, len: usize) -> Result<(), S
         .map_err(|_| StoreFault::Disk)
 }
 
+// Reads on up to the present length of the file, or as much as an area may have. Answers whether it had grown.
+fn read_grown<D: Disk>(disk: &mut D, bytes: &mut Vec<u8>) -> Result<bool, StoreFault>
+    requires short { length bytes.old.items ≤ AREA_LIMIT }
+    requires front { D.is_honest disk.old → IsFront bytes.old.items (D.held disk.old).bytes }
+    ensures short { OnOk result (length bytes.new.items ≤ AREA_LIMIT) }
+    ensures copy { D.is_honest disk.old → OnOk result (bytes.new.items ≡ copy_of (D.held disk.old)) }
+    ensures kept { D.is_honest disk.old → D.held disk.new ≡ D.held disk.old }
+    ensures honest { D.is_honest disk.new ↔ D.is_honest disk.old }
+{
+    let Ok(present) = disk.len() else {
+        return Err(StoreFault::Disk);
+    };
+    let len = present.min(AREA_LIMIT) as usize;
+    if len <= bytes.len() {
+        return Ok(false);
+    }
+    read_on(disk, bytes, len)?;
+    Ok(true)
+}
+
 // As much of a file as an area may have. A file that has grown meanwhile is read on: a record whose gate was read as
 // open is then there in whole.
-fn bytes_of(alloc: Global, disk: &mut FileDisk) -> Result<Vec<u8>, StoreFault> {
+fn bytes_of<D: Disk>(alloc: Global, disk: &mut D) -> Result<Vec<u8>, StoreFault>
+    ensures copy { D.is_honest disk.old → IfOk result (λ bytes. bytes.items ≡ copy_of (D.held disk.old)) }
+    ensures kept { D.is_honest disk.old → D.held disk.new ≡ D.held disk.old }
+    ensures honest { D.is_honest disk.new ↔ D.is_honest disk.old }
+{
     let mut bytes = Vec::new(alloc);
-    for _ in 0..GROWTHS {
-        let len = disk.len().map_err(|_| StoreFault::Disk)?.min(AREA_LIMIT) as usize;
-        if len <= bytes.len() {
-            break;
+    read_grown(disk, &mut bytes)?;
+    for _ in 1..GROWTHS {
+        if !read_grown(disk, &mut bytes)? {
+            return Ok(bytes);
         }
-        read_on(disk, &mut bytes, len)?;
     }
     Ok(bytes)
 }
 
 /// Copies both files as they are read, the first one first. It makes no write and no sync of them.
-pub fn copied(
-    alloc: Global,
-    first: &mut FileDisk,
-    second: &mut FileDisk,
-) -> Result<Copies, StoreFault> {
+pub fn copied<D: Disk>(alloc: Global, first: &mut D, second: &mut D) -> Result<Copies, StoreFault>
+    ensures first { D.is_honest first.old → IfOk result (λ copies. copies.first.items ≡ copy_of (D.held first.old)) }
+    ensures second { D.is_honest second.old → IfOk result
+        (λ copies. copies.second.items ≡ copy_of (D.held second.old)) }
+    ensures first_kept { D.is_honest first.old → D.held first.new ≡ D.held first.old }
+    ensures second_kept { D.is_honest second.old → D.held second.new ≡ D.held second.old }
+    ensures first_honest { D.is_honest first.new ↔ D.is_honest first.old }
+    ensures second_honest { D.is_honest second.new ↔ D.is_honest second.old }
+{
     Ok(Copies {
         first: bytes_of(alloc, first)?,
         second: bytes_of(alloc, second)?,
     })
 }
 
+// The copies, where no head changed while they were made.
+fn at_once(before: Heads, copies: Copies, after: Heads) -> Option<Copies>
+    ensures same { before ≡ after → result ≡ Some copies }
+    ensures changed { (before ≡ after → ⊥) → result ≡ None }
+    ensures copies { IfSome result (λ found. found ≡ copies) }
+{
+    if before == after { Some(copies) } else { None }
+}
+
 /// Copies both files so that each copy is what its file held at one moment, and both together what the store stood for
 /// at one moment. `None`: a head changed meanwhile, so the copies may be of two moments.
-pub fn copied_at_once(
+pub fn copied_at_once<D: Disk>(
     alloc: Global,
-    first: &mut FileDisk,
-    second: &mut FileDisk,
-) -> Result<Option<Copies>, StoreFault> {
+    first: &mut D,
+    second: &mut D,
+) -> Result<Option<Copies>, StoreFault>
+    ensures first { D.is_honest first.old
+        → IfOk result (λ found. IfSome found (λ copies. copies.first.items ≡ copy_of (D.held first.old))) }
+    ensures second { D.is_honest second.old
+        → IfOk result (λ found. IfSome found (λ copies. copies.second.items ≡ copy_of (D.held second.old))) }
+    ensures first_kept { D.is_honest first.old → D.held first.new ≡ D.held first.old }
+    ensures second_kept { D.is_honest second.old → D.held second.new ≡ D.held second.old }
+    ensures first_honest { D.is_honest first.new ↔ D.is_honest first.old }
+    ensures second_honest { D.is_honest second.new ↔ D.is_honest second.old }
+{
     let before = heads_of(first, second)?;
     let copies = copied(alloc, first, second)?;
     let after = heads_of(first, second)?;
-    Ok(if before == after { Some(copies) } else { None })
+    Ok(at_once(before, copies, after))
 }
 
 // Disks in memory with these bytes.
@@ -162,12 +236,14 @@ fn open_bytes(alloc: Global, first: &[u8], second: &[u8]) -> Result<Keeper<MemDi
 
 impl Copies {
     /// Opens a store of them.
-    pub fn open(&self, alloc: Global) -> Result<Keeper<MemDisk>, StoreFault> {
+    pub fn open(&self, alloc: Global) -> Result<Keeper<MemDisk>, StoreFault>
+        ensures stood { IfOk result (λ keeper. Stands self.now.first.items self.now.second.items (state_of keeper)) }
+    {
         open_bytes(alloc, &self.first, &self.second)
     }
 
-    /// Why a store of them cannot be recovered; `None` where it can.
-    pub fn refusal(&self, alloc: Global) -> Option<StoreFault> {
+    // Why a store of them cannot be recovered; `None` where it can.
+    fn refusal(&self, alloc: Global) -> Option<StoreFault> {
         let Ok((first, second)) = disks(alloc, &self.first, &self.second) else {
             return Some(StoreFault::Memory);
         };
@@ -178,6 +254,17 @@ impl Copies {
             }
             Err((fault, _, _)) => Some(fault_in_memory(fault)),
         }
+    }
+}
+
+/// Why a store of two files cannot be recovered; `None` where it can. It makes no write and no sync of them.
+pub fn refusal_of<D: Disk>(alloc: Global, first: &mut D, second: &mut D) -> Option<StoreFault>
+    ensures first_kept { D.is_honest first.old → D.held first.new ≡ D.held first.old }
+    ensures second_kept { D.is_honest second.old → D.held second.new ≡ D.held second.old }
+{
+    match copied(alloc, first, second) {
+        Ok(copies) => copies.refusal(alloc),
+        Err(fault) => Some(fault),
     }
 }
 

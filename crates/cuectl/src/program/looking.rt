@@ -1,9 +1,12 @@
 //! How `show` reads a store that another process may serve meanwhile: again, where what it read may be of two moments.
+ghost use Rattle.std.specs.Prelude.{◌≡◌, ◌↔◌};
+ghost use Rattle.cuectl.specs.Looking.{StandsAsSeen};
+
 use super::copies::{copied_at_once, is_read_again};
 use super::fault::ProgramFault;
 use super::files::{open_both, refused_store, say};
 use super::lock::is_served;
-use cue_disk::{FileDisk, MemDisk};
+use cue_disk::{Disk, MemDisk};
 use cue_keeper::{Keeper, StoreFault};
 use std::alloc::Global;
 use std::fs::{File, Files};
@@ -23,7 +26,14 @@ enum Seen {
 }
 
 // Reads both files once.
-fn look(alloc: Global, first: &mut FileDisk, second: &mut FileDisk) -> Seen {
+fn look<D: Disk>(alloc: Global, first: &mut D, second: &mut D) -> Seen
+    ensures first_kept { D.is_honest first.old → D.held first.new ≡ D.held first.old }
+    ensures second_kept { D.is_honest second.old → D.held second.new ≡ D.held second.old }
+    ensures first_honest { D.is_honest first.new ↔ D.is_honest first.old }
+    ensures second_honest { D.is_honest second.new ↔ D.is_honest second.old }
+    ensures stood { D.is_honest first.old → D.is_honest second.old
+        → StandsAsSeen (D.held first.old) (D.held second.old) result }
+{
     match copied_at_once(alloc, first, second) {
         Ok(Some(copies)) => match copies.open(alloc) {
             Ok(keeper) => Seen::Whole(keeper),
@@ -35,14 +45,21 @@ fn look(alloc: Global, first: &mut FileDisk, second: &mut FileDisk) -> Seen {
 }
 
 // Reads both files until the answer is one of a single moment, `READINGS` times at most. What a store at rest answers
-// is answered at once.
-fn look_again<R: Files<File = File>>(
+// is answered at once. No write and no sync of them is made.
+fn look_again<R: Files<File = File>, D: Disk>(
     rt: &R,
     alloc: Global,
     dir: &str,
-    first: &mut FileDisk,
-    second: &mut FileDisk,
-) -> Seen {
+    first: &mut D,
+    second: &mut D,
+) -> Seen
+    ensures first_kept { D.is_honest first.old → D.held first.new ≡ D.held first.old }
+    ensures second_kept { D.is_honest second.old → D.held second.new ≡ D.held second.old }
+    ensures first_honest { D.is_honest first.new ↔ D.is_honest first.old }
+    ensures second_honest { D.is_honest second.new ↔ D.is_honest second.old }
+    ensures stood { D.is_honest first.old → D.is_honest second.old
+        → StandsAsSeen (D.held first.old) (D.held second.old) result }
+{
     for _ in 1..READINGS {
         match look(alloc, first, second) {
             Seen::Changing => {}

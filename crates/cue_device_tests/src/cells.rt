@@ -1,4 +1,6 @@
 //! Each cell of the table: what a device in a phase of attempt 5 makes of a command.
+ghost use Rattle.std.specs.Prelude.{◌≤◌};
+
 use cue_device::{Answer, Command, Device, MAX_ANSWER, Order, PartBytes, Phase, Task};
 use cue_show::{CueNo, DeviceNo};
 use std::process::Abort;
@@ -408,7 +410,9 @@ fn hear_sent(
     sent: Sent,
     seq: u8,
     out: &mut [u8; MAX_ANSWER],
-) -> (Option<Order>, usize) {
+) -> (Option<Order>, usize)
+    ensures { result.1 ≤ 32 }
+{
     let mut standby = STANDBY;
     let mut short = match sent {
         Sent::Go => GO,

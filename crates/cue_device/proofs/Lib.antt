@@ -1,1 +1,6 @@
 pub mod KeptLemmas
+pub mod ReadingLemmas
+pub mod CommandLemmas
+pub mod ReplyLemmas
+pub mod HistoryLemmas
+pub mod OrderLemmas

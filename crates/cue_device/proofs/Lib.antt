@@ -1,1 +1,4 @@
 pub mod KeptLemmas
+pub mod ReadingLemmas
+pub mod CommandLemmas
+pub mod ReplyLemmas

@@ -1,8 +1,9 @@
 -- The commands and the answers of a device as datagrams: what each is as an OSC message, and its bytes.
-use Rattle.std.specs.Prelude.{◌≡◌, ◌≢◌, ◌≤◌, ℕ, pos, List, [], ◌∷◌, ◌++◌, length, codes, decimal, IsTrue, Option, Some, None, Result, Ok}
+use Rattle.std.specs.Prelude.{◌≡◌, ◌≢◌, ◌≤◌, ℕ, pos, List, [], ◌∷◌, ◌++◌, length, codes, decimal, IsTrue, ◌⊎◌, Option, Some, None, Result, Ok}
 use Rattle.cue_osc.specs.declared.fault.Fault.{Fault}
 use Rattle.cue_osc.specs.Argument.{Argument, int, text, blob}
 use Rattle.cue_osc.specs.Content.{Content, message}
+use Rattle.cue_osc.specs.Spelling.{osc_string}
 use Rattle.cue_osc.specs.Writing.{text_of}
 use Rattle.cue_show.specs.declared.limits.TheConstants.{MAX_PART_BYTES}
 use Rattle.cue_show.specs.Number.{is_cue_number}
@@ -12,7 +13,9 @@ use Rattle.cue_device.specs.declared.asked.Task.{Task}
 use Rattle.cue_device.specs.declared.reading.TheConstants.{LAST_NUMBER}
 use Rattle.cue_device.specs.declared.words.Answer.{Answer}
 use Rattle.cue_device.specs.declared.words.Answer.TheVariants.{StandingBy, Complete, Cancelled, Abort}
-use Rattle.cue_device.specs.Hearing.{seq_of, task_of, answered_for}
+use Rattle.cue_device.specs.declared.words.Order.{Order}
+use Rattle.cue_device.specs.declared.hearing.Device.{Device}
+use Rattle.cue_device.specs.Hearing.{seq_of, task_of, answered_for, after_command, after_reply, heard}
 
 -- a number as an argument
 abbrev pub number : ℕ → Argument
@@ -79,11 +82,51 @@ answer_content d answer = message (answer_address d answer) (number (answered_fo
 unfoldable pub answer_text : ℕ → Answer → List ℕ
 answer_text d answer = text_of (answer_content d answer)
 
+-- the bytes of an answer, and none where there is nothing to answer
+abbrev pub answered_text : ℕ → Option Answer → List ℕ
+answered_text d None = []
+answered_text d (Some answer) = answer_text d answer
+
 -- ---- replies
 
--- a reply of the controller to an abort of the device d, with its four counts
-abbrev pub reply_content : ℕ → ℕ → ℕ → ℕ → ℕ → Content
-reply_content d made known refused code = message (codes "/reply") (text (answer_address d (Abort 0)) ∷ number made ∷ number known ∷ number refused ∷ number code ∷ [])
+-- how a reply of the controller to an abort of the device d begins: its address, its tags, and the abort's address
+abbrev pub reply_head : ℕ → List ℕ
+reply_head d = osc_string (codes "/reply") ++ (osc_string (codes ",siiii") ++ osc_string (answer_address d (Abort 0)))
+
+-- the datagram is a reply to an abort of the device d: so it begins, and four numbers follow
+pub record IsReply (d : ℕ) (datagram : List ℕ) : Type 0 where
+  pub counts : List ℕ
+  pub four : length counts ≡ 16
+  pub text : datagram ≡ reply_head d ++ counts
+
+-- ---- what a datagram makes of a device
+
+-- it is this command: the device hears it, and sends the answer
+pub record HearsCommand (datagram : List ℕ) (old new : Device) (order : Option Order) (sent : List ℕ) : Type 0 where
+  pub command : Command
+  pub is_for : IsFor old.number datagram command
+  pub state : new ≡ after_command command old
+  pub ordered : order ≡ (heard command old).order
+  pub answered : sent ≡ answered_text old.number (heard command old).answer
+
+-- it is a reply to an abort of the device: the device hears it
+pub record HearsReply (datagram : List ℕ) (old new : Device) (order : Option Order) (sent : List ℕ) : Type 0 where
+  pub is_reply : IsReply old.number datagram
+  pub state : new ≡ after_reply old
+  pub ordered : order ≡ None
+  pub answered : sent ≡ []
+
+-- it is neither: nothing changes, nothing is ordered, and nothing is sent
+pub record Ignores (datagram : List ℕ) (old new : Device) (order : Option Order) (sent : List ℕ) : Type 0 where
+  pub no_command : IsForNone old.number datagram
+  pub no_reply : IsReply old.number datagram → ⊥
+  pub state : new ≡ old
+  pub ordered : order ≡ None
+  pub answered : sent ≡ []
+
+-- one of the three
+abbrev pub HearsDatagram : List ℕ → Device → Device → Option Order → List ℕ → Type 0
+HearsDatagram datagram old new order sent = HearsCommand datagram old new order sent ⊎ (HearsReply datagram old new order sent ⊎ Ignores datagram old new order sent)
 
 -- ---- what is found at the front of bytes
 

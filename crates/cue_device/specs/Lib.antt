@@ -2,3 +2,5 @@ pub mod Kept
 pub mod Table
 pub mod Hearing
 pub mod Datagrams
+pub mod Histories
+pub mod Laws

@@ -1,13 +1,12 @@
 //! The parts of an OSC message, each read from the front of the bytes: what it is, and the bytes after it.
-ghost use Rattle.std.specs.Prelude.{◌≡◌, ◌≢◌, ◌++◌, ℕ, List, IfSome, IfNone, option_map};
+ghost use Rattle.std.specs.Prelude.{◌≡◌, ◌≢◌, ◌++◌, ℕ, List, MatchOption, option_map};
 ghost use Rattle.std.specs.Int.{w32};
 ghost use Rattle.cue_osc.specs.Reading.{are_zeros, blob_at, number_at, padded_at, string_at, text_len};
 ghost use Rattle.cue_device.specs.Datagrams.{Finds};
 
 // What stands after this beginning.
 pub(crate) fn after<'a>(bytes: &'a [u8], head: &[u8]) -> Option<&'a [u8]>
-    ensures found { IfSome result (λ rest. bytes.now ≡ head.now ++ rest.now) }
-    ensures none { IfNone result ((rest : List ℕ) → bytes.now ≢ head.now ++ rest) }
+    ensures { MatchOption result ((rest : List ℕ) → bytes.now ≢ head.now ++ rest) (λ rest. bytes.now ≡ head.now ++ rest.now) }
 {
     bytes.strip_prefix(head)
 }

@@ -1,7 +1,7 @@
 //! The answers of a device as datagrams.
 ghost use Rattle.std.specs.Prelude.{◌≡◌, ◌≤◌, ◌+◌, ◌-◌, ◌%◌, ◌++◌, length, take, decimal};
 ghost use Rattle.cue_osc.specs.Spelling.{osc_string};
-ghost use Rattle.cue_device.specs.Datagrams.{answer_text, verb};
+ghost use Rattle.cue_device.specs.Datagrams.{answer_address, answer_text, verb};
 
 use crate::words::Answer;
 use cue_show::DeviceNo;
@@ -16,12 +16,20 @@ pub fn write(answer: Answer, number: DeviceNo, out: &mut [u8; MAX_ANSWER]) -> us
     ensures text { take result out.new ≡ answer_text number answer }
     ensures short { result ≤ 32 }
 {
+    let at = write_address(answer, number, out);
+    let at = put(out, at, b",i\0\0");
+    put(out, at, &answer.seq().to_be_bytes())
+}
+
+// Puts the address of the answer at the front of `out`, as an OSC-string, and gives its length.
+pub(crate) fn write_address(answer: Answer, number: DeviceNo, out: &mut [u8; MAX_ANSWER]) -> usize
+    ensures text { take result out.new ≡ osc_string (answer_address number answer) }
+    ensures short { result ≤ 24 }
+{
     let at = put(out, 0, b"/device/");
     let at = put_number(out, at, number);
     let at = put(out, at, verb(answer));
-    let at = pad(out, at);
-    let at = put(out, at, b",i\0\0");
-    put(out, at, &answer.seq().to_be_bytes())
+    pad(out, at)
 }
 
 // The last part of the answer's address.

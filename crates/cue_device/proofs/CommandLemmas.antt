@@ -1,11 +1,11 @@
 -- A command's datagram is its head, the two numbers, and in a standby the task.
-use Rattle.std.proofs.Common.{◌≡◌, ◌≢◌, ℕ, List, [], ◌∷◌, ◌++◌, get_or, drop, refl, sym, ap, ◌∙◌, arith, lit<, ◌<◌}
+use Rattle.std.proofs.Common.{◌≡◌, ◌≢◌, ℕ, List, [], ◌++◌, get_or, drop, refl, sym, ap, ◌∙◌, arith, lit<, ◌<◌}
 use Rattle.std.specs.Int.{w32, to_be_bytes}
 use Rattle.cue_device.specs.declared.asked.Command.{Command}
 use Rattle.cue_device.specs.declared.asked.Command.TheVariants.{Standby, Go, Cancel}
 use Rattle.cue_device.specs.declared.asked.Task.{Task}
 use Rattle.cue_device.specs.declared.reading.TheConstants.{STANDBY, GO, CANCEL}
-use Rattle.cue_device.specs.Datagrams.{IsCommand, IsFor, IsNumber, IsTask, command_text}
+use Rattle.cue_device.specs.Datagrams.{IsFor, IsNumber, IsTask, command_text}
 use Rattle.cue_device.proofs.ReadingLemmas.{task_text}
 
 -- the two numbers, and what stands after them

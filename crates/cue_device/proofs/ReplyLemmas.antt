@@ -1,5 +1,5 @@
 -- What is no reply to an abort.
-use Rattle.std.proofs.Common.{◌≡◌, ◌≢◌, ℕ, List, ◌++◌, Bool, true, false, IsTrue, drop, sym, ap, ◌∙◌}
+use Rattle.std.proofs.Common.{◌≡◌, ◌≢◌, ℕ, List, ◌++◌, false, IsTrue, drop, sym, ap, ◌∙◌}
 use Rattle.cue_osc.specs.Spelling.{osc_string}
 use Rattle.cue_device.specs.declared.over_bytes.TheConstants.{REPLY}
 use Rattle.cue_device.specs.declared.words.Answer.TheVariants.{Abort}

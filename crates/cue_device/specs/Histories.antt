@@ -1,5 +1,5 @@
 -- All that happens to a device, the latest first, and what it has ordered and answered since it began.
-use Rattle.std.specs.Prelude.{◌≤◌, ℕ, Bool, List, [], ◌∷◌, Option, Some, None}
+use Rattle.std.specs.Prelude.{◌≤◌, ℕ, List, [], ◌∷◌, Option, Some, None}
 use Rattle.std.specs.List.{AllByRecursion}
 use Rattle.cue_device.specs.declared.asked.Command.{Command}
 use Rattle.cue_device.specs.declared.hearing.Device.{Device}

@@ -1,13 +1,11 @@
 -- What holds of every device, whatever happens to it, with restarts that hand in a number at least that of each order.
-use Rattle.std.specs.Prelude.{◌≡◌, ◌≤◌, ◌<◌, ℕ, Bool, true, false, ◌&&◌, List, [], ◌∷◌, Option, Some, None, nat_eq, count_by}
+use Rattle.std.specs.Prelude.{◌≡◌, ◌≤◌, ◌<◌, ℕ, Bool, true, false, List, Option, Some, None, nat_eq}
 use Rattle.std.specs.List.{AllByRecursion, list_any}
-use Rattle.cue_device.specs.declared.asked.Command.{Command}
-use Rattle.cue_device.specs.declared.hearing.Device.{Device}
 use Rattle.cue_device.specs.declared.words.Order.{Order}
 use Rattle.cue_device.specs.declared.words.Order.TheVariants.{Prepare, Move, GiveUp}
 use Rattle.cue_device.specs.declared.words.Answer.{Answer}
 use Rattle.cue_device.specs.declared.words.Answer.TheVariants.{StandingBy, Complete, Cancelled, Abort}
-use Rattle.cue_device.specs.Hearing.{after_command, heard, ordered_for, rested}
+use Rattle.cue_device.specs.Hearing.{ordered_for, rested}
 use Rattle.cue_device.specs.Histories.{Happening, KeepsNumbers, answers_of, device_after, order_at, orders_of, unfinished}
 
 -- the order is to move for q
@@ -37,16 +35,22 @@ abbrev pub has_given_up : ℕ → List Order → Bool
 has_given_up q os = list_any (is_give_up q) os
 
 abbrev pub has_stood_by : ℕ → List Answer → Bool
-has_stood_by q as = list_any (is_standing_by q) as
+has_stood_by q xs = list_any (is_standing_by q) xs
 
--- it moves at most once for each number
+-- it moves at most once for each number: an order to move for it is the first one
 abbrev pub MovesOnce : Type 0
-MovesOnce = (d over q : ℕ) (hs : List Happening) → KeepsNumbers (rested d over) hs → count_by (is_move q) (orders_of (rested d over) hs) ≤ 1
+MovesOnce = (d over q : ℕ) (h : Happening) (hs : List Happening) → KeepsNumbers (rested d over) hs
+    → order_at h (device_after (rested d over) hs) ≡ Some (Move q) → has_moved q (orders_of (rested d over) hs) ≡ false
 
--- it never both moves and gives up for one number
-abbrev pub NeverBoth : Type 0
-NeverBoth = (d over q : ℕ) (hs : List Happening) → KeepsNumbers (rested d over) hs
-    → let os = orders_of (rested d over) hs in (has_moved q os && has_given_up q os) ≡ false
+-- it never moves for a number for which it was told to give up
+abbrev pub NeverMovesAfterGivingUp : Type 0
+NeverMovesAfterGivingUp = (d over q : ℕ) (h : Happening) (hs : List Happening) → KeepsNumbers (rested d over) hs
+    → order_at h (device_after (rested d over) hs) ≡ Some (Move q) → has_given_up q (orders_of (rested d over) hs) ≡ false
+
+-- and the other way round
+abbrev pub NeverGivesUpAfterMoving : Type 0
+NeverGivesUpAfterMoving = (d over q : ℕ) (h : Happening) (hs : List Happening) → KeepsNumbers (rested d over) hs
+    → order_at h (device_after (rested d over) hs) ≡ Some (GiveUp q) → has_moved q (orders_of (rested d over) hs) ≡ false
 
 -- it moves only for a number for which it answered before that it stands by
 abbrev pub MovesAfterStandingBy : Type 0

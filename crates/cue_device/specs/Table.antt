@@ -1,5 +1,5 @@
 -- The table of what a device makes of each command, by the place of its number q and the phase of the attempt.
-use Rattle.std.specs.Prelude.{ℕ, Bool, if◌then◌else◌, Option, Some, None}
+use Rattle.std.specs.Prelude.{ℕ, Bool, if◌then◌else◌, Some, None}
 use Rattle.cue_device.specs.declared.asked.Command.{Command}
 use Rattle.cue_device.specs.declared.asked.Command.TheVariants.{Standby, Go, Cancel}
 use Rattle.cue_device.specs.declared.phase.Phase.{Phase}

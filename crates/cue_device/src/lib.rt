@@ -7,13 +7,12 @@
 mod asked;
 mod fields;
 mod hearing;
+pub mod laws;
 mod over_bytes;
 mod part_bytes;
 mod phase;
 mod reading;
 mod table;
-#[cfg(test)]
-mod tests;
 mod words;
 mod writing;
 

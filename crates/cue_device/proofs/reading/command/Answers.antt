@@ -1,5 +1,4 @@
 use Rattle.cue_device.proofs.CommandLemmas.{says_standby, says_go, says_cancel, says_nothing, same_behind, found_standby, found_go, found_cancel}
-use Rattle.std.proofs.Common.{◌∙◌}
 use Rattle.cue_device.proofs.ReadingLemmas.{task_text}
 use Rattle.cue_device.proofs.reading.command.Goals as goal
 

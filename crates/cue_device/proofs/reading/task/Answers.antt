@@ -1,4 +1,4 @@
-use Rattle.std.proofs.Common.{arith, ap, ◌∙◌, length, List, ℕ, ◌≡◌}
+use Rattle.std.proofs.Common.{arith, ap, ◌∙◌, length, ◌≡◌}
 use Rattle.cue_osc.specs.Reading.{blob_at}
 use Rattle.cue_device.proofs.ReadingLemmas.{cue_read, cue_is, bytes_read, task_is, task_takes, nothing_left, no_cue, empty_is, found_task}
 use Rattle.cue_device.proofs.reading.task.Goals as goal

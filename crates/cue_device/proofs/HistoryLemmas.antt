@@ -1,0 +1,354 @@
+-- What is kept over all that happens to a device, and what each order rests on.
+use Rattle.std.proofs.Common.{◌≡◌, ℕ, ◌<◌, ◌≤◌, Bool, true, false, cond, eqb, ltb, List, [], ◌∷◌, Option, Some, None, refl, sym, ap, subst, ◌∙◌, arith, is_none}
+use Rattle.std.specs.List.{AllByRecursion}
+use Rattle.std.proofs.lemmas.Bool.{eqb-true, ltb-true, eq-eqb}
+use Rattle.std.proofs.lemmas.Bool.Decides.{nat_tests}
+use Rattle.std.proofs.Math.Bool.{or-true}
+use Rattle.cue_device.specs.declared.asked.Command.{Command}
+use Rattle.cue_device.specs.declared.asked.Command.TheVariants.{Standby, Go, Cancel}
+use Rattle.cue_device.specs.declared.asked.Task.{Task}
+use Rattle.cue_device.specs.declared.hearing.Device.{Device}
+use Rattle.cue_device.specs.declared.hearing.Heard.{Heard}
+use Rattle.cue_device.specs.declared.hearing.Place.{Place}
+use Rattle.cue_device.specs.declared.hearing.Place.TheVariants.{Over, Same, New}
+use Rattle.cue_device.specs.declared.hearing.Told.{Told}
+use Rattle.cue_device.specs.declared.hearing.Told.TheVariants.{Prepared, Moved, GaveUp, Cannot}
+use Rattle.cue_device.specs.declared.phase.Attempt.{Attempt}
+use Rattle.cue_device.specs.declared.phase.Phase.{Phase}
+use Rattle.cue_device.specs.declared.phase.Phase.TheVariants.{Preparing, Ready, Moving, Done, LettingGo, LetGo, Failed}
+use Rattle.cue_device.specs.declared.phase.Turn.{Turn}
+use Rattle.cue_device.specs.declared.words.Order.{Order}
+use Rattle.cue_device.specs.declared.words.Order.TheVariants.{Prepare, Move, GiveUp}
+use Rattle.cue_device.specs.declared.words.Answer.{Answer}
+use Rattle.cue_device.specs.declared.words.Answer.TheVariants.{StandingBy, Complete, Cancelled, Abort}
+use Rattle.cue_device.specs.Hearing.{after_at, answer_at, again, begun, doing_after, ends, freed, heard_at, is_for, left_after, noted, ordered_for, place, place_known, rested, said, seq_of, taken, task_of, told_at, told_in, told_of}
+use Rattle.cue_device.specs.Table.{answer_over, anew, new_standby, other_standby, same_cancel, same_go, same_standby}
+use Rattle.cue_device.specs.Histories.{Happening, hears, tells, repeats, hears_reply, restarts, KeepsNumbers, answer_to, answers_of, device_after, latest, order_at, orders_of, unfinished}
+use Rattle.cue_device.specs.Laws.{has_given_up, has_moved, has_stood_by, is_give_up, is_move}
+
+-- ---- numbers of orders
+
+-- each order is for at most this number
+abbrev pub UpTo : ℕ → List Order → Type 0
+UpTo m os = AllByRecursion (λ o. ordered_for o ≤ m) os
+
+pub up_to-more : (m n : ℕ) (os : List Order) → m ≤ n → UpTo m os → UpTo n os
+up_to-more m n [] le h = tt
+up_to-more m n (o ∷ os) le h = let one : ordered_for o ≤ m = h.0 in (omega arith, up_to-more m n os le h.1)
+
+pub all_below : (m n : ℕ) (os : List Order) → m < n → UpTo m os → AllByRecursion (λ o. ordered_for o < n) os
+all_below m n [] lt h = tt
+all_below m n (o ∷ os) lt h = let one : ordered_for o ≤ m = h.0 in (omega arith, all_below m n os lt h.1)
+
+pub all_up_to : (n : ℕ) (os : List Order) → AllByRecursion (λ o. ordered_for o < n) os → UpTo n os
+all_up_to n [] h = tt
+all_up_to n (o ∷ os) h = let one : ordered_for o < n = h.0 in (omega arith, all_up_to n os h.1)
+
+other : (p m q : ℕ) → p ≤ m → m < q → eqb p q ≡ false
+other p m q le lt = grind (arith, nat_tests)
+
+no_move : (m q : ℕ) (o : Order) → m < q → ordered_for o ≤ m → is_move q o ≡ false
+no_move m q (Prepare p) lt le = refl
+no_move m q (Move p) lt le = other p m q le lt
+no_move m q (GiveUp p) lt le = refl
+
+no_give_up : (m q : ℕ) (o : Order) → m < q → ordered_for o ≤ m → is_give_up q o ≡ false
+no_give_up m q (Prepare p) lt le = refl
+no_give_up m q (Move p) lt le = refl
+no_give_up m q (GiveUp p) lt le = other p m q le lt
+
+-- nothing was ordered for a number above all
+pub not_moved : (m q : ℕ) (os : List Order) → m < q → UpTo m os → has_moved q os ≡ false
+not_moved m q [] lt h = refl
+not_moved m q (o ∷ os) lt h = rw (no_move m q o lt h.0) (not_moved m q os lt h.1)
+
+pub not_given_up : (m q : ℕ) (os : List Order) → m < q → UpTo m os → has_given_up q os ≡ false
+not_given_up m q [] lt h = refl
+not_given_up m q (o ∷ os) lt h = rw (no_give_up m q o lt h.0) (not_given_up m q os lt h.1)
+
+-- ---- what is kept
+
+-- nothing was ordered for q but to prepare
+abbrev pub Untouched : ℕ → List Order → Type 0
+Untouched q os = (has_moved q os ≡ false) × (has_given_up q os ≡ false)
+
+-- the machine is free, or prepares for q
+abbrev pub OnlyPrepares : ℕ → Option Order → Type 0
+OnlyPrepares q None = Unit {0}
+OnlyPrepares q (Some o) = o ≡ Prepare q
+
+-- what is known in each phase of the attempt q
+abbrev pub StandsIn : Phase → ℕ → List Order → List Answer → Option Order → Type 0
+StandsIn Preparing q os xs u = Untouched q os × OnlyPrepares q u
+StandsIn Ready q os xs u = Untouched q os × (has_stood_by q xs ≡ true) × (u ≡ None)
+StandsIn Moving q os xs u = has_given_up q os ≡ false
+StandsIn Done q os xs u = has_given_up q os ≡ false
+StandsIn LettingGo q os xs u = has_moved q os ≡ false
+StandsIn LetGo q os xs u = has_moved q os ≡ false
+StandsIn Failed q os xs u = Unit {0}
+
+abbrev pub Stands : Option Attempt → ℕ → List Order → List Answer → Option Order → Type 0
+Stands None q os xs u = Unit {0}
+Stands (Some a) q os xs u = StandsIn a.phase q os xs u
+
+-- the state of a device fits what it has ordered and answered, and what is unfinished
+pub record Fits (d : Device) (os : List Order) (xs : List Answer) (u : Option Order) : Type 0 where
+  pub bounded : UpTo d.last os
+  pub doing : d.doing ≡ u
+  pub stands : Stands d.attempt d.last os xs u
+
+-- what an order rests on
+abbrev pub Lawful : Order → List Order → List Answer → Option Order → Type 0
+Lawful (Prepare q) os xs u = AllByRecursion (λ o. ordered_for o < q) os × (u ≡ None)
+Lawful (Move q) os xs u = Untouched q os × (has_stood_by q xs ≡ true) × (u ≡ None) × UpTo q os
+Lawful (GiveUp q) os xs u = (has_moved q os ≡ false) × OnlyPrepares q u × UpTo q os
+
+abbrev pub LawfulIf : Option Order → List Order → List Answer → Option Order → Type 0
+LawfulIf None os xs u = Unit {0}
+LawfulIf (Some o) os xs u = Lawful o os xs u
+
+-- a step: what is ordered is lawful, and all fits again
+pub record Goes (os : List Order) (xs : List Answer) (u : Option Order) (new : Device) (heard : Heard) : Type 0 where
+  pub lawful : LawfulIf heard.order os xs u
+  pub fits : Fits new (latest heard.order os) (latest heard.answer xs) (doing_after heard.order u)
+
+-- ---- answers and tellings keep what is known
+
+more_answers : (p : Phase) (q : ℕ) (os : List Order) (x : Answer) (xs : List Answer) (u : Option Order) → StandsIn p q os xs u → StandsIn p q os (x ∷ xs) u
+more_answers Preparing q os x xs u s = s
+more_answers Ready q os x xs u s = (s.0, rw s.1 (or-true _), s.2)
+more_answers Moving q os x xs u s = s
+more_answers Done q os x xs u s = s
+more_answers LettingGo q os x xs u s = s
+more_answers LetGo q os x xs u s = s
+more_answers Failed q os x xs u s = s
+
+answered_more : (a : Option Attempt) (q : ℕ) (os : List Order) (x : Option Answer) (xs : List Answer) (u : Option Order) → Stands a q os xs u → Stands a q os (latest x xs) u
+answered_more None q os x xs u s = tt
+answered_more (Some a) q os None xs u s = s
+answered_more (Some a) q os (Some x) xs u s = more_answers a.phase q os x xs u s
+
+pub answers_more : (d : Device) (os : List Order) (x : Option Answer) (xs : List Answer) (u : Option Order) → Fits d os xs u → Fits d os (latest x xs) u
+answers_more d os x xs u f = record { bounded = f.bounded; doing = f.doing; stands = answered_more d.attempt d.last os x xs u f.stands }
+
+chosen_prepares : (q : ℕ) (b : Bool) (o : Order) → o ≡ Prepare q → OnlyPrepares q (cond b None (Some o))
+chosen_prepares q true o h = tt
+chosen_prepares q false o h = h
+
+left_prepares : (t : Told) (q : ℕ) (u : Option Order) → OnlyPrepares q u → OnlyPrepares q (left_after t u)
+left_prepares t q None h = tt
+left_prepares t q (Some o) h = chosen_prepares q (ends o t) o h
+
+less_to_do : (t : Told) (p : Phase) (q : ℕ) (os : List Order) (xs : List Answer) (u : Option Order) → StandsIn p q os xs u → StandsIn p q os xs (left_after t u)
+less_to_do t Preparing q os xs u s = (s.0, left_prepares t q u s.1)
+less_to_do t Ready q os xs u s = (s.0, s.1, ap (left_after t) s.2)
+less_to_do t Moving q os xs u s = s
+less_to_do t Done q os xs u s = s
+less_to_do t LettingGo q os xs u s = s
+less_to_do t LetGo q os xs u s = s
+less_to_do t Failed q os xs u s = s
+
+left_to_do : (t : Told) (a : Option Attempt) (q : ℕ) (os : List Order) (xs : List Answer) (u : Option Order) → Stands a q os xs u → Stands a q os xs (left_after t u)
+left_to_do t None q os xs u s = tt
+left_to_do t (Some a) q os xs u s = less_to_do t a.phase q os xs u s
+
+freed_fits : (t : Told) (d : Device) (os : List Order) (xs : List Answer) (u : Option Order) → Fits d os xs u → Fits (freed t d) os xs (left_after t u)
+freed_fits t d os xs u f = record { bounded = f.bounded; doing = ap (left_after t) f.doing; stands = left_to_do t d.attempt d.last os xs u f.stands }
+
+-- ---- one turn
+
+-- the attempt of the last number takes a turn
+abbrev Turns : Device → Option Task → List Order → List Answer → Option Order → Turn → Type 0
+Turns d task os xs u t = Goes os xs u (taken task t d) (said t)
+
+-- without an order
+keeps : (d : Device) (task : Option Task) (os : List Order) (xs : List Answer) (u : Option Order) (p : Phase) (x : Option Answer) → UpTo d.last os → d.doing ≡ u → StandsIn p d.last os (latest x xs) u
+    → Turns d task os xs u (record { phase = p; order = None; answer = x })
+keeps d task os xs u p x b e s = record { lawful = tt; fits = record { bounded = b; doing = e; stands = s } }
+
+-- with an order
+orders : (d : Device) (task : Option Task) (os : List Order) (xs : List Answer) (u : Option Order) (p : Phase) (o : Order) (x : Option Answer) → UpTo d.last os → ordered_for o ≤ d.last → Lawful o os xs u → StandsIn p d.last (o ∷ os) (latest x xs) (Some o)
+    → Turns d task os xs u (record { phase = p; order = Some o; answer = x })
+orders d task os xs u p o x b le l s = record { lawful = l; fits = record { bounded = (le, b); doing = refl; stands = s } }
+
+le_itself : (n : ℕ) → n ≤ n
+le_itself n = omega arith
+
+free_prepares : (q : ℕ) (u : Option Order) → u ≡ None → OnlyPrepares q u
+free_prepares q u e = subst (OnlyPrepares q) (sym e) tt
+
+same_standby-goes : (d : Device) (task : Option Task) (os : List Order) (xs : List Answer) (u : Option Order) (p : Phase) → UpTo d.last os → d.doing ≡ u → StandsIn p d.last os xs u → Turns d task os xs u (same_standby d.last p)
+same_standby-goes d task os xs u Preparing b e s = keeps d task os xs u Preparing None b e s
+same_standby-goes d task os xs u Ready b e s = keeps d task os xs u Ready (Some (StandingBy d.last)) b e (more_answers Ready d.last os (StandingBy d.last) xs u s)
+same_standby-goes d task os xs u Moving b e s = keeps d task os xs u Moving None b e s
+same_standby-goes d task os xs u Done b e s = keeps d task os xs u Done (Some (Abort d.last)) b e s
+same_standby-goes d task os xs u LettingGo b e s = keeps d task os xs u LettingGo None b e s
+same_standby-goes d task os xs u LetGo b e s = keeps d task os xs u LetGo (Some (Abort d.last)) b e s
+same_standby-goes d task os xs u Failed b e s = keeps d task os xs u Failed (Some (Abort d.last)) b e tt
+
+other_standby-goes : (d : Device) (task : Option Task) (os : List Order) (xs : List Answer) (u : Option Order) (p : Phase) → UpTo d.last os → d.doing ≡ u → StandsIn p d.last os xs u → Turns d task os xs u (other_standby d.last p)
+other_standby-goes d task os xs u Preparing b e s = orders d task os xs u Failed (GiveUp d.last) (Some (Abort d.last)) b (le_itself d.last) (s.0.0, s.1, b) tt
+other_standby-goes d task os xs u Ready b e s = orders d task os xs u Failed (GiveUp d.last) (Some (Abort d.last)) b (le_itself d.last) (s.0.0, free_prepares d.last u s.2, b) tt
+other_standby-goes d task os xs u Moving b e s = keeps d task os xs u Failed (Some (Abort d.last)) b e tt
+other_standby-goes d task os xs u Done b e s = keeps d task os xs u Failed (Some (Abort d.last)) b e tt
+other_standby-goes d task os xs u LettingGo b e s = keeps d task os xs u Failed (Some (Abort d.last)) b e tt
+other_standby-goes d task os xs u LetGo b e s = keeps d task os xs u Failed (Some (Abort d.last)) b e tt
+other_standby-goes d task os xs u Failed b e s = keeps d task os xs u Failed (Some (Abort d.last)) b e tt
+
+same_go-goes : (d : Device) (task : Option Task) (os : List Order) (xs : List Answer) (u : Option Order) (p : Phase) → UpTo d.last os → d.doing ≡ u → StandsIn p d.last os xs u → Turns d task os xs u (same_go d.last p)
+same_go-goes d task os xs u Preparing b e s = keeps d task os xs u Failed (Some (Abort d.last)) b e tt
+same_go-goes d task os xs u Ready b e s = orders d task os xs u Moving (Move d.last) None b (le_itself d.last) (s.0, s.1, s.2, b) s.0.1
+same_go-goes d task os xs u Moving b e s = keeps d task os xs u Moving None b e s
+same_go-goes d task os xs u Done b e s = keeps d task os xs u Done (Some (Complete d.last)) b e s
+same_go-goes d task os xs u LettingGo b e s = keeps d task os xs u Failed (Some (Abort d.last)) b e tt
+same_go-goes d task os xs u LetGo b e s = keeps d task os xs u Failed (Some (Abort d.last)) b e tt
+same_go-goes d task os xs u Failed b e s = keeps d task os xs u Failed (Some (Abort d.last)) b e tt
+
+same_cancel-goes : (d : Device) (task : Option Task) (os : List Order) (xs : List Answer) (u : Option Order) (p : Phase) → UpTo d.last os → d.doing ≡ u → StandsIn p d.last os xs u → Turns d task os xs u (same_cancel d.last p)
+same_cancel-goes d task os xs u Preparing b e s = orders d task os xs u LettingGo (GiveUp d.last) None b (le_itself d.last) (s.0.0, s.1, b) s.0.0
+same_cancel-goes d task os xs u Ready b e s = orders d task os xs u LettingGo (GiveUp d.last) None b (le_itself d.last) (s.0.0, free_prepares d.last u s.2, b) s.0.0
+same_cancel-goes d task os xs u Moving b e s = keeps d task os xs u Moving None b e s
+same_cancel-goes d task os xs u Done b e s = keeps d task os xs u Done None b e s
+same_cancel-goes d task os xs u LettingGo b e s = keeps d task os xs u LettingGo None b e s
+same_cancel-goes d task os xs u LetGo b e s = keeps d task os xs u LetGo (Some (Cancelled d.last)) b e s
+same_cancel-goes d task os xs u Failed b e s = keeps d task os xs u Failed (Some (Cancelled d.last)) b e tt
+
+standby_goes : (d : Device) (a : Attempt) (os : List Order) (xs : List Answer) (u : Option Order) (same : Bool) → UpTo d.last os → d.doing ≡ u → StandsIn a.phase d.last os xs u
+    → Turns d a.task os xs u (cond same (same_standby d.last a.phase) (other_standby d.last a.phase))
+standby_goes d a os xs u true b e s = same_standby-goes d a.task os xs u a.phase b e s
+standby_goes d a os xs u false b e s = other_standby-goes d a.task os xs u a.phase b e s
+
+again_goes : (d : Device) (a : Attempt) (os : List Order) (xs : List Answer) (u : Option Order) (c : Command) → seq_of c ≡ d.last → UpTo d.last os → d.doing ≡ u → StandsIn a.phase d.last os xs u → Turns d a.task os xs u (again a c)
+again_goes d a os xs u (Standby q t) at b e s =
+    subst (λ (n : ℕ). Turns d a.task os xs u (cond (is_for t a.task) (same_standby n a.phase) (other_standby n a.phase))) (sym at) (standby_goes d a os xs u (is_for t a.task) b e s)
+again_goes d a os xs u (Go q) at b e s = subst (λ (n : ℕ). Turns d a.task os xs u (same_go n a.phase)) (sym at) (same_go-goes d a.task os xs u a.phase b e s)
+again_goes d a os xs u (Cancel q) at b e s = subst (λ (n : ℕ). Turns d a.task os xs u (same_cancel n a.phase)) (sym at) (same_cancel-goes d a.task os xs u a.phase b e s)
+
+new_standby-goes : (d : Device) (q : ℕ) (task : Option Task) (os : List Order) (xs : List Answer) (u : Option Order) → d.last < q → UpTo d.last os → d.doing ≡ u
+    → Turns (begun q d) task os xs u (new_standby q (is_none u))
+new_standby-goes d q task os xs None lt b e =
+    orders (begun q d) task os xs None Preparing (Prepare q) None (up_to-more d.last q os (omega arith) b) (le_itself q) (all_below d.last q os lt b, refl) ((not_moved d.last q os lt b, not_given_up d.last q os lt b), refl)
+new_standby-goes d q task os xs (Some o) lt b e = keeps (begun q d) task os xs (Some o) Failed (Some (Abort q)) (up_to-more d.last q os (omega arith) b) e tt
+
+anew_goes : (d : Device) (os : List Order) (xs : List Answer) (u : Option Order) (c : Command) → d.last < seq_of c → UpTo d.last os → d.doing ≡ u → Turns (begun (seq_of c) d) (task_of c) os xs u (anew (is_none d.doing) c)
+anew_goes d os xs u (Standby q t) lt b e =
+    subst (λ (v : Option Order). Turns (begun q d) (Some t) os xs u (new_standby q (is_none v))) (sym e) (new_standby-goes d q (Some t) os xs u lt b e)
+anew_goes d os xs u (Go q) lt b e = keeps (begun q d) None os xs u Failed (Some (Abort q)) (up_to-more d.last q os (omega arith) b) e tt
+anew_goes d os xs u (Cancel q) lt b e = keeps (begun q d) None os xs u LetGo (Some (Cancelled q)) (up_to-more d.last q os (omega arith) b) e (not_moved d.last q os lt b)
+
+-- ---- places
+
+-- what a place says of the number
+abbrev IsPlace : Device → ℕ → Place → Type 0
+IsPlace d q Over = Unit {0}
+IsPlace d q (Same a) = (q ≡ d.last) × (d.attempt ≡ Some a)
+IsPlace d q New = d.last < q
+
+known_place : (d : Device) (q : ℕ) (b : Bool) (o : Option Attempt) → eqb q d.last ≡ b → d.attempt ≡ o → IsPlace d q (place_known b o)
+known_place d q b None e f = tt
+known_place d q true (Some a) e f = (eqb-true q d.last e, f)
+known_place d q false (Some a) e f = tt
+
+any_place : (d : Device) (q : ℕ) (b : Bool) → ltb d.last q ≡ b → IsPlace d q (cond b New (place_known (eqb q d.last) d.attempt))
+any_place d q true e = ltb-true d.last q e
+any_place d q false e = known_place d q (eqb q d.last) d.attempt refl refl
+
+place_is : (d : Device) (q : ℕ) → IsPlace d q (place d q)
+place_is d q = any_place d q (ltb d.last q) refl
+
+-- ---- what is heard
+
+heard_goes : (p : Place) (d : Device) (os : List Order) (xs : List Answer) (u : Option Order) (c : Command) → IsPlace d (seq_of c) p → Fits d os xs u → Goes os xs u (after_at p c d) (heard_at p c d)
+heard_goes Over d os xs u c is f = record { lawful = tt; fits = answers_more d os (Some (answer_over c)) xs u f }
+heard_goes (Same a) d os xs u c is f = again_goes d a os xs u c is.0 f.bounded f.doing (subst (λ (o : Option Attempt). Stands o d.last os xs u) is.1 f.stands)
+heard_goes New d os xs u c is f = anew_goes d os xs u c is f.bounded f.doing
+
+-- ---- what is told
+
+-- what is left of a preparation, once its end was told
+no_more : (b : Bool) (o : Order) → b ≡ true → cond b None (Some o) ≡ None
+no_more b o e = rw e refl
+
+prepared_left : (q : ℕ) (u : Option Order) → OnlyPrepares q u → left_after (Prepared q) u ≡ None
+prepared_left q None h = refl
+prepared_left q (Some o) h = no_more (ends o (Prepared q)) o (ap (λ (x : Order). ends x (Prepared q)) h ∙ eq-eqb q q refl)
+
+-- the attempt is in this phase from now on
+enters : (t : Told) (d : Device) (task : Option Task) (os : List Order) (xs : List Answer) (u : Option Order) (p : Phase) (x : Answer) → UpTo d.last os → d.doing ≡ u → StandsIn p d.last os (x ∷ xs) (left_after t u)
+    → Fits (noted t task (record { phase = p; order = None; answer = Some x }) (freed t d)) os (x ∷ xs) (left_after t u)
+enters t d task os xs u p x b e s = record { bounded = b; doing = ap (left_after t) e; stands = s }
+
+stood : (q p : ℕ) (xs : List Answer) → p ≡ q → has_stood_by q (StandingBy p ∷ xs) ≡ true
+stood q p xs e = rw (eq-eqb p q e) refl
+
+told_goes : (t : Told) (d : Device) (a : Attempt) (p : Phase) (os : List Order) (xs : List Answer) (u : Option Order) → told_of t ≡ d.last → Fits d os xs u → StandsIn p d.last os xs u
+    → Fits (noted t a.task (told_in t p) (freed t d)) os (latest (told_in t p).answer xs) (left_after t u)
+told_goes (Prepared q) d a Preparing os xs u at f s =
+    enters (Prepared q) d a.task os xs u Ready (StandingBy q) f.bounded f.doing (s.0, stood d.last q xs at, subst (λ (n : ℕ). left_after (Prepared n) u ≡ None) (sym at) (prepared_left d.last u s.1))
+told_goes (Prepared q) d a Ready os xs u at f s = freed_fits (Prepared q) d os xs u f
+told_goes (Prepared q) d a Moving os xs u at f s = freed_fits (Prepared q) d os xs u f
+told_goes (Prepared q) d a Done os xs u at f s = freed_fits (Prepared q) d os xs u f
+told_goes (Prepared q) d a LettingGo os xs u at f s = freed_fits (Prepared q) d os xs u f
+told_goes (Prepared q) d a LetGo os xs u at f s = freed_fits (Prepared q) d os xs u f
+told_goes (Prepared q) d a Failed os xs u at f s = freed_fits (Prepared q) d os xs u f
+told_goes (Moved q) d a Preparing os xs u at f s = freed_fits (Moved q) d os xs u f
+told_goes (Moved q) d a Ready os xs u at f s = freed_fits (Moved q) d os xs u f
+told_goes (Moved q) d a Moving os xs u at f s = enters (Moved q) d a.task os xs u Done (Complete q) f.bounded f.doing s
+told_goes (Moved q) d a Done os xs u at f s = freed_fits (Moved q) d os xs u f
+told_goes (Moved q) d a LettingGo os xs u at f s = freed_fits (Moved q) d os xs u f
+told_goes (Moved q) d a LetGo os xs u at f s = freed_fits (Moved q) d os xs u f
+told_goes (Moved q) d a Failed os xs u at f s = freed_fits (Moved q) d os xs u f
+told_goes (GaveUp q) d a Preparing os xs u at f s = freed_fits (GaveUp q) d os xs u f
+told_goes (GaveUp q) d a Ready os xs u at f s = freed_fits (GaveUp q) d os xs u f
+told_goes (GaveUp q) d a Moving os xs u at f s = freed_fits (GaveUp q) d os xs u f
+told_goes (GaveUp q) d a Done os xs u at f s = freed_fits (GaveUp q) d os xs u f
+told_goes (GaveUp q) d a LettingGo os xs u at f s = enters (GaveUp q) d a.task os xs u LetGo (Cancelled q) f.bounded f.doing s
+told_goes (GaveUp q) d a LetGo os xs u at f s = freed_fits (GaveUp q) d os xs u f
+told_goes (GaveUp q) d a Failed os xs u at f s = freed_fits (GaveUp q) d os xs u f
+told_goes (Cannot q) d a Preparing os xs u at f s = enters (Cannot q) d a.task os xs u Failed (Abort q) f.bounded f.doing tt
+told_goes (Cannot q) d a Ready os xs u at f s = enters (Cannot q) d a.task os xs u Failed (Abort q) f.bounded f.doing tt
+told_goes (Cannot q) d a Moving os xs u at f s = enters (Cannot q) d a.task os xs u Failed (Abort q) f.bounded f.doing tt
+told_goes (Cannot q) d a Done os xs u at f s = freed_fits (Cannot q) d os xs u f
+told_goes (Cannot q) d a LettingGo os xs u at f s = enters (Cannot q) d a.task os xs u Failed (Abort q) f.bounded f.doing tt
+told_goes (Cannot q) d a LetGo os xs u at f s = freed_fits (Cannot q) d os xs u f
+told_goes (Cannot q) d a Failed os xs u at f s = enters (Cannot q) d a.task os xs u Failed (Abort q) f.bounded f.doing tt
+
+tells_fits : (p : Place) (t : Told) (d : Device) (os : List Order) (xs : List Answer) (u : Option Order) → IsPlace d (told_of t) p → Fits d os xs u → Fits (told_at p t d) os (latest (answer_at p t) xs) (left_after t u)
+tells_fits Over t d os xs u is f = freed_fits t d os xs u f
+tells_fits (Same a) t d os xs u is f = told_goes t d a a.phase os xs u is.0 f (subst (λ (o : Option Attempt). Stands o d.last os xs u) is.1 f.stands)
+tells_fits New t d os xs u is f = freed_fits t d os xs u f
+
+-- ---- all that happens
+
+pub all_fits : (d : ℕ) (over : ℕ) (hs : List Happening) → KeepsNumbers (rested d over) hs
+    → Fits (device_after (rested d over) hs) (orders_of (rested d over) hs) (answers_of (rested d over) hs) (unfinished (rested d over) hs)
+all_fits d over [] k = record { bounded = tt; doing = refl; stands = tt }
+all_fits d over (hears c ∷ hs) k =
+    let now = device_after (rested d over) hs in
+    (heard_goes (place now (seq_of c)) now (orders_of (rested d over) hs) (answers_of (rested d over) hs) (unfinished (rested d over) hs) c (place_is now (seq_of c)) (all_fits d over hs k.1)).fits
+all_fits d over (tells t ∷ hs) k =
+    let now = device_after (rested d over) hs in
+    tells_fits (place now (told_of t)) t now (orders_of (rested d over) hs) (answers_of (rested d over) hs) (unfinished (rested d over) hs) (place_is now (told_of t)) (all_fits d over hs k.1)
+all_fits d over (repeats ∷ hs) k =
+    let now = device_after (rested d over) hs in
+    answers_more now (orders_of (rested d over) hs) (answer_to repeats now) (answers_of (rested d over) hs) (unfinished (rested d over) hs) (all_fits d over hs k.1)
+all_fits d over (hears_reply ∷ hs) k = let f = all_fits d over hs k.1 in record { bounded = f.bounded; doing = f.doing; stands = f.stands }
+all_fits d over (restarts n ∷ hs) k = record { bounded = k.0; doing = refl; stands = tt }
+
+nothing_ordered : {A : Type 0} (o : Order) → None ≡ Some o → A
+nothing_ordered o e = absurd cc
+
+-- each order is lawful
+pub all_lawful : (d over : ℕ) (h : Happening) (hs : List Happening) (o : Order) → KeepsNumbers (rested d over) hs → order_at h (device_after (rested d over) hs) ≡ Some o
+    → Lawful o (orders_of (rested d over) hs) (answers_of (rested d over) hs) (unfinished (rested d over) hs)
+all_lawful d over (hears c) hs o k e =
+    let now = device_after (rested d over) hs in
+    let os = orders_of (rested d over) hs in
+    let xs = answers_of (rested d over) hs in
+    let u = unfinished (rested d over) hs in
+    let g = heard_goes (place now (seq_of c)) now os xs u c (place_is now (seq_of c)) (all_fits d over hs k) in
+    subst (λ (x : Option Order). LawfulIf x os xs u) e g.lawful
+all_lawful d over (tells t) hs o k e = nothing_ordered o e
+all_lawful d over repeats hs o k e = nothing_ordered o e
+all_lawful d over hears_reply hs o k e = nothing_ordered o e
+all_lawful d over (restarts n) hs o k e = nothing_ordered o e

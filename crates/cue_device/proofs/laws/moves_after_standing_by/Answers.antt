@@ -1,0 +1,6 @@
+use Rattle.cue_device.specs.declared.words.Order.TheVariants.{Move}
+use Rattle.cue_device.proofs.HistoryLemmas.{all_lawful}
+use Rattle.cue_device.proofs.laws.moves_after_standing_by.Goals as goal
+
+pub returns : goal.returns
+returns c = λ d over q h hs k e. (all_lawful d over h hs (Move q) k e).1

@@ -1,0 +1,34 @@
+//! Laws of a device over all that it hears and all that its machine tells, with any restarts between, each the contract
+//! of a function that does nothing.
+ghost use Rattle.cue_device.specs.Laws.{MovesAfterStandingBy, MovesOnce, NeverGivesUpAfterMoving, NeverMovesAfterGivingUp, NumbersRise, OneAtATime, PreparesOnce};
+
+/// It moves at most once for each number, whatever copies come and however often it starts anew.
+pub fn moves_once()
+    ensures { MovesOnce }
+{}
+
+/// It never both moves and gives up for one number.
+pub fn never_both()
+    ensures moving { NeverMovesAfterGivingUp }
+    ensures giving_up { NeverGivesUpAfterMoving }
+{}
+
+/// It moves only for a number for which it answered before that it stands by.
+pub fn moves_after_standing_by()
+    ensures { MovesAfterStandingBy }
+{}
+
+/// It is ordered nothing before its machine told the end of the last order; only a preparation gives way to giving up.
+pub fn one_at_a_time()
+    ensures { OneAtATime }
+{}
+
+/// The numbers of orders never fall, over restarts too.
+pub fn numbers_rise()
+    ensures { NumbersRise }
+{}
+
+/// It prepares for a number only where that is above the number of each order before.
+pub fn prepares_once()
+    ensures { PreparesOnce }
+{}

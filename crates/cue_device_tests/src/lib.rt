@@ -1,0 +1,9 @@
+//! Tests of a device over public calls: each cell of its table, through calls and through bytes, and whole evenings.
+#![tactic(auto)]
+
+#[cfg(test)]
+mod cells;
+#[cfg(test)]
+mod datagrams;
+#[cfg(test)]
+mod evenings;

@@ -1,4 +1,7 @@
 //! What is to be sent, as C has it.
+ghost use Rattle.std.specs.Prelude.{◌≡◌, []};
+ghost use Rattle.cue_device.specs.Datagrams.{answered_text};
+ghost use Rattle.cue_device_c.specs.Calls.{sent};
 
 use cue_device::{Answer, Device, MAX_ANSWER};
 
@@ -12,7 +15,9 @@ pub struct CueAnswer {
 
 impl CueAnswer {
     // There is nothing to send.
-    pub(crate) fn none() -> CueAnswer {
+    pub(crate) fn none() -> CueAnswer
+        ensures { sent result ≡ [] }
+    {
         CueAnswer {
             length: 0,
             bytes: [0; MAX_ANSWER],
@@ -20,9 +25,14 @@ impl CueAnswer {
     }
 
     // The datagram of the device's answer; nothing to send where there is none.
-    pub(crate) fn of(device: &Device, answer: Option<Answer>) -> CueAnswer {
-        let mut sent = CueAnswer::none();
-        sent.length = device.write_answer(answer, &mut sent.bytes) as u32;
-        sent
+    pub(crate) fn of(device: &Device, answer: Option<Answer>) -> CueAnswer
+        ensures { sent result ≡ answered_text device.now.number answer }
+    {
+        let mut bytes = [0; MAX_ANSWER];
+        let length = device.write_answer(answer, &mut bytes);
+        CueAnswer {
+            length: length as u32,
+            bytes,
+        }
     }
 }

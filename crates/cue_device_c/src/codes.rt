@@ -1,4 +1,6 @@
 //! The numbers that stand in C for phases and orders.
+ghost use Rattle.std.specs.Prelude.{◌≡◌};
+ghost use Rattle.cue_device_c.specs.Codes.{order_code, order_number, order_of, phase_code, phase_of};
 
 use cue_device::{Order, Phase};
 
@@ -6,7 +8,9 @@ use cue_device::{Order, Phase};
 pub const BAD_CALL: u32 = 4;
 
 // `enum cue_phase`: the phase of an attempt, 0 where there is none.
-pub(crate) fn phase_code(phase: Option<Phase>) -> u32 {
+pub(crate) fn phase_code(phase: Option<Phase>) -> u32
+    ensures { result ≡ phase_code phase }
+{
     match phase {
         None => 0,
         Some(Phase::Preparing) => 1,
@@ -20,7 +24,9 @@ pub(crate) fn phase_code(phase: Option<Phase>) -> u32 {
 }
 
 // The phase of a number, none for 0 and where the number is no phase.
-pub(crate) fn phase_of(code: u32) -> Option<Phase> {
+pub(crate) fn phase_of(code: u32) -> Option<Phase>
+    ensures { result ≡ phase_of code }
+{
     match code {
         1 => Some(Phase::Preparing),
         2 => Some(Phase::Ready),
@@ -34,7 +40,9 @@ pub(crate) fn phase_of(code: u32) -> Option<Phase> {
 }
 
 // `enum cue_order`: 0 where nothing is ordered.
-pub(crate) fn order_code(order: Option<Order>) -> u32 {
+pub(crate) fn order_code(order: Option<Order>) -> u32
+    ensures { result ≡ order_code order }
+{
     match order {
         None => 0,
         Some(Order::Prepare(_)) => 1,
@@ -44,7 +52,9 @@ pub(crate) fn order_code(order: Option<Order>) -> u32 {
 }
 
 // The number of the attempt of an order, 0 where there is none.
-pub(crate) fn order_number(order: Option<Order>) -> u32 {
+pub(crate) fn order_number(order: Option<Order>) -> u32
+    ensures { result ≡ order_number order }
+{
     match order {
         None => 0,
         Some(order) => order.seq(),
@@ -52,7 +62,9 @@ pub(crate) fn order_number(order: Option<Order>) -> u32 {
 }
 
 // The order of a number, none for 0 and where the number is no order.
-pub(crate) fn order_of(code: u32, number: u32) -> Option<Order> {
+pub(crate) fn order_of(code: u32, number: u32) -> Option<Order>
+    ensures { result ≡ order_of code number }
+{
     match code {
         1 => Some(Order::Prepare(number)),
         2 => Some(Order::Move(number)),

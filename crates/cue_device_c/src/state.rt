@@ -1,4 +1,7 @@
 //! A device as C has it: plain numbers and bytes.
+ghost use Rattle.std.specs.Prelude.{◌≡◌, IsTrue};
+ghost use Rattle.cue_show.specs.DeviceNumber.{device_of_byte};
+ghost use Rattle.cue_device_c.specs.State.{bytes_length, bytes_places, cue_length, cue_places, device_of, fits, fits_cue, kept, task_in};
 
 use crate::codes::{order_code, order_number, order_of, phase_code, phase_of};
 use cue_device::{Attempt, Device, PartBytes, Task};
@@ -23,16 +26,14 @@ pub struct CueDevice {
 
 impl CueDevice {
     // The device that these numbers stand for; none where they stand for no device.
-    pub(crate) fn read(&self) -> Option<Device> {
-        let number = device_number(self.number)?;
-        if self.phase > 7 || self.doing > 3 || self.unheard > 1 {
+    pub(crate) fn read(&self) -> Option<Device>
+        ensures { result ≡ device_of self.now }
+    {
+        if !self.fits() {
             return None;
         }
-        let task = if self.cue_length == 0 {
-            None
-        } else {
-            Some(self.task()?)
-        };
+        let number = device_number(self.number)?;
+        let task = self.task();
         let attempt = match phase_of(self.phase) {
             Some(phase) => Some(Attempt { phase, task }),
             None => None,
@@ -42,19 +43,12 @@ impl CueDevice {
     }
 
     // The numbers that stand for the device.
-    pub(crate) fn of(device: &Device) -> CueDevice {
-        let mut cue = [0; MAX_CUE_BYTES];
-        let mut bytes = [0; MAX_PART_BYTES];
-        let mut cue_length = 0;
-        let mut bytes_length = 0;
-        if let Some(task) = device.task() {
-            let text = task.cue.text();
-            let kept = task.bytes.as_slice();
-            cue[..text.len()].copy_from_slice(text);
-            bytes[..kept.len()].copy_from_slice(kept);
-            cue_length = text.len() as u32;
-            bytes_length = kept.len() as u32;
-        }
+    pub(crate) fn of(device: &Device) -> CueDevice
+        ensures { result ≡ kept device.now }
+    {
+        let task = device.task();
+        let (cue_length, cue) = cue_of(&task);
+        let (bytes_length, bytes) = bytes_of(&task);
         CueDevice {
             number: u32::from(device.number().number()),
             last: device.last(),
@@ -69,19 +63,77 @@ impl CueDevice {
         }
     }
 
+    // Whether they stand for a device.
+    fn fits(&self) -> bool
+        ensures { result ≡ fits self.now }
+    {
+        self.number <= u32::from(LAST_DEVICE)
+            && self.phase <= 7
+            && self.doing <= 3
+            && self.unheard <= 1
+            && self.bytes_length <= MAX_PART_BYTES as u32
+            && self.fits_cue()
+    }
+
+    // Whether there is no cue, or the number of one.
+    fn fits_cue(&self) -> bool
+        ensures { result ≡ fits_cue self.now.cue_length self.now.cue }
+    {
+        self.cue_length == 0
+            || self.cue_length <= MAX_CUE_BYTES as u32
+                && CueNo::read(&self.cue[..self.cue_length as usize]).is_some()
+    }
+
     // What the device was asked to prepare for.
-    fn task(&self) -> Option<Task> {
-        let cue = self.cue.get(..self.cue_length as usize)?;
-        let bytes = self.bytes.get(..self.bytes_length as usize)?;
-        Some(Task {
-            cue: CueNo::read(cue)?,
-            bytes: PartBytes::read(bytes)?,
-        })
+    fn task(&self) -> Option<Task>
+        requires { IsTrue (fits self.now) }
+        ensures { result ≡ task_in self.now }
+    {
+        if self.cue_length == 0 {
+            return None;
+        }
+        let cue = CueNo::read(&self.cue[..self.cue_length as usize])?;
+        let bytes = PartBytes::read(&self.bytes[..self.bytes_length as usize])?;
+        Some(Task { cue, bytes })
+    }
+}
+
+// The cue's number with zeros after it, and its length; zeros where there is no task.
+fn cue_of(task: &Option<Task>) -> (u32, [u8; MAX_CUE_BYTES])
+    ensures len { result.0 ≡ cue_length task.now }
+    ensures places { result.1 ≡ cue_places task.now }
+{
+    let mut places = [0; MAX_CUE_BYTES];
+    match task {
+        Some(task) => {
+            let text = task.cue.text();
+            places[..text.len()].copy_from_slice(text);
+            (text.len() as u32, places)
+        }
+        None => (0, places),
+    }
+}
+
+// The bytes that the show keeps with zeros after them, and how many; zeros where there is no task.
+fn bytes_of(task: &Option<Task>) -> (u32, [u8; MAX_PART_BYTES])
+    ensures len { result.0 ≡ bytes_length task.now }
+    ensures places { result.1 ≡ bytes_places task.now }
+{
+    let mut places = [0; MAX_PART_BYTES];
+    match task {
+        Some(task) => {
+            let bytes = task.bytes.as_slice();
+            places[..bytes.len()].copy_from_slice(bytes);
+            (bytes.len() as u32, places)
+        }
+        None => (0, places),
     }
 }
 
 // The device of a number, where it is 0 to 111.
-pub(crate) fn device_number(number: u32) -> Option<DeviceNo> {
+pub(crate) fn device_number(number: u32) -> Option<DeviceNo>
+    ensures { result ≡ device_of_byte number }
+{
     if number <= u32::from(LAST_DEVICE) {
         DeviceNo::of_byte(number as u8)
     } else {

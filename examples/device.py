@@ -91,6 +91,8 @@ class Device:
         return self.answer()
 
     def on_cancel(self, now):
+        if self.step == "complete":
+            return None  # the controller sends none after a go
         self.enter("cancelled", now)
         return self.answer()
 

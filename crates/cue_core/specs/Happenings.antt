@@ -10,7 +10,7 @@ use Rattle.cue_core.specs.declared.event.Event.{Event}
 use Rattle.cue_core.specs.declared.event.Event.TheVariants.{Cancel}
 use Rattle.cue_core.specs.declared.command.Command.{Command}
 use Rattle.cue_core.specs.State.{ShowState}
-use Rattle.cue_core.specs.Judge.{judged, is_fit}
+use Rattle.cue_core.specs.Judge.{judgement_of, is_fit}
 use Rattle.cue_core.specs.History.{state_of, is_history}
 use Rattle.cue_core.specs.InOrder.{is_in_order}
 
@@ -36,7 +36,7 @@ is_undecided a = is_preparing a.stage
 
 -- the events that are accepted
 abbrev pub events_at : ShowState → Happening → List Event
-events_at s (commanded now from command) = (judged s now from command).1
+events_at s (commanded now from command) = (judgement_of s now from command).1
 events_at s (ticked now) = cancels (is_due now) Deadline s
 events_at s recovered = cancels is_undecided Power s
 

@@ -70,7 +70,9 @@ pub record IsByHistory (h : List Event) (s : ShowState) : Type 0 where
   pub parts : (q : ℕ) (a : Attempt) → attempt_of s.live q ≡ Some a → IsTrue (are_of_parts (parts_by h q) a.answers)
   pub devices : (q : ℕ) (a : Attempt) → attempt_of s.live q ≡ Some a → devices_of a.answers ≡ devices_by h q
   pub decided : (q : ℕ) (a : Attempt) → attempt_of s.live q ≡ Some a → is_decided a.stage ≡ is_decided_by h q
-  pub ready : (q d : ℕ) (a : Attempt) → attempt_of s.live q ≡ Some a → IsTrue (is_preparing a.stage) → IsTrue (is_among d (devices_of a.answers)) → answer_passes is_ready d a.answers ≡ (stood_by h q d && not (was_excused h q d))
+  pub ready : (q d : ℕ) (a : Attempt) → attempt_of s.live q ≡ Some a → IsTrue (is_preparing a.stage)
+      → IsTrue (is_among d (devices_of a.answers))
+      → answer_passes is_ready d a.answers ≡ (stood_by h q d && not (was_excused h q d))
 
 -- every state that acceptable events lead to is what its history says
 abbrev pub FactsByHistory : Type 0

@@ -21,7 +21,9 @@ keeps_order past (NoCue c) = true
 keeps_order past (Place c) = true
 keeps_order past (Start q c t) = true
 keeps_order past (Ready q d) = true
-keeps_order past (Go q) = list_any (is_start_of q) past && (list_all (may_go_by past q) (parts_by past q) && not (list_any (is_cancel_of q) past))
+keeps_order past (Go q) =
+    list_any (is_start_of q) past && (list_all (may_go_by past q) (parts_by past q)
+    && not (list_any (is_cancel_of q) past))
 keeps_order past (Done q d) = true
 keeps_order past (Cancel q r) = not (list_any (is_go_of q) past)
 keeps_order past (LetGo q d) = true

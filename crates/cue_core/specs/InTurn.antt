@@ -5,8 +5,8 @@ use Rattle.cue_core.specs.declared.event.Event.{Event}
 use Rattle.cue_core.specs.declared.command.Command.{Command}
 use Rattle.cue_core.specs.declared.command.Verdict.{Verdict}
 use Rattle.cue_core.specs.State.{ShowState, is_state}
-use Rattle.cue_core.specs.Steps.{are_acceptable, folded}
-use Rattle.cue_core.specs.Judge.{judged, is_fit}
+use Rattle.cue_core.specs.Steps.{are_acceptable, after_events}
+use Rattle.cue_core.specs.Judge.{judgement_of, is_fit}
 use Rattle.cue_core.specs.History.{state_of}
 use Rattle.cue_core.specs.Happenings.{Happening, commanded, history_of, onto}
 
@@ -22,12 +22,20 @@ pub record Step : Type 0 where
 -- the command judged on the state, with what became of it
 abbrev pub step_of : ShowState → ℕ → ℕ → Command → Step
 step_of s now from asked =
-    record { before = s; now = now; from = from; command = asked; verdict = (judged s now from asked).0; events = (judged s now from asked).1 }
+    record {
+      before = s;
+      now = now;
+      from = from;
+      command = asked;
+      verdict = (judgement_of s now from asked).0;
+      events = (judgement_of s now from asked).1;
+    }
 
 -- each command judged on the state after those before it
 abbrev pub steps : ShowState → ℕ → ℕ → List Command → List Step
 steps s now from [] = []
-steps s now from (asked ∷ others) = step_of s now from asked ∷ steps (folded s (judged s now from asked).1) now from others
+steps s now from (asked ∷ others) =
+    step_of s now from asked ∷ steps (after_events s (judgement_of s now from asked).1) now from others
 
 -- the events of all, in turn
 abbrev pub events_of : List Step → List Event
@@ -48,10 +56,12 @@ StepsAreAcceptable =
 abbrev pub StepsGoOn : Type 0
 StepsGoOn =
     (s : ShowState) (now from : ℕ) (first others : List Command)
-    → steps s now from (first ++ others) ≡ steps s now from first ++ steps (folded s (events_of (steps s now from first))) now from others
+    → steps s now from (first ++ others)
+    ≡ steps s now from first ++ steps (after_events s (events_of (steps s now from first))) now from others
 
 -- The history of what came and of the commands after it is that of what came, with the events of the commands in turn.
 abbrev pub StepsMakeHistories : Type 0
 StepsMakeHistories =
     (before : List Happening) (now from : ℕ) (commands : List Command)
-    → history_of (then_commanded now from commands before) ≡ onto (events_of (steps (state_of (history_of before)) now from commands)) (history_of before)
+    → history_of (then_commanded now from commands before)
+    ≡ onto (events_of (steps (state_of (history_of before)) now from commands)) (history_of before)

@@ -6,7 +6,7 @@ use Rattle.cue_show.specs.DeviceNumber.{is_device, is_port}
 use Rattle.cue_show.specs.Number.{is_cue_number}
 use Rattle.cue_show.specs.Parts.{are_parts, same_parts}
 use Rattle.cue_show.specs.Show.{port_of, parts_of, has_cue, is_used, is_place, has_device, are_known, is_full}
-use Rattle.cue_exchange.specs.declared.limits.TheConstants.{LAST_NUMBER}
+use Rattle.cue_exchange.specs.declared.limits.TheConstants.{MAX_NUMBER}
 use Rattle.cue_exchange.specs.declared.attempt.Answer.{Answer}
 use Rattle.cue_exchange.specs.declared.attempt.Answer.TheVariants as answer
 use Rattle.cue_exchange.specs.declared.attempt.Reason.TheVariants.{Operator, Abort, Release}
@@ -50,33 +50,34 @@ is_fit (command.Bad c) = true
 -- ---- what is answered
 
 -- a verdict and its events
-abbrev pub Judged : Type 0
-Judged = Verdict × List Event
+abbrev pub Judgement : Type 0
+Judgement = Verdict × List Event
 
 -- the command is carried out by these events
-abbrev pub made : List Event → Judged
+abbrev pub made : List Event → Judgement
 made es = (Made, es)
 
 -- the command says what is so already
-abbrev pub known : Judged
+abbrev pub known : Judgement
 known = (Known, [])
 
 -- the command is refused with a code
-abbrev pub refused : Code → Judged
+abbrev pub refused : Code → Judgement
 refused c = (No c, [])
 
 -- the first line whose test holds, and else the last word
-abbrev pub first_line : List (Bool × Judged) → Judged → Judged
+abbrev pub first_line : List (Bool × Judgement) → Judgement → Judgement
 first_line [] last = last
 first_line (l ∷ ls) last = if l.0 then l.1 else first_line ls last
 
 -- ---- the device table and the cue stack
 
-abbrev pub on_add_device : ShowState → ℕ → ℕ → Judged
+abbrev pub on_add_device : ShowState → ℕ → ℕ → Judgement
 on_add_device s d port =
-    option_map_or (λ p. if nat_eq p port then known else refused code.Duplicate) (port_of s.show d) (made (event.Device d port ∷ []))
+    option_map_or (λ p. if nat_eq p port then known else refused code.Duplicate)
+    (port_of s.show d) (made (event.Device d port ∷ []))
 
-abbrev pub on_remove_device : ShowState → ℕ → Judged
+abbrev pub on_remove_device : ShowState → ℕ → Judgement
 on_remove_device s d =
     first_line (
     (not (has_device s.show d), refused code.NoMethod)
@@ -85,15 +86,15 @@ on_remove_device s d =
     (made (event.NoDevice d ∷ []))
 
 -- a cue that is in the stack is known where its parts are the same
-abbrev pub on_new_cue : ShowState → List ℕ → List Part → Judged
+abbrev pub on_new_cue : ShowState → List ℕ → List Part → Judgement
 on_new_cue s c parts =
     option_map_or (λ old. if same_parts old parts then known else refused code.Duplicate) (parts_of s.show c)
     (if is_full s.show then refused code.Full else made (event.Cue c parts ∷ []))
 
-abbrev pub on_add_cue : ShowState → List ℕ → List Part → Judged
+abbrev pub on_add_cue : ShowState → List ℕ → List Part → Judgement
 on_add_cue s c parts = if not (are_known s.show parts) then refused code.UnknownDevice else on_new_cue s c parts
 
-abbrev pub on_goto : ShowState → List ℕ → Judged
+abbrev pub on_goto : ShowState → List ℕ → Judgement
 on_goto s c =
     first_line (
     (not (has_cue s.show c), refused code.NoMethod)
@@ -101,7 +102,7 @@ on_goto s c =
     ∷ [])
     (made (event.Place c ∷ []))
 
-abbrev pub on_remove_cue : ShowState → List ℕ → Judged
+abbrev pub on_remove_cue : ShowState → List ℕ → Judgement
 on_remove_cue s c =
     first_line (
     (not (has_cue s.show c), refused code.NoMethod)
@@ -116,21 +117,21 @@ abbrev pub prepares : ShowState → List ℕ → Bool
 prepares s c = option_map_or (λ a. is_preparing a.stage) (attempt_of_cue s.live c) false
 
 -- a cue of these parts is to be prepared
-abbrev pub on_standby_of : ShowState → ℕ → List ℕ → List Part → Judged
+abbrev pub on_standby_of : ShowState → ℕ → List ℕ → List Part → Judgement
 on_standby_of s now c parts =
     first_line (
     (prepares s c, known)
     ∷ (not (are_free (devices_in parts) s.live), refused code.Busy)
     ∷ (not (has_room s.live), refused code.Full)
-    ∷ (nat_le LAST_NUMBER s.last_seq, refused code.Exhausted)
+    ∷ (nat_le MAX_NUMBER s.last_seq, refused code.Exhausted)
     ∷ (not (is_moment (now + STANDBY_MS)), refused code.Clock)
     ∷ [])
     (made (event.Start (s.last_seq + 1) c (now + STANDBY_MS) ∷ []))
 
-abbrev pub on_standby : ShowState → ℕ → List ℕ → Judged
+abbrev pub on_standby : ShowState → ℕ → List ℕ → Judgement
 on_standby s now c = option_map_or (on_standby_of s now c) (parts_of s.show c) (refused code.NoMethod)
 
-abbrev pub on_go_of : Attempt → Judged
+abbrev pub on_go_of : Attempt → Judgement
 on_go_of a =
     first_line (
     (is_decided a.stage, known)
@@ -138,10 +139,12 @@ on_go_of a =
     ∷ [])
     (refused code.NotReady)
 
-abbrev pub on_go : ShowState → List ℕ → Judged
-on_go s c = if not (has_cue s.show c) then refused code.NoMethod else option_map_or on_go_of (attempt_of_cue s.live c) (refused code.NotLive)
+abbrev pub on_go : ShowState → List ℕ → Judgement
+on_go s c =
+    if not (has_cue s.show c) then refused code.NoMethod
+    else option_map_or on_go_of (attempt_of_cue s.live c) (refused code.NotLive)
 
-abbrev pub on_cancel_of : Attempt → Judged
+abbrev pub on_cancel_of : Attempt → Judgement
 on_cancel_of a =
     first_line (
     (is_decided a.stage, refused code.Decided)
@@ -149,17 +152,21 @@ on_cancel_of a =
     ∷ [])
     (made (event.Cancel a.seq Operator ∷ []))
 
-abbrev pub on_cancel : ShowState → List ℕ → Judged
-on_cancel s c = if not (has_cue s.show c) then refused code.NoMethod else option_map_or on_cancel_of (attempt_of_cue s.live c) (refused code.NotLive)
+abbrev pub on_cancel : ShowState → List ℕ → Judgement
+on_cancel s c =
+    if not (has_cue s.show c) then refused code.NoMethod
+    else option_map_or on_cancel_of (attempt_of_cue s.live c) (refused code.NotLive)
 
 -- the operator waits no longer for a device of a Preparing attempt: an optional one is excused, and for a required
 -- one the preparation is given up
-abbrev pub release_early : ℕ → DeviceAnswer → Judged
-release_early q x = if x.optional then made (event.Excuse q x.device ∷ []) else made (event.Cancel q Release ∷ event.LetGo q x.device ∷ [])
+abbrev pub release_early : ℕ → DeviceAnswer → Judgement
+release_early q x =
+    if x.optional then made (event.Excuse q x.device ∷ [])
+    else made (event.Cancel q Release ∷ event.LetGo q x.device ∷ [])
 
 -- the operator waits no longer for the device: the attempt, the device as it is recorded, the stage, and the answer
 -- of the record
-abbrev pub on_release_in : ℕ → DeviceAnswer → Stage → Answer → Judged
+abbrev pub on_release_in : ℕ → DeviceAnswer → Stage → Answer → Judgement
 on_release_in q x Preparing answer.Waiting = release_early q x
 on_release_in q x Preparing answer.Ready = release_early q x
 on_release_in q x Preparing answer.Done = release_early q x
@@ -180,15 +187,18 @@ on_release_in q x (Cancelling r) answer.Failed = known
 on_release_in q x (Cancelling r) answer.Excused = known
 
 -- a device of a live attempt is let go of
-abbrev pub on_release_of : ℕ → Attempt → Judged
-on_release_of d a = option_map_or (λ x. on_release_in a.seq x a.stage x.answer) (device_answer a.answers d) (refused code.NotLive)
+abbrev pub on_release_of : ℕ → Attempt → Judgement
+on_release_of d a =
+    option_map_or (λ x. on_release_in a.seq x a.stage x.answer) (device_answer a.answers d) (refused code.NotLive)
 
-abbrev pub on_release : ShowState → ℕ → Judged
-on_release s d = if not (has_device s.show d) then refused code.NoMethod else option_map_or (on_release_of d) (attempt_of_device s.live d) (refused code.NotLive)
+abbrev pub on_release : ShowState → ℕ → Judgement
+on_release s d =
+    if not (has_device s.show d) then refused code.NoMethod
+    else option_map_or (on_release_of d) (attempt_of_device s.live d) (refused code.NotLive)
 
 -- ---- the table of replies: the attempt, the device as it is recorded, the stage, and the answer of the record
 
-abbrev pub on_standing_by : ℕ → DeviceAnswer → Stage → Answer → Judged
+abbrev pub on_standing_by : ℕ → DeviceAnswer → Stage → Answer → Judgement
 on_standing_by q x Preparing answer.Waiting = made (event.Ready q x.device ∷ [])
 on_standing_by q x Preparing answer.Ready = known
 on_standing_by q x Preparing answer.Done = known
@@ -208,7 +218,7 @@ on_standing_by q x (Cancelling r) answer.LetGo = refused code.Stale
 on_standing_by q x (Cancelling r) answer.Failed = refused code.Stale
 on_standing_by q x (Cancelling r) answer.Excused = refused code.Stale
 
-abbrev pub on_complete : ℕ → DeviceAnswer → Stage → Answer → Judged
+abbrev pub on_complete : ℕ → DeviceAnswer → Stage → Answer → Judgement
 on_complete q x Preparing answer.Waiting = refused code.Early
 on_complete q x Preparing answer.Ready = refused code.Early
 on_complete q x Preparing answer.Done = refused code.Early
@@ -228,7 +238,7 @@ on_complete q x (Cancelling r) answer.LetGo = refused code.Stale
 on_complete q x (Cancelling r) answer.Failed = refused code.Stale
 on_complete q x (Cancelling r) answer.Excused = refused code.Stale
 
-abbrev pub on_cancelled : ℕ → DeviceAnswer → Stage → Answer → Judged
+abbrev pub on_cancelled : ℕ → DeviceAnswer → Stage → Answer → Judgement
 on_cancelled q x Preparing answer.Waiting = refused code.Early
 on_cancelled q x Preparing answer.Ready = refused code.Early
 on_cancelled q x Preparing answer.Done = refused code.Early
@@ -250,15 +260,17 @@ on_cancelled q x (Cancelling r) answer.Excused = refused code.Stale
 
 -- a device of a Preparing attempt cannot go on: an optional one is excused, and for a required one the preparation is
 -- given up
-abbrev pub abort_early : ℕ → DeviceAnswer → Judged
-abort_early q x = if x.optional then made (event.Excuse q x.device ∷ []) else made (event.Cancel q Abort ∷ event.Failed q x.device ∷ [])
+abbrev pub abort_early : ℕ → DeviceAnswer → Judgement
+abort_early q x =
+    if x.optional then made (event.Excuse q x.device ∷ [])
+    else made (event.Cancel q Abort ∷ event.Failed q x.device ∷ [])
 
 -- a device of a Cancelling attempt cannot go on: of an optional one nothing more is asked, and a required one has
 -- failed
-abbrev pub abort_late : ℕ → DeviceAnswer → Judged
+abbrev pub abort_late : ℕ → DeviceAnswer → Judgement
 abort_late q x = if x.optional then made (event.LetGo q x.device ∷ []) else made (event.Failed q x.device ∷ [])
 
-abbrev pub on_abort : ℕ → DeviceAnswer → Stage → Answer → Judged
+abbrev pub on_abort : ℕ → DeviceAnswer → Stage → Answer → Judgement
 on_abort q x Preparing answer.Waiting = abort_early q x
 on_abort q x Preparing answer.Ready = abort_early q x
 on_abort q x Preparing answer.Done = abort_early q x
@@ -278,21 +290,22 @@ on_abort q x (Cancelling r) answer.LetGo = refused code.Stale
 on_abort q x (Cancelling r) answer.Failed = known
 on_abort q x (Cancelling r) answer.Excused = refused code.Stale
 
-abbrev pub on_reply_in : ReplyKind → ℕ → DeviceAnswer → Stage → Answer → Judged
+abbrev pub on_reply_in : ReplyKind → ℕ → DeviceAnswer → Stage → Answer → Judgement
 on_reply_in reply.StandingBy = on_standing_by
 on_reply_in reply.Complete = on_complete
 on_reply_in reply.Cancelled = on_cancelled
 on_reply_in reply.Abort = on_abort
 
 -- a reply to a live attempt
-abbrev pub on_reply_to : ReplyKind → ℕ → Attempt → Judged
-on_reply_to kind d a = option_map_or (λ x. on_reply_in kind a.seq x a.stage x.answer) (device_answer a.answers d) (refused code.NotPart)
+abbrev pub on_reply_to : ReplyKind → ℕ → Attempt → Judgement
+on_reply_to kind d a =
+    option_map_or (λ x. on_reply_in kind a.seq x a.stage x.answer) (device_answer a.answers d) (refused code.NotPart)
 
 -- a reply that came from the port of another
 abbrev pub is_from_another : ShowState → ℕ → ℕ → Bool
 is_from_another s d from = option_map_or (λ port. not (nat_eq port from)) (port_of s.show d) true
 
-abbrev pub on_reply : ShowState → ℕ → ReplyKind → ℕ → ℕ → Judged
+abbrev pub on_reply : ShowState → ℕ → ReplyKind → ℕ → ℕ → Judgement
 on_reply s from kind d q =
     first_line (
     (not (has_device s.show d), refused code.NoMethod)
@@ -304,16 +317,16 @@ on_reply s from kind d q =
 -- ---- all commands
 
 -- what becomes of the command in the state, at the moment now, from a port
-abbrev pub judged : ShowState → ℕ → ℕ → Command → Judged
-judged s now from command.Status = known
-judged s now from (command.AddDevice d port) = on_add_device s d port
-judged s now from (command.AddCue c parts) = on_add_cue s c parts
-judged s now from (command.Standby c) = on_standby s now c
-judged s now from (command.Go c) = on_go s c
-judged s now from (command.Cancel c) = on_cancel s c
-judged s now from (command.Goto c) = on_goto s c
-judged s now from (command.RemoveCue c) = on_remove_cue s c
-judged s now from (command.Reply kind d q) = on_reply s from kind d q
-judged s now from (command.Release d) = on_release s d
-judged s now from (command.RemoveDevice d) = on_remove_device s d
-judged s now from (command.Bad c) = refused c
+abbrev pub judgement_of : ShowState → ℕ → ℕ → Command → Judgement
+judgement_of s now from command.Status = known
+judgement_of s now from (command.AddDevice d port) = on_add_device s d port
+judgement_of s now from (command.AddCue c parts) = on_add_cue s c parts
+judgement_of s now from (command.Standby c) = on_standby s now c
+judgement_of s now from (command.Go c) = on_go s c
+judgement_of s now from (command.Cancel c) = on_cancel s c
+judgement_of s now from (command.Goto c) = on_goto s c
+judgement_of s now from (command.RemoveCue c) = on_remove_cue s c
+judgement_of s now from (command.Reply kind d q) = on_reply s from kind d q
+judgement_of s now from (command.Release d) = on_release s d
+judgement_of s now from (command.RemoveDevice d) = on_remove_device s d
+judgement_of s now from (command.Bad c) = refused c

@@ -31,7 +31,10 @@ order_at (Cancelling r) q d cue bytes = cancel q d
 abbrev pub order_for : ShowState → Attempt → DeviceAnswer → Option (ℕ × Order)
 order_for s a x =
     if waits x
-    then Some (unwrap_or (port_of s.show x.device) 0, order_at a.stage a.seq x.device a.cue (bytes_for x.device (cue_parts s.show a.cue)))
+    then Some (
+      unwrap_or (port_of s.show x.device) 0,
+      order_at a.stage a.seq x.device a.cue (bytes_for x.device (cue_parts s.show a.cue)),
+    )
     else None
 
 -- for each live attempt by rising number, for each device that is still to answer, in part order

@@ -5,7 +5,7 @@ use Rattle.cue_core.specs.declared.command.ReplyKind.{ReplyKind}
 use Rattle.cue_core.specs.declared.command.Verdict.{Verdict}
 use Rattle.cue_core.specs.declared.command.Verdict.TheVariants.{Made, Known, No}
 use Rattle.cue_core.specs.State.{ShowState, is_state}
-use Rattle.cue_core.specs.Steps.{folded}
+use Rattle.cue_core.specs.Steps.{after_events}
 use Rattle.cue_core.specs.Judge.{on_reply}
 
 -- the command was carried out
@@ -27,13 +27,14 @@ is_reply_made s r = is_made (on_reply s r.from r.kind r.device r.number).0
 
 -- the state after the reply was judged and its events were applied
 abbrev pub after_reply : ShowState → Said → ShowState
-after_reply s r = folded s (on_reply s r.from r.kind r.device r.number).1
+after_reply s r = after_events s (on_reply s r.from r.kind r.device r.number).1
 
 -- Two replies to one attempt by different devices, each carried out in the same state, give the same state in either
 -- order.
 abbrev pub RepliesCommute : Type 0
 RepliesCommute =
-    (s : ShowState) (r t : Said) → IsTrue (is_state s) → r.number ≡ t.number → r.device ≢ t.device → IsTrue (is_reply_made s r) → IsTrue (is_reply_made s t)
+    (s : ShowState) (r t : Said) → IsTrue (is_state s) → r.number ≡ t.number → r.device ≢ t.device
+    → IsTrue (is_reply_made s r) → IsTrue (is_reply_made s t)
     → after_reply (after_reply s r) t ≡ after_reply (after_reply s t) r
 
 -- what a reply to q leaves as it was: the show with its place, the last number, and every other attempt

@@ -8,7 +8,7 @@ use Rattle.cue_show.specs.declared.part.Part.{Part}
 use Rattle.cue_show.specs.Show.{ShowLists, empty_show, parts_of, is_show}
 use Rattle.cue_exchange.specs.declared.attempt.Attempt.{Attempt}
 use Rattle.cue_exchange.specs.declared.attempt.DeviceAnswer.{DeviceAnswer}
-use Rattle.cue_exchange.specs.declared.limits.TheConstants.{LAST_NUMBER}
+use Rattle.cue_exchange.specs.declared.limits.TheConstants.{MAX_NUMBER}
 use Rattle.cue_exchange.specs.Live.{attempt_of, are_live, is_number}
 use Rattle.cue_core.specs.declared.event.Ended.{Ended}
 
@@ -59,7 +59,7 @@ abbrev pub are_tied : ShowState → Bool
 are_tied s =
     list_all (is_at_cue s.show) s.live
     && (list_all (λ a. nat_le a.seq s.last_seq) s.live
-    && (nat_le s.last_seq LAST_NUMBER && is_ended s.live s.last_seq s.ended))
+    && (nat_le s.last_seq MAX_NUMBER && is_ended s.live s.last_seq s.ended))
 
 -- the rules of a state: those of its show, those of its live attempts, and those that tie them
 abbrev pub is_state : ShowState → Bool

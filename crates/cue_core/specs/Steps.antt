@@ -38,8 +38,14 @@ ended_as q None old = old
 ended_as q (Some o) old = Some (record { seq = q; outcome = o })
 
 -- a device of q has answered for the last time: q ends where it was the last
-abbrev pub settled : ShowState → ℕ → List Attempt → ShowState
-settled s q live = record { show = s.show; live = without_ended q live; last_seq = s.last_seq; ended = ended_as q (ended_in q live) s.ended }
+abbrev pub after_last_answer : ShowState → ℕ → List Attempt → ShowState
+after_last_answer s q live =
+    record {
+      show = s.show;
+      live = without_ended q live;
+      last_seq = s.last_seq;
+      ended = ended_as q (ended_in q live) s.ended;
+    }
 
 -- the cue that follows that of q, or none
 abbrev pub place_after : ShowLists → List Attempt → ℕ → Option (List ℕ)
@@ -52,13 +58,20 @@ after s (NoDevice d) = with_show s (without_device s.show d)
 after s (Cue c parts) = with_show s (with_cue s.show c parts)
 after s (NoCue c) = with_show s (without_cue s.show c)
 after s (Place c) = with_show s (with_place s.show (Some c))
-after s (Start q c t) = record { show = s.show; live = started q c t (cue_parts s.show c) s.live; last_seq = q; ended = s.ended }
+after s (Start q c t) =
+    record { show = s.show; live = started q c t (cue_parts s.show c) s.live; last_seq = q; ended = s.ended }
 after s (Ready q d) = with_live s (answered q d answer.Ready s.live)
-after s (Go q) = record { show = with_place s.show (place_after s.show s.live q); live = moved q Decided s.live; last_seq = s.last_seq; ended = s.ended }
-after s (Done q d) = settled s q (answered q d answer.Done s.live)
+after s (Go q) =
+    record {
+      show = with_place s.show (place_after s.show s.live q);
+      live = moved q Decided s.live;
+      last_seq = s.last_seq;
+      ended = s.ended;
+    }
+after s (Done q d) = after_last_answer s q (answered q d answer.Done s.live)
 after s (Cancel q r) = with_live s (moved q (Cancelling r) s.live)
-after s (LetGo q d) = settled s q (answered q d answer.LetGo s.live)
-after s (Failed q d) = settled s q (answered q d answer.Failed s.live)
+after s (LetGo q d) = after_last_answer s q (answered q d answer.LetGo s.live)
+after s (Failed q d) = after_last_answer s q (answered q d answer.Failed s.live)
 after s (Excuse q d) = with_live s (answered q d answer.Excused s.live)
 
 -- each event is acceptable, in turn
@@ -67,10 +80,10 @@ are_acceptable s [] = true
 are_acceptable s (e ∷ es) = acceptable s e && are_acceptable (after s e) es
 
 -- the state after the events, in turn
-abbrev pub folded : ShowState → List Event → ShowState
-folded s [] = s
-folded s (e ∷ es) = folded (after s e) es
+abbrev pub after_events : ShowState → List Event → ShowState
+after_events s [] = s
+after_events s (e ∷ es) = after_events (after s e) es
 
 -- the new state is the old one after some of the events, from the first on
 abbrev pub AppliesFirst : ShowState → List Event → ShowState → Type 0
-AppliesFirst old events new = (n : ℕ) × (new ≡ folded old (take n events))
+AppliesFirst old events new = (n : ℕ) × (new ≡ after_events old (take n events))

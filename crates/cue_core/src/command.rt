@@ -1,5 +1,5 @@
 //! What operators and devices can ask for, and what they are answered.
-use cue_exchange::limits::LAST_NUMBER;
+use cue_exchange::limits::MAX_NUMBER;
 use cue_show::{CueNo, DeviceNo, Parts};
 
 /// What a device says in a reply.
@@ -145,14 +145,16 @@ impl Command {
     {
         match self {
             Command::AddDevice(device, port) => {
+                // Called for its clause that the number is in range.
                 let _number = device.number();
                 *port >= 1
             }
             Command::AddCue(cue, parts) => {
+                // Called for its clause that the text is a cue number.
                 let _text = cue.text();
                 parts.is_fit()
             }
-            Command::Reply(_, _, seq) => *seq >= 1 && *seq <= LAST_NUMBER,
+            Command::Reply(_, _, seq) => *seq >= 1 && *seq <= MAX_NUMBER,
             Command::Status
             | Command::Standby(_)
             | Command::Go(_)

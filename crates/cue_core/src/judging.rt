@@ -1,6 +1,6 @@
 //! What becomes of a command: the first line of its table that holds decides.
 ghost use Rattle.std.specs.Prelude.{◌≡◌, ◌≢◌, ◌↔◌, ◌≤◌, [], IsTrue, IfOk, length};
-ghost use Rattle.cue_core.specs.Judge.{is_fit, judged};
+ghost use Rattle.cue_core.specs.Judge.{is_fit, judgement_of};
 ghost use Rattle.cue_core.specs.Steps.{are_acceptable};
 
 mod attempts;
@@ -27,25 +27,26 @@ pub fn judge(
     command: &Command,
 ) -> Result<(Verdict, Events), AllocError>
     requires { IsTrue (is_fit command.now) }
-    ensures table { IfOk result (λ r. r ≡ judged state.now now from command.now) }
+    ensures table { IfOk result (λ r. r ≡ judgement_of state.now now from command.now) }
     ensures acceptable { IfOk result (λ r. IsTrue (are_acceptable state.now r.1)) }
     ensures few { IfOk result (λ r. length r.1 ≤ 2) }
 
     // What is made has an event, and what is known or refused has none.
     ensures made { IfOk result (λ r. (r.0 ≡ Verdict.Made) ↔ (r.1 ≢ [])) }
 {
+    // Called for its clause that the state keeps its rules.
     let _last = state.last_seq();
-    judged(alloc, state, now, from, command)
+    judgement_of(alloc, state, now, from, command)
 }
 
-fn judged(
+fn judgement_of(
     alloc: Global,
     state: &State,
     now: u64,
     from: u16,
     command: &Command,
 ) -> Result<(Verdict, Events), AllocError>
-    ensures { IfOk result (λ r. r ≡ judged state.now now from command.now) }
+    ensures { IfOk result (λ r. r ≡ judgement_of state.now now from command.now) }
 {
     Ok(match command {
         Command::Status => known(),

@@ -7,7 +7,7 @@ ghost use Rattle.cue_core.specs.State.{empty_state, is_state, are_tied, are_of_p
 mod apply;
 
 use crate::event::Ended;
-use cue_exchange::limits::LAST_NUMBER;
+use cue_exchange::limits::MAX_NUMBER;
 use cue_exchange::{Attempt, DeviceAnswer, Live};
 use cue_show::{Part, Show};
 use std::alloc::{AllocError, Global};
@@ -48,10 +48,14 @@ impl State {
 
     /// The state of these parts, where they keep the rules of a state together. For who reads a stored state.
     pub fn of(show: Show, live: Live, last_seq: u32, ended: Option<Ended>) -> Option<State>
-        ensures found { IfSome result (λ s. s ≡ record { show = show; live = live; last_seq = last_seq; ended = ended }) }
-        ensures exact { IsSome result ↔ IsTrue (is_state (record { show = show; live = live; last_seq = last_seq; ended = ended })) }
+        ensures found { IfSome result (λ s. s
+            ≡ record { show = show; live = live; last_seq = last_seq; ended = ended }) }
+        ensures exact { IsSome result
+            ↔ IsTrue (is_state (record { show = show; live = live; last_seq = last_seq; ended = ended })) }
     {
+        // Called for its clause that the show keeps its rules.
         let _place = show.place();
+        // Called for its clause that the live attempts keep theirs.
         let _len = live.len();
         if are_tied(&show, &live, last_seq, ended) {
             Some(State {
@@ -132,7 +136,7 @@ fn are_tied(show: &Show, live: &Live, last_seq: u32, ended: Option<Ended>) -> bo
 {
     are_at_cues(show, live)
         && are_within(live, last_seq)
-        && last_seq <= LAST_NUMBER
+        && last_seq <= MAX_NUMBER
         && has_ended(live, last_seq, ended)
 }
 
@@ -188,7 +192,7 @@ fn has_ended(live: &Live, last_seq: u32, ended: Option<Ended>) -> bool
     match ended {
         None => true,
         Some(e) => 1 <= e.seq
-            && e.seq <= LAST_NUMBER
+            && e.seq <= MAX_NUMBER
             && e.seq <= last_seq
             && live.of_seq(e.seq).is_none(),
     }

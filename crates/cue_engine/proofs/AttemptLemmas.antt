@@ -7,22 +7,22 @@ use Rattle.cue_core.specs.declared.event.Event.{Event}
 use Rattle.cue_core.specs.declared.event.Event.TheVariants as event
 use Rattle.cue_core.specs.Events.{is_start_of, is_ready_of, is_go_of, is_cancel_of, is_excuse_of, is_about}
 use Rattle.cue_core.specs.State.{ShowState}
-use Rattle.cue_core.specs.Steps.{acceptable, folded}
+use Rattle.cue_core.specs.Steps.{acceptable, after_events}
 use Rattle.cue_core.specs.History.{state_of, is_history, parts_by}
 use Rattle.cue_core.specs.InOrder.{may_go_by, keeps_order, is_in_order}
 use Rattle.cue_core.specs.Happenings.{onto}
 use Rattle.cue_core.specs.Pending.{Order, pending}
 use Rattle.cue_core.specs.Safety.{is_go_to, is_cancel_to, ever}
-use Rattle.cue_core.proofs.Conditions.{both, join}
-use Rattle.cue_core.proofs.Sound.{kept-history}
-use Rattle.cue_core.proofs.Safety.{never-asked-both}
+use Rattle.cue_core.proofs.lists.ConditionLemmas.{both, join}
+use Rattle.cue_core.proofs.rules.SoundLemmas.{kept-history}
+use Rattle.cue_core.proofs.history.SafetyLemmas.{never-asked-both}
 use Rattle.cue_outbox.specs.Sending.{Send, order, all_pending}
 use Rattle.cue_engine.specs.Given.{Given}
 use Rattle.cue_engine.specs.Runs.{Happening, run, joined, given_at, with_batch}
 use Rattle.cue_engine.specs.Attempts.{accepted, may_go_after, IsDecidedInOrder, DecidedInOrder, NumberNamesOne, is_command, was_sent, NeverSentBoth}
-use Rattle.cue_core.proofs.Truth.{or_left, or_right, either, itself, same, any-append, any-mapped, all_implied}
+use Rattle.cue_core.proofs.lists.AnyLemmas.{or_left, or_right, either, itself, same, any-append, any-mapped, all_implied}
 use Rattle.cue_engine.proofs.Histories.{inputs_make_histories, inputs_in_order}
-use Rattle.cue_core.proofs.Batches.{state-onto, onto-append}
+use Rattle.cue_core.proofs.rules.BatchLemmas.{state-onto, onto-append}
 use Rattle.cue_engine.proofs.Resting.{joined-with}
 use Rattle.cue_engine.proofs.SentLemmas.{Each, HoldsElsewhere, happening-each}
 
@@ -233,16 +233,16 @@ pending_asks : (test : Order → Bool) (s : ShowState) → list_any (λ (m : ℕ
 pending_asks test s h = any-mapped (λ (o : ℕ × Order). (o.0, order o.1)) (λ (m : ℕ × Send). is_command test m.1) (λ (o : ℕ × Order). test o.1) (λ o k. k) (pending s) h
 
 -- what is sent for an input is pending after its batch
-pub sent_asks : (test : Order → Bool) (s : ShowState) (x : Happening) → list_any (λ (m : ℕ × Send). is_command test m.1) (given_at s x).sends ≡ true → asks test (folded s (given_at s x).batch) ≡ true
+pub sent_asks : (test : Order → Bool) (s : ShowState) (x : Happening) → list_any (λ (m : ℕ × Send). is_command test m.1) (given_at s x).sends ≡ true → asks test (after_events s (given_at s x).batch) ≡ true
 sent_asks test s x h =
-    let t : ShowState = folded s (given_at s x).batch in
+    let t : ShowState = after_events s (given_at s x).batch in
     any_says test (asks test t) (given_at s x).sends (happening-each (Says test (asks test t)) (says_elsewhere test (asks test t)) s x (each_is_there test (asks test t) (all_pending t) (pending_asks test t))) h
 
 asked_before : (test : Order → Bool) (past : List Event) (hs : List Happening) → list_any (λ (m : ℕ × Send). is_command test m.1) (run (state_of past) hs).sends ≡ true → ever (asks test) (onto (joined (run (state_of past) hs).batches) past) ≡ true
 asked_before test past [] h = absurd (true≢false (sym h))
 asked_before test past (x ∷ hs) h =
     let g : Given = given_at (state_of past) x in
-    let next : ShowState = folded (state_of past) g.batch in
+    let next : ShowState = after_events (state_of past) g.batch in
     let p : ℕ × Send → Bool = λ m. is_command test m.1 in
     let P : ShowState → Type 0 = λ s. list_any p (run s hs).sends ≡ true → ever (asks test) (onto (joined (run s hs).batches) (onto g.batch past)) ≡ true in
     let rest : P next = subst P (state-onto past g.batch) (asked_before test (onto g.batch past) hs) in

@@ -14,7 +14,7 @@ use Rattle.cue_osc.proofs.Starts.{message_start}
 use Rattle.cue_core.specs.declared.event.Event.{Event}
 use Rattle.cue_core.specs.Events.{is_go_of, is_start_of}
 use Rattle.cue_core.specs.State.{ShowState, is_state}
-use Rattle.cue_core.specs.Steps.{folded}
+use Rattle.cue_core.specs.Steps.{after_events}
 use Rattle.cue_core.specs.Pending.{Order, standby, go_2pc, cancel, pending}
 use Rattle.cue_outbox.specs.Sending.{Send, answer, status, order, number, order_content, send_content, datagram, datagrams, all_pending}
 use Rattle.cue_outbox.proofs.Lists.{each_append, each_map, each_passes}
@@ -23,9 +23,9 @@ use Rattle.cue_outbox.proofs.Writable.{all_writable}
 use Rattle.cue_engine.specs.Runs.{Happening, run, joined, given_at, order_rests, send_rests, rests}
 use Rattle.cue_core.specs.Batches.{is_live_in, is_decided_in}
 use Rattle.cue_engine.specs.InBytes.{AreReadAs, BytesRest, BytesOfEachRest}
-use Rattle.cue_core.proofs.Truth.{itself}
+use Rattle.cue_core.proofs.lists.AnyLemmas.{itself}
 use Rattle.cue_engine.proofs.Histories.{happening-ok}
-use Rattle.cue_core.proofs.Batches.{is_state-folded}
+use Rattle.cue_core.proofs.rules.BatchLemmas.{is_state-after_events}
 use Rattle.cue_engine.proofs.Resting.{each_rests}
 use Rattle.cue_engine.proofs.SentLemmas.{Each, HoldsElsewhere, happening-each}
 
@@ -162,13 +162,13 @@ pub pending_readable : (s : ShowState) → IsTrue (is_state s) → Each IsReadab
 pending_readable s h = each_map (λ (m : ℕ × Send). IsReadable m.1) (λ (o : ℕ × Order). (o.0, order o.1)) (pending s) (all_writable s h)
 
 pub given_readable : (s : ShowState) (x : Happening) → IsTrue (is_state s) → Each IsReadable (given_at s x).sends
-given_readable s x h = happening-each IsReadable readable_elsewhere s x (pending_readable (folded s (given_at s x).batch) (is_state-folded s (given_at s x).batch h (happening-ok s x h)))
+given_readable s x h = happening-each IsReadable readable_elsewhere s x (pending_readable (after_events s (given_at s x).batch) (is_state-after_events s (given_at s x).batch h (happening-ok s x h)))
 
 run_readable : (s : ShowState) (hs : List Happening) → IsTrue (is_state s) → Each IsReadable (run s hs).sends
 run_readable s [] h = tt
 run_readable s (x ∷ hs) h =
-    let next : ShowState = folded s (given_at s x).batch in
-    each_append (λ (m : ℕ × Send). IsReadable m.1) (given_at s x).sends (run next hs).sends (given_readable s x h) (run_readable next hs (is_state-folded s (given_at s x).batch h (happening-ok s x h)))
+    let next : ShowState = after_events s (given_at s x).batch in
+    each_append (λ (m : ℕ × Send). IsReadable m.1) (given_at s x).sends (run next hs).sends (given_readable s x h) (run_readable next hs (is_state-after_events s (given_at s x).batch h (happening-ok s x h)))
 
 says : (s : ShowState) (es : List Event) (m : Send) → IsReadable m → send_rests s es m ≡ true → BytesRest s es (text_of (send_content m))
 says s es (answer a m k r c) w h = answer_rests s es a m k r c

@@ -3,13 +3,12 @@ use Rattle.std.proofs.Common.{◌≡◌, inl, ℕ, List, [], ◌∷◌, ◌++◌
 use Rattle.std.specs.Prelude.{IfOk, OnOk, OnErr}
 use Rattle.std.proofs.lemmas.List.{map-append}
 use Rattle.cue_disk.specs.Disk.{Contents, IsImage, LeavesAtEachMoment}
-use Rattle.cue_snap.specs.Pair.{AfterBarrier}
+use Rattle.cue_snap.specs.Pair.{AfterBarrier, IsUnformedOr}
 use Rattle.cue_snap.specs.Observed.{first_after, second_after}
 use Rattle.cue_core.specs.State.{ShowState, empty_state}
-use Rattle.cue_core.specs.Steps.{folded}
+use Rattle.cue_core.specs.Steps.{after_events}
 use Rattle.cue_keeper.specs.Pairs.{LeavesPairsAtEachMoment}
-use Rattle.cue_keeper.specs.Stands.{Stands, StandsEither, StandsAs}
-use Rattle.cue_keeper.specs.Refusals.{IsUnformedOrStands}
+use Rattle.cue_keeper.specs.Stands.{Stands, StandsEither, StandsAs, first_area}
 use Rattle.cue_outbox.specs.Sending.{Send, all_pending, datagram, datagrams}
 use Rattle.cue_engine.specs.Given.{Input, given}
 use Rattle.cue_engine.specs.Recovery.{ClosedFrom, IsLeftOrStands, RefusedBut}
@@ -39,7 +38,7 @@ life_more s store is i now life same ok =
 -- ---- take
 
 pub lives_taken : {T E : Type 0} (s : ShowState) (store : Store) (is : List Incident) (now : ℕ) (input : Input) (old new : ShowState) (old_queue new_queue : List (ℕ × List ℕ)) (r : Result T E)
-    → OnOk r (new ≡ folded old (given old now input).batch) → OnOk r (new_queue ≡ old_queue ++ datagrams (given old now input).sends)
+    → OnOk r (new ≡ after_events old (given old now input).batch) → OnOk r (new_queue ≡ old_queue ++ datagrams (given old now input).sends)
     → RunsWith s store is old old_queue → OnOk r (RunsWith s store (is ++ taken now input ∷ []) new new_queue)
 lives_taken s store is now input old new old_queue new_queue (Ok t) state queue runs =
     let owed : List (ℕ × Send) = runs.owed ++ (given old now input).sends in
@@ -53,15 +52,20 @@ lives_taken s store is now input old new old_queue new_queue (Ok t) state queue 
 lives_taken s store is now input old new old_queue new_queue (Err e) state queue runs = tt
 
 pub lives_still : {T E : Type 0} (s : ShowState) (store : Store) (is : List Incident) (old new : ShowState) (old_queue new_queue : List (ℕ × List ℕ)) (r : Result T E)
-    → OnErr r (new ≡ old) → OnErr r (new_queue ≡ old_queue)
+    → OnErr r ((new ≡ old) × (new_queue ≡ old_queue))
     → RunsWith s store is old old_queue → OnErr r (RunsWith s store is new new_queue)
-lives_still s store is old new old_queue new_queue (Ok t) state queue runs = tt
-lives_still s store is old new old_queue new_queue (Err e) state queue runs =
+lives_still s store is old new old_queue new_queue (Ok t) same runs = tt
+lives_still s store is old new old_queue new_queue (Err e) same runs =
     let P : ShowState → Type 0 = λ u. left_by_all store is ≡ running u runs.owed in
-    record { life = runs.life; owed = runs.owed; runs = subst P (sym state) runs.runs; owes = queue ∙ runs.owes }
+    record { life = runs.life; owed = runs.owed; runs = subst P (sym same.0) runs.runs; owes = same.1 ∙ runs.owes }
+
+-- what the answer has, holds where it is Ok
+pub from_answer : {T E : Type 0} {P : T → Type 0} {Q : Type 0} (r : Result T E) → IfOk r P → ((t : T) → P t → Q) → OnOk r Q
+from_answer (Ok t) h f = f t h
+from_answer (Err e) h f = tt
 
 pub promised_in_take : {D : Type 0} (moment : D → ℕ) (held_at : D → ℕ → Contents) (a b new_a new_b : D) (s : ShowState) (store : Store) (is : List Incident) (now : ℕ) (input : Input) (old : ShowState) (old_queue : List (ℕ × List ℕ))
-    → LeavesPairsAtEachMoment moment held_at a b new_a new_b (StandsEither old (folded old (given old now input).batch))
+    → LeavesPairsAtEachMoment moment held_at a b new_a new_b (StandsEither old (after_events old (given old now input).batch))
     → RunsWith s store is old old_queue → IsPromisedAtEachMoment moment held_at a b new_a new_b s store is now input
 promised_in_take moment held_at a b new_a new_b s store is now input old old_queue leaves runs = λ n i j x y at_i at_j left_x left_y.
     let one : Contents = held_at new_a i in
@@ -128,7 +132,7 @@ pub rests_stand : (s : ShowState) (store : Store) (is : List Incident) (one othe
 rests_stand s store is one other reads_one reads_other at =
     let P : Store → Type 0 = λ u. MayRead u one.bytes other.bytes in
     let came = whatever_happens s store is one.bytes other.bytes at.life.rules at.life.begins at.life.happens (subst P (sym at.rests) (reads_one, reads_other)) in
-    let last : ShowState = folded s (joined came.kept) in
+    let last : ShowState = after_events s (joined came.kept) in
     let Q : Store → Type 0 = λ u. HasState u one.bytes other.bytes last in
     (last, subst Q at.rests came.has)
 
@@ -156,7 +160,7 @@ rests_more s store is i now one other life same ok leaves = record {
 }
 
 pub rests_in_take : {D : Type 0} (moment : D → ℕ) (held_at : D → ℕ → Contents) (a b new_a new_b : D) (s : ShowState) (store : Store) (is : List Incident) (now : ℕ) (input : Input) (old : ShowState) (old_queue : List (ℕ × List ℕ))
-    → LeavesPairsAtEachMoment moment held_at a b new_a new_b (StandsEither old (folded old (given old now input).batch))
+    → LeavesPairsAtEachMoment moment held_at a b new_a new_b (StandsEither old (after_events old (given old now input).batch))
     → RunsWith s store is old old_queue → RestsAtEachMoment moment held_at a b new_a new_b s store is now input
 rests_in_take moment held_at a b new_a new_b s store is now input old old_queue leaves runs = λ n i j one other at_i at_j in_one in_other.
     let ok : Permits (running old runs.owed) (stopped_in_take now input n one other) = stop_in_take moment held_at old runs.owed now input n a b new_a new_b i j one other leaves at_i at_j in_one in_other in
@@ -201,9 +205,9 @@ lives_formed state_in queue_in s store is one other (Ok made) state queue at =
 
 pub rests_in_form : {D : Type 0} (moment : D → ℕ) (held : D → Contents) (held_at : D → ℕ → Contents) (is_honest : D → Type 0) → ((disk : D) → is_honest disk → held_at disk (moment disk) ≡ held disk)
     → (a b new_a new_b : D) (s : ShowState) (store : Store) (is : List Incident) → is_honest a → is_honest b
-    → AfterBarrier moment held_at a b new_a new_b (IsUnformedOrStands empty_state (held a) (held b))
+    → AfterBarrier moment held_at a b new_a new_b (IsUnformedOr first_area (held a) (held b))
     → RestsUnformed s store is (held a) (held b)
-    → LeavesAtEachStop moment held_at a b new_a new_b (IsUnformedOrStands empty_state (held a) (held b)) (λ one other. RestsUnformed s store (is ++ stopped_in_form one other ∷ []) one other)
+    → LeavesAtEachStop moment held_at a b new_a new_b (IsUnformedOr first_area (held a) (held b)) (λ one other. RestsUnformed s store (is ++ stopped_in_form one other ∷ []) one other)
 rests_in_form moment held held_at is_honest held_now a b new_a new_b s store is honest_a honest_b barrier at = record {
   barrier = barrier;
   each = λ i j one other stops in_one in_other.

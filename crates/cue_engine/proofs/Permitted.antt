@@ -4,9 +4,9 @@ use Rattle.std.proofs.lemmas.Bool.{lt-leb}
 use Rattle.cue_disk.specs.Disk.{Contents, IsImage, IsStable}
 use Rattle.cue_disk.specs.Effect.{settled}
 use Rattle.cue_disk.proofs.Crash.{image_stable}
-use Rattle.cue_snap.specs.Pair.{AfterBarrier}
+use Rattle.cue_snap.specs.Pair.{AfterBarrier, IsUnformedOr}
 use Rattle.cue_core.specs.State.{empty_state}
-use Rattle.cue_keeper.specs.Refusals.{IsUnformedOrStands}
+use Rattle.cue_keeper.specs.Stands.{first_area}
 use Rattle.cue_engine.specs.Recovery.{IsLeftOrStands}
 use Rattle.cue_engine.specs.Incidents.{Incident, recovered, stopped_in_recovery, refused, Store, LeavesOnly, RecoversAs, PermitsAtRest, PermitsUnformed, Permits}
 use Rattle.cue_engine.specs.Permitted.{IsWithin, IsStop, IsOnDisks, PowerLossIsWithin, StopIsPermitted, StopInTakeIsPermitted, StopInRecoveryIsPermitted, StopInFormIsPermitted, RecoveryIsPermitted, RefusalIsPermitted}
@@ -55,7 +55,7 @@ pub stop_in_form : {D : Type 0} (moment : D → ℕ) (held : D → Contents) (he
     → StopInFormIsPermitted moment held held_at is_honest
 stop_in_form moment held held_at is_honest held_now a b new_a new_b i j one other honest_a honest_b barrier stops in_one in_other =
     λ x y left_x left_y.
-    at_stop moment held_at a b new_a new_b (IsUnformedOrStands empty_state (held a) (held b)) (held a) (held b) (held_now a honest_a) (held_now b honest_b) (λ u v left_u left_v. inl (left_u, left_v)) barrier i j stops x y (in_one x left_x) (in_other y left_y)
+    at_stop moment held_at a b new_a new_b (IsUnformedOr first_area (held a) (held b)) (held a) (held b) (held_now a honest_a) (held_now b honest_b) (λ u v left_u left_v. inl (left_u, left_v)) barrier i j stops x y (in_one x left_x) (in_other y left_y)
 
 -- ---- recovery that came to its end
 

@@ -4,8 +4,8 @@ use Rattle.std.specs.List.{list_all}
 use Rattle.cue_snap.specs.Pair.{NeitherHas}
 use Rattle.cue_core.specs.declared.event.Event.{Event}
 use Rattle.cue_core.specs.State.{ShowState, empty_state, is_state}
-use Rattle.cue_core.specs.Steps.{folded}
-use Rattle.cue_core.proofs.Folding.{folded-append}
+use Rattle.cue_core.specs.Steps.{after_events}
+use Rattle.cue_core.proofs.rules.ApplyLemmas.{after_events-append}
 use Rattle.cue_keeper.specs.Stands.{Stands}
 use Rattle.cue_keeper.proofs.Standing.{one_state}
 use Rattle.cue_keeper.proofs.Refused.{is_opened}
@@ -14,7 +14,7 @@ use Rattle.cue_core.specs.Batches.{closed}
 use Rattle.cue_engine.specs.Runs.{with_batch, joined, rests}
 use Rattle.cue_engine.specs.Incidents.{Incident, Store, running, at_rest, unformed, left_by, Happens, left_by_all}
 use Rattle.cue_engine.specs.Headline.{handed_in, all_handed, batch_of, is_cut_off, AreKept, BeginsWith, MayRead, HasState, CameTo, IsAnswered, WhateverHappens, RecoveryGivesAPrefix}
-use Rattle.cue_core.proofs.Truth.{all-append}
+use Rattle.cue_core.proofs.lists.AnyLemmas.{all-append}
 use Rattle.cue_engine.proofs.Resting.{all_pending_rest, joined-with}
 use Rattle.cue_engine.proofs.SentLemmas.{Each}
 use Rattle.cue_engine.proofs.BytesLemmas.{IsReadable, pending_readable, all_say}
@@ -25,24 +25,24 @@ use Rattle.cue_engine.proofs.Incidents.{HasOn, IsOn, Goes, MayOn, all_more, hand
 
 record Found (s : ShowState) (es : List Event) (store : Store) (is : List Incident) (x y : List ℕ) : Type 0 where
   kept : List (List Event)
-  prefix : AreKept (folded s es) is kept
-  has : HasOn (left_by_all store is) x y (folded s (es ++ joined kept))
+  prefix : AreKept (after_events s es) is kept
+  has : HasOn (left_by_all store is) x y (after_events s (es ++ joined kept))
   decided : list_all (rests s (es ++ joined kept)) (all_handed store is) ≡ true
   readable : Each IsReadable (all_handed store is)
 
 found_none : (s : ShowState) (es : List Event) (store : Store) (x y : List ℕ) → IsOn s es store x y → Found s es store [] x y
 found_none s es store x y on = record { kept = []; prefix = refl; has = (as_before s es store x y on).has; decided = refl; readable = tt }
 
-found_whole : (s : ShowState) (es : List Event) (store : Store) (i : Incident) (is : List Incident) (x y first second : List ℕ) → IsOn s es store first second → Found s (es ++ batch_of (folded s es) i) (left_by store i) is x y → Found s es store (i ∷ is) x y
+found_whole : (s : ShowState) (es : List Event) (store : Store) (i : Incident) (is : List Incident) (x y first second : List ℕ) → IsOn s es store first second → Found s (es ++ batch_of (after_events s es) i) (left_by store i) is x y → Found s es store (i ∷ is) x y
 found_whole s es store i is x y first second on f =
-    let batch : List Event = batch_of (folded s es) i in
+    let batch : List Event = batch_of (after_events s es) i in
     let P : ShowState → Type 0 = λ u. AreKept u is f.kept in
     let same : (es ++ batch) ++ joined f.kept ≡ es ++ joined (with_batch batch f.kept) = append_assoc es batch (joined f.kept) ∙ ap (λ (xs : List Event). es ++ xs) (sym (joined-with batch f.kept)) in
-    let Q : List Event → Type 0 = λ xs. HasOn (left_by_all (left_by store i) is) x y (folded s xs) in
+    let Q : List Event → Type 0 = λ xs. HasOn (left_by_all (left_by store i) is) x y (after_events s xs) in
     let R : List Event → Type 0 = λ xs. list_all (rests s xs) (all_handed (left_by store i) is) ≡ true in
     record {
       kept = with_batch batch f.kept;
-      prefix = inl (f.kept, (refl, subst P (folded-append s es batch) f.prefix));
+      prefix = inl (f.kept, (refl, subst P (after_events-append s es batch) f.prefix));
       has = subst Q same f.has;
       decided = all-append (rests s (es ++ joined (with_batch batch f.kept))) (handed_in store i) (all_handed (left_by store i) is)
           (all_more s es (joined (with_batch batch f.kept)) (handed_in store i) (handed_rests s es store i on.owed)) (subst R same f.decided);
@@ -60,7 +60,7 @@ found_cut s es store i is x y first second on cut f = record {
 }
 
 found_either : (s : ShowState) (es : List Event) (store : Store) (i : Incident) (is : List Incident) (x y first second u v : List ℕ) → IsOn s es store first second
-    → (IsOn s (es ++ batch_of (folded s es) i) (left_by store i) u v → Found s (es ++ batch_of (folded s es) i) (left_by store i) is x y)
+    → (IsOn s (es ++ batch_of (after_events s es) i) (left_by store i) u v → Found s (es ++ batch_of (after_events s es) i) (left_by store i) is x y)
     → (IsOn s es (left_by store i) u v → Found s es (left_by store i) is x y)
     → Goes s es store i u v → Found s es store (i ∷ is) x y
 found_either s es store i is x y first second u v on whole cut (inl h) = found_whole s es store i is x y first second on (whole h)
@@ -84,7 +84,7 @@ found store (i ∷ is) x y ok may =
       may = now.may;
       finds = λ s es on.
           found_either s es store i is x y now.first now.second later.first later.second on
-          (λ h. later.finds s (es ++ batch_of (folded s es) i) h)
+          (λ h. later.finds s (es ++ batch_of (after_events s es) i) h)
           (λ h. later.finds s es h)
           (now.goes s es on);
     }
@@ -119,7 +119,7 @@ whatever_happens s store is x y h begins ok may =
     record {
       kept = f.kept;
       prefix = f.prefix;
-      has = has_state (left_by_all store is) x y (folded s (joined f.kept)) may f.has;
+      has = has_state (left_by_all store is) x y (after_events s (joined f.kept)) may f.has;
       decided = f.decided;
       in_bytes = all_say s (joined f.kept) (all_handed store is) f.readable f.decided;
     }
@@ -133,7 +133,7 @@ recovery_gives_a_prefix s store is one other x y h begins ok end left =
     let P : Store → Type 0 = λ last. MayRead last x y in
     let Q : Store → ShowState → Type 0 = λ last u. HasState last x y u in
     let came : CameTo s store is x y = whatever_happens s store is x y h begins ok (subst P (sym end) left) in
-    let last : ShowState = folded s (joined came.kept) in
+    let last : ShowState = after_events s (joined came.kept) in
     let stands : Stands x y last = subst (λ (store : Store). Q store last) end came.has in
     let opened = is_opened x y last stands in
     record {

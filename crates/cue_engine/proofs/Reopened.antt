@@ -1,13 +1,12 @@
 -- What a store that is opened and then closed comes to.
-use Rattle.std.proofs.Common.{◌≡◌, inr, ℕ, ◌+◌, ◌-◌, ◌^◌, ◌<◌, List, length, Result, Ok, Err, ◌∙◌, ap, sym, subst, IsTrue}
+use Rattle.std.proofs.Common.{◌≡◌, inr, ℕ, ◌+◌, ◌-◌, ◌^◌, ◌<◌, List, length, Result, Ok, Err, ◌∙◌, sym, subst, IsTrue}
 use Rattle.std.specs.Prelude.{IfOk}
 use Rattle.cue_disk.specs.Disk.{Contents, IsImage}
 use Rattle.cue_log.specs.Area.{area_text}
 use Rattle.cue_log.specs.declared.area.TheConstants.{AREA_LIMIT}
 use Rattle.cue_snap.specs.Observed.{first_after, second_after}
-use Rattle.cue_core.specs.declared.event.Event.{Event}
 use Rattle.cue_core.specs.State.{ShowState}
-use Rattle.cue_core.specs.Steps.{folded}
+use Rattle.cue_core.specs.Steps.{after_events}
 use Rattle.cue_core.specs.Happenings.{events_at, recovered}
 use Rattle.cue_records.specs.State.{state_text}
 use Rattle.cue_keeper.specs.Due.{is_due}
@@ -61,10 +60,10 @@ unwritten fault first_in second_in P Q a b (Err refused) same p q = λ other. (s
 
 -- ---- the state that was closed
 
--- the cancels of what is undecided close the state
-pub closed_by : (s t : ShowState) (es : List Event) → t ≡ s → es ≡ events_at t recovered → folded s es ≡ closed s
+-- what holds of the state behind its cancels holds of the closed one
+pub closed_so : (s : ShowState) (P : ShowState → Type 0) → P (after_events s (events_at s recovered)) → P (closed s)
 unfolding closed
-closed_by s t es same is = ap (folded s) (is ∙ ap (λ (u : ShowState). events_at u recovered) same)
+closed_so s P so = so
 
 -- what was made keeps the closed state of one that stood
 pub closed_from : {T E : Type 0} (state_in : T → ShowState) (x y : List ℕ) (s : ShowState) (r : Result T E) → Stands x y s → IfOk r (λ made. state_in made ≡ closed s) → IfOk r (λ made. ClosedFrom x y (state_in made))

@@ -4,7 +4,7 @@ use Rattle.std.specs.List.{AllByRecursion}
 use Rattle.cue_core.specs.declared.command.Command.{Command}
 use Rattle.cue_core.specs.declared.command.Command.TheVariants as command
 use Rattle.cue_core.specs.State.{ShowState}
-use Rattle.cue_core.specs.Steps.{folded}
+use Rattle.cue_core.specs.Steps.{after_events}
 use Rattle.cue_osc.specs.Content.{Content}
 use Rattle.cue_outbox.specs.Sending.{Send, answer, status, status_of, all_pending, datagrams}
 use Rattle.cue_outbox.proofs.Lists.{each_append, each_flat, each_map}
@@ -29,7 +29,7 @@ Each R ms = AllByRecursion (λ (m : ℕ × Send). R m.1) ms
 
 -- of all that is sent it holds where it holds of all that is pending after the batch
 abbrev pub HoldsOfSent : (Send → Type 0) → ShowState → Given → Type 0
-HoldsOfSent R s g = Each R (all_pending (folded s g.batch)) → Each R g.sends
+HoldsOfSent R s g = Each R (all_pending (after_events s g.batch)) → Each R g.sends
 
 each : {A : Type 0} (xs : List A) → AllByRecursion (λ x. Unit {0}) xs
 each [] = tt
@@ -82,12 +82,12 @@ module _ (R : Send → Type 0) (els : HoldsElsewhere R) where
   heard-each s from hs = by (are_too_many hs)
     where
       full : Given
-      full = record { batch = all_events hs; sends = sent_to from (replies_or_one hs) ++ newly_pending s (folded s (all_events hs)); counts = all_counts hs }
+      full = record { batch = all_events hs; sends = sent_to from (replies_or_one hs) ++ newly_pending s (after_events s (all_events hs)); counts = all_counts hs }
 
       by : (b : Bool) → HoldsOfSent R s (if b then given_refused from refusal.TooMany else full)
       by true = refused-each s from refusal.TooMany
-      by false = λ h. each_append (λ (m : ℕ × Send). R m.1) (sent_to from (replies_or_one hs)) (newly_pending s (folded s (all_events hs)))
-          (sent-each from (replies_or_one hs) (replies-each hs)) (newly-each s (folded s (all_events hs)) h)
+      by false = λ h. each_append (λ (m : ℕ × Send). R m.1) (sent_to from (replies_or_one hs)) (newly_pending s (after_events s (all_events hs)))
+          (sent-each from (replies_or_one hs) (replies-each hs)) (newly-each s (after_events s (all_events hs)) h)
 
   datagram-each : (s : ShowState) (now from : ℕ) (r : Result (List Content) Refusal) → HoldsOfSent R s (given_by s now from r)
   datagram-each s now from (Err why) = refused-each s from why

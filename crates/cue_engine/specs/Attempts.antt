@@ -10,7 +10,7 @@ use Rattle.cue_core.specs.State.{empty_state}
 use Rattle.cue_core.specs.Happenings.{onto}
 use Rattle.cue_core.specs.History.{parts_by}
 use Rattle.cue_core.specs.Pending.{Order}
-use Rattle.cue_core.specs.Safety.{is_told, is_go_to, is_cancel_to}
+use Rattle.cue_core.specs.Safety.{is_order_to, is_go_to, is_cancel_to}
 use Rattle.cue_outbox.specs.Sending.{Send, answer, status, order}
 use Rattle.cue_engine.specs.Runs.{Happening, run, joined}
 
@@ -56,7 +56,7 @@ was_sent test hs = list_any (λ m. is_command test m.1) (run empty_state hs).sen
 -- sent to it there, whatever comes later.
 abbrev pub NothingMoreIsSent : Type 0
 NothingMoreIsSent = (hs later : List Happening) (q d : ℕ) → IsTrue (list_any (is_end_of q d) (accepted hs))
-    → IsTrue (not (list_any (λ m. is_command (is_told q d) m.1) (run (run empty_state hs).state later).sends))
+    → IsTrue (not (list_any (λ m. is_command (is_order_to q d) m.1) (run (run empty_state hs).state later).sends))
 
 -- No device is ever sent both GO_2PC and CANCEL in one attempt.
 abbrev pub NeverSentBoth : Type 0

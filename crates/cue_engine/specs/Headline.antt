@@ -7,7 +7,7 @@ use Rattle.cue_disk.specs.Disk.{Contents}
 use Rattle.cue_snap.specs.Pair.{NeitherHas, IsSpoiled}
 use Rattle.cue_core.specs.declared.event.Event.{Event}
 use Rattle.cue_core.specs.State.{ShowState, empty_state, is_state}
-use Rattle.cue_core.specs.Steps.{folded}
+use Rattle.cue_core.specs.Steps.{after_events}
 use Rattle.cue_core.specs.Batches.{closed}
 use Rattle.cue_keeper.specs.Stands.{Stands, StandsAs}
 use Rattle.cue_keeper.specs.Refusals.{HasOtherVersion, StandsForNone}
@@ -58,7 +58,7 @@ is_cut_off _ = false
 abbrev pub AreKept : ShowState → List Incident → List (List Event) → Type 0
 AreKept s [] kept = kept ≡ []
 AreKept s (i ∷ is) kept =
-    ((others : List (List Event)) × ((kept ≡ with_batch (batch_of s i) others) × AreKept (folded s (batch_of s i)) is others))
+    ((others : List (List Event)) × ((kept ≡ with_batch (batch_of s i) others) × AreKept (after_events s (batch_of s i)) is others))
     ⊎ ((is_cut_off i ≡ true) × AreKept s is kept)
 
 -- ---- where a life begins, and where it is looked at
@@ -91,7 +91,7 @@ HasState (unformed one other) x y s = (s ≡ empty_state) × (NeitherHas x y ⊎
 pub record CameTo (s : ShowState) (store : Store) (is : List Incident) (x y : List ℕ) : Type 0 where
   pub kept : List (List Event)
   pub prefix : AreKept s is kept
-  pub has : HasState (left_by_all store is) x y (folded s (joined kept))
+  pub has : HasState (left_by_all store is) x y (after_events s (joined kept))
   pub decided : IsTrue (list_all (rests s (joined kept)) (all_handed store is))
   pub in_bytes : AllByRecursion (λ d. BytesRest s (joined kept) d.1) (datagrams (all_handed store is))
 
@@ -121,8 +121,8 @@ pub record IsPromised (s : ShowState) (store : Store) (is : List Incident) (x y 
   pub kept : List (List Event)
   pub prefix : AreKept s is kept
   pub readable : IsReadable x y
-  pub gives : (t : ShowState) (queue : List (ℕ × List ℕ)) → IsAnswered x y t queue → t ≡ closed (folded s (joined kept))
-  pub owes : (t : ShowState) (queue : List (ℕ × List ℕ)) → IsAnswered x y t queue → queue ≡ datagrams (all_pending (closed (folded s (joined kept))))
+  pub gives : (t : ShowState) (queue : List (ℕ × List ℕ)) → IsAnswered x y t queue → t ≡ closed (after_events s (joined kept))
+  pub owes : (t : ShowState) (queue : List (ℕ × List ℕ)) → IsAnswered x y t queue → queue ≡ datagrams (all_pending (closed (after_events s (joined kept))))
   pub decided : IsTrue (list_all (rests s (joined kept)) (all_handed store is))
   pub in_bytes : AllByRecursion (λ d. BytesRest s (joined kept) d.1) (datagrams (all_handed store is))
 

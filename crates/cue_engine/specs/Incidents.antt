@@ -6,10 +6,10 @@
 use Rattle.std.specs.Prelude.{ℕ, List, [], ◌∷◌, ◌++◌}
 use Rattle.cue_disk.specs.Disk.{Contents, IsImage}
 use Rattle.cue_core.specs.State.{ShowState, empty_state}
-use Rattle.cue_core.specs.Steps.{folded}
-use Rattle.cue_keeper.specs.Stands.{StandsEither, StandsAs}
-use Rattle.cue_keeper.specs.Refusals.{IsUnformedOrStands}
+use Rattle.cue_core.specs.Steps.{after_events}
+use Rattle.cue_keeper.specs.Stands.{StandsEither, StandsAs, first_area}
 use Rattle.cue_outbox.specs.Sending.{Send, all_pending}
+use Rattle.cue_snap.specs.Pair.{IsUnformedOr}
 use Rattle.cue_engine.specs.Given.{Input, given}
 use Rattle.cue_engine.specs.Recovery.{ClosedFrom, IsLeftOrStands}
 
@@ -71,7 +71,7 @@ abbrev pub PermitsRunning : ShowState → Incident → Type 0
 PermitsRunning s (taken now input) = Unit {0}
 PermitsRunning s handed_out = Unit {0}
 PermitsRunning s (stopped n one other) = StandsAs one other s
-PermitsRunning s (stopped_in_take now input n one other) = LeavesOnly one other (StandsEither s (folded s (given s now input).batch))
+PermitsRunning s (stopped_in_take now input n one other) = LeavesOnly one other (StandsEither s (after_events s (given s now input).batch))
 PermitsRunning s _ = ⊥
 
 -- Recovery gives the closed state of one that the disks stood for (`stood`). A stop within it leaves what a crash might
@@ -87,7 +87,7 @@ PermitsAtRest then_one then_other _ = ⊥
 -- (`any_moment`). All else is as at rest.
 abbrev pub PermitsUnformed : Contents → Contents → Incident → Type 0
 PermitsUnformed then_one then_other formed = Unit {0}
-PermitsUnformed then_one then_other (stopped_in_form one other) = LeavesOnly one other (IsUnformedOrStands empty_state then_one then_other)
+PermitsUnformed then_one then_other (stopped_in_form one other) = LeavesOnly one other (IsUnformedOr first_area then_one then_other)
 PermitsUnformed then_one then_other (recovered s) = RecoversAs then_one then_other s
 PermitsUnformed then_one then_other (stopped_in_recovery one other) = LeavesOnly one other (IsLeftOrStands then_one then_other)
 PermitsUnformed then_one then_other (refused one other) = LeavesOnly one other (AreLeft then_one then_other)
@@ -103,7 +103,7 @@ Permits (unformed one other) i = PermitsUnformed one other i
 
 -- an engine that took an input has the state after the batch, and owes what is sent for it, too
 abbrev pub having_taken : Store → ℕ → Input → Store
-having_taken (running s owed) now input = running (folded s (given s now input).batch) (owed ++ (given s now input).sends)
+having_taken (running s owed) now input = running (after_events s (given s now input).batch) (owed ++ (given s now input).sends)
 having_taken (at_rest one other) now input = at_rest one other
 having_taken (unformed one other) now input = unformed one other
 

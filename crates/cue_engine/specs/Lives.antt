@@ -5,7 +5,7 @@ use Rattle.cue_disk.specs.Disk.{Contents, IsImage}
 use Rattle.cue_snap.specs.Pair.{AfterBarrier}
 use Rattle.cue_core.specs.declared.event.Event.{Event}
 use Rattle.cue_core.specs.State.{ShowState, is_state}
-use Rattle.cue_core.specs.Steps.{folded}
+use Rattle.cue_core.specs.Steps.{after_events}
 use Rattle.cue_core.specs.Batches.{closed}
 use Rattle.cue_outbox.specs.Sending.{Send, all_pending, datagrams}
 use Rattle.cue_engine.specs.Given.{Input}
@@ -78,7 +78,7 @@ pub record LeavesAtEachStop {D : Type 0} (moment : D → ℕ) (held_at : D → �
 pub record IsGivenBack (s : ShowState) (store : Store) (is : List Incident) (state : ShowState) (queue : List (ℕ × List ℕ)) : Type 0 where
   pub kept : List (List Event)
   pub prefix : AreKept s is kept
-  pub gives : state ≡ closed (folded s (joined kept))
-  pub owes : queue ≡ datagrams (all_pending (closed (folded s (joined kept))))
+  pub gives : state ≡ closed (after_events s (joined kept))
+  pub owes : queue ≡ datagrams (all_pending (closed (after_events s (joined kept))))
   pub decided : IsTrue (list_all (rests s (joined kept)) (all_handed store is))
   pub in_bytes : AllByRecursion (λ d. BytesRest s (joined kept) d.1) (datagrams (all_handed store is))

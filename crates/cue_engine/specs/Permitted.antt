@@ -6,12 +6,11 @@
 use Rattle.std.specs.Prelude.{◌≡◌, ◌⊎◌, ◌≤◌, ℕ, List}
 use Rattle.cue_disk.specs.Disk.{Contents, IsImage, LeavesAtEachMoment}
 use Rattle.cue_disk.specs.Effect.{settled}
-use Rattle.cue_snap.specs.Pair.{AfterBarrier}
+use Rattle.cue_snap.specs.Pair.{AfterBarrier, IsUnformedOr}
 use Rattle.cue_core.specs.State.{ShowState, empty_state}
-use Rattle.cue_core.specs.Steps.{folded}
+use Rattle.cue_core.specs.Steps.{after_events}
 use Rattle.cue_keeper.specs.Pairs.{LeavesPairsAtEachMoment}
-use Rattle.cue_keeper.specs.Stands.{StandsEither, StandsAs}
-use Rattle.cue_keeper.specs.Refusals.{IsUnformedOrStands}
+use Rattle.cue_keeper.specs.Stands.{StandsEither, StandsAs, first_area}
 use Rattle.cue_outbox.specs.Sending.{Send}
 use Rattle.cue_engine.specs.Given.{Input, given}
 use Rattle.cue_engine.specs.Recovery.{ClosedFrom, IsLeftOrStands}
@@ -43,7 +42,7 @@ IsOnDisks store one other = (store ≡ at_rest one other) ⊎ (store ≡ unforme
 abbrev pub PowerLossIsWithin : Type 0
 PowerLossIsWithin = (then_held : Contents) (bytes : List ℕ) → IsImage then_held bytes → IsWithin then_held (settled bytes)
 
--- Between two calls (`accepted` of `take`, `stands` of `recover` and `close`, `formed` of `form`): a stop is permitted.
+-- Between two calls (`accepts` of `take`, `stands` of `form`, `recover` and `close`): a stop is permitted.
 abbrev pub StopIsPermitted : {D : Type 0} (held : D → Contents) → Type 0
 StopIsPermitted {D} held =
     (s : ShowState) (owed : List (ℕ × Send)) (n : ℕ) (a b : D) (one other : Contents)
@@ -55,7 +54,7 @@ StopIsPermitted {D} held =
 abbrev pub StopInTakeIsPermitted : {D : Type 0} (moment : D → ℕ) (held_at : D → ℕ → Contents) → Type 0
 StopInTakeIsPermitted {D} moment held_at =
     (s : ShowState) (owed : List (ℕ × Send)) (now : ℕ) (input : Input) (n : ℕ) (a b new_a new_b : D) (i j : ℕ) (one other : Contents)
-    → LeavesPairsAtEachMoment moment held_at a b new_a new_b (StandsEither s (folded s (given s now input).batch))
+    → LeavesPairsAtEachMoment moment held_at a b new_a new_b (StandsEither s (after_events s (given s now input).batch))
     → IsFromTo (moment a) (moment new_a) i → IsFromTo (moment b) (moment new_b) j
     → IsWithin (held_at new_a i) one → IsWithin (held_at new_b j) other
     → Permits (running s owed) (stopped_in_take now input n one other)
@@ -75,8 +74,8 @@ abbrev pub StopInFormIsPermitted : {D : Type 0} (moment : D → ℕ) (held : D �
 StopInFormIsPermitted {D} moment held held_at is_honest =
     (a b new_a new_b : D) (i j : ℕ) (one other : Contents)
     → is_honest a → is_honest b
-    → (barrier : AfterBarrier moment held_at a b new_a new_b (IsUnformedOrStands empty_state (held a) (held b)))
-    → IsStop moment held_at a b new_a new_b (IsUnformedOrStands empty_state (held a) (held b)) barrier i j
+    → (barrier : AfterBarrier moment held_at a b new_a new_b (IsUnformedOr first_area (held a) (held b)))
+    → IsStop moment held_at a b new_a new_b (IsUnformedOr first_area (held a) (held b)) barrier i j
     → IsWithin (held_at new_a i) one → IsWithin (held_at new_b j) other
     → Permits (unformed (held a) (held b)) (stopped_in_form one other)
 

@@ -1,19 +1,15 @@
 // What a recovery from power loss gives up: each attempt that is undecided is cancelled, in one batch.
-ghost use Rattle.std.specs.Prelude.{◌≡◌, ◌≤◌, ◌<◌, ◌+◌, ◌-◌, ◌^◌, ◌⊎◌, ◌↔◌, false, true, length, IsTrue, IfOk, OnOk, OnErr, IsErrOf};
-ghost use Rattle.cue_disk.specs.Disk.{MoreFailures};
-ghost use Rattle.cue_log.specs.declared.area.TheConstants.{AREA_LIMIT};
+ghost use Rattle.std.specs.Prelude.{◌≡◌, false, IsTrue, IfOk, OnOk};
+ghost use Rattle.std.specs.Result.{result_err};
 ghost use Rattle.cue_core.specs.Happenings.{events_at, recovered};
 ghost use Rattle.cue_core.specs.Steps.{are_acceptable};
-ghost use Rattle.cue_records.specs.State.{state_text};
-ghost use Rattle.cue_keeper.specs.Pairs.{LeavesPairsAtEachMoment};
-ghost use Rattle.cue_keeper.specs.Stands.{StandsEither, StandsAs};
-ghost use Rattle.cue_keeper.specs.Observed.{state_of, pair_of, first_of, second_of, is_broken, generation_of, is_due};
+ghost use Rattle.cue_keeper.specs.Accepting.{Accepts};
+ghost use Rattle.cue_keeper.specs.Observed.{state_of, is_broken};
 ghost use Rattle.cue_outbox.specs.Sending.{datagrams, all_pending};
 ghost use Rattle.cue_core.specs.Batches.{closed};
-ghost use Rattle.cue_engine.specs.Recovery.{cancels_length};
-ghost use Rattle.cue_engine.specs.Takes.{FitsRecord, CanFollow, Follows};
+ghost use Rattle.cue_engine.specs.Takes.{FitsRecord, CanFollow, Follows, InStep};
 
-use crate::drafts::{Draft, catch_up};
+use crate::drafts::{Draft, sync_to};
 use crate::keeping::accept_batch;
 use crate::ticking::cancels;
 use cue_core::{Event, State, undecided};
@@ -53,14 +49,14 @@ fn close_on(
 ) -> Result<(Vec<Event>, Queue), AllocError>
     requires can_follow { CanFollow draft.old }
     requires follows { Follows kept.now draft.old }
-    ensures marked { draft.new.is_of_use ≡ false }
+    ensures marked { draft.new.is_valid ≡ false }
     ensures draft { OnOk result (draft.new.state ≡ closed kept.now) }
     ensures batch { IfOk result (λ r. r.0.items ≡ events_at kept.now recovered) }
     ensures acceptable { IfOk result (λ r. IsTrue (are_acceptable kept.now r.0.items)) }
     ensures fits { IfOk result (λ r. FitsRecord r.0.items) }
     ensures queue { IfOk result (λ r. r.1 ≡ datagrams (all_pending (closed kept.now))) }
 {
-    catch_up(kept, draft)?;
+    sync_to(kept, draft)?;
     let batch = cancels_undecided(alloc, kept)?;
     draft.state.apply_all(&batch)?;
     let queue = queue_pending(alloc, &draft.state)?;
@@ -79,25 +75,9 @@ pub(crate) fn close_undecided<D: Disk>(
     requires can_follow { CanFollow draft.old }
     requires follows { Follows (state_of keeper.old) draft.old }
 
-    ensures ok { OnOk result (state_of keeper.new ≡ closed (state_of keeper.old)) }
-    ensures err { OnErr result (state_of keeper.new ≡ state_of keeper.old) }
+    ensures accepts { Accepts (events_at (state_of keeper.old) recovered) (result_err result) keeper.old keeper.new }
     ensures queue { IfOk result (λ queue. queue ≡ datagrams (all_pending (closed (state_of keeper.old)))) }
-    ensures can_follow { CanFollow draft.new }
-    ensures follows { Follows (state_of keeper.new) draft.new }
-
-    ensures no_broken { IsErrOf result Fault.Broken → ⊥ }
-    ensures exhausted { IsErrOf result Fault.Exhausted → IsTrue (is_due keeper.old (cancels_length (state_of keeper.old))) × (generation_of keeper.old ≡ 2 ^ 64 - 1) }
-    ensures full { IsErrOf result Fault.Full → IsTrue (is_due keeper.old (cancels_length (state_of keeper.old))) × (AREA_LIMIT < 19 + length (state_text (state_of keeper.old)) + cancels_length (state_of keeper.old)) }
-    ensures unchanged { IsErrOf result Fault.Memory ⊎ IsErrOf result Fault.Exhausted ⊎ IsErrOf result Fault.Full → pair_of keeper.new ≡ pair_of keeper.old }
-    ensures disk { IsErrOf result Fault.Disk → MoreFailures (D.failures (first_of keeper.old)) (D.failures (first_of keeper.new)) ⊎ MoreFailures (D.failures (second_of keeper.old)) (D.failures (second_of keeper.new)) }
-    ensures works { OnOk result (is_broken keeper.new ≡ false) }
-    ensures any_moment { D.is_honest (first_of keeper.old) → D.is_honest (second_of keeper.old)
-        → LeavesPairsAtEachMoment D.moment D.held_at (first_of keeper.old) (second_of keeper.old) (first_of keeper.new) (second_of keeper.new) (StandsEither (state_of keeper.old) (closed (state_of keeper.old))) }
-    ensures accepted { D.is_honest (first_of keeper.old) → D.is_honest (second_of keeper.old) → OnOk result (StandsAs (D.held (first_of keeper.new)) (D.held (second_of keeper.new)) (closed (state_of keeper.old))) }
-    ensures first_failures { D.failures (first_of keeper.old) ≤ D.failures (first_of keeper.new) }
-    ensures second_failures { D.failures (second_of keeper.old) ≤ D.failures (second_of keeper.new) }
-    ensures first_honest { D.is_honest (first_of keeper.new) ↔ D.is_honest (first_of keeper.old) }
-    ensures second_honest { D.is_honest (second_of keeper.new) ↔ D.is_honest (second_of keeper.old) }
+    ensures draft { InStep (state_of keeper.new) draft.new }
 {
     let _broken = keeper.is_broken();
     let (batch, queue) = close_on(alloc, keeper.state(), draft)?;

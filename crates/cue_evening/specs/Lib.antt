@@ -1,3 +1,4 @@
 pub mod Alone
 pub mod Busy
+pub mod CodeWords
 pub mod Ends

@@ -1,4 +1,7 @@
 //! The codes of replies in words, as the table of codes has them.
+ghost use Rattle.std.specs.Prelude.{◌≡◌};
+ghost use Rattle.cue_evening.specs.CodeWords as words;
+
 use cue_core::{Code, Refusal};
 
 /// The codes of single commands.
@@ -33,7 +36,9 @@ const REFUSALS: [Refusal; 4] = [
     Refusal::TooMany,
 ];
 
-fn words_of_code(code: Code) -> &'static str {
+fn words_of_code(code: Code) -> &'static str
+    ensures { result.now ≡ words.code_words code }
+{
     match code {
         Code::Unread => "the message could not be read whole",
         Code::BadPattern => "the address is no pattern",
@@ -58,7 +63,9 @@ fn words_of_code(code: Code) -> &'static str {
     }
 }
 
-fn words_of_refusal(refusal: Refusal) -> &'static str {
+fn words_of_refusal(refusal: Refusal) -> &'static str
+    ensures { result.now ≡ words.refusal_words refusal }
+{
     match refusal {
         Refusal::BadPacket => "the datagram is no OSC packet",
         Refusal::TooLong => "the datagram is too long",

@@ -1,4 +1,6 @@
 //! The log: what it writes at each look.
+ghost use Rattle.std.specs.Prelude.{◌≡◌, Some};
+
 use crate::alone::standby_line;
 use crate::commands::cut;
 use crate::course::{Cause, Course};
@@ -7,7 +9,7 @@ use crate::logged::LoggedWire;
 use crate::moment::Moment;
 use crate::notes::Notes;
 use crate::page::Page;
-use crate::reasons::{cancel_line, device_behind, end_line, recovered_line};
+use crate::reasons::{cancel_line, device_of_cancel, end_line, recovered_line};
 use crate::replies::{Answer, cause_in};
 use cue_core::{Event, State};
 use cue_engine::Wire;
@@ -90,7 +92,7 @@ impl<'a, R: Clock + Eprint> EveningLog<'a, R> {
             self.course.take(event, cause);
             if let Event::Cancel(seq, reason) = event {
                 let cue = self.course.cue_of(*seq);
-                let device = device_behind(events, place);
+                let device = device_of_cancel(events, place);
                 page.write(cancel_line(self.alloc, *seq, cue, *reason, device));
             }
         }
@@ -128,7 +130,9 @@ impl<'a, R: Clock + Eprint> EveningLog<'a, R> {
     }
 
     // Writes what the notes say, and what becomes of the attempts.
-    fn tell(&mut self, state: &State, batch: &[Event], notes: &Notes) {
+    fn tell(&mut self, state: &State, batch: &[Event], notes: &Notes)
+        ensures seen { self.new.last ≡ Some state.now.last_seq }
+    {
         let page = Page::now(self.rt);
         if self.last.is_none() {
             self.begin(&page, state);

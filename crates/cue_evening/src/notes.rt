@@ -1,5 +1,7 @@
 //! The notes of what was sent.
-use crate::entry::{Entry, entry_of};
+ghost use Rattle.std.specs.Prelude.{◌≡◌, ◌≢◌, pos, true, false};
+
+use crate::entry::{Entry, Reply, entry_of};
 use crate::firsts::Firsts;
 use std::alloc::{AllocError, Global};
 use std::mem::replace;
@@ -27,6 +29,16 @@ impl Notes {
             are_whole: true,
         }
     }
+}
+
+// Whether the log says something of a reply: one that made or refused something, or did not leave.
+fn is_told(reply: &Reply, is_sent: bool) -> bool
+    ensures made { reply.now.made ≢ pos 0 → result ≡ true }
+    ensures refused { reply.now.refused ≢ pos 0 → result ≡ true }
+    ensures unsent { is_sent ≡ false → result ≡ true }
+    ensures quiet { reply.now.made ≡ pos 0 → reply.now.refused ≡ pos 0 → is_sent ≡ true → result ≡ false }
+{
+    reply.made != 0 || reply.refused != 0 || !is_sent
 }
 
 /// Where notes are kept until they are taken.
@@ -68,7 +80,7 @@ impl Notebook {
     // is sent for the first time.
     fn has_line(&mut self, entry: &Entry, is_sent: bool) -> bool {
         match entry {
-            Entry::Answered(reply) => reply.made != 0 || reply.refused != 0 || !is_sent,
+            Entry::Answered(reply) => is_told(reply, is_sent),
             Entry::Ordered(command) => self.firsts.is_first(command),
         }
     }

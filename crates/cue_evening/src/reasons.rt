@@ -31,7 +31,7 @@ pub fn recovered_line(alloc: Global, live: &[Attempt]) -> Result<String, AllocEr
 }
 
 /// The device by which a preparation was given up, where the event at this place gives it up.
-pub fn device_behind(events: &[Event], place: usize) -> Option<DeviceNo> {
+pub fn device_of_cancel(events: &[Event], place: usize) -> Option<DeviceNo> {
     match events.split_at_checked(place) {
         Some((_, [_, Event::Failed(_, device) | Event::LetGo(_, device), ..])) => Some(*device),
         _ => None,

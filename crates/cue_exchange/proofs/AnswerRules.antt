@@ -185,13 +185,13 @@ all_stand-entered s t (y ∷ ys) h =
     let fits : IsTrue (is_known_in s y.answer) × IsTrue (not (is_required y && is_excused y.answer)) = both (is_known_in s y.answer) (not (is_required y && is_excused y.answer)) k.0 in
     join (stands t (enters t y)) (list_all (stands t) (entered t ys)) (stands-entering t (is_required y) y.answer fits.1) (all_stand-entered s t ys k.1)
 
-stands-asked : (required : Bool) → IsTrue (not (required && false))
-stands-asked true = refl
-stands-asked false = refl
+stands-first_answer : (required : Bool) → IsTrue (not (required && false))
+stands-first_answer true = refl
+stands-first_answer false = refl
 
 pub all_stand-first_answers : (parts : List Part) → IsTrue (list_all (stands Preparing) (first_answers parts))
 all_stand-first_answers [] = refl
-all_stand-first_answers (p ∷ ps) = rw (stands-asked (not p.optional)) (all_stand-first_answers ps)
+all_stand-first_answers (p ∷ ps) = rw (stands-first_answer (not p.optional)) (all_stand-first_answers ps)
 
 -- ---- some device is still to answer
 

@@ -3,14 +3,7 @@ use Rattle.std.proofs.Common.{◌≡◌, Bool, true, false, ◌&&◌, IsTrue, Li
 use Rattle.std.specs.List.{list_all}
 use Rattle.std.proofs.lemmas.Bool.{and_parts, and_from, cases_Bool}
 use Rattle.cue_exchange.specs.Live.{pairwise}
-
--- both tests hold
-pub both : (a b : Bool) → IsTrue (a && b) → IsTrue a × IsTrue b
-both a b h = and_parts a b h
-
--- the two tests hold together
-pub join : (a b : Bool) → IsTrue a → IsTrue b → IsTrue (a && b)
-join a b h k = and_from a b h k
+pub use Rattle.cue_show.proofs.TestLemmas.{both, join}
 
 -- a test that is weaker at each element
 pub all_weaker : {A : Type 0} (p r : A → Bool) → ((x : A) → IsTrue (p x) → IsTrue (r x)) → (xs : List A) → IsTrue (list_all p xs) → IsTrue (list_all r xs)

@@ -143,8 +143,8 @@ abbrev pub waits : DeviceAnswer → Bool
 waits x = is_waiting x.answer
 
 -- the device of a part, as an attempt begins
-abbrev pub asked : Part → DeviceAnswer
-asked part = record { device = part.device; optional = part.optional; answer = Waiting }
+abbrev pub first_answer : Part → DeviceAnswer
+first_answer part = record { device = part.device; optional = part.optional; answer = Waiting }
 
 -- the device d has answered, and each other one stays as it is
 abbrev pub answers_with : ℕ → Answer → DeviceAnswer → DeviceAnswer
@@ -158,7 +158,7 @@ enters stage x = record x { answer = entering stage x.answer }
 
 -- the answers of an attempt that begins
 abbrev pub first_answers : List Part → List DeviceAnswer
-first_answers parts = map asked parts
+first_answers parts = map first_answer parts
 
 -- the answers, as the attempt enters the stage
 abbrev pub entered : Stage → List DeviceAnswer → List DeviceAnswer

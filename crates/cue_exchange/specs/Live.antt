@@ -7,14 +7,14 @@ use Rattle.cue_exchange.specs.declared.attempt.Stage.{Stage}
 use Rattle.cue_exchange.specs.declared.attempt.Stage.TheVariants.{Preparing, Decided, Cancelling}
 use Rattle.cue_exchange.specs.declared.attempt.DeviceAnswer.{DeviceAnswer}
 use Rattle.cue_exchange.specs.declared.attempt.Attempt.{Attempt}
-use Rattle.cue_exchange.specs.declared.limits.TheConstants.{LAST_NUMBER, MAX_LIVE}
+use Rattle.cue_exchange.specs.declared.limits.TheConstants.{MAX_NUMBER, MAX_LIVE}
 pub use Rattle.cue_exchange.specs.Answers.{devices_of, has_required, is_one_of, stands, some_waits, is_preparing}
 
 -- ---- the rules of one attempt
 
 -- a sequence number is 1 to 2,147,483,647
 abbrev pub is_number : ℕ → Bool
-is_number q = nat_le 1 q && nat_le q LAST_NUMBER
+is_number q = nat_le 1 q && nat_le q MAX_NUMBER
 
 -- a moment has 64 bits
 abbrev pub is_moment : ℕ → Bool
@@ -32,7 +32,8 @@ have_sound_devices answers = has_required answers && distinct (devices_of answer
 
 -- a number, a deadline, and sound devices, each with an answer that the stage knows
 abbrev pub is_sound : Attempt → Bool
-is_sound a = is_number a.seq && (is_moment a.deadline && (have_sound_devices a.answers && list_all (stands a.stage) a.answers))
+is_sound a =
+    is_number a.seq && (is_moment a.deadline && (have_sound_devices a.answers && list_all (stands a.stage) a.answers))
 
 -- the rules of one live attempt
 abbrev pub is_attempt : Attempt → Bool

@@ -44,7 +44,8 @@ are_sound_parts parts = has_required_part parts && distinct (devices_in parts)
 -- is above those of the live attempts, and none of its devices is in one
 abbrev pub can_start : ℕ → ℕ → List Part → List Attempt → Bool
 can_start q t parts live =
-    is_number q && (is_moment t && (has_room live && (are_below q live && (are_free (devices_in parts) live && are_sound_parts parts))))
+    is_number q && (is_moment t && (has_room live
+    && (are_below q live && (are_free (devices_in parts) live && are_sound_parts parts))))
 
 -- the device d is asked by q to stand by, and has not answered
 abbrev pub can_ready : ℕ → ℕ → List Attempt → Bool
@@ -130,7 +131,9 @@ without_ended q live = filter (goes_on q) live
 
 -- how an attempt ends
 abbrev pub outcome_of : Attempt → Outcome
-outcome_of a = if is_cancelling a.stage then outcome.Cancelled else (if all_have_done a.answers then outcome.Complete else outcome.Failed)
+outcome_of a =
+    if is_cancelling a.stage then outcome.Cancelled
+    else (if all_have_done a.answers then outcome.Complete else outcome.Failed)
 
 -- how q ends, where it has no device that is still to answer
 abbrev pub ended_in : ℕ → List Attempt → Option Outcome

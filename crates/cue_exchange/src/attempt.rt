@@ -6,7 +6,7 @@ ghost use Rattle.cue_exchange.specs.Outcomes.{outcome_number, outcome_numbered};
 ghost use Rattle.cue_exchange.specs.Answers.{is_waiting, is_ready, is_done, is_excused, is_required, stands, may_go, has_done, can_be_excused, is_preparing, is_decided, is_cancelling, is_concluding, is_known_in, entering};
 
 use crate::answers::Answers;
-use crate::limits::LAST_NUMBER;
+use crate::limits::MAX_NUMBER;
 use cue_show::{CueNo, DeviceNo};
 use std::alloc::AllocError;
 
@@ -293,6 +293,7 @@ impl Attempt {
     fn is_sound(&self) -> bool
         ensures { result ≡ is_sound self.now }
     {
+        // Read so that its range is known: the definition asks for a moment of 64 bits.
         let _deadline = self.deadline;
         if !is_number(self.seq) {
             return false;
@@ -356,5 +357,5 @@ impl Clone for Attempt {
 pub(crate) fn is_number(seq: u32) -> bool
     ensures { result ≡ is_number seq }
 {
-    1 <= seq && seq <= LAST_NUMBER
+    1 <= seq && seq <= MAX_NUMBER
 }

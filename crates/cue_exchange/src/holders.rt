@@ -1,6 +1,6 @@
 //! Which attempt each device is in, by the number of the device.
 ghost use Rattle.std.specs.Prelude.{◌≡◌, ℕ, ◌≤◌, [], if◌then◌else◌, slice_index};
-ghost use Rattle.cue_show.specs.declared.limits.TheConstants.{LAST_DEVICE};
+ghost use Rattle.cue_show.specs.declared.limits.TheConstants.{MAX_DEVICE_NUMBER};
 ghost use Rattle.cue_exchange.specs.Answers.{is_one_of};
 ghost use Rattle.cue_exchange.specs.Holders.{AreHolders};
 
@@ -33,7 +33,8 @@ pub(crate) fn no_holders() -> Holders
 
 // The devices of these answers are in the attempt with the number.
 fn mark(holders: &mut Holders, seq: u32, items: &[DeviceAnswer])
-    ensures { (d : ℕ) → d ≤ LAST_DEVICE → slice_index holders.new d ≡ (if is_one_of d items.now then seq else slice_index holders.old d) }
+    ensures { (d : ℕ) → d ≤ MAX_DEVICE_NUMBER → slice_index holders.new d
+        ≡ (if is_one_of d items.now then seq else slice_index holders.old d) }
 {
     for item in items {
         holders[usize::from(item.device.number())] = seq;

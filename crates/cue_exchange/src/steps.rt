@@ -1,7 +1,7 @@
 //! The steps of the exchange over the list of attempts that is kept, between two states that keep the rules.
 ghost use Rattle.std.specs.Prelude.{◌≡◌, ◌≤◌, IfOk, nat_lt, vec_len};
 ghost use Rattle.std.specs.List.{position, position_or_len};
-ghost use Rattle.cue_exchange.specs.Answers.{asked, first_answers};
+ghost use Rattle.cue_exchange.specs.Answers.{first_answer, first_answers};
 ghost use Rattle.cue_exchange.specs.Live.{due};
 ghost use Rattle.cue_exchange.specs.Steps.{answered, answers_as, changed, ended_in, goes_on, moved, moves_to, without_ended};
 
@@ -25,12 +25,12 @@ fn asked_devices(alloc: Global, parts: &Parts) -> Result<Vec<DeviceAnswer>, Allo
     parts
         .as_slice()
         .iter()
-        .map(|part| asked(part))
+        .map(|part| first_answer(part))
         .collect(alloc)
 }
 
-fn asked(part: &Part) -> DeviceAnswer
-    ensures { result ≡ asked part.now }
+fn first_answer(part: &Part) -> DeviceAnswer
+    ensures { result ≡ first_answer part.now }
 {
     DeviceAnswer {
         device: part.device,

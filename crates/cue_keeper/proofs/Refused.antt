@@ -1,22 +1,30 @@
 -- What stands for a state is not refused, and is opened with that state alone.
-use Rattle.std.proofs.Common.{◌≡◌, ℕ, List, false, sym, ◌∙◌, ap, subst}
+use Rattle.std.specs.Prelude.{◌↔◌}
+use Rattle.std.proofs.Common.{◌≡◌, ℕ, List, Bool, true, false, Err, IsTrue, IsErrOf, refl, sym, ◌∙◌, ap, subst}
 use Rattle.cue_log.specs.Area.{Area}
 use Rattle.cue_snap.proofs.Reader.{one_of_a_pair, good_pair}
 use Rattle.cue_core.specs.State.{ShowState}
-use Rattle.cue_records.specs.declared.version.Version.{Version}
-use Rattle.cue_records.specs.declared.version.Version.TheVariants.{One, Two}
+use Rattle.cue_records.specs.declared.fault.StateFault.{StateFault}
+use Rattle.cue_records.specs.declared.fault.StateFault.TheVariants as fault
+use Rattle.cue_records.specs.declared.parts_form.PartsForm.{PartsForm}
+use Rattle.cue_records.specs.declared.parts_form.PartsForm.TheVariants.{Plain, Flagged}
 use Rattle.cue_records.specs.State.{IsStateText, text_in, is_other_version}
 use Rattle.cue_keeper.specs.Stands.{StandsFor}
 use Rattle.cue_keeper.specs.Laws.{WhatStandsIsOpened, WhatIsClosedIsOpened}
 use Rattle.cue_keeper.proofs.Standing.{one_state}
 
 -- a text of a state begins with this version or with the older one
-own_version : (bytes : List ℕ) (s : ShowState) → IsStateText bytes s → is_other_version bytes ≡ false
-own_version bytes s text = by text.version text.is
+pub own_version : (bytes : List ℕ) (s : ShowState) → IsStateText bytes s → is_other_version bytes ≡ false
+own_version bytes s text = by text.form text.is
   where
-    by : (version : Version) → bytes ≡ text_in version s → is_other_version bytes ≡ false
-    by One is = ap is_other_version is
-    by Two is = ap is_other_version is
+    by : (form : PartsForm) → bytes ≡ text_in form s → is_other_version bytes ≡ false
+    by Plain is = ap is_other_version is
+    by Flagged is = ap is_other_version is
+
+-- what is malformed is told of no other version
+pub other_than : {T U : Type 0} (f : StateFault) (other : Bool) → IsErrOf {T = T} (Err f) fault.Malformed → (IsErrOf {T = U} (Err f) fault.Version ↔ IsTrue other) → other ≡ false
+other_than f true is told = let version : IsErrOf (Err f) fault.Version = told.1 refl in cc
+other_than f false is told = refl
 
 pub is_opened : WhatStandsIsOpened
 is_opened x y s stands =

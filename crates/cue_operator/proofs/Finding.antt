@@ -20,7 +20,7 @@ use Rattle.cue_osc.specs.Argument.{Argument}
 use Rattle.cue_core.specs.declared.command.Code.TheVariants as code
 use Rattle.cue_pattern.specs.declared.piece.Piece.{Piece}
 use Rattle.cue_pattern.specs.Literal.{is_literal}
-use Rattle.cue_pattern.specs.Reading.{enclosed, parts_of, pieces_of, pattern_at}
+use Rattle.cue_pattern.specs.Reading.{text_before, parts_of, pieces_of, pattern_at}
 use Rattle.cue_pattern.specs.Steps.{CutsFirst}
 use Rattle.cue_operator.specs.declared.method.CueVerb.{CueVerb}
 use Rattle.cue_operator.specs.declared.method.DeviceVerb.{DeviceVerb}
@@ -32,14 +32,7 @@ use Rattle.cue_operator.specs.Commands.{unless_none, commands_matched, commands_
 use Rattle.cue_operator.specs.LookUp.{behind_front, cut_at_slash, name_and_verb, cue_verbs_at, device_verbs_at, cue_methods_at, device_methods_at, looked_up, number_at, device_written, device_named}
 use Rattle.cue_operator.proofs.Literals.{literal-pattern}
 use Rattle.cue_operator.proofs.LookUps.{both, text_sym, equal_text, all-cues, all-devices, literal-is-looked-up}
-
-not_so : (b : Bool) → IsTrue (not b) → b ≡ false
-not_so true g = cc
-not_so false g = refl
-
-neither : (a b : Bool) → (a || b) ≡ false → (a ≡ false) × (b ≡ false)
-neither true b e = cc
-neither false b e = (refl, e)
+use Rattle.cue_show.proofs.TestLemmas.{not_so, neither}
 
 same_itself : (t : List ℕ) → same_text t t ≡ true
 same_itself [] = refl
@@ -345,9 +338,9 @@ one-method_at_each show a h = subst (λ (ms : List Method). length ms ≤ 1) (sy
 abbrev pair : List ℕ → List ℕ → List ℕ × List ℕ
 pair t u = (t, u)
 
-cut-enclosed : (r : List ℕ) → cut_at_slash r ≡ option_map (λ (t : List ℕ). (t, drop (length t + 1) r)) (enclosed 47 r)
-cut-enclosed [] = refl
-cut-enclosed (b ∷ r) = at (b == 47) (enclosed 47 r) (cut-enclosed r)
+cut-text_before : (r : List ℕ) → cut_at_slash r ≡ option_map (λ (t : List ℕ). (t, drop (length t + 1) r)) (text_before 47 r)
+cut-text_before [] = refl
+cut-text_before (b ∷ r) = at (b == 47) (text_before 47 r) (cut-text_before r)
   where
     at : (t : Bool) (o : Option (List ℕ)) → cut_at_slash r ≡ option_map (λ (t : List ℕ). (t, drop (length t + 1) r)) o
         → cond t (Some (pair [] r)) (option_map (λ (p : List ℕ × List ℕ). pair (b ∷ p.0) p.1) (cut_at_slash r)) ≡ option_map (λ (u : List ℕ). (u, drop (length u + 1) (b ∷ r))) (if t then Some [] else option_map (λ u. b ∷ u) o)
@@ -356,10 +349,10 @@ cut-enclosed (b ∷ r) = at (b == 47) (enclosed 47 r) (cut-enclosed r)
     at false (Some t) e = rw (e, add-one, add-one) refl
 
 pub cut-none : (r before : List ℕ) → CutsFirst 47 r before None → cut_at_slash r ≡ None
-cut-none r before h = cut-enclosed r ∙ ap (option_map (λ (t : List ℕ). (t, drop (length t + 1) r))) h.inside
+cut-none r before h = cut-text_before r ∙ ap (option_map (λ (t : List ℕ). (t, drop (length t + 1) r))) h.inside
 
 pub cut-some : (r before behind : List ℕ) → CutsFirst 47 r before (Some behind) → cut_at_slash r ≡ Some (before, behind)
-cut-some r before behind h = cut-enclosed r ∙ (ap (option_map (λ (t : List ℕ). (t, drop (length t + 1) r))) h.inside ∙ ap (λ (t : List ℕ). Some (before, t)) (sym h.rest.0))
+cut-some r before behind h = cut-text_before r ∙ (ap (option_map (λ (t : List ℕ). (t, drop (length t + 1) r))) h.inside ∙ ap (λ (t : List ℕ). Some (before, t)) (sym h.rest.0))
 
 -- what stands behind a front, by its length
 behind-length : (f a : List ℕ) → behind_front f a ≡ (if starts_with nat_eq a f then Some (drop (length f) a) else None)

@@ -50,7 +50,9 @@ status_by only = named_method only (codes "status") method.Status
 
 -- what is added under a front that is matched
 abbrev pub added_by : List Piece → List Method
-added_by name = named_method name (codes "device") method.AddDevice ++ (named_method name (codes "cue") method.AddCue ++ named_method name (codes "mixed") method.AddMixedCue)
+added_by name =
+    named_method name (codes "device") method.AddDevice
+    ++ (named_method name (codes "cue") method.AddCue ++ named_method name (codes "mixed") method.AddMixedCue)
 
 -- those that one of two parts matches
 abbrev pub show_by : List Piece → List Piece → List Method
@@ -58,19 +60,26 @@ show_by front name = methods_if (part_matches front (codes "show")) (added_by na
 
 -- those of cues that one of three parts matches
 abbrev pub cues_by : List Piece → List Piece → List Piece → List (List ℕ) → List Method
-cues_by front name verb cues = methods_if (part_matches front (codes "cue")) (flat_map (named_cue name (filter (λ v. part_matches verb (cue_verb_text v)) cue_verbs)) cues)
+cues_by front name verb cues =
+    methods_if (part_matches front (codes "cue"))
+    (flat_map (named_cue name (filter (λ v. part_matches verb (cue_verb_text v)) cue_verbs)) cues)
 
 -- those of devices that one of three parts matches
 abbrev pub devices_by : List Piece → List Piece → List Piece → List ℕ → List Method
-devices_by front name verb devices = methods_if (part_matches front (codes "device")) (flat_map (named_device name (filter (λ v. part_matches verb (device_verb_text v)) device_verbs)) devices)
+devices_by front name verb devices =
+    methods_if (part_matches front (codes "device"))
+    (flat_map (named_device name (filter (λ v. part_matches verb (device_verb_text v)) device_verbs)) devices)
 
 -- the methods that a pattern matches, by the number of its parts
 abbrev pub methods_by : ShowLists → List (List Piece) → List Method
 methods_by show (only ∷ []) = status_by only
 methods_by show (front ∷ name ∷ []) = show_by front name
-methods_by show (front ∷ name ∷ verb ∷ []) = cues_by front name verb (keys_of show.cues) ++ devices_by front name verb (keys_of show.devices)
+methods_by show (front ∷ name ∷ verb ∷ []) =
+    cues_by front name verb (keys_of show.cues) ++ devices_by front name verb (keys_of show.devices)
 methods_by show _ = []
 
 -- The methods whose address a pattern matches are those that its parts match.
 abbrev pub MatchedByParts : Type 0
-MatchedByParts = (show : ShowLists) (pattern : List (List Piece)) → IsTrue (is_show show) → methods_at (matches pattern) (methods show) ≡ methods_by show pattern
+MatchedByParts =
+    (show : ShowLists) (pattern : List (List Piece)) → IsTrue (is_show show)
+    → methods_at (matches pattern) (methods show) ≡ methods_by show pattern

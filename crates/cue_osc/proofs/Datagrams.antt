@@ -14,6 +14,7 @@ use Rattle.cue_osc.proofs.Fields.{IsBytes, ok_is, chosen}
 use Rattle.cue_osc.proofs.Faults.{IsInside, FailsInside, packet_inside}
 use Rattle.cue_osc.proofs.Addresses.{packet_addresses}
 use Rattle.cue_osc.proofs.Packets.{datagram_takes, datagram_again}
+use Rattle.cue_osc.specs.declared.limits.TheConstants.{MAX_LEN}
 
 pub is_found : (bytes : List ℕ) (r : Result Packet Fault) → IsBytes bytes → Gives view r (datagram_at bytes) → IfOk r (λ p. Spells bytes (view p))
 is_found bytes (Ok p) fits h = datagram_takes bytes (view p) fits h
@@ -36,13 +37,13 @@ not_inside : (bytes : List ℕ) (f : Fault) → (IsInside f → ⊥) → packet_
 not_inside bytes f out e = out (subst FailsInside e (packet_inside 8 bytes))
 
 -- whose fault it is
-cause : (bytes : List ℕ) (f : Fault) → datagram_at bytes ≡ Err f → ((4096 < length bytes) × (f ≡ faults.TooLong)) ⊎ ((length bytes ≤ 4096) × (((length bytes % 4 ≢ 0) × (f ≡ faults.NotMultiple)) ⊎ (packet_at 8 bytes ≡ Err f)))
+cause : (bytes : List ℕ) (f : Fault) → datagram_at bytes ≡ Err f → ((MAX_LEN < length bytes) × (f ≡ faults.TooLong)) ⊎ ((length bytes ≤ MAX_LEN) × (((length bytes % 4 ≢ 0) × (f ≡ faults.NotMultiple)) ⊎ (packet_at 8 bytes ≡ Err f)))
 unfolding datagram_at
 cause bytes f e =
-    elim (chosen (ltb 4096 (length bytes)) (Err faults.TooLong) (cond (not (eqb (length bytes % 4) 0)) (Err faults.NotMultiple) (packet_at 8 bytes)) (Err f) e) [
-      | inl p ↦ inl (ltb-true 4096 (length bytes) p.0, cc)
+    elim (chosen (ltb MAX_LEN (length bytes)) (Err faults.TooLong) (cond (not (eqb (length bytes % 4) 0)) (Err faults.NotMultiple) (packet_at 8 bytes)) (Err f) e) [
+      | inl p ↦ inl (ltb-true MAX_LEN (length bytes) p.0, cc)
       | inr p ↦ inr (
-        ltb-false 4096 (length bytes) p.0,
+        ltb-false MAX_LEN (length bytes) p.0,
         elim (chosen (not (eqb (length bytes % 4) 0)) (Err faults.NotMultiple) (packet_at 8 bytes) (Err f) p.1) [
           | inl q ↦ inl (eqb-false (length bytes % 4) 0 (not-true (eqb (length bytes % 4) 0) q.0), cc)
           | inr q ↦ inr q.1
@@ -50,7 +51,7 @@ cause bytes f e =
       )
     ]
 
-pub long_if : (bytes : List ℕ) (r : Result Packet Fault) → Gives view r (datagram_at bytes) → r ≡ Err faults.TooLong → 4096 < length bytes
+pub long_if : (bytes : List ℕ) (r : Result Packet Fault) → Gives view r (datagram_at bytes) → r ≡ Err faults.TooLong → MAX_LEN < length bytes
 long_if bytes r h e =
     let g : datagram_at bytes ≡ Err faults.TooLong = subst (λ (s : Result Packet Fault). Gives view s (datagram_at bytes)) e h in
     elim (cause bytes faults.TooLong g) [
@@ -61,7 +62,7 @@ long_if bytes r h e =
       ]
     ]
 
-pub no_multiple_if : (bytes : List ℕ) (r : Result Packet Fault) → Gives view r (datagram_at bytes) → r ≡ Err faults.NotMultiple → (length bytes ≤ 4096) × (length bytes % 4 ≢ 0)
+pub no_multiple_if : (bytes : List ℕ) (r : Result Packet Fault) → Gives view r (datagram_at bytes) → r ≡ Err faults.NotMultiple → (length bytes ≤ MAX_LEN) × (length bytes % 4 ≢ 0)
 no_multiple_if bytes r h e =
     let g : datagram_at bytes ≡ Err faults.NotMultiple = subst (λ (s : Result Packet Fault). Gives view s (datagram_at bytes)) e h in
     elim (cause bytes faults.NotMultiple g) [

@@ -14,6 +14,7 @@ use Rattle.cue_osc.proofs.Loops.{bind_ok, element_is, element_shorter, elements_
 use Rattle.cue_osc.proofs.Starts.{message_start, no_start, too_deep, bundle_start}
 use Rattle.cue_osc.proofs.Fields.{IsBytes, IsBytes-rest, IsBytes-take, IsBytes-drop, ok_is, else_ok, wide32, wide64, number_takes, number_again}
 use Rattle.cue_osc.proofs.Parts.{message_takes, message_again, discarded_again}
+use Rattle.cue_osc.specs.declared.limits.TheConstants.{MAX_LEN}
 
 -- ---- elements
 
@@ -172,13 +173,13 @@ mutual
 pub datagram_takes : (bytes : List ℕ) (c : Content) → IsBytes bytes → datagram_at bytes ≡ Ok c → Spells bytes c
 unfolding datagram_at
 datagram_takes bytes c fits e =
-    let a = else_ok (ltb 4096 (length bytes)) TooLong (cond (not (eqb (length bytes % 4) 0)) (Err NotMultiple) (packet_at 8 bytes)) c e in
+    let a = else_ok (ltb MAX_LEN (length bytes)) TooLong (cond (not (eqb (length bytes % 4) 0)) (Err NotMultiple) (packet_at 8 bytes)) c e in
     let b = else_ok (not (eqb (length bytes % 4) 0)) NotMultiple (packet_at 8 bytes) c a.1 in
-    (ltb-false 4096 (length bytes) a.0, eqb-true (length bytes % 4) 0 (not-false (eqb (length bytes % 4) 0) b.0), packet_takes 8 bytes c fits b.1)
+    (ltb-false MAX_LEN (length bytes) a.0, eqb-true (length bytes % 4) 0 (not-false (eqb (length bytes % 4) 0) b.0), packet_takes 8 bytes c fits b.1)
 
 pub datagram_again : (bytes : List ℕ) (c : Content) → Spells bytes c → datagram_at bytes ≡ Ok c
 unfolding datagram_at
 datagram_again bytes c h =
-    let short : ltb 4096 (length bytes) ≡ false = le-ltb 4096 (length bytes) h.0 in
+    let short : ltb MAX_LEN (length bytes) ≡ false = le-ltb MAX_LEN (length bytes) h.0 in
     let whole : eqb (length bytes % 4) 0 ≡ true = eq-eqb (length bytes % 4) 0 h.1 in
     rw (short, whole) (packet_again 8 bytes c h.2)

@@ -10,6 +10,7 @@ use Rattle.cue_osc.specs.Spelling.{padding, osc_string, osc_blob, argument, Fits
 use Rattle.cue_osc.specs.Plain.{IsPlainArg, IsPlain, AllPlain}
 use Rattle.cue_osc.specs.Writing.{text_of, elements_text, IsArgInRange, IsInRange, AllInRange}
 use Rattle.cue_osc.proofs.Room.{element_len}
+use Rattle.cue_osc.specs.declared.limits.TheConstants.{MAX_LEN}
 
 -- ---- lengths
 
@@ -97,5 +98,5 @@ mutual
       (text_of c, elements_text cs, (unit.some, omega arith, unit.whole), refl, text_spelled d c h.0 k.0 (omega arith), elements_spelled d cs h.1 k.1 (omega arith))
 
 -- the spelling of a plain packet is a datagram of it, unless it is too long
-pub text_spells : (c : Content) → IsPlain 8 c → IsInRange c → length (text_of c) ≤ 4096 → Spells (text_of c) c
+pub text_spells : (c : Content) → IsPlain 8 c → IsInRange c → length (text_of c) ≤ MAX_LEN → Spells (text_of c) c
 text_spells c h k le = (le, (text_unit 8 c h).whole, text_spelled 8 c h k (omega arith))

@@ -9,6 +9,7 @@ use Rattle.cue_osc.specs.declared.fault.Fault.TheVariants.{TooLong, NotMultiple,
 use Rattle.cue_osc.specs.Argument.{Argument, int, text, blob}
 use Rattle.cue_osc.specs.Content.{Content, message, discarded, bundle, Contents, nothing, element}
 use Rattle.cue_osc.specs.Spelling.{slash, comma, padding, is_known_tag, bundle_head}
+use Rattle.cue_osc.specs.declared.limits.TheConstants.{MAX_LEN}
 
 -- one step, and the next where it did not fail
 infixl 10 ◌>>=◌
@@ -32,11 +33,15 @@ are_zeros bytes = list_all (λ b. b == 0) bytes
 
 -- a number, and the bytes after it
 abbrev pub number_at : Width → List ℕ → Result (ℕ × List ℕ) Fault
-number_at w bytes = if nat_lt (length bytes) (byte_len w) then Err BadSize else Ok (from_be_bytes w (take (byte_len w) bytes), drop (byte_len w) bytes)
+number_at w bytes =
+    if nat_lt (length bytes) (byte_len w) then Err BadSize
+    else Ok (from_be_bytes w (take (byte_len w) bytes), drop (byte_len w) bytes)
 
 -- n bytes and k zeros, and the bytes after them
 unfoldable pub padded_at : ℕ → ℕ → List ℕ → Option (List ℕ × List ℕ)
-padded_at n k bytes = if nat_lt (length bytes) n then None else if nat_lt (length (drop n bytes)) k then None else if are_zeros (take k (drop n bytes)) then Some (take n bytes, drop k (drop n bytes)) else None
+padded_at n k bytes =
+    if nat_lt (length bytes) n then None else if nat_lt (length (drop n bytes)) k then None
+    else if are_zeros (take k (drop n bytes)) then Some (take n bytes, drop k (drop n bytes)) else None
 
 -- the number of bytes before the first null
 abbrev pub text_len : List ℕ → ℕ
@@ -128,7 +133,8 @@ bundle_by read bytes = do
 
 -- a packet, where inner is what is read of it as a bundle
 abbrev pub start_at : Result Content Fault → List ℕ → Result Content Fault
-start_at inner bytes = if is_message_start bytes then message_at bytes else if is_bundle_start bytes then inner else Err BadStart
+start_at inner bytes =
+    if is_message_start bytes then message_at bytes else if is_bundle_start bytes then inner else Err BadStart
 
 -- a packet, all of the bytes, with bundles at most so deep
 unfoldable pub packet_at : ℕ → List ℕ → Result Content Fault
@@ -137,4 +143,6 @@ packet_at (suc d) bytes = start_at (bundle_by (packet_at d) (drop 8 bytes)) byte
 
 -- a datagram
 unfoldable pub datagram_at : List ℕ → Result Content Fault
-datagram_at bytes = if nat_lt 4096 (length bytes) then Err TooLong else if not (length bytes % 4 == 0) then Err NotMultiple else packet_at 8 bytes
+datagram_at bytes =
+    if nat_lt MAX_LEN (length bytes) then Err TooLong else if not (length bytes % 4 == 0) then Err NotMultiple
+    else packet_at 8 bytes

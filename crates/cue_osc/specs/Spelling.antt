@@ -5,6 +5,7 @@ use Rattle.std.specs.List.{flat_map, AllByRecursion, list_all}
 use Rattle.std.specs.Int.{w32, w64, to_be_bytes, cast_unsigned}
 use Rattle.cue_osc.specs.Argument.{Argument, int, text, blob}
 use Rattle.cue_osc.specs.Content.{Content, message, discarded, bundle, Contents, nothing, element}
+use Rattle.cue_osc.specs.declared.limits.TheConstants.{MAX_LEN}
 
 -- the characters / and ,
 abbrev pub slash : ℕ
@@ -62,7 +63,8 @@ message_text a xs = osc_string a ++ (osc_string (tags xs) ++ flat_map argument x
 
 -- these bytes are this message: with its type tag string, or, without arguments, also without it
 abbrev pub IsMessage : List ℕ → List ℕ → List Argument → Type 0
-IsMessage bytes a xs = IsAddress a × AllByRecursion Fits xs × ((bytes ≡ message_text a xs) ⊎ ((xs ≡ []) × (bytes ≡ osc_string a)))
+IsMessage bytes a xs =
+    IsAddress a × AllByRecursion Fits xs × ((bytes ≡ message_text a xs) ⊎ ((xs ≡ []) × (bytes ≡ osc_string a)))
 
 -- whether a tag is i, s or b
 abbrev pub is_known_tag : ℕ → Bool
@@ -101,12 +103,15 @@ abbrev mutual
   IsPacket d bytes (message a xs) = IsMessage bytes a xs
   IsPacket d bytes (discarded a) = IsDiscarded bytes a
   IsPacket zero bytes (bundle t cs) = ⊥
-  IsPacket (suc d) bytes (bundle t cs) = (t < 2 ^ 64) × (rest : List ℕ) × (bytes ≡ bundle_head ++ (to_be_bytes w64 t ++ rest)) × AreElements d rest cs
+  IsPacket (suc d) bytes (bundle t cs) =
+      (t < 2 ^ 64) × (rest : List ℕ) × (bytes ≡ bundle_head ++ (to_be_bytes w64 t ++ rest)) × AreElements d rest cs
 
   pub AreElements : ℕ → List ℕ → Contents → Type 0
   AreElements d bytes nothing = bytes ≡ []
-  AreElements d bytes (element c cs) = (front : List ℕ) × (rest : List ℕ) × IsSize (length front) × (bytes ≡ to_be_bytes w32 (length front) ++ (front ++ rest)) × IsPacket d front c × AreElements d rest cs
+  AreElements d bytes (element c cs) =
+      (front : List ℕ) × (rest : List ℕ) × IsSize (length front)
+      × (bytes ≡ to_be_bytes w32 (length front) ++ (front ++ rest)) × IsPacket d front c × AreElements d rest cs
 
 -- a datagram that is this packet: at most 4,096 bytes, a multiple of 4, bundles at most 8 deep
 abbrev pub Spells : List ℕ → Content → Type 0
-Spells bytes c = (length bytes ≤ 4096) × (length bytes % 4 ≡ 0) × IsPacket 8 bytes c
+Spells bytes c = (length bytes ≤ MAX_LEN) × (length bytes % 4 ≡ 0) × IsPacket 8 bytes c

@@ -40,5 +40,5 @@ abbrev mutual
   is_any_later now (element c cs) = is_later now c || is_any_later now cs
 
 -- what a borrowed packet says
-abbrev pub seen : Bor Packet → Content
-seen p = view p.now
+abbrev pub content_at : Bor Packet → Content
+content_at p = view p.now

@@ -1,7 +1,7 @@
 //! Laws of every datagram and every packet, each the contract of a function that does nothing.
 
 ghost use Rattle.std.specs.Prelude.{◌≡◌};
-ghost use Rattle.cue_osc.specs.declared.packet.TheConstants.{MAX_DEPTH, MAX_LEN};
+ghost use Rattle.cue_osc.specs.declared.limits.TheConstants.{MAX_DEPTH, MAX_LEN};
 ghost use Rattle.cue_osc.specs.Laws.{ReadingIsTheGrammar, OnePacket, WrittenIsSpelled, WrittenIsRead, MessagesHaveAddresses, MemoryIsNoFault};
 
 /// Reading from front to back finds a packet exactly where the grammar has one, and that one.

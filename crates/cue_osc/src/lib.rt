@@ -3,6 +3,7 @@
 
 mod fault;
 pub mod laws;
+mod limits;
 mod packet;
 mod plain;
 mod reading;
@@ -10,6 +11,7 @@ mod walking;
 mod writing;
 
 pub use fault::{Fault, WriteFault};
-pub use packet::{Arg, Args, BUNDLE_HEAD, MAX_DEPTH, MAX_LEN, Message, Packet};
+pub use limits::{BUNDLE_HEAD, MAX_DEPTH, MAX_LEN};
+pub use packet::{Arg, Args, Message, Packet};
 pub use reading::read;
 pub use writing::write;

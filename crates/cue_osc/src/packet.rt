@@ -5,15 +5,6 @@ ghost use Rattle.cue_osc.specs.Argument.{arg_view};
 
 use std::marker::Model;
 
-/// The longest datagram, in bytes.
-pub const MAX_LEN: usize = 4096;
-
-/// How many bundles may stand one in the other.
-pub const MAX_DEPTH: u8 = 8;
-
-/// The eight bytes with which each bundle begins.
-pub const BUNDLE_HEAD: [u8; 8] = *b"#bundle\0";
-
 /// One argument of a message. Texts and blobs lie in the datagram.
 #[derive(Clone, Copy, Debug, PartialEq, Eq)]
 pub enum Arg<'a> {

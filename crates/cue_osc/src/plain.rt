@@ -6,7 +6,8 @@ ghost use Rattle.cue_osc.specs.Argument.{arg_view};
 ghost use Rattle.cue_osc.specs.Content.{view, contents_of};
 ghost use Rattle.cue_osc.specs.Plain.{IsPlain, is_text, is_address, is_plain_arg, is_plain, are_plain};
 
-use crate::packet::{Arg, MAX_DEPTH, Packet};
+use crate::limits::MAX_DEPTH;
+use crate::packet::{Arg, Packet};
 
 impl Packet<'_> {
     /// Whether the packet can be written: nothing in it is discarded, each address begins with `/`,

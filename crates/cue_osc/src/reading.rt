@@ -10,9 +10,11 @@ ghost use Rattle.cue_osc.specs.Content.{Content, view};
 ghost use Rattle.cue_osc.specs.Spelling.{Spells};
 ghost use Rattle.cue_osc.specs.Walking.{leaves, HasAddress};
 ghost use Rattle.cue_osc.specs.Reading.{Gives, datagram_at};
+ghost use Rattle.cue_osc.specs.declared.limits.TheConstants.{MAX_LEN};
 
 use crate::fault::Fault;
-use crate::packet::{MAX_DEPTH, MAX_LEN, Packet};
+use crate::limits::{MAX_DEPTH, MAX_LEN};
+use crate::packet::Packet;
 use bundle::packet;
 use std::alloc::Global;
 
@@ -27,8 +29,9 @@ pub fn read<'a>(alloc: Global, bytes: &'a [u8]) -> Result<Packet<'a>, Fault>
     ensures only { (c : Content) → Spells bytes.now c → MatchResult result (λ p. view p ≡ c) (λ e. e ≡ Fault.Memory) }
     // Whoever answers a message has its address.
     ensures addresses { IfOk result (λ p. AllByRecursion HasAddress (leaves (view p))) }
-    ensures too_long { (result ≡ Err Fault.TooLong) ↔ (4096 < length bytes.now) }
-    ensures not_multiple { (result ≡ Err Fault.NotMultiple) ↔ ((length bytes.now ≤ 4096) × (length bytes.now % 4 ≢ 0)) }
+    ensures too_long { (result ≡ Err Fault.TooLong) ↔ (MAX_LEN < length bytes.now) }
+    ensures not_multiple { (result ≡ Err Fault.NotMultiple)
+        ↔ ((length bytes.now ≤ MAX_LEN) × (length bytes.now % 4 ≢ 0)) }
     // Which fault it is: the first one in the order of reading.
     ensures exact { Gives view result (datagram_at bytes.now) }
 {
@@ -37,8 +40,8 @@ pub fn read<'a>(alloc: Global, bytes: &'a [u8]) -> Result<Packet<'a>, Fault>
 
 #[tactic(auto, unfolding(crate::specs::Reading::datagram_at))]
 fn datagram<'a>(alloc: Global, bytes: &'a [u8]) -> Result<Packet<'a>, Fault>
-    ensures too_long { 4096 < length bytes.now → result ≡ Err Fault.TooLong }
-    ensures not_multiple { length bytes.now ≤ 4096 → length bytes.now % 4 ≢ 0 → result ≡ Err Fault.NotMultiple }
+    ensures too_long { MAX_LEN < length bytes.now → result ≡ Err Fault.TooLong }
+    ensures not_multiple { length bytes.now ≤ MAX_LEN → length bytes.now % 4 ≢ 0 → result ≡ Err Fault.NotMultiple }
     ensures exact { Gives view result (datagram_at bytes.now) }
 {
     if bytes.len() > MAX_LEN {

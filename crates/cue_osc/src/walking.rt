@@ -2,7 +2,7 @@
 
 ghost use Rattle.std.specs.Prelude.{◌≡◌, ◌↔◌, ◌++◌, map, IfOk, OnOk, IsTrue};
 ghost use Rattle.cue_osc.specs.Content.{view, contents_of};
-ghost use Rattle.cue_osc.specs.Walking.{leaves, all_leaves, is_later, is_later_tag, is_any_later, seen};
+ghost use Rattle.cue_osc.specs.Walking.{leaves, all_leaves, is_later, is_later_tag, is_any_later, content_at};
 
 use crate::packet::Packet;
 use std::alloc::{AllocError, Global};
@@ -13,7 +13,7 @@ const MS_TO_1970: u128 = 2_208_988_800_000;
 impl<'a> Packet<'a> {
     /// The messages and the discarded messages, in order, whatever bundles they stand in.
     pub fn messages(&self, alloc: Global) -> Result<Vec<&Packet<'a>>, AllocError>
-        ensures { IfOk result (λ found. map seen found.items ≡ leaves (view self.now)) }
+        ensures { IfOk result (λ found. map content_at found.items ≡ leaves (view self.now)) }
     {
         let mut found = Vec::new(alloc);
         collect(self, &mut found)?;
@@ -38,7 +38,8 @@ fn collect<'p, 'a>(
     packet: &'p Packet<'a>,
     found: &mut Vec<&'p Packet<'a>>,
 ) -> Result<(), AllocError>
-    ensures { OnOk result (map seen found.new.items ≡ map seen found.old.items ++ leaves (view packet.now)) }
+    ensures { OnOk result (map content_at found.new.items
+        ≡ map content_at found.old.items ++ leaves (view packet.now)) }
 {
     match packet {
         Packet::Bundle { items, .. } => collect_all(items, found),
@@ -51,7 +52,8 @@ fn collect_all<'p, 'a>(
     items: &'p [Packet<'a>],
     found: &mut Vec<&'p Packet<'a>>,
 ) -> Result<(), AllocError>
-    ensures { OnOk result (map seen found.new.items ≡ map seen found.old.items ++ all_leaves (contents_of (map view items.now))) }
+    ensures { OnOk result (map content_at found.new.items
+        ≡ map content_at found.old.items ++ all_leaves (contents_of (map view items.now))) }
 {
     for item in items {
         collect(item, found)?;

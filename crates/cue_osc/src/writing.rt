@@ -6,12 +6,14 @@ ghost use Rattle.cue_osc.specs.Spelling.{Spells};
 ghost use Rattle.cue_osc.specs.Reading.{datagram_at};
 ghost use Rattle.cue_osc.specs.Plain.{IsPlain};
 ghost use Rattle.cue_osc.specs.Writing.{text_of, elements_text, IsInRange, AllInRange};
+ghost use Rattle.cue_osc.specs.declared.limits.TheConstants.{MAX_LEN};
 
 mod fields;
 mod length;
 
 use crate::fault::WriteFault;
-use crate::packet::{BUNDLE_HEAD, MAX_LEN, Packet};
+use crate::limits::{BUNDLE_HEAD, MAX_LEN};
+use crate::packet::Packet;
 use fields::put_message;
 use length::room_after;
 use std::alloc::{AllocError, Global};
@@ -25,7 +27,7 @@ pub fn write(alloc: Global, packet: &Packet<'_>) -> Result<Vec<u8>, WriteFault>
     // What was written is a datagram of this packet, and is read again as the same.
     ensures spells { IfOk result (λ v. Spells v.items (view packet.now)) }
     ensures again { IfOk result (λ v. datagram_at v.items ≡ Ok (view packet.now)) }
-    ensures too_long { (result ≡ Err WriteFault.TooLong) ↔ (4096 < length (text_of (view packet.now))) }
+    ensures too_long { (result ≡ Err WriteFault.TooLong) ↔ (MAX_LEN < length (text_of (view packet.now))) }
 {
     let Some(left) = room_after(packet, MAX_LEN) else {
         return Err(WriteFault::TooLong);
@@ -37,7 +39,7 @@ pub fn write(alloc: Global, packet: &Packet<'_>) -> Result<Vec<u8>, WriteFault>
 
 /// How long the spelling of a packet is that is no longer than a datagram.
 fn text_len(packet: &Packet<'_>) -> usize
-    requires { length (text_of (view packet.now)) ≤ 4096 }
+    requires { length (text_of (view packet.now)) ≤ MAX_LEN }
     ensures { result ≡ length (text_of (view packet.now)) }
 {
     match room_after(packet, MAX_LEN) {
@@ -49,7 +51,7 @@ fn text_len(packet: &Packet<'_>) -> usize
 /// A packet, behind what stands already.
 #[cycle(put)]
 fn put(out: &mut Vec<u8>, packet: &Packet<'_>) -> Result<(), AllocError>
-    requires { length (text_of (view packet.now)) ≤ 4096 }
+    requires { length (text_of (view packet.now)) ≤ MAX_LEN }
     ensures ok { OnOk result (out.new.items ≡ out.old.items ++ text_of (view packet.now)) }
     ensures in_range { OnOk result (IsInRange (view packet.now)) }
 {
@@ -67,7 +69,7 @@ fn put(out: &mut Vec<u8>, packet: &Packet<'_>) -> Result<(), AllocError>
 /// The elements of a bundle, each behind its size.
 #[cycle(put)]
 fn put_elements(out: &mut Vec<u8>, items: &[Packet<'_>]) -> Result<(), AllocError>
-    requires { length (elements_text (contents_of (map view items.now))) ≤ 4096 }
+    requires { length (elements_text (contents_of (map view items.now))) ≤ MAX_LEN }
     ensures ok { OnOk result (out.new.items ≡ out.old.items ++ elements_text (contents_of (map view items.now))) }
     ensures in_range { OnOk result (AllInRange (contents_of (map view items.now))) }
 {

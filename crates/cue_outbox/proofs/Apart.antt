@@ -1,4 +1,4 @@
--- No two pending commands are for the same device in the same attempt, so no two are the same datagram.
+-- No two pending orders are for the same device in the same attempt, so no two are the same datagram.
 use Rattle.std.proofs.Common.{◌≡◌, ◌≢◌, ℕ, ◌<◌, pos, Bool, true, false, not, cond, List, [], ◌∷◌, nat_eq, nat_lt, IsTrue, None, Some, Ok, refl, sym, ap, ◌∙◌, arith}
 use Rattle.std.specs.List.{AllByRecursion, list_all, list_any, filter_map, flat_map, cons_option}
 use Rattle.std.proofs.lemmas.Bool.{and_parts, ltb-true, eqb-false, not-true}
@@ -15,15 +15,15 @@ use Rattle.cue_exchange.specs.Live.{disjoint, pairwise, goes_before}
 use Rattle.cue_exchange.proofs.LiveRules.{order_of}
 use Rattle.cue_core.specs.State.{ShowState, cue_parts, is_state}
 use Rattle.cue_core.specs.Pending.{Order, standby, go_2pc, cancel, bytes_for, order_at, order_for, pending}
-use Rattle.cue_core.proofs.Rules.{rules_of}
+use Rattle.cue_core.proofs.rules.RuleLemmas.{rules_of}
 use Rattle.cue_outbox.specs.Sending.{order, order_content, send_content, datagram, datagrams, orders, all_pending}
-use Rattle.cue_outbox.specs.Laws.{CommandsDiffer}
+use Rattle.cue_outbox.specs.Laws.{OrdersDiffer}
 use Rattle.cue_outbox.proofs.Lists.{Pairs, pairs_all, pairs_append, each_weaker, each_passes, each_fails, each_mapped, each_found, each_flat}
 use Rattle.cue_outbox.proofs.ReadBack.{read_back}
 use Rattle.cue_outbox.proofs.Told.{IsTold, live_told}
 use Rattle.cue_outbox.proofs.Writable.{sent, if_waits, IsWritableOrder, all_writable}
 
--- the number and the device of a command
+-- the number and the device of an order
 abbrev pub key : Order → ℕ × ℕ
 key (standby q d cue bytes) = (q, d)
 key (go_2pc q d) = (q, d)
@@ -40,7 +40,7 @@ key_sent s a x = key_at a.stage a.seq x.device a.cue (bytes_for x.device (cue_pa
 abbrev pub Apart : ℕ × Order → ℕ × Order → Type 0
 Apart o p = key o.1 ≡ key p.1 → ⊥
 
--- the commands to some devices of the attempt
+-- the orders to some devices of the attempt
 abbrev told_to : ShowState → Attempt → List DeviceAnswer → List (ℕ × Order)
 told_to s a xs = filter_map (order_for s a) xs
 
@@ -79,7 +79,7 @@ apart_within s a (x ∷ xs) h =
 
 -- ---- between attempts
 
--- the commands of later attempts carry higher numbers
+-- the orders of later attempts carry higher numbers
 higher_told : (s : ShowState) (a : Attempt) (rest : List Attempt) → IsTrue (list_all (goes_before a) rest) → AllByRecursion (λ (o : ℕ × Order). a.seq < (key o.1).0) (flat_map (λ b. told_to s b b.answers) rest)
 higher_told s a rest h =
     each_flat (λ b. IsTrue (goes_before a b)) (λ (o : ℕ × Order). a.seq < (key o.1).0) (λ b. told_to s b b.answers)
@@ -117,7 +117,7 @@ key_in (standby q d cue bytes) = refl
 key_in (go_2pc q d) = refl
 key_in (cancel q d) = refl
 
--- other commands have other bytes
+-- other orders have other bytes
 pub apart_bytes : (o p : ℕ × Order) → IsWritableOrder o → IsWritableOrder p → Apart o p → datagram (o.0, order o.1) ≢ datagram (p.0, order p.1)
 unfolding datagram send_content
 apart_bytes o p w v apart e =
@@ -133,9 +133,9 @@ pub all_other : (os : List (ℕ × Order)) → AllByRecursion IsWritableOrder os
 all_other [] ws h = tt
 all_other (o ∷ os) ws h = (each_other o os ws.0 ws.1 h.0, all_other os ws.1 h.1)
 
--- no two of the pending commands are for the same device in the same attempt
+-- no two of the pending orders are for the same device in the same attempt
 pub apart_pending : (s : ShowState) → IsTrue (is_state s) → Pairs Apart (pending s)
 apart_pending s h = apart_all s s.live (live_told s h) (order_of s.live (rules_of s h).live)
 
-pub commands-differ : CommandsDiffer
-commands-differ s h = pairs_all (λ x y. x ≢ y) (datagrams (all_pending s)) (all_other (pending s) (all_writable s h) (apart_pending s h))
+pub orders-differ : OrdersDiffer
+orders-differ s h = pairs_all (λ x y. x ≢ y) (datagrams (all_pending s)) (all_other (pending s) (all_writable s h) (apart_pending s h))

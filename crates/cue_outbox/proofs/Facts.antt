@@ -9,12 +9,12 @@ use Rattle.cue_show.specs.Number.{pieces, is_run, is_cue_number}
 use Rattle.cue_show.specs.declared.limits.TheConstants.{MAX_CUE_BYTES}
 use Rattle.cue_show.proofs.RunsLemmas.{runs_from, runs_from-start}
 use Rattle.cue_exchange.specs.declared.attempt.Attempt.{Attempt}
-use Rattle.cue_exchange.specs.declared.limits.TheConstants.{LAST_NUMBER, MAX_LIVE}
+use Rattle.cue_exchange.specs.declared.limits.TheConstants.{MAX_NUMBER, MAX_LIVE}
 use Rattle.cue_exchange.specs.Live.{is_number, are_live}
 use Rattle.cue_exchange.proofs.LiveRules.{room_of}
 use Rattle.cue_core.specs.declared.event.Ended.{Ended}
 use Rattle.cue_core.specs.State.{ShowState, is_state, is_ended}
-use Rattle.cue_core.proofs.Rules.{rules_of}
+use Rattle.cue_core.proofs.rules.RuleLemmas.{rules_of}
 use Rattle.cue_outbox.specs.Sending.{ended_number}
 
 digit_some : (b : ℕ) → is_ascii_digit b ≡ true → 0 < b
@@ -43,21 +43,21 @@ number_text text h =
 pub number_short : (text : List ℕ) → IsTrue (is_cue_number text) → length text ≤ 16
 number_short text h = leb-true (length text) MAX_CUE_BYTES (and_parts (nat_le (length text) MAX_CUE_BYTES) (list_all is_run (pieces text)) h).0
 
-number_fits : (q : ℕ) → IsTrue (is_number q) → q ≤ LAST_NUMBER
-number_fits q h = leb-true q LAST_NUMBER (and_parts (nat_le 1 q) (nat_le q LAST_NUMBER) h).1
+number_fits : (q : ℕ) → IsTrue (is_number q) → q ≤ MAX_NUMBER
+number_fits q h = leb-true q MAX_NUMBER (and_parts (nat_le 1 q) (nat_le q MAX_NUMBER) h).1
 
 -- the last number that was drawn is one
-pub last_fits : (s : ShowState) → IsTrue (is_state s) → s.last_seq ≤ LAST_NUMBER
-last_fits s h = leb-true s.last_seq LAST_NUMBER (rules_of s h).last
+pub last_fits : (s : ShowState) → IsTrue (is_state s) → s.last_seq ≤ MAX_NUMBER
+last_fits s h = leb-true s.last_seq MAX_NUMBER (rules_of s h).last
 
 -- few attempts are live
 pub live_fits : (live : List Attempt) → IsTrue (are_live live) → length live ≤ MAX_LIVE
 live_fits live h = leb-true (length live) MAX_LIVE (room_of live h)
 
-ended_is_number : (live : List Attempt) (last : ℕ) (e : Option Ended) → IsTrue (is_ended live last e) → ended_number e ≤ LAST_NUMBER
+ended_is_number : (live : List Attempt) (last : ℕ) (e : Option Ended) → IsTrue (is_ended live last e) → ended_number e ≤ MAX_NUMBER
 ended_is_number live last None h = omega arith
 ended_is_number live last (Some e) h = number_fits e.seq (and_parts (is_number e.seq) _ h).0
 
 -- the attempt that ended last has a number
-pub ended_fits : (s : ShowState) → IsTrue (is_state s) → ended_number s.ended ≤ LAST_NUMBER
+pub ended_fits : (s : ShowState) → IsTrue (is_state s) → ended_number s.ended ≤ MAX_NUMBER
 ended_fits s h = ended_is_number s.live s.last_seq s.ended (rules_of s h).ended

@@ -1,4 +1,4 @@
--- The newly pending commands are those of the attempts whose devices are asked anew.
+-- The newly pending orders are those of the attempts whose devices are asked anew.
 use Rattle.std.proofs.Common.{◌≡◌, ◌≢◌, ℕ, ◌<◌, ◌≤◌, Bool, true, false, not, cond, ◌||◌, List, [], ◌∷◌, ◌++◌, filter, nat_eq, nat_lt, nat_le, IsTrue, Some, Ok, refl, sym, ap, ◌∙◌, subst, arith}
 use Rattle.std.specs.List.{AllByRecursion, list_all, list_any, flat_map}
 use Rattle.std.specs.Cmp.Lexicographic.{pointwise, bytes_decides}
@@ -13,33 +13,33 @@ use Rattle.cue_exchange.specs.declared.attempt.Attempt.{Attempt}
 use Rattle.cue_exchange.specs.Answers.{is_preparing, waits}
 use Rattle.cue_exchange.specs.Live.{attempt_of, has_number}
 use Rattle.cue_core.specs.State.{ShowState, cue_parts, is_state}
-use Rattle.cue_core.specs.Steps.{folded}
+use Rattle.cue_core.specs.Steps.{after_events}
 use Rattle.cue_core.specs.Pending.{Order, standby, go_2pc, cancel, bytes_for, order_at, order_for, pending}
 use Rattle.cue_core.specs.InTurn.{steps, events_of}
-use Rattle.cue_core.proofs.InTurn.{steps-acceptable}
-use Rattle.cue_core.proofs.Conditions.{both, join, same_number, same_self}
-use Rattle.cue_core.proofs.Finding.{rising, found_has}
-use Rattle.cue_core.proofs.Rules.{rules_of}
-use Rattle.cue_core.proofs.Sound.{sound_of}
+use Rattle.cue_core.proofs.verdicts.StepLemmas.{steps-acceptable}
+use Rattle.cue_core.proofs.lists.ConditionLemmas.{both, join, same_number, same_self}
+use Rattle.cue_core.proofs.live.FindingLemmas.{rising, found_has}
+use Rattle.cue_core.proofs.rules.RuleLemmas.{rules_of}
+use Rattle.cue_core.proofs.rules.SoundLemmas.{sound_of}
 use Rattle.cue_outbox.specs.Sending.{Send, order, order_content, send_content, datagram, datagrams, orders, all_pending}
 use Rattle.cue_outbox.specs.New.{same_datagram, is_new, newly_pending}
-use Rattle.cue_outbox.specs.Asked.{number_of, is_asked, pending_of, NewlyPendingAreAsked, StepsAskAnew, AskedCommandsDiffer}
+use Rattle.cue_outbox.specs.Asked.{number_of, is_asked, pending_of, NewlyPendingAreAsked, StepsAskAnew, AskedOrdersDiffer}
 use Rattle.cue_outbox.proofs.Lists.{Pairs, pairs_all, each_weaker, each_passes, each_found, each_flat, each_filter}
 use Rattle.cue_outbox.proofs.ReadBack.{read_back}
 use Rattle.cue_outbox.proofs.Told.{IsTold, live_told}
 use Rattle.cue_outbox.proofs.Writable.{sent, if_waits, IsWritableOrder, writable_for, all_writable}
 use Rattle.cue_outbox.proofs.Apart.{Apart, key, content_key, key_in, all_other, apart_pending}
-use Rattle.cue_outbox.proofs.Since.{told, Stays, Since, begun, moved_on, stayed, since, is_state-folded}
+use Rattle.cue_outbox.proofs.Since.{told, Stays, Since, begun, moved_on, stayed, since, is_state-after_events}
 
--- ---- commands of other attempts, or of another stage, are other datagrams
+-- ---- orders of other attempts, or of another stage, are other datagrams
 
--- the command asks to stand by
+-- the order asks to stand by
 abbrev pub is_standby : Order → Bool
 is_standby (standby q d cue bytes) = true
 is_standby (go_2pc q d) = false
 is_standby (cancel q d) = false
 
--- the commands of one attempt are a standby, and then none
+-- the orders of one attempt are a standby, and then none
 abbrev Differs : ℕ × Order → ℕ × Order → Type 0
 Differs o p = (number_of o.1 ≡ number_of p.1) → (is_standby o.1 ≡ true) × (is_standby p.1 ≡ false)
 
@@ -92,12 +92,12 @@ other_datagram x y n = by (same_datagram x y) refl
     by true e = absurd (n (same_bytes x y e))
     by false e = refl
 
--- a command that differs from each old one is new
+-- an order that differs from each old one is new
 new_beside : (p : ℕ × Order) (olds : List (ℕ × Order)) → IsWritableOrder p → AllByRecursion IsWritableOrder olds → AllByRecursion (λ o. Differs o p) olds → is_new (datagrams (orders olds)) (p.0, order p.1) ≡ true
 new_beside p [] w ws h = refl
 new_beside p (o ∷ olds) w ws h = rw (other_datagram (datagram (o.0, order o.1)) (datagram (p.0, order p.1)) (differ_bytes o p ws.0 w h.0)) (new_beside p olds w ws.1 h.1)
 
--- the command is among the old ones
+-- the order is among the old ones
 abbrev is_old : List (ℕ × List ℕ) → ℕ × Order → Bool
 is_old old o = not (is_new old (o.0, order o.1))
 
@@ -112,14 +112,14 @@ all_more : (x : ℕ × List ℕ) (old : List (ℕ × List ℕ)) (os : List (ℕ 
 all_more x old [] h = refl
 all_more x old (o ∷ os) h = let k = both (is_old old o) (list_all (is_old old) os) h in join (is_old (x ∷ old) o) (list_all (is_old (x ∷ old)) os) (not_new_more x old o k.0) (all_more x old os k.1)
 
--- each command is among those that it is one of
+-- each order is among those that it is one of
 all_old : (os : List (ℕ × Order)) → IsTrue (list_all (is_old (datagrams (orders os))) os)
 all_old [] = refl
 all_old (o ∷ os) =
     join (is_old (datagrams (orders (o ∷ os))) o) (list_all (is_old (datagrams (orders (o ∷ os)))) os)
     (rw (same_itself (datagram (o.0, order o.1))) refl) (all_more (datagram (o.0, order o.1)) (datagrams (orders os)) os (all_old os))
 
--- ---- the commands of an attempt
+-- ---- the orders of an attempt
 
 every : {A : Type 0} (xs : List A) → AllByRecursion (λ x. Unit {0}) xs
 every [] = tt
@@ -168,9 +168,9 @@ each_itself (a ∷ live) h =
           (λ b above e. rw (not_at a.seq b.seq above) e) live (each_passes (λ b. nat_lt a.seq b.seq) live p.0) (each_itself live p.1),
     )
 
--- ---- whether a command is new
+-- ---- whether an order is new
 
--- a test that all pending commands pass is passed by those of each attempt
+-- a test that all pending orders pass is passed by those of each attempt
 pending_all : (s : ShowState) (test : ℕ × Order → Bool) (live : List Attempt) → IsTrue (list_all test (flat_map (λ a. told s a) live)) → IsTrue (list_all (λ a. list_all test (told s a)) live)
 pending_all s test [] h = refl
 pending_all s test (a ∷ live) h =
@@ -181,7 +181,7 @@ pending_all s test (a ∷ live) h =
     all_split [] ys k = (refl, k)
     all_split (x ∷ xs) ys k = let p = both (test x) (list_all test (xs ++ ys)) k in let q = all_split xs ys p.1 in (join (test x) (list_all test xs) p.0 q.0, q.1)
 
--- the old commands differ from one of an attempt that was begun, or moved on
+-- the old orders differ from one of an attempt that was begun, or moved on
 olds_differ : (s : ShowState) (b : Attempt) (p : ℕ × Order) → number_of p.1 ≡ b.seq → ((a : Attempt) → attempt_of s.live a.seq ≡ Some a → a.seq ≡ b.seq → IsTrue (is_preparing a.stage) × (is_standby p.1 ≡ false)) → IsTrue (rising s.live)
     → AllByRecursion (λ o. Differs o p) (pending s)
 olds_differ s b p number f rises =
@@ -190,12 +190,12 @@ olds_differ s b p number f rises =
     (λ o k same. let one : a.seq ≡ b.seq = sym k.number ∙ (same ∙ number) in let m = f a e one in (k.kind ∙ m.0, m.1)) (told s a) (told_of s a))
     s.live (each_itself s.live rises)
 
--- an attempt with its commands in the new state
+-- an attempt with its orders in the new state
 record IsNow (t : ShowState) (b : Attempt) : Type 0 where
   there : attempt_of t.live b.seq ≡ Some b
   writable : AllByRecursion IsWritableOrder (told t b)
 
--- the test of newness of the commands of the attempt
+-- the test of newness of the orders of the attempt
 abbrev AreNew : ShowState → Bool → List (ℕ × Order) → Type 0
 AreNew s asked os = AllByRecursion (λ (o : ℕ × Order). is_new (datagrams (all_pending s)) (o.0, order o.1) ≡ asked) os
 
@@ -254,16 +254,16 @@ filter_orders new test (o ∷ os) h = by (new (o.0, order o.1)) (test o) h.0 (fi
 pub newly-pending-are-asked : NewlyPendingAreAsked
 unfolding newly_pending
 newly-pending-are-asked s events numbers i g asked =
-    let t = folded s events in
-    let j = is_state-folded s events i g in
-    filter_orders (is_new (datagrams (all_pending s))) (λ o. is_among (number_of o.1) numbers) (pending (folded s events))
-    (each_flat (IsNow (folded s events)) (λ (o : ℕ × Order). is_new (datagrams (all_pending s)) (o.0, order o.1) ≡ is_among (number_of o.1) numbers) (λ a. told (folded s events) a)
+    let t = after_events s events in
+    let j = is_state-after_events s events i g in
+    filter_orders (is_new (datagrams (all_pending s))) (λ o. is_among (number_of o.1) numbers) (pending (after_events s events))
+    (each_flat (IsNow (after_events s events)) (λ (o : ℕ × Order). is_new (datagrams (all_pending s)) (o.0, order o.1) ≡ is_among (number_of o.1) numbers) (λ a. told (after_events s events) a)
     (λ b n. each_both (IsOf b) (λ (o : ℕ × Order). is_new (datagrams (all_pending s)) (o.0, order o.1) ≡ is_asked b.seq events) (λ (o : ℕ × Order). is_new (datagrams (all_pending s)) (o.0, order o.1) ≡ is_among (number_of o.1) numbers)
     (λ o k e. e ∙ (sym (asked b.seq) ∙ ap (λ q. is_among q numbers) (sym k.number)))
-    (told (folded s events) b) (told_of (folded s events) b) (new_as_asked s (folded s events) b (is_asked b.seq events) i n (since s events b.seq b i g n.there)))
-    (folded s events).live
-    (each_both (λ (b : Attempt). attempt_of (folded s events).live b.seq ≡ Some b) (IsTold (folded s events)) (IsNow (folded s events)) (λ b e told_b. record { there = e; writable = writable_for (folded s events) b told_b })
-    (folded s events).live (each_itself (folded s events).live (sound_of (folded s events) j).rises) (live_told (folded s events) j)))
+    (told (after_events s events) b) (told_of (after_events s events) b) (new_as_asked s (after_events s events) b (is_asked b.seq events) i n (since s events b.seq b i g n.there)))
+    (after_events s events).live
+    (each_both (λ (b : Attempt). attempt_of (after_events s events).live b.seq ≡ Some b) (IsTold (after_events s events)) (IsNow (after_events s events)) (λ b e told_b. record { there = e; writable = writable_for (after_events s events) b told_b })
+    (after_events s events).live (each_itself (after_events s events).live (sound_of (after_events s events) j).rises) (live_told (after_events s events) j)))
 
 pub steps-ask-anew : StepsAskAnew
 steps-ask-anew s now from commands numbers h fit asked =
@@ -279,8 +279,8 @@ pairs_filter R test (x ∷ xs) h = by (test x) (each_filter (R x) test xs h.0) (
     by true first rest = (first, rest)
     by false first rest = rest
 
-pub asked-commands-differ : AskedCommandsDiffer
-asked-commands-differ s numbers h =
+pub asked-orders-differ : AskedOrdersDiffer
+asked-orders-differ s numbers h =
     let test : ℕ × Order → Bool = λ o. is_among (number_of o.1) numbers in
     pairs_all (λ x y. x ≢ y) (datagrams (pending_of numbers s))
     (all_other (filter test (pending s)) (each_filter IsWritableOrder test (pending s) (all_writable s h)) (pairs_filter Apart test (pending s) (apart_pending s h)))

@@ -8,7 +8,7 @@ use Rattle.std.proofs.lemmas.Bool.{cases_lt, eqb-true}
 use Rattle.std.proofs.lemmas.List.Folds.{Any-from_list_any, list_any_at}
 use Rattle.std.proofs.lemmas.List.Kept.{Contains-dedup_nat, Contains-from_dedup, AllPairs-from_increasing}
 use Rattle.std.proofs.lemmas.List.Sorted.{searched, list_any-IsPermutation}
-use Rattle.cue_core.proofs.Conditions.{same_self}
+use Rattle.cue_core.proofs.lists.ConditionLemmas.{same_self}
 use Rattle.cue_show.specs.Devices.{is_among}
 
 -- numbers that rise do not fall

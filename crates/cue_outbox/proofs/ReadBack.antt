@@ -23,17 +23,18 @@ use Rattle.cue_show.proofs.ChangeLemmas.{is_cue_of-parts_of}
 use Rattle.cue_show.proofs.ShowLemmas.{show_rules}
 use Rattle.cue_core.specs.declared.event.Ended.{Ended}
 use Rattle.cue_core.specs.State.{ShowState, is_state}
-use Rattle.cue_core.proofs.Rules.{rules_of}
+use Rattle.cue_core.proofs.rules.RuleLemmas.{rules_of}
 use Rattle.cue_outbox.specs.Sending.{answer, status, order_content, send_content, status_of, ended_number, ended_outcome}
 use Rattle.cue_exchange.specs.Outcomes.{outcome_number}
 use Rattle.cue_outbox.specs.Laws.{RepliesAreRead, StatusIsRead}
 use Rattle.cue_outbox.proofs.Facts.{number_text, number_short, last_fits, live_fits, ended_fits}
+use Rattle.cue_osc.specs.declared.limits.TheConstants.{MAX_LEN}
 
 -- a message that can be written
 pub record IsWritable (c : Content) : Type 0 where
   pub plain : IsPlain 8 c
   pub in_range : IsInRange c
-  pub short : length (text_of c) ≤ 4096
+  pub short : length (text_of c) ≤ MAX_LEN
 
 -- and is read again
 pub read_back : (c : Content) → IsWritable c → datagram_at (text_of c) ≡ Ok c

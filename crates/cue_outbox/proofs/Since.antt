@@ -1,4 +1,4 @@
--- What events that are acceptable in turn leave of the commands of each live attempt: either they ask its devices anew, or what its
+-- What events that are acceptable in turn leave of the orders of each live attempt: either they ask its devices anew, or what its
 -- devices are still to be told was pending before.
 use Rattle.std.proofs.Common.{◌≡◌, ℕ, ◌+◌, ◌<◌, ◌≤◌, List, [], ◌∷◌, map, find, refl, sym, ◌∙◌, ap, subst, Bool, true, false, not, cond, ◌&&◌, ◌||◌, nat_eq, nat_le, arith, Option, None, Some, IsTrue}
 use Rattle.std.specs.Prelude.{IfSome, is_some, unwrap_or}
@@ -28,12 +28,12 @@ use Rattle.cue_exchange.specs.Steps.{changed, answers_as, moves_to, answered, mo
 use Rattle.cue_core.specs.declared.event.Event.{Event}
 use Rattle.cue_core.specs.declared.event.Event.TheVariants as event
 use Rattle.cue_core.specs.State.{ShowState, cue_parts, are_of_parts, is_at_cue, is_state}
-use Rattle.cue_core.specs.Steps.{acceptable, after, are_acceptable, folded}
+use Rattle.cue_core.specs.Steps.{acceptable, after, are_acceptable, after_events}
 use Rattle.cue_core.specs.Pending.{Order, order_at, order_for, bytes_for}
-use Rattle.cue_core.proofs.Conditions.{both, join, same_number, same_self}
-use Rattle.cue_core.proofs.Finding.{rising, found, found_has, found_passes, if_open, attempt_of-changed, attempt_of-without_ended, attempt_of-without_ended_other, rising-changed}
-use Rattle.cue_core.proofs.Rules.{Rules, rules_of, begins, is_state-after}
-use Rattle.cue_core.proofs.Sound.{sound_of}
+use Rattle.cue_core.proofs.lists.ConditionLemmas.{both, join, same_number, same_self}
+use Rattle.cue_core.proofs.live.FindingLemmas.{rising, found, found_has, found_passes, if_open, attempt_of-changed, attempt_of-without_ended, attempt_of-without_ended_other, rising-changed}
+use Rattle.cue_core.proofs.rules.RuleLemmas.{Rules, rules_of, begins, is_state-after}
+use Rattle.cue_core.proofs.rules.SoundLemmas.{sound_of}
 use Rattle.cue_outbox.specs.Asked.{number_asked, is_asked}
 use Rattle.cue_outbox.proofs.Told.{devices_same, devices_each}
 
@@ -74,7 +74,7 @@ told_same s t a (x ∷ xs) parts ports =
     ap (λ (o : Option (ℕ × Order)). cons_option o (filter_map (order_for t a) xs)) (order_same s t a x ports.0 parts)
     ∙ ap (λ (os : List (ℕ × Order)). cons_option (order_for s a x) os) (told_same s t a xs parts ports.1)
 
--- no event of the attempts, and the commands of the attempt as they were
+-- no event of the attempts, and the orders of the attempt as they were
 same_since : (s t : ShowState) (p : ℕ) (b : Attempt) → told t b ≡ told s b → attempt_of s.live p ≡ Some b → Since s t p b false
 same_since s t p b e h =
     stayed refl b h
@@ -152,7 +152,7 @@ parts_left show c a rules at =
 
 -- ---- a device answers
 
--- a command that is kept is one of before
+-- an order that is kept is one of before
 kept_or_gone : (test : ℕ × Order → Bool) (o : ℕ × Order) (olds news : List (ℕ × Order)) (w v : Bool) → (v ≡ true → w ≡ true) → (IsTrue (list_all test olds) → IsTrue (list_all test news))
     → IsTrue (list_all test (cons_option (cond w (Some o) None) olds)) → IsTrue (list_all test (cons_option (cond v (Some o) None) news))
 kept_or_gone test o olds news true true k f h = let p = both (test o) (list_all test olds) h in join (test o) (list_all test news) p.0 (f p.1)
@@ -188,7 +188,7 @@ changed_was : (q p : ℕ) (f : Attempt → Attempt) → ((a : Attempt) → (f a)
     → (a : Attempt) × (attempt_of live p ≡ Some a) × (changed q f a ≡ b)
 changed_was q p f keeps live b h = was (changed q f) (attempt_of live p) b (sym (attempt_of-changed q p f keeps live) ∙ h)
 
--- the commands in t are those in s
+-- the orders in t are those in s
 carried : (s t : ShowState) (a b : Attempt) → told t b ≡ told s b → Stays s a s b → Stays s a t b
 carried s t a b e h = record { stage = h.stage; among = record { each = λ test k. let P : List (ℕ × Order) → Type 0 = λ os. IsTrue (list_all test os) in subst P (sym e) (h.among.each test k) } }
 
@@ -367,16 +367,16 @@ asked-next q e events = by (number_asked e)
     by (Some p) = refl
 
 -- how each attempt that is live after the events came to be so
-pub since : (s : ShowState) (events : List Event) (p : ℕ) (b : Attempt) → IsTrue (is_state s) → IsTrue (are_acceptable s events) → attempt_of (folded s events).live p ≡ Some b → Since s (folded s events) p b (is_asked p events)
+pub since : (s : ShowState) (events : List Event) (p : ℕ) (b : Attempt) → IsTrue (is_state s) → IsTrue (are_acceptable s events) → attempt_of (after_events s events).live p ≡ Some b → Since s (after_events s events) p b (is_asked p events)
 since s [] p b i g h = same_since s s p b refl h
 since s (e ∷ events) p b i g h =
     let k = both (acceptable s e) (are_acceptable (after s e) events) g in
-    let P : Bool → Type 0 = λ z. Since s (folded (after s e) events) p b z in
+    let P : Bool → Type 0 = λ z. Since s (after_events (after s e) events) p b z in
     subst P (sym (asked-next p e events))
-    (joined s (after s e) (folded (after s e) events) p b (asks p e) (is_asked p events) (grows s e k.0) (λ a f. since_event s e p a i k.0 f)
+    (joined s (after s e) (after_events (after s e) events) p b (asks p e) (is_asked p events) (grows s e k.0) (λ a f. since_event s e p a i k.0 f)
     (since (after s e) events p b (is_state-after s e i k.0) k.1 h))
 
 -- the state after the events keeps its rules
-pub is_state-folded : (s : ShowState) (events : List Event) → IsTrue (is_state s) → IsTrue (are_acceptable s events) → IsTrue (is_state (folded s events))
-is_state-folded s [] i g = i
-is_state-folded s (e ∷ events) i g = let k = both (acceptable s e) (are_acceptable (after s e) events) g in is_state-folded (after s e) events (is_state-after s e i k.0) k.1
+pub is_state-after_events : (s : ShowState) (events : List Event) → IsTrue (is_state s) → IsTrue (are_acceptable s events) → IsTrue (is_state (after_events s events))
+is_state-after_events s [] i g = i
+is_state-after_events s (e ∷ events) i g = let k = both (acceptable s e) (are_acceptable (after s e) events) g in is_state-after_events (after s e) events (is_state-after s e i k.0) k.1

@@ -12,19 +12,19 @@ use Rattle.cue_show.specs.Devices.{distinct, devices_in}
 use Rattle.cue_show.specs.Number.{is_cue_number}
 use Rattle.cue_show.specs.Parts.{is_part, has_required_part, are_parts}
 use Rattle.cue_show.specs.Show.{ShowLists, port_of, parts_of, has_device, are_known, is_entry, is_show, is_cue_of}
-use Rattle.cue_show.specs.declared.limits.TheConstants.{LAST_DEVICE, MAX_PARTS, MAX_PART_BYTES}
+use Rattle.cue_show.specs.declared.limits.TheConstants.{MAX_DEVICE_NUMBER, MAX_PARTS, MAX_PART_BYTES}
 use Rattle.cue_show.specs.declared.part.Part.{Part}
 use Rattle.cue_show.proofs.ChangeLemmas.{is_cue_of-parts_of, is_entry-port_of}
 use Rattle.cue_exchange.specs.declared.attempt.DeviceAnswer.{DeviceAnswer}
 use Rattle.cue_exchange.specs.declared.attempt.Attempt.{Attempt}
-use Rattle.cue_exchange.specs.declared.limits.TheConstants.{LAST_NUMBER}
+use Rattle.cue_exchange.specs.declared.limits.TheConstants.{MAX_NUMBER}
 use Rattle.cue_exchange.specs.Answers.{devices_of, has_required, stands}
 use Rattle.cue_exchange.specs.Live.{is_number, is_moment, is_open, is_sound, have_sound_devices, is_attempt}
 use Rattle.cue_exchange.proofs.LiveRules.{attempts_of}
 use Rattle.cue_exchange.proofs.Lists.{all_weaker, all_map}
 use Rattle.cue_core.specs.State.{ShowState, cue_parts, is_of_part, are_of_parts, is_at_cue, is_state}
 use Rattle.cue_core.specs.Pending.{bytes_for}
-use Rattle.cue_core.proofs.Rules.{rules_of}
+use Rattle.cue_core.proofs.rules.RuleLemmas.{rules_of}
 use Rattle.cue_outbox.proofs.Facts.{number_text, number_short}
 use Rattle.cue_outbox.proofs.Lists.{each_weaker, each_passes, each_mapped}
 
@@ -50,7 +50,7 @@ part_short d (p ∷ ps) h =
     by false here rest = rest
 
 device_small : (d : ℕ) → IsTrue (is_device d) → d < 2 ^ 31
-device_small d h = let k : d ≤ LAST_DEVICE = leb-true d LAST_DEVICE h in omega arith
+device_small d h = let k : d ≤ MAX_DEVICE_NUMBER = leb-true d MAX_DEVICE_NUMBER h in omega arith
 
 part_device : (p : Part) → IsTrue (is_part p) → IsTrue (is_device p.device)
 part_device p h = (and_parts (is_device p.device) (nat_le (length p.bytes) MAX_PART_BYTES && are_bytes p.bytes) h).0
@@ -97,7 +97,7 @@ numbered a h =
     let first = and_parts (is_number a.seq) (is_moment a.deadline && (have_sound_devices a.answers && list_all (stands a.stage) a.answers)) whole.0 in
     let then = and_parts (is_moment a.deadline) (have_sound_devices a.answers && list_all (stands a.stage) a.answers) first.1 in
     let sound = and_parts (have_sound_devices a.answers) (list_all (stands a.stage) a.answers) then.1 in
-    let below : a.seq ≤ LAST_NUMBER = leb-true a.seq LAST_NUMBER (and_parts (nat_le 1 a.seq) (nat_le a.seq LAST_NUMBER) first.0).1 in
+    let below : a.seq ≤ MAX_NUMBER = leb-true a.seq MAX_NUMBER (and_parts (nat_le 1 a.seq) (nat_le a.seq MAX_NUMBER) first.0).1 in
     record {
       number = omega arith;
       distinct = (and_parts (has_required a.answers) (distinct (devices_of a.answers)) sound.0).1;

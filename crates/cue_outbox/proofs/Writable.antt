@@ -1,4 +1,4 @@
--- Each pending command can be written, is read again, and goes to a port.
+-- Each pending order can be written, is read again, and goes to a port.
 use Rattle.std.proofs.Common.{ℕ, ◌<◌, ◌≤◌, ◌^◌, Bool, true, false, cond, List, length, IsTrue, None, Some}
 use Rattle.std.specs.Prelude.{IfSome, unwrap_or}
 use Rattle.std.specs.List.{AllByRecursion, filter_map}
@@ -14,7 +14,7 @@ use Rattle.cue_core.specs.State.{ShowState, cue_parts, is_state}
 use Rattle.cue_core.specs.Pending.{Order, bytes_for, order_at, order_for, pending}
 use Rattle.cue_outbox.specs.Sending.{Send, order, order_content, send_content}
 use Rattle.cue_outbox.specs.Owed.{order_to}
-use Rattle.cue_outbox.specs.Laws.{IsReadBack, CommandsAreRead, CommandsHavePorts}
+use Rattle.cue_outbox.specs.Laws.{IsReadBack, OrdersAreRead, OrdersHavePorts}
 use Rattle.cue_outbox.proofs.ReadBack.{IsWritable, read_back, standby_writable, go_2pc_writable, cancel_writable}
 use Rattle.cue_outbox.proofs.Lists.{each_weaker, each_map, each_found, each_flat}
 use Rattle.cue_outbox.proofs.Told.{IsTold, live_told}
@@ -50,8 +50,8 @@ order_read : (o : ℕ × Order) → IsWritableOrder o → IsReadBack (order o.1)
 unfolding send_content
 order_read o w = read_back (order_content o.1) w
 
-pub commands-are-read : CommandsAreRead
-commands-are-read s h = each_map (λ x. IsReadBack x.1) (λ (o : ℕ × Order). (o.0, order o.1)) (pending s) (each_weaker IsWritableOrder (λ o. IsReadBack (order o.1)) order_read (pending s) (all_writable s h))
+pub orders-are-read : OrdersAreRead
+orders-are-read s h = each_map (λ x. IsReadBack x.1) (λ (o : ℕ × Order). (o.0, order o.1)) (pending s) (each_weaker IsWritableOrder (λ o. IsReadBack (order o.1)) order_read (pending s) (all_writable s h))
 
 -- ---- each goes to a port
 
@@ -60,7 +60,7 @@ port_for s a t =
     each_found (λ (x : DeviceAnswer). IsTrue (is_port (unwrap_or (port_of s.show x.device) 0))) (λ (o : ℕ × Order). IsTrue (is_port o.0)) (order_for s a)
     (λ x port. if_waits (waits x) (sent s a x) (λ (o : ℕ × Order). IsTrue (is_port o.0)) port) a.answers t.ports
 
-pub commands-have-ports : CommandsHavePorts
-commands-have-ports s h =
+pub orders-have-ports : OrdersHavePorts
+orders-have-ports s h =
     each_map (λ (x : ℕ × Send). IsTrue (is_port x.0)) (λ (o : ℕ × Order). (o.0, order o.1)) (pending s)
     (each_flat (IsTold s) (λ (o : ℕ × Order). IsTrue (is_port o.0)) (λ a. filter_map (order_for s a) a.answers) (λ a t. port_for s a t) s.live (live_told s h))

@@ -14,21 +14,25 @@ IsReadBack x = datagram_at (text_of (send_content x)) ≡ Ok (send_content x)
 
 -- each reply is read as what was meant, whatever the address that it shows, and whatever its numbers of 16 bits
 abbrev pub RepliesAreRead : Type 0
-RepliesAreRead = (address : List ℕ) (made known refused code : ℕ) → IsText address → made < 2 ^ 16 → known < 2 ^ 16 → refused < 2 ^ 16 → code < 2 ^ 16
+RepliesAreRead =
+    (address : List ℕ) (made known refused code : ℕ) → IsText address → made < 2 ^ 16 → known < 2 ^ 16
+    → refused < 2 ^ 16 → code < 2 ^ 16
     → IsReadBack (answer (take 64 address) made known refused code)
 
 -- the status of each state is read as what was meant
 abbrev pub StatusIsRead : Type 0
 StatusIsRead = (s : ShowState) → IsTrue (is_state s) → IsReadBack (status_of s)
 
--- each pending command is read as what was meant
-abbrev pub CommandsAreRead : Type 0
-CommandsAreRead = (s : ShowState) → IsTrue (is_state s) → AllByRecursion (λ (x : ℕ × Send). IsReadBack x.1) (all_pending s)
+-- each pending order is read as what was meant
+abbrev pub OrdersAreRead : Type 0
+OrdersAreRead =
+    (s : ShowState) → IsTrue (is_state s) → AllByRecursion (λ (x : ℕ × Send). IsReadBack x.1) (all_pending s)
 
--- each pending command goes to a port of 1 to 65,535
-abbrev pub CommandsHavePorts : Type 0
-CommandsHavePorts = (s : ShowState) → IsTrue (is_state s) → AllByRecursion (λ (x : ℕ × Send). IsTrue (is_port x.0)) (all_pending s)
+-- each pending order goes to a port of 1 to 65,535
+abbrev pub OrdersHavePorts : Type 0
+OrdersHavePorts =
+    (s : ShowState) → IsTrue (is_state s) → AllByRecursion (λ (x : ℕ × Send). IsTrue (is_port x.0)) (all_pending s)
 
--- no two pending commands are the same datagram
-abbrev pub CommandsDiffer : Type 0
-CommandsDiffer = (s : ShowState) → IsTrue (is_state s) → AllPairs (λ x y. x ≢ y) (datagrams (all_pending s))
+-- no two pending orders are the same datagram
+abbrev pub OrdersDiffer : Type 0
+OrdersDiffer = (s : ShowState) → IsTrue (is_state s) → AllPairs (λ x y. x ≢ y) (datagrams (all_pending s))

@@ -1,4 +1,4 @@
--- Helper: the commands that are owed, as datagrams: to one device, to some devices of an attempt, to the devices of
+-- Helper: the orders that are owed, as datagrams: to one device, to some devices of an attempt, to the devices of
 -- some attempts.
 use Rattle.std.specs.Prelude.{ℕ, List, Option, filter}
 use Rattle.std.specs.List.{filter_map, flat_map}
@@ -35,4 +35,6 @@ datagrams_in s attempts = datagrams (orders (flat_map (λ a. filter_map (order_f
 
 -- the datagrams to the devices of those of the attempts that have one of the numbers
 abbrev pub datagrams_of : ShowState → List ℕ → List Attempt → List (ℕ × List ℕ)
-datagrams_of s numbers attempts = datagrams (orders (filter (λ o. is_among (number_of o.1) numbers) (flat_map (λ a. filter_map (order_for s a) a.answers) attempts)))
+datagrams_of s numbers attempts =
+    datagrams (orders (filter (λ o. is_among (number_of o.1) numbers)
+    (flat_map (λ a. filter_map (order_for s a) a.answers) attempts)))

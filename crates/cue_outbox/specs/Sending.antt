@@ -9,7 +9,7 @@ use Rattle.cue_core.specs.declared.event.Ended.{Ended}
 use Rattle.cue_core.specs.State.{ShowState}
 use Rattle.cue_core.specs.Pending.{Order, standby, go_2pc, cancel, pending}
 
--- a datagram that is sent: the answer to a message, the status, or a command to a device
+-- a datagram that is sent: the reply to a message, the status, or an order to a device
 pub data Send : Type 0 where
   answer : (address : List ℕ) (made known refused code : ℕ) → Send
   status : (last : ℕ) (place : List ℕ) (live ended outcome : ℕ) → Send
@@ -19,16 +19,19 @@ pub data Send : Type 0 where
 abbrev pub number : ℕ → Argument
 number n = int (pos n)
 
--- a command as an OSC message
+-- an order as an OSC message
 unfoldable pub order_content : Order → Content
-order_content (standby q d cue bytes) = message (codes "/msc/standby") (number q ∷ number d ∷ text cue ∷ blob bytes ∷ [])
+order_content (standby q d cue bytes) =
+    message (codes "/msc/standby") (number q ∷ number d ∷ text cue ∷ blob bytes ∷ [])
 order_content (go_2pc q d) = message (codes "/msc/go_2pc") (number q ∷ number d ∷ [])
 order_content (cancel q d) = message (codes "/msc/cancel") (number q ∷ number d ∷ [])
 
 -- what is sent as an OSC message
 unfoldable pub send_content : Send → Content
-send_content (answer address made known refused code) = message (codes "/reply") (text address ∷ number made ∷ number known ∷ number refused ∷ number code ∷ [])
-send_content (status last place live ended outcome) = message (codes "/status") (number last ∷ text place ∷ number live ∷ number ended ∷ number outcome ∷ [])
+send_content (answer address made known refused code) =
+    message (codes "/reply") (text address ∷ number made ∷ number known ∷ number refused ∷ number code ∷ [])
+send_content (status last place live ended outcome) =
+    message (codes "/status") (number last ∷ text place ∷ number live ∷ number ended ∷ number outcome ∷ [])
 send_content (order o) = order_content o
 
 -- the port that it goes to, and its bytes
@@ -49,12 +52,13 @@ ended_outcome e = option_map_or (λ (e : Ended). outcome_number e.outcome) e 0
 
 -- the state as the status shows it
 unfoldable pub status_of : ShowState → Send
-status_of s = status s.last_seq (unwrap_or s.show.place []) (length s.live) (ended_number s.ended) (ended_outcome s.ended)
+status_of s =
+    status s.last_seq (unwrap_or s.show.place []) (length s.live) (ended_number s.ended) (ended_outcome s.ended)
 
--- commands as what is sent, each to its port
+-- orders as what is sent, each to its port
 abbrev pub orders : List (ℕ × Order) → List (ℕ × Send)
 orders os = map (λ o. (o.0, order o.1)) os
 
--- the commands that the devices are still to answer
+-- the orders that the devices are still to answer
 abbrev pub all_pending : ShowState → List (ℕ × Send)
 all_pending s = orders (pending s)

@@ -1,6 +1,6 @@
 //! Laws of what is sent, each the contract of a function that does nothing.
-ghost use Rattle.cue_outbox.specs.Asked.{AskedCommandsDiffer, NewlyPendingAreAsked, StepsAskAnew};
-ghost use Rattle.cue_outbox.specs.Laws.{CommandsAreRead, CommandsDiffer, CommandsHavePorts, RepliesAreRead, StatusIsRead};
+ghost use Rattle.cue_outbox.specs.Asked.{AskedOrdersDiffer, NewlyPendingAreAsked, StepsAskAnew};
+ghost use Rattle.cue_outbox.specs.Laws.{OrdersAreRead, OrdersDiffer, OrdersHavePorts, RepliesAreRead, StatusIsRead};
 
 /// Each reply that `reply` gives is read by `cue_osc` as what was meant.
 pub fn replies_are_read()
@@ -12,22 +12,22 @@ pub fn status_is_read()
     ensures { StatusIsRead }
 {}
 
-/// Each command that `pending` gives is read by `cue_osc` as what was meant.
-pub fn commands_are_read()
-    ensures { CommandsAreRead }
+/// Each order that `pending` gives is read by `cue_osc` as what was meant.
+pub fn orders_are_read()
+    ensures { OrdersAreRead }
 {}
 
-/// Each command that `pending` gives goes to a port, since each device of a live attempt is in the table.
-pub fn commands_have_ports()
-    ensures { CommandsHavePorts }
+/// Each order that `pending` gives goes to a port, since each device of a live attempt is in the table.
+pub fn orders_have_ports()
+    ensures { OrdersHavePorts }
 {}
 
-/// No two of the commands that `pending` gives are the same datagram.
-pub fn commands_differ()
-    ensures { CommandsDiffer }
+/// No two of the orders that `pending` gives are the same datagram.
+pub fn orders_differ()
+    ensures { OrdersDiffer }
 {}
 
-/// After events that are acceptable in turn, the commands that were not pending before, as datagrams, are those of
+/// After events that are acceptable in turn, the orders that were not pending before, as datagrams, are those of
 /// the attempts whose devices the events ask anew, in the new state: by their Start, Go or Cancel.
 pub fn newly_pending_are_asked()
     ensures { NewlyPendingAreAsked }
@@ -39,7 +39,7 @@ pub fn steps_ask_anew()
     ensures { StepsAskAnew }
 {}
 
-/// No two of the commands that `pending_of` gives are the same datagram.
-pub fn asked_commands_differ()
-    ensures { AskedCommandsDiffer }
+/// No two of the orders that `pending_of` gives are the same datagram.
+pub fn asked_orders_differ()
+    ensures { AskedOrdersDiffer }
 {}

@@ -4,6 +4,7 @@ ghost use Rattle.cue_osc.specs.Argument.{arg_view};
 ghost use Rattle.cue_osc.specs.Content.{message};
 ghost use Rattle.cue_osc.specs.Plain.{IsPlain};
 ghost use Rattle.cue_osc.specs.Writing.{text_of};
+ghost use Rattle.cue_osc.specs.declared.limits.TheConstants.{MAX_LEN};
 ghost use Rattle.cue_outbox.specs.Sending.{number as number_of};
 
 use crate::out::Out;
@@ -19,7 +20,7 @@ pub(crate) fn written(
     args: Vec<Arg<'_>>,
 ) -> Result<Out, AllocError>
     requires plain { IsPlain 8 (message address.now (map arg_view args.items)) }
-    requires short { length (text_of (message address.now (map arg_view args.items))) ≤ 4096 }
+    requires short { length (text_of (message address.now (map arg_view args.items))) ≤ MAX_LEN }
     ensures to { IfOk result (λ out. out.to ≡ to) }
     ensures bytes { IfOk result (λ out. out.bytes ≡ text_of (message address.now (map arg_view args.entry.items))) }
 {

@@ -2,7 +2,7 @@
 ghost use Rattle.std.specs.Prelude.{◌≡◌, ◌≤◌, [], IfOk, length, unwrap_or};
 ghost use Rattle.cue_osc.specs.Spelling.{IsText};
 ghost use Rattle.cue_show.specs.declared.limits.TheConstants.{MAX_CUE_BYTES};
-ghost use Rattle.cue_exchange.specs.declared.limits.TheConstants.{LAST_NUMBER, MAX_LIVE};
+ghost use Rattle.cue_exchange.specs.declared.limits.TheConstants.{MAX_NUMBER, MAX_LIVE};
 ghost use Rattle.cue_outbox.specs.Sending.{datagram, ended_number, ended_outcome, status_of};
 ghost use Rattle.cue_outbox.specs.Views.{out_view};
 
@@ -33,7 +33,7 @@ pub fn status(alloc: Global, to: u16, state: &State) -> Result<Out, AllocError>
 #[tactic(auto, using(crate::proofs::Facts::last_fits))]
 fn last_number(state: &State) -> u32
     ensures value { result ≡ state.now.last_seq }
-    ensures range { result ≤ LAST_NUMBER }
+    ensures range { result ≤ MAX_NUMBER }
 {
     state.last_seq()
 }
@@ -62,7 +62,7 @@ fn live_count(state: &State) -> u32
 #[tactic(auto, using(crate::proofs::Facts::ended_fits))]
 fn last_ended(state: &State) -> u32
     ensures value { result ≡ ended_number state.now.ended }
-    ensures range { result ≤ LAST_NUMBER }
+    ensures range { result ≤ MAX_NUMBER }
 {
     ended_number(state.ended())
 }

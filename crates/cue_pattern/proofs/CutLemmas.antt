@@ -8,7 +8,7 @@ use Rattle.std.proofs.lemmas.List.Sums.{prefix_len_passes}
 use Rattle.std.proofs.lemmas.List.{length-take-le, length-drop}
 use Rattle.std.proofs.Math.Seq.{take-length}
 use Rattle.cue_pattern.specs.Meaning.{separated, HasNo, IsCut}
-use Rattle.cue_pattern.specs.Reading.{with_byte, cut, enclosed}
+use Rattle.cue_pattern.specs.Reading.{with_byte, cut, text_before}
 use Rattle.cue_pattern.specs.Steps.{CutsFirst}
 
 -- a separator ends a text
@@ -78,23 +78,23 @@ Encloses-more c b bs inside (Some t) ne more h =
     let front : inside ≡ b ∷ t = cc in
     rw front (record { rest = found.rest; bytes_are = ap (λ x. b ∷ x) found.bytes_are; has_no = (ne, found.has_no) })
 
-pub enclosed-is : (c : ℕ) (bs inside : List ℕ) → enclosed c bs ≡ Some inside → Encloses c bs inside
-enclosed-is c [] inside h = cc
-enclosed-is c (b ∷ bs) inside h = elim (cases_eq b c) [
+pub text_before-is : (c : ℕ) (bs inside : List ℕ) → text_before c bs ≡ Some inside → Encloses c bs inside
+text_before-is c [] inside h = cc
+text_before-is c (b ∷ bs) inside h = elim (cases_eq b c) [
   | inl e ↦ (let k = rw (eq-eqb b c e) at h in
       let none : inside ≡ [] = cc in
       rw none (record { rest = bs; bytes_are = ap (λ x. x ∷ bs) e; has_no = tt }))
-  | inr ne ↦ Encloses-more c b bs inside (enclosed c bs) ne (λ t k. enclosed-is c bs t k) (rw (ne_eqb b c ne) at h)
+  | inr ne ↦ Encloses-more c b bs inside (text_before c bs) ne (λ t k. text_before-is c bs t k) (rw (ne_eqb b c ne) at h)
 ]
 
 -- and what stands before the first closing byte is enclosed
-pub enclosed-again : (c : ℕ) (inside rest : List ℕ) → HasNo c inside → enclosed c (inside ++ c ∷ rest) ≡ Some inside
-enclosed-again c [] rest h = rw (eq-eqb c c refl) refl
-enclosed-again c (b ∷ inside) rest h = rw (ne_eqb b c h.0, enclosed-again c inside rest h.1) refl
+pub text_before-again : (c : ℕ) (inside rest : List ℕ) → HasNo c inside → text_before c (inside ++ c ∷ rest) ≡ Some inside
+text_before-again c [] rest h = rw (eq-eqb c c refl) refl
+text_before-again c (b ∷ inside) rest h = rw (ne_eqb b c h.0, text_before-again c inside rest h.1) refl
 
 -- ---- by the place of the first separator
 
-cut-at : (c : ℕ) (xs : List ℕ) (i : ℕ) → i < length xs → get_or xs i 0 ≡ c → ((k : ℕ) → k < i → get_or xs k 0 ≢ c) → (cut c xs ≡ take i xs ∷ cut c (drop (suc i) xs)) × (enclosed c xs ≡ Some (take i xs))
+cut-at : (c : ℕ) (xs : List ℕ) (i : ℕ) → i < length xs → get_or xs i 0 ≡ c → ((k : ℕ) → k < i → get_or xs k 0 ≢ c) → (cut c xs ≡ take i xs ∷ cut c (drop (suc i) xs)) × (text_before c xs ≡ Some (take i xs))
 cut-at c [] i l here below = absurd (omega arith)
 cut-at c (x ∷ xs) zero l here below = (cut-here c x xs here, rw (eq-eqb x c here) refl)
 cut-at c (x ∷ xs) (suc i) l here below =
@@ -102,7 +102,7 @@ cut-at c (x ∷ xs) (suc i) l here below =
     let more = cut-at c xs i (omega arith) here (λ k b. below (suc k) (omega arith)) in
     (cut-other c x xs ne ∙ ap (with_byte x) more.0, rw (ne_eqb x c ne, more.1) refl)
 
-cut-nowhere : (c : ℕ) (xs : List ℕ) → ((k : ℕ) → k < length xs → get_or xs k 0 ≢ c) → (cut c xs ≡ xs ∷ []) × (enclosed c xs ≡ None)
+cut-nowhere : (c : ℕ) (xs : List ℕ) → ((k : ℕ) → k < length xs → get_or xs k 0 ≢ c) → (cut c xs ≡ xs ∷ []) × (text_before c xs ≡ None)
 cut-nowhere c [] none = (refl, refl)
 cut-nowhere c (x ∷ xs) none =
     let ne : x ≢ c = none 0 (omega arith) in

@@ -11,9 +11,9 @@ use Rattle.cue_pattern.specs.declared.piece.Piece.{Piece}
 use Rattle.cue_pattern.specs.declared.piece.Piece.TheVariants.{One, Many, Listed, Unlisted, Among, Plain}
 use Rattle.cue_pattern.specs.Meaning.{HasNo, IsCut}
 use Rattle.cue_pattern.specs.Grammar.{ranges, IsPlain, IsBraced, IsPiece}
-use Rattle.cue_pattern.specs.Reading.{cut, enclosed, negated, bracketed, is_braced, braced, closed, piece_at, pieces_behind}
+use Rattle.cue_pattern.specs.Reading.{cut, text_before, negated_piece, bracketed_piece, is_braced, braced_piece, piece_between, piece_at, pieces_behind}
 use Rattle.cue_pattern.specs.Steps.{Reads, with_front}
-use Rattle.cue_pattern.proofs.CutLemmas.{cut-is_cut, cut-from, Encloses, enclosed-is, enclosed-again}
+use Rattle.cue_pattern.proofs.CutLemmas.{cut-is_cut, cut-from, Encloses, text_before-is, text_before-again}
 
 -- ---- one piece
 
@@ -55,8 +55,8 @@ drop-closed inside rest c =
     rw (regrouped, ← length-closed inside c) (drop-append_seam (inside ++ c ∷ []) rest)
 
 -- what stands enclosed at the front, as the front of a piece
-enclosed-fronts : (b c : ℕ) (bs inside : List ℕ) (p : Piece) → Encloses c bs inside → IsPiece (b ∷ (inside ++ c ∷ [])) p → Fronts b bs p (length inside + 1)
-enclosed-fronts b c bs inside p h spells = record {
+text_before-fronts : (b c : ℕ) (bs inside : List ℕ) (p : Piece) → Encloses c bs inside → IsPiece (b ∷ (inside ++ c ∷ [])) p → Fronts b bs p (length inside + 1)
+text_before-fronts b c bs inside p h spells = record {
   front = inside ++ c ∷ [];
   rest = h.rest;
   bytes_are = h.bytes_are ∙ sym (append_assoc inside (c ∷ []) h.rest);
@@ -64,40 +64,40 @@ enclosed-fronts b c bs inside p h spells = record {
   rest_is = rw h.bytes_are (drop-closed inside h.rest c);
 }
 
-bracket-fronts : (bs inside : List ℕ) (p : Piece) → Encloses 93 bs inside → bracketed inside ≡ Some p → Fronts 91 bs p (length inside + 1)
+bracket-fronts : (bs inside : List ℕ) (p : Piece) → Encloses 93 bs inside → bracketed_piece inside ≡ Some p → Fronts 91 bs p (length inside + 1)
 bracket-fronts bs [] p h e = cc
 bracket-fronts bs (b ∷ inside) p h e = elim (cases_eq b 33) [
-  | inl same ↦ enclosed-fronts 91 93 bs (b ∷ inside) p h (negated-spells b inside p same h.has_no (rw (eq-eqb b 33 same) at e))
-  | inr ne ↦ enclosed-fronts 91 93 bs (b ∷ inside) p h (
+  | inl same ↦ text_before-fronts 91 93 bs (b ∷ inside) p h (negated_piece-spells b inside p same h.has_no (rw (eq-eqb b 33 same) at e))
+  | inr ne ↦ text_before-fronts 91 93 bs (b ∷ inside) p h (
       let k = rw (ne_eqb b 33 ne) at e in
       let same : p ≡ Listed (ranges (b ∷ inside)) = cc in
       rw same (b, inside, refl, ne, h.has_no, refl))
 ]
   where
-    negated-spells : (b : ℕ) (inside : List ℕ) (p : Piece) → b ≡ 33 → HasNo 93 (b ∷ inside) → negated inside ≡ Some p → IsPiece (91 ∷ (b ∷ inside ++ 93 ∷ [])) p
-    negated-spells b [] p same has_no e = cc
-    negated-spells b (first ∷ more) p same has_no e =
+    negated_piece-spells : (b : ℕ) (inside : List ℕ) (p : Piece) → b ≡ 33 → HasNo 93 (b ∷ inside) → negated_piece inside ≡ Some p → IsPiece (91 ∷ (b ∷ inside ++ 93 ∷ [])) p
+    negated_piece-spells b [] p same has_no e = cc
+    negated_piece-spells b (first ∷ more) p same has_no e =
         let is : p ≡ Unlisted (ranges (first ∷ more)) = cc in
         rw (is, same) (first, more, refl, has_no.1, refl)
 
-brace-fronts : (bs inside : List ℕ) (p : Piece) → Encloses 125 bs inside → braced inside ≡ Some p → Fronts 123 bs p (length inside + 1)
+brace-fronts : (bs inside : List ℕ) (p : Piece) → Encloses 125 bs inside → braced_piece inside ≡ Some p → Fronts 123 bs p (length inside + 1)
 brace-fronts bs inside p h e = elim (cases_Bool (list_all is_braced inside)) [
-  | inl all ↦ enclosed-fronts 123 125 bs inside p h (
+  | inl all ↦ text_before-fronts 123 125 bs inside p h (
       let k = rw all at e in
       let same : p ≡ Among (cut 44 inside) = cc in
       rw same (inside, refl, all_braced-is inside all, cut-is_cut 44 inside))
   | inr some ↦ (let k = rw some at e in cc)
 ]
 
-closed-fronts : (b c : ℕ) (bs : List ℕ) (p : Piece) (n : ℕ) (piece : List ℕ → Option Piece) (found : Option (List ℕ)) → enclosed c bs ≡ found → ((inside : List ℕ) (q : Piece) → Encloses c bs inside → piece inside ≡ Some q → Fronts b bs q (length inside + 1)) → closed piece found ≡ Some (p, n) → Fronts b bs p n
-closed-fronts b c bs p n piece None is fronts e = cc
-closed-fronts b c bs p n piece (Some inside) is fronts e = with_piece (piece inside) refl e
+piece_between-fronts : (b c : ℕ) (bs : List ℕ) (p : Piece) (n : ℕ) (piece : List ℕ → Option Piece) (found : Option (List ℕ)) → text_before c bs ≡ found → ((inside : List ℕ) (q : Piece) → Encloses c bs inside → piece inside ≡ Some q → Fronts b bs q (length inside + 1)) → piece_between piece found ≡ Some (p, n) → Fronts b bs p n
+piece_between-fronts b c bs p n piece None is fronts e = cc
+piece_between-fronts b c bs p n piece (Some inside) is fronts e = with_piece (piece inside) refl e
   where
     with_piece : (made : Option Piece) → piece inside ≡ made → option_map {U = Piece × ℕ} (λ q. (q, length inside + 1)) made ≡ Some (p, n) → Fronts b bs p n
     with_piece None made e = cc
     with_piece (Some q) made e =
         let parts = some_pair_parts _ _ _ _ e in
-        rw (← parts.0, ← parts.1) (fronts inside q (enclosed-is c bs inside is) made)
+        rw (← parts.0, ← parts.1) (fronts inside q (text_before-is c bs inside is) made)
 
 -- what is read at the front is written there
 pub piece_at-fronts : (b : ℕ) (bs : List ℕ) (p : Piece) (n : ℕ) → piece_at b bs ≡ Some (p, n) → Fronts b bs p n
@@ -107,9 +107,9 @@ piece_at-fronts b bs p n h = elim (cases_eq b 63) [
   | inr not_one ↦ (let h1 = rw (ne_eqb b 63 not_one) at h in elim (cases_eq b 42) [
     | inl same ↦ (let k = some_pair_parts _ _ _ _ (rw (eq-eqb b 42 same) at h1) in rw (← k.0, ← k.1) (alone Many (ap (λ x. x ∷ []) same)))
     | inr not_many ↦ (let h2 = rw (ne_eqb b 42 not_many) at h1 in elim (cases_eq b 91) [
-      | inl same ↦ (let k = rw (eq-eqb b 91 same) at h2 in rw same (closed-fronts 91 93 bs p n bracketed (enclosed 93 bs) refl (bracket-fronts bs) k))
+      | inl same ↦ (let k = rw (eq-eqb b 91 same) at h2 in rw same (piece_between-fronts 91 93 bs p n bracketed_piece (text_before 93 bs) refl (bracket-fronts bs) k))
       | inr not_bracket ↦ (let h3 = rw (ne_eqb b 91 not_bracket) at h2 in elim (cases_eq b 123) [
-        | inl same ↦ (let k = rw (eq-eqb b 123 same) at h3 in rw same (closed-fronts 123 125 bs p n braced (enclosed 125 bs) refl (brace-fronts bs) k))
+        | inl same ↦ (let k = rw (eq-eqb b 123 same) at h3 in rw same (piece_between-fronts 123 125 bs p n braced_piece (text_before 125 bs) refl (brace-fronts bs) k))
         | inr not_brace ↦ (let k = some_pair_parts _ _ _ _ (rw (ne_eqb b 123 not_brace) at h3) in rw (← k.0, ← k.1) (alone (Plain b) (refl, (not_one, not_many, not_bracket, not_brace))))
       ])
     ])
@@ -128,14 +128,14 @@ pub record StandsAtFront (t : List ℕ) (p : Piece) (rest : List ℕ) : Type 0 w
   pub piece_is : piece_at first more ≡ Some (p, own)
   pub rest_is : drop own more ≡ rest
 
-bracket-again : (inside rest : List ℕ) (p : Piece) → HasNo 93 inside → bracketed inside ≡ Some p → StandsAtFront ((91 ∷ (inside ++ 93 ∷ [])) ++ rest) p rest
+bracket-again : (inside rest : List ℕ) (p : Piece) → HasNo 93 inside → bracketed_piece inside ≡ Some p → StandsAtFront ((91 ∷ (inside ++ 93 ∷ [])) ++ rest) p rest
 unfolding piece_at
 bracket-again inside rest p has_no made = record {
   first = 91;
   more = (inside ++ 93 ∷ []) ++ rest;
   own = length inside + 1;
   text_is = refl;
-  piece_is = rw (append_assoc inside (93 ∷ []) rest, enclosed-again 93 inside rest has_no, made) refl;
+  piece_is = rw (append_assoc inside (93 ∷ []) rest, text_before-again 93 inside rest has_no, made) refl;
   rest_is = rw (append_assoc inside (93 ∷ []) rest) (drop-closed inside rest 93);
 }
 
@@ -150,7 +150,7 @@ brace-again inside rest ts all cuts = record {
   more = (inside ++ 125 ∷ []) ++ rest;
   own = length inside + 1;
   text_is = refl;
-  piece_is = rw (append_assoc inside (125 ∷ []) rest, enclosed-again 125 inside rest (has_no_brace inside all), all_braced-again inside all, cut-from 44 inside ts cuts) refl;
+  piece_is = rw (append_assoc inside (125 ∷ []) rest, text_before-again 125 inside rest (has_no_brace inside all), all_braced-again inside all, cut-from 44 inside ts cuts) refl;
   rest_is = rw (append_assoc inside (125 ∷ []) rest) (drop-closed inside rest 125);
 }
 

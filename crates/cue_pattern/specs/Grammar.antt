@@ -16,7 +16,8 @@ abbrev pub ranges : List ℕ → List Range
 ranges [] = []
 ranges (c ∷ []) = only c ∷ []
 ranges (c ∷ m ∷ []) = only c ∷ only m ∷ []
-ranges (c ∷ m ∷ d ∷ rest) = if m == minus then record { low = c; high = d } ∷ ranges rest else only c ∷ ranges (m ∷ d ∷ rest)
+ranges (c ∷ m ∷ d ∷ rest) =
+    if m == minus then record { low = c; high = d } ∷ ranges rest else only c ∷ ranges (m ∷ d ∷ rest)
 
 -- outside brackets and braces it stands for itself: none of ? * [ {
 abbrev pub IsPlain : ℕ → Type 0
@@ -24,18 +25,26 @@ IsPlain c = (c ≢ question_mark) × (c ≢ asterisk) × (c ≢ open_bracket) ×
 
 -- it may stand in braces: none of [ ] { } * ?
 abbrev pub IsBraced : ℕ → Type 0
-IsBraced c = (c ≢ open_bracket) × (c ≢ close_bracket) × (c ≢ open_brace) × (c ≢ close_brace) × (c ≢ asterisk) × (c ≢ question_mark)
+IsBraced c =
+    (c ≢ open_bracket) × (c ≢ close_bracket) × (c ≢ open_brace) × (c ≢ close_brace) × (c ≢ asterisk)
+    × (c ≢ question_mark)
 
 -- the bytes that spell a piece
 abbrev pub IsPiece : List ℕ → Piece → Type 0
 IsPiece t One = t ≡ question_mark ∷ []
 IsPiece t Many = t ≡ asterisk ∷ []
 -- [..], not empty and not begun by an exclamation mark; it closes at the first ]
-IsPiece t (Listed rs) = (first : ℕ) × (more : List ℕ) × (t ≡ open_bracket ∷ (first ∷ more ++ close_bracket ∷ [])) × (first ≢ exclamation_mark) × HasNo close_bracket (first ∷ more) × (rs ≡ ranges (first ∷ more))
+IsPiece t (Listed rs) =
+    (first : ℕ) × (more : List ℕ) × (t ≡ open_bracket ∷ (first ∷ more ++ close_bracket ∷ []))
+    × (first ≢ exclamation_mark) × HasNo close_bracket (first ∷ more) × (rs ≡ ranges (first ∷ more))
 -- [!..], not empty behind the exclamation mark
-IsPiece t (Unlisted rs) = (first : ℕ) × (more : List ℕ) × (t ≡ open_bracket ∷ exclamation_mark ∷ (first ∷ more ++ close_bracket ∷ [])) × HasNo close_bracket (first ∷ more) × (rs ≡ ranges (first ∷ more))
+IsPiece t (Unlisted rs) =
+    (first : ℕ) × (more : List ℕ) × (t ≡ open_bracket ∷ exclamation_mark ∷ (first ∷ more ++ close_bracket ∷ []))
+    × HasNo close_bracket (first ∷ more) × (rs ≡ ranges (first ∷ more))
 -- {..}: texts, also empty ones, with a comma between two
-IsPiece t (Among ts) = (inside : List ℕ) × (t ≡ open_brace ∷ (inside ++ close_brace ∷ [])) × AllByRecursion IsBraced inside × IsCut comma inside ts
+IsPiece t (Among ts) =
+    (inside : List ℕ) × (t ≡ open_brace ∷ (inside ++ close_brace ∷ [])) × AllByRecursion IsBraced inside
+    × IsCut comma inside ts
 IsPiece t (Plain c) = (t ≡ c ∷ []) × IsPlain c
 
 -- the bytes that spell pieces in a row

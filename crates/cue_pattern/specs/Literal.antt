@@ -5,7 +5,8 @@ use Rattle.cue_pattern.specs.Bytes.{asterisk, open_brace, open_bracket, question
 
 -- it stands for itself: none of ? * [ {
 abbrev pub is_literal_byte : ℕ → Bool
-is_literal_byte b = not (b == question_mark) && (not (b == asterisk) && (not (b == open_bracket) && not (b == open_brace)))
+is_literal_byte b =
+    not (b == question_mark) && (not (b == asterisk) && (not (b == open_bracket) && not (b == open_brace)))
 
 -- each byte stands for itself
 abbrev pub is_literal : List ℕ → Bool

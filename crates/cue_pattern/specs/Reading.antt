@@ -23,40 +23,42 @@ parts_of [] = None
 parts_of (b ∷ bs) = if b == slash then Some (cut slash bs) else None
 
 -- what stands before the first closing byte, if there is one
-abbrev pub enclosed : ℕ → List ℕ → Option (List ℕ)
-enclosed c [] = None
-enclosed c (b ∷ bs) = if b == c then Some [] else option_map (λ t. b ∷ t) (enclosed c bs)
+abbrev pub text_before : ℕ → List ℕ → Option (List ℕ)
+text_before c [] = None
+text_before c (b ∷ bs) = if b == c then Some [] else option_map (λ t. b ∷ t) (text_before c bs)
 
 -- the piece that brackets make of what stands behind their exclamation mark; none where nothing does
-abbrev pub negated : List ℕ → Option Piece
-negated [] = None
-negated (b ∷ bs) = Some (Unlisted (ranges (b ∷ bs)))
+abbrev pub negated_piece : List ℕ → Option Piece
+negated_piece [] = None
+negated_piece (b ∷ bs) = Some (Unlisted (ranges (b ∷ bs)))
 
 -- the piece that brackets make of what stands in them
-abbrev pub bracketed : List ℕ → Option Piece
-bracketed [] = None
-bracketed (b ∷ bs) = if b == exclamation_mark then negated bs else Some (Listed (ranges (b ∷ bs)))
+abbrev pub bracketed_piece : List ℕ → Option Piece
+bracketed_piece [] = None
+bracketed_piece (b ∷ bs) = if b == exclamation_mark then negated_piece bs else Some (Listed (ranges (b ∷ bs)))
 
 -- it may stand in braces
 abbrev pub is_braced : ℕ → Bool
-is_braced b = not (b == open_bracket) && (not (b == close_bracket) && (not (b == open_brace) && (not (b == close_brace) && (not (b == asterisk) && not (b == question_mark)))))
+is_braced b =
+    not (b == open_bracket) && (not (b == close_bracket)
+    && (not (b == open_brace) && (not (b == close_brace) && (not (b == asterisk) && not (b == question_mark)))))
 
 -- the piece that braces make of what stands in them; none where a byte may not stand there
-abbrev pub braced : List ℕ → Option Piece
-braced inside = if list_all is_braced inside then Some (Among (cut comma inside)) else None
+abbrev pub braced_piece : List ℕ → Option Piece
+braced_piece inside = if list_all is_braced inside then Some (Among (cut comma inside)) else None
 
 -- the piece that is made of what is enclosed, and how many bytes behind its first are its own
-abbrev pub closed : (List ℕ → Option Piece) → Option (List ℕ) → Option (Piece × ℕ)
-closed piece None = None
-closed piece (Some inside) = option_map (λ p. (p, length inside + 1)) (piece inside)
+abbrev pub piece_between : (List ℕ → Option Piece) → Option (List ℕ) → Option (Piece × ℕ)
+piece_between piece None = None
+piece_between piece (Some inside) = option_map (λ p. (p, length inside + 1)) (piece inside)
 
 -- the piece that begins with this byte, and how many of the bytes behind it are its own
 unfoldable pub piece_at : ℕ → List ℕ → Option (Piece × ℕ)
 piece_at b bs =
     if b == question_mark then Some (One, 0) else
     if b == asterisk then Some (Many, 0) else
-    if b == open_bracket then closed bracketed (enclosed close_bracket bs) else
-    if b == open_brace then closed braced (enclosed close_brace bs) else
+    if b == open_bracket then piece_between bracketed_piece (text_before close_bracket bs) else
+    if b == open_brace then piece_between braced_piece (text_before close_brace bs) else
     Some (Plain b, 0)
 
 -- the pieces of what is left of a text behind so many bytes
@@ -64,7 +66,9 @@ unfoldable pub pieces_behind : ℕ → List ℕ → Option (List Piece)
 pieces_behind zero [] = Some []
 pieces_behind (suc n) [] = Some []
 pieces_behind (suc n) (b ∷ bs) = pieces_behind n bs
-pieces_behind zero (b ∷ bs) = option_and_then (λ (found : Piece × ℕ). option_map (λ ps. found.0 ∷ ps) (pieces_behind found.1 bs)) (piece_at b bs)
+pieces_behind zero (b ∷ bs) =
+    option_and_then (λ (found : Piece × ℕ). option_map (λ ps. found.0 ∷ ps) (pieces_behind found.1 bs))
+    (piece_at b bs)
 
 -- the pieces of each part
 unfoldable pub pieces_of : List (List ℕ) → Option (List (List Piece))

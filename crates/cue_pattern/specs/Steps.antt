@@ -7,7 +7,7 @@ use Rattle.cue_pattern.specs.declared.piece.Piece.TheVariants.{One, Many, Listed
 use Rattle.cue_pattern.specs.declared.token.Token.{Token}
 use Rattle.cue_pattern.specs.declared.token.Token.TheVariants as token
 use Rattle.cue_pattern.specs.Grammar.{ranges}
-use Rattle.cue_pattern.specs.Reading.{cut, enclosed}
+use Rattle.cue_pattern.specs.Reading.{cut, text_before}
 use Rattle.cue_pattern.specs.Bytes.{comma}
 
 -- the texts that are still to come
@@ -23,7 +23,7 @@ left_len (Some bytes) = length bytes + 1
 -- what stands before the first separator, and behind it where there is one
 pub record CutsFirst (c : ℕ) (bytes before : List ℕ) (behind : Option (List ℕ)) : Type 0 where
   pub parts : cut c bytes ≡ before ∷ cut_left c behind
-  pub inside : enclosed c bytes ≡ option_map (λ _. before) behind
+  pub inside : text_before c bytes ≡ option_map (λ _. before) behind
   pub rest : IfSome behind (λ r. (r ≡ drop (length before + 1) bytes) × (length before + length r + 1 ≡ length bytes))
 
 -- the piece that a token spells

@@ -4,6 +4,7 @@
 mod cut;
 mod fault;
 pub mod laws;
+mod limits;
 mod literal;
 mod pattern;
 mod piece;
@@ -14,8 +15,9 @@ mod token;
 
 pub use cut::cut_first;
 pub use fault::Fault;
+pub use limits::MAX_SHORT;
 pub use literal::is_literal;
 pub use pattern::Pattern;
-pub use piece::{MAX_SHORT, Part, Piece};
+pub use piece::{Part, Piece};
 pub use ranges::{Range, Ranges};
 pub use texts::{Text, Texts};

@@ -5,6 +5,7 @@ ghost use Rattle.std.specs.Option.{option_map};
 ghost use Rattle.cue_pattern.specs.Reading.{pieces_behind};
 
 use crate::fault::Fault;
+use crate::limits::MAX_SHORT;
 use crate::positions;
 use crate::ranges::Ranges;
 use crate::texts::Texts;
@@ -59,9 +60,6 @@ impl Piece {
         }
     }
 }
-
-/// The most bytes of a text that is matched without memory.
-pub const MAX_SHORT: usize = 64;
 
 /// What stands between two slashes of a pattern: pieces in a row.
 #[derive(Debug, Drop)]

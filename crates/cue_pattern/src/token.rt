@@ -4,7 +4,7 @@ ghost use Rattle.std.specs.Prelude.{◌≡◌, MatchOption, None, length};
 ghost use Rattle.std.specs.List.{list_all};
 ghost use Rattle.std.specs.Option.{option_map};
 ghost use Rattle.cue_pattern.specs.Bytes.{close_bracket, close_brace};
-ghost use Rattle.cue_pattern.specs.Reading.{piece_at, bracketed, braced, closed, enclosed, is_braced, pieces_behind};
+ghost use Rattle.cue_pattern.specs.Reading.{piece_at, bracketed_piece, braced_piece, piece_between, text_before, is_braced, pieces_behind};
 ghost use Rattle.cue_pattern.specs.Steps.{Reads, piece_of};
 
 use crate::cut::cut_first;
@@ -34,8 +34,8 @@ fn is_all_braced(inside: &[u8]) -> bool
 
 /// The piece that begins with a `[`, of which `behind` follows it.
 fn bracket_at(behind: &[u8]) -> Option<(Token<'_>, &[u8])>
-    ensures { MatchOption result (closed bracketed (enclosed close_bracket behind.now) ≡ None)
-        (λ r. Reads (closed bracketed (enclosed close_bracket behind.now)) behind.now (piece_of r.0) r.1.now) }
+    ensures { MatchOption result (piece_between bracketed_piece (text_before close_bracket behind.now) ≡ None)
+        (λ r. Reads (piece_between bracketed_piece (text_before close_bracket behind.now)) behind.now (piece_of r.0) r.1.now) }
 {
     let (inside, rest) = cut_first(b']', behind);
     let rest = rest?;
@@ -48,8 +48,8 @@ fn bracket_at(behind: &[u8]) -> Option<(Token<'_>, &[u8])>
 
 /// The piece that begins with a `{`, of which `behind` follows it.
 fn brace_at(behind: &[u8]) -> Option<(Token<'_>, &[u8])>
-    ensures { MatchOption result (closed braced (enclosed close_brace behind.now) ≡ None)
-        (λ r. Reads (closed braced (enclosed close_brace behind.now)) behind.now (piece_of r.0) r.1.now) }
+    ensures { MatchOption result (piece_between braced_piece (text_before close_brace behind.now) ≡ None)
+        (λ r. Reads (piece_between braced_piece (text_before close_brace behind.now)) behind.now (piece_of r.0) r.1.now) }
 {
     let (inside, rest) = cut_first(b'}', behind);
     let rest = rest?;

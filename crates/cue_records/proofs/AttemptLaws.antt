@@ -25,7 +25,7 @@ use Rattle.cue_exchange.proofs.Lists.{all_weaker, before_next}
 use Rattle.cue_exchange.proofs.LiveRules.{order_of}
 use Rattle.cue_exchange.proofs.LookUps.{can_put-next}
 use Rattle.cue_core.specs.State.{is_of_part, are_of_parts, is_at_cue}
-use Rattle.cue_core.proofs.Conditions.{both, join, same_number, same_self}
+use Rattle.cue_core.proofs.lists.ConditionLemmas.{both, join, same_number, same_self}
 use Rattle.cue_records.specs.Fields.{byte_text, number_text, moment_text, text_text}
 use Rattle.cue_records.specs.State.{stage_number, answer_number, answers_text, attempt_text, live_text}
 use Rattle.cue_records.specs.Reading.{◌>>=◌}

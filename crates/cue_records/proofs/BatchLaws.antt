@@ -6,8 +6,8 @@ use Rattle.std.proofs.lemmas.Bool.{le-leb, leb-true, eqb-true}
 use Rattle.std.proofs.lemmas.List.{append-nil, nil_from_length}
 use Rattle.cue_show.specs.Bytes.{are_bytes}
 use Rattle.cue_core.specs.declared.event.Event.{Event}
-use Rattle.cue_core.proofs.Conditions.{both}
-use Rattle.cue_records.specs.declared.batch.TheConstants.{MAX_EVENTS}
+use Rattle.cue_core.proofs.lists.ConditionLemmas.{both}
+use Rattle.cue_records.specs.declared.limits.TheConstants.{MAX_EVENTS}
 use Rattle.cue_records.specs.declared.fault.ReadFault.{ReadFault}
 use Rattle.cue_records.specs.declared.fault.ReadFault.TheVariants.{Malformed, Memory}
 use Rattle.cue_records.specs.Fields.{short_text}

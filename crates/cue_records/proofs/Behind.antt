@@ -3,16 +3,16 @@ use Rattle.std.proofs.Common.{◌≡◌, Bool, true, false, not, List, [], ◌�
 use Rattle.std.specs.List.{list_all, list_any}
 use Rattle.std.specs.Map.{lookup, keys_of}
 use Rattle.cue_show.specs.Distinct.{are_distinct}
-use Rattle.cue_show.proofs.ListLemmas.{or_parts}
-use Rattle.cue_core.proofs.Conditions.{both}
+use Rattle.cue_show.proofs.ListLemmas.{neither}
+use Rattle.cue_core.proofs.lists.ConditionLemmas.{both}
 
 pub all_here : {A : Type 0} (p : A → Bool) (ys zs : List A) (x : A) → IsTrue (list_all p (ys ++ x ∷ zs)) → IsTrue (p x)
 all_here p [] zs x h = (both (p x) (list_all p zs) h).0
 all_here p (y ∷ ys) zs x h = all_here p ys zs x (both (p y) (list_all p (ys ++ x ∷ zs)) h).1
 
 none_here : {K V : Type 0} (p : K → Bool) (ys zs : List (K × V)) (x : K × V) → list_any p (keys_of (ys ++ x ∷ zs)) ≡ false → p x.0 ≡ false
-none_here p [] zs x h = (or_parts (p x.0) (list_any p (keys_of zs)) h).0
-none_here p (y ∷ ys) zs x h = none_here p ys zs x (or_parts (p y.0) (list_any p (keys_of (ys ++ x ∷ zs))) h).1
+none_here p [] zs x h = (neither (p x.0) (list_any p (keys_of zs)) h).0
+none_here p (y ∷ ys) zs x h = none_here p ys zs x (neither (p y.0) (list_any p (keys_of (ys ++ x ∷ zs))) h).1
 
 not_false : (b : Bool) → IsTrue (not b) → b ≡ false
 not_false false h = refl

@@ -8,10 +8,10 @@ use Rattle.cue_show.specs.declared.part.Part.{Part}
 use Rattle.cue_exchange.specs.Live.{is_number, is_moment}
 use Rattle.cue_core.specs.declared.event.Event.{Event}
 use Rattle.cue_core.specs.declared.event.Event.TheVariants as event
-use Rattle.cue_core.proofs.Conditions.{both, join}
+use Rattle.cue_core.proofs.lists.ConditionLemmas.{both, join}
 use Rattle.cue_records.specs.declared.batch.kind.Kind.{Kind}
 use Rattle.cue_records.specs.declared.batch.kind.Kind.TheVariants as kind
-use Rattle.cue_records.specs.declared.version.Version.TheVariants.{One, Two}
+use Rattle.cue_records.specs.declared.parts_form.PartsForm.TheVariants.{Plain, Flagged}
 use Rattle.cue_records.specs.Fields.{byte_text, number_text, moment_text, text_text, new_cue_text, are_required, reason_number}
 use Rattle.cue_records.specs.Batch.{event_text, is_event}
 use Rattle.cue_records.specs.Reading.{Reads, as_at}
@@ -121,11 +121,11 @@ cancel_field = both_field sequence_field reason_field
 
 -- a cue is mixed where some part of it is optional
 abbrev mixed_cue_fits : List ℕ × List Part → Bool
-mixed_cue_fits x = not (are_required x.1) && new_cue_fits Two x
+mixed_cue_fits x = not (are_required x.1) && new_cue_fits Flagged x
 
-mixed_cue_field : IsField mixed_cue_at (new_cue_text Two) mixed_cue_fits
+mixed_cue_field : IsField mixed_cue_at (new_cue_text Flagged) mixed_cue_fits
 unfolding mixed_cue_at
-mixed_cue_field = where_field (λ x. not (are_required x.1)) (new_cue_field Two)
+mixed_cue_field = where_field (λ x. not (are_required x.1)) (new_cue_field Flagged)
 
 -- the rules of a cue, one by one
 record CueRules (c : List ℕ) (parts : List Part) (text : Bool) : Type 0 where
@@ -146,11 +146,11 @@ not_false : (b : Bool) → IsTrue (not b) → b ≡ false
 not_false false h = refl
 not_false true h = absurd cc
 
-cue_spelled : (x : List ℕ × List Part) → IsTrue (new_cue_fits One x) → event_text (event.Cue x.0 x.1) ≡ 3 ∷ new_cue_text One x
+cue_spelled : (x : List ℕ × List Part) → IsTrue (new_cue_fits Plain x) → event_text (event.Cue x.0 x.1) ≡ 3 ∷ new_cue_text Plain x
 cue_spelled x h = let all : are_required x.1 ≡ true = (cue_rules x.0 x.1 (are_required x.1) h).told in rw all refl
 
-mixed_spelled : (x : List ℕ × List Part) → IsTrue (mixed_cue_fits x) → event_text (event.Cue x.0 x.1) ≡ 13 ∷ new_cue_text Two x
-mixed_spelled x h = let some : are_required x.1 ≡ false = not_false (are_required x.1) (both (not (are_required x.1)) (new_cue_fits Two x) h).0 in rw some refl
+mixed_spelled : (x : List ℕ × List Part) → IsTrue (mixed_cue_fits x) → event_text (event.Cue x.0 x.1) ≡ 13 ∷ new_cue_text Flagged x
+mixed_spelled x h = let some : are_required x.1 ≡ false = not_false (are_required x.1) (both (not (are_required x.1)) (new_cue_fits Flagged x) h).0 in rw some refl
 
 cue_is_event : (x : List ℕ × List Part) (text : Bool) → IsTrue (is_cue_number x.0 && (are_parts x.1 && text)) → IsTrue (is_event (event.Cue x.0 x.1))
 cue_is_event x text h = let r = cue_rules x.0 x.1 text h in join (is_cue_number x.0) (are_parts x.1) r.number r.fit
@@ -159,7 +159,7 @@ body_taken : (k : Kind) (bytes : List ℕ) (x : Event × List ℕ) → IsTrue (a
 unfolding body_at
 body_taken kind.Device = taken entry_field (λ x. event.Device x.0 x.1) 1 (λ x h. refl) (λ x h. h)
 body_taken kind.NoDevice = taken device_field (λ d. event.NoDevice d) 2 (λ d h. refl) (λ d h. h)
-body_taken kind.Cue = taken (new_cue_field One) (λ x. event.Cue x.0 x.1) 3 cue_spelled (λ x h. cue_is_event x (are_required x.1) h)
+body_taken kind.Cue = taken (new_cue_field Plain) (λ x. event.Cue x.0 x.1) 3 cue_spelled (λ x h. cue_is_event x (are_required x.1) h)
 body_taken kind.NoCue = taken cue_field (λ c. event.NoCue c) 4 (λ c h. refl) (λ c h. h)
 body_taken kind.Place = taken cue_field (λ c. event.Place c) 5 (λ c h. refl) (λ c h. h)
 body_taken kind.Start = taken start_field (λ x. event.Start x.0 x.1.0 x.1.1) 6 (λ x h. refl) (λ x h. h)
@@ -169,7 +169,7 @@ body_taken kind.Done = taken answer_field (λ x. event.Done x.0 x.1) 9 (λ x h. 
 body_taken kind.Cancel = taken cancel_field (λ x. event.Cancel x.0 x.1) 10 (λ x h. refl) (λ x h. (both (is_number x.0) true h).0)
 body_taken kind.LetGo = taken answer_field (λ x. event.LetGo x.0 x.1) 11 (λ x h. refl) (λ x h. h)
 body_taken kind.Failed = taken answer_field (λ x. event.Failed x.0 x.1) 12 (λ x h. refl) (λ x h. h)
-body_taken kind.MixedCue = taken mixed_cue_field (λ x. event.Cue x.0 x.1) 13 mixed_spelled (λ x h. cue_is_event x true (both (not (are_required x.1)) (new_cue_fits Two x) h).1)
+body_taken kind.MixedCue = taken mixed_cue_field (λ x. event.Cue x.0 x.1) 13 mixed_spelled (λ x h. cue_is_event x true (both (not (are_required x.1)) (new_cue_fits Flagged x) h).1)
 body_taken kind.Excuse = taken answer_field (λ x. event.Excuse x.0 x.1) 14 (λ x h. refl) (λ x h. h)
 
 -- ---- events
@@ -187,11 +187,11 @@ cue_again : (c : List ℕ) (parts : List Part) (rest : List ℕ) → IsTrue (is_
 unfolding event_at kind_at body_at
 cue_again c parts rest number fit = by (are_required parts) refl
   where
-    by : (b : Bool) → are_required parts ≡ b → event_at ((cond b 3 13 ∷ new_cue_text (cond b One Two) (c, parts)) ++ rest) ≡ Some (event.Cue c parts, rest)
-    by true all = given (new_cue_field One) (λ x. event.Cue x.0 x.1) (c, parts) rest (from_rules c parts (are_required parts) (record { number = number; fit = fit; told = all }))
+    by : (b : Bool) → are_required parts ≡ b → event_at ((cond b 3 13 ∷ new_cue_text (cond b Plain Flagged) (c, parts)) ++ rest) ≡ Some (event.Cue c parts, rest)
+    by true all = given (new_cue_field Plain) (λ x. event.Cue x.0 x.1) (c, parts) rest (from_rules c parts (are_required parts) (record { number = number; fit = fit; told = all }))
     by false some =
         given mixed_cue_field (λ x. event.Cue x.0 x.1) (c, parts) rest
-        (join (not (are_required parts)) (new_cue_fits Two (c, parts)) (rw some refl) (from_rules c parts true (record { number = number; fit = fit; told = refl })))
+        (join (not (are_required parts)) (new_cue_fits Flagged (c, parts)) (rw some refl) (from_rules c parts true (record { number = number; fit = fit; told = refl })))
 
 event_again : (e : Event) (rest : List ℕ) → IsTrue (is_event e) → event_at (event_text e ++ rest) ≡ Some (e, rest)
 unfolding event_at kind_at body_at

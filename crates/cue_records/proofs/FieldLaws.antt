@@ -11,16 +11,16 @@ use Rattle.cue_show.specs.DeviceNumber.{is_device, is_port}
 use Rattle.cue_show.specs.Devices.{distinct, devices_in}
 use Rattle.cue_show.specs.Number.{pieces, is_run, is_cue_number}
 use Rattle.cue_show.specs.Parts.{is_part, is_required_part, has_required_part, are_parts}
-use Rattle.cue_show.specs.declared.limits.TheConstants.{LAST_DEVICE, MAX_CUE_BYTES, MAX_PARTS, MAX_PART_BYTES}
+use Rattle.cue_show.specs.declared.limits.TheConstants.{MAX_DEVICE_NUMBER, MAX_CUE_BYTES, MAX_PARTS, MAX_PART_BYTES}
 use Rattle.cue_show.specs.declared.part.Part.{Part}
 use Rattle.cue_show.proofs.RunsLemmas.{runs_from, runs_from-start}
 use Rattle.cue_exchange.specs.Live.{is_number, is_moment}
 use Rattle.cue_exchange.specs.declared.attempt.Reason.{Reason}
 use Rattle.cue_exchange.specs.declared.attempt.Reason.TheVariants.{Operator, Deadline, Abort, Power, Release}
-use Rattle.cue_exchange.specs.declared.limits.TheConstants.{LAST_NUMBER}
-use Rattle.cue_core.proofs.Conditions.{both, join, all_from, all_zip}
-use Rattle.cue_records.specs.declared.version.Version.{Version}
-use Rattle.cue_records.specs.declared.version.Version.TheVariants.{One, Two}
+use Rattle.cue_exchange.specs.declared.limits.TheConstants.{MAX_NUMBER}
+use Rattle.cue_core.proofs.lists.ConditionLemmas.{both, join, all_from, all_zip}
+use Rattle.cue_records.specs.declared.parts_form.PartsForm.{PartsForm}
+use Rattle.cue_records.specs.declared.parts_form.PartsForm.TheVariants.{Plain, Flagged}
 use Rattle.cue_records.specs.Fields.{byte_text, short_text, number_text, moment_text, text_text, flag_number, flag_text, part_text, parts_text, have_text, entry_text, new_cue_text, reason_number}
 use Rattle.cue_records.specs.Reading.{byte_at, number_at, bytes_at, text_at, device_at, port_at, sequence_at, cue_at, part_bytes_at, flag_of, flag_at, part_at, part_count_at, parts_at, entry_at, new_cue_at, reason_of, reason_at}
 use Rattle.cue_records.proofs.Taking.{Takes, IsField, bind_some, else_some, some_is, bytes_apart, bytes_behind, refit, where_field, test_field, as_field, made_field, both_field, counted_field}
@@ -72,7 +72,7 @@ text_field = record { takes = text_takes; again = λ t rest h. text_again t rest
 -- ---- numbers
 
 device_byte : (d : ℕ) → IsTrue (is_device d) → IsTrue (nat_le d 255)
-device_byte d h = let k : d ≤ LAST_DEVICE = leb-true d LAST_DEVICE h in le-leb d 255 (omega arith)
+device_byte d h = let k : d ≤ MAX_DEVICE_NUMBER = leb-true d MAX_DEVICE_NUMBER h in le-leb d 255 (omega arith)
 
 pub device_field : IsField device_at byte_text is_device
 unfolding device_at
@@ -83,7 +83,7 @@ unfolding port_at
 port_field = where_field (nat_le 1) field16
 
 number_below : (q : ℕ) → IsTrue (is_number q) → IsTrue (nat_le q 4294967295)
-number_below q h = let k : q ≤ LAST_NUMBER = leb-true q LAST_NUMBER (both (nat_le 1 q) (nat_le q LAST_NUMBER) h).1 in le-leb q 4294967295 (omega arith)
+number_below q h = let k : q ≤ MAX_NUMBER = leb-true q MAX_NUMBER (both (nat_le 1 q) (nat_le q MAX_NUMBER) h).1 in le-leb q 4294967295 (omega arith)
 
 pub sequence_field : IsField sequence_at number_text is_number
 unfolding sequence_at
@@ -177,28 +177,28 @@ flag_byte : (o : Bool) → IsTrue (nat_le (flag_number o) 255)
 flag_byte false = refl
 flag_byte true = refl
 
--- version 1 tells required parts alone
-abbrev flag_fits : Version → Bool → Bool
-flag_fits One optional = not optional
-flag_fits Two optional = true
+-- the plain form tells required parts alone
+abbrev flag_fits : PartsForm → Bool → Bool
+flag_fits Plain optional = not optional
+flag_fits Flagged optional = true
 
-no_flag_takes : (bytes : List ℕ) (x : Bool × List ℕ) → flag_at One bytes ≡ Some x → Takes (flag_text One) (flag_fits One) bytes x
+no_flag_takes : (bytes : List ℕ) (x : Bool × List ℕ) → flag_at Plain bytes ≡ Some x → Takes (flag_text Plain) (flag_fits Plain) bytes x
 unfolding flag_at
-no_flag_takes bytes x e = subst (Takes (flag_text One) (flag_fits One) bytes) (some_is (false, bytes) x e) (refl, refl)
+no_flag_takes bytes x e = subst (Takes (flag_text Plain) (flag_fits Plain) bytes) (some_is (false, bytes) x e) (refl, refl)
 
-no_flag_again : (o : Bool) (rest : List ℕ) → IsTrue (flag_fits One o) → flag_at One (flag_text One o ++ rest) ≡ Some (o, rest)
+no_flag_again : (o : Bool) (rest : List ℕ) → IsTrue (flag_fits Plain o) → flag_at Plain (flag_text Plain o ++ rest) ≡ Some (o, rest)
 unfolding flag_at
 no_flag_again false rest h = refl
 no_flag_again true rest h = absurd cc
 
-flag_field : (version : Version) → IsField (flag_at version) (flag_text version) (flag_fits version)
+flag_field : (form : PartsForm) → IsField (flag_at form) (flag_text form) (flag_fits form)
 unfolding flag_at
-flag_field One = record { takes = λ bytes x b e. no_flag_takes bytes x e; again = no_flag_again }
-flag_field Two = made_field flag_of flag_number (λ o. true) byte_field (λ n o h e. (flag_numbered n o e, refl)) (λ o h. flag_again o) (λ o h. flag_byte o)
+flag_field Plain = record { takes = λ bytes x b e. no_flag_takes bytes x e; again = no_flag_again }
+flag_field Flagged = made_field flag_of flag_number (λ o. true) byte_field (λ n o h e. (flag_numbered n o e, refl)) (λ o h. flag_again o) (λ o h. flag_byte o)
 
--- the part has a text in the version
-abbrev part_fits : Version → Part → Bool
-part_fits version p = is_part p && flag_fits version p.optional
+-- the part has a text in this form
+abbrev part_fits : PartsForm → Part → Bool
+part_fits form p = is_part p && flag_fits form p.optional
 
 -- the same three tests in another order
 last_but_one : (a b c : Bool) → IsTrue (a && (b && c)) → IsTrue ((a && c) && b)
@@ -211,23 +211,23 @@ last_again true b true h = rw h refl
 last_again false b c h = absurd cc
 last_again true b false h = absurd cc
 
-part_field : (version : Version) → IsField (part_at version) (part_text version) (part_fits version)
+part_field : (form : PartsForm) → IsField (part_at form) (part_text form) (part_fits form)
 unfolding part_at
-part_field version =
-    refit (part_fits version)
-    (as_field (λ x. record { device = x.0; optional = x.1.0; bytes = x.1.1 }) (λ p. (p.device, (p.optional, p.bytes))) (both_field device_field (both_field (flag_field version) part_bytes_field)) (λ x. refl) (λ p. refl))
-    (λ p h. last_but_one (is_device p.device) (flag_fits version p.optional) (nat_le (length p.bytes) MAX_PART_BYTES && are_bytes p.bytes) h)
-    (λ p h. last_again (is_device p.device) (flag_fits version p.optional) (nat_le (length p.bytes) MAX_PART_BYTES && are_bytes p.bytes) h)
+part_field form =
+    refit (part_fits form)
+    (as_field (λ x. record { device = x.0; optional = x.1.0; bytes = x.1.1 }) (λ p. (p.device, (p.optional, p.bytes))) (both_field device_field (both_field (flag_field form) part_bytes_field)) (λ x. refl) (λ p. refl))
+    (λ p h. last_but_one (is_device p.device) (flag_fits form p.optional) (nat_le (length p.bytes) MAX_PART_BYTES && are_bytes p.bytes) h)
+    (λ p h. last_again (is_device p.device) (flag_fits form p.optional) (nat_le (length p.bytes) MAX_PART_BYTES && are_bytes p.bytes) h)
 
 -- what each part is
-all_fit : (version : Version) (ps : List Part) → IsTrue (list_all (part_fits version) ps) → IsTrue (list_all is_part ps) × IsTrue (have_text version ps)
-all_fit One ps h =
-    (all_from (part_fits One) is_part ps (λ p k. (both (is_part p) (flag_fits One p.optional) k).0) h, all_from (part_fits One) is_required_part ps (λ p k. (both (is_part p) (flag_fits One p.optional) k).1) h)
-all_fit Two ps h = (all_from (part_fits Two) is_part ps (λ p k. (both (is_part p) (flag_fits Two p.optional) k).0) h, refl)
+all_fit : (form : PartsForm) (ps : List Part) → IsTrue (list_all (part_fits form) ps) → IsTrue (list_all is_part ps) × IsTrue (have_text form ps)
+all_fit Plain ps h =
+    (all_from (part_fits Plain) is_part ps (λ p k. (both (is_part p) (flag_fits Plain p.optional) k).0) h, all_from (part_fits Plain) is_required_part ps (λ p k. (both (is_part p) (flag_fits Plain p.optional) k).1) h)
+all_fit Flagged ps h = (all_from (part_fits Flagged) is_part ps (λ p k. (both (is_part p) (flag_fits Flagged p.optional) k).0) h, refl)
 
-each_fits : (version : Version) (ps : List Part) → IsTrue (list_all is_part ps) → IsTrue (have_text version ps) → IsTrue (list_all (part_fits version) ps)
-each_fits One ps h k = all_zip is_part is_required_part (part_fits One) ps (λ p a b. join (is_part p) (flag_fits One p.optional) a b) h k
-each_fits Two ps h k = all_from is_part (part_fits Two) ps (λ p a. join (is_part p) true a refl) h
+each_fits : (form : PartsForm) (ps : List Part) → IsTrue (list_all is_part ps) → IsTrue (have_text form ps) → IsTrue (list_all (part_fits form) ps)
+each_fits Plain ps h k = all_zip is_part is_required_part (part_fits Plain) ps (λ p a b. join (is_part p) (flag_fits Plain p.optional) a b) h k
+each_fits Flagged ps h k = all_from is_part (part_fits Flagged) ps (λ p a. join (is_part p) true a refl) h
 
 part_count_byte : (n : ℕ) → IsTrue (nat_le n MAX_PARTS) → IsTrue (nat_le n 255)
 part_count_byte n h = let k : n ≤ MAX_PARTS = leb-true n MAX_PARTS h in le-leb n 255 (omega arith)
@@ -251,33 +251,33 @@ parts_rules ps h =
     record { some = p.0; few = q.0; apart = r.0; each = r.1 }
 
 -- as the reader tests them
-abbrev are_tested : Version → List Part → Bool
-are_tested version ps = (has_required_part ps && distinct (devices_in ps)) && (nat_le (length ps) MAX_PARTS && list_all (part_fits version) ps)
+abbrev are_tested : PartsForm → List Part → Bool
+are_tested form ps = (has_required_part ps && distinct (devices_in ps)) && (nat_le (length ps) MAX_PARTS && list_all (part_fits form) ps)
 
-tested_parts : (version : Version) (ps : List Part) → IsTrue (are_tested version ps) → IsTrue (are_parts ps && have_text version ps)
-tested_parts version ps h =
-    let p = both (has_required_part ps && distinct (devices_in ps)) (nat_le (length ps) MAX_PARTS && list_all (part_fits version) ps) h in
+tested_parts : (form : PartsForm) (ps : List Part) → IsTrue (are_tested form ps) → IsTrue (are_parts ps && have_text form ps)
+tested_parts form ps h =
+    let p = both (has_required_part ps && distinct (devices_in ps)) (nat_le (length ps) MAX_PARTS && list_all (part_fits form) ps) h in
     let q = both (has_required_part ps) (distinct (devices_in ps)) p.0 in
-    let r = both (nat_le (length ps) MAX_PARTS) (list_all (part_fits version) ps) p.1 in
-    let t = all_fit version ps r.1 in
-    join (are_parts ps) (have_text version ps)
+    let r = both (nat_le (length ps) MAX_PARTS) (list_all (part_fits form) ps) p.1 in
+    let t = all_fit form ps r.1 in
+    join (are_parts ps) (have_text form ps)
     (join (has_required_part ps) (nat_le (length ps) MAX_PARTS && (distinct (devices_in ps) && list_all is_part ps)) q.0
     (join (nat_le (length ps) MAX_PARTS) (distinct (devices_in ps) && list_all is_part ps) r.0 (join (distinct (devices_in ps)) (list_all is_part ps) q.1 t.0)))
     t.1
 
-parts_tested : (version : Version) (ps : List Part) → IsTrue (are_parts ps && have_text version ps) → IsTrue (are_tested version ps)
-parts_tested version ps h =
-    let k = both (are_parts ps) (have_text version ps) h in
+parts_tested : (form : PartsForm) (ps : List Part) → IsTrue (are_parts ps && have_text form ps) → IsTrue (are_tested form ps)
+parts_tested form ps h =
+    let k = both (are_parts ps) (have_text form ps) h in
     let r = parts_rules ps k.0 in
-    join (has_required_part ps && distinct (devices_in ps)) (nat_le (length ps) MAX_PARTS && list_all (part_fits version) ps)
+    join (has_required_part ps && distinct (devices_in ps)) (nat_le (length ps) MAX_PARTS && list_all (part_fits form) ps)
     (join (has_required_part ps) (distinct (devices_in ps)) r.some r.apart)
-    (join (nat_le (length ps) MAX_PARTS) (list_all (part_fits version) ps) r.few (each_fits version ps r.each k.1))
+    (join (nat_le (length ps) MAX_PARTS) (list_all (part_fits form) ps) r.few (each_fits form ps r.each k.1))
 
-pub parts_field : (version : Version) → IsField (parts_at version) (parts_text version) (λ ps. are_parts ps && have_text version ps)
+pub parts_field : (form : PartsForm) → IsField (parts_at form) (parts_text form) (λ ps. are_parts ps && have_text form ps)
 unfolding parts_at
-parts_field version =
-    refit (λ ps. are_parts ps && have_text version ps) (where_field (λ ps. has_required_part ps && distinct (devices_in ps)) (counted_field part_count_field (part_field version)))
-    (tested_parts version) (parts_tested version)
+parts_field form =
+    refit (λ ps. are_parts ps && have_text form ps) (where_field (λ ps. has_required_part ps && distinct (devices_in ps)) (counted_field part_count_field (part_field form)))
+    (tested_parts form) (parts_tested form)
 
 -- ---- entries
 
@@ -285,10 +285,10 @@ pub entry_field : IsField entry_at entry_text (λ x. is_device x.0 && is_port x.
 unfolding entry_at
 entry_field = both_field device_field port_field
 
--- the entry has a text in the version
-abbrev pub new_cue_fits : Version → List ℕ × List Part → Bool
-new_cue_fits version e = is_cue_number e.0 && (are_parts e.1 && have_text version e.1)
+-- the entry has a text in this form
+abbrev pub new_cue_fits : PartsForm → List ℕ × List Part → Bool
+new_cue_fits form e = is_cue_number e.0 && (are_parts e.1 && have_text form e.1)
 
-pub new_cue_field : (version : Version) → IsField (new_cue_at version) (new_cue_text version) (new_cue_fits version)
+pub new_cue_field : (form : PartsForm) → IsField (new_cue_at form) (new_cue_text form) (new_cue_fits form)
 unfolding new_cue_at
-new_cue_field version = both_field cue_field (parts_field version)
+new_cue_field form = both_field cue_field (parts_field form)

@@ -24,9 +24,9 @@ use Rattle.cue_core.specs.declared.event.Event.{Event}
 use Rattle.cue_core.specs.declared.event.Event.TheVariants as event
 use Rattle.cue_core.specs.State.{ShowState, cue_parts, is_of_part, are_of_parts, is_at_cue}
 use Rattle.cue_core.specs.Steps.{acceptable, after, are_acceptable}
-use Rattle.cue_core.proofs.Conditions.{both, join, same_number}
-use Rattle.cue_core.proofs.Rules.{Rules, rules_of, begins, is_state-after}
-use Rattle.cue_core.proofs.Sound.{attempt_rules}
+use Rattle.cue_core.proofs.lists.ConditionLemmas.{both, join, same_number}
+use Rattle.cue_core.proofs.rules.RuleLemmas.{Rules, rules_of, begins, is_state-after}
+use Rattle.cue_core.proofs.rules.SoundLemmas.{attempt_rules}
 use Rattle.cue_records.specs.Batch.{is_event}
 use Rattle.cue_records.specs.Laws.{AcceptableEventsFit}
 use Rattle.cue_records.proofs.FieldLaws.{parts_rules}

@@ -3,7 +3,7 @@ use Rattle.std.proofs.Common.{◌≡◌, ℕ, suc, zero, Bool, true, ◌&&◌, L
 use Rattle.std.specs.List.{flat_map, list_all}
 use Rattle.std.proofs.lemmas.List.{append-nil}
 use Rattle.cue_show.specs.Bytes.{are_bytes}
-use Rattle.cue_core.proofs.Conditions.{join}
+use Rattle.cue_core.proofs.lists.ConditionLemmas.{join}
 use Rattle.cue_records.specs.Reading.{◌>>=◌, Reads, where_it}
 use Rattle.cue_records.specs.StateReading.{added_at, fold_at}
 use Rattle.cue_records.proofs.Taking.{IsField, bind_some, where_some, some_is, bytes_behind}

@@ -21,14 +21,14 @@ use Rattle.cue_exchange.specs.declared.limits.TheConstants.{MAX_LIVE}
 use Rattle.cue_core.specs.declared.event.Ended.{Ended}
 use Rattle.cue_exchange.specs.declared.attempt.DeviceAnswer.{DeviceAnswer}
 use Rattle.cue_core.specs.State.{ShowState, is_of_part, are_of_parts, is_at_cue, is_state}
-use Rattle.cue_core.proofs.Conditions.{both}
-use Rattle.cue_core.proofs.Rules.{rules_of}
+use Rattle.cue_core.proofs.lists.ConditionLemmas.{both}
+use Rattle.cue_core.proofs.rules.RuleLemmas.{rules_of}
 use Rattle.cue_records.specs.Fields.{byte_text, short_text, number_text, moment_text, text_text, flag_text, part_text, parts_text, entry_text, new_cue_text}
 use Rattle.cue_exchange.specs.Outcomes.{outcome_number}
 use Rattle.cue_records.specs.State.{table_text, stack_text, place_text, show_text, ended_text, stage_number, answer_number, answers_text, attempt_text, live_text, text_in}
-use Rattle.cue_records.specs.declared.state.TheConstants.{MAX_STATE_BYTES}
-use Rattle.cue_records.specs.declared.version.Version.{Version}
-use Rattle.cue_records.specs.declared.version.Version.TheVariants.{One, Two}
+use Rattle.cue_records.specs.declared.limits.TheConstants.{MAX_STATE_BYTES}
+use Rattle.cue_records.specs.declared.parts_form.PartsForm.{PartsForm}
+use Rattle.cue_records.specs.declared.parts_form.PartsForm.TheVariants.{Plain, Flagged}
 use Rattle.cue_records.specs.Laws.{StateTextsAreBounded}
 use Rattle.cue_records.proofs.AttemptLaws.{parts_found}
 use Rattle.cue_records.proofs.FieldLaws.{parts_rules}
@@ -70,32 +70,32 @@ longest_part = 3 + MAX_PART_BYTES
 abbrev longest_cue : ℕ
 longest_cue = 2 + MAX_CUE_BYTES + MAX_PARTS * longest_part
 
-flag_short : (version : Version) (optional : Bool) → length (flag_text version optional) ≤ 1
-flag_short One optional = omega arith
-flag_short Two optional = omega arith
+flag_short : (form : PartsForm) (optional : Bool) → length (flag_text form optional) ≤ 1
+flag_short Plain optional = omega arith
+flag_short Flagged optional = omega arith
 
-part_short : (version : Version) (p : Part) → IsTrue (is_part p) → length (part_text version p) ≤ longest_part
-part_short version p h =
+part_short : (form : PartsForm) (p : Part) → IsTrue (is_part p) → length (part_text form p) ≤ longest_part
+part_short form p h =
     let q = both (is_device p.device) (nat_le (length p.bytes) MAX_PART_BYTES && are_bytes p.bytes) h in
     let few : length p.bytes ≤ MAX_PART_BYTES = leb-true (length p.bytes) MAX_PART_BYTES (both (nat_le (length p.bytes) MAX_PART_BYTES) (are_bytes p.bytes) q.1).0 in
-    omega (arith, few, length-append (flag_text version p.optional) (text_text p.bytes), flag_short version p.optional)
+    omega (arith, few, length-append (flag_text form p.optional) (text_text p.bytes), flag_short form p.optional)
 
 -- few parts, each short
-record PartsAreShort (version : Version) (parts : List Part) : Type 0 where
+record PartsAreShort (form : PartsForm) (parts : List Part) : Type 0 where
   few : length parts ≤ MAX_PARTS
-  short : length (flat_map (part_text version) parts) ≤ MAX_PARTS * longest_part
+  short : length (flat_map (part_text form) parts) ≤ MAX_PARTS * longest_part
 
-parts_short : (version : Version) (parts : List Part) → IsTrue (are_parts parts) → PartsAreShort version parts
-parts_short version parts h =
+parts_short : (form : PartsForm) (parts : List Part) → IsTrue (are_parts parts) → PartsAreShort form parts
+parts_short form parts h =
     let r = parts_rules parts h in
     let few : length parts ≤ MAX_PARTS = leb-true (length parts) MAX_PARTS r.few in
-    record { few = few; short = counted-short (part_text version) is_part longest_part MAX_PARTS (part_short version) parts few r.each }
+    record { few = few; short = counted-short (part_text form) is_part longest_part MAX_PARTS (part_short form) parts few r.each }
 
-new_cue_short : (version : Version) (s : ShowLists) (e : List ℕ × List Part) → IsTrue (is_cue_of s e) → length (new_cue_text version e) ≤ longest_cue
-new_cue_short version s e h =
+new_cue_short : (form : PartsForm) (s : ShowLists) (e : List ℕ × List Part) → IsTrue (is_cue_of s e) → length (new_cue_text form e) ≤ longest_cue
+new_cue_short form s e h =
     let k = both (is_cue_number e.0) (are_parts e.1 && are_known s e.1) h in
-    let parts = parts_short version e.1 (both (are_parts e.1) (are_known s e.1) k.1).0 in
-    omega (arith, length-append (text_text e.0) (parts_text version e.1), number_short e.0 k.0, parts.short)
+    let parts = parts_short form e.1 (both (are_parts e.1) (are_known s e.1) k.1).0 in
+    omega (arith, length-append (text_text e.0) (parts_text form e.1), number_short e.0 k.0, parts.short)
 
 entry_long : (e : ℕ × ℕ) → IsTrue (is_entry e) → length (entry_text e) ≤ 3
 entry_long e h = omega (arith, length-append (byte_text e.0) (short_text e.1), two_long e.1)
@@ -107,27 +107,27 @@ table_short devices h =
     let all = counted-short entry_text is_entry 3 MAX_DEVICES entry_long devices (leb-true (length devices) MAX_DEVICES p.0) each in
     omega (arith, length-append (byte_text (length devices)) (flat_map entry_text devices), all)
 
-stack_short : (version : Version) (s : ShowLists) (cues : Cues) → IsTrue (is_stack_of s cues) → length (stack_text version cues) ≤ 2 + MAX_CUES * longest_cue
-stack_short version s cues h =
+stack_short : (form : PartsForm) (s : ShowLists) (cues : Cues) → IsTrue (is_stack_of s cues) → length (stack_text form cues) ≤ 2 + MAX_CUES * longest_cue
+stack_short form s cues h =
     let p = both (nat_le (length cues) MAX_CUES) (are_distinct same_text (keys_of cues) && list_all (is_cue_of s) cues) h in
     let each = (both (are_distinct same_text (keys_of cues)) (list_all (is_cue_of s) cues) p.1).1 in
-    let all = counted-short (new_cue_text version) (is_cue_of s) longest_cue MAX_CUES (new_cue_short version s) cues (leb-true (length cues) MAX_CUES p.0) each in
-    omega (arith, length-append (short_text (length cues)) (flat_map (new_cue_text version) cues), two_long (length cues), all)
+    let all = counted-short (new_cue_text form) (is_cue_of s) longest_cue MAX_CUES (new_cue_short form s) cues (leb-true (length cues) MAX_CUES p.0) each in
+    omega (arith, length-append (short_text (length cues)) (flat_map (new_cue_text form) cues), two_long (length cues), all)
 
 place_short : (s : ShowLists) (place : Option (List ℕ)) → IsTrue (is_show s) → IsTrue (is_place_of s place) → length (place_text place) ≤ 1 + MAX_CUE_BYTES
 place_short s None rules h = omega arith
 place_short s (Some c) rules h = omega (arith, number_short c (cue_fits s c rules h))
 
-show_short : (version : Version) (s : ShowLists) → IsTrue (is_show s) → length (show_text version s) ≤ (1 + MAX_DEVICES * 3) + (2 + MAX_CUES * longest_cue) + (1 + MAX_CUE_BYTES)
-show_short version s h =
+show_short : (form : PartsForm) (s : ShowLists) → IsTrue (is_show s) → length (show_text form s) ≤ (1 + MAX_DEVICES * 3) + (2 + MAX_CUES * longest_cue) + (1 + MAX_CUE_BYTES)
+show_short form s h =
     let p = both (is_table s.devices) (is_stack_of s s.cues && is_place_of s s.place) h in
     let q = both (is_stack_of s s.cues) (is_place_of s s.place) p.1 in
     omega (
       arith,
-      length-append (table_text s.devices) (stack_text version s.cues ++ place_text s.place),
-      length-append (stack_text version s.cues) (place_text s.place),
+      length-append (table_text s.devices) (stack_text form s.cues ++ place_text s.place),
+      length-append (stack_text form s.cues) (place_text s.place),
       table_short s.devices p.0,
-      stack_short version s s.cues q.0,
+      stack_short form s s.cues q.0,
       place_short s s.place h q.1,
     )
 
@@ -185,21 +185,21 @@ ended_long (Some e) = omega (arith, length-append (number_text e.seq) (byte_text
 
 -- ---- the state
 
-text_short : (version : Version) (s : ShowState) → IsTrue (is_state s) → length (text_in version s) ≤ MAX_STATE_BYTES
-text_short version s h =
+text_short : (form : PartsForm) (s : ShowState) → IsTrue (is_state s) → length (text_in form s) ≤ MAX_STATE_BYTES
+text_short form s h =
     let r = rules_of s h in
     let last : List ℕ = ended_text s.ended ++ live_text s.live in
     let behind : List ℕ = number_text s.last_seq ++ last in
     omega (
       arith,
-      length-append (show_text version s.show) behind,
+      length-append (show_text form s.show) behind,
       length-append (number_text s.last_seq) last,
       length-append (ended_text s.ended) (live_text s.live),
-      show_short version s.show r.show,
+      show_short form s.show r.show,
       four_long s.last_seq,
       ended_long s.ended,
       live_text_short s.show s.live r.show (live_short s.live r.live) r.at,
     )
 
 pub state_short : StateTextsAreBounded
-state_short bytes s h t = rw t.is (text_short t.version s h)
+state_short bytes s h t = rw t.is (text_short t.form s h)

@@ -14,10 +14,10 @@ use Rattle.cue_show.specs.Parts.{are_parts}
 use Rattle.cue_show.specs.Show.{Cues, ShowLists, empty_show, has_device, has_cue, is_full, are_known, is_place_of, is_entry, is_table, is_cue_of, is_stack_of, is_show, can_add_device, can_add_cue, with_device, with_cue, with_place}
 use Rattle.cue_show.specs.declared.limits.TheConstants.{MAX_DEVICES, MAX_CUES}
 use Rattle.cue_show.specs.declared.part.Part.{Part}
-use Rattle.cue_core.proofs.Conditions.{both, join, all_from}
-use Rattle.cue_records.specs.declared.state.TheConstants.{OLD_MAX_CUES}
-use Rattle.cue_records.specs.declared.version.Version.{Version}
-use Rattle.cue_records.specs.declared.version.Version.TheVariants.{One, Two}
+use Rattle.cue_core.proofs.lists.ConditionLemmas.{both, join, all_from}
+use Rattle.cue_records.specs.declared.limits.TheConstants.{OLD_MAX_CUES}
+use Rattle.cue_records.specs.declared.parts_form.PartsForm.{PartsForm}
+use Rattle.cue_records.specs.declared.parts_form.PartsForm.TheVariants.{Plain, Flagged}
 use Rattle.cue_records.specs.Fields.{short_text, text_text, have_text}
 use Rattle.cue_records.specs.State.{table_text, stack_text, place_text, show_text}
 use Rattle.cue_records.specs.Reading.{◌>>=◌, where_it}
@@ -91,58 +91,58 @@ cues_allow ds ys zs x h =
     join (not (has_cue (of_cues ds ys) x.0)) (not (is_full (of_cues ds ys)) && is_cue_of (of_cues ds ys) (x.0, x.1)) (rw absent refl)
     (join (not (is_full (of_cues ds ys))) (is_cue_of (of_cues ds ys) (x.0, x.1)) (rw room refl) (all_here (is_cue_of (of_devices ds)) ys zs x r.each))
 
--- the parts of each cue have a text in the version
-abbrev are_told : Version → Cues → Bool
-are_told version cs = list_all (λ e. have_text version e.1) cs
+-- the parts of each cue have a text in this form
+abbrev are_told : PartsForm → Cues → Bool
+are_told form cs = list_all (λ e. have_text form e.1) cs
 
--- the stack has a text in the version
-abbrev pub stack_fits : Version → Cues → Bool
-stack_fits version cs = nat_le (length cs) (most_cues version) && are_told version cs
+-- the stack has a text in this form
+abbrev pub stack_fits : PartsForm → Cues → Bool
+stack_fits form cs = nat_le (length cs) (most_cues form) && are_told form cs
 
--- a stack whose cues have a text in the version
-abbrev is_told : Version → List (ℕ × ℕ) → Cues → Bool
-is_told version ds cs = is_stack_of (of_devices ds) cs && are_told version cs
+-- a stack whose cues have a text in this form
+abbrev is_told : PartsForm → List (ℕ × ℕ) → Cues → Bool
+is_told form ds cs = is_stack_of (of_devices ds) cs && are_told form cs
 
-told_fits : (version : Version) (ds : List (ℕ × ℕ)) (ys zs : Cues) (x : List ℕ × List Part) → IsTrue (is_told version ds (ys ++ x ∷ zs)) → IsTrue (new_cue_fits version x)
-told_fits version ds ys zs x h =
-    let k = both (is_stack_of (of_devices ds) (ys ++ x ∷ zs)) (are_told version (ys ++ x ∷ zs)) h in
+told_fits : (form : PartsForm) (ds : List (ℕ × ℕ)) (ys zs : Cues) (x : List ℕ × List Part) → IsTrue (is_told form ds (ys ++ x ∷ zs)) → IsTrue (new_cue_fits form x)
+told_fits form ds ys zs x h =
+    let k = both (is_stack_of (of_devices ds) (ys ++ x ∷ zs)) (are_told form (ys ++ x ∷ zs)) h in
     let here = all_here (is_cue_of (of_devices ds)) ys zs x (stack_rules ds (ys ++ x ∷ zs) k.0).each in
     let p = both (is_cue_number x.0) (are_parts x.1 && are_known (of_devices ds) x.1) here in
-    join (is_cue_number x.0) (are_parts x.1 && have_text version x.1) p.0
-    (join (are_parts x.1) (have_text version x.1) (both (are_parts x.1) (are_known (of_devices ds) x.1) p.1).0 (all_here (λ e. have_text version e.1) ys zs x k.1))
+    join (is_cue_number x.0) (are_parts x.1 && have_text form x.1) p.0
+    (join (are_parts x.1) (have_text form x.1) (both (are_parts x.1) (are_known (of_devices ds) x.1) p.1).0 (all_here (λ e. have_text form e.1) ys zs x k.1))
 
-cues_made : (version : Version) (ds : List (ℕ × ℕ)) → IsMade (λ s e. can_add_cue s e.0 e.1) (λ s e. with_cue s e.0 e.1) (of_cues ds) (new_cue_fits version) (is_told version ds)
-cues_made version ds = record {
+cues_made : (form : PartsForm) (ds : List (ℕ × ℕ)) → IsMade (λ s e. can_add_cue s e.0 e.1) (λ s e. with_cue s e.0 e.1) (of_cues ds) (new_cue_fits form) (is_told form ds)
+cues_made form ds = record {
   grows = λ xs x may. refl;
-  allows = λ ys zs x h. cues_allow ds ys zs x (both (is_stack_of (of_devices ds) (ys ++ x ∷ zs)) (are_told version (ys ++ x ∷ zs)) h).0;
-  fitting = told_fits version ds;
+  allows = λ ys zs x h. cues_allow ds ys zs x (both (is_stack_of (of_devices ds) (ys ++ x ∷ zs)) (are_told form (ys ++ x ∷ zs)) h).0;
+  fitting = told_fits form ds;
 }
 
-count_short : (version : Version) (n : ℕ) → IsTrue (nat_le n (most_cues version)) → IsTrue (nat_le n 65535)
-count_short One n h = let k : n ≤ OLD_MAX_CUES = leb-true n OLD_MAX_CUES h in le-leb n 65535 (omega arith)
-count_short Two n h = let k : n ≤ MAX_CUES = leb-true n MAX_CUES h in le-leb n 65535 (omega arith)
+count_short : (form : PartsForm) (n : ℕ) → IsTrue (nat_le n (most_cues form)) → IsTrue (nat_le n 65535)
+count_short Plain n h = let k : n ≤ OLD_MAX_CUES = leb-true n OLD_MAX_CUES h in le-leb n 65535 (omega arith)
+count_short Flagged n h = let k : n ≤ MAX_CUES = leb-true n MAX_CUES h in le-leb n 65535 (omega arith)
 
-cue_count_field : (version : Version) → IsField (cue_count_at version) short_text (λ n. nat_le n (most_cues version))
+cue_count_field : (form : PartsForm) → IsField (cue_count_at form) short_text (λ n. nat_le n (most_cues form))
 unfolding cue_count_at
-cue_count_field version = test_field (λ n. nat_le n (most_cues version)) field16 (count_short version)
+cue_count_field form = test_field (λ n. nat_le n (most_cues form)) field16 (count_short form)
 
 -- a stack was taken
-abbrev TakesStack : Version → List (ℕ × ℕ) → List ℕ → ShowLists × List ℕ → Type 0
-TakesStack version ds bytes y = (cs : Cues) × (bytes ≡ stack_text version cs ++ y.1) × (y.0 ≡ of_cues ds cs) × IsTrue (stack_fits version cs)
+abbrev TakesStack : PartsForm → List (ℕ × ℕ) → List ℕ → ShowLists × List ℕ → Type 0
+TakesStack form ds bytes y = (cs : Cues) × (bytes ≡ stack_text form cs ++ y.1) × (y.0 ≡ of_cues ds cs) × IsTrue (stack_fits form cs)
 
-stack_takes : (version : Version) (ds : List (ℕ × ℕ)) (bytes : List ℕ) (y : ShowLists × List ℕ) → IsTrue (are_bytes bytes) → stack_at version (of_devices ds) bytes ≡ Some y → TakesStack version ds bytes y
+stack_takes : (form : PartsForm) (ds : List (ℕ × ℕ)) (bytes : List ℕ) (y : ShowLists × List ℕ) → IsTrue (are_bytes bytes) → stack_at form (of_devices ds) bytes ≡ Some y → TakesStack form ds bytes y
 unfolding stack_at cue_step
-stack_takes version ds bytes y b e =
-    let t = counted_takes (cue_count_field version) (new_cue_field version) (cues_made version ds) bytes y b e in
-    let k = both (nat_le (length t.0) (most_cues version)) (list_all (new_cue_fits version) t.0) t.3 in
-    let told = all_from (new_cue_fits version) (λ x. have_text version x.1) t.0 (λ x h. (both (are_parts x.1) (have_text version x.1) (both (is_cue_number x.0) (are_parts x.1 && have_text version x.1) h).1).1) k.1 in
-    (t.0, t.1, t.2, join (nat_le (length t.0) (most_cues version)) (are_told version t.0) k.0 told)
+stack_takes form ds bytes y b e =
+    let t = counted_takes (cue_count_field form) (new_cue_field form) (cues_made form ds) bytes y b e in
+    let k = both (nat_le (length t.0) (most_cues form)) (list_all (new_cue_fits form) t.0) t.3 in
+    let told = all_from (new_cue_fits form) (λ x. have_text form x.1) t.0 (λ x h. (both (are_parts x.1) (have_text form x.1) (both (is_cue_number x.0) (are_parts x.1 && have_text form x.1) h).1).1) k.1 in
+    (t.0, t.1, t.2, join (nat_le (length t.0) (most_cues form)) (are_told form t.0) k.0 told)
 
-stack_again : (version : Version) (ds : List (ℕ × ℕ)) (cs : Cues) (rest : List ℕ) → IsTrue (is_stack_of (of_devices ds) cs) → IsTrue (stack_fits version cs) → stack_at version (of_devices ds) (stack_text version cs ++ rest) ≡ Some (of_cues ds cs, rest)
+stack_again : (form : PartsForm) (ds : List (ℕ × ℕ)) (cs : Cues) (rest : List ℕ) → IsTrue (is_stack_of (of_devices ds) cs) → IsTrue (stack_fits form cs) → stack_at form (of_devices ds) (stack_text form cs ++ rest) ≡ Some (of_cues ds cs, rest)
 unfolding stack_at cue_step
-stack_again version ds cs rest h k =
-    let p = both (nat_le (length cs) (most_cues version)) (are_told version cs) k in
-    counted_again (cue_count_field version) (new_cue_field version) (cues_made version ds) cs rest p.0 (join (is_stack_of (of_devices ds) cs) (are_told version cs) h p.1)
+stack_again form ds cs rest h k =
+    let p = both (nat_le (length cs) (most_cues form)) (are_told form cs) k in
+    counted_again (cue_count_field form) (new_cue_field form) (cues_made form ds) cs rest p.0 (join (is_stack_of (of_devices ds) cs) (are_told form cs) h p.1)
 
 -- ---- the place
 
@@ -195,25 +195,25 @@ three : (a b c rest : List ℕ) → a ++ (b ++ (c ++ rest)) ≡ (a ++ (b ++ c)) 
 three a b c rest = sym (append_assoc a (b ++ c) rest ∙ ap (λ bs. a ++ bs) (append_assoc b c rest))
 
 -- a show was taken
-abbrev pub TakesShow : Version → List ℕ → ShowLists × List ℕ → Type 0
-TakesShow version bytes y = (bytes ≡ show_text version y.0 ++ y.1) × IsTrue (stack_fits version y.0.cues)
+abbrev pub TakesShow : PartsForm → List ℕ → ShowLists × List ℕ → Type 0
+TakesShow form bytes y = (bytes ≡ show_text form y.0 ++ y.1) × IsTrue (stack_fits form y.0.cues)
 
-pub show_takes : (version : Version) (bytes : List ℕ) (y : ShowLists × List ℕ) → IsTrue (are_bytes bytes) → show_at version empty_show bytes ≡ Some y → TakesShow version bytes y
+pub show_takes : (form : PartsForm) (bytes : List ℕ) (y : ShowLists × List ℕ) → IsTrue (are_bytes bytes) → show_at form empty_show bytes ≡ Some y → TakesShow form bytes y
 unfolding show_at
-show_takes version bytes y b e =
-    let a = bind_some (table_at empty_show bytes) (λ t. stack_at version t.0 t.1 >>= λ u. place_step u.0 u.1) y e in
+show_takes form bytes y b e =
+    let a = bind_some (table_at empty_show bytes) (λ t. stack_at form t.0 t.1 >>= λ u. place_step u.0 u.1) y e in
     let t = table_takes bytes a.0 b a.1 in
     let ds = t.0 in
-    let c = bind_some (stack_at version a.0.0 a.0.1) (λ u. place_step u.0 u.1) y a.2 in
-    let here : stack_at version (of_devices ds) a.0.1 ≡ Some c.0 = subst (λ s. stack_at version s a.0.1 ≡ Some c.0) t.2 c.1 in
+    let c = bind_some (stack_at form a.0.0 a.0.1) (λ u. place_step u.0 u.1) y a.2 in
+    let here : stack_at form (of_devices ds) a.0.1 ≡ Some c.0 = subst (λ s. stack_at form s a.0.1 ≡ Some c.0) t.2 c.1 in
     let b1 = bytes_behind bytes (table_text ds) a.0.1 t.1 b in
-    let u = stack_takes version ds a.0.1 c.0 b1 here in
+    let u = stack_takes form ds a.0.1 c.0 b1 here in
     let cs = u.0 in
-    let v = place_takes c.0.0 c.0.1 y (bytes_behind a.0.1 (stack_text version cs) c.0.1 u.1 b1) c.2 in
+    let v = place_takes c.0.0 c.0.1 y (bytes_behind a.0.1 (stack_text form cs) c.0.1 u.1 b1) c.2 in
     let whole : y.0 ≡ record { devices = ds; cues = cs; place = v.0 } = v.2 ∙ ap (λ s. with_place s v.0) u.2 in
-    let parts : bytes ≡ (table_text ds ++ (stack_text version cs ++ place_text v.0)) ++ y.1 =
-    t.1 ∙ ap (λ bs. table_text ds ++ bs) (u.1 ∙ ap (λ bs. stack_text version cs ++ bs) v.1) ∙ three (table_text ds) (stack_text version cs) (place_text v.0) y.1 in
-    subst (λ s. (bytes ≡ show_text version s ++ y.1) × IsTrue (stack_fits version s.cues)) (sym whole) (parts, u.3)
+    let parts : bytes ≡ (table_text ds ++ (stack_text form cs ++ place_text v.0)) ++ y.1 =
+    t.1 ∙ ap (λ bs. table_text ds ++ bs) (u.1 ∙ ap (λ bs. stack_text form cs ++ bs) v.1) ∙ three (table_text ds) (stack_text form cs) (place_text v.0) y.1 in
+    subst (λ s. (bytes ≡ show_text form s ++ y.1) × IsTrue (stack_fits form s.cues)) (sym whole) (parts, u.3)
 
 place_same : (s : ShowLists) (o : Option (List ℕ)) → IsTrue (is_place_of s o) → IsTrue (is_place_of (of_cues s.devices s.cues) o)
 place_same s None h = h
@@ -223,14 +223,14 @@ place_in : (s : ShowLists) (o : Option (List ℕ)) → IsTrue (is_show s) → Is
 place_in s None rules h = refl
 place_in s (Some c) rules h = cue_fits s c rules h
 
-pub show_again : (version : Version) (s : ShowLists) (rest : List ℕ) → IsTrue (is_show s) → IsTrue (stack_fits version s.cues) → show_at version empty_show (show_text version s ++ rest) ≡ Some (s, rest)
+pub show_again : (form : PartsForm) (s : ShowLists) (rest : List ℕ) → IsTrue (is_show s) → IsTrue (stack_fits form s.cues) → show_at form empty_show (show_text form s ++ rest) ≡ Some (s, rest)
 unfolding show_at
-show_again version s rest h k =
+show_again form s rest h k =
     let p = both (is_table s.devices) (is_stack_of s s.cues && is_place_of s s.place) h in
     let q = both (is_stack_of s s.cues) (is_place_of s s.place) p.1 in
     let after = place_text s.place ++ rest in
-    let behind = stack_text version s.cues ++ after in
-    let regrouped : show_text version s ++ rest ≡ table_text s.devices ++ behind = sym (three (table_text s.devices) (stack_text version s.cues) (place_text s.place) rest) in
+    let behind = stack_text form s.cues ++ after in
+    let regrouped : show_text form s ++ rest ≡ table_text s.devices ++ behind = sym (three (table_text s.devices) (stack_text form s.cues) (place_text s.place) rest) in
     let table : table_at empty_show (table_text s.devices ++ behind) ≡ Some (of_devices s.devices, behind) = table_again s.devices behind p.0 in
-    let stack : stack_at version (of_devices s.devices) behind ≡ Some (of_cues s.devices s.cues, after) = stack_again version s.devices s.cues after q.0 k in
-    ap (show_at version empty_show) regrouped ∙ rw (table, stack) (place_again (of_cues s.devices s.cues) s.place rest (place_in s s.place h q.1) (place_same s s.place q.1))
+    let stack : stack_at form (of_devices s.devices) behind ≡ Some (of_cues s.devices s.cues, after) = stack_again form s.devices s.cues after q.0 k in
+    ap (show_at form empty_show) regrouped ∙ rw (table, stack) (place_again (of_cues s.devices s.cues) s.place rest (place_in s s.place h q.1) (place_same s s.place q.1))

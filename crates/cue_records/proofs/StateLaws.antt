@@ -18,25 +18,25 @@ use Rattle.cue_exchange.specs.Live.{is_number, is_moment, is_attempt, are_live, 
 use Rattle.cue_exchange.specs.declared.attempt.Attempt.{Attempt}
 use Rattle.cue_exchange.specs.declared.attempt.Outcome.{Outcome}
 use Rattle.cue_exchange.specs.declared.attempt.Outcome.TheVariants as outcome
-use Rattle.cue_exchange.specs.declared.limits.TheConstants.{LAST_NUMBER}
+use Rattle.cue_exchange.specs.declared.limits.TheConstants.{MAX_NUMBER}
 use Rattle.cue_exchange.proofs.Lists.{all_given}
 use Rattle.cue_exchange.proofs.LookUps.{find-passes}
 use Rattle.cue_exchange.proofs.LiveRules.{attempts_of}
 use Rattle.cue_core.specs.declared.event.Ended.{Ended}
 use Rattle.cue_core.specs.State.{ShowState, is_at_cue, is_ended, is_state}
-use Rattle.cue_core.proofs.Conditions.{both, join, all_from}
-use Rattle.cue_core.proofs.Rules.{Rules, rules_of}
-use Rattle.cue_core.proofs.Sound.{attempt_rules}
+use Rattle.cue_core.proofs.lists.ConditionLemmas.{both, join, all_from}
+use Rattle.cue_core.proofs.rules.RuleLemmas.{Rules, rules_of}
+use Rattle.cue_core.proofs.rules.SoundLemmas.{attempt_rules}
 use Rattle.cue_records.specs.declared.fault.StateFault.{StateFault}
 use Rattle.cue_records.specs.declared.fault.StateFault.TheVariants as fault
-use Rattle.cue_records.specs.declared.version.Version.{Version}
-use Rattle.cue_records.specs.declared.version.Version.TheVariants.{One, Two}
+use Rattle.cue_records.specs.declared.parts_form.PartsForm.{PartsForm}
+use Rattle.cue_records.specs.declared.parts_form.PartsForm.TheVariants.{Plain, Flagged}
 use Rattle.cue_records.specs.declared.state.TheConstants.{VERSION, OLD_VERSION}
 use Rattle.cue_records.specs.Fields.{byte_text, number_text, have_text}
-use Rattle.cue_records.specs.State.{show_text, ended_text, live_text, version_number, version_of, has_text, text_in, state_text, IsStateText, IsNoState}
+use Rattle.cue_records.specs.State.{show_text, ended_text, live_text, version_number, form_of_version, has_text, text_in, state_text, IsStateText, IsNoState}
 use Rattle.cue_records.specs.Laws.{StatesAreReadBack, StateTextsDiffer}
 use Rattle.cue_records.specs.Reading.{◌>>=◌, where_it, number_at}
-use Rattle.cue_records.specs.StateReading.{GivesState, ended_of, ended_at, show_at, live_at, tail_of, checked, standing_of, state_of, is_text_in, is_state_text}
+use Rattle.cue_records.specs.StateReading.{GivesState, ended_of, ended_at, show_at, live_at, tail_of, where_state, standing_of, state_of, is_text_in, is_state_text}
 use Rattle.cue_records.proofs.AttemptLaws.{attempt_fits, are_live_at, live_takes, live_again}
 use Rattle.cue_records.proofs.FieldLaws.{byte_field, step_number}
 use Rattle.cue_records.proofs.Fitting.{attempt_cue_fits}
@@ -44,6 +44,7 @@ use Rattle.cue_records.proofs.Numbers.{field32}
 use Rattle.cue_records.proofs.Ranges.{live_short}
 use Rattle.cue_records.proofs.ShowLaws.{stack_fits, show_takes, show_again}
 use Rattle.cue_records.proofs.Taking.{IsField, bind_some, where_some, some_is, bytes_behind, made_field, both_field, respell}
+use Rattle.cue_show.proofs.TestLemmas.{or_right}
 
 -- ---- the attempt that ended last
 
@@ -129,23 +130,23 @@ tail_again show last ended live h k few all =
 -- ---- states
 
 -- what stands behind the number of the version
-abbrev body_of : Version → ShowState → List ℕ
-body_of version s = show_text version s.show ++ (number_text s.last_seq ++ (ended_text s.ended ++ live_text s.live))
+abbrev body_of : PartsForm → ShowState → List ℕ
+body_of form s = show_text form s.show ++ (number_text s.last_seq ++ (ended_text s.ended ++ live_text s.live))
 
 -- a state was taken
-abbrev TakesState : Version → List ℕ → ShowState → Type 0
-TakesState version bytes s = IsTrue (is_state s) × (bytes ≡ body_of version s) × IsTrue (stack_fits version s.show.cues)
+abbrev TakesState : PartsForm → List ℕ → ShowState → Type 0
+TakesState form bytes s = IsTrue (is_state s) × (bytes ≡ body_of form s) × IsTrue (stack_fits form s.show.cues)
 
-standing_takes : (version : Version) (bytes : List ℕ) (s : ShowState) → IsTrue (are_bytes bytes) → standing_of version bytes ≡ Some s → TakesState version bytes s
+standing_takes : (form : PartsForm) (bytes : List ℕ) (s : ShowState) → IsTrue (are_bytes bytes) → standing_of form bytes ≡ Some s → TakesState form bytes s
 unfolding standing_of
-standing_takes version bytes s b e =
-    let a = bind_some (show_at version empty_show bytes) (λ show. tail_of show.0 [] show.1 >>= λ t. checked (record { show = show.0; live = t.1.1; last_seq = t.0; ended = t.1.0 })) s e in
-    let c = bind_some (tail_of a.0.0 [] a.0.1) (λ t. checked (record { show = a.0.0; live = t.1.1; last_seq = t.0; ended = t.1.0 })) s a.2 in
+standing_takes form bytes s b e =
+    let a = bind_some (show_at form empty_show bytes) (λ show. tail_of show.0 [] show.1 >>= λ t. where_state (record { show = show.0; live = t.1.1; last_seq = t.0; ended = t.1.0 })) s e in
+    let c = bind_some (tail_of a.0.0 [] a.0.1) (λ t. where_state (record { show = a.0.0; live = t.1.1; last_seq = t.0; ended = t.1.0 })) s a.2 in
     let made : ShowState = record { show = a.0.0; live = c.0.1.1; last_seq = c.0.0; ended = c.0.1.0 } in
     let w = where_some (is_state made) made s c.2 in
-    let t = show_takes version bytes a.0 b a.1 in
-    let u = tail_takes a.0.0 a.0.1 c.0 (bytes_behind bytes (show_text version a.0.0) a.0.1 t.0 b) c.1 in
-    subst (TakesState version bytes) w.1 (w.0, t.0 ∙ ap (λ bs. show_text version a.0.0 ++ bs) u, t.1)
+    let t = show_takes form bytes a.0 b a.1 in
+    let u = tail_takes a.0.0 a.0.1 c.0 (bytes_behind bytes (show_text form a.0.0) a.0.1 t.0 b) c.1 in
+    subst (TakesState form bytes) w.1 (w.0, t.0 ∙ ap (λ bs. show_text form a.0.0 ++ bs) u, t.1)
 
 live_fits : (s : ShowState) → Rules s → IsTrue (are_live_at s.show s.live)
 live_fits s r =
@@ -158,62 +159,62 @@ live_fits s r =
     (join (is_cue_number a.cue) (is_moment a.deadline && true) (attempt_cue_fits s.show a r.show at) (join (is_moment a.deadline) true k.moment refl))) at)
     s.live (attempts_of s.live r.live) r.at)
 
-last_fits : (n : ℕ) → IsTrue (nat_le n LAST_NUMBER) → IsTrue (nat_le n 4294967295)
-last_fits n h = let k : n ≤ LAST_NUMBER = leb-true n LAST_NUMBER h in le-leb n 4294967295 (omega arith)
+last_fits : (n : ℕ) → IsTrue (nat_le n MAX_NUMBER) → IsTrue (nat_le n 4294967295)
+last_fits n h = let k : n ≤ MAX_NUMBER = leb-true n MAX_NUMBER h in le-leb n 4294967295 (omega arith)
 
 ended_in_range : (live : List Attempt) (last : ℕ) (o : Option Ended) → IsTrue (is_ended live last o) → IsTrue (ended_fits o)
 ended_in_range live last None h = refl
 ended_in_range live last (Some e) h =
     let p = both (is_number e.seq) (nat_le e.seq last && not (is_some (attempt_of live e.seq))) h in
-    last_fits e.seq (both (nat_le 1 e.seq) (nat_le e.seq LAST_NUMBER) p.0).1
+    last_fits e.seq (both (nat_le 1 e.seq) (nat_le e.seq MAX_NUMBER) p.0).1
 
-standing_again : (version : Version) (s : ShowState) → IsTrue (is_state s) → IsTrue (stack_fits version s.show.cues) → standing_of version (body_of version s) ≡ Some s
+standing_again : (form : PartsForm) (s : ShowState) → IsTrue (is_state s) → IsTrue (stack_fits form s.show.cues) → standing_of form (body_of form s) ≡ Some s
 unfolding standing_of
-standing_again version s h k =
+standing_again form s h k =
     let r = rules_of s h in
     let tail = number_text s.last_seq ++ (ended_text s.ended ++ live_text s.live) in
-    let show : show_at version empty_show (show_text version s.show ++ tail) ≡ Some (s.show, tail) = show_again version s.show tail r.show k in
+    let show : show_at form empty_show (show_text form s.show ++ tail) ≡ Some (s.show, tail) = show_again form s.show tail r.show k in
     let rest : tail_of s.show [] tail ≡ Some (s.last_seq, (s.ended, s.live)) = tail_again s.show s.last_seq s.ended s.live (last_fits s.last_seq r.last) (ended_in_range s.live s.last_seq s.ended r.ended) r.live (live_fits s r) in
     let keeps : is_state s ≡ true = h in
     rw (show, rest, keeps) refl
 
 -- ---- the versions
 
-version_numbered : (n : ℕ) (version : Version) → version_of n ≡ Some version → version_number version ≡ n
+version_numbered : (n : ℕ) (form : PartsForm) → form_of_version n ≡ Some form → version_number form ≡ n
 version_numbered n =
-    step_number version_number n OLD_VERSION One _ refl
-    (step_number version_number n VERSION Two None refl (λ v e. absurd cc))
+    step_number version_number n OLD_VERSION Plain _ refl
+    (step_number version_number n VERSION Flagged None refl (λ v e. absurd cc))
 
-version_again : (version : Version) → version_of (version_number version) ≡ Some version
-version_again One = refl
-version_again Two = refl
+version_again : (form : PartsForm) → form_of_version (version_number form) ≡ Some form
+version_again Plain = refl
+version_again Flagged = refl
 
 -- what the reader found to fit
-found_text : (version : Version) (s : ShowState) → IsTrue (stack_fits version s.show.cues) → IsTrue (has_text version s)
-found_text One s h = h
-found_text Two s h = refl
+found_text : (form : PartsForm) (s : ShowState) → IsTrue (stack_fits form s.show.cues) → IsTrue (has_text form s)
+found_text Plain s h = h
+found_text Flagged s h = refl
 
-text_fits : (version : Version) (s : ShowState) → IsTrue (is_state s) → IsTrue (has_text version s) → IsTrue (stack_fits version s.show.cues)
-text_fits One s h k = k
-text_fits Two s h k =
+text_fits : (form : PartsForm) (s : ShowState) → IsTrue (is_state s) → IsTrue (has_text form s) → IsTrue (stack_fits form s.show.cues)
+text_fits Plain s h k = k
+text_fits Flagged s h k =
     let show = (rules_of s h).show in
     let stack = (both (is_stack_of s.show s.show.cues) (is_place_of s.show s.show.place) (both (is_table s.show.devices) (is_stack_of s.show s.show.cues && is_place_of s.show s.show.place) show).1).0 in
     let p = both (nat_le (length s.show.cues) MAX_CUES) (are_distinct same_text (keys_of s.show.cues) && list_all (is_cue_of s.show) s.show.cues) stack in
     let each = (both (are_distinct same_text (keys_of s.show.cues)) (list_all (is_cue_of s.show) s.show.cues) p.1).1 in
-    join (nat_le (length s.show.cues) MAX_CUES) (list_all (λ e. have_text Two e.1) s.show.cues) p.0 (all_from (is_cue_of s.show) (λ e. have_text Two e.1) s.show.cues (λ e h. refl) each)
+    join (nat_le (length s.show.cues) MAX_CUES) (list_all (λ e. have_text Flagged e.1) s.show.cues) p.0 (all_from (is_cue_of s.show) (λ e. have_text Flagged e.1) s.show.cues (λ e h. refl) each)
 
 state_takes : (bytes : List ℕ) (s : ShowState) → IsTrue (are_bytes bytes) → state_of bytes ≡ Some s → IsTrue (is_state s) × IsStateText bytes s
 unfolding state_of
 state_takes [] s b e = absurd cc
 state_takes (n ∷ bytes) s b e =
-    let v = bind_some (version_of n) (λ version. standing_of version bytes) s e in
+    let v = bind_some (form_of_version n) (λ form. standing_of form bytes) s e in
     let number : version_number v.0 ≡ n = version_numbered n v.0 v.1 in
     let t = standing_takes v.0 bytes s (both (nat_le n 255) (are_bytes bytes) b).1 v.2 in
-    (t.0, record { version = v.0; has = found_text v.0 s t.2; is = ap (λ k. k ∷ bytes) (sym number) ∙ ap (λ bs. version_number v.0 ∷ bs) t.1 })
+    (t.0, record { form = v.0; has = found_text v.0 s t.2; is = ap (λ k. k ∷ bytes) (sym number) ∙ ap (λ bs. version_number v.0 ∷ bs) t.1 })
 
-state_again : (version : Version) (s : ShowState) → IsTrue (is_state s) → IsTrue (has_text version s) → state_of (text_in version s) ≡ Some s
+state_again : (form : PartsForm) (s : ShowState) → IsTrue (is_state s) → IsTrue (has_text form s) → state_of (text_in form s) ≡ Some s
 unfolding state_of
-state_again version s h k = rw (version_again version) (standing_again version s h (text_fits version s h k))
+state_again form s h k = rw (version_again form) (standing_again form s h (text_fits form s h k))
 
 -- ---- the contract of the reader
 
@@ -225,12 +226,12 @@ pub is_only : (bytes : List ℕ) (r : Result ShowState StateFault) → GivesStat
 is_only bytes (Ok s) e malformed = absurd cc
 is_only bytes (Err fault.Memory) e malformed = absurd cc
 is_only bytes (Err fault.Version) e malformed = absurd cc
-is_only bytes (Err fault.Malformed) e malformed = λ s h t. let read : state_of bytes ≡ Some s = ap state_of t.is ∙ state_again t.version s h t.has in absurd cc
+is_only bytes (Err fault.Malformed) e malformed = λ s h t. let read : state_of bytes ≡ Some s = ap state_of t.is ∙ state_again t.form s h t.has in absurd cc
 
 -- ---- the laws
 
 pub read_back : StatesAreReadBack
-read_back bytes s h t = ap state_of t.is ∙ state_again t.version s h t.has
+read_back bytes s h t = ap state_of t.is ∙ state_again t.form s h t.has
 
 pub texts_differ : StateTextsDiffer
 texts_differ bytes one other h k t u = some_is one other (sym (read_back bytes one h t) ∙ read_back bytes other k u)
@@ -239,33 +240,29 @@ texts_differ bytes one other h k t u = some_is one other (sym (read_back bytes o
 
 -- what is written is one
 pub written : (s : ShowState) → IsStateText (state_text s) s
-written s = record { version = Two; has = refl; is = refl }
+written s = record { form = Flagged; has = refl; is = refl }
 
-from_test : (version : Version) (bytes : List ℕ) (s : ShowState) → IsTrue (is_text_in version bytes s) → IsStateText bytes s
-from_test version bytes s h =
-    let k = both (has_text version s) (bytes_eq bytes (text_in version s)) h in
-    record { version = version; has = k.0; is = (bytes_eq-Decides bytes (text_in version s)).0 k.1 }
+from_test : (form : PartsForm) (bytes : List ℕ) (s : ShowState) → IsTrue (is_text_in form bytes s) → IsStateText bytes s
+from_test form bytes s h =
+    let k = both (has_text form s) (bytes_eq bytes (text_in form s)) h in
+    record { form = form; has = k.0; is = (bytes_eq-Decides bytes (text_in form s)).0 k.1 }
 
-into_test : (version : Version) (bytes : List ℕ) (s : ShowState) → IsTrue (has_text version s) → bytes ≡ text_in version s → IsTrue (is_text_in version bytes s)
-into_test version bytes s h e = join (has_text version s) (bytes_eq bytes (text_in version s)) h ((bytes_eq-Decides bytes (text_in version s)).1 e)
-
-either : (a b : Bool) → IsTrue b → IsTrue (a || b)
-either true b h = refl
-either false b h = h
+into_test : (form : PartsForm) (bytes : List ℕ) (s : ShowState) → IsTrue (has_text form s) → bytes ≡ text_in form s → IsTrue (is_text_in form bytes s)
+into_test form bytes s h e = join (has_text form s) (bytes_eq bytes (text_in form s)) h ((bytes_eq-Decides bytes (text_in form s)).1 e)
 
 from_tests : (bytes : List ℕ) (s : ShowState) → IsTrue (is_state_text bytes s) → IsStateText bytes s
-from_tests bytes s h = by (is_text_in Two bytes s) refl h
+from_tests bytes s h = by (is_text_in Flagged bytes s) refl h
   where
-    by : (b : Bool) → is_text_in Two bytes s ≡ b → IsTrue (b || is_text_in One bytes s) → IsStateText bytes s
-    by true two h = from_test Two bytes s two
-    by false other h = from_test One bytes s h
+    by : (b : Bool) → is_text_in Flagged bytes s ≡ b → IsTrue (b || is_text_in Plain bytes s) → IsStateText bytes s
+    by true two h = from_test Flagged bytes s two
+    by false other h = from_test Plain bytes s h
 
 into_tests : (bytes : List ℕ) (s : ShowState) → IsStateText bytes s → IsTrue (is_state_text bytes s)
-into_tests bytes s t = by t.version t.has t.is
+into_tests bytes s t = by t.form t.has t.is
   where
-    by : (version : Version) → IsTrue (has_text version s) → bytes ≡ text_in version s → IsTrue (is_state_text bytes s)
-    by One has is = either (is_text_in Two bytes s) (is_text_in One bytes s) (into_test One bytes s has is)
-    by Two has is = let yes : is_text_in Two bytes s ≡ true = into_test Two bytes s has is in rw yes refl
+    by : (form : PartsForm) → IsTrue (has_text form s) → bytes ≡ text_in form s → IsTrue (is_state_text bytes s)
+    by Plain has is = or_right (is_text_in Flagged bytes s) (is_text_in Plain bytes s) (into_test Plain bytes s has is)
+    by Flagged has is = let yes : is_text_in Flagged bytes s ≡ true = into_test Flagged bytes s has is in rw yes refl
 
 -- the test is true of each text of the state, and of nothing else
 pub is_text-decides : (bytes : List ℕ) (s : ShowState) → (IsTrue (is_state_text bytes s) → IsStateText bytes s) × (IsStateText bytes s → IsTrue (is_state_text bytes s))

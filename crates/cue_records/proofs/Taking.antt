@@ -4,7 +4,7 @@ use Rattle.std.specs.List.{flat_map, list_all}
 use Rattle.std.proofs.lemmas.Bool.{le-leb, leb-true}
 use Rattle.std.proofs.lemmas.List.Folds.{list_all-append}
 use Rattle.cue_show.specs.Bytes.{are_bytes}
-use Rattle.cue_core.proofs.Conditions.{both, join}
+use Rattle.cue_core.proofs.lists.ConditionLemmas.{both, join}
 use Rattle.cue_records.specs.Reading.{◌>>=◌, Reads, where_it, where_at, made_at, as_at, both_at, list_at, counted_at}
 
 -- what was taken from the front, and that it fits

@@ -3,7 +3,7 @@ use Rattle.std.proofs.Common.{◌≡◌, ℕ, ◌+◌, ◌<◌, Bool, List, ◌�
 use Rattle.std.specs.List.{flat_map, list_all}
 use Rattle.std.proofs.lemmas.List.{drop_more}
 use Rattle.std.proofs.lemmas.List.Concat.{flat_map-cons}
-use Rattle.cue_core.proofs.Conditions.{both}
+use Rattle.cue_core.proofs.lists.ConditionLemmas.{both}
 
 -- an element more is written, and the elements that are left are one fewer
 pub write_goes_on : {X : Type 0} (text : X → List ℕ) (xs : List X) (i : ℕ) (x : X) (out after total : List ℕ) → i < length xs → x ≡ get_or xs i x → after ≡ out ++ text x

@@ -7,8 +7,8 @@ use Rattle.cue_show.specs.Parts.{are_parts}
 use Rattle.cue_exchange.specs.Live.{is_number, is_moment}
 use Rattle.cue_core.specs.declared.event.Event.{Event}
 use Rattle.cue_core.specs.declared.event.Event.TheVariants.{Device, NoDevice, Cue, NoCue, Place, Start, Ready, Go, Done, Cancel, LetGo, Failed, Excuse}
-use Rattle.cue_records.specs.declared.batch.TheConstants.{MAX_EVENTS}
-use Rattle.cue_records.specs.Fields.{byte_text, short_text, number_text, moment_text, text_text, entry_text, new_cue_text, reason_number, are_required, version_for}
+use Rattle.cue_records.specs.declared.limits.TheConstants.{MAX_EVENTS}
+use Rattle.cue_records.specs.Fields.{byte_text, short_text, number_text, moment_text, text_text, entry_text, new_cue_text, reason_number, are_required, form_for}
 
 -- the number of an event's kind; a cue with an optional part is of a kind of its own
 abbrev pub event_number : Event → ℕ
@@ -30,7 +30,7 @@ event_number (Excuse q d) = 14
 abbrev pub body_text : Event → List ℕ
 body_text (Device d port) = entry_text (d, port)
 body_text (NoDevice d) = byte_text d
-body_text (Cue c parts) = new_cue_text (version_for parts) (c, parts)
+body_text (Cue c parts) = new_cue_text (form_for parts) (c, parts)
 body_text (NoCue c) = text_text c
 body_text (Place c) = text_text c
 body_text (Start q c t) = number_text q ++ (text_text c ++ moment_text t)

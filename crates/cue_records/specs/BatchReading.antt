@@ -5,19 +5,20 @@ use Rattle.cue_show.specs.declared.part.Part.{Part}
 use Rattle.cue_exchange.specs.declared.attempt.Reason.{Reason}
 use Rattle.cue_core.specs.declared.event.Event.{Event}
 use Rattle.cue_core.specs.declared.event.Event.TheVariants as event
-use Rattle.cue_records.specs.declared.batch.TheConstants.{MAX_EVENTS}
+use Rattle.cue_records.specs.declared.limits.TheConstants.{MAX_EVENTS}
 use Rattle.cue_records.specs.declared.batch.kind.Kind.{Kind}
 use Rattle.cue_records.specs.declared.batch.kind.Kind.TheVariants as kind
-use Rattle.cue_records.specs.declared.version.Version.TheVariants.{One, Two}
+use Rattle.cue_records.specs.declared.parts_form.PartsForm.TheVariants.{Plain, Flagged}
 use Rattle.cue_records.specs.Fields.{are_required}
 use Rattle.cue_records.specs.Reading.{◌>>=◌, Reads, where_it, where_at, made_at, as_at, both_at, counted_at, byte_at, number_at, device_at, sequence_at, cue_at, entry_at, new_cue_at, reason_at}
 
 -- the kind with the number
 abbrev pub kind_of : ℕ → Option Kind
 kind_of n =
-    if n == 1 then Some kind.Device else if n == 2 then Some kind.NoDevice else if n == 3 then Some kind.Cue else if n == 4 then Some kind.NoCue
-    else if n == 5 then Some kind.Place else if n == 6 then Some kind.Start else if n == 7 then Some kind.Ready else if n == 8 then Some kind.Go
-    else if n == 9 then Some kind.Done else if n == 10 then Some kind.Cancel else if n == 11 then Some kind.LetGo else if n == 12 then Some kind.Failed
+    if n == 1 then Some kind.Device else if n == 2 then Some kind.NoDevice else if n == 3 then Some kind.Cue
+    else if n == 4 then Some kind.NoCue else if n == 5 then Some kind.Place else if n == 6 then Some kind.Start
+    else if n == 7 then Some kind.Ready else if n == 8 then Some kind.Go else if n == 9 then Some kind.Done
+    else if n == 10 then Some kind.Cancel else if n == 11 then Some kind.LetGo else if n == 12 then Some kind.Failed
     else if n == 13 then Some kind.MixedCue else if n == 14 then Some kind.Excuse else None
 
 -- a kind
@@ -38,13 +39,13 @@ cancel_at = both_at sequence_at reason_at
 
 -- a cue and its parts, at least one of them optional
 unfoldable pub mixed_cue_at : Reads (List ℕ × List Part)
-mixed_cue_at = where_at (λ x. not (are_required x.1)) (new_cue_at Two)
+mixed_cue_at = where_at (λ x. not (are_required x.1)) (new_cue_at Flagged)
 
 -- what stands behind a kind
 unfoldable pub body_at : Kind → Reads Event
 body_at kind.Device = as_at (λ x. event.Device x.0 x.1) entry_at
 body_at kind.NoDevice = as_at (λ d. event.NoDevice d) device_at
-body_at kind.Cue = as_at (λ x. event.Cue x.0 x.1) (new_cue_at One)
+body_at kind.Cue = as_at (λ x. event.Cue x.0 x.1) (new_cue_at Plain)
 body_at kind.NoCue = as_at (λ c. event.NoCue c) cue_at
 body_at kind.Place = as_at (λ c. event.Place c) cue_at
 body_at kind.Start = as_at (λ x. event.Start x.0 x.1.0 x.1.1) start_at

@@ -6,8 +6,8 @@ use Rattle.cue_show.specs.Parts.{is_required_part}
 use Rattle.cue_show.specs.declared.part.Part.{Part}
 use Rattle.cue_exchange.specs.declared.attempt.Reason.{Reason}
 use Rattle.cue_exchange.specs.declared.attempt.Reason.TheVariants.{Operator, Deadline, Abort, Power, Release}
-use Rattle.cue_records.specs.declared.version.Version.{Version}
-use Rattle.cue_records.specs.declared.version.Version.TheVariants.{One, Two}
+use Rattle.cue_records.specs.declared.parts_form.PartsForm.{PartsForm}
+use Rattle.cue_records.specs.declared.parts_form.PartsForm.TheVariants.{Plain, Flagged}
 
 -- one byte
 abbrev pub byte_text : ℕ → List ℕ
@@ -34,39 +34,39 @@ abbrev pub flag_number : Bool → ℕ
 flag_number false = 0
 flag_number true = 1
 
--- the flag of a part, which version 1 does not have
-abbrev pub flag_text : Version → Bool → List ℕ
-flag_text One optional = []
-flag_text Two optional = byte_text (flag_number optional)
+-- the flag of a part, which a plain part does not have
+abbrev pub flag_text : PartsForm → Bool → List ℕ
+flag_text Plain optional = []
+flag_text Flagged optional = byte_text (flag_number optional)
 
 -- a device, its flag and its bytes
-abbrev pub part_text : Version → Part → List ℕ
-part_text version p = p.device ∷ (flag_text version p.optional ++ text_text p.bytes)
+abbrev pub part_text : PartsForm → Part → List ℕ
+part_text form p = p.device ∷ (flag_text form p.optional ++ text_text p.bytes)
 
 -- a count in one byte, and so many parts
-abbrev pub parts_text : Version → List Part → List ℕ
-parts_text version parts = length parts ∷ flat_map (part_text version) parts
+abbrev pub parts_text : PartsForm → List Part → List ℕ
+parts_text form parts = length parts ∷ flat_map (part_text form) parts
 
 -- each of the parts is required
 abbrev pub are_required : List Part → Bool
 are_required parts = list_all is_required_part parts
 
--- the parts have a text in the version: in version 1 only where each is required
-abbrev pub have_text : Version → List Part → Bool
-have_text One parts = are_required parts
-have_text Two parts = true
+-- the parts have a text in this form: as plain parts only where each is required
+abbrev pub have_text : PartsForm → List Part → Bool
+have_text Plain parts = are_required parts
+have_text Flagged parts = true
 
--- the first version in which the parts have a text
-abbrev pub version_for : List Part → Version
-version_for parts = if are_required parts then One else Two
+-- the form in which parts are written: plain where each is required
+abbrev pub form_for : List Part → PartsForm
+form_for parts = if are_required parts then Plain else Flagged
 
 -- a device and its port
 abbrev pub entry_text : ℕ × ℕ → List ℕ
 entry_text e = byte_text e.0 ++ short_text e.1
 
 -- a cue and its parts
-abbrev pub new_cue_text : Version → List ℕ × List Part → List ℕ
-new_cue_text version e = text_text e.0 ++ parts_text version e.1
+abbrev pub new_cue_text : PartsForm → List ℕ × List Part → List ℕ
+new_cue_text form e = text_text e.0 ++ parts_text form e.1
 
 -- the number of a reason
 abbrev pub reason_number : Reason → ℕ

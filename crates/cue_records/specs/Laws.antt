@@ -8,8 +8,9 @@ use Rattle.cue_records.specs.Batch.{batch_text, is_batch, is_event}
 use Rattle.cue_records.specs.BatchReading.{batch_of}
 use Rattle.cue_records.specs.State.{IsStateText}
 use Rattle.cue_records.specs.StateReading.{state_of}
-use Rattle.cue_records.specs.declared.batch.TheConstants.{MAX_EVENTS}
-use Rattle.cue_records.specs.declared.state.TheConstants.{VERSION, OLD_VERSION, OLD_MAX_CUES, MAX_STATE_BYTES}
+use Rattle.cue_records.specs.declared.limits.TheConstants.{MAX_EVENTS}
+use Rattle.cue_records.specs.declared.limits.TheConstants.{OLD_MAX_CUES, MAX_STATE_BYTES}
+use Rattle.cue_records.specs.declared.state.TheConstants.{VERSION, OLD_VERSION}
 
 -- the text of a batch reads back as the batch
 abbrev pub BatchesAreReadBack : Type 0
@@ -17,25 +18,34 @@ BatchesAreReadBack = (events : List Event) → IsTrue (is_batch events) → batc
 
 -- batches with one text are one batch
 abbrev pub BatchTextsDiffer : Type 0
-BatchTextsDiffer = (one other : List Event) → IsTrue (is_batch one) → IsTrue (is_batch other) → batch_text one ≡ batch_text other → one ≡ other
+BatchTextsDiffer =
+    (one other : List Event) → IsTrue (is_batch one) → IsTrue (is_batch other) → batch_text one ≡ batch_text other
+    → one ≡ other
 
 -- what may happen to a state, event after event, is within the ranges
 abbrev pub AcceptableEventsFit : Type 0
-AcceptableEventsFit = (s : ShowState) (events : List Event) → IsTrue (is_state s) → IsTrue (are_acceptable s events) → IsTrue (list_all is_event events)
+AcceptableEventsFit =
+    (s : ShowState) (events : List Event) → IsTrue (is_state s) → IsTrue (are_acceptable s events)
+    → IsTrue (list_all is_event events)
 
 -- each text of a state reads back as the state
 abbrev pub StatesAreReadBack : Type 0
-StatesAreReadBack = (bytes : List ℕ) (s : ShowState) → IsTrue (is_state s) → IsStateText bytes s → state_of bytes ≡ Some s
+StatesAreReadBack =
+    (bytes : List ℕ) (s : ShowState) → IsTrue (is_state s) → IsStateText bytes s → state_of bytes ≡ Some s
 
 -- states with one text are one state
 abbrev pub StateTextsDiffer : Type 0
-StateTextsDiffer = (bytes : List ℕ) (one other : ShowState) → IsTrue (is_state one) → IsTrue (is_state other) → IsStateText bytes one → IsStateText bytes other → one ≡ other
+StateTextsDiffer =
+    (bytes : List ℕ) (one other : ShowState) → IsTrue (is_state one) → IsTrue (is_state other) → IsStateText bytes one
+    → IsStateText bytes other → one ≡ other
 
 -- no text of a state is longer than the most that the limits of its fields allow
 abbrev pub StateTextsAreBounded : Type 0
-StateTextsAreBounded = (bytes : List ℕ) (s : ShowState) → IsTrue (is_state s) → IsStateText bytes s → length bytes ≤ MAX_STATE_BYTES
+StateTextsAreBounded =
+    (bytes : List ℕ) (s : ShowState) → IsTrue (is_state s) → IsStateText bytes s → length bytes ≤ MAX_STATE_BYTES
 
 -- the limits as numbers: the most events of a batch, the version of a state's text, the older one with its most cues,
 -- and the most bytes of a state's text
 abbrev pub LimitsOfTexts : Type 0
-LimitsOfTexts = (MAX_EVENTS ≡ 4096) × (VERSION ≡ 2) × (OLD_VERSION ≡ 1) × (OLD_MAX_CUES ≡ 256) × (MAX_STATE_BYTES ≡ 592607)
+LimitsOfTexts =
+    (MAX_EVENTS ≡ 4096) × (VERSION ≡ 2) × (OLD_VERSION ≡ 1) × (OLD_MAX_CUES ≡ 256) × (MAX_STATE_BYTES ≡ 592607)

@@ -12,8 +12,8 @@ use Rattle.cue_exchange.specs.declared.attempt.Reason.{Reason}
 use Rattle.cue_exchange.specs.declared.attempt.Reason.TheVariants.{Operator, Deadline, Abort, Power, Release}
 use Rattle.cue_records.specs.declared.fault.ReadFault.{ReadFault}
 use Rattle.cue_records.specs.declared.fault.ReadFault.TheVariants as fault
-use Rattle.cue_records.specs.declared.version.Version.{Version}
-use Rattle.cue_records.specs.declared.version.Version.TheVariants.{One, Two}
+use Rattle.cue_records.specs.declared.parts_form.PartsForm.{PartsForm}
+use Rattle.cue_records.specs.declared.parts_form.PartsForm.TheVariants.{Plain, Flagged}
 
 -- ---- what a reader is
 
@@ -77,7 +77,9 @@ byte_at (b ∷ rest) = Some (b, rest)
 
 -- the bytes of a number
 abbrev pub number_at : Width → Reads ℕ
-number_at w bytes = if nat_lt (length bytes) (byte_len w) then None else Some (from_be_bytes w (take (byte_len w) bytes), drop (byte_len w) bytes)
+number_at w bytes =
+    if nat_lt (length bytes) (byte_len w) then None
+    else Some (from_be_bytes w (take (byte_len w) bytes), drop (byte_len w) bytes)
 
 -- so many bytes
 abbrev pub bytes_at : ℕ → Reads (List ℕ)
@@ -112,33 +114,39 @@ abbrev pub flag_of : ℕ → Option Bool
 flag_of n = if n == 0 then Some false else if n == 1 then Some true else None
 
 -- the flag of a part; a part without one is required
-unfoldable pub flag_at : Version → Reads Bool
-flag_at One = λ bytes. Some (false, bytes)
-flag_at Two = made_at flag_of byte_at
+unfoldable pub flag_at : PartsForm → Reads Bool
+flag_at Plain = λ bytes. Some (false, bytes)
+flag_at Flagged = made_at flag_of byte_at
 
 -- a device, its flag and its bytes
-unfoldable pub part_at : Version → Reads Part
-part_at version = as_at (λ x. record { device = x.0; optional = x.1.0; bytes = x.1.1 }) (both_at device_at (both_at (flag_at version) part_bytes_at))
+unfoldable pub part_at : PartsForm → Reads Part
+part_at form =
+    as_at (λ x. record { device = x.0; optional = x.1.0; bytes = x.1.1 })
+    (both_at device_at (both_at (flag_at form) part_bytes_at))
 
 -- a count of parts, at most 16
 unfoldable pub part_count_at : Reads ℕ
 part_count_at = where_at (λ n. nat_le n MAX_PARTS) byte_at
 
 -- a count, and so many parts of distinct devices, at least one of them required
-unfoldable pub parts_at : Version → Reads (List Part)
-parts_at version = where_at (λ parts. has_required_part parts && distinct (devices_in parts)) (counted_at part_count_at (part_at version))
+unfoldable pub parts_at : PartsForm → Reads (List Part)
+parts_at form =
+    where_at (λ parts. has_required_part parts && distinct (devices_in parts))
+    (counted_at part_count_at (part_at form))
 
 -- a device and its port
 unfoldable pub entry_at : Reads (ℕ × ℕ)
 entry_at = both_at device_at port_at
 
 -- a cue and its parts
-unfoldable pub new_cue_at : Version → Reads (List ℕ × List Part)
-new_cue_at version = both_at cue_at (parts_at version)
+unfoldable pub new_cue_at : PartsForm → Reads (List ℕ × List Part)
+new_cue_at form = both_at cue_at (parts_at form)
 
 -- the reason with the number
 abbrev pub reason_of : ℕ → Option Reason
-reason_of n = if n == 1 then Some Operator else if n == 2 then Some Deadline else if n == 3 then Some Abort else if n == 4 then Some Power else if n == 5 then Some Release else None
+reason_of n =
+    if n == 1 then Some Operator else if n == 2 then Some Deadline else if n == 3 then Some Abort
+    else if n == 4 then Some Power else if n == 5 then Some Release else None
 
 -- a reason
 unfoldable pub reason_at : Reads Reason

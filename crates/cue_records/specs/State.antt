@@ -11,9 +11,10 @@ use Rattle.cue_exchange.specs.declared.attempt.Stage.{Stage}
 use Rattle.cue_exchange.specs.declared.attempt.Stage.TheVariants.{Preparing, Decided, Cancelling}
 use Rattle.cue_core.specs.declared.event.Ended.{Ended}
 use Rattle.cue_core.specs.State.{ShowState, is_state}
-use Rattle.cue_records.specs.declared.state.TheConstants.{VERSION, OLD_VERSION, OLD_MAX_CUES}
-use Rattle.cue_records.specs.declared.version.Version.{Version}
-use Rattle.cue_records.specs.declared.version.Version.TheVariants.{One, Two}
+use Rattle.cue_records.specs.declared.limits.TheConstants.{OLD_MAX_CUES}
+use Rattle.cue_records.specs.declared.state.TheConstants.{VERSION, OLD_VERSION}
+use Rattle.cue_records.specs.declared.parts_form.PartsForm.{PartsForm}
+use Rattle.cue_records.specs.declared.parts_form.PartsForm.TheVariants.{Plain, Flagged}
 use Rattle.cue_records.specs.Fields.{byte_text, short_text, number_text, moment_text, text_text, entry_text, new_cue_text, reason_number, are_required}
 
 -- ---- the show
@@ -23,8 +24,8 @@ abbrev pub table_text : List (ℕ × ℕ) → List ℕ
 table_text devices = byte_text (length devices) ++ flat_map entry_text devices
 
 -- a count in two bytes, and so many cues
-abbrev pub stack_text : Version → Cues → List ℕ
-stack_text version cues = short_text (length cues) ++ flat_map (new_cue_text version) cues
+abbrev pub stack_text : PartsForm → Cues → List ℕ
+stack_text form cues = short_text (length cues) ++ flat_map (new_cue_text form) cues
 
 -- the place, or an empty text where there is none
 abbrev pub place_text : Option (List ℕ) → List ℕ
@@ -32,8 +33,8 @@ place_text None = text_text []
 place_text (Some c) = text_text c
 
 -- the devices, the cues and the place
-abbrev pub show_text : Version → ShowLists → List ℕ
-show_text version s = table_text s.devices ++ (stack_text version s.cues ++ place_text s.place)
+abbrev pub show_text : PartsForm → ShowLists → List ℕ
+show_text form s = table_text s.devices ++ (stack_text form s.cues ++ place_text s.place)
 
 -- ---- the attempts
 
@@ -63,7 +64,9 @@ answers_text answers = map (λ x. answer_number x.answer) answers
 
 -- a number, a cue, a moment, a stage and the answers; the devices are those of the cue
 abbrev pub attempt_text : Attempt → List ℕ
-attempt_text a = number_text a.seq ++ (text_text a.cue ++ (moment_text a.deadline ++ (byte_text (stage_number a.stage) ++ answers_text a.answers)))
+attempt_text a =
+    number_text a.seq ++ (text_text a.cue
+    ++ (moment_text a.deadline ++ (byte_text (stage_number a.stage) ++ answers_text a.answers)))
 
 -- a count in one byte, and so many attempts
 abbrev pub live_text : List Attempt → List ℕ
@@ -71,40 +74,42 @@ live_text live = byte_text (length live) ++ flat_map attempt_text live
 
 -- ---- the versions
 
--- the number of a version
-abbrev pub version_number : Version → ℕ
-version_number One = OLD_VERSION
-version_number Two = VERSION
+-- the version whose encodings have parts of this form
+abbrev pub version_number : PartsForm → ℕ
+version_number Plain = OLD_VERSION
+version_number Flagged = VERSION
 
--- the version with the number
-abbrev pub version_of : ℕ → Option Version
-version_of n = if n == OLD_VERSION then Some One else if n == VERSION then Some Two else None
+-- the form of the parts in the version; none where there is no such version
+abbrev pub form_of_version : ℕ → Option PartsForm
+form_of_version n = if n == OLD_VERSION then Some Plain else if n == VERSION then Some Flagged else None
 
 -- the bytes begin with the number of no version
 abbrev pub is_other_version : List ℕ → Bool
 is_other_version [] = false
-is_other_version (b ∷ bytes) = is_none (version_of b)
+is_other_version (b ∷ bytes) = is_none (form_of_version b)
 
--- the state has a text in the version: in version 1 only where it has at most 256 cues, of required parts alone
-abbrev pub has_text : Version → ShowState → Bool
-has_text One s = nat_le (length s.show.cues) OLD_MAX_CUES && list_all (λ e. are_required e.1) s.show.cues
-has_text Two s = true
+-- the state has a text with parts of this form: with plain parts only where it has at most 256 cues, of required parts alone
+abbrev pub has_text : PartsForm → ShowState → Bool
+has_text Plain s = nat_le (length s.show.cues) OLD_MAX_CUES && list_all (λ e. are_required e.1) s.show.cues
+has_text Flagged s = true
 
 -- ---- the state
 
 -- the number of the version, the show, the last number, the attempt that ended last, and the live ones
-abbrev pub text_in : Version → ShowState → List ℕ
-text_in version s = byte_text (version_number version) ++ (show_text version s.show ++ (number_text s.last_seq ++ (ended_text s.ended ++ live_text s.live)))
+abbrev pub text_in : PartsForm → ShowState → List ℕ
+text_in form s =
+    byte_text (version_number form) ++ (show_text form s.show
+    ++ (number_text s.last_seq ++ (ended_text s.ended ++ live_text s.live)))
 
 -- the text of a state as it is written, which each state has
 abbrev pub state_text : ShowState → List ℕ
-state_text s = text_in Two s
+state_text s = text_in Flagged s
 
--- The bytes are a text of the state, in a version in which it has one.
+-- The bytes are a text of the state, in a form in which it has one.
 pub record IsStateText (bytes : List ℕ) (s : ShowState) : Type 0 where
-  pub version : Version
-  pub has : IsTrue (has_text version s)
-  pub is : bytes ≡ text_in version s
+  pub form : PartsForm
+  pub has : IsTrue (has_text form s)
+  pub is : bytes ≡ text_in form s
 
 -- the bytes are the text of no state
 abbrev pub IsNoState : List ℕ → Type 0

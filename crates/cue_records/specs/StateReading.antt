@@ -19,11 +19,11 @@ use Rattle.cue_core.specs.declared.event.Ended.{Ended}
 use Rattle.cue_core.specs.State.{ShowState, is_state}
 use Rattle.cue_records.specs.declared.fault.StateFault.{StateFault}
 use Rattle.cue_records.specs.declared.fault.StateFault.TheVariants as fault
-use Rattle.cue_records.specs.declared.state.TheConstants.{OLD_MAX_CUES}
-use Rattle.cue_records.specs.declared.version.Version.{Version}
-use Rattle.cue_records.specs.declared.version.Version.TheVariants.{One, Two}
+use Rattle.cue_records.specs.declared.limits.TheConstants.{OLD_MAX_CUES}
+use Rattle.cue_records.specs.declared.parts_form.PartsForm.{PartsForm}
+use Rattle.cue_records.specs.declared.parts_form.PartsForm.TheVariants.{Plain, Flagged}
 use Rattle.cue_records.specs.Reading.{◌>>=◌, Reads, where_it, where_at, made_at, both_at, byte_at, number_at, text_at, sequence_at, cue_at, entry_at, new_cue_at}
-use Rattle.cue_records.specs.State.{version_of, has_text, text_in}
+use Rattle.cue_records.specs.State.{form_of_version, has_text, text_in}
 
 -- what a function returned is what reading gives, unless memory ran out
 abbrev pub GivesState : Result ShowState StateFault → Option ShowState → Type 0
@@ -50,8 +50,8 @@ unfoldable pub device_step : ShowLists → Reads ShowLists
 device_step = added_at (λ s e. can_add_device s e.0 e.1) (λ s e. with_device s e.0 e.1) entry_at
 
 -- one cue more
-unfoldable pub cue_step : Version → ShowLists → Reads ShowLists
-cue_step version = added_at (λ s e. can_add_cue s e.0 e.1) (λ s e. with_cue s e.0 e.1) (new_cue_at version)
+unfoldable pub cue_step : PartsForm → ShowLists → Reads ShowLists
+cue_step form = added_at (λ s e. can_add_cue s e.0 e.1) (λ s e. with_cue s e.0 e.1) (new_cue_at form)
 
 -- the place with the text; none where it is empty
 abbrev pub place_of : List ℕ → Option (Option (List ℕ))
@@ -70,28 +70,30 @@ place_step = added_at is_place_of with_place place_at
 unfoldable pub table_at : ShowLists → Reads ShowLists
 table_at s bytes = byte_at bytes >>= λ n. fold_at device_step n.0 s n.1
 
--- the most cues of a text in the version
-abbrev pub most_cues : Version → ℕ
-most_cues One = OLD_MAX_CUES
-most_cues Two = MAX_CUES
+-- the most cues of a text with parts of this form
+abbrev pub most_cues : PartsForm → ℕ
+most_cues Plain = OLD_MAX_CUES
+most_cues Flagged = MAX_CUES
 
--- a count of cues, no more than the version has
-unfoldable pub cue_count_at : Version → Reads ℕ
-cue_count_at version = where_at (λ n. nat_le n (most_cues version)) (number_at w16)
+-- a count of cues, no more than such a text has
+unfoldable pub cue_count_at : PartsForm → Reads ℕ
+cue_count_at form = where_at (λ n. nat_le n (most_cues form)) (number_at w16)
 
 -- a count, and so many cues
-unfoldable pub stack_at : Version → ShowLists → Reads ShowLists
-stack_at version s bytes = cue_count_at version bytes >>= λ n. fold_at (cue_step version) n.0 s n.1
+unfoldable pub stack_at : PartsForm → ShowLists → Reads ShowLists
+stack_at form s bytes = cue_count_at form bytes >>= λ n. fold_at (cue_step form) n.0 s n.1
 
 -- the devices, the cues and the place
-unfoldable pub show_at : Version → ShowLists → Reads ShowLists
-show_at version s bytes = table_at s bytes >>= λ t. stack_at version t.0 t.1 >>= λ u. place_step u.0 u.1
+unfoldable pub show_at : PartsForm → ShowLists → Reads ShowLists
+show_at form s bytes = table_at s bytes >>= λ t. stack_at form t.0 t.1 >>= λ u. place_step u.0 u.1
 
 -- ---- the attempts
 
 -- the attempt with the number that ended so; none for two zeros
 abbrev pub ended_of : ℕ × ℕ → Option (Option Ended)
-ended_of x = if x.1 == 0 then where_it (x.0 == 0) None else (outcome_numbered x.1 >>= λ o. Some (Some (record { seq = x.0; outcome = o })))
+ended_of x =
+    if x.1 == 0 then where_it (x.0 == 0) None
+    else (outcome_numbered x.1 >>= λ o. Some (Some (record { seq = x.0; outcome = o })))
 
 -- the attempt that ended last
 unfoldable pub ended_at : Reads (Option Ended)
@@ -100,8 +102,9 @@ ended_at = made_at ended_of (both_at (number_at w32) byte_at)
 -- the stage with the number
 abbrev pub stage_of : ℕ → Option Stage
 stage_of n =
-    if n == 1 then Some Preparing else if n == 2 then Some Decided else if n == 3 then Some (Cancelling Operator) else if n == 4 then Some (Cancelling Deadline)
-    else if n == 5 then Some (Cancelling Abort) else if n == 6 then Some (Cancelling Power) else if n == 7 then Some (Cancelling Release) else None
+    if n == 1 then Some Preparing else if n == 2 then Some Decided else if n == 3 then Some (Cancelling Operator)
+    else if n == 4 then Some (Cancelling Deadline) else if n == 5 then Some (Cancelling Abort)
+    else if n == 6 then Some (Cancelling Power) else if n == 7 then Some (Cancelling Release) else None
 
 -- a stage
 unfoldable pub stage_at : Reads Stage
@@ -110,7 +113,8 @@ stage_at = made_at stage_of byte_at
 -- the answer with the number
 abbrev pub answer_of : ℕ → Option Answer
 answer_of n =
-    if n == 0 then Some answer.Waiting else if n == 1 then Some answer.Ready else if n == 2 then Some answer.Done else if n == 3 then Some answer.LetGo else if n == 4 then Some answer.Failed
+    if n == 0 then Some answer.Waiting else if n == 1 then Some answer.Ready else if n == 2 then Some answer.Done
+    else if n == 3 then Some answer.LetGo else if n == 4 then Some answer.Failed
     else if n == 5 then Some answer.Excused else None
 
 -- one answer
@@ -120,7 +124,9 @@ one_answer_at = made_at answer_of byte_at
 -- an answer for the device of each part
 unfoldable pub answers_at : List Part → Reads (List DeviceAnswer)
 answers_at [] bytes = Some ([], bytes)
-answers_at (p ∷ ps) bytes = one_answer_at bytes >>= λ a. answers_at ps a.1 >>= λ xs. Some (record { device = p.device; optional = p.optional; answer = a.0 } ∷ xs.0, xs.1)
+answers_at (p ∷ ps) bytes =
+    one_answer_at bytes >>= λ a. answers_at ps a.1
+    >>= λ xs. Some (record { device = p.device; optional = p.optional; answer = a.0 } ∷ xs.0, xs.1)
 
 -- what stands before the answers of an attempt: a number, a cue, a moment and a stage
 unfoldable pub head_at : Reads (ℕ × (List ℕ × (ℕ × Stage)))
@@ -129,7 +135,8 @@ head_at = both_at sequence_at (both_at cue_at (both_at (number_at w64) stage_at)
 -- an attempt at a cue of the show
 unfoldable pub attempt_at : ShowLists → Reads Attempt
 attempt_at show bytes =
-    head_at bytes >>= λ h. parts_of show h.0.1.0 >>= λ ps. answers_at ps h.1 >>= λ xs. Some (record { seq = h.0.0; cue = h.0.1.0; deadline = h.0.1.1.0; stage = h.0.1.1.1; answers = xs.0 }, xs.1)
+    head_at bytes >>= λ h. parts_of show h.0.1.0 >>= λ ps. answers_at ps h.1 >>= λ xs. Some
+    (record { seq = h.0.0; cue = h.0.1.0; deadline = h.0.1.1.0; stage = h.0.1.1.1; answers = xs.0 }, xs.1)
 
 -- the attempt may be live behind these
 abbrev pub can_follow : List Attempt → Attempt → Bool
@@ -146,27 +153,30 @@ live_at show live bytes = byte_at bytes >>= λ n. fold_at (attempt_step show) n.
 -- what stands behind the show, to the end: the last number, the attempt that ended last, and the live ones
 unfoldable pub tail_of : ShowLists → List Attempt → List ℕ → Option (ℕ × (Option Ended × List Attempt))
 tail_of show live bytes =
-    number_at w32 bytes >>= λ q. ended_at q.1 >>= λ e. live_at show live e.1 >>= λ all. where_it (length all.1 == 0) (q.0, (e.0, all.0))
+    number_at w32 bytes >>= λ q. ended_at q.1 >>= λ e. live_at show live e.1
+    >>= λ all. where_it (length all.1 == 0) (q.0, (e.0, all.0))
 
 -- ---- the state
 
 -- the state, where it keeps the rules
-abbrev pub checked : ShowState → Option ShowState
-checked s = where_it (is_state s) s
+abbrev pub where_state : ShowState → Option ShowState
+where_state s = where_it (is_state s) s
 
 -- what stands behind the number of the version
-unfoldable pub standing_of : Version → List ℕ → Option ShowState
-standing_of version bytes = show_at version empty_show bytes >>= λ show. tail_of show.0 [] show.1 >>= λ t. checked (record { show = show.0; live = t.1.1; last_seq = t.0; ended = t.1.0 })
+unfoldable pub standing_of : PartsForm → List ℕ → Option ShowState
+standing_of form bytes =
+    show_at form empty_show bytes >>= λ show. tail_of show.0 [] show.1
+    >>= λ t. where_state (record { show = show.0; live = t.1.1; last_seq = t.0; ended = t.1.0 })
 
 -- the state whose text the bytes are
 unfoldable pub state_of : List ℕ → Option ShowState
 state_of [] = None
-state_of (b ∷ bytes) = version_of b >>= λ version. standing_of version bytes
+state_of (b ∷ bytes) = form_of_version b >>= λ form. standing_of form bytes
 
--- the bytes are the text of the state in the version, in which it has one
-abbrev pub is_text_in : Version → List ℕ → ShowState → Bool
-is_text_in version bytes s = has_text version s && bytes_eq bytes (text_in version s)
+-- the bytes are the text of the state with parts of this form, and it has one
+abbrev pub is_text_in : PartsForm → List ℕ → ShowState → Bool
+is_text_in form bytes s = has_text form s && bytes_eq bytes (text_in form s)
 
 -- the bytes are a text of the state
 abbrev pub is_state_text : List ℕ → ShowState → Bool
-is_state_text bytes s = is_text_in Two bytes s || is_text_in One bytes s
+is_state_text bytes s = is_text_in Flagged bytes s || is_text_in Plain bytes s

@@ -15,9 +15,6 @@ use cue_show::Bytes;
 use std::alloc::{AllocError, Global};
 use std::marker::Model;
 
-/// The most events of a batch.
-pub const MAX_EVENTS: usize = 4096;
-
 /// The events of a batch, in order.
 #[derive(Drop)]
 pub struct Batch {

@@ -8,9 +8,11 @@ mod batch;
 mod fault;
 mod fields;
 pub mod laws;
+mod limits;
+mod parts_form;
 mod state;
-mod version;
 
-pub use batch::{Batch, MAX_EVENTS, batch_len, read_batch, write_batch};
+pub use batch::{Batch, batch_len, read_batch, write_batch};
 pub use fault::{ReadFault, StateFault};
-pub use state::{MAX_STATE_BYTES, OLD_MAX_CUES, OLD_VERSION, VERSION, read_state, write_state};
+pub use limits::{MAX_EVENTS, MAX_STATE_BYTES, OLD_MAX_CUES};
+pub use state::{OLD_VERSION, VERSION, read_state, write_state};

@@ -10,10 +10,9 @@ mod writing;
 
 use crate::fault::{ReadFault, StateFault};
 use crate::fields::{put_byte, put_u32};
+use crate::limits::MAX_STATE_BYTES;
 use cue_core::State;
-use cue_exchange::limits::MAX_LIVE;
 use cue_show::Bytes;
-use cue_show::limits::{MAX_CUE_BYTES, MAX_CUES, MAX_DEVICES, MAX_PART_BYTES, MAX_PARTS};
 use std::alloc::{AllocError, Global};
 
 /// The version of the format: the first byte of each text of a state that is written.
@@ -21,33 +20,6 @@ pub const VERSION: u8 = 2;
 
 /// The version before it, whose texts are still read: each part is required.
 pub const OLD_VERSION: u8 = 1;
-
-/// The most cues of a text in that version.
-pub const OLD_MAX_CUES: usize = 256;
-
-// The most bytes of a cue number with its length, of a cue with its parts, and of an attempt.
-const NUMBER_BYTES: usize = 1 + MAX_CUE_BYTES;
-
-const CUE_BYTES: usize = NUMBER_BYTES + 1 + MAX_PARTS * (3 + MAX_PART_BYTES);
-
-const ATTEMPT_BYTES: usize = 4 + NUMBER_BYTES + 8 + 1 + MAX_PARTS;
-
-// The most bytes of the devices, of the cues, and of the live attempts, each with its count.
-const TABLE_BYTES: usize = 1 + MAX_DEVICES * 3;
-
-const STACK_BYTES: usize = 2 + MAX_CUES * CUE_BYTES;
-
-const LIVE_BYTES: usize = 1 + MAX_LIVE * ATTEMPT_BYTES;
-
-/// The most bytes of the text of a state: version, devices, cues, place, last number, the attempt that ended last, and
-/// the live ones.
-pub const MAX_STATE_BYTES: usize = 1
-    + TABLE_BYTES
-    + STACK_BYTES
-    + NUMBER_BYTES
-    + 4
-    + 5
-    + LIVE_BYTES;
 
 /// The text of a state. It takes memory once, for the longest text.
 pub fn write_state(alloc: Global, state: &State) -> Result<Bytes, AllocError>
@@ -87,10 +59,10 @@ fn state_in(alloc: Global, bytes: &[u8]) -> Result<State, StateFault>
     match bytes {
         [] => Err(StateFault::Malformed),
         [number, rest @ ..] => {
-            let Some(version) = numbers::version_of(*number) else {
+            let Some(form) = numbers::form_of_version(*number) else {
                 return Err(StateFault::Version);
             };
-            match reading::standing_of(alloc, version, rest) {
+            match reading::standing_of(alloc, form, rest) {
                 Ok(state) => Ok(state),
                 Err(ReadFault::Malformed) => Err(StateFault::Malformed),
                 Err(ReadFault::Memory) => Err(StateFault::Memory),

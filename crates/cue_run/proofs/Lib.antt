@@ -1,2 +1,4 @@
 mod RunLemmas
 mod StandLemmas
+mod TryLemmas
+mod WorkLemmas

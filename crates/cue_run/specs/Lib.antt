@@ -1,4 +1,5 @@
 pub mod MemSources
 pub mod Running
 pub mod Sources
+pub mod Tries
 pub mod Udp

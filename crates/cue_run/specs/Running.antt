@@ -1,14 +1,23 @@
 -- What a run comes to.
-use Rattle.std.specs.Prelude.{◌≡◌, ◌^◌, ◌-◌, ◌⊎◌, ℕ, List, [], ◌∷◌, ◌++◌, length, map, min, Option, Some, None, Result, Ok, Err}
+use Rattle.std.specs.Prelude.{◌≡◌, ◌≤◌, ◌^◌, ◌-◌, ◌⊎◌, ◌↔◌, ℕ, true, false, List, [], ◌∷◌, ◌++◌, length, map, min}
+use Rattle.std.specs.Prelude.{Option, Some, None, Result, Ok, Err}
 use Rattle.cue_core.specs.State.{ShowState}
-use Rattle.cue_core.specs.Steps.{folded}
+use Rattle.cue_core.specs.Steps.{after_events}
+use Rattle.cue_disk.specs.declared.disk.Disk.{Ghosts}
 use Rattle.cue_disk.specs.Disk.{Contents, IsImage}
-use Rattle.cue_keeper.specs.Stands.{StandsEither}
-use Rattle.cue_keeper.specs.declared.fault.Fault.TheVariants.{Memory}
+use Rattle.cue_keeper.specs.declared.fault.Fault.{Fault}
+use Rattle.cue_keeper.specs.declared.fault.Fault.TheVariants.{Memory, Disk}
+use Rattle.cue_keeper.specs.declared.keeper.Keeper.{Keeper}
+use Rattle.cue_keeper.specs.Accepting.{Accepts}
+use Rattle.cue_keeper.specs.Stands.{StandsEither, StandsAs}
+use Rattle.cue_keeper.specs.Observed as kept
 use Rattle.cue_outbox.specs.Sending.{datagrams}
+use Rattle.cue_engine.specs.declared.engine.Engine.{Engine}
+use Rattle.cue_engine.specs.Words.{keeper_of, state_of, queue_of}
 use Rattle.cue_engine.specs.Given.{Input, given}
 use Rattle.cue_engine.specs.Runs.{took, Story, run}
 use Rattle.cue_engine.specs.Wires.{Handed, AllHanded}
+use Rattle.cue_run.specs.declared.turns.Ended.{Ended}
 use Rattle.cue_run.specs.declared.turns.RunFault.{RunFault}
 use Rattle.cue_run.specs.declared.turns.RunFault.TheVariants as fault
 use Rattle.cue_run.specs.Sources.{Answer, comes, ends, fails, GaveAll}
@@ -21,12 +30,15 @@ abbrev pub story : ShowState → List (ℕ × Input) → Story
 story s inputs = run s (map (λ t. took t.0 t.1) inputs)
 
 -- an input was taken, and all that it owes was handed over
-pub record IsTaken (s : ShowState) (now : ℕ) (input : Input) (told : Option (List Handed)) (refused : ℕ) (s_then : ShowState) (told_then : Option (List Handed)) : Type 0 where
-  pub state : s_then ≡ folded s (given s now input).batch
+pub record IsTaken (s : ShowState) (now : ℕ) (input : Input) (told : Option (List Handed)) (refused : ℕ)
+    (s_then : ShowState) (told_then : Option (List Handed)) : Type 0 where
+  pub state : s_then ≡ after_events s (given s now input).batch
   pub handed : AllHanded told (datagrams (given s now input).sends) refused told_then
 
 -- So far these inputs were taken, as the source gave them, and what was owed at first and what they owe was handed over.
-pub record HasRun (size : ℕ) (left : Option (List Answer)) (s : ShowState) (owed : List (ℕ × List ℕ)) (told : Option (List Handed)) (turns unsent : ℕ) (left_then : Option (List Answer)) (s_then : ShowState) (told_then : Option (List Handed)) : Type 0 where
+pub record HasRun (size : ℕ) (left : Option (List Answer)) (s : ShowState) (owed : List (ℕ × List ℕ))
+    (told : Option (List Handed)) (turns unsent : ℕ) (left_then : Option (List Answer)) (s_then : ShowState)
+    (told_then : Option (List Handed)) : Type 0 where
   pub inputs : List (ℕ × Input)
   pub gave : GaveAll size left (given_answers inputs) left_then
   pub number : length inputs ≡ turns
@@ -35,31 +47,81 @@ pub record HasRun (size : ℕ) (left : Option (List Answer)) (s : ShowState) (ow
   pub handed : AllHanded told (owed ++ datagrams (story s inputs).sends) refused told_then
   pub counted : unsent ≡ min refused (2 ^ 64 - 1)
 
--- one turn, by how it went; what may be left of an input that was not taken is said by `may_leave`
-abbrev pub Turned : (size : ℕ) (left left_then : Option (List Answer)) (s s_then : ShowState) (told told_then : Option (List Handed)) (may_leave : ShowState → Type 0) → Result (Option ℕ) RunFault → Type 0
-Turned size left left_then s s_then told told_then may_leave (Ok (Some refused)) =
-    (t : ℕ × Input) × GaveAll size left (comes t.0 t.1 ∷ []) left_then × IsTaken s t.0 t.1 told refused s_then told_then
-Turned size left left_then s s_then told told_then may_leave (Ok None) =
-    GaveAll size left (ends ∷ []) left_then × (s_then ≡ s) × (told_then ≡ told)
-Turned size left left_then s s_then told told_then may_leave (Err fault.Source) =
-    GaveAll size left (fails ∷ []) left_then × (s_then ≡ s) × (told_then ≡ told)
-Turned size left left_then s s_then told told_then may_leave (Err (fault.Engine f)) =
-    (t : ℕ × Input) × GaveAll size left (comes t.0 t.1 ∷ []) left_then × (s_then ≡ s) × (told_then ≡ told) × may_leave (folded s (given s t.0 t.1).batch)
-
--- why a run ended
-abbrev pub EndedBy : (size : ℕ) (asked turns : ℕ) (left left_then : Option (List Answer)) (s : ShowState) (may_leave : ShowState → Type 0) → Option RunFault → Type 0
-EndedBy size asked turns left left_then s may_leave None = ((turns ≡ asked) × (left_then ≡ left)) ⊎ GaveAll size left (ends ∷ []) left_then
-EndedBy size asked turns left left_then s may_leave (Some fault.Source) = GaveAll size left (fails ∷ []) left_then
-EndedBy size asked turns left left_then s may_leave (Some (fault.Engine f)) =
-    ((f ≡ Memory) × (turns ≡ 0) × (left_then ≡ left))
-    ⊎ ((t : ℕ × Input) × GaveAll size left (comes t.0 t.1 ∷ []) left_then × may_leave (folded s (given s t.0 t.1).batch))
-
--- a whole run: what was taken, and why it ended
-pub record Ran (size : ℕ) (left : Option (List Answer)) (s : ShowState) (owed : List (ℕ × List ℕ)) (told : Option (List Handed)) (asked turns unsent : ℕ) (why : Option RunFault) (left_then : Option (List Answer)) (s_then : ShowState) (told_then : Option (List Handed)) (may_leave : ShowState → Type 0) : Type 0 where
-  pub mid : Option (List Answer)
-  pub taken : HasRun size left s owed told turns unsent mid s_then told_then
-  pub ended : EndedBy size asked turns mid left_then s_then may_leave why
-
 -- whatever a crash leaves of two disks stands for the one state or for the other
 abbrev pub LeavesEither : Contents → Contents → ShowState → ShowState → Type 0
 LeavesEither one other before after = (x y : List ℕ) → IsImage one x → IsImage other y → StandsEither before after x y
+
+-- What calls leave of a keeper's disks: they are as honest as they were, and failures do not fall.
+pub record Keeps {D : Type 0} {disk : Ghosts D} (old new : Keeper D disk) : Type 0 where
+  pub first_failures : disk.failures (kept.first_of old) ≤ disk.failures (kept.first_of new)
+  pub second_failures : disk.failures (kept.second_of old) ≤ disk.failures (kept.second_of new)
+  pub first_honest : disk.is_honest (kept.first_of new) ↔ disk.is_honest (kept.first_of old)
+  pub second_honest : disk.is_honest (kept.second_of new) ↔ disk.is_honest (kept.second_of old)
+
+-- The same of calls that no device failed: the keeper works if it did, and stands for its state then.
+pub record Works {D : Type 0} {disk : Ghosts D} (old new : Keeper D disk) : Type 0 where
+  pub keeps : Keeps old new
+  pub broken : kept.is_broken new ≡ kept.is_broken old
+  pub stands :
+      disk.is_honest (kept.first_of old)
+      → disk.is_honest (kept.second_of old)
+      → kept.is_broken old ≡ false
+      → StandsAs (disk.held (kept.first_of new)) (disk.held (kept.second_of new)) (kept.state_of new)
+
+-- The next input came, and its batch was accepted, or refused with this fault.
+pub record TakesNext {D : Type 0} {disk : Ghosts D} (size : ℕ) (refused : Option Fault) (old new : Keeper D disk)
+    (left left_then : Option (List Answer)) : Type 0 where
+  pub now : ℕ
+  pub input : Input
+  pub came : GaveAll size left (comes now input ∷ []) left_then
+  pub accepts : Accepts (given (kept.state_of old) now input).batch refused old new
+
+-- one turn, by how it went
+abbrev pub Turned : {D : Type 0} {disk : Ghosts D} → ℕ → Result (Option ℕ) RunFault → (old new : Keeper D disk)
+    → (left left_then : Option (List Answer)) (told told_then : Option (List Handed)) → Type 0
+Turned size (Ok (Some refused)) old new left left_then told told_then =
+    (next : TakesNext size None old new left left_then)
+    × AllHanded told (datagrams (given (kept.state_of old) next.now next.input).sends) refused told_then
+Turned size (Ok None) old new left left_then told told_then =
+    GaveAll size left (ends ∷ []) left_then × (new ≡ old) × (told_then ≡ told)
+Turned size (Err fault.Source) old new left left_then told told_then =
+    GaveAll size left (fails ∷ []) left_then × (new ≡ old) × (told_then ≡ told)
+Turned size (Err (fault.Engine f)) old new left left_then told told_then =
+    TakesNext size (Some f) old new left left_then × (told_then ≡ told)
+
+-- The input that came last was not taken: the keeper that met it refused its batch with this fault.
+pub record Refuses {D : Type 0} {disk : Ghosts D} (size : ℕ) (f : Fault) (old new : Keeper D disk)
+    (left left_then : Option (List Answer)) : Type 0 where
+  pub met : Keeper D disk
+  pub works : Works old met
+  pub next : TakesNext size (Some f) met new left left_then
+  -- even where a device failed a crash leaves the state, or the one after the whole batch
+  pub leaves :
+      disk.is_honest (kept.first_of old)
+      → disk.is_honest (kept.second_of old)
+      → kept.is_broken old ≡ false
+      → LeavesEither (disk.held (kept.first_of new)) (disk.held (kept.second_of new)) (kept.state_of met)
+      (after_events (kept.state_of met) (given (kept.state_of met) next.now next.input).batch)
+
+-- Why a run ended. Memory is also the end of one that had none for its buffer, and asked nothing of the source.
+abbrev pub EndedBy : {D : Type 0} {disk : Ghosts D} → (size asked turns : ℕ) → Option RunFault → (old new : Keeper D disk)
+    → (left left_then : Option (List Answer)) → Type 0
+EndedBy size asked turns None old new left left_then =
+    ((turns ≡ asked) × (left_then ≡ left)) ⊎ GaveAll size left (ends ∷ []) left_then
+EndedBy size asked turns (Some fault.Source) old new left left_then = GaveAll size left (fails ∷ []) left_then
+EndedBy size asked turns (Some (fault.Engine f)) old new left left_then =
+    ((f ≡ Memory) × (turns ≡ 0) × (left_then ≡ left) × (new ≡ old)) ⊎ Refuses size f old new left left_then
+
+-- A whole run: what was taken, why it ended, and what it leaves.
+pub record Ran {D : Type 0} {disk : Ghosts D} (size asked : ℕ) (ended : Ended) (old new : Engine D disk)
+    (left left_then : Option (List Answer)) (told told_then : Option (List Handed)) : Type 0 where
+  -- what the source had left after the last input that was taken
+  pub mid : Option (List Answer)
+  pub taken :
+      HasRun size left (state_of old) (queue_of old) told ended.turns ended.unsent mid (state_of new) told_then
+  pub why : EndedBy size asked ended.turns ended.fault (keeper_of old) (keeper_of new) mid left_then
+  pub at_most : ended.turns ≤ asked
+  pub none_taken : kept.is_broken (keeper_of old) ≡ true → ended.turns ≡ 0
+  pub emptied : queue_of new ≡ []
+  pub keeps : Keeps (keeper_of old) (keeper_of new)
+  pub works : (ended.fault ≡ Some (fault.Engine Disk) → ⊥) → Works (keeper_of old) (keeper_of new)

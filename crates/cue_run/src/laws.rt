@@ -1,6 +1,6 @@
 //! What the definitions of this crate come to. Each contract is a theorem; there is nothing to run.
 ghost use Rattle.std.specs.Prelude.{◌≡◌, ◌<◌};
-ghost use Rattle.cue_osc.specs.declared.packet.TheConstants.{MAX_LEN};
+ghost use Rattle.cue_osc.specs.declared.limits.TheConstants.{MAX_LEN};
 ghost use Rattle.cue_run.specs.declared.turns.TheConstants.{BUFFER};
 
 /// The buffer has 4,100 bytes: more than the longest datagram, so that a longer one is seen to be too long.

@@ -4,8 +4,6 @@
 pub mod laws;
 mod mem_source;
 mod source;
-#[cfg(test)]
-mod tests;
 mod turns;
 mod udp;
 mod watch;
@@ -13,5 +11,5 @@ mod watch;
 pub use mem_source::{MemAnswer, MemSource};
 pub use source::{Source, SourceFault, Turn};
 pub use turns::{Ended, RunFault, run, run_watched};
-pub use udp::{UdpSource, UdpWire, local};
+pub use udp::{Receive, Tries, UdpReceiver, UdpSource, UdpWire, first_turn, local, udp_limits};
 pub use watch::{Unwatched, Watch};

@@ -1,11 +1,13 @@
 //! The run of a show: it takes what a source gives, and hands out what that owes.
-ghost use Rattle.std.specs.Prelude.{◌≡◌, ◌≤◌, ◌↔◌, [], length, Some, IfOk, OnOk, OnErr, IfErr, IsErrOf};
-ghost use Rattle.cue_core.specs.Steps.{folded};
-ghost use Rattle.cue_keeper.specs.Stands.{StandsAs};
+ghost use Rattle.std.specs.Prelude.{◌≡◌, [], length, MatchResult};
+ghost use Rattle.std.specs.Result.{result_err};
+ghost use Rattle.cue_keeper.specs.Accepting.{Accepts};
+ghost use Rattle.cue_outbox.specs.Sending.{datagrams};
 ghost use Rattle.cue_engine.specs.Given.{given};
 ghost use Rattle.cue_engine.specs.Inputs.{input_view};
-ghost use Rattle.cue_engine.specs.Words.{state_of, queue_of, first_of, second_of};
-ghost use Rattle.cue_run.specs.Running.{IsTaken, Turned, Ran, LeavesEither};
+ghost use Rattle.cue_engine.specs.Wires.{AllHanded};
+ghost use Rattle.cue_engine.specs.Words.{keeper_of, state_of, queue_of};
+ghost use Rattle.cue_run.specs.Running.{Turned, Ran};
 
 use crate::source::{Source, Turn};
 use crate::watch::{Unwatched, Watch};
@@ -45,16 +47,13 @@ fn take_one<D: Disk, W: Wire>(
     input: Input<'_>,
 ) -> Result<u64, Fault>
     requires { queue_of engine.old ≡ [] }
-    ensures taken { IfOk result (λ refused. IsTaken (state_of engine.old) now (input_view input.entry) (W.told wire.old) refused (state_of engine.new) (W.told wire.new)) }
-    ensures same_state { OnErr result (state_of engine.new ≡ state_of engine.old) }
-    ensures nothing_told { OnErr result (W.told wire.new ≡ W.told wire.old) }
+    ensures accepts { Accepts (given (state_of engine.old) now (input_view input.entry)).batch (result_err result)
+        (keeper_of engine.old) (keeper_of engine.new) }
+    ensures handed { MatchResult result
+        (λ refused. AllHanded (W.told wire.old)
+        (datagrams (given (state_of engine.old) now (input_view input.entry)).sends) refused (W.told wire.new))
+        (λ _. W.told wire.new ≡ W.told wire.old) }
     ensures emptied { queue_of engine.new ≡ [] }
-    ensures first_honest { D.is_honest (first_of engine.new) ↔ D.is_honest (first_of engine.old) }
-    ensures second_honest { D.is_honest (second_of engine.new) ↔ D.is_honest (second_of engine.old) }
-    ensures stands { D.is_honest (first_of engine.old) → D.is_honest (second_of engine.old) → StandsAs (D.held (first_of engine.old)) (D.held (second_of engine.old)) (state_of engine.old)
-        → (IsErrOf result Fault.Disk → ⊥) → StandsAs (D.held (first_of engine.new)) (D.held (second_of engine.new)) (state_of engine.new) }
-    ensures leaves { D.is_honest (first_of engine.old) → D.is_honest (second_of engine.old) → StandsAs (D.held (first_of engine.old)) (D.held (second_of engine.old)) (state_of engine.old)
-        → OnErr result (LeavesEither (D.held (first_of engine.new)) (D.held (second_of engine.new)) (state_of engine.old) (folded (state_of engine.old) (given (state_of engine.old) now (input_view input.entry)).batch)) }
 {
     match engine.take(now, input) {
         Ok(_) => Ok(engine.hand_out(wire)),
@@ -70,14 +69,9 @@ fn turn_once<D: Disk, S: Source, W: Wire>(
     buffer: &mut [u8],
 ) -> Result<Option<u64>, RunFault>
     requires { queue_of engine.old ≡ [] }
-    ensures turned { Turned (length buffer.old) (S.left source.old) (S.left source.new) (state_of engine.old) (state_of engine.new) (W.told wire.old) (W.told wire.new)
-        (λ after. D.is_honest (first_of engine.old) → D.is_honest (second_of engine.old) → StandsAs (D.held (first_of engine.old)) (D.held (second_of engine.old)) (state_of engine.old)
-        → LeavesEither (D.held (first_of engine.new)) (D.held (second_of engine.new)) (state_of engine.old) after) result }
+    ensures turned { Turned (length buffer.old) result (keeper_of engine.old) (keeper_of engine.new)
+        (S.left source.old) (S.left source.new) (W.told wire.old) (W.told wire.new) }
     ensures emptied { queue_of engine.new ≡ [] }
-    ensures first_honest { D.is_honest (first_of engine.new) ↔ D.is_honest (first_of engine.old) }
-    ensures second_honest { D.is_honest (second_of engine.new) ↔ D.is_honest (second_of engine.old) }
-    ensures stands { D.is_honest (first_of engine.old) → D.is_honest (second_of engine.old) → StandsAs (D.held (first_of engine.old)) (D.held (second_of engine.old)) (state_of engine.old)
-        → (IsErrOf result (RunFault.Engine Fault.Disk) → ⊥) → StandsAs (D.held (first_of engine.new)) (D.held (second_of engine.new)) (state_of engine.new) }
 {
     match source.next(buffer) {
         Ok(Turn::End) => Ok(None),
@@ -105,14 +99,8 @@ fn run_turns<D: Disk, S: Source, W: Wire, V: Watch<W>>(
     buffer: &mut [u8],
     turns: u64,
 ) -> Ended
-    ensures ran { Ran (length buffer.old) (S.left source.old) (state_of engine.old) (queue_of engine.old) (W.told wire.old) turns result.turns result.unsent result.fault
-        (S.left source.new) (state_of engine.new) (W.told wire.new)
-        (λ after. D.is_honest (first_of engine.old) → D.is_honest (second_of engine.old) → StandsAs (D.held (first_of engine.old)) (D.held (second_of engine.old)) (state_of engine.old)
-        → LeavesEither (D.held (first_of engine.new)) (D.held (second_of engine.new)) (state_of engine.new) after) }
-    ensures at_most { result.turns ≤ turns }
-    ensures emptied { queue_of engine.new ≡ [] }
-    ensures stands { D.is_honest (first_of engine.old) → D.is_honest (second_of engine.old) → StandsAs (D.held (first_of engine.old)) (D.held (second_of engine.old)) (state_of engine.old)
-        → (result.fault ≡ Some (RunFault.Engine Fault.Disk) → ⊥) → StandsAs (D.held (first_of engine.new)) (D.held (second_of engine.new)) (state_of engine.new) }
+    ensures { Ran (length buffer.old) turns result engine.old engine.new
+        (S.left source.old) (S.left source.new) (W.told wire.old) (W.told wire.new) }
 {
     let mut unsent = engine.hand_out(wire);
     watch.look(engine.state(), &[], wire);
@@ -156,21 +144,16 @@ pub fn run_watched<D: Disk, S: Source, W: Wire, V: Watch<W>>(
     turns: u64,
     watch: &mut V,
 ) -> Ended
-    // What was taken is what the source gave first, the state and the wire are what the definition makes of it, and it
-    // ended for its reason.
-    ensures ran { Ran BUFFER (S.left source.old) (state_of engine.old) (queue_of engine.old) (W.told wire.old) turns result.turns result.unsent result.fault
-        (S.left source.new) (state_of engine.new) (W.told wire.new)
-        (λ after. D.is_honest (first_of engine.old) → D.is_honest (second_of engine.old) → StandsAs (D.held (first_of engine.old)) (D.held (second_of engine.old)) (state_of engine.old)
-        → LeavesEither (D.held (first_of engine.new)) (D.held (second_of engine.new)) (state_of engine.new) after) }
-    ensures at_most { result.turns ≤ turns }
-    ensures emptied { queue_of engine.new ≡ [] }
-    // Whatever a crash leaves of the disks then stands for that state alone, but where a disk failed.
-    ensures stands { D.is_honest (first_of engine.old) → D.is_honest (second_of engine.old) → StandsAs (D.held (first_of engine.old)) (D.held (second_of engine.old)) (state_of engine.old)
-        → (result.fault ≡ Some (RunFault.Engine Fault.Disk) → ⊥) → StandsAs (D.held (first_of engine.new)) (D.held (second_of engine.new)) (state_of engine.new) }
+    // What was taken is what the source gave first, the state and the wire are what the definition makes of it, it
+    // ended for its reason, and the engine works on unless a device failed.
+    ensures ran { Ran BUFFER turns result engine.old engine.new
+        (S.left source.old) (S.left source.new) (W.told wire.old) (W.told wire.new) }
 {
     match vec![in alloc; 0u8; BUFFER] {
         Ok(mut buffer) => run_turns(engine, source, wire, watch, &mut buffer, turns),
         Err(_) => {
+            // Called for its clause that an engine that works stands for its state.
+            let _state = engine.state();
             let unsent = engine.hand_out(wire);
             Ended {
                 turns: 0,
@@ -191,17 +174,10 @@ pub fn run<D: Disk, S: Source, W: Wire>(
     wire: &mut W,
     turns: u64,
 ) -> Ended
-    // What was taken is what the source gave first, the state and the wire are what the definition makes of it, and it
-    // ended for its reason.
-    ensures ran { Ran BUFFER (S.left source.old) (state_of engine.old) (queue_of engine.old) (W.told wire.old) turns result.turns result.unsent result.fault
-        (S.left source.new) (state_of engine.new) (W.told wire.new)
-        (λ after. D.is_honest (first_of engine.old) → D.is_honest (second_of engine.old) → StandsAs (D.held (first_of engine.old)) (D.held (second_of engine.old)) (state_of engine.old)
-        → LeavesEither (D.held (first_of engine.new)) (D.held (second_of engine.new)) (state_of engine.new) after) }
-    ensures at_most { result.turns ≤ turns }
-    ensures emptied { queue_of engine.new ≡ [] }
-    // Whatever a crash leaves of the disks then stands for that state alone, but where a disk failed.
-    ensures stands { D.is_honest (first_of engine.old) → D.is_honest (second_of engine.old) → StandsAs (D.held (first_of engine.old)) (D.held (second_of engine.old)) (state_of engine.old)
-        → (result.fault ≡ Some (RunFault.Engine Fault.Disk) → ⊥) → StandsAs (D.held (first_of engine.new)) (D.held (second_of engine.new)) (state_of engine.new) }
+    // What was taken is what the source gave first, the state and the wire are what the definition makes of it, it
+    // ended for its reason, and the engine works on unless a device failed.
+    ensures ran { Ran BUFFER turns result engine.old engine.new
+        (S.left source.old) (S.left source.new) (W.told wire.old) (W.told wire.new) }
 {
     run_watched(alloc, engine, source, wire, turns, &mut Unwatched)
 }

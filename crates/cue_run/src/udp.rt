@@ -1,18 +1,22 @@
 //! The network: one UDP socket on 127.0.0.1.
 ghost use Rattle.std.specs.Prelude.{◌≡◌, ◌≤◌, None, length, IfOk};
-ghost use Rattle.cue_run.specs.Udp.{CameWithin, NextWithin, is_tick_due};
+ghost use Rattle.cue_run.specs.Udp.{CameWithin, is_whole};
+
+mod came;
+mod receive;
+mod ticks;
+mod tries;
 
 use crate::source::{Source, SourceFault, Turn};
+use came::{Came, what_came};
 use cue_engine::{Wire, WireFault};
+pub use receive::{Receive, UdpReceiver};
 use std::io::{self, ErrorKind};
 use std::net::{IpAddr, Ipv4Addr, SocketAddr, UdpSocket};
-use std::time::{Clock, Duration};
-
-/// The time between two ticks, in milliseconds.
-const TICK: u64 = 250;
-
-/// How many datagrams of the own port are dropped in one call, before the call is a fault.
-const MOST_DROPPED: u32 = 65_536;
+use std::time::Clock;
+use ticks::Ticks;
+use tries::MOST_DROPPED;
+pub use tries::{Tries, first_turn, udp_limits};
 
 /// A port of this machine.
 pub fn local(port: u16) -> SocketAddr {
@@ -27,101 +31,67 @@ fn moment<C: Clock>(clock: &C) -> io::Result<u64> {
     }
 }
 
-/// What came while a call waited.
-#[derive(Clone, Copy)]
-enum Came {
-    Nothing,
-    /// It is passed over: a datagram of the own port, or word that nobody got an earlier reply.
-    Noise,
-    Datagram { from: u16, n: usize },
-}
-
-// Whether a tick is due: 250 ms after the last one, or where the clock was put back.
-fn is_tick_due(last: u64, now: u64) -> bool
-    ensures { result ≡ is_tick_due last now }
-{
-    now < last || now - last >= TICK
-}
-
-/// The datagrams of a socket, and ticks between them: one where the clock shows 250 ms since the last tick or was put
-/// back, or where 250 ms bring no datagram. It tells nothing.
+/// The datagrams of a receiver, and ticks between them: one where the clock shows 250 ms since the last tick or was put
+/// back, or where the receiver waited and no datagram came. It tells nothing.
 #[derive(Drop)]
-pub struct UdpSource<'a, C: Clock> {
+pub struct UdpSource<'a, C: Clock, R: Receive + Drop> {
     clock: &'a C,
-    socket: &'a UdpSocket,
+    receiver: R,
     own: u16,
-    last_tick: u64,
+    ticks: Ticks,
 }
 
-impl<'a, C: Clock> UdpSource<'a, C> {
-    /// Listens at a socket that is bound to this port. Its time begins now.
-    pub fn new(clock: &'a C, socket: &'a UdpSocket, own: u16) -> io::Result<UdpSource<'a, C>> {
-        socket.set_read_timeout(Some(Duration::from_millis(TICK)))?;
-        let last_tick = moment(clock)?;
+impl<'a, C: Clock, R: Receive + Drop> UdpSource<'a, C, R> {
+    /// Listens at a receiver that is bound to this port, whose own datagrams are dropped. Its time begins now.
+    pub fn new(clock: &'a C, receiver: R, own: u16) -> io::Result<UdpSource<'a, C, R>> {
+        let ticks = Ticks::new(moment(clock)?);
         Ok(UdpSource {
             clock,
-            socket,
+            receiver,
             own,
-            last_tick,
+            ticks,
         })
     }
 
-    // Waits for a datagram.
-    fn wait(&self, buffer: &mut [u8]) -> io::Result<Came>
-        ensures { IfOk result (λ came. CameWithin came (length buffer.old)) }
+    // Waits for a datagram, and tells what came, and when the wait was over.
+    fn wait(&mut self, buffer: &mut [u8]) -> io::Result<(Came, u64)>
+        ensures within { IfOk result (λ waited. CameWithin waited.0 (length buffer.old)) }
+        ensures ticks { self.new.ticks ≡ self.old.ticks }
     {
-        match self.socket.recv_from(buffer) {
-            Ok((n, peer)) => {
-                let from = peer.port();
-                if from == self.own {
-                    return Ok(Came::Noise);
-                }
-                Ok(Came::Datagram { from, n })
-            }
-            Err(error) => match error.kind() {
-                ErrorKind::WouldBlock => Ok(Came::Nothing),
-                ErrorKind::TimedOut => Ok(Came::Nothing),
-                ErrorKind::ConnectionRefused => Ok(Came::Noise),
-                ErrorKind::Interrupted => Ok(Came::Noise),
-                _ => Err(error),
-            },
-        }
-    }
-
-    // What comes next, or None where that was noise.
-    fn try_next(&mut self, buffer: &mut [u8]) -> io::Result<Option<Turn>>
-        ensures { IfOk result (λ next. NextWithin next (length buffer.old)) }
-    {
+        let came = what_came(self.own, self.receiver.receive(buffer))?;
         let now = moment(self.clock)?;
-        if is_tick_due(self.last_tick, now) {
-            self.last_tick = now;
-            return Ok(Some(Turn::Tick { now }));
-        }
-        let came = self.wait(buffer)?;
-        let now = moment(self.clock)?;
-        match came {
-            Came::Noise => Ok(None),
-            Came::Nothing => {
-                self.last_tick = now;
-                Ok(Some(Turn::Tick { now }))
-            }
-            Came::Datagram { from, n } => Ok(Some(Turn::Datagram { now, from, n })),
-        }
+        Ok((came, now))
     }
 }
 
-impl<'a, C: Clock> Source for UdpSource<'a, C> {
+impl<'a, C: Clock, R: Receive + Drop> Tries for UdpSource<'a, C, R> {
+    ghost left = { λ _. None };
+
+    fn try_next(&mut self, buffer: &mut [u8]) -> io::Result<Option<Turn>> {
+        let now = moment(self.clock)?;
+        if let Some(tick) = self.ticks.due(now) {
+            return Ok(Some(tick));
+        }
+        let (came, now) = self.wait(buffer)?;
+        Ok(self.ticks.after(came, now))
+    }
+}
+
+impl<'a, C: Clock, R: Receive + Drop> Source for UdpSource<'a, C, R> {
     ghost left = { λ _. None };
 
     fn next(&mut self, buffer: &mut [u8]) -> Result<Turn, SourceFault> {
-        for _ in 0..MOST_DROPPED {
-            match self.try_next(buffer) {
-                Ok(Some(turn)) => return Ok(turn),
-                Ok(None) => {}
-                Err(_) => return Err(SourceFault),
-            }
-        }
-        Err(SourceFault)
+        first_turn(self, MOST_DROPPED, buffer)
+    }
+}
+
+// Whether a send that was answered so took a whole datagram of this length.
+fn is_whole(sent: io::Result<usize>, len: usize) -> bool
+    ensures { result ≡ is_whole sent len }
+{
+    match sent {
+        Ok(sent) => sent == len,
+        Err(_) => false,
     }
 }
 
@@ -141,9 +111,10 @@ impl<'a> Wire for UdpWire<'a> {
     ghost told = { λ _. None };
 
     fn send(&mut self, to: u16, bytes: &[u8]) -> Result<(), WireFault> {
-        match self.socket.send_to(bytes, local(to)) {
-            Ok(sent) if sent == bytes.len() => Ok(()),
-            _ => Err(WireFault),
+        if is_whole(self.socket.send_to(bytes, local(to)), bytes.len()) {
+            Ok(())
+        } else {
+            Err(WireFault)
         }
     }
 }

@@ -1,12 +1,12 @@
 -- What a script has written, line by line.
-use Rattle.std.specs.Prelude.{◌≡◌, ◌≢◌, ℕ, ◌+◌, ◌<◌, ◌≤◌, ◌++◌, Bool, List, [], ◌∷◌, length, map, take, Option, Some, None, slice_index_or, IfSome, IfOk, IfErr, OnOk, Result, Ok, Err}
+use Rattle.std.specs.Prelude.{◌≡◌, ◌≢◌, ℕ, ◌+◌, ◌<◌, ◌≤◌, ◌++◌, Bool, true, List, [], ◌∷◌, length, map, take, Option, Some, None, slice_index_or, IfSome, IfOk, IfErr, OnOk, Result, Ok, Err}
 use Rattle.std.specs.Option.{option_map}
 use Rattle.std.specs.Io.KnownBytes.{Appends}
-use Rattle.std.proofs.Common.{ap, refl, arith, sym, ◌∙◌, append_assoc, subst, lit≤}
+use Rattle.std.proofs.Common.{ap, refl, arith, sym, ◌∙◌, append_assoc, subst, lit≤, inl, inr}
 use Rattle.std.proofs.lemmas.Grind.{flat_map-append}
 use Rattle.std.proofs.lemmas.List.{append-nil, map-append, take_more, take_all, length-take}
 use Rattle.cue_core.specs.State.{ShowState}
-use Rattle.cue_core.specs.Steps.{folded}
+use Rattle.cue_core.specs.Steps.{after_events}
 use Rattle.cue_keeper.specs.Stands.{Stands}
 use Rattle.cue_keeper.proofs.Standing.{one_state}
 use Rattle.cue_outbox.specs.Sending.{Send, datagram, datagrams, all_pending}
@@ -16,6 +16,10 @@ use Rattle.cue_engine.specs.declared.mem_wire.Sent.{Sent}
 use Rattle.cue_engine.specs.Runs.{Happening, recovered, given_at, run}
 use Rattle.cue_engine.specs.Told.{sents_view}
 use Rattle.cue_engine.specs.Wires.{Handed, handed, AllHanded}
+use Rattle.cue_disk.specs.Disk.{Contents}
+use Rattle.cue_disk.specs.Effect.{settled}
+use Rattle.cue_log.specs.Area.{IsAbsent}
+use Rattle.cue_snap.specs.Pair.{SomeIsThere}
 use Rattle.cue_script.specs.declared.entry.TheConstants.{SCRIPT_LIMIT}
 use Rattle.cue_script.specs.declared.ending.Ending.{Ending}
 use Rattle.cue_script.specs.declared.ending.Ending.TheVariants.{Done, BadLine, BadInput, Failed, Stopped}
@@ -23,7 +27,7 @@ use Rattle.cue_keeper.specs.declared.fault.StoreFault.{StoreFault}
 use Rattle.cue_keeper.specs.declared.fault.StoreFault.TheVariants as store
 use Rattle.cue_script.specs.declared.ending.Failure.TheVariants.{Broken, Store}
 use Rattle.cue_script.specs.declared.ending.StreamFailure.{StreamFailure}
-use Rattle.cue_script.specs.Endings.{ending_line, status_of, store_status}
+use Rattle.cue_script.specs.Endings.{can_come, ending_line, status_of, store_status}
 use Rattle.cue_script.specs.ScriptLines.{lines_of, happening_in}
 use Rattle.cue_script.specs.ScriptViews.{sent_view}
 use Rattle.cue_script.specs.Playing.{Goes, EndsAt, EndsUnheard}
@@ -83,15 +87,15 @@ told_whole queue n (Some xs) (Some ys) all none each is =
 run-none : (s : ShowState) → (run s []).state ≡ s
 run-none s = refl
 
-pub run-more-state : (s : ShowState) (hs : List Happening) (h : Happening) → (run s (hs ++ h ∷ [])).state ≡ folded (run s hs).state (given_at (run s hs).state h).batch
+pub run-more-state : (s : ShowState) (hs : List Happening) (h : Happening) → (run s (hs ++ h ∷ [])).state ≡ after_events (run s hs).state (given_at (run s hs).state h).batch
 run-more-state s [] h = refl
-run-more-state s (g ∷ gs) h = run-more-state (folded s (given_at s g).batch) gs h
+run-more-state s (g ∷ gs) h = run-more-state (after_events s (given_at s g).batch) gs h
 
 pub run-more-sends : (s : ShowState) (hs : List Happening) (h : Happening) → (run s (hs ++ h ∷ [])).sends ≡ (run s hs).sends ++ (given_at (run s hs).state h).sends
 run-more-sends s [] h = append-nil (given_at s h).sends
 run-more-sends s (g ∷ gs) h =
-    ap (λ (xs : List (ℕ × Send)). (given_at s g).sends ++ xs) (run-more-sends (folded s (given_at s g).batch) gs h)
-    ∙ sym (append_assoc (given_at s g).sends (run (folded s (given_at s g).batch) gs).sends (given_at (run (folded s (given_at s g).batch) gs).state h).sends)
+    ap (λ (xs : List (ℕ × Send)). (given_at s g).sends ++ xs) (run-more-sends (after_events s (given_at s g).batch) gs h)
+    ∙ sym (append_assoc (given_at s g).sends (run (after_events s (given_at s g).batch) gs).sends (given_at (run (after_events s (given_at s g).batch) gs).state h).sends)
 
 pub output-none : (s : ShowState) → output s [] ≡ []
 unfolding output
@@ -105,7 +109,7 @@ output-more s hs h =
     ∙ printed-append (datagrams (run s hs).sends) (datagrams (given_at (run s hs).state h).sends)
 
 -- what recovery makes of bytes that stand for a state
-pub closed_state : (s t : ShowState) (x y : List ℕ) → Stands x y s → ClosedFrom x y t → t ≡ folded s (given_at s recovered).batch
+pub closed_state : (s t : ShowState) (x y : List ℕ) → Stands x y s → ClosedFrom x y t → t ≡ after_events s (given_at s recovered).batch
 unfolding closed
 closed_state s t x y stands from = from.is ∙ ap closed (one_state x y from.before s from.stood stands)
 
@@ -140,13 +144,13 @@ running_more first text rest others line s t old mid new held split goes =
       all = held.all ∙ ap (λ (xs : List (List ℕ)). held.lines ++ xs) split ∙ sym (append_assoc held.lines (line ∷ []) (lines_of others));
       each = map-append happening_in held.lines (line ∷ []) ∙ ap (λ (xs : List (Option Happening)). xs ++ happening_in line ∷ []) held.each
           ∙ ap (λ (x : Option Happening). map Some held.happened ++ x ∷ []) goes.tells ∙ sym (map-append Some held.happened (goes.happening ∷ []));
-      is = goes.is ∙ ap (λ (u : ShowState). folded u (given_at u goes.happening).batch) held.is ∙ sym (run-more-state first held.happened goes.happening);
+      is = goes.is ∙ ap (λ (u : ShowState). after_events u (given_at u goes.happening).batch) held.is ∙ sym (run-more-state first held.happened goes.happening);
       wrote = subst P (sym (output-more first held.happened goes.happening)) (appends_both old mid new _ _ held.wrote (subst Q held.is goes.wrote));
     }
 
 -- a line of which this is known went on
 pub goes_behind : {T E : Type 0} (r : Result T E) (state : T → ShowState) (line : List ℕ) (h : Happening) (s : ShowState) (old new : Option (List ℕ)) → happening_in line ≡ Some h →
-    IfOk r (λ next. state next ≡ folded s (given_at s h).batch) → OnOk r (Appends old new (printed (datagrams (given_at s h).sends))) → IfOk r (λ next. Goes line s (state next) old new)
+    IfOk r (λ next. state next ≡ after_events s (given_at s h).batch) → OnOk r (Appends old new (printed (datagrams (given_at s h).sends))) → IfOk r (λ next. Goes line s (state next) old new)
 goes_behind (Ok next) state line h s old new tells is wrote = record { happening = h; tells = tells; is = is; wrote = wrote }
 goes_behind (Err ending) state line h s old new tells is wrote = tt
 
@@ -184,7 +188,7 @@ ran_until BadLine first text rest others line s old mid new held split short end
 ran_until BadInput first text rest others line s old mid new held split short ends = absurd ends
 ran_until (Failed failure) first text rest others line s old mid new held split short ends =
     let P : Option (List ℕ) → Type 0 = λ now. Ran first text (line ∷ lines_of others) [] old now in
-    (line ∷ lines_of others, subst P (sym ends) (ran first text rest (line ∷ lines_of others) s old mid held split short))
+    (ends.0, (line ∷ lines_of others, subst P (sym ends.1) (ran first text rest (line ∷ lines_of others) s old mid held split short)))
 ran_until (Stopped failure) first text rest others line s old mid new held split short ends = tt
 
 -- a last line behind it
@@ -204,7 +208,7 @@ pub wrote_with : (ending : Ending) (first : ShowState) (text last : List ℕ) (o
 wrote_with Done first text last old mid new held more = ran_with first text last [] old mid new held more
 wrote_with BadLine first text last old mid new held more = record { bad = held.bad; others = held.others; no_form = held.no_form; ran = ran_with first text last (held.bad ∷ held.others) old mid new held.ran more }
 wrote_with BadInput first text last old mid new held more = (held.0, appends_both old mid new [] last held.1 more)
-wrote_with (Failed failure) first text last old mid new held more = (held.0, ran_with first text last held.0 old mid new held.1 more)
+wrote_with (Failed failure) first text last old mid new held more = (held.0, (held.1.0, ran_with first text last held.1.0 old mid new held.1.1 more))
 wrote_with (Stopped failure) first text last old mid new held more = tt
 
 -- a text of which no more than so many bytes were read was read whole
@@ -230,9 +234,9 @@ pub too_long : (known : Option (List ℕ)) (first : ShowState) (old : Option (Li
 too_long None first old long = tt
 too_long (Some text) first old long = (long, appends_none old)
 
--- nothing was run where no engine was formed
-pub not_formed : (first : ShowState) (text : List ℕ) (old : Option (List ℕ)) → length text ≤ SCRIPT_LIMIT → (left : List (List ℕ)) × Ran first text left [] old old
-not_formed first text old short = (lines_of text, ran first text text (lines_of text) first old old (running_first first text old) refl short)
+-- nothing was run where no engine was formed, and two new disks are refused for want of memory, or by themselves
+pub not_formed : (fault : StoreFault) (first : ShowState) (text : List ℕ) (old : Option (List ℕ)) → length text ≤ SCRIPT_LIMIT → can_come (Store fault) ≡ true → Wrote (Failed (Store fault)) first text [] old old
+not_formed fault first text old short comes = (comes, (lines_of text, ran first text text (lines_of text) first old old (running_first first text old) refl short))
 
 pub has_run : (known : Option (List ℕ)) (ending : Ending) (first : ShowState) (line : List ℕ) (status : ℕ) (old mid new : Option (List ℕ)) → IfSome known (λ text. Wrote ending first text [] old mid) → line ≡ ending_line ending →
     Appends mid new line → status ≡ status_of ending → IfSome known (λ text. HasRun first text status old new)
@@ -272,3 +276,26 @@ pub small_status : (ending : Ending) (status : ℕ) → status ≡ status_of end
 small_status ending status is =
     let P : ℕ → Type 0 = λ n. (n ≤ 3) × (n ≢ 2) in
     subst P (sym is) (small ending)
+
+-- an empty disk has no area
+absent : (held : Contents) → held ≡ settled [] → IsAbsent held.bytes
+absent held is =
+    let P : Contents → Type 0 = λ now. IsAbsent now.bytes in
+    subst P (sym is) tt
+
+-- two empty disks have none
+pub no_area : (one two : Contents) → one ≡ settled [] → two ≡ settled [] → SomeIsThere one.bytes two.bytes → ⊥
+no_area one two first second (inl there) = there (absent one first)
+no_area one two first second (inr there) = there (absent two second)
+
+-- a recovery of what stands for a state is refused for want of room, of a generation or of memory, or by a disk
+pub comes_of_recovery : (fault : StoreFault) → (fault ≡ store.NotEmpty → ⊥) → (fault ≡ store.Unformed → ⊥) → (fault ≡ store.Damaged → ⊥) → (fault ≡ store.Version → ⊥) → (fault ≡ store.Malformed → ⊥) → can_come (Store fault) ≡ true
+comes_of_recovery store.NotEmpty empty unformed damaged version malformed = absurd (empty refl)
+comes_of_recovery store.Unformed empty unformed damaged version malformed = absurd (unformed refl)
+comes_of_recovery store.Damaged empty unformed damaged version malformed = absurd (damaged refl)
+comes_of_recovery store.Version empty unformed damaged version malformed = absurd (version refl)
+comes_of_recovery store.Malformed empty unformed damaged version malformed = absurd (malformed refl)
+comes_of_recovery store.Full empty unformed damaged version malformed = refl
+comes_of_recovery store.Exhausted empty unformed damaged version malformed = refl
+comes_of_recovery store.Memory empty unformed damaged version malformed = refl
+comes_of_recovery store.Disk empty unformed damaged version malformed = refl

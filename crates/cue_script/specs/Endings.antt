@@ -4,6 +4,10 @@ use Rattle.std.specs.IoError.{error_kind}
 use Rattle.std.specs.declared.io.Error.{Error}
 use Rattle.std.specs.declared.io.ErrorKind.{ErrorKind}
 use Rattle.std.specs.declared.io.ErrorKind.TheVariants.{OutOfMemory}
+use Rattle.hex.specs.declared.error.FromHexError.{FromHexError}
+use Rattle.hex.specs.declared.error.FromHexError.TheVariants as digits
+use Rattle.cue_keeper.specs.declared.fault.Fault.{Fault}
+use Rattle.cue_keeper.specs.declared.fault.Fault.TheVariants as engine
 use Rattle.cue_keeper.specs.declared.fault.StoreFault.{StoreFault}
 use Rattle.cue_keeper.specs.declared.fault.StoreFault.TheVariants as store
 use Rattle.cue_script.specs.declared.ending.Ending.{Ending}
@@ -75,3 +79,32 @@ is_memory _ = false
 -- a call of the reader or the writer lacked memory, or failed otherwise
 abbrev pub failure_of : Error → StreamFailure
 failure_of error = if is_memory (error_kind error) then Memory else Io
+
+-- what an engine answers, as a line of a script fails by it
+abbrev pub failure_by : Fault → Failure
+failure_by engine.Broken = Broken
+failure_by engine.Memory = Store store.Memory
+failure_by engine.Exhausted = Store store.Exhausted
+failure_by engine.Full = Store store.Full
+failure_by engine.Disk = Store store.Disk
+
+-- A script forms its store itself and reads it back whole. So it fails only where the store has no room or no
+-- generation left, or where its disks or memory fail.
+abbrev pub can_come : Failure → Bool
+can_come Broken = false
+can_come (Store store.NotEmpty) = false
+can_come (Store store.Unformed) = false
+can_come (Store store.Damaged) = false
+can_come (Store store.Version) = false
+can_come (Store store.Malformed) = false
+can_come (Store store.Full) = true
+can_come (Store store.Exhausted) = true
+can_come (Store store.Memory) = true
+can_come (Store store.Disk) = true
+
+-- digits were not decoded for want of memory, and not for their form
+abbrev pub is_want_of_memory : FromHexError → Bool
+is_want_of_memory (digits.InvalidHexCharacter c index) = false
+is_want_of_memory digits.OddLength = false
+is_want_of_memory digits.InvalidStringLength = false
+is_want_of_memory digits.OutOfMemory = true

@@ -1,8 +1,8 @@
 -- Helper: a script that is being run, step by step.
-use Rattle.std.specs.Prelude.{◌≡◌, ℕ, false, List, [], Option, Some, None}
+use Rattle.std.specs.Prelude.{◌≡◌, ℕ, false, true, List, [], Option, Some, None}
 use Rattle.std.specs.Io.KnownBytes.{Appends}
 use Rattle.cue_core.specs.State.{ShowState}
-use Rattle.cue_core.specs.Steps.{folded}
+use Rattle.cue_core.specs.Steps.{after_events}
 use Rattle.cue_keeper.specs.Observed.{is_broken}
 use Rattle.cue_outbox.specs.Sending.{datagrams}
 use Rattle.cue_engine.specs.declared.engine.Engine.{Engine}
@@ -10,6 +10,7 @@ use Rattle.cue_engine.specs.Runs.{Happening, given_at}
 use Rattle.cue_engine.specs.Words.{keeper_of, queue_of, state_of}
 use Rattle.cue_script.specs.declared.ending.Ending.{Ending}
 use Rattle.cue_script.specs.declared.ending.Ending.TheVariants.{Done, BadLine, BadInput, Failed, Stopped}
+use Rattle.cue_script.specs.Endings.{can_come}
 use Rattle.cue_script.specs.ScriptLines.{happening_in}
 use Rattle.cue_script.specs.Script.{printed}
 
@@ -21,14 +22,14 @@ pub record IsReady {D : Type 0} {disk : _} (engine : Engine D disk) : Type 0 whe
 -- an engine that works, after this happened in a state: it owes what is sent then
 pub record IsAfter {D : Type 0} {disk : _} (s : ShowState) (h : Happening) (engine : Engine D disk) : Type 0 where
   pub works : is_broken (keeper_of engine) ≡ false
-  pub is : state_of engine ≡ folded s (given_at s h).batch
+  pub is : state_of engine ≡ after_events s (given_at s h).batch
   pub owes : queue_of engine ≡ datagrams (given_at s h).sends
 
 -- A line told of what happened, the state is the one after it, and what is sent then was written.
 pub record Goes (line : List ℕ) (s t : ShowState) (old new : Option (List ℕ)) : Type 0 where
   pub happening : Happening
   pub tells : happening_in line ≡ Some happening
-  pub is : t ≡ folded s (given_at s happening).batch
+  pub is : t ≡ after_events s (given_at s happening).batch
   pub wrote : Appends old new (printed (datagrams (given_at s happening).sends))
 
 -- what happened cannot be carried out, or its output not be written, and that ends the script; nothing is said of the output where a call of the writer failed
@@ -36,7 +37,7 @@ abbrev pub EndsUnheard : Ending → (old new : Option (List ℕ)) → Type 0
 EndsUnheard Done old new = ⊥
 EndsUnheard BadLine old new = ⊥
 EndsUnheard BadInput old new = ⊥
-EndsUnheard (Failed failure) old new = new ≡ old
+EndsUnheard (Failed failure) old new = (can_come failure ≡ true) × (new ≡ old)
 EndsUnheard (Stopped failure) old new = Unit {0}
 
 -- a line ends the script, and nothing was written for it; nothing is said of the output where a call of the writer failed
@@ -44,5 +45,5 @@ abbrev pub EndsAt : Ending → List ℕ → (old new : Option (List ℕ)) → Ty
 EndsAt Done line old new = ⊥
 EndsAt BadLine line old new = (happening_in line ≡ None) × (new ≡ old)
 EndsAt BadInput line old new = ⊥
-EndsAt (Failed failure) line old new = new ≡ old
+EndsAt (Failed failure) line old new = (can_come failure ≡ true) × (new ≡ old)
 EndsAt (Stopped failure) line old new = Unit {0}

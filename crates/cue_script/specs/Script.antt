@@ -1,5 +1,5 @@
 -- A script: what is written for what happens in it, and how it ends.
-use Rattle.std.specs.Prelude.{◌≡◌, ℕ, ◌≤◌, ◌<◌, List, [], ◌∷◌, ◌++◌, length, map, codes, decimal, Option, Some, None}
+use Rattle.std.specs.Prelude.{◌≡◌, ℕ, ◌≤◌, ◌<◌, true, List, [], ◌∷◌, ◌++◌, length, map, codes, decimal, Option, Some, None}
 use Rattle.std.specs.Io.KnownBytes.{Appends}
 use Rattle.std.specs.List.{flat_map}
 use Rattle.hex.specs.Hex.{encode_lower}
@@ -9,7 +9,7 @@ use Rattle.cue_engine.specs.Runs.{Happening, run}
 use Rattle.cue_script.specs.declared.entry.TheConstants.{SCRIPT_LIMIT}
 use Rattle.cue_script.specs.declared.ending.Ending.{Ending}
 use Rattle.cue_script.specs.declared.ending.Ending.TheVariants.{Done, BadLine, BadInput, Failed, Stopped}
-use Rattle.cue_script.specs.Endings.{status_of, ending_line}
+use Rattle.cue_script.specs.Endings.{can_come, status_of, ending_line}
 use Rattle.cue_script.specs.ScriptLines.{lines_of, happening_in}
 
 -- a datagram that is sent, as a line `> PORT HEX` in lower case
@@ -44,7 +44,7 @@ abbrev pub Wrote : Ending → ShowState → List ℕ → List ℕ → Option (Li
 Wrote Done first text last old new = Ran first text [] last old new
 Wrote BadLine first text last old new = RanToBadLine first text last old new
 Wrote BadInput first text last old new = (SCRIPT_LIMIT < length text) × Appends old new last
-Wrote (Failed failure) first text last old new = (left : List (List ℕ)) × Ran first text left last old new
+Wrote (Failed failure) first text last old new = (can_come failure ≡ true) × ((left : List (List ℕ)) × Ran first text left last old new)
 Wrote (Stopped failure) first text last old new = Unit {0}
 
 -- A script was run from this state on, and ended with this status.

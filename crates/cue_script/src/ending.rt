@@ -1,6 +1,15 @@
 //! How a script ends.
 ghost use Rattle.std.specs.Prelude.{◌≡◌};
-ghost use Rattle.cue_script.specs.Endings.{ending_line, failure_line, failure_of, failure_status, status_of, store_line, store_status};
+ghost use Rattle.cue_script.specs.Endings.{
+  ending_line,
+  failure_by,
+  failure_line,
+  failure_of,
+  failure_status,
+  status_of,
+  store_line,
+  store_status,
+};
 
 use cue_keeper::{Fault, StoreFault};
 use std::io::{self, ErrorKind};
@@ -50,6 +59,8 @@ impl StreamFailure {
 }
 
 impl From<Fault> for Failure {
+    ghost from_gives = { λ fault failure. failure ≡ failure_by fault };
+
     fn from(fault: Fault) -> Failure {
         match fault {
             Fault::Broken => Failure::Broken,

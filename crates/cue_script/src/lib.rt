@@ -8,8 +8,6 @@ mod line;
 mod play;
 mod print;
 mod stream;
-#[cfg(test)]
-mod tests;
 
 pub use ending::{Ending, Failure, StreamFailure};
 pub use entry::{SCRIPT_LIMIT, script};

@@ -1,6 +1,7 @@
 // The lines of a script, and what each tells of.
 ghost use Rattle.std.specs.Prelude.{◌≡◌, ℕ, ◌<◌, ◌≤◌, ◌^◌, ◌∷◌, length, IfOk, IfSome};
 ghost use Rattle.std.specs.Option.{option_map};
+ghost use Rattle.cue_script.specs.Endings.{is_want_of_memory};
 ghost use Rattle.cue_script.specs.ScriptLines.{lines_of, cut_at, number_in, heading_in, arrival_in, tick_in, happening_in};
 ghost use Rattle.cue_script.specs.ScriptViews.{cut_view, heading_view, arrival_view, line_view};
 
@@ -89,6 +90,18 @@ fn port_in(digits: &[u8]) -> Option<u16>
     }
 }
 
+// Whether digits were not decoded for want of memory, and not for their form.
+fn is_want_of_memory(error: FromHexError) -> bool
+    ensures { result ≡ is_want_of_memory error }
+{
+    match error {
+        FromHexError::OutOfMemory => true,
+        FromHexError::InvalidHexCharacter { .. }
+        | FromHexError::OddLength
+        | FromHexError::InvalidStringLength => false,
+    }
+}
+
 #[tactic(auto, unfolding(crate::specs::ScriptLines::arrival_in))]
 fn read_arrival(alloc: Global, line: &[u8]) -> Result<Option<Arrival>, AllocError>
     ensures { IfOk result (λ found. option_map arrival_view found ≡ arrival_in line.now) }
@@ -98,7 +111,7 @@ fn read_arrival(alloc: Global, line: &[u8]) -> Result<Option<Arrival>, AllocErro
     };
     match hex::decode(alloc, digits) {
         Ok(bytes) => Ok(Some(Arrival { now, from, bytes })),
-        Err(FromHexError::OutOfMemory) => Err(AllocError),
+        Err(error) if is_want_of_memory(error) => Err(AllocError),
         Err(_) => Ok(None),
     }
 }

@@ -1,7 +1,7 @@
 //! Running a script line by line.
-ghost use Rattle.std.specs.Prelude.{◌≡◌, ◌≤◌, [], length, false, IfOk, IfErr, OnOk};
+ghost use Rattle.std.specs.Prelude.{◌≡◌, ◌≤◌, [], length, false, true, IfOk, IfErr, OnOk};
 ghost use Rattle.std.specs.Io.KnownBytes.{Appends};
-ghost use Rattle.cue_core.specs.Steps.{folded};
+ghost use Rattle.cue_core.specs.Steps.{after_events};
 ghost use Rattle.cue_outbox.specs.Sending.{datagrams};
 ghost use Rattle.cue_engine.specs.Inputs.{input_view};
 ghost use Rattle.cue_engine.specs.Runs.{took, recovered, given_at};
@@ -9,6 +9,7 @@ ghost use Rattle.cue_engine.specs.Words.{state_of, queue_of, keeper_of};
 ghost use Rattle.cue_disk.specs.Memory.{memory_bytes};
 ghost use Rattle.cue_keeper.specs.Stands.{Stands};
 ghost use Rattle.cue_keeper.specs.Observed.{is_broken};
+ghost use Rattle.cue_script.specs.Endings.{can_come};
 ghost use Rattle.cue_script.specs.ScriptViews.{line_view};
 ghost use Rattle.cue_script.specs.Playing.{IsReady, IsAfter, Goes, EndsAt, EndsUnheard};
 ghost use Rattle.cue_script.specs.Script.{printed, Wrote};
@@ -26,13 +27,13 @@ use std::alloc::{AllocError, Global};
 use std::io::Write;
 
 // Drops an engine. It stands apart, since what is dropped fills the goals of the function around it.
-fn let_go(_engine: Engine<MemDisk>) {}
+fn discard(_engine: Engine<MemDisk>) {}
 
 // Drops the engine of a line that is not carried out.
 fn refused(engine: Engine<MemDisk>, failure: Failure) -> Result<Engine<MemDisk>, Failure>
     ensures { result ≡ Err failure }
 {
-    let_go(engine);
+    discard(engine);
     Err(failure)
 }
 
@@ -40,7 +41,7 @@ fn refused(engine: Engine<MemDisk>, failure: Failure) -> Result<Engine<MemDisk>,
 fn stopped(engine: Engine<MemDisk>, ending: Ending) -> Result<Engine<MemDisk>, Ending>
     ensures { result ≡ Err ending }
 {
-    let_go(engine);
+    discard(engine);
     Err(ending)
 }
 
@@ -51,7 +52,8 @@ fn taken(
     input: Input<'_>,
 ) -> Result<Engine<MemDisk>, Failure>
     requires { IsReady engine }
-    ensures { IfOk result (λ next. IsAfter (state_of engine) (took now (input_view input.entry)) next) }
+    ensures after { IfOk result (λ next. IsAfter (state_of engine) (took now (input_view input.entry)) next) }
+    ensures failure { IfErr result (λ failure. can_come failure ≡ true) }
 {
     match engine.take(now, input) {
         Ok(_) => Ok(engine),
@@ -73,7 +75,8 @@ fn crashed(engine: Engine<MemDisk>) -> Result<(MemDisk, MemDisk), AllocError>
 // Loses power, and recovers from what that leaves.
 fn recovered(alloc: Global, engine: Engine<MemDisk>) -> Result<Engine<MemDisk>, Failure>
     requires { IsReady engine }
-    ensures { IfOk result (λ next. IsAfter (state_of engine) recovered next) }
+    ensures after { IfOk result (λ next. IsAfter (state_of engine) recovered next) }
+    ensures failure { IfErr result (λ failure. can_come failure ≡ true) }
 {
     match crashed(engine) {
         Ok((first, second)) => match Engine::recover(alloc, first, second) {
@@ -91,7 +94,8 @@ fn carry_out(
     line: &ScriptLine,
 ) -> Result<Engine<MemDisk>, Failure>
     requires { IsReady engine }
-    ensures { IfOk result (λ next. IsAfter (state_of engine) (line_view line.now) next) }
+    ensures after { IfOk result (λ next. IsAfter (state_of engine) (line_view line.now) next) }
+    ensures failure { IfErr result (λ failure. can_come failure ≡ true) }
 {
     match line {
         ScriptLine::Datagram(arrival) => {
@@ -154,7 +158,7 @@ fn run_line<W: Write>(
 ) -> Result<Engine<MemDisk>, Ending>
     requires { IsReady engine }
     ensures ready { IfOk result (λ next. IsReady next) }
-    ensures state { IfOk result (λ next. state_of next ≡ folded (state_of engine) (given_at (state_of engine) (line_view line.now)).batch) }
+    ensures state { IfOk result (λ next. state_of next ≡ after_events (state_of engine) (given_at (state_of engine) (line_view line.now)).batch) }
     ensures wrote { OnOk result (Appends (W.contents writer.old) (W.contents writer.new) (printed (datagrams (given_at (state_of engine) (line_view line.now)).sends))) }
     ensures ends { IfErr result (λ ending. EndsUnheard ending (W.contents writer.old) (W.contents writer.new)) }
     ensures no_failure { OnOk result (streams.new ≡ streams.old) }
@@ -213,6 +217,6 @@ pub fn play_lines<W: Write>(
             Err(ending) => return ending,
         }
     }
-    let_go(engine);
+    discard(engine);
     Ending::Done
 }

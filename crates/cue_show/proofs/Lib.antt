@@ -8,4 +8,5 @@ pub mod RunsLemmas
 pub mod SeenLemmas
 pub mod ShowLemmas
 pub mod TableLemmas
+pub mod TestLemmas
 pub mod TextLemmas

@@ -9,19 +9,7 @@ use Rattle.std.proofs.lemmas.List.Folds.{list_all-append, list_any-append}
 use Rattle.std.proofs.lemmas.Map.Made.{is_some-lookup}
 use Rattle.indexmap.specs.IndexMap.{insert_entry}
 use Rattle.cue_show.specs.Distinct.{are_distinct}
-
--- neither of two tests joined by "or" passes
-pub or_parts : (x y : Bool) → (x || y) ≡ false → (x ≡ false) × (y ≡ false)
-or_parts true y h = absurd (true≢false h)
-or_parts false y h = (refl, h)
-
-pub or_right : (x y : Bool) → y ≡ true → (x || y) ≡ true
-or_right true y h = refl
-or_right false y h = h
-
-pub or_left : (x y : Bool) → x ≡ true → (x || y) ≡ true
-or_left true y h = refl
-or_left false y h = absurd (true≢false (sym h))
+pub use Rattle.cue_show.proofs.TestLemmas.{neither, or_left, or_right}
 
 module _ {X : Type 0} where
   -- what follows from passing one test, of an element that does not pass another
@@ -30,7 +18,7 @@ module _ {X : Type 0} where
   list_all-from p none q step [] all lacks = refl
   list_all-from p none q step (x ∷ xs) all lacks =
       let here = and_parts (p x) (list_all p xs) all in
-      let apart = or_parts (none x) (list_any none xs) lacks in
+      let apart = neither (none x) (list_any none xs) lacks in
       and_from (q x) (list_all q xs) (step x here.0 apart.0) (list_all-from p none q step xs here.1 apart.1)
 
   -- what follows from passing a test
@@ -53,7 +41,7 @@ module _ {X : Type 0} where
     are_distinct-push [] x all none = refl
     are_distinct-push (y ∷ ys) x all none =
         let here = and_parts (not (list_any (λ z. same z y) ys)) (are_distinct same ys) all in
-        let apart = or_parts (same x y) (list_any (same x) ys) none in
+        let apart = neither (same x y) (list_any (same x) ys) none in
         and_from (not (list_any (λ z. same z y) (ys ++ x ∷ []))) (are_distinct same (ys ++ x ∷ []))
         (ap not (list_any-push (λ z. same z y) ys x (not-true (list_any (λ z. same z y) ys) here.0) apart.0))
         (are_distinct-push ys x here.1 apart.1)
@@ -73,7 +61,7 @@ module _ {X : Type 0} where
 
     apart : IsEquivalence same → (x : X) (xs : List X) → list_any (λ y. same y x) xs ≡ false → AllByRecursion (λ y. same x y ≡ false) xs
     apart laws x [] none = tt
-    apart laws x (y ∷ ys) none = let here = or_parts (same y x) (list_any (λ z. same z x) ys) none in (laws.symm x y ∙ here.0, apart laws x ys here.1)
+    apart laws x (y ∷ ys) none = let here = neither (same y x) (list_any (λ z. same z x) ys) none in (laws.symm x y ∙ here.0, apart laws x ys here.1)
 
     -- as std says it
     pub IsDistinct-from_are_distinct : IsEquivalence same → (xs : List X) → are_distinct same xs ≡ true → IsDistinct same xs
@@ -147,7 +135,7 @@ module _ {K V : Type 0} where
 
     pub list_any-remove_entry : (p : K → Bool) (es : List (K × V)) → list_any p (keys_of es) ≡ false → list_any p (keys_of (remove_entry test es)) ≡ false
     list_any-remove_entry p [] none = refl
-    list_any-remove_entry p (e ∷ es) none = let apart = or_parts (p e.0) (list_any p (keys_of es)) none in by (test e.0) refl apart.0 apart.1 (list_any-remove_entry p es apart.1)
+    list_any-remove_entry p (e ∷ es) none = let apart = neither (p e.0) (list_any p (keys_of es)) none in by (test e.0) refl apart.0 apart.1 (list_any-remove_entry p es apart.1)
       where
         by : (b : Bool) → test e.0 ≡ b → p e.0 ≡ false → list_any p (keys_of es) ≡ false → list_any p (keys_of (remove_entry test es)) ≡ false
             → list_any p (keys_of (remove_entry test (e ∷ es))) ≡ false

@@ -9,13 +9,13 @@ use Rattle.cue_show.specs.Laws.{StandsBehind, FollowingStandsBehind, RemovalsKee
 use Rattle.cue_show.specs.Number.{same_text}
 use Rattle.cue_show.specs.Show.{Cues, first_cue, cue_behind, following}
 use Rattle.cue_show.specs.declared.part.Part.{Part}
-use Rattle.cue_show.proofs.ListLemmas.{or_parts}
+use Rattle.cue_show.proofs.ListLemmas.{neither}
 use Rattle.cue_show.proofs.ShowLemmas.{show_rules, stack_parts}
 use Rattle.cue_show.proofs.TableLemmas.{table_parts}
 use Rattle.cue_show.proofs.TextLemmas.{same_text_equiv, same_text-true, same_text-itself}
 
-same_number : (a f : List ℕ) → ◌≡◌ {A = Option (List ℕ)} (Some a) (Some f) → a ≡ f
-same_number a f h = cc
+same_place : (a f : List ℕ) → ◌≡◌ {A = Option (List ℕ)} (Some a) (Some f) → a ≡ f
+same_place a f h = cc
 
 no_number : {P : Type 0} (f : List ℕ) → ◌≡◌ {A = Option (List ℕ)} None (Some f) → P
 no_number f h = cc
@@ -27,7 +27,7 @@ found_behind c f (e ∷ es) found = by (same_text c e.0) refl found (found_behin
   where
     first : (gs : Cues) → c ≡ e.0 → first_cue gs ≡ Some f → StandsBehind (e ∷ gs) c f
     first [] same h = no_number f h
-    first (g ∷ gs) same h = ([], gs, e.1, g.1, λ i. (sym same i, e.1) ∷ (same_number g.0 f h i, g.1) ∷ gs)
+    first (g ∷ gs) same h = ([], gs, e.1, g.1, λ i. (sym same i, e.1) ∷ (same_place g.0 f h i, g.1) ∷ gs)
 
     by : (b : Bool) → same_text c e.0 ≡ b → cue_behind c (e ∷ es) ≡ Some f → (cue_behind c es ≡ Some f → StandsBehind es c f) → StandsBehind (e ∷ es) c f
     by true same h later = first es (same_text-true c e.0 same) (sym (ap (λ b. if b then first_cue es else cue_behind c es) same) ∙ h)
@@ -37,8 +37,8 @@ found_behind c f (e ∷ es) found = by (same_text c e.0) refl found (found_behin
 
 -- a test that no key passes fails at each key
 fails_at : (test : List ℕ → Bool) (before : Cues) (c : List ℕ) (parts : List Part) (after : Cues) → list_any test (keys_of (before ++ (c, parts) ∷ after)) ≡ false → test c ≡ false
-fails_at test [] c parts after none = (or_parts (test c) (list_any test (keys_of after)) none).0
-fails_at test (b ∷ bs) c parts after none = fails_at test bs c parts after (or_parts (test b.0) (list_any test (keys_of (bs ++ (c, parts) ∷ after))) none).1
+fails_at test [] c parts after none = (neither (test c) (list_any test (keys_of after)) none).0
+fails_at test (b ∷ bs) c parts after none = fails_at test bs c parts after (neither (test b.0) (list_any test (keys_of (bs ++ (c, parts) ∷ after))) none).1
 
 -- and what stands behind a cue is found there, since no cue stands twice
 behind_found : (c f : List ℕ) (parts others : List Part) (before after : Cues) → are_distinct same_text (keys_of (before ++ (c, parts) ∷ (f, others) ∷ after)) ≡ true
@@ -63,7 +63,7 @@ module _ {K V : Type 0} (same : K → K → Bool) where
   filter-none : (k : K) (es : List (K × V)) → list_any (same k) (keys_of es) ≡ false → filter (λ e. not (same k e.0)) es ≡ es
   filter-none k [] none = refl
   filter-none k (e ∷ es) none =
-      let apart = or_parts (same k e.0) (list_any (same k) (keys_of es)) none in
+      let apart = neither (same k e.0) (list_any (same k) (keys_of es)) none in
       rw (apart.0) (ap (λ fs. e ∷ fs) (filter-none k es apart.1))
 
   -- with distinct keys, to take the first entry of a key out is to keep the others

@@ -5,7 +5,7 @@ use Rattle.std.specs.List.{list_any}
 use Rattle.std.proofs.lemmas.Bool.{eq-eqb, ne_eqb, cases_eq}
 use Rattle.std.proofs.lemmas.List.{map-append, take-append-drop, take_more}
 use Rattle.std.proofs.lemmas.List.Folds.{list_any-append}
-use Rattle.cue_show.specs.declared.limits.TheConstants.{LAST_DEVICE, MAX_DEVICES}
+use Rattle.cue_show.specs.declared.limits.TheConstants.{MAX_DEVICE_NUMBER, MAX_DEVICES}
 use Rattle.cue_show.specs.Devices.{is_among, distinct, devices_in}
 use Rattle.cue_show.specs.declared.part.Part.{Part}
 use Rattle.cue_show.proofs.ListLemmas.{or_right, are_distinct-push, are_distinct-twice}
@@ -63,14 +63,14 @@ devices_in-next parts i p within here =
 
 -- the next part goes on with the marks
 pub IsSeen-next : (seen : List Bool) (parts : List Part) (i : ℕ) (p : Part) (d : ℕ) → IsSeen seen (devices_in (take i parts)) → i < length parts → p ≡ get_or parts i p
-    → d ≡ p.device → d ≤ LAST_DEVICE → get_or seen d false ≡ false → IsSeen (set seen d true) (devices_in (take (i + 1) parts))
+    → d ≡ p.device → d ≤ MAX_DEVICE_NUMBER → get_or seen d false ≡ false → IsSeen (set seen d true) (devices_in (take (i + 1) parts))
 IsSeen-next seen parts i p d s within here number in_range new =
     let next = devices_in-next parts i p within here ∙ ap (λ e. devices_in (take i parts) ++ e ∷ []) (sym number) in
     subst (IsSeen (set seen d true)) (sym next) (IsSeen-push seen (devices_in (take i parts)) d s (omega arith) new)
 
 -- a device that is marked stands twice
 pub distinct-marked : (seen : List Bool) (parts : List Part) (i : ℕ) (p : Part) (d : ℕ) → IsSeen seen (devices_in (take i parts)) → i < length parts → p ≡ get_or parts i p
-    → d ≡ p.device → d ≤ LAST_DEVICE → get_or seen d false ≡ true → distinct (devices_in parts) ≡ false
+    → d ≡ p.device → d ≤ MAX_DEVICE_NUMBER → get_or seen d false ≡ true → distinct (devices_in parts) ≡ false
 distinct-marked seen parts i p d s within here number in_range marked =
     let halves : parts ≡ take i parts ++ p ∷ drop (suc i) parts =
     sym (take-append-drop i parts) ∙ ap (λ rest. take i parts ++ rest) (drop-cons parts i p within ∙ ap (λ q. q ∷ drop (suc i) parts) (sym here)) in

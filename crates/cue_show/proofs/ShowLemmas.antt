@@ -18,7 +18,7 @@ use Rattle.cue_show.specs.Parts.{are_parts, uses}
 use Rattle.cue_show.specs.Show.{Cues, ShowLists, parts_of, has_device, has_cue, is_used, are_known, is_full, first_cue, cue_behind, following, is_place, is_place_of, is_table, is_cue_of, is_stack_of, is_show, can_add_device, can_remove_device, can_add_cue, with_device, without_device, with_cue, without_cue, with_place}
 use Rattle.cue_show.specs.declared.limits.TheConstants.{MAX_CUES}
 use Rattle.cue_show.specs.declared.part.Part.{Part}
-use Rattle.cue_show.proofs.ListLemmas.{or_parts, list_all-from, list_all-weaken, list_all-push, are_distinct-push, IsDistinct-from_are_distinct, is_some-lookup-push, insert_entry-absent, length-remove_entry-le, list_all-remove_entry, are_distinct-remove_entry}
+use Rattle.cue_show.proofs.ListLemmas.{neither, list_all-from, list_all-weaken, list_all-push, are_distinct-push, IsDistinct-from_are_distinct, is_some-lookup-push, insert_entry-absent, length-remove_entry-le, list_all-remove_entry, are_distinct-remove_entry}
 use Rattle.cue_show.proofs.TableLemmas.{table_parts, is_table-from, Table-push, Table-remove}
 use Rattle.cue_show.proofs.TextLemmas.{same_text_equiv, same_text-itself}
 
@@ -104,7 +104,7 @@ each_without : (s : ShowLists) (d : ℕ) → are_distinct nat_eq (keys_of s.devi
     → list_all (is_cue_of s) cues ≡ true → list_all (is_cue_of (without_device s d)) cues ≡ true
 each_without s d distinct [] unused each = refl
 each_without s d distinct (e ∷ es) unused each =
-    let apart = or_parts (uses d e.1) (list_any (uses d) (values_of es)) unused in
+    let apart = neither (uses d e.1) (list_any (uses d) (values_of es)) unused in
     let here = and_parts (is_cue_of s e) (list_all (is_cue_of s) es) each in
     and_from (is_cue_of (without_device s d) e) (list_all (is_cue_of (without_device s d)) es)
     (is_cue_of-known s (without_device s d) e here.0 (are_known-without s d distinct e.1 apart.0))

@@ -7,7 +7,7 @@ use Rattle.std.proofs.lemmas.Bool.{and_parts, and_from, or_cases, eqb-true, leb-
 use Rattle.std.proofs.lemmas.List.{map-append, length-map}
 use Rattle.std.proofs.lemmas.Map.Steps.{length-le_from_distinct_below}
 use Rattle.cue_show.specs.DeviceNumber.{is_device, is_port}
-use Rattle.cue_show.specs.declared.limits.TheConstants.{LAST_DEVICE, MAX_DEVICES}
+use Rattle.cue_show.specs.declared.limits.TheConstants.{MAX_DEVICE_NUMBER, MAX_DEVICES}
 use Rattle.cue_show.specs.Devices.{distinct}
 use Rattle.cue_show.specs.Show.{is_entry, is_table}
 use Rattle.cue_show.proofs.ListLemmas.{list_all-push, are_distinct-push, IsDistinct-from_are_distinct, list_all-remove_entry, are_distinct-remove_entry}
@@ -29,10 +29,10 @@ numbers_below : (devices : List (ℕ × ℕ)) → list_all is_entry devices ≡ 
 numbers_below [] all d among = absurd (true≢false (sym among))
 numbers_below (e ∷ es) all d among =
     let here = and_parts (is_entry e) (list_all is_entry es) all in
-    let in_range = leb-true e.0 LAST_DEVICE (and_parts (is_device e.0) (is_port e.1) here.0).0 in
+    let in_range = leb-true e.0 MAX_DEVICE_NUMBER (and_parts (is_device e.0) (is_port e.1) here.0).0 in
     by (or_cases (eqb d e.0) (list_any (eqb d) (keys_of es)) among) in_range (numbers_below es here.1 d)
   where
-    by : (eqb d e.0 ≡ true) ⊎ (list_any (eqb d) (keys_of es) ≡ true) → e.0 ≤ LAST_DEVICE → (list_any (eqb d) (keys_of es) ≡ true → d < MAX_DEVICES) → d < MAX_DEVICES
+    by : (eqb d e.0 ≡ true) ⊎ (list_any (eqb d) (keys_of es) ≡ true) → e.0 ≤ MAX_DEVICE_NUMBER → (list_any (eqb d) (keys_of es) ≡ true → d < MAX_DEVICES) → d < MAX_DEVICES
     by (inl same) in_range later = omega (arith, eqb-true d e.0 same)
     by (inr among) in_range later = later among
 

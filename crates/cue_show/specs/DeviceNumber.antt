@@ -1,14 +1,14 @@
 -- Which device numbers and ports there are.
 use Rattle.std.specs.Prelude.{ℕ, ℤ, pos, negsuc, Bool, ◌&&◌, if◌then◌else◌, Option, None, Some, nat_le}
-use Rattle.cue_show.specs.declared.limits.TheConstants.{LAST_DEVICE, LAST_PORT}
+use Rattle.cue_show.specs.declared.limits.TheConstants.{MAX_DEVICE_NUMBER, MAX_PORT}
 
 -- a device number is 0 to 111
 abbrev pub is_device : ℕ → Bool
-is_device d = nat_le d LAST_DEVICE
+is_device d = nat_le d MAX_DEVICE_NUMBER
 
 -- a port is 1 to 65,535
 abbrev pub is_port : ℕ → Bool
-is_port port = nat_le 1 port && nat_le port LAST_PORT
+is_port port = nat_le 1 port && nat_le port MAX_PORT
 
 -- the device of a number, where it is one
 abbrev pub device_of_byte : ℕ → Option ℕ

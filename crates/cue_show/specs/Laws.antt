@@ -8,19 +8,24 @@ use Rattle.cue_show.specs.declared.part.Part.{Part}
 
 -- one run of digits at least, with single points between them
 abbrev pub IsRunsJoinedByPoints : List ℕ → Type 0
-IsRunsJoinedByPoints text = (runs : List (List ℕ)) × (0 < length runs) × IsTrue (list_all is_run runs) × (text ≡ join_with_byte 46 runs)
+IsRunsJoinedByPoints text =
+    (runs : List (List ℕ)) × (0 < length runs) × IsTrue (list_all is_run runs) × (text ≡ join_with_byte 46 runs)
 
 -- the cue numbers are these texts of up to 16 bytes
 abbrev pub CueNumbersAreRunsJoinedByPoints : Type 0
-CueNumbersAreRunsJoinedByPoints = (text : List ℕ) → IsTrue (is_cue_number text) ↔ ((length text ≤ MAX_CUE_BYTES) × IsRunsJoinedByPoints text)
+CueNumbersAreRunsJoinedByPoints =
+    (text : List ℕ) → IsTrue (is_cue_number text) ↔ ((length text ≤ MAX_CUE_BYTES) × IsRunsJoinedByPoints text)
 
 -- the cue f stands directly behind the cue c
 abbrev pub StandsBehind : Cues → List ℕ → List ℕ → Type 0
-StandsBehind cues c f = (before : Cues) × (after : Cues) × (parts : List Part) × (others : List Part) × (cues ≡ before ++ (c, parts) ∷ (f, others) ∷ after)
+StandsBehind cues c f =
+    (before : Cues) × (after : Cues) × (parts : List Part) × (others : List Part)
+    × (cues ≡ before ++ (c, parts) ∷ (f, others) ∷ after)
 
 -- the cue that follows is the one directly behind
 abbrev pub FollowingStandsBehind : Type 0
-FollowingStandsBehind = (s : ShowLists) (c f : List ℕ) → IsTrue (is_show s) → (following s c ≡ Some f) ↔ StandsBehind s.cues c f
+FollowingStandsBehind =
+    (s : ShowLists) (c f : List ℕ) → IsTrue (is_show s) → (following s c ≡ Some f) ↔ StandsBehind s.cues c f
 
 -- a removal leaves the others, in their order
 abbrev pub RemovalsKeepTheOrder : Type 0

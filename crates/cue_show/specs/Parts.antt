@@ -25,7 +25,9 @@ has_required_part parts = list_any is_required_part parts
 
 -- a cue has up to 16 parts of distinct devices, and one of them at least is required
 abbrev pub are_parts : List Part → Bool
-are_parts parts = has_required_part parts && (nat_le (length parts) MAX_PARTS && (distinct (devices_in parts) && list_all is_part parts))
+are_parts parts =
+    has_required_part parts && (nat_le (length parts) MAX_PARTS
+    && (distinct (devices_in parts) && list_all is_part parts))
 
 -- one of the parts is for the device
 abbrev pub uses : ℕ → List Part → Bool
@@ -41,4 +43,6 @@ same_parts = pointwise same_part
 
 -- which is an equivalence
 pub same_parts_equiv : IsEquivalence same_parts
-same_parts_equiv = lists_equiv (and_equiv (on_equiv (λ p. p.device) nat_eq_equiv) (and_equiv (on_equiv (λ p. p.optional) bool_eq_equiv) (on_equiv (λ p. p.bytes) nat_list_eq_equiv)))
+same_parts_equiv =
+    lists_equiv (and_equiv (on_equiv (λ p. p.device) nat_eq_equiv)
+    (and_equiv (on_equiv (λ p. p.optional) bool_eq_equiv) (on_equiv (λ p. p.bytes) nat_list_eq_equiv)))

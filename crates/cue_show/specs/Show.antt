@@ -91,7 +91,8 @@ is_cue_of s e = is_cue_number e.0 && (are_parts e.1 && are_known s e.1)
 
 -- the stack has at most 1,024 distinct cues
 abbrev pub is_stack_of : ShowLists → Cues → Bool
-is_stack_of s cues = nat_le (length cues) MAX_CUES && (are_distinct same_text (keys_of cues) && list_all (is_cue_of s) cues)
+is_stack_of s cues =
+    nat_le (length cues) MAX_CUES && (are_distinct same_text (keys_of cues) && list_all (is_cue_of s) cues)
 
 -- what each show keeps to
 abbrev pub is_show : ShowLists → Bool
@@ -124,7 +125,11 @@ with_cue s c parts = record s { cues = s.cues ++ (c, parts) ∷ [] }
 
 -- the others keep their order, and a place at c becomes the cue that followed it
 abbrev pub without_cue : ShowLists → List ℕ → ShowLists
-without_cue s c = record s { cues = remove_entry (same_text c) s.cues; place = if is_place c s.place then following s c else s.place }
+without_cue s c =
+    record s {
+      cues = remove_entry (same_text c) s.cues;
+      place = if is_place c s.place then following s c else s.place;
+    }
 
 abbrev pub with_place : ShowLists → Option (List ℕ) → ShowLists
 with_place s place = record s { place = place }

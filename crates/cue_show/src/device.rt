@@ -2,7 +2,7 @@
 ghost use Rattle.std.specs.Prelude.{◌≡◌, ◌≤◌, IsTrue, pos};
 ghost use Rattle.cue_show.specs.DeviceNumber.{device_of, device_of_byte};
 
-use crate::limits::LAST_DEVICE;
+use crate::limits::MAX_DEVICE_NUMBER;
 use std::marker::Model;
 
 /// The number of a device, 0 to 111.
@@ -13,13 +13,13 @@ pub struct DeviceNo {
 
 impl Model for DeviceNo {
     ghost use Rattle.std.specs.Prelude.{ℕ, ◌≤◌};
-    ghost use Rattle.cue_show.specs.declared.limits.TheConstants.{LAST_DEVICE};
+    ghost use Rattle.cue_show.specs.declared.limits.TheConstants.{MAX_DEVICE_NUMBER};
 
     ghost Value = { ℕ };
 
     ghost view = { λ d. d.number };
 
-    ghost invariant = { λ d. d.number ≤ LAST_DEVICE };
+    ghost invariant = { λ d. d.number ≤ MAX_DEVICE_NUMBER };
 
     ghost inverse = { λ n. record { number = n } };
 }
@@ -39,7 +39,7 @@ impl DeviceNo {
     pub fn of_byte(number: u8) -> Option<DeviceNo>
         ensures { result ≡ device_of_byte number }
     {
-        if number <= LAST_DEVICE {
+        if number <= MAX_DEVICE_NUMBER {
             Some(DeviceNo { number })
         } else {
             None
@@ -49,7 +49,7 @@ impl DeviceNo {
     /// The number.
     pub fn number(self) -> u8
         ensures value { result ≡ self }
-        ensures range { result ≤ LAST_DEVICE }
+        ensures range { result ≤ MAX_DEVICE_NUMBER }
     {
         self.number
     }

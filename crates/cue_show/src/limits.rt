@@ -1,13 +1,13 @@
 //! The limits of a show, each stated once: the code and the definitions both read them here.
 
 /// The highest device number; the lowest is 0.
-pub const LAST_DEVICE: u8 = 111;
+pub const MAX_DEVICE_NUMBER: u8 = 111;
 
 /// How many devices a table can hold, since their numbers are distinct.
-pub const MAX_DEVICES: usize = LAST_DEVICE as usize + 1;
+pub const MAX_DEVICES: usize = MAX_DEVICE_NUMBER as usize + 1;
 
 /// The highest port of a device; the lowest is 1.
-pub const LAST_PORT: u16 = 65535;
+pub const MAX_PORT: u16 = 65535;
 
 /// The most bytes of a cue number.
 pub const MAX_CUE_BYTES: usize = 16;

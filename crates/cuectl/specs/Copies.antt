@@ -18,4 +18,11 @@ is_read_again store.Disk = false
 -- a disk in memory fails for want of memory alone
 abbrev pub fault_in_memory : StoreFault → StoreFault
 fault_in_memory store.Disk = store.Memory
-fault_in_memory fault = fault
+fault_in_memory store.NotEmpty = store.NotEmpty
+fault_in_memory store.Unformed = store.Unformed
+fault_in_memory store.Damaged = store.Damaged
+fault_in_memory store.Version = store.Version
+fault_in_memory store.Malformed = store.Malformed
+fault_in_memory store.Full = store.Full
+fault_in_memory store.Exhausted = store.Exhausted
+fault_in_memory store.Memory = store.Memory

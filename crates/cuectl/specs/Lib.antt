@@ -2,6 +2,7 @@ pub mod Added
 pub mod Copies
 pub mod Endings
 pub mod Lines
+pub mod Locking
 pub mod Performing
 pub mod ShowText
 pub mod Unread

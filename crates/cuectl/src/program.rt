@@ -1,14 +1,16 @@
 //! The program: what each command does, prints and answers.
-ghost use Rattle.std.specs.Prelude.{◌≡◌, ◌≢◌, ◌≤◌, ◌⊎◌, [], map, string_bytes, IfErr, IfOk, IfSome, OnOk};
+ghost use Rattle.std.specs.Prelude.{◌≡◌, ◌≢◌, ◌≤◌, ◌⊎◌, [], map, string_bytes, IfErr, IfOk, IfSome, IsErrOf, OnOk};
 ghost use Rattle.std.specs.Io.KnownBytes.{Appends};
 ghost use Rattle.clap.specs.Words.{fault_of, subcommand_of};
 ghost use Rattle.cue_core.specs.State.{empty_state};
 ghost use Rattle.cuectl.specs.Lines.{AsksForText, IsHelp, IsNoCommand, cuectl_app};
+ghost use Rattle.cue_engine.specs.Words.{state_of, keeper_of};
+ghost use Rattle.cuectl.specs.Endings.{run_fault, unbound_fault};
 ghost use Rattle.cuectl.specs.Performing.{EndsSo, HasEnded, IsRunTold, IsStateTold, NamesScript, formed_text, turns_text};
 ghost use Rattle.cue_script.specs.Script.{HasRun};
 ghost use Rattle.cuectl.specs.ShowText.{show_text};
 ghost use Rattle.cuectl.specs.declared.line.words.LineFault.TheVariants.{Memory, Usage};
-ghost use Rattle.cuectl.specs.declared.program.fault.ProgramFault.TheVariants.{Io};
+ghost use Rattle.cuectl.specs.declared.program.fault.ProgramFault.TheVariants.{Io, Net};
 
 mod copies;
 pub mod fault;
@@ -24,10 +26,10 @@ use cue_core::State;
 use cue_disk::FileDisk;
 use cue_engine::Engine;
 use cue_evening::{EveningLog, LoggedWire, say_ready};
-use cue_keeper::Fault;
-use cue_run::{Ended, RunFault, UdpSource, UdpWire, local, run_watched};
+use cue_keeper::{Fault, StoreFault};
+use cue_run::{Ended, RunFault, UdpReceiver, UdpSource, UdpWire, local, run_watched};
 use cue_script::script;
-use fault::{ProgramFault, print_fault, status_of};
+use fault::{ProgramFault, print_fault, run_fault, status_of};
 use files::{create_both, open_both, refused_store, say, say_failures};
 use lock::lock_store;
 use looking::opened;
@@ -52,37 +54,43 @@ fn print<W: Write>(writer: &mut W, text: &[u8]) -> Result<(), ProgramFault>
 }
 
 // Drops an engine. It stands apart, since what is dropped fills the goals of the function around it.
-fn let_go(_engine: Engine<FileDisk>) {}
+fn discard(_engine: Engine<FileDisk>) {}
 
-// Makes an empty show on two files.
+// The engine of an empty show on two files. It is asked for where it is said that one was formed.
 fn form_on<R: Eprint>(
     rt: &R,
     alloc: Global,
     dir: &str,
     first: FileDisk,
     second: FileDisk,
-) -> Result<(), ProgramFault> {
+) -> Result<Engine<FileDisk>, ProgramFault>
+    ensures { IfOk result (λ engine. state_of engine ≡ empty_state) }
+{
     match Engine::form(alloc, first, second) {
-        Ok(engine) => {
-            let_go(engine);
-            Ok(())
-        }
+        Ok(engine) => Ok(engine),
         Err(refused) => Err(refused_store(rt, dir, refused)),
     }
 }
 
-// Makes an empty show in a folder.
+// Makes an empty show in a folder. Its engine is the witness that it was formed.
 fn form<R: Files<File = File> + Eprint, W: Write>(
     rt: &R,
     alloc: Global,
     dir: &str,
     writer: &mut W,
-) -> Result<(), ProgramFault>
-    ensures { OnOk result (Appends (W.contents writer.old) (W.contents writer.new) formed_text) }
+) -> Result<Engine<FileDisk>, ProgramFault>
+    ensures formed { IfOk result (λ engine. state_of engine ≡ empty_state) }
+    ensures printed { OnOk result (Appends (W.contents writer.old) (W.contents writer.new) formed_text) }
 {
     let (first, second) = create_both(rt, alloc, dir)?;
-    form_on(rt, alloc, dir, first, second)?;
-    print(writer, b"formed\n")
+    let engine = form_on(rt, alloc, dir, first, second)?;
+    match print(writer, b"formed\n") {
+        Ok(()) => Ok(engine),
+        Err(fault) => {
+            discard(engine);
+            Err(fault)
+        }
+    }
 }
 
 // Prints a state.
@@ -117,14 +125,16 @@ fn serve_on<'a, R: Clock + Eprint>(
 ) -> io::Result<Ended>
     ensures { IfOk result (λ ended. ended.turns ≤ turns) }
 {
-    let mut source = UdpSource::new(rt, socket, port)?;
+    let mut source = UdpSource::new(rt, UdpReceiver::new(socket)?, port)?;
     let mut wire = LoggedWire::new(alloc, UdpWire::new(socket));
     let mut log = EveningLog::new(rt, alloc);
     Ok(run_watched(alloc, engine, &mut source, &mut wire, turns, &mut log))
 }
 
 // Why the port cannot be served.
-fn refused_port<R: Eprint>(rt: &R, port: u16, why: io::Error) -> ProgramFault {
+fn refused_port<R: Eprint>(rt: &R, port: u16, why: io::Error) -> ProgramFault
+    ensures { result ≡ Net }
+{
     let _ = rt.eprintln(format_args!("cuectl: 127.0.0.1:{port}: {why}"));
     ProgramFault::Net
 }
@@ -153,17 +163,30 @@ fn print_turns<W: Write>(alloc: Global, ended: &Ended, writer: &mut W) -> Result
     print(writer, text.as_bytes())
 }
 
-// Why a run was not carried on; where a disk failed, which file, and how.
+// Says why a run was not carried on; where a disk failed, which file, and how.
+fn say_fault<R: Eprint>(rt: &R, dir: &str, engine: Engine<FileDisk>, fault: Fault) {
+    let (first, second) = engine.close();
+    say(rt, dir, fault);
+    say_failures(rt, &first, &second);
+}
+
+// Why a run was not carried on.
 fn refused_run<R: Eprint>(
     rt: &R,
     dir: &str,
     engine: Engine<FileDisk>,
-    fault: Fault,
-) -> ProgramFault {
-    let (first, second) = engine.close();
-    say(rt, dir, fault);
-    say_failures(rt, &first, &second);
-    ProgramFault::from(fault)
+    why: RunFault,
+) -> ProgramFault
+    ensures { result ≡ run_fault why }
+{
+    match why {
+        RunFault::Source => {
+            discard(engine);
+            say(rt, "127.0.0.1", "the socket or the clock failed");
+        }
+        RunFault::Engine(fault) => say_fault(rt, dir, engine, fault),
+    }
+    run_fault(why)
 }
 
 // Prints how a run ended, or says why it failed.
@@ -175,23 +198,36 @@ fn finish<R: Eprint, W: Write>(
     ended: Ended,
     writer: &mut W,
 ) -> Result<(), ProgramFault>
-    ensures { OnOk result (Appends (W.contents writer.old) (W.contents writer.new) (turns_text ended.turns ended.unsent)) }
+    ensures refused { IfSome ended.fault (λ why. IsErrOf result (run_fault why)) }
+    ensures printed { OnOk result (Appends (W.contents writer.old) (W.contents writer.new) (turns_text ended.turns ended.unsent)) }
 {
     match ended.fault {
         None => {
-            let_go(engine);
+            discard(engine);
             print_turns(alloc, &ended, writer)
         }
-        Some(RunFault::Source) => {
-            let_go(engine);
-            say(rt, "127.0.0.1", "the socket or the clock failed");
-            Err(ProgramFault::Net)
-        }
-        Some(RunFault::Engine(fault)) => Err(refused_run(rt, dir, engine, fault)),
+        Some(why) => Err(refused_run(rt, dir, engine, why)),
     }
 }
 
-// Why a folder is not served whose port cannot be had: for a fault of its store, where it has one. Nothing is written.
+// Why a folder is not served whose port cannot be had: for the fault of its store, where it has one.
+fn refused_as<R: Eprint>(
+    rt: &R,
+    dir: &str,
+    port: u16,
+    why: io::Error,
+    refusal: Option<StoreFault>,
+    disks: (FileDisk, FileDisk),
+) -> ProgramFault
+    ensures { result ≡ unbound_fault refusal }
+{
+    match refusal {
+        Some(fault) => refused_store(rt, dir, (fault, disks.0, disks.1)),
+        None => refused_port(rt, port, why),
+    }
+}
+
+// The same, where it is still to be seen what the store has. Nothing is written.
 fn refused_unbound<R: Eprint>(
     rt: &R,
     alloc: Global,
@@ -205,10 +241,7 @@ fn refused_unbound<R: Eprint>(
         Ok(copies) => copies.refusal(alloc),
         Err(fault) => Some(fault),
     };
-    match refusal {
-        Some(fault) => refused_store(rt, dir, (fault, first, second)),
-        None => refused_port(rt, port, why),
-    }
+    refused_as(rt, dir, port, why, refusal, (first, second))
 }
 
 // Binds the port, and then recovers the show of both files. Nothing is written before the port is bound.
@@ -245,7 +278,7 @@ fn serve<R: Files<File = File> + Net + Clock + Eprint, W: Write>(
     match serve_at(rt, alloc, dir, &mut engine, &socket, port, turns) {
         Ok(ended) => finish(rt, alloc, dir, engine, ended, writer),
         Err(fault) => {
-            let_go(engine);
+            discard(engine);
             Err(fault)
         }
     }
@@ -269,7 +302,10 @@ fn refused_line<R: Eprint, W: Write>(rt: &R, fault: LineFault, writer: &mut W) -
             print_fault(writer, b"! Usage\n");
             2
         }
-        LineFault::Memory => status_of(Err(ProgramFault::MEMORY), writer),
+        LineFault::Memory => {
+            let refused: Result<(), ProgramFault> = Err(ProgramFault::MEMORY);
+            status_of(refused, writer)
+        }
     }
 }
 

@@ -2,7 +2,7 @@
 use crate::program::perform;
 use cue_disk::FileDisk;
 use cue_engine::Engine;
-use cue_run::{UdpSource, UdpWire, local, run};
+use cue_run::{UdpReceiver, UdpSource, UdpWire, local, run};
 use std::fs::{self, File, Files};
 use std::io::Eprint;
 use std::net::{Net, UdpSocket};
@@ -98,7 +98,7 @@ fn take_on<R: Net + Clock + AllocGlobal + Abort>(
     let socket = UdpSocket::bind(rt, local(0))?;
     let port = socket.local_addr()?.port();
     operator.send_to(&DEVICE, local(port))?;
-    let mut source = UdpSource::new(rt, &socket, port)?;
+    let mut source = UdpSource::new(rt, UdpReceiver::new(&socket)?, port)?;
     let mut wire = UdpWire::new(&socket);
     let ended = run(rt.alloc(), engine, &mut source, &mut wire, 3);
     assert_eq!(rt; ended.turns, 3);

@@ -10,7 +10,7 @@ use crate::events::Events;
 use crate::judging::verdicts::{known, made, made_by_two, refused};
 use crate::limits::STANDBY_MS;
 use crate::state::State;
-use cue_exchange::limits::LAST_NUMBER;
+use cue_exchange::limits::MAX_NUMBER;
 use cue_exchange::{Answer, Attempt, DeviceAnswer, Reason, Stage};
 use cue_show::{CueNo, DeviceNo, Parts};
 
@@ -36,7 +36,7 @@ fn on_standby_of(state: &State, now: u64, cue: CueNo, parts: &Parts) -> (Verdict
         return refused(Code::Full);
     }
     let last = state.last_seq();
-    if last >= LAST_NUMBER {
+    if last >= MAX_NUMBER {
         return refused(Code::Exhausted);
     }
     match now.checked_add(STANDBY_MS) {

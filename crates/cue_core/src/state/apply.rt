@@ -1,6 +1,6 @@
 //! What an event makes of a state.
 ghost use Rattle.std.specs.Prelude.{◌≡◌, ◌+◌, nat_eq, IsTrue, IfOk, OnOk, OnErr};
-ghost use Rattle.cue_core.specs.Steps.{acceptable, after, are_acceptable, can_begin, ended_as, folded, place_after, AppliesFirst};
+ghost use Rattle.cue_core.specs.Steps.{acceptable, after, are_acceptable, can_begin, ended_as, after_events, place_after, AppliesFirst};
 ghost use Rattle.cue_core.specs.State.{cue_parts};
 ghost use Rattle.cue_show.specs.Show.{has_cue};
 ghost use Rattle.cue_core.specs.declared.event.Event.TheVariants as event;
@@ -44,7 +44,7 @@ impl State {
     /// no other.
     pub fn apply_all(&mut self, events: &[Event]) -> Result<(), AllocError>
         requires { IsTrue (are_acceptable self.old events.now) }
-        ensures ok { OnOk result (self.new ≡ folded self.old events.now) }
+        ensures ok { OnOk result (self.new ≡ after_events self.old events.now) }
         ensures err { OnErr result (AppliesFirst self.old events.now self.new) }
     {
         for event in events {

@@ -1,12 +1,12 @@
 // How an engine comes to be: over a store that is formed, or over one that is recovered.
 ghost use Rattle.std.specs.Prelude.{◌≡◌, ◌≤◌, ◌⊎◌, ◌↔◌, [], false, IfOk, OnOk};
 ghost use Rattle.cue_disk.specs.Disk.{LeavesAtEachMoment, IsImage, MoreFailures};
-ghost use Rattle.cue_snap.specs.Pair.{NeitherHas, SomeIsThere, IsSpoiled, AfterBarrier};
+ghost use Rattle.cue_snap.specs.Pair.{NeitherHas, SomeIsThere, IsSpoiled, IsUnformedOr, PairLeaves, AfterBarrier};
 ghost use Rattle.cue_snap.specs.Observed.{first_after, second_after, RefusedAs};
 ghost use Rattle.cue_core.specs.State.{ShowState, empty_state};
 ghost use Rattle.cue_keeper.specs.Pairs.{LeavesPairsAtEachMoment};
-ghost use Rattle.cue_keeper.specs.Stands.{Stands, StandsEither, StandsAs};
-ghost use Rattle.cue_keeper.specs.Refusals.{HasOtherVersion, StandsForNone, IsUnformedOrStands};
+ghost use Rattle.cue_keeper.specs.Stands.{Stands, StandsEither, StandsAs, first_area};
+ghost use Rattle.cue_keeper.specs.Refusals.{HasOtherVersion, StandsForNone};
 ghost use Rattle.cue_keeper.specs.Observed as kept;
 ghost use Rattle.cue_outbox.specs.Sending.{datagrams, all_pending};
 ghost use Rattle.cue_core.specs.Batches.{closed};
@@ -28,7 +28,11 @@ impl<D: Disk> Engine<D> {
         ensures state { IfOk result (λ engine. state_of engine ≡ empty_state) }
         ensures queue { IfOk result (λ engine. queue_of engine ≡ []) }
         ensures works { IfOk result (λ engine. kept.is_broken (keeper_of engine) ≡ false) }
-        ensures formed { D.is_honest first → D.is_honest second → IfOk result (λ engine. StandsAs (D.held (first_of engine)) (D.held (second_of engine)) empty_state) }
+        ensures formed { D.is_honest first → D.is_honest second
+            → IfOk result (λ engine. PairLeaves (D.held (first_of engine)) (D.held (second_of engine)) first_area) }
+        ensures numbers { IfOk result (λ engine. (kept.generation_of (keeper_of engine) ≡ 1) × (kept.count_of (keeper_of engine) ≡ 0)) }
+        ensures stands { D.is_honest first → D.is_honest second
+            → IfOk result (λ engine. StandsAs (D.held (first_of engine)) (D.held (second_of engine)) empty_state) }
 
         // It goes on only where neither disk has an area.
         ensures empty { D.is_honest first → D.is_honest second → OnOk result (NeitherHas (D.held first).bytes (D.held second).bytes) }
@@ -39,9 +43,9 @@ impl<D: Disk> Engine<D> {
         ensures disk { RefusedAs StoreFault.Disk (MoreFailures (D.failures first) (D.failures (first_after first_of result)) ⊎ MoreFailures (D.failures second) (D.failures (second_after second_of result))) result }
         ensures no_other { RefusedAs StoreFault.Unformed ⊥ result × RefusedAs StoreFault.Damaged ⊥ result × RefusedAs StoreFault.Version ⊥ result × RefusedAs StoreFault.Malformed ⊥ result × RefusedAs StoreFault.Full ⊥ result × RefusedAs StoreFault.Exhausted ⊥ result }
 
-        // Up to the barrier a stop leaves what one at entry might have left, from then on no area or the first state.
+        // Up to the barrier a stop leaves what one at entry might have left, from then on no area or the first one.
         ensures any_moment { D.is_honest first → D.is_honest second → AfterBarrier D.moment D.held_at first second (first_after first_of result) (second_after second_of result)
-            (IsUnformedOrStands empty_state (D.held first) (D.held second)) }
+            (IsUnformedOr first_area (D.held first) (D.held second)) }
         // The second disk is synced, and no more.
         ensures second_kept { D.is_honest second → LeavesAtEachMoment D.moment D.held_at second (second_after second_of result) (IsImage (D.held second)) }
         ensures second_bytes { D.is_honest second → (D.held (second_after second_of result)).bytes ≡ (D.held second).bytes }

@@ -5,10 +5,10 @@
 ghost use Rattle.std.specs.Prelude.{◌≡◌, ℕ, List, [], ◌∷◌, ◌++◌, false, IfOk, OnOk, OnErr};
 ghost use Rattle.cue_disk.specs.Disk.{Contents};
 ghost use Rattle.cue_snap.specs.Observed.{first_after, second_after, RefusedAs};
-ghost use Rattle.cue_core.specs.State.{empty_state};
-ghost use Rattle.cue_keeper.specs.Refusals.{IsUnformedOrStands};
 ghost use Rattle.cue_keeper.specs.Observed.{is_broken};
 ghost use Rattle.cue_outbox.specs.Sending.{datagrams};
+ghost use Rattle.cue_snap.specs.Pair.{IsUnformedOr};
+ghost use Rattle.cue_keeper.specs.Stands.{first_area};
 ghost use Rattle.cue_engine.specs.Words.{keeper_of, state_of, queue_of, first_of, second_of};
 ghost use Rattle.cue_engine.specs.Inputs.{input_view};
 ghost use Rattle.cue_engine.specs.Wires.{AllHanded};
@@ -53,7 +53,7 @@ pub fn form<D: Disk>(alloc: Global, first: D, second: D) -> Result<Engine<D>, (S
     ensures formed { InEachLifeBefore (D.held first) (D.held second)
         (λ s store is. IfOk result (λ engine. RunsWith s store (is ++ formed ∷ []) (state_of engine) (queue_of engine))) }
     ensures stopped { D.is_honest first → D.is_honest second → InEachLifeBefore (D.held first) (D.held second)
-        (λ s store is. LeavesAtEachStop D.moment D.held_at first second (first_after first_of result) (second_after second_of result) (IsUnformedOrStands empty_state (D.held first) (D.held second))
+        (λ s store is. LeavesAtEachStop D.moment D.held_at first second (first_after first_of result) (second_after second_of result) (IsUnformedOr first_area (D.held first) (D.held second))
         (λ one other. RestsUnformed s store (is ++ stopped_in_form one other ∷ []) one other)) }
 {
     Engine::form(alloc, first, second)

@@ -7,7 +7,8 @@ ghost use Rattle.cue_osc.specs.Reading.{Gives, element_at, elements_by, bundle_b
 use super::fields::{u32_at, u64_at};
 use super::message::message;
 use crate::fault::Fault;
-use crate::packet::{BUNDLE_HEAD, Packet};
+use crate::limits::BUNDLE_HEAD;
+use crate::packet::Packet;
 use std::alloc::Global;
 
 fn is_message_start(bytes: &[u8]) -> bool
@@ -85,7 +86,8 @@ fn bundle<'a>(alloc: Global, bytes: &'a [u8], depth: u8) -> Result<Packet<'a>, F
 #[cycle(nested)]
 #[inline(never)]
 fn elements<'a>(alloc: Global, bytes: &'a [u8], depth: u8) -> Result<Vec<Packet<'a>>, Fault>
-    ensures { Gives (λ v. contents_of (map view v.items)) result (elements_by (packet_at depth) (length bytes.now) bytes.now) }
+    ensures { Gives (λ v. contents_of (map view v.items)) result
+        (elements_by (packet_at depth) (length bytes.now) bytes.now) }
 {
     let mut items = Vec::with_capacity(alloc, likely_count(bytes))?;
     let mut rest = bytes;

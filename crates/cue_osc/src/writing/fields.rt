@@ -5,6 +5,7 @@ ghost use Rattle.std.specs.List.{flat_map, AllByRecursion};
 ghost use Rattle.cue_osc.specs.Argument.{arg_view};
 ghost use Rattle.cue_osc.specs.Spelling.{osc_string, osc_blob, argument, tag, tags, message_text};
 ghost use Rattle.cue_osc.specs.Writing.{IsArgInRange};
+ghost use Rattle.cue_osc.specs.declared.limits.TheConstants.{MAX_LEN};
 
 use crate::packet::{Arg, Message};
 use std::alloc::AllocError;
@@ -38,7 +39,7 @@ fn put_blob(out: &mut Vec<u8>, content: &[u8]) -> Result<(), AllocError>
 }
 
 fn put_arg(out: &mut Vec<u8>, arg: &Arg<'_>) -> Result<(), AllocError>
-    requires { length (argument (arg_view arg.now)) ≤ 4096 }
+    requires { length (argument (arg_view arg.now)) ≤ MAX_LEN }
     ensures ok { OnOk result (out.new.items ≡ out.old.items ++ argument (arg_view arg.now)) }
     ensures in_range { IsArgInRange (arg_view arg.now) }
 {
@@ -71,7 +72,7 @@ fn put_tags(out: &mut Vec<u8>, args: &[Arg<'_>]) -> Result<(), AllocError>
 }
 
 fn put_args(out: &mut Vec<u8>, args: &[Arg<'_>]) -> Result<(), AllocError>
-    requires { length (flat_map argument (map arg_view args.now)) ≤ 4096 }
+    requires { length (flat_map argument (map arg_view args.now)) ≤ MAX_LEN }
     ensures ok { OnOk result (out.new.items ≡ out.old.items ++ flat_map argument (map arg_view args.now)) }
     ensures in_range { OnOk result (AllByRecursion IsArgInRange (map arg_view args.now)) }
 {
@@ -83,7 +84,7 @@ fn put_args(out: &mut Vec<u8>, args: &[Arg<'_>]) -> Result<(), AllocError>
 
 /// A message, with its type tag string.
 pub(crate) fn put_message(out: &mut Vec<u8>, message: &Message<'_>) -> Result<(), AllocError>
-    requires { length (message_text message.now.address.now message.now.args) ≤ 4096 }
+    requires { length (message_text message.now.address.now message.now.args) ≤ MAX_LEN }
     ensures ok { OnOk result (out.new.items ≡ out.old.items ++ message_text message.now.address.now message.now.args) }
     ensures in_range { OnOk result (AllByRecursion IsArgInRange message.now.args) }
 {

@@ -7,6 +7,7 @@ ghost use Rattle.cue_osc.specs.Content.{view, contents_of};
 ghost use Rattle.cue_osc.specs.Spelling.{argument, message_text};
 ghost use Rattle.cue_osc.specs.Writing.{text_of, elements_text, room_left};
 
+use crate::limits::{BUNDLE_FRAME_LEN, SIZE_LEN};
 use crate::packet::{Arg, Message, Packet};
 
 /// What an OSC-string of so many bytes takes.
@@ -59,7 +60,7 @@ pub(crate) fn room_after(packet: &Packet<'_>, room: usize) -> Option<usize>
         Packet::Message(message) => room_after_message(message, room),
         Packet::Discarded { .. } => Some(room),
         Packet::Bundle { items, .. } => {
-            let left = room.checked_sub(16)?;
+            let left = room.checked_sub(BUNDLE_FRAME_LEN)?;
             room_after_elements(items, left)
         }
     }
@@ -71,7 +72,7 @@ fn room_after_elements(items: &[Packet<'_>], room: usize) -> Option<usize>
 {
     let mut left = room;
     for item in items {
-        let behind_size = left.checked_sub(4)?;
+        let behind_size = left.checked_sub(SIZE_LEN)?;
         left = room_after(item, behind_size)?;
     }
     Some(left)

@@ -4,7 +4,7 @@ ghost use Rattle.cue_records.specs.Batch.{event_number};
 ghost use Rattle.cue_records.specs.BatchReading.{kind_of};
 ghost use Rattle.cue_records.specs.Fields.{are_required};
 
-use crate::version::are_required;
+use crate::parts_form::are_required;
 use cue_core::Event;
 use cue_show::Parts;
 

@@ -4,7 +4,7 @@ ghost use Rattle.std.specs.List.{flat_map};
 ghost use Rattle.cue_records.specs.Batch.{body_text, event_text};
 
 use crate::fields::{cue_len, parts_len};
-use crate::version::Version;
+use crate::parts_form::PartsForm;
 use cue_core::Event;
 
 /// How long the events are, one behind the other.
@@ -32,7 +32,7 @@ fn body_len(event: &Event) -> u64
         Event::Device(_, _) => 3,
         Event::NoDevice(_) => 1,
         Event::Cue(cue, parts) => {
-            parts_len(Version::of_parts(parts), parts).saturating_add(cue_len(*cue))
+            parts_len(PartsForm::of_parts(parts), parts).saturating_add(cue_len(*cue))
         }
         Event::NoCue(cue) => cue_len(*cue),
         Event::Place(cue) => cue_len(*cue),

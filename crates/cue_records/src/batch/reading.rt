@@ -3,11 +3,12 @@ ghost use Rattle.std.specs.Prelude.{◌≡◌};
 ghost use Rattle.cue_records.specs.Reading.{Gives, list_at};
 ghost use Rattle.cue_records.specs.BatchReading.{kind_at, start_at, answer_at, cancel_at, mixed_cue_at, body_at, event_at, event_count_at, batch_of};
 
+use crate::batch::Batch;
 use crate::batch::kind::{Kind, kind_of};
-use crate::batch::{Batch, MAX_EVENTS};
 use crate::fault::ReadFault;
 use crate::fields::Reader;
-use crate::version::{Version, are_required};
+use crate::limits::MAX_EVENTS;
+use crate::parts_form::{PartsForm, are_required};
 use cue_core::Event;
 use cue_exchange::Reason;
 use cue_show::{CueNo, DeviceNo, Parts};
@@ -58,7 +59,7 @@ impl<'a> Reader<'a> {
     fn mixed_cue(&mut self, alloc: Global) -> Result<(CueNo, Parts), ReadFault>
         ensures { Gives (λ x. (x, self.new.rest.now)) result (mixed_cue_at self.old.rest.now) }
     {
-        let (cue, parts) = self.new_cue(alloc, Version::Two)?;
+        let (cue, parts) = self.new_cue(alloc, PartsForm::Flagged)?;
         if are_required(&parts) {
             return Err(ReadFault::Malformed);
         }
@@ -76,7 +77,7 @@ impl<'a> Reader<'a> {
                 .map(|(device, port)| Event::Device(device, port)),
             Kind::NoDevice => Ok(Event::NoDevice(self.device()?)),
             Kind::Cue => self
-                .new_cue(alloc, Version::One)
+                .new_cue(alloc, PartsForm::Plain)
                 .map(|(cue, parts)| Event::Cue(cue, parts)),
             Kind::MixedCue => self
                 .mixed_cue(alloc)

@@ -6,7 +6,7 @@ ghost use Rattle.cue_records.specs.Fields.{number_text, moment_text, text_text};
 
 use crate::batch::kind::event_number;
 use crate::fields::{put_byte, put_cue, put_entry, put_new_cue, put_numbered, reason_number};
-use crate::version::Version;
+use crate::parts_form::PartsForm;
 use cue_core::Event;
 use cue_show::CueNo;
 use std::alloc::AllocError;
@@ -38,7 +38,7 @@ fn put_body(out: &mut Vec<u8>, event: &Event) -> Result<(), AllocError>
     match event {
         Event::Device(device, port) => put_entry(out, *device, *port),
         Event::NoDevice(device) => put_byte(out, device.number()),
-        Event::Cue(cue, parts) => put_new_cue(out, Version::of_parts(parts), *cue, parts),
+        Event::Cue(cue, parts) => put_new_cue(out, PartsForm::of_parts(parts), *cue, parts),
         Event::NoCue(cue) => put_cue(out, *cue),
         Event::Place(cue) => put_cue(out, *cue),
         Event::Start(seq, cue, deadline) => put_start(out, *seq, *cue, *deadline),
@@ -54,7 +54,8 @@ fn put_body(out: &mut Vec<u8>, event: &Event) -> Result<(), AllocError>
 
 // A number, a cue and a moment.
 fn put_start(out: &mut Vec<u8>, seq: u32, cue: CueNo, deadline: u64) -> Result<(), AllocError>
-    ensures { OnOk result (out.new.items ≡ out.old.items ++ (number_text seq ++ (text_text cue ++ moment_text deadline))) }
+    ensures { OnOk result (out.new.items ≡ out.old.items
+        ++ (number_text seq ++ (text_text cue ++ moment_text deadline))) }
 {
     out.extend_from_slice(&seq.to_be_bytes())?;
     put_cue(out, cue)?;

@@ -4,9 +4,9 @@ ghost use Rattle.std.specs.Int.{w16, w32, w64};
 ghost use Rattle.cue_records.specs.Reading.{Gives, byte_at, bytes_at, number_at, text_at, device_at, port_at, sequence_at, cue_at, part_bytes_at, flag_of, flag_at, part_at, part_count_at, list_at, parts_at, entry_at, new_cue_at, reason_at, reason_of};
 
 use crate::fault::ReadFault;
-use crate::version::Version;
+use crate::parts_form::PartsForm;
 use cue_exchange::Reason;
-use cue_exchange::limits::LAST_NUMBER;
+use cue_exchange::limits::MAX_NUMBER;
 use cue_show::limits::{MAX_PART_BYTES, MAX_PARTS};
 use cue_show::{CueNo, DeviceNo, Part, Parts};
 use std::alloc::Global;
@@ -104,7 +104,7 @@ impl<'a> Reader<'a> {
         ensures { Gives (λ x. (x, self.new.rest.now)) result (sequence_at self.old.rest.now) }
     {
         let seq = self.u32()?;
-        if seq < 1 || LAST_NUMBER < seq {
+        if seq < 1 || MAX_NUMBER < seq {
             return Err(ReadFault::Malformed);
         }
         Ok(seq)
@@ -142,12 +142,12 @@ impl<'a> Reader<'a> {
 
     /// The flag of a part; a part without one is required.
     #[tactic(auto, unfolding(crate::specs::Reading::flag_at))]
-    fn flag(&mut self, version: Version) -> Result<bool, ReadFault>
-        ensures { Gives (λ x. (x, self.new.rest.now)) result (flag_at version self.old.rest.now) }
+    fn flag(&mut self, form: PartsForm) -> Result<bool, ReadFault>
+        ensures { Gives (λ x. (x, self.new.rest.now)) result (flag_at form self.old.rest.now) }
     {
-        match version {
-            Version::One => Ok(false),
-            Version::Two => {
+        match form {
+            PartsForm::Plain => Ok(false),
+            PartsForm::Flagged => {
                 let number = self.byte()?;
                 flag_of(number).ok_or(ReadFault::Malformed)
             }
@@ -156,11 +156,11 @@ impl<'a> Reader<'a> {
 
     /// A device, its flag and its bytes.
     #[tactic(auto, unfolding(crate::specs::Reading::part_at))]
-    fn part(&mut self, alloc: Global, version: Version) -> Result<Part, ReadFault>
-        ensures { Gives (λ x. (x, self.new.rest.now)) result (part_at version self.old.rest.now) }
+    fn part(&mut self, alloc: Global, form: PartsForm) -> Result<Part, ReadFault>
+        ensures { Gives (λ x. (x, self.new.rest.now)) result (part_at form self.old.rest.now) }
     {
         let device = self.device()?;
-        let optional = self.flag(version)?;
+        let optional = self.flag(form)?;
         let bytes = self.part_bytes()?;
         Ok(Part::of(alloc, device, optional, bytes)?)
     }
@@ -178,12 +178,12 @@ impl<'a> Reader<'a> {
     }
 
     /// So many parts.
-    fn part_list(&mut self, alloc: Global, version: Version, count: u8) -> Result<Parts, ReadFault>
-        ensures { Gives (λ x. (x, self.new.rest.now)) result (list_at (part_at version) count self.old.rest.now) }
+    fn part_list(&mut self, alloc: Global, form: PartsForm, count: u8) -> Result<Parts, ReadFault>
+        ensures { Gives (λ x. (x, self.new.rest.now)) result (list_at (part_at form) count self.old.rest.now) }
     {
         let mut parts = Parts::new(alloc);
         for _ in 0..count {
-            let part = self.part(alloc, version)?;
+            let part = self.part(alloc, form)?;
             parts.push(part)?;
         }
         Ok(parts)
@@ -191,11 +191,11 @@ impl<'a> Reader<'a> {
 
     /// A count, and so many parts of distinct devices, at least one of them required.
     #[tactic(auto, unfolding(crate::specs::Reading::parts_at))]
-    pub(crate) fn parts(&mut self, alloc: Global, version: Version) -> Result<Parts, ReadFault>
-        ensures { Gives (λ x. (x, self.new.rest.now)) result (parts_at version self.old.rest.now) }
+    pub(crate) fn parts(&mut self, alloc: Global, form: PartsForm) -> Result<Parts, ReadFault>
+        ensures { Gives (λ x. (x, self.new.rest.now)) result (parts_at form self.old.rest.now) }
     {
         let count = self.part_count()?;
-        let parts = self.part_list(alloc, version, count)?;
+        let parts = self.part_list(alloc, form, count)?;
         if !parts.has_required_part() || !parts.has_distinct_devices() {
             return Err(ReadFault::Malformed);
         }
@@ -217,12 +217,12 @@ impl<'a> Reader<'a> {
     pub(crate) fn new_cue(
         &mut self,
         alloc: Global,
-        version: Version,
+        form: PartsForm,
     ) -> Result<(CueNo, Parts), ReadFault>
-        ensures { Gives (λ x. (x, self.new.rest.now)) result (new_cue_at version self.old.rest.now) }
+        ensures { Gives (λ x. (x, self.new.rest.now)) result (new_cue_at form self.old.rest.now) }
     {
         let cue = self.cue()?;
-        let parts = self.parts(alloc, version)?;
+        let parts = self.parts(alloc, form)?;
         Ok((cue, parts))
     }
 }

@@ -4,7 +4,7 @@ ghost use Rattle.std.specs.List.{flat_map, list_all};
 ghost use Rattle.cue_show.specs.Parts.{is_part, are_parts};
 ghost use Rattle.cue_records.specs.Fields.{byte_text, number_text, text_text, flag_number, flag_text, part_text, parts_text, entry_text, new_cue_text, reason_number};
 
-use crate::version::Version;
+use crate::parts_form::PartsForm;
 use cue_exchange::Reason;
 use cue_show::{CueNo, DeviceNo, Part, Parts};
 use std::alloc::AllocError;
@@ -46,42 +46,42 @@ fn flag_number(optional: bool) -> u8
     if optional { 1 } else { 0 }
 }
 
-fn put_flag(out: &mut Vec<u8>, version: Version, optional: bool) -> Result<(), AllocError>
-    ensures { OnOk result (out.new.items ≡ out.old.items ++ flag_text version optional) }
+fn put_flag(out: &mut Vec<u8>, form: PartsForm, optional: bool) -> Result<(), AllocError>
+    ensures { OnOk result (out.new.items ≡ out.old.items ++ flag_text form optional) }
 {
-    match version {
-        Version::One => Ok(()),
-        Version::Two => put_byte(out, flag_number(optional)),
+    match form {
+        PartsForm::Plain => Ok(()),
+        PartsForm::Flagged => put_byte(out, flag_number(optional)),
     }
 }
 
-fn put_part(out: &mut Vec<u8>, version: Version, part: &Part) -> Result<(), AllocError>
+fn put_part(out: &mut Vec<u8>, form: PartsForm, part: &Part) -> Result<(), AllocError>
     requires { IsTrue (is_part part.now) }
-    ensures { OnOk result (out.new.items ≡ out.old.items ++ part_text version part.now) }
+    ensures { OnOk result (out.new.items ≡ out.old.items ++ part_text form part.now) }
 {
     out.push(part.device.number())?;
-    put_flag(out, version, part.optional)?;
+    put_flag(out, form, part.optional)?;
     put_text(out, part.bytes.as_slice())
 }
 
-fn put_part_list(out: &mut Vec<u8>, version: Version, parts: &[Part]) -> Result<(), AllocError>
+fn put_part_list(out: &mut Vec<u8>, form: PartsForm, parts: &[Part]) -> Result<(), AllocError>
     requires { IsTrue (list_all is_part parts.now) }
-    ensures { OnOk result (out.new.items ≡ out.old.items ++ flat_map (part_text version) parts.now) }
+    ensures { OnOk result (out.new.items ≡ out.old.items ++ flat_map (part_text form) parts.now) }
 {
     for part in parts {
-        put_part(out, version, part)?;
+        put_part(out, form, part)?;
     }
     Ok(())
 }
 
 // The parts of a cue, behind their count.
-fn put_parts(out: &mut Vec<u8>, version: Version, parts: &Parts) -> Result<(), AllocError>
+fn put_parts(out: &mut Vec<u8>, form: PartsForm, parts: &Parts) -> Result<(), AllocError>
     requires { IsTrue (are_parts parts.now) }
-    ensures { OnOk result (out.new.items ≡ out.old.items ++ parts_text version parts.now) }
+    ensures { OnOk result (out.new.items ≡ out.old.items ++ parts_text form parts.now) }
 {
     let parts = parts.as_slice();
     out.push(parts.len() as u8)?;
-    put_part_list(out, version, parts)
+    put_part_list(out, form, parts)
 }
 
 /// A device and its port.
@@ -95,15 +95,15 @@ pub(crate) fn put_entry(out: &mut Vec<u8>, device: DeviceNo, port: u16) -> Resul
 /// A cue and its parts.
 pub(crate) fn put_new_cue(
     out: &mut Vec<u8>,
-    version: Version,
+    form: PartsForm,
     cue: CueNo,
     parts: &Parts,
 ) -> Result<(), AllocError>
     requires { IsTrue (are_parts parts.now) }
-    ensures { OnOk result (out.new.items ≡ out.old.items ++ new_cue_text version (cue, parts.now)) }
+    ensures { OnOk result (out.new.items ≡ out.old.items ++ new_cue_text form (cue, parts.now)) }
 {
     put_cue(out, cue)?;
-    put_parts(out, version, parts)
+    put_parts(out, form, parts)
 }
 
 /// A number, and one byte.

@@ -1,20 +1,20 @@
 //! The numbers of versions, stages and answers.
 ghost use Rattle.std.specs.Prelude.{◌≡◌};
-ghost use Rattle.cue_records.specs.State.{version_of, stage_number, answer_number};
+ghost use Rattle.cue_records.specs.State.{form_of_version, stage_number, answer_number};
 ghost use Rattle.cue_records.specs.StateReading.{stage_of, answer_of};
 
 use crate::fields::reason_number;
+use crate::parts_form::PartsForm;
 use crate::state::{OLD_VERSION, VERSION};
-use crate::version::Version;
 use cue_exchange::{Answer, Reason, Stage};
 
-/// The version with the number.
-pub(crate) fn version_of(number: u8) -> Option<Version>
-    ensures { result ≡ version_of number }
+/// The form of the parts in a version; none where there is no such version.
+pub(crate) fn form_of_version(number: u8) -> Option<PartsForm>
+    ensures { result ≡ form_of_version number }
 {
     match number {
-        OLD_VERSION => Some(Version::One),
-        VERSION => Some(Version::Two),
+        OLD_VERSION => Some(PartsForm::Plain),
+        VERSION => Some(PartsForm::Flagged),
         _ => None,
     }
 }

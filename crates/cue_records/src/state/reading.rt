@@ -7,9 +7,9 @@ ghost use Rattle.cue_records.specs.StateReading.{fold_at, device_step, cue_step,
 
 use crate::fault::ReadFault;
 use crate::fields::Reader;
-use crate::state::OLD_MAX_CUES;
+use crate::limits::OLD_MAX_CUES;
+use crate::parts_form::PartsForm;
 use crate::state::numbers::{answer_of, stage_of};
-use crate::version::Version;
 use cue_core::{Ended, State};
 use cue_exchange::{Answer, Answers, Attempt, DeviceAnswer, Live, Outcome, Stage};
 use cue_show::limits::MAX_CUES;
@@ -32,7 +32,8 @@ impl<'a> Reader<'a> {
 
     // So many devices more.
     fn add_devices(&mut self, show: &mut Show, count: u8) -> Result<(), ReadFault>
-        ensures { Gives (λ _. (show.new, self.new.rest.now)) result (fold_at device_step count show.old self.old.rest.now) }
+        ensures { Gives (λ _. (show.new, self.new.rest.now)) result
+            (fold_at device_step count show.old self.old.rest.now) }
     {
         for _ in 0..count {
             self.add_device(show)?;
@@ -42,10 +43,10 @@ impl<'a> Reader<'a> {
 
     // One cue more.
     #[tactic(auto, unfolding(crate::specs::StateReading::cue_step))]
-    fn add_cue(&mut self, alloc: Global, version: Version, show: &mut Show) -> Result<(), ReadFault>
-        ensures { Gives (λ _. (show.new, self.new.rest.now)) result (cue_step version show.old self.old.rest.now) }
+    fn add_cue(&mut self, alloc: Global, form: PartsForm, show: &mut Show) -> Result<(), ReadFault>
+        ensures { Gives (λ _. (show.new, self.new.rest.now)) result (cue_step form show.old self.old.rest.now) }
     {
-        let (cue, parts) = self.new_cue(alloc, version)?;
+        let (cue, parts) = self.new_cue(alloc, form)?;
         if !show.can_add_cue(cue, &parts) {
             return Err(ReadFault::Malformed);
         }
@@ -57,14 +58,15 @@ impl<'a> Reader<'a> {
     fn add_cues(
         &mut self,
         alloc: Global,
-        version: Version,
+        form: PartsForm,
         show: &mut Show,
         count: u16,
     ) -> Result<(), ReadFault>
-        ensures { Gives (λ _. (show.new, self.new.rest.now)) result (fold_at (cue_step version) count show.old self.old.rest.now) }
+        ensures { Gives (λ _. (show.new, self.new.rest.now)) result
+            (fold_at (cue_step form) count show.old self.old.rest.now) }
     {
         for _ in 0..count {
-            self.add_cue(alloc, version, show)?;
+            self.add_cue(alloc, form, show)?;
         }
         Ok(())
     }
@@ -95,13 +97,13 @@ impl<'a> Reader<'a> {
         self.add_devices(show, count)
     }
 
-    // A count of cues, no more than the version has.
+    // A count of cues, no more than a text with parts of this form has.
     #[tactic(auto, unfolding(crate::specs::StateReading::cue_count_at))]
-    fn cue_count(&mut self, version: Version) -> Result<u16, ReadFault>
-        ensures { Gives (λ x. (x, self.new.rest.now)) result (cue_count_at version self.old.rest.now) }
+    fn cue_count(&mut self, form: PartsForm) -> Result<u16, ReadFault>
+        ensures { Gives (λ x. (x, self.new.rest.now)) result (cue_count_at form self.old.rest.now) }
     {
         let count = self.u16()?;
-        if usize::from(count) > most_cues(version) {
+        if usize::from(count) > most_cues(form) {
             return Err(ReadFault::Malformed);
         }
         Ok(count)
@@ -109,20 +111,20 @@ impl<'a> Reader<'a> {
 
     // A count, and so many cues more.
     #[tactic(auto, unfolding(crate::specs::StateReading::stack_at))]
-    fn stack(&mut self, alloc: Global, version: Version, show: &mut Show) -> Result<(), ReadFault>
-        ensures { Gives (λ _. (show.new, self.new.rest.now)) result (stack_at version show.old self.old.rest.now) }
+    fn stack(&mut self, alloc: Global, form: PartsForm, show: &mut Show) -> Result<(), ReadFault>
+        ensures { Gives (λ _. (show.new, self.new.rest.now)) result (stack_at form show.old self.old.rest.now) }
     {
-        let count = self.cue_count(version)?;
-        self.add_cues(alloc, version, show, count)
+        let count = self.cue_count(form)?;
+        self.add_cues(alloc, form, show, count)
     }
 
     // The devices, the cues and the place.
     #[tactic(auto, unfolding(crate::specs::StateReading::show_at))]
-    fn show(&mut self, alloc: Global, version: Version, show: &mut Show) -> Result<(), ReadFault>
-        ensures { Gives (λ _. (show.new, self.new.rest.now)) result (show_at version show.old self.old.rest.now) }
+    fn show(&mut self, alloc: Global, form: PartsForm, show: &mut Show) -> Result<(), ReadFault>
+        ensures { Gives (λ _. (show.new, self.new.rest.now)) result (show_at form show.old self.old.rest.now) }
     {
         self.table(show)?;
-        self.stack(alloc, version, show)?;
+        self.stack(alloc, form, show)?;
         self.set_place(show)
     }
 
@@ -222,7 +224,8 @@ impl<'a> Reader<'a> {
         live: &mut Live,
         count: u8,
     ) -> Result<(), ReadFault>
-        ensures { Gives (λ _. (live.new, self.new.rest.now)) result (fold_at (attempt_step show.now) count live.old self.old.rest.now) }
+        ensures { Gives (λ _. (live.new, self.new.rest.now)) result
+            (fold_at (attempt_step show.now) count live.old self.old.rest.now) }
     {
         for _ in 0..count {
             self.add_attempt(alloc, show, live)?;
@@ -259,13 +262,13 @@ impl<'a> Reader<'a> {
     }
 }
 
-// The most cues of a text in the version.
-fn most_cues(version: Version) -> usize
-    ensures { result ≡ most_cues version }
+// The most cues of a text with parts of this form.
+fn most_cues(form: PartsForm) -> usize
+    ensures { result ≡ most_cues form }
 {
-    match version {
-        Version::One => OLD_MAX_CUES,
-        Version::Two => MAX_CUES,
+    match form {
+        PartsForm::Plain => OLD_MAX_CUES,
+        PartsForm::Flagged => MAX_CUES,
     }
 }
 
@@ -320,12 +323,12 @@ fn are_below(seq: u32, live: &[Attempt]) -> bool
 
 /// The state that stands behind the number of the version, to the end.
 #[tactic(auto, unfolding(crate::specs::StateReading::standing_of))]
-pub(crate) fn standing_of(alloc: Global, version: Version, bytes: &[u8]) -> Result<State, ReadFault>
-    ensures { Gives (λ x. x) result (standing_of version bytes.now) }
+pub(crate) fn standing_of(alloc: Global, form: PartsForm, bytes: &[u8]) -> Result<State, ReadFault>
+    ensures { Gives (λ x. x) result (standing_of form bytes.now) }
 {
     let mut reader = Reader { rest: bytes };
     let mut show = Show::new(alloc);
-    reader.show(alloc, version, &mut show)?;
+    reader.show(alloc, form, &mut show)?;
     let mut live = Live::new(alloc);
     let (last_seq, ended) = reader.tail(alloc, &show, &mut live)?;
     State::of(show, live, last_seq, ended).ok_or(ReadFault::Malformed)

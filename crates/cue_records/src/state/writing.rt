@@ -2,13 +2,13 @@
 ghost use Rattle.std.specs.Prelude.{◌≡◌, ◌≤◌, ◌++◌, length, OnOk};
 ghost use Rattle.std.specs.List.{flat_map};
 ghost use Rattle.cue_exchange.specs.declared.limits.TheConstants.{MAX_LIVE};
-ghost use Rattle.cue_records.specs.declared.version.Version.TheVariants.{Two};
+ghost use Rattle.cue_records.specs.declared.parts_form.PartsForm.TheVariants.{Flagged};
 ghost use Rattle.cue_records.specs.Fields.{entry_text, new_cue_text};
 ghost use Rattle.cue_records.specs.State.{table_text, stack_text, place_text, show_text, ended_text, answers_text, attempt_text, live_text};
 
 use crate::fields::{put_byte, put_cue, put_entry, put_new_cue, put_numbered, put_u32};
+use crate::parts_form::PartsForm;
 use crate::state::numbers::{answer_number, stage_number};
-use crate::version::Version;
 use cue_core::Ended;
 use cue_exchange::{Attempt, DeviceAnswer, Live};
 use cue_show::{CueNo, Show};
@@ -16,7 +16,7 @@ use std::alloc::AllocError;
 
 /// The devices, the cues and the place.
 pub(crate) fn put_show(out: &mut Vec<u8>, show: &Show) -> Result<(), AllocError>
-    ensures { OnOk result (out.new.items ≡ out.old.items ++ show_text Two show.now) }
+    ensures { OnOk result (out.new.items ≡ out.old.items ++ show_text Flagged show.now) }
 {
     put_table(out, show)?;
     put_stack(out, show)?;
@@ -40,7 +40,7 @@ fn put_devices(out: &mut Vec<u8>, show: &Show) -> Result<(), AllocError>
 }
 
 fn put_stack(out: &mut Vec<u8>, show: &Show) -> Result<(), AllocError>
-    ensures { OnOk result (out.new.items ≡ out.old.items ++ stack_text Two show.now.cues) }
+    ensures { OnOk result (out.new.items ≡ out.old.items ++ stack_text Flagged show.now.cues) }
 {
     let count = show.cues().len() as u16;
     out.extend_from_slice(&count.to_be_bytes())?;
@@ -48,10 +48,10 @@ fn put_stack(out: &mut Vec<u8>, show: &Show) -> Result<(), AllocError>
 }
 
 fn put_cues(out: &mut Vec<u8>, show: &Show) -> Result<(), AllocError>
-    ensures { OnOk result (out.new.items ≡ out.old.items ++ flat_map (new_cue_text Two) show.now.cues) }
+    ensures { OnOk result (out.new.items ≡ out.old.items ++ flat_map (new_cue_text Flagged) show.now.cues) }
 {
     for (cue, parts) in show.cues() {
-        put_new_cue(out, Version::Two, *cue, parts)?;
+        put_new_cue(out, PartsForm::Flagged, *cue, parts)?;
     }
     Ok(())
 }

@@ -55,8 +55,14 @@ fn fault_in_memory(fault: StoreFault) -> StoreFault
     ensures { result ≡ fault_in_memory fault }
 {
     match fault {
-        StoreFault::Disk => StoreFault::Memory,
-        other => other,
+        StoreFault::NotEmpty => StoreFault::NotEmpty,
+        StoreFault::Unformed => StoreFault::Unformed,
+        StoreFault::Damaged => StoreFault::Damaged,
+        StoreFault::Version => StoreFault::Version,
+        StoreFault::Malformed => StoreFault::Malformed,
+        StoreFault::Full => StoreFault::Full,
+        StoreFault::Exhausted => StoreFault::Exhausted,
+        StoreFault::Memory | StoreFault::Disk => StoreFault::Memory,
     }
 }
 
@@ -167,7 +173,7 @@ impl Copies {
         };
         match Engine::recover(alloc, first, second) {
             Ok(engine) => {
-                let_go(engine);
+                discard(engine);
                 None
             }
             Err((fault, _, _)) => Some(fault_in_memory(fault)),
@@ -176,4 +182,4 @@ impl Copies {
 }
 
 // Drops an engine. It stands apart, since what is dropped fills the goals of the function around it.
-fn let_go(_engine: Engine<MemDisk>) {}
+fn discard(_engine: Engine<MemDisk>) {}

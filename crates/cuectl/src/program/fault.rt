@@ -1,11 +1,20 @@
 //! Why a command was not carried out.
 ghost use Rattle.std.specs.Prelude.{◌≡◌, OnOk};
-ghost use Rattle.cuectl.specs.Endings.{done_status, program_line, program_status};
+ghost use Rattle.cuectl.specs.Endings.{
+  done_status,
+  file_fault,
+  program_line,
+  program_status,
+  run_fault,
+};
+ghost use Rattle.cue_script.specs.Endings.{failure_by};
 ghost use Rattle.cue_script.specs.declared.ending.Failure.TheVariants.{Store};
 ghost use Rattle.cuectl.specs.declared.program.fault.ProgramFault.TheVariants.{Failed};
 ghost use Rattle.cue_keeper.specs.declared.fault.StoreFault.TheVariants.{Memory};
 
+use cue_disk::FileFault;
 use cue_keeper::{Fault, StoreFault};
+use cue_run::RunFault;
 use cue_script::Failure;
 use std::alloc::AllocError;
 use std::io::Write;
@@ -67,8 +76,30 @@ impl From<StoreFault> for ProgramFault {
 }
 
 impl From<Fault> for ProgramFault {
+    ghost from_gives = { λ engine fault. fault ≡ Failed (failure_by engine) };
+
     fn from(fault: Fault) -> ProgramFault {
         ProgramFault::Failed(Failure::from(fault))
+    }
+}
+
+/// Why a file was not opened or made.
+pub fn file_fault(fault: FileFault) -> ProgramFault
+    ensures { result ≡ file_fault fault }
+{
+    match fault {
+        FileFault::NotFound => ProgramFault::NotFound,
+        FileFault::Io(_) => ProgramFault::Io,
+    }
+}
+
+/// Why a run ended before it had its turns.
+pub fn run_fault(fault: RunFault) -> ProgramFault
+    ensures { result ≡ run_fault fault }
+{
+    match fault {
+        RunFault::Source => ProgramFault::Net,
+        RunFault::Engine(fault) => ProgramFault::from(fault),
     }
 }
 
@@ -79,12 +110,12 @@ pub fn print_fault<W: Write>(writer: &mut W, line: &[u8]) {
 }
 
 /// The exit status of a command, where a refusal is printed by its name.
-pub fn status_of<W: Write>(done: Result<(), ProgramFault>, writer: &mut W) -> u8
+pub fn status_of<T: Drop, W: Write>(done: Result<T, ProgramFault>, writer: &mut W) -> u8
     ensures status { result ≡ done_status done }
     ensures kept { OnOk done (W.contents writer.new ≡ W.contents writer.old) }
 {
     match done {
-        Ok(()) => 0,
+        Ok(_) => 0,
         Err(fault) => {
             print_fault(writer, fault.line());
             fault.status()

@@ -1,5 +1,10 @@
 //! The two files of a folder: opened and made, and what is said where that fails.
-use super::fault::ProgramFault;
+ghost use Rattle.std.specs.Prelude.{◌≡◌, ◌++◌, codes, string_bytes, IfOk};
+ghost use Rattle.cue_script.specs.declared.ending.Failure.TheVariants.{Store};
+ghost use Rattle.cuectl.specs.Endings.{file_fault};
+ghost use Rattle.cuectl.specs.declared.program.fault.ProgramFault.TheVariants.{Failed};
+
+use super::fault::{ProgramFault, file_fault};
 use cue_disk::{FileDisk, FileFault};
 use cue_keeper::StoreFault;
 use std::alloc::{AllocError, Global};
@@ -13,22 +18,25 @@ pub fn say<R: Eprint, D: Display + Drop>(rt: &R, what: &str, why: D) {
 }
 
 /// The first file of a folder, which is the one that is locked.
-pub fn first_path(alloc: Global, dir: &str) -> Result<String, AllocError> {
+pub fn first_path(alloc: Global, dir: &str) -> Result<String, AllocError>
+    ensures { IfOk result (λ path. string_bytes path ≡ dir.now ++ codes "/a.area") }
+{
     Ok(format!(in alloc; "{dir}/a.area")?)
 }
 
 // The second file of a folder.
-fn second_path(alloc: Global, dir: &str) -> Result<String, AllocError> {
+fn second_path(alloc: Global, dir: &str) -> Result<String, AllocError>
+    ensures { IfOk result (λ path. string_bytes path ≡ dir.now ++ codes "/b.area") }
+{
     Ok(format!(in alloc; "{dir}/b.area")?)
 }
 
 // Why a file was not opened.
-fn refused_file<R: Eprint>(rt: &R, path: &str, fault: FileFault) -> ProgramFault {
+fn refused_file<R: Eprint>(rt: &R, path: &str, fault: FileFault) -> ProgramFault
+    ensures { result ≡ file_fault fault }
+{
     say(rt, path, fault);
-    match fault {
-        FileFault::NotFound => ProgramFault::NotFound,
-        FileFault::Io(_) => ProgramFault::Io,
-    }
+    file_fault(fault)
 }
 
 fn open_one<R: Files<File = File> + Eprint>(rt: &R, path: &str) -> Result<FileDisk, ProgramFault> {
@@ -73,7 +81,9 @@ pub fn refused_store<R: Eprint>(
     rt: &R,
     dir: &str,
     refused: (StoreFault, FileDisk, FileDisk),
-) -> ProgramFault {
+) -> ProgramFault
+    ensures { result ≡ Failed (Store refused.0) }
+{
     let (fault, first, second) = refused;
     say(rt, dir, fault);
     say_failures(rt, &first, &second);

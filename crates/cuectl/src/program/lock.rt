@@ -1,5 +1,11 @@
 //! The lock that a `serve` holds on a store for as long as it runs. It keeps another `serve` from the store, and
 //! nothing else: it is a help, and no promise.
+ghost use Rattle.std.specs.Prelude.{◌≡◌, ◌⊎◌, true, false, Some, IfOk, IfErr, IsErrOf, IsOk, OnOk};
+ghost use Rattle.cue_keeper.specs.declared.fault.StoreFault.TheVariants.{Memory};
+ghost use Rattle.cue_script.specs.declared.ending.Failure.TheVariants.{Store};
+ghost use Rattle.cuectl.specs.Locking.{is_of_another};
+ghost use Rattle.cuectl.specs.declared.program.fault.ProgramFault.TheVariants.{Failed, Io};
+
 use super::fault::ProgramFault;
 use super::files::{first_path, say};
 use std::alloc::Global;
@@ -32,19 +38,30 @@ fn open<R: Files<File = File>>(rt: &R, path: &str) -> io::Result<File> {
     OpenOptions::new().read(true).write(true).open(rt, path)
 }
 
-/// Takes the lock of a store, before anything of it is read or written. `Io` where another `serve` holds it. Where the
-/// file system knows no locks, standard error says so, and the store is served without one.
-pub fn lock_store<R: Files<File = File> + Eprint>(
+// Whether another process has the lock that was asked for. A file system that knows no locks has none.
+fn is_of_another(answer: &Result<(), TryLockError>) -> bool
+    ensures { result ≡ is_of_another answer.now }
+{
+    match answer {
+        Ok(()) => false,
+        Err(TryLockError::WouldBlock) => true,
+        Err(TryLockError::Error(_)) => false,
+    }
+}
+
+// The lock of a file that was asked for it.
+fn lock_of<R: Eprint>(
     rt: &R,
-    alloc: Global,
     dir: &str,
-) -> Result<StoreLock, ProgramFault> {
-    let path = first_path(alloc, dir)?;
-    let file = open(rt, path.as_str()).map_err(|why| {
-        say(rt, path.as_str(), why);
-        ProgramFault::Io
-    })?;
-    match ask(&file) {
+    file: File,
+    answer: Result<(), TryLockError>,
+) -> Result<StoreLock, ProgramFault>
+    ensures another { is_of_another answer ≡ true → IsErrOf result Io }
+    ensures no_other { is_of_another answer ≡ false → IsOk result }
+    ensures held { OnOk answer (IfOk result (λ lock. lock._file ≡ Some file)) }
+    ensures io { IfErr result (λ fault. fault ≡ Io) }
+{
+    match answer {
         Ok(()) => Ok(StoreLock { _file: Some(file) }),
         Err(TryLockError::WouldBlock) => {
             say(rt, dir, "another serve has this store");
@@ -61,13 +78,31 @@ pub fn lock_store<R: Files<File = File> + Eprint>(
     }
 }
 
+/// Takes the lock of a store, before anything of it is read or written. `Io` where another `serve` holds it. Where the
+/// file system knows no locks, standard error says so, and the store is served without one.
+pub fn lock_store<R: Files<File = File> + Eprint>(
+    rt: &R,
+    alloc: Global,
+    dir: &str,
+) -> Result<StoreLock, ProgramFault>
+    ensures { IfErr result (λ fault. (fault ≡ Io) ⊎ (fault ≡ Failed (Store Memory))) }
+{
+    let path = first_path(alloc, dir)?;
+    let file = open(rt, path.as_str()).map_err(|why| {
+        say(rt, path.as_str(), why);
+        ProgramFault::Io
+    })?;
+    let answer = ask(&file);
+    lock_of(rt, dir, file, answer)
+}
+
 /// Whether a `serve` holds the lock of a store now. Where that cannot be known, none does.
 pub fn is_served<R: Files<File = File>>(rt: &R, alloc: Global, dir: &str) -> bool {
     let Ok(path) = first_path(alloc, dir) else {
         return false;
     };
     match open(rt, path.as_str()) {
-        Ok(file) => matches!(&file.try_lock_shared(), Err(TryLockError::WouldBlock)),
+        Ok(file) => is_of_another(&file.try_lock_shared()),
         Err(_) => false,
     }
 }

@@ -1,4 +1,4 @@
-use Rattle.cue_core.proofs.Closing.{closed-stays}
+use Rattle.cue_core.proofs.live.CancelLemmas.{closed-stays}
 use Rattle.cue_core.proofs.laws.closed_stays.Goals as goal
 
 pub returns : goal.returns

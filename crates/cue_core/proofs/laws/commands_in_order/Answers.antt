@@ -1,4 +1,4 @@
-use Rattle.cue_core.proofs.Cancels.{commands-in-order}
+use Rattle.cue_core.proofs.history.HappeningLemmas.{commands-in-order}
 use Rattle.cue_core.proofs.laws.commands_in_order.Goals as goal
 
 pub returns : goal.returns

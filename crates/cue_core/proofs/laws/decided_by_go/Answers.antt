@@ -1,4 +1,4 @@
-use Rattle.cue_core.proofs.Resting.{decided-by-go}
+use Rattle.cue_core.proofs.history.RestLemmas.{decided-by-go}
 use Rattle.cue_core.proofs.laws.decided_by_go.Goals as goal
 
 pub returns : goal.returns

@@ -1,4 +1,4 @@
-use Rattle.cue_core.proofs.Safety.{decided-stays}
+use Rattle.cue_core.proofs.history.SafetyLemmas.{decided-stays}
 use Rattle.cue_core.proofs.laws.decided_stays.Goals as goal
 
 pub returns : goal.returns

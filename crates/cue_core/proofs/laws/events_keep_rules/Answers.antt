@@ -1,5 +1,5 @@
-use Rattle.cue_core.proofs.Batches.{is_state-folded}
+use Rattle.cue_core.proofs.rules.BatchLemmas.{is_state-after_events}
 use Rattle.cue_core.proofs.laws.events_keep_rules.Goals as goal
 
 pub returns : goal.returns
-returns c = is_state-folded
+returns c = is_state-after_events

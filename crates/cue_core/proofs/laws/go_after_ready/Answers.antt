@@ -1,4 +1,4 @@
-use Rattle.cue_core.proofs.Facts.{go-after-ready}
+use Rattle.cue_core.proofs.history.FactLemmas.{go-after-ready}
 use Rattle.cue_core.proofs.laws.go_after_ready.Goals as goal
 
 pub returns : goal.returns

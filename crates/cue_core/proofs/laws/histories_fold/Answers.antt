@@ -1,4 +1,4 @@
-use Rattle.cue_core.proofs.Batches.{state-onto}
+use Rattle.cue_core.proofs.rules.BatchLemmas.{state-onto}
 use Rattle.cue_core.proofs.laws.histories_fold.Goals as goal
 
 pub returns : goal.returns

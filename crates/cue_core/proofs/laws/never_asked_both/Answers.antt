@@ -1,4 +1,4 @@
-use Rattle.cue_core.proofs.Safety.{never-asked-both}
+use Rattle.cue_core.proofs.history.SafetyLemmas.{never-asked-both}
 use Rattle.cue_core.proofs.laws.never_asked_both.Goals as goal
 
 pub returns : goal.returns

@@ -1,4 +1,4 @@
-use Rattle.cue_core.proofs.Commute.{replies-commute}
+use Rattle.cue_core.proofs.verdicts.CommuteLemmas.{replies-commute}
 use Rattle.cue_core.proofs.laws.replies_commute.Goals as goal
 
 pub returns : goal.returns

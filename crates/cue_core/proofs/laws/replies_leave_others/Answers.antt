@@ -1,4 +1,4 @@
-use Rattle.cue_core.proofs.ReplyLaws.{replies-leave-others}
+use Rattle.cue_core.proofs.verdicts.ReplyLemmas.{replies-leave-others}
 use Rattle.cue_core.proofs.laws.replies_leave_others.Goals as goal
 
 pub returns : goal.returns

@@ -1,4 +1,4 @@
-use Rattle.cue_core.proofs.InTurn.{steps-acceptable}
+use Rattle.cue_core.proofs.verdicts.StepLemmas.{steps-acceptable}
 use Rattle.cue_core.proofs.laws.steps_are_acceptable.Goals as goal
 
 pub returns : goal.returns

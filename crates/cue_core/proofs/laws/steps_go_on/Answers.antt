@@ -1,4 +1,4 @@
-use Rattle.cue_core.proofs.InTurn.{steps-go-on}
+use Rattle.cue_core.proofs.verdicts.StepLemmas.{steps-go-on}
 use Rattle.cue_core.proofs.laws.steps_go_on.Goals as goal
 
 pub returns : goal.returns

@@ -1,4 +1,4 @@
-use Rattle.cue_core.proofs.InTurn.{steps-make-histories}
+use Rattle.cue_core.proofs.verdicts.StepLemmas.{steps-make-histories}
 use Rattle.cue_core.proofs.laws.steps_make_histories.Goals as goal
 
 pub returns : goal.returns

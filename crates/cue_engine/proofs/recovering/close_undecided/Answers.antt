@@ -1,41 +1,35 @@
-use Rattle.std.proofs.Common.{inl, subst}
+use Rattle.std.proofs.Common.{◌≡◌, refl, ◌∙◌, ap, subst, List}
+use Rattle.std.specs.Prelude.{Some, None}
+use Rattle.cue_core.specs.declared.event.Event.{Event}
 use Rattle.cue_core.specs.State.{ShowState}
-use Rattle.cue_keeper.specs.Pairs.{LeavesPairsAtEachMoment}
-use Rattle.cue_keeper.specs.Stands.{StandsEither, StandsAs}
-use Rattle.cue_keeper.specs.Observed.{state_of, first_of, second_of}
-use Rattle.cue_keeper.proofs.Moving.{rests}
-use Rattle.cue_core.specs.Batches.{closed}
-use Rattle.cue_engine.proofs.Reopened.{closed_by}
+use Rattle.cue_core.specs.Happenings.{events_at, recovered}
+use Rattle.cue_keeper.specs.declared.fault.Fault.TheVariants as fault
+use Rattle.cue_keeper.specs.Accepting.{Accepts}
+use Rattle.cue_keeper.specs.Observed.{state_of, pair_of}
+use Rattle.cue_keeper.proofs.Committed.{out_of_memory, refuses, refuses_too}
 use Rattle.cue_engine.proofs.recovering.close_undecided.Goals as goal
 
 -- no call was made
-pub returns-in_err-batch-clause-any_moment : goal.returns-in_err-batch-clause-any_moment
-returns-in_err-batch-clause-any_moment g c = λ first second.
-    let d = g.D.Disk in
+pub returns-in_err-batch-clause-accepts : goal.returns-in_err-batch-clause-accepts
+returns-in_err-batch-clause-accepts g c =
     let old = c.args.keeper.now in
-    rests d.moment d.held d.held_at d.failures d.is_honest (first_of old) (second_of old) (StandsEither (state_of old) (closed (state_of old))) (g.met.D.Disk.held_now (first_of old)) (g.met.D.Disk.held_now (second_of old))
-    (λ h k x y left_x left_y. inl (c.is_broken-broken.ensures.stands h k c.requires.works x y left_x left_y)) first second
+    let s = state_of old in
+    let es = events_at s recovered in
+    refuses es c.from_residual.result fault.Memory old old c.from_residual.ensures.1 refl
+    (out_of_memory s es (pair_of old) g.met.D.Disk.held_now (λ h k. c.is_broken-broken.ensures.stands h k c.requires.works) c.requires.works)
 
-pub returns-in_err-accept_batch-clause-any_moment : goal.returns-in_err-accept_batch-clause-any_moment
-returns-in_err-accept_batch-clause-any_moment g c = λ first second.
-    let d = g.D.Disk in
+pub returns-in_err-accept_batch-clause-accepts : goal.returns-in_err-accept_batch-clause-accepts
+returns-in_err-accept_batch-clause-accepts g c =
     let old = c.args.keeper.now in
     let new = c.accept_batch.new.keeper in
-    subst (λ (t : ShowState). LeavesPairsAtEachMoment d.moment d.held_at (first_of old) (second_of old) (first_of new) (second_of new) (StandsEither (state_of old) t))
-    (closed_by (state_of old) c.state.result.now c.in_ok-batch.batch.items c.state.ensures c.in_ok-batch.ensures.batch) (c.accept_batch.ensures.any_moment first second)
+    let f = c.in_err-accept_batch.field-0.0 in
+    let same : c.in_ok-batch.batch.items ≡ events_at (state_of old) recovered = c.in_ok-batch.ensures.batch ∙ ap (λ (t : ShowState). events_at t recovered) c.state.ensures in
+    refuses_too (events_at (state_of old) recovered) c.from_residual-in_err-accept_batch.result f old new c.from_residual-in_err-accept_batch.ensures.1
+    (subst (λ (es : List Event). Accepts es (Some f) old new) same c.in_err-accept_batch.ensures.accepts)
 
-pub returns-clause-any_moment : goal.returns-clause-any_moment
-returns-clause-any_moment g c = λ first second.
-    let d = g.D.Disk in
+pub returns-clause-accepts : goal.returns-clause-accepts
+returns-clause-accepts g c =
     let old = c.args.keeper.now in
     let new = c.accept_batch.new.keeper in
-    subst (λ (t : ShowState). LeavesPairsAtEachMoment d.moment d.held_at (first_of old) (second_of old) (first_of new) (second_of new) (StandsEither (state_of old) t))
-    (closed_by (state_of old) c.state.result.now c.in_ok-batch.batch.items c.state.ensures c.in_ok-batch.ensures.batch) (c.accept_batch.ensures.any_moment first second)
-
-pub returns-clause-accepted : goal.returns-clause-accepted
-returns-clause-accepted g c = λ first second.
-    let d = g.D.Disk in
-    let old = c.args.keeper.now in
-    let new = c.accept_batch.new.keeper in
-    subst (λ (t : ShowState). StandsAs (d.held (first_of new)) (d.held (second_of new)) t)
-    (closed_by (state_of old) c.state.result.now c.in_ok-batch.batch.items c.state.ensures c.in_ok-batch.ensures.batch) (c.in_ok-accept_batch.ensures.accepted first second)
+    let same : c.in_ok-batch.batch.items ≡ events_at (state_of old) recovered = c.in_ok-batch.ensures.batch ∙ ap (λ (t : ShowState). events_at t recovered) c.state.ensures in
+    subst (λ (es : List Event). Accepts es None old new) same c.in_ok-accept_batch.ensures.accepts

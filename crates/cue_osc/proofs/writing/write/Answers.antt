@@ -6,11 +6,12 @@ use Rattle.cue_osc.proofs.Packets.{datagram_again}
 use Rattle.cue_osc.proofs.Room.{room-some}
 use Rattle.cue_osc.proofs.Written.{text_spells}
 use Rattle.cue_osc.proofs.writing.write.Goals as goal
+use Rattle.cue_osc.specs.declared.limits.TheConstants.{MAX_LEN}
 
 pub returns-clause-spells : goal.returns-clause-spells
 returns-clause-spells c =
     let content = view c.args.packet.now in
-    let short = room-some 4096 (length (text_of content)) c.in-Some.left c.in-Some.ensures in
+    let short = room-some MAX_LEN (length (text_of content)) c.in-Some.left c.in-Some.ensures in
     let written : c.put.new.out.items ≡ text_of content = rw c.in_ok-out.ensures.items at c.in_ok-put.ensures.ok in
     subst (λ bs. Spells bs content) (sym written) (text_spells content c.requires c.in_ok-put.ensures.in_range short)
 

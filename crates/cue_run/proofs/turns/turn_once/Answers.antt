@@ -1,40 +1,31 @@
-use Rattle.std.proofs.Common.{[], ◌∷◌, length, take}
+use Rattle.std.proofs.Common.{take}
 use Rattle.cue_engine.specs.Given.{datagram, tick}
-use Rattle.cue_run.specs.Sources.{comes, GaveAll}
 use Rattle.cue_run.proofs.turns.turn_once.Goals as goal
 
 pub returns-in-Ok-clause-turned : goal.returns-in-Ok-clause-turned
-returns-in-Ok-clause-turned g c =
-    ((c.in-Ok-Tick.now, tick), rw c.in-Ok-Tick.field-0-is at c.in-Ok-Tick.ensures.gave, c.in-Ok.ensures.taken)
+returns-in-Ok-clause-turned g c = (
+  record { now = c.in-Ok-Tick.now; input = tick; came = rw c.in-Ok-Tick.field-0-is at c.in-Ok-Tick.ensures.gave; accepts = c.in-Ok.ensures.accepts },
+  c.in-Ok.ensures.handed,
+)
 
 pub returns-in-Err-take_one-clause-turned : goal.returns-in-Err-take_one-clause-turned
 returns-in-Err-take_one-clause-turned g c =
-    let fault = c.in-Err-take_one.ensures in
-    ((c.in-Ok-Tick.now, tick), rw c.in-Ok-Tick.field-0-is at c.in-Ok-Tick.ensures.gave, fault.same_state, fault.nothing_told, fault.leaves)
-
-pub returns-in-Err-take_one-clause-stands : goal.returns-in-Err-take_one-clause-stands
-returns-in-Err-take_one-clause-stands g c = λ first second stands not_disk.
-    c.in-Err-take_one.ensures.stands first second stands (λ e. not_disk cc)
+    let fault = c.in-Err-take_one.ensures in (
+      record { now = c.in-Ok-Tick.now; input = tick; came = rw c.in-Ok-Tick.field-0-is at c.in-Ok-Tick.ensures.gave; accepts = fault.accepts },
+      fault.handed,
+    )
 
 pub returns-in-Ok-take_one-clause-turned : goal.returns-in-Ok-take_one-clause-turned
 returns-in-Ok-take_one-clause-turned g c =
-    let buffer = c.next.new.buffer in
-    let size = length c.args.buffer.now in
-    let left = g.S.Source.left c.args.source.now in
-    let left_then = g.S.Source.left c.next.new.self in
-    let gave : GaveAll size left (comes c.in-Ok-Datagram.now (datagram c.in-Ok-Datagram.from (take c.in-Ok-Datagram.n buffer)) ∷ []) left_then = rw c.in-Ok-Datagram.field-0-is at c.in-Ok-Datagram.ensures.gave in
-    ((c.in-Ok-Datagram.now, datagram c.in-Ok-Datagram.from (take c.in-Ok-Datagram.n buffer)), gave, c.in-Ok-take_one.ensures.taken)
+    let bytes = take c.in-Ok-Datagram.n c.next.new.buffer in (
+      record { now = c.in-Ok-Datagram.now; input = datagram c.in-Ok-Datagram.from bytes; came = rw c.in-Ok-Datagram.field-0-is at c.in-Ok-Datagram.ensures.gave; accepts = c.in-Ok-take_one.ensures.accepts },
+      c.in-Ok-take_one.ensures.handed,
+    )
 
 pub returns-in-Err-take_one-2-clause-turned : goal.returns-in-Err-take_one-2-clause-turned
 returns-in-Err-take_one-2-clause-turned g c =
-    let buffer = c.next.new.buffer in
-    let size = length c.args.buffer.now in
-    let left = g.S.Source.left c.args.source.now in
-    let left_then = g.S.Source.left c.next.new.self in
-    let gave : GaveAll size left (comes c.in-Ok-Datagram.now (datagram c.in-Ok-Datagram.from (take c.in-Ok-Datagram.n buffer)) ∷ []) left_then = rw c.in-Ok-Datagram.field-0-is at c.in-Ok-Datagram.ensures.gave in
     let fault = c.in-Err-take_one-2.ensures in
-    ((c.in-Ok-Datagram.now, datagram c.in-Ok-Datagram.from (take c.in-Ok-Datagram.n buffer)), gave, fault.same_state, fault.nothing_told, fault.leaves)
-
-pub returns-in-Err-take_one-2-clause-stands : goal.returns-in-Err-take_one-2-clause-stands
-returns-in-Err-take_one-2-clause-stands g c = λ first second stands not_disk.
-    c.in-Err-take_one-2.ensures.stands first second stands (λ e. not_disk cc)
+    let bytes = take c.in-Ok-Datagram.n c.next.new.buffer in (
+      record { now = c.in-Ok-Datagram.now; input = datagram c.in-Ok-Datagram.from bytes; came = rw c.in-Ok-Datagram.field-0-is at c.in-Ok-Datagram.ensures.gave; accepts = fault.accepts },
+      fault.handed,
+    )

@@ -1,8 +1,9 @@
-use Rattle.std.specs.Prelude.{[]}
+use Rattle.std.specs.Prelude.{◌≡◌, []}
+use Rattle.cue_keeper.specs.declared.fault.StoreFault.TheVariants as StoreFault
 use Rattle.std.proofs.Common.{subst}
 use Rattle.cue_core.specs.State.{ShowState, empty_state}
 use Rattle.cue_script.specs.Script.{Wrote}
-use Rattle.cue_script.proofs.ScriptLemmas.{not_formed}
+use Rattle.cue_script.proofs.ScriptLemmas.{not_formed, no_area, comes_of_recovery}
 use Rattle.cue_script.proofs.entry.play_anew.Goals as goal
 
 pub returns-in-Ok-clause-wrote : goal.returns-in-Ok-clause-wrote
@@ -11,4 +12,8 @@ returns-in-Ok-clause-wrote g c =
     subst P c.in-Ok.ensures.state c.play_lines.ensures.wrote
 
 pub returns-clause-wrote : goal.returns-clause-wrote
-returns-clause-wrote g c = not_formed empty_state c.args.text.now (g.W.Write.contents c.args.writer.now) c.requires
+returns-clause-wrote g c =
+    let other = c.in-Err.ensures.no_other in
+    let empty : c.in-Err.fault ≡ StoreFault.NotEmpty → ⊥ = λ is. no_area _ _ c.new.ensures.held c.new-2.ensures.held (c.in-Err.ensures.not_empty tt tt is) in
+    not_formed c.in-Err.fault empty_state c.args.text.now (g.W.Write.contents c.args.writer.now) c.requires
+    (comes_of_recovery c.in-Err.fault empty other.0 other.1 other.2 other.3)

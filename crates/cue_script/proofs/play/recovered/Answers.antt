@@ -1,9 +1,14 @@
-use Rattle.cue_script.proofs.ScriptLemmas.{closed_state, closed_sends}
+use Rattle.cue_script.proofs.ScriptLemmas.{closed_state, closed_sends, comes_of_recovery}
 use Rattle.cue_script.proofs.play.recovered.Goals as goal
 
-pub returns-in-Ok-recover : goal.returns-in-Ok-recover
-returns-in-Ok-recover c = record {
+pub returns-in-Ok-recover-clause-after : goal.returns-in-Ok-recover-clause-after
+returns-in-Ok-recover-clause-after c = record {
   works = c.in-Ok-recover.ensures.works;
   is = closed_state _ _ _ _ c.in-Ok.ensures (c.in-Ok-recover.ensures.stood tt tt);
   owes = closed_sends _ _ _ _ _ c.in-Ok.ensures (c.in-Ok-recover.ensures.stood tt tt) c.in-Ok-recover.ensures.queue;
 }
+
+pub returns-in-Ok-clause-failure : goal.returns-in-Ok-clause-failure
+returns-in-Ok-clause-failure c =
+    let readable = c.in-Err-recover.ensures.readable tt tt _ c.in-Ok.ensures in
+    comes_of_recovery c.in-Err-recover.fault c.in-Err-recover.ensures.no_other readable.0 readable.1 readable.2 readable.3

@@ -7,4 +7,4 @@ use Rattle.cue_script.proofs.play.run_line.Goals as goal
 pub returns-in-Ok-clause-state : goal.returns-in-Ok-clause-state
 returns-in-Ok-clause-state g c =
     let P : ShowState → Type 0 = λ s. IfOk c.print_owed.result (λ next. state_of next ≡ s) in
-    subst P c.in-Ok.ensures.is c.print_owed.ensures.state
+    subst P c.in-Ok.ensures.after.is c.print_owed.ensures.state

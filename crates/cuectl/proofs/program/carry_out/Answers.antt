@@ -11,7 +11,7 @@ returns-in-Form-clause-ends g c =
     let old = contents c.args.writer.now in
     let new = contents c.status_of.new.writer in
     ends_as (Form c.in-Form.dir) c.args.line c.status_of.result (g.I.Read.remaining c.args.reader.now) old new c.in-Form.is
-    (told_at_zero c.form.result c.status_of.result (contents c.form.new.writer) new (λ (after : Option (List ℕ)). Appends old after formed_text) c.status_of.ensures.status c.form.ensures c.status_of.ensures.kept)
+    (told_at_zero c.form.result c.status_of.result (contents c.form.new.writer) new (λ (after : Option (List ℕ)). Appends old after formed_text) c.status_of.ensures.status c.form.ensures.printed c.status_of.ensures.kept)
 
 pub returns-in-Form-clause-statuses : goal.returns-in-Form-clause-statuses
 returns-in-Form-clause-statuses g c = small_done c.form.result c.status_of.result c.status_of.ensures.status

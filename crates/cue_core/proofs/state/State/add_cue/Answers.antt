@@ -2,7 +2,7 @@ use Rattle.std.proofs.Common.{ap, ◌∙◌}
 use Rattle.cue_show.specs.Show.{with_cue}
 use Rattle.cue_core.specs.declared.event.Event.TheVariants as event
 use Rattle.cue_core.specs.State.{ShowState, with_show}
-use Rattle.cue_core.proofs.Rules.{kept_as}
+use Rattle.cue_core.proofs.rules.RuleLemmas.{kept_as}
 use Rattle.cue_core.proofs.state.State.add_cue.Goals as goal
 
 pub invariant_of-self-2 : goal.invariant_of-self-2

@@ -3,7 +3,7 @@ use Rattle.cue_show.specs.Show.{with_place}
 use Rattle.cue_core.specs.declared.event.Event.TheVariants as event
 use Rattle.cue_core.specs.State.{ShowState}
 use Rattle.cue_core.specs.Steps.{place_after}
-use Rattle.cue_core.proofs.Rules.{kept_as, is_place_of-after}
+use Rattle.cue_core.proofs.rules.RuleLemmas.{kept_as, is_place_of-after}
 use Rattle.cue_core.proofs.state.State.go.Goals as goal
 
 pub set_place-requires : goal.set_place-requires

@@ -1,6 +1,6 @@
 use Rattle.cue_core.specs.declared.event.Event.TheVariants as event
 use Rattle.cue_core.specs.State.{ShowState}
-use Rattle.cue_core.proofs.Rules.{kept}
+use Rattle.cue_core.proofs.rules.RuleLemmas.{kept}
 use Rattle.cue_core.proofs.state.State.let_go.Goals as goal
 
 pub invariant_of-self : goal.invariant_of-self

@@ -5,10 +5,11 @@ use Rattle.cue_osc.specs.Spelling.{argument}
 use Rattle.cue_osc.specs.Writing.{IsArgInRange}
 use Rattle.cue_osc.proofs.Room.{args_len}
 use Rattle.cue_osc.proofs.writing.fields.put_args.Given as goal
+use Rattle.cue_osc.specs.declared.limits.TheConstants.{MAX_LEN}
 
 abbrev pub invariant-loop-arg : goal.invariant-loop-arg
 invariant-loop-arg l = record {
   written : l.out.items ++ flat_map argument (map arg_view (drop l.arg-index l.args)) ≡ l.fn.out.items ++ flat_map argument (map arg_view l.args);
   in_range : AllByRecursion IsArgInRange (map arg_view (drop l.arg-index l.args)) → AllByRecursion IsArgInRange (map arg_view l.args);
-  short : args_len (drop l.arg-index l.args) ≤ 4096;
+  short : args_len (drop l.arg-index l.args) ≤ MAX_LEN;
 }

@@ -1,0 +1,5 @@
+-- The rules of a state: each event keeps them, and so do events in turn.
+pub mod RuleLemmas
+pub mod ApplyLemmas
+pub mod BatchLemmas
+pub mod SoundLemmas

@@ -1,0 +1,368 @@
+//! One device: what it hears, what its machine tells, and what comes of both.
+ghost use Rattle.std.specs.Prelude.{◌≡◌, Some, is_none};
+ghost use Rattle.std.specs.Option.{option_map};
+ghost use Rattle.cue_device.specs.declared.hearing.Told.TheVariants.{Prepared, Moved, GaveUp, Cannot};
+ghost use Rattle.cue_device.specs.Hearing.{after_command, after_reply, after_told, again, answer_ticked, answer_told, begun, doing_after, ends, freed, heard, is_for, left_after, noted, place, rested, said, phase_now, seq_of, task_now, taken, task_of, told_in, told_of, unheard_after, with_parts};
+
+use crate::asked::{Command, Task};
+use crate::phase::{Attempt, Phase, Turn};
+use crate::table::{
+    anew, answer_over, cannot_in, gave_up_in, moved_in, other_standby, prepared_in, same_cancel,
+    same_go, same_standby,
+};
+use crate::words::{Answer, Order};
+use cue_show::DeviceNo;
+
+/// What comes of a command: what the machine is to do now, and what the controller is to be answered now.
+#[derive(Clone, Copy, PartialEq, Eq, Debug)]
+pub struct Heard {
+    pub order: Option<Order>,
+    pub answer: Option<Answer>,
+}
+
+/// What the machine tells of the attempt of this number.
+#[derive(Clone, Copy)]
+pub enum Told {
+    /// It has prepared.
+    Prepared(u32),
+    /// It has carried the cue out.
+    Moved(u32),
+    /// It has given up what it prepared.
+    GaveUp(u32),
+    /// It cannot go on, and is at rest.
+    Cannot(u32),
+}
+
+/// Where a number lies as a device sees it.
+#[derive(Clone, Copy)]
+pub enum Place {
+    /// It is over: below the attempt's, or not above what was over from the start.
+    Over,
+    /// It is that of the attempt.
+    Same(Attempt),
+    /// It is above all that the device has heard of.
+    New,
+}
+
+/// A device. All of its state is in this value: it takes no memory, and its caller may keep it in static memory.
+#[derive(Clone, Copy)]
+pub struct Device {
+    number: DeviceNo,
+    // The highest number that it has heard of.
+    last: u32,
+    // What it has made of that number; none where the number is over.
+    attempt: Option<Attempt>,
+    // The order whose end the machine has not told.
+    doing: Option<Order>,
+    // Whether it said by itself that it cannot go on, and has no reply to that.
+    unheard: bool,
+}
+
+impl Device {
+    /// A device of this number whose machine is at rest and holds nothing. The attempts up to the number `over` are
+    /// over: 0 for a new store. A maker who keeps `last` over a restart hands it in here.
+    pub fn new(number: DeviceNo, over: u32) -> Device
+        ensures { result ≡ rested number over }
+    {
+        Device {
+            number,
+            last: over,
+            attempt: None,
+            doing: None,
+            unheard: false,
+        }
+    }
+
+    /// The device with these parts, as `number`, `last`, `phase` and `task`, `doing` and `tick` gave them: for a caller
+    /// that keeps the parts in place of the value, as C does.
+    pub fn of(
+        number: DeviceNo,
+        last: u32,
+        attempt: Option<Attempt>,
+        doing: Option<Order>,
+        unheard: bool,
+    ) -> Device
+        ensures { result ≡ with_parts number last attempt doing unheard }
+    {
+        Device {
+            number,
+            last,
+            attempt,
+            doing,
+            unheard,
+        }
+    }
+
+    /// The number of the device.
+    pub fn number(&self) -> DeviceNo
+        ensures { result ≡ self.now.number }
+    {
+        self.number
+    }
+
+    /// The highest number of an attempt that the device has heard of: what is kept for a restart, before the machine
+    /// carries an order out.
+    pub fn last(&self) -> u32
+        ensures { result ≡ self.now.last }
+    {
+        self.last
+    }
+
+    /// What the device is asked to prepare for, which is what an order to prepare means; none where it has heard no
+    /// standby of its last number.
+    pub fn task(&self) -> Option<Task>
+        ensures { result ≡ task_now self.now.attempt }
+    {
+        match self.attempt {
+            Some(attempt) => attempt.task,
+            None => None,
+        }
+    }
+
+    /// How far the device has come in the attempt of its last number; none where that number is over.
+    pub fn phase(&self) -> Option<Phase>
+        ensures { result ≡ phase_now self.now.attempt }
+    {
+        match self.attempt {
+            Some(attempt) => Some(attempt.phase),
+            None => None,
+        }
+    }
+
+    /// The order whose end the machine has not told; none where it is free.
+    pub fn doing(&self) -> Option<Order>
+        ensures { result ≡ self.now.doing }
+    {
+        self.doing
+    }
+
+    /// A command came. The order is carried out and the answer is sent, at once. A standby of a new number that comes
+    /// while the machine still does what an earlier one asked for is aborted, and orders nothing.
+    pub fn hear(&mut self, command: &Command) -> Heard
+        ensures state { self.new ≡ after_command command.now self.old }
+        ensures said { result ≡ heard command.now self.old }
+    {
+        match self.place(command.seq()) {
+            Place::Over => Heard {
+                order: None,
+                answer: Some(answer_over(command)),
+            },
+            Place::Same(attempt) => {
+                let task = attempt.task;
+                let turn = again(command, attempt);
+                self.take(turn, task)
+            }
+            Place::New => {
+                let turn = anew(command, self.doing.is_none());
+                let task = command.task();
+                self.begin(command.seq());
+                self.take(turn, task)
+            }
+        }
+    }
+
+    /// The machine has prepared for the attempt of this number. None where it was not ordered to, or where the attempt
+    /// has gone on.
+    pub fn prepared(&mut self, seq: u32) -> Option<Answer>
+        ensures state { self.new ≡ after_told (Prepared seq) self.old }
+        ensures said { result ≡ answer_told (Prepared seq) self.old }
+    {
+        self.tell(Told::Prepared(seq))
+    }
+
+    /// The machine has carried the cue out. None where it was not ordered to, or where the attempt has gone on.
+    pub fn moved(&mut self, seq: u32) -> Option<Answer>
+        ensures state { self.new ≡ after_told (Moved seq) self.old }
+        ensures said { result ≡ answer_told (Moved seq) self.old }
+    {
+        self.tell(Told::Moved(seq))
+    }
+
+    /// The machine has given up what it prepared. None where it was not ordered to, or where the attempt has gone on.
+    pub fn gave_up(&mut self, seq: u32) -> Option<Answer>
+        ensures state { self.new ≡ after_told (GaveUp seq) self.old }
+        ensures said { result ≡ answer_told (GaveUp seq) self.old }
+    {
+        self.tell(Told::GaveUp(seq))
+    }
+
+    /// The machine cannot go on, and is at rest. None where the attempt is another, or was completed or let go.
+    /// Otherwise `tick` gives the abort again until its reply came.
+    pub fn cannot(&mut self, seq: u32) -> Option<Answer>
+        ensures state { self.new ≡ after_told (Cannot seq) self.old }
+        ensures said { result ≡ answer_told (Cannot seq) self.old }
+    {
+        self.tell(Told::Cannot(seq))
+    }
+
+    /// Some four times a second: the abort that nobody asked for, again, until its reply came or a new number.
+    pub fn tick(&self) -> Option<Answer>
+        ensures { result ≡ answer_ticked self.now }
+    {
+        if self.unheard {
+            Some(Answer::Abort(self.last))
+        } else {
+            None
+        }
+    }
+
+    /// The controller has replied to an abort of this device.
+    pub fn hear_reply(&mut self)
+        ensures { self.new ≡ after_reply self.old }
+    {
+        self.unheard = false;
+    }
+
+    fn place(&self, seq: u32) -> Place
+        ensures { result ≡ place self.now seq }
+    {
+        if seq > self.last {
+            return Place::New;
+        }
+        match self.attempt {
+            Some(attempt) => {
+                if seq == self.last {
+                    Place::Same(attempt)
+                } else {
+                    Place::Over
+                }
+            }
+            None => Place::Over,
+        }
+    }
+
+    // A new number begins.
+    fn begin(&mut self, seq: u32)
+        ensures { self.new ≡ begun seq self.old }
+    {
+        self.last = seq;
+        self.unheard = false;
+    }
+
+    // The attempt of the last number takes the turn.
+    fn take(&mut self, turn: Turn, task: Option<Task>) -> Heard
+        ensures state { self.new ≡ taken task turn self.old }
+        ensures said { result ≡ said turn }
+    {
+        let Turn {
+            phase,
+            order,
+            answer,
+        } = turn;
+        self.attempt = Some(Attempt { phase, task });
+        self.doing = doing_after(order, self.doing);
+        Heard { order, answer }
+    }
+
+    // The machine has told this.
+    fn tell(&mut self, told: Told) -> Option<Answer>
+        ensures state { self.new ≡ after_told told self.old }
+        ensures said { result ≡ answer_told told self.old }
+    {
+        let place = self.place(told.seq());
+        self.doing = left_after(told, self.doing);
+        match place {
+            Place::Same(attempt) => {
+                let turn = told.turn(attempt.phase);
+                let task = attempt.task;
+                self.note(told, turn, task);
+                turn.answer
+            }
+            Place::Over | Place::New => None,
+        }
+    }
+
+    // The attempt goes on as the machine told, where that is something new.
+    fn note(&mut self, told: Told, turn: Turn, task: Option<Task>)
+        ensures { self.new ≡ noted told task turn self.old }
+    {
+        if turn.answer.is_some() {
+            let _ = self.take(turn, task);
+            self.unheard = told.waits_for_reply(self.unheard);
+        }
+    }
+}
+
+impl Told {
+    /// The number of the attempt.
+    fn seq(self) -> u32
+        ensures { result ≡ told_of self }
+    {
+        match self {
+            Told::Prepared(seq) | Told::Moved(seq) | Told::GaveUp(seq) | Told::Cannot(seq) => seq,
+        }
+    }
+
+    // What it makes of the attempt.
+    fn turn(self, phase: Phase) -> Turn
+        ensures { result ≡ told_in self phase }
+    {
+        match self {
+            Told::Prepared(seq) => prepared_in(seq, phase),
+            Told::Moved(seq) => moved_in(seq, phase),
+            Told::GaveUp(seq) => gave_up_in(seq, phase),
+            Told::Cannot(seq) => cannot_in(seq, phase),
+        }
+    }
+
+    // Whether it is the end of the order.
+    fn ends(self, order: Order) -> bool
+        ensures { result ≡ ends order self }
+    {
+        match (order, self) {
+            (Order::Prepare(p), Told::Prepared(q) | Told::Cannot(q)) => p == q,
+            (Order::Move(p), Told::Moved(q) | Told::Cannot(q)) => p == q,
+            (Order::GiveUp(p), Told::GaveUp(q) | Told::Cannot(q)) => p == q,
+            (Order::Prepare(_), Told::Moved(_) | Told::GaveUp(_)) => false,
+            (Order::Move(_), Told::Prepared(_) | Told::GaveUp(_)) => false,
+            (Order::GiveUp(_), Told::Prepared(_) | Told::Moved(_)) => false,
+        }
+    }
+
+    // Whether an abort waits for its reply from now on.
+    fn waits_for_reply(self, unheard: bool) -> bool
+        ensures { result ≡ unheard_after self unheard }
+    {
+        match self {
+            Told::Prepared(_) | Told::Moved(_) | Told::GaveUp(_) => unheard,
+            Told::Cannot(_) => true,
+        }
+    }
+}
+
+// What the table says of a command of the attempt's own number.
+fn again(command: &Command, attempt: Attempt) -> Turn
+    ensures { result ≡ again attempt command.now }
+{
+    match command {
+        Command::Standby { seq, task } => {
+            if attempt.is_for(task) {
+                same_standby(*seq, attempt.phase)
+            } else {
+                other_standby(*seq, attempt.phase)
+            }
+        }
+        Command::Go { seq } => same_go(*seq, attempt.phase),
+        Command::Cancel { seq } => same_cancel(*seq, attempt.phase),
+    }
+}
+
+// The order whose end is not told, once this was ordered.
+fn doing_after(order: Option<Order>, doing: Option<Order>) -> Option<Order>
+    ensures { result ≡ doing_after order doing }
+{
+    match order {
+        Some(order) => Some(order),
+        None => doing,
+    }
+}
+
+// The order whose end is not told, once this was told.
+fn left_after(told: Told, doing: Option<Order>) -> Option<Order>
+    ensures { result ≡ left_after told doing }
+{
+    match doing {
+        Some(order) => { if told.ends(order) { None } else { Some(order) } }
+        None => None,
+    }
+}

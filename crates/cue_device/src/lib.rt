@@ -1,0 +1,26 @@
+//! A device's half of the exchange with the cue controller: what it orders its machine, and what it answers.
+//!
+//! One value for one device, with neither memory of its own nor a clock, a socket or a float. The maker's program
+//! receives the datagrams, moves the machine, and tells the value what the machine has done.
+#![tactic(auto)]
+
+mod asked;
+mod fields;
+mod hearing;
+mod over_bytes;
+mod part_bytes;
+mod phase;
+mod reading;
+mod table;
+#[cfg(test)]
+mod tests;
+mod words;
+mod writing;
+
+pub use asked::{Command, Task};
+pub use hearing::{Device, Heard};
+pub use part_bytes::PartBytes;
+pub use phase::{Attempt, Phase};
+pub use reading::{LAST_NUMBER, command};
+pub use words::{Answer, Order};
+pub use writing::{MAX_ANSWER, write};

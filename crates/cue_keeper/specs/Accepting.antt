@@ -1,0 +1,104 @@
+-- What a call that accepts a batch does to a store, whether it succeeds or fails: the one word for it in each layer.
+use Rattle.std.specs.Prelude.{◌≡◌, ◌⊎◌, ◌≤◌, ◌+◌, ◌↔◌, if◌then◌else◌, false, true, List, [], length}
+use Rattle.std.specs.Prelude.{Option, Some, MatchOption, IfSome, IfNone, ⊤}
+use Rattle.cue_disk.specs.declared.disk.Disk.{Ghosts}
+use Rattle.cue_disk.specs.Disk.{MoreFailures}
+use Rattle.cue_snap.specs.declared.snap.Snap.{Snap}
+use Rattle.cue_log.specs.Area.{fresh, with_payload}
+use Rattle.cue_snap.specs.Observed.{first_of, second_of, is_broken, generation_of, count_of, live_area_of}
+use Rattle.cue_core.specs.declared.event.Event.{Event}
+use Rattle.cue_core.specs.State.{ShowState}
+use Rattle.cue_core.specs.Steps.{after_events}
+use Rattle.cue_records.specs.Batch.{batch_text}
+use Rattle.cue_records.specs.State.{state_text}
+use Rattle.cue_keeper.specs.declared.fault.Fault.{Fault}
+use Rattle.cue_keeper.specs.declared.fault.Fault.TheVariants as fault
+use Rattle.cue_keeper.specs.declared.keeper.Keeper.{Keeper}
+use Rattle.cue_keeper.specs.Turning.{turns_over, NeedsNewArea, IsAtTheLast, HasAGeneration, HasNoRoom}
+use Rattle.cue_keeper.specs.Pairs.{LeavesPairsAtEachMoment}
+use Rattle.cue_keeper.specs.Stands.{StandsEither, StandsAs}
+use Rattle.cue_keeper.specs.Observed as kept
+
+-- a device call failed on one of the two disks
+abbrev pub HasFailed : {D : Type 0} {disk : Ghosts D} → Snap D disk → Snap D disk → Type 0
+HasFailed {D} {disk} old new =
+    MoreFailures (disk.failures (first_of old)) (disk.failures (first_of new))
+    ⊎ MoreFailures (disk.failures (second_of old)) (disk.failures (second_of new))
+
+-- why a batch is refused with this fault
+abbrev pub HasCause : {D : Type 0} {disk : Ghosts D} → ShowState → List Event → (old new : Snap D disk) → Fault → Type 0
+HasCause s batch old new fault.Broken = is_broken old ≡ true
+HasCause s batch old new fault.Memory = ⊤
+HasCause s batch old new fault.Exhausted = NeedsNewArea old batch × IsAtTheLast old
+HasCause s batch old new fault.Full = NeedsNewArea old batch × HasNoRoom s batch
+HasCause s batch old new fault.Disk = HasFailed old new
+
+-- What is left of the pair: only a device's own failure has changed anything, and it breaks the pair.
+abbrev pub LeavesPair : {D : Type 0} {disk : Ghosts D} → Snap D disk → Snap D disk → Fault → Type 0
+LeavesPair old new fault.Broken = new ≡ old
+LeavesPair old new fault.Memory = new ≡ old
+LeavesPair old new fault.Exhausted = new ≡ old
+LeavesPair old new fault.Full = new ≡ old
+LeavesPair old new fault.Disk = is_broken new ≡ true
+
+-- A batch is given to a pair that stands for a state. With no fault it is on the disks, whole.
+pub record Commits {D : Type 0} {disk : Ghosts D} (s : ShowState) (batch : List Event) (refused : Option Fault)
+    (old new : Snap D disk) : Type 0 where
+  -- each fault has its reason
+  pub cause : IfSome refused (HasCause s batch old new)
+  pub after : IfSome refused (LeavesPair old new)
+  -- Broken comes first, then Memory, then Exhausted and Full: where memory is there, each comes wherever it can.
+  pub broken : is_broken old ≡ true → refused ≡ Some fault.Broken
+  pub due_at_the_last :
+      is_broken old ≡ false
+      → NeedsNewArea old batch
+      → IsAtTheLast old
+      → (refused ≡ Some fault.Memory) ⊎ (refused ≡ Some fault.Exhausted)
+  pub due_without_room :
+      is_broken old ≡ false
+      → NeedsNewArea old batch
+      → HasAGeneration old
+      → HasNoRoom s batch
+      → (refused ≡ Some fault.Memory) ⊎ (refused ≡ Some fault.Full)
+  -- an empty batch makes no device call
+  pub quiet : batch ≡ [] → new ≡ old
+  -- with no fault it works on, and turns over exactly where that is due
+  pub works : IfNone refused (is_broken new ≡ false)
+  pub generation :
+      1 ≤ length batch
+      → IfNone refused (generation_of new ≡ (if turns_over old batch then generation_of old + 1 else generation_of old))
+  pub count : 1 ≤ length batch → IfNone refused (count_of new ≡ (if turns_over old batch then 1 else count_of old + 1))
+  -- a new area has the state as it is written today, and the batch as its one record
+  pub area :
+      disk.is_honest (first_of old)
+      → disk.is_honest (second_of old)
+      → NeedsNewArea old batch
+      → IfNone refused
+      (live_area_of disk.held new ≡ with_payload (fresh (generation_of old + 1) (state_text s)) (batch_text batch))
+  -- a stop at any moment leaves the state from before or the one after the whole batch
+  pub any_moment :
+      disk.is_honest (first_of old)
+      → disk.is_honest (second_of old)
+      → is_broken old ≡ false
+      → LeavesPairsAtEachMoment disk.moment disk.held_at (first_of old) (second_of old) (first_of new) (second_of new)
+      (StandsEither s (after_events s batch))
+  pub first_failures : disk.failures (first_of old) ≤ disk.failures (first_of new)
+  pub second_failures : disk.failures (second_of old) ≤ disk.failures (second_of new)
+  pub first_honest : disk.is_honest (first_of new) ↔ disk.is_honest (first_of old)
+  pub second_honest : disk.is_honest (second_of new) ↔ disk.is_honest (second_of old)
+
+-- A batch is given to a keeper.
+pub record Accepts {D : Type 0} {disk : Ghosts D} (batch : List Event) (refused : Option Fault)
+    (old new : Keeper D disk) : Type 0 where
+  -- the state with the batch, and on a fault the old one
+  pub state :
+      MatchOption refused
+      (kept.state_of new ≡ after_events (kept.state_of old) batch)
+      (λ _. kept.state_of new ≡ kept.state_of old)
+  -- from Ok on whatever a stop leaves stands for it
+  pub stands :
+      disk.is_honest (kept.first_of old)
+      → disk.is_honest (kept.second_of old)
+      → IfNone refused
+      (StandsAs (disk.held (kept.first_of new)) (disk.held (kept.second_of new)) (after_events (kept.state_of old) batch))
+  pub pair : Commits (kept.state_of old) batch refused (kept.pair_of old) (kept.pair_of new)

@@ -1,0 +1,5 @@
+use Rattle.cue_outbox.proofs.Apart.{orders-differ}
+use Rattle.cue_outbox.proofs.laws.orders_differ.Goals as goal
+
+pub returns : goal.returns
+returns c = orders-differ

@@ -1,0 +1,9 @@
+//! Tests of runs and scripts over public calls: runs in memory, the source of a socket, and whole scripts.
+#![tactic(auto)]
+
+#[cfg(test)]
+mod runs;
+#[cfg(test)]
+mod scripts;
+#[cfg(test)]
+mod sockets;

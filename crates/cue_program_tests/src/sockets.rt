@@ -1,0 +1,167 @@
+//! The source of a socket, over a receiver and a clock that stand in for a socket and the machine's clock.
+use cue_run::{Receive, Source, Tries, Turn, UdpSource};
+use std::cell::Cell;
+use std::io::{self, ErrorKind};
+use std::test::Fail;
+use std::time::{Clock, Duration};
+
+/// The port of the source.
+const OWN: u16 = 9100;
+
+/// What a wait brings: four bytes from a port, or an error.
+#[derive(Clone, Copy)]
+enum Comes {
+    From(u16),
+    Fails(ErrorKind),
+}
+
+/// A clock that a test sets, and what the next wait brings.
+#[derive(Drop)]
+struct StandIn {
+    now: Cell<u64>,
+    comes: Cell<Comes>,
+    /// What the clock shows after the wait.
+    after: Cell<u64>,
+    waits: Cell<u32>,
+}
+
+impl Clock for StandIn {
+    fn monotonic(&self) -> io::Result<Duration> {
+        Ok(Duration::from_millis(self.now.get()))
+    }
+
+    fn since_1970(&self) -> io::Result<Duration> {
+        Ok(Duration::from_millis(self.now.get()))
+    }
+}
+
+impl Receive for &StandIn {
+    fn receive(&mut self, buffer: &mut [u8]) -> io::Result<(usize, u16)> {
+        self.now.set(self.after.get());
+        self.waits.set(self.waits.get().saturating_add(1));
+        match self.comes.get() {
+            Comes::From(port) => Ok((buffer.len().min(4), port)),
+            Comes::Fails(kind) => Err(io::Error::from(kind)),
+        }
+    }
+}
+
+/// What the clock shows, what a wait would bring and when it would be over, and the try that this makes; None where it
+/// fails. The source begins at 1,000.
+const TRIES: [(u64, Comes, u64, Option<Option<Turn>>); 12] = [
+    // A datagram has the moment after the wait.
+    (
+        1_000,
+        Comes::From(8000),
+        1_010,
+        Some(Some(Turn::Datagram {
+            now: 1_010,
+            from: 8000,
+            n: 4,
+        })),
+    ),
+    // One of the own port is passed over, and so is word that nobody got a reply.
+    (1_020, Comes::From(OWN), 1_030, Some(None)),
+    (
+        1_040,
+        Comes::Fails(ErrorKind::ConnectionRefused),
+        1_050,
+        Some(None),
+    ),
+    (
+        1_060,
+        Comes::Fails(ErrorKind::Interrupted),
+        1_070,
+        Some(None),
+    ),
+    // Nothing came in 250 ms.
+    (
+        1_100,
+        Comes::Fails(ErrorKind::WouldBlock),
+        1_350,
+        Some(Some(Turn::Tick { now: 1_350 })),
+    ),
+    (1_599, Comes::From(OWN), 1_600, Some(None)),
+    // A tick is due, and then it is the last one.
+    (
+        1_600,
+        Comes::From(8000),
+        1_700,
+        Some(Some(Turn::Tick { now: 1_600 })),
+    ),
+    (
+        1_600,
+        Comes::From(8000),
+        1_700,
+        Some(Some(Turn::Datagram {
+            now: 1_700,
+            from: 8000,
+            n: 4,
+        })),
+    ),
+    // The clock was put back.
+    (
+        1_590,
+        Comes::From(8000),
+        1_700,
+        Some(Some(Turn::Tick { now: 1_590 })),
+    ),
+    (
+        1_600,
+        Comes::Fails(ErrorKind::TimedOut),
+        1_610,
+        Some(Some(Turn::Tick { now: 1_610 })),
+    ),
+    (
+        1_620,
+        Comes::Fails(ErrorKind::PermissionDenied),
+        1_630,
+        None,
+    ),
+    (
+        1_860,
+        Comes::Fails(ErrorKind::PermissionDenied),
+        1_870,
+        Some(Some(Turn::Tick { now: 1_860 })),
+    ),
+];
+
+impl StandIn {
+    // The clock shows 1,000, and nobody waited yet.
+    fn new() -> StandIn {
+        StandIn {
+            now: Cell::new(1_000),
+            comes: Cell::new(Comes::From(OWN)),
+            after: Cell::new(1_000),
+            waits: Cell::new(0),
+        }
+    }
+}
+
+/// What each try brings.
+#[test]
+fn tries(rt: HostRuntime) -> Result<(), Fail> {
+    let stand_in = StandIn::new();
+    let mut source = UdpSource::new(&stand_in, &stand_in, OWN)?;
+    let mut buffer = [0; 8];
+    for (now, comes, after, expected) in TRIES {
+        stand_in.now.set(now);
+        stand_in.comes.set(comes);
+        stand_in.after.set(after);
+        let brought = source.try_next(&mut buffer).ok();
+        assert!(rt; brought == expected, "the try at {now}");
+    }
+    Ok(())
+}
+
+/// Where only datagrams of the own port come, a call is a fault after 65,536 of them.
+#[test]
+fn own_datagrams(rt: HostRuntime) -> Result<(), Fail> {
+    let stand_in = StandIn::new();
+    let mut source = UdpSource::new(&stand_in, &stand_in, OWN)?;
+    let mut buffer = [0; 8];
+    let turn = source.next(&mut buffer);
+    assert!(rt; turn.is_err(), "a turn");
+    assert_eq!(rt; stand_in.waits.get(), 65_536);
+    Ok(())
+}

@@ -1,0 +1,41 @@
+//! What came while a call waited for a datagram.
+ghost use Rattle.std.specs.Prelude.{◌≡◌};
+ghost use Rattle.cue_run.specs.Udp.{came_of, meaning_of};
+
+use std::io::{self, ErrorKind};
+
+/// What came while a call waited.
+#[derive(Clone, Copy)]
+pub enum Came {
+    Nothing,
+    /// It is passed over: a datagram of the own port, or word that nobody got an earlier reply.
+    Noise,
+    Datagram { from: u16, n: usize },
+}
+
+// What a wait means that ended so; None where the socket failed.
+fn meaning_of(kind: ErrorKind) -> Option<Came>
+    ensures { result ≡ meaning_of kind }
+{
+    match kind {
+        ErrorKind::WouldBlock => Some(Came::Nothing),
+        ErrorKind::TimedOut => Some(Came::Nothing),
+        ErrorKind::ConnectionRefused => Some(Came::Noise),
+        ErrorKind::Interrupted => Some(Came::Noise),
+        _ => None,
+    }
+}
+
+/// What a wait at this port brought: a datagram's length and the port that it is from, or an error.
+pub fn what_came(own: u16, received: io::Result<(usize, u16)>) -> io::Result<Came>
+    ensures { result ≡ came_of own received }
+{
+    match received {
+        Ok((_, from)) if from == own => Ok(Came::Noise),
+        Ok((n, from)) => Ok(Came::Datagram { from, n }),
+        Err(error) => match meaning_of(error.kind()) {
+            Some(came) => Ok(came),
+            None => Err(error),
+        },
+    }
+}

@@ -1,0 +1,255 @@
+/* compare COUNT SEED: so many random datagrams and reports of the machine, to the library and to the table. It prints
+ * progress, and ends with 1 at the first difference. tests/runs/device-c builds and runs it. */
+#include "table.h"
+#include <stdio.h>
+#include <stdlib.h>
+#include <string.h>
+
+static uint64_t seed;
+
+/* A random number below this one. */
+static uint32_t below(uint32_t end)
+{
+    seed ^= seed << 13;
+    seed ^= seed >> 7;
+    seed ^= seed << 17;
+    return (uint32_t)((seed * 0x2545f4914f6cdd1dULL) >> 33) % end;
+}
+
+static struct cue_device device;
+static struct cue_answer answer;
+static struct table table;
+static uint8_t datagram[200];
+static size_t length;
+static unsigned long orders, answers, passed_over, count, seed_given;
+
+static void differ(const char *what, const char *call)
+{
+    printf("FAIL %s of %s differs: event %lu of seed %lu; device %u, last %u, phase %u by the library and %u by the "
+           "table\n    ", what, call, count, seed_given, (unsigned)device.number, (unsigned)device.last,
+           (unsigned)device.phase, (unsigned)table.phase);
+    for (size_t i = 0; i < length; i++)
+        printf("%02x", datagram[i]);
+    printf("\n");
+    exit(1);
+}
+
+/* The whole state and the whole answer are those of the table. */
+static void compare(const char *call, uint32_t order, struct outcome wanted)
+{
+    struct cue_device state = {table.number, table.last, table.phase, table.doing, table.doing_number, table.unheard,
+                               0, 0, {0}, {0}};
+    struct cue_answer said = {0, {0}};
+    if (table.has_task) {
+        state.cue_length = table.task.cue_length;
+        state.bytes_length = table.task.bytes_length;
+        memcpy(state.cue, table.task.cue, 16);
+        memcpy(state.bytes, table.task.bytes, 32);
+    }
+    if (wanted.word != SILENCE)
+        said.length = (uint32_t)put_answer(said.bytes, table.number, wanted.word, wanted.number);
+    if (order != wanted.order)
+        differ("the order", call);
+    if (memcmp(&state, &device, sizeof state))
+        differ("the state", call);
+    if (memcmp(&said, &answer, sizeof said))
+        differ("the answer", call);
+    orders += order != CUE_NO_ORDER;
+    answers += said.length > 0;
+}
+
+/* ---- random events */
+
+static void begin(void)
+{
+    static const uint32_t NUMBERS[] = {0, 3, 9, 10, 99, 100, 111}, LAST[] = {0, 0, 0, 1, 7, 300, 0x7ffffff0};
+    memset(&table, 0, sizeof table);
+    table.number = NUMBERS[below(7)];
+    table.last = LAST[below(7)];
+    memset(&device, 0xa5, sizeof device);
+    memset(&answer, 0, sizeof answer);
+    compare("cue_new", cue_new(&device, table.number, table.last), (struct outcome){0, 0, 0});
+}
+
+/* Mostly the number of the attempt, or one near it. */
+static uint32_t number(void)
+{
+    static const uint32_t ODD[] = {0, 1, 0x7fffffff, 0x80000000, 0xffffffff};
+    uint32_t chance = below(100);
+    if (chance < 62)
+        return table.last + (table.phase == CUE_OVER);
+    if (chance < 82)
+        return table.last + 1;
+    if (chance < 88)
+        return table.last + 1 + below(300);
+    if (chance < 99)
+        return table.last - below(3);
+    return ODD[below(5)];
+}
+
+static struct task task(void)
+{
+    static const char *const CUES[] = {"1", "1.5", "12", "123", "1234567890.12345", "12345678901234567", "", "1.", "a"};
+    static const uint32_t LENGTHS[] = {0, 1, 2, 3, 4, 31, 32, 33};
+    struct task made;
+    memset(&made, 0, sizeof made);
+    if (table.has_task && below(4))
+        return table.task;
+    made.cue_length = (uint32_t)strlen(strcpy((char *)made.cue, CUES[below(below(8) ? 5 : 9)])) % 18;
+    made.bytes_length = LENGTHS[below(below(8) ? 7 : 8)];
+    for (uint32_t i = 0; i < made.bytes_length; i++)
+        made.bytes[i] = (uint8_t)below(3);
+    return made;
+}
+
+/* Changes a whole datagram a little. */
+static void change(void)
+{
+    switch (below(5)) {
+    case 0:
+        datagram[below((uint32_t)length)] ^= (uint8_t)(1u << below(8));
+        break;
+    case 1:
+        length = below((uint32_t)length + 1);
+        break;
+    case 2:
+        for (uint32_t more = 1 + below(8); more > 0; more--)
+            datagram[length++] = (uint8_t)below(2);
+        break;
+    case 3:
+        datagram[below((uint32_t)length)] = (uint8_t)below(256);
+        break;
+    default:
+        length -= length < 4 ? length : 4;
+    }
+}
+
+static void hear(void)
+{
+    uint32_t chance = below(100), to = below(20) ? table.number : below(113);
+    struct task its = task();
+    if (chance < 12) {
+        static const char *const WORDS[] = {"abort", "abort", "complete", "abort1"};
+        uint32_t codes[4] = {1, 0, 0, below(256)};
+        char text[40];
+        sprintf(text, "/device/%u/%s", (unsigned)to, WORDS[below(4)]);
+        length = put_reply(datagram, text, codes);
+    } else if (chance < 15) {
+        for (length = 0; length < 60 && below(40); length++)
+            datagram[length] = (uint8_t)below(256);
+    } else {
+        uint32_t of = number();
+        length = put_command(datagram, (enum command)below(COMMANDS), of, to, &its);
+    }
+    if (length > 0 && below(6) == 0)
+        change();
+    struct table before = table;
+    struct outcome wanted = table_hear(&table, datagram, length);
+    passed_over += wanted.order == 0 && wanted.word == 0 && !memcmp(&before, &table, sizeof table);
+    compare("cue_hear", cue_hear(&device, datagram, length, &answer), wanted);
+}
+
+/* The machine tells something: mostly the end of what it was ordered. */
+static void tell(void)
+{
+    uint32_t order = table.doing && below(8) ? table.doing : 1 + below(3);
+    uint32_t of = table.doing && below(8) ? table.doing_number : number();
+    length = 0;
+    uint32_t chance = below(12);
+    if (chance == 0)
+        compare("cue_cannot", cue_cannot(&device, of, &answer), table_cannot(&table, of));
+    else if (chance == 1)
+        compare("cue_tick", cue_tick(&device, &answer), table_tick(&table));
+    else if (order == CUE_PREPARE)
+        compare("cue_prepared", cue_prepared(&device, of, &answer), table_told(&table, order, of));
+    else if (order == CUE_MOVE)
+        compare("cue_moved", cue_moved(&device, of, &answer), table_told(&table, order, of));
+    else
+        compare("cue_gave_up", cue_gave_up(&device, of, &answer), table_told(&table, order, of));
+}
+
+/* ---- calls that are none */
+
+static void wants_bad_call(const char *what, struct cue_device bad)
+{
+    static const uint8_t GO_1[] = "/msc/go_2pc\0,ii\0\0\0\0\1\0\0\0\3";
+    struct cue_device before = bad;
+    uint32_t given[6];
+    answer.length = 1;
+    given[0] = cue_hear(&bad, GO_1, 24, &answer);
+    given[1] = cue_prepared(&bad, 1, &answer);
+    given[2] = cue_moved(&bad, 1, &answer);
+    given[3] = cue_gave_up(&bad, 1, &answer);
+    given[4] = cue_cannot(&bad, 1, &answer);
+    given[5] = cue_tick(&bad, &answer);
+    for (int i = 0; i < 6; i++)
+        if (given[i] != CUE_BAD_CALL || answer.length != 0 || memcmp(&before, &bad, sizeof bad)) {
+            printf("FAIL call %d of a state with %s is answered with %u\n", i, what, (unsigned)given[i]);
+            exit(1);
+        }
+}
+
+static void bad_calls(void)
+{
+    struct cue_device good, bad;
+    uint8_t byte = 0;
+    cue_new(&good, 3, 7);
+#define BAD(field, value) bad = good; bad.field = value; wants_bad_call(#field " " #value, bad)
+    BAD(number, 112);
+    BAD(number, 0xffffffff);
+    BAD(phase, 8);
+    BAD(phase, 0xffffffff);
+    BAD(doing, CUE_BAD_CALL);
+    BAD(unheard, 2);
+    BAD(cue_length, 17);
+    BAD(cue_length, 1);
+    BAD(bytes_length, 33);
+    memset(&bad, 0xff, sizeof bad);
+    wants_bad_call("ones", bad);
+    int refused = cue_new(NULL, 3, 0) == CUE_BAD_CALL && cue_new(&bad, 112, 0) == CUE_BAD_CALL &&
+                  cue_new(&bad, 3, 0x80000000) == CUE_BAD_CALL && cue_hear(NULL, &byte, 1, &answer) == CUE_BAD_CALL &&
+                  cue_hear(&good, NULL, 1, &answer) == CUE_BAD_CALL && cue_hear(&good, &byte, 1, NULL) == CUE_BAD_CALL &&
+                  cue_hear(&good, &byte, 65536, &answer) == CUE_BAD_CALL && cue_tick(NULL, &answer) == CUE_BAD_CALL &&
+                  cue_moved(&good, 1, NULL) == CUE_BAD_CALL && cue_hear(&good, NULL, 0, &answer) == CUE_NO_ORDER;
+    printf("%s null pointers, states and numbers out of range are answered\n", refused ? "ok  " : "FAIL");
+    if (!refused)
+        exit(1);
+}
+
+/* Each cell of the table was met. */
+static void all_cells(void)
+{
+    static const char *const ROWS[] = {"standby", "go", "cancel", "another standby"};
+    unsigned long least = count;
+    for (int row = 0; row < 4; row++)
+        for (int phase = CUE_PREPARING; phase <= CUE_FAILED; phase++) {
+            if (cells[row][phase] == 0 && count >= 100000)
+                printf("FAIL %s in phase %d was never met\n", ROWS[row], phase), exit(1);
+            least = cells[row][phase] < least ? cells[row][phase] : least;
+        }
+    printf("ok   each of 28 cells was met, at least %lu times\n", least);
+}
+
+int main(int words, char **word)
+{
+    unsigned long wanted = words > 1 ? strtoul(word[1], NULL, 10) : 1000000;
+    seed_given = words > 2 ? strtoul(word[2], NULL, 10) : 1;
+    seed = seed_given * 0x9e3779b97f4a7c15ULL + 1;
+    bad_calls();
+    begin();
+    for (count = 1; count <= wanted; count++) {
+        if (below(200) == 0)
+            begin();
+        if (below(3))
+            hear();
+        else
+            tell();
+        if (count % 250000 == 0)
+            printf("     %lu of %lu\n", count, wanted), fflush(stdout);
+    }
+    count--;
+    all_cells();
+    printf("ok   %lu events of seed %lu: %lu orders, %lu answers, %lu datagrams passed over, and none differs\n", count,
+           seed_given, orders, answers, passed_over);
+    return 0;
+}

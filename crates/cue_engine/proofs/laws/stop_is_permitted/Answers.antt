@@ -1,0 +1,5 @@
+use Rattle.cue_engine.proofs.Permitted.{stop as law}
+use Rattle.cue_engine.proofs.laws.stop_is_permitted.Goals as goal
+
+pub returns : goal.returns
+returns g c = law g.D.Disk.held

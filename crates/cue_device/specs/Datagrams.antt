@@ -10,7 +10,7 @@ use Rattle.cue_show.specs.Number.{is_cue_number}
 use Rattle.cue_device.specs.declared.asked.Command.{Command}
 use Rattle.cue_device.specs.declared.asked.Command.TheVariants.{Standby, Go, Cancel}
 use Rattle.cue_device.specs.declared.asked.Task.{Task}
-use Rattle.cue_device.specs.declared.reading.TheConstants.{LAST_NUMBER}
+use Rattle.cue_device.specs.declared.reading.TheConstants.{MAX_NUMBER}
 use Rattle.cue_device.specs.declared.words.Answer.{Answer}
 use Rattle.cue_device.specs.declared.words.Answer.TheVariants.{StandingBy, Complete, Cancelled, Abort}
 use Rattle.cue_device.specs.declared.words.Order.{Order}
@@ -35,7 +35,7 @@ command_text d c = text_of (command_content d c)
 
 -- a number that an attempt may have
 abbrev pub IsNumber : ℕ → Type 0
-IsNumber q = (1 ≤ q) × (q ≤ LAST_NUMBER)
+IsNumber q = (1 ≤ q) × (q ≤ MAX_NUMBER)
 
 -- the number of a cue, and bytes that a part may have
 pub record IsTask (task : Task) : Type 0 where

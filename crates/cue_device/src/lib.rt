@@ -20,6 +20,6 @@ pub use asked::{Command, Task};
 pub use hearing::{Device, Heard};
 pub use part_bytes::PartBytes;
 pub use phase::{Attempt, Phase};
-pub use reading::{LAST_NUMBER, command};
+pub use reading::{MAX_NUMBER, command};
 pub use words::{Answer, Order};
 pub use writing::{MAX_ANSWER, write};

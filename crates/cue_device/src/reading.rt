@@ -11,7 +11,7 @@ use crate::part_bytes::PartBytes;
 use cue_show::{CueNo, DeviceNo};
 
 /// The highest number of an attempt; the lowest is 1.
-pub const LAST_NUMBER: u32 = 2147483647;
+pub const MAX_NUMBER: u32 = 2147483647;
 
 // How each command begins: its address, and its type tag string.
 const STANDBY: [u8; 24] = *b"/msc/standby\0\0\0\0,iisb\0\0\0";
@@ -47,7 +47,7 @@ fn seq_for(bytes: &[u8], number: DeviceNo) -> Option<(u32, &[u8])>
 {
     let (seq, rest) = int_at(bytes)?;
     let (device, rest) = int_at(rest)?;
-    if seq >= 1 && seq <= LAST_NUMBER && device == u32::from(number.number()) {
+    if seq >= 1 && seq <= MAX_NUMBER && device == u32::from(number.number()) {
         Some((seq, rest))
     } else {
         None

@@ -1,7 +1,7 @@
 -- A device as C has it: the numbers that stand for a device, and the device that numbers stand for.
 use Rattle.std.specs.Prelude.{ℕ, Bool, ◌&&◌, ◌||◌, if◌then◌else◌, Option, Some, None, List, ◌++◌, length, take, replicate, ◌-◌, nat_eq, nat_le}
 use Rattle.cue_show.specs.Number.{is_cue_number}
-use Rattle.cue_show.specs.declared.limits.TheConstants.{LAST_DEVICE, MAX_CUE_BYTES, MAX_PART_BYTES}
+use Rattle.cue_show.specs.declared.limits.TheConstants.{MAX_DEVICE_NUMBER, MAX_CUE_BYTES, MAX_PART_BYTES}
 use Rattle.cue_device.specs.declared.asked.Task.{Task}
 use Rattle.cue_device.specs.declared.hearing.Device.{Device}
 use Rattle.cue_device.specs.declared.phase.Attempt.{Attempt}
@@ -18,7 +18,7 @@ fits_cue len places = nat_eq len 0 || (nat_le len MAX_CUE_BYTES && is_cue_number
 
 -- the numbers stand for a device
 abbrev pub fits : CueDevice → Bool
-fits s = nat_le s.number LAST_DEVICE && (nat_le s.phase 7 && (nat_le s.doing 3 && (nat_le s.unheard 1 && (nat_le s.bytes_length MAX_PART_BYTES && fits_cue s.cue_length s.cue))))
+fits s = nat_le s.number MAX_DEVICE_NUMBER && (nat_le s.phase 7 && (nat_le s.doing 3 && (nat_le s.unheard 1 && (nat_le s.bytes_length MAX_PART_BYTES && fits_cue s.cue_length s.cue))))
 
 -- what it is asked to prepare for
 abbrev pub task_in : CueDevice → Option Task

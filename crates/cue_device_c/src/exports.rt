@@ -1,12 +1,12 @@
 //! The calls for C, one for each of the library's. None of them looks for a null pointer: the header does.
 ghost use Rattle.std.specs.Prelude.{◌≡◌, ◌≤◌, ◌<◌};
-ghost use Rattle.cue_show.specs.declared.limits.TheConstants.{LAST_DEVICE};
+ghost use Rattle.cue_show.specs.declared.limits.TheConstants.{MAX_DEVICE_NUMBER};
 ghost use Rattle.cue_device.specs.declared.hearing.Told.TheVariants.{Prepared, Moved, GaveUp, Cannot};
 ghost use Rattle.cue_device.specs.Hearing.{rested};
 ghost use Rattle.cue_device_c.specs.Calls.{Hears, Tells, Ticks};
 ghost use Rattle.cue_device_c.specs.State.{kept};
 ghost use Rattle.cue_device_c.specs.declared.codes.TheConstants.{BAD_CALL};
-ghost use Rattle.cue_device_c.specs.declared.exports.TheConstants.{LAST_NUMBER};
+ghost use Rattle.cue_device_c.specs.declared.exports.TheConstants.{MAX_NUMBER};
 
 use crate::answer::CueAnswer;
 use crate::codes::{BAD_CALL, order_code};
@@ -14,18 +14,18 @@ use crate::state::{CueDevice, device_number};
 use cue_device::{Device, MAX_ANSWER};
 
 /// The highest number of an attempt.
-pub const LAST_NUMBER: u32 = 2147483647;
+pub const MAX_NUMBER: u32 = 2147483647;
 
 /// Makes a device of this number, 0 to 111, whose attempts up to `over` are over, 0 to 2,147,483,647. Gives 0, or
 /// `BAD_CALL` where either is out of range.
 #[unsafe(no_mangle)]
 pub extern "C" fn cue_device_new(device: &mut CueDevice, number: u32, over: u32) -> u32
-    ensures made { number ≤ LAST_DEVICE → over ≤ LAST_NUMBER → (device.new ≡ kept (rested number over)) × (result ≡ 0) }
-    ensures no_number { LAST_DEVICE < number → (device.new ≡ device.old) × (result ≡ BAD_CALL) }
-    ensures not_over { LAST_NUMBER < over → (device.new ≡ device.old) × (result ≡ BAD_CALL) }
+    ensures made { number ≤ MAX_DEVICE_NUMBER → over ≤ MAX_NUMBER → (device.new ≡ kept (rested number over)) × (result ≡ 0) }
+    ensures no_number { MAX_DEVICE_NUMBER < number → (device.new ≡ device.old) × (result ≡ BAD_CALL) }
+    ensures not_over { MAX_NUMBER < over → (device.new ≡ device.old) × (result ≡ BAD_CALL) }
 {
     match device_number(number) {
-        Some(number) if over <= LAST_NUMBER => {
+        Some(number) if over <= MAX_NUMBER => {
             *device = CueDevice::of(&Device::new(number, over));
             0
         }

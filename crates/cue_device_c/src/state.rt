@@ -5,7 +5,7 @@ ghost use Rattle.cue_device_c.specs.State.{bytes_length, bytes_places, cue_lengt
 
 use crate::codes::{order_code, order_number, order_of, phase_code, phase_of};
 use cue_device::{Attempt, Device, PartBytes, Task};
-use cue_show::limits::{LAST_DEVICE, MAX_CUE_BYTES, MAX_PART_BYTES};
+use cue_show::limits::{MAX_CUE_BYTES, MAX_DEVICE_NUMBER, MAX_PART_BYTES};
 use cue_show::{CueNo, DeviceNo};
 
 /// `struct cue_device`, whose fields `include/cue_device.h` describes.
@@ -67,7 +67,7 @@ impl CueDevice {
     fn fits(&self) -> bool
         ensures { result ≡ fits self.now }
     {
-        self.number <= u32::from(LAST_DEVICE)
+        self.number <= u32::from(MAX_DEVICE_NUMBER)
             && self.phase <= 7
             && self.doing <= 3
             && self.unheard <= 1
@@ -134,7 +134,7 @@ fn bytes_of(task: &Option<Task>) -> (u32, [u8; MAX_PART_BYTES])
 pub(crate) fn device_number(number: u32) -> Option<DeviceNo>
     ensures { result ≡ device_of_byte number }
 {
-    if number <= u32::from(LAST_DEVICE) {
+    if number <= u32::from(MAX_DEVICE_NUMBER) {
         DeviceNo::of_byte(number as u8)
     } else {
         None

@@ -31,7 +31,7 @@ pub enum Asked<'a> {
 
 /// The address at which it is asked, in its one spelling without wildcards.
 pub fn address(alloc: Global, asked: Asked<'_>) -> Result<Vec<u8>, AllocError>
-    ensures { IfOk result (λ bytes. bytes.items ≡ address_of (method_of asked)) }
+    ensures { IfOk result (λ bytes. bytes.items ≡ address_of (method_of asked.entry)) }
 {
     match asked {
         Asked::Status => Vec::from_slice(alloc, b"/status"),
@@ -132,8 +132,8 @@ fn args_of<'a>(alloc: Global, asked: &'a Asked<'a>) -> Result<Vec<Arg<'a>>, Allo
 /// The datagram that asks for it, and for nothing else: one message. `TooLong` never comes of parts that a cue can
 /// have.
 pub fn datagram(alloc: Global, asked: Asked<'_>) -> Result<Vec<u8>, WriteFault>
-    requires { IsTrue (is_askable asked) }
-    ensures { IfOk result (λ bytes. AsksFor bytes.items (command_of asked)) }
+    requires { IsTrue (is_askable asked.entry) }
+    ensures { IfOk result (λ bytes. AsksFor bytes.items (command_of asked.entry)) }
 {
     let address = address(alloc, asked)?;
     let args = args_of(alloc, &asked)?;

@@ -1,5 +1,4 @@
 pub mod Added
-pub mod Copies
 pub mod Endings
 pub mod Lines
 pub mod Performing

@@ -1,38 +1,13 @@
 //! How `show` reads a store that another process may serve meanwhile: again, where what it read may be of two moments.
-use super::copies::{copied_at_once, is_read_again};
 use super::fault::ProgramFault;
 use super::files::{open_both, refused_store, say};
 use super::lock::is_served;
+use cue_copies::{READINGS, Seen, is_read_again, look};
 use cue_disk::{FileDisk, MemDisk};
-use cue_keeper::{Keeper, StoreFault};
+use cue_keeper::Keeper;
 use std::alloc::Global;
 use std::fs::{File, Files};
 use std::io::Eprint;
-
-/// How many times both files are read at most.
-const READINGS: u32 = 10;
-
-/// What a reading of both files gave.
-enum Seen {
-    /// The store.
-    Whole(Keeper<MemDisk>),
-    /// The store is refused.
-    Refused(StoreFault),
-    /// A file was turned over while they were read.
-    Changing,
-}
-
-// Reads both files once.
-fn look(alloc: Global, first: &mut FileDisk, second: &mut FileDisk) -> Seen {
-    match copied_at_once(alloc, first, second) {
-        Ok(Some(copies)) => match copies.open(alloc) {
-            Ok(keeper) => Seen::Whole(keeper),
-            Err(fault) => Seen::Refused(fault),
-        },
-        Ok(None) => Seen::Changing,
-        Err(fault) => Seen::Refused(fault),
-    }
-}
 
 // Reads both files until the answer is one of a single moment, `READINGS` times at most. What a store at rest answers
 // is answered at once.

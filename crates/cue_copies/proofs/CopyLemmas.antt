@@ -1,9 +1,9 @@
 -- What an answer over disks in memory says of the fault that it was made of.
 use Rattle.std.proofs.Common.{◌≡◌, ◌∙◌, sym, refl}
-use Rattle.std.specs.Prelude.{Result, Err, IsErrOf}
+use Rattle.std.specs.Prelude.{Err, IsErrOf}
 use Rattle.cue_keeper.specs.declared.fault.StoreFault.{StoreFault}
 use Rattle.cue_keeper.specs.declared.fault.StoreFault.TheVariants as store
-use Rattle.cuectl.specs.Copies.{fault_in_memory}
+use Rattle.cue_copies.specs.Copies.{fault_in_memory}
 
 -- two refusals that are the same have the same fault
 pub fault_of_same : {T E : Type 0} (one other : E) → IsErrOf {T = T} {E = E} (Err one) other → one ≡ other

@@ -2,8 +2,8 @@ use Rattle.std.proofs.Common.{ℕ, List, ap, subst}
 use Rattle.cue_disk.specs.Disk.{Contents}
 use Rattle.cue_keeper.specs.Refusals.{HasOtherVersion, StandsForNone}
 use Rattle.cue_keeper.specs.declared.fault.StoreFault.TheVariants.{Version, Malformed}
-use Rattle.cuectl.proofs.CopyLemmas.{fault_of_same, version_in_memory, malformed_in_memory}
-use Rattle.cuectl.proofs.program.copies.open_bytes.Goals as goal
+use Rattle.cue_copies.proofs.CopyLemmas.{fault_of_same, version_in_memory, malformed_in_memory}
+use Rattle.cue_copies.proofs.copying.open_bytes.Goals as goal
 
 pub returns-clause-version : goal.returns-clause-version
 returns-clause-version c = λ same.

@@ -5,7 +5,7 @@ ghost use Rattle.cue_snap.specs.Pair.{IsSpoiled, NeitherHas};
 ghost use Rattle.cue_keeper.specs.Stands.{Stands};
 ghost use Rattle.cue_keeper.specs.Refusals.{HasOtherVersion, StandsForNone};
 ghost use Rattle.cue_keeper.specs.Observed.{state_of};
-ghost use Rattle.cuectl.specs.Copies.{fault_in_memory, is_read_again};
+ghost use Rattle.cue_copies.specs.Copies.{fault_in_memory, is_read_again};
 
 use cue_disk::{Disk, FileDisk, MemDisk};
 use cue_engine::Engine;

@@ -1,7 +1,9 @@
 //! What the desk asks of the controller: each as exactly one message of the protocol.
-ghost use Rattle.std.specs.Prelude.{◌≡◌, ◌++◌, ◌∷◌, [], IsTrue, IfOk, OnOk, map, codes};
+ghost use Rattle.std.specs.Prelude.{◌≡◌, ◌++◌, ◌∷◌, [], IsTrue, Ok, IfOk, OnOk, map, codes};
 ghost use Rattle.std.specs.Fmt.{decimal};
 ghost use Rattle.cue_osc.specs.Argument.{arg_view, text};
+ghost use Rattle.cue_osc.specs.Content.{message};
+ghost use Rattle.cue_osc.specs.Reading.{datagram_at};
 ghost use Rattle.cue_operator.specs.Methods.{address_of, cue_verb_text, under};
 ghost use Rattle.cue_operator.specs.declared.method.Method.TheVariants.{OfCue};
 ghost use Rattle.cue_desk.specs.Asks.{AsksFor, arguments_of, command_of, flag_of, flagged_parts, is_askable, method_of};
@@ -29,17 +31,58 @@ pub enum Asked<'a> {
     RemoveDevice(DeviceNo),
 }
 
+impl Asked<'_> {
+    /// Whether the numbers and parts are ones that there are: a port is not 0, and the parts are ones that a cue can
+    /// have.
+    pub fn is_askable(&self) -> bool
+        ensures { result ≡ is_askable self.now }
+    {
+        match self {
+            Asked::AddDevice(device, port) => {
+                // Called for its clause that the number is in range.
+                let _number = device.number();
+                *port >= 1
+            }
+            Asked::AddCue(cue, parts) => {
+                // Called for its clause that the text is a cue number.
+                let _text = cue.text();
+                parts.is_fit()
+            }
+            Asked::Status | Asked::OfCue(_, _) | Asked::Release(_) | Asked::RemoveDevice(_) => true,
+        }
+    }
+}
+
+/// Why there is no datagram.
+#[derive(Clone, Copy, Debug, PartialEq, Eq)]
+pub enum AskFault {
+    /// An allocation was refused.
+    Memory,
+    /// The message would be longer than a datagram. What a show can have never is.
+    Unwritable,
+}
+
+impl From<AllocError> for AskFault {
+    ghost use Rattle.cue_desk.specs.declared.asking.AskFault.TheVariants.{Memory};
+
+    ghost from_gives = { λ _ fault. fault ≡ Memory };
+
+    fn from(_: AllocError) -> AskFault {
+        AskFault::Memory
+    }
+}
+
 /// The address at which it is asked, in its one spelling without wildcards.
-pub fn address(alloc: Global, asked: Asked<'_>) -> Result<Vec<u8>, AllocError>
-    ensures { IfOk result (λ bytes. bytes.items ≡ address_of (method_of asked.entry)) }
+pub fn address(alloc: Global, asked: &Asked<'_>) -> Result<Vec<u8>, AllocError>
+    ensures { IfOk result (λ bytes. bytes.items ≡ address_of (method_of asked.now)) }
 {
     match asked {
         Asked::Status => Vec::from_slice(alloc, b"/status"),
         Asked::AddDevice(_, _) => Vec::from_slice(alloc, b"/show/device"),
         Asked::AddCue(_, _) => Vec::from_slice(alloc, b"/show/mixed"),
-        Asked::OfCue(verb, cue) => cue_address(alloc, verb, cue),
-        Asked::Release(device) => device_address(alloc, b"release", device),
-        Asked::RemoveDevice(device) => device_address(alloc, b"remove", device),
+        Asked::OfCue(verb, cue) => cue_address(alloc, *verb, *cue),
+        Asked::Release(device) => device_address(alloc, b"release", *device),
+        Asked::RemoveDevice(device) => device_address(alloc, b"remove", *device),
     }
 }
 
@@ -129,17 +172,30 @@ fn args_of<'a>(alloc: Global, asked: &'a Asked<'a>) -> Result<Vec<Arg<'a>>, Allo
     }
 }
 
-/// The datagram that asks for it, and for nothing else: one message. `TooLong` never comes of parts that a cue can
-/// have.
-pub fn datagram(alloc: Global, asked: Asked<'_>) -> Result<Vec<u8>, WriteFault>
-    requires { IsTrue (is_askable asked.entry) }
-    ensures { IfOk result (λ bytes. AsksFor bytes.items (command_of asked.entry)) }
+// The datagram of a message.
+fn message(alloc: Global, address: &[u8], args: Vec<Arg<'_>>) -> Result<Vec<u8>, AskFault>
+    ensures { IfOk result (λ bytes. datagram_at bytes.items ≡ Ok (message address.now (map arg_view args.entry.items))) }
 {
-    let address = address(alloc, asked)?;
-    let args = args_of(alloc, &asked)?;
     let packet = Packet::Message(Message {
-        address: &address,
+        address,
         args: Args::from_vec(args),
     });
-    cue_osc::write(alloc, &packet)
+    if !packet.plain() {
+        return Err(AskFault::Unwritable);
+    }
+    match cue_osc::write(alloc, &packet) {
+        Ok(bytes) => Ok(bytes),
+        Err(WriteFault::Memory) => Err(AskFault::Memory),
+        Err(WriteFault::TooLong) => Err(AskFault::Unwritable),
+    }
+}
+
+/// The datagram that asks for it, and for nothing else: one message.
+pub fn datagram(alloc: Global, asked: &Asked<'_>) -> Result<Vec<u8>, AskFault>
+    requires { IsTrue (is_askable asked.now) }
+    ensures { IfOk result (λ bytes. AsksFor bytes.items (command_of asked.now)) }
+{
+    let address = address(alloc, asked)?;
+    let args = args_of(alloc, asked)?;
+    message(alloc, &address, args)
 }

@@ -11,7 +11,7 @@ fn good_file_is_written_as_it_was_read(rt: HostRuntime) {
     let draft = read(alloc, GOOD).expect(&rt, "memory");
     assert!(rt; draft.findings.is_empty());
     let trial = check(alloc, &draft.file).expect(&rt, "memory");
-    assert!(rt; trial.findings.is_empty());
+    assert!(rt; trial.findings.is_empty() && trial.show.is_some());
     let text = written(alloc, &draft.file).expect(&rt, "memory");
     assert!(rt; text.as_str() == GOOD, "{}", text.as_str());
 }

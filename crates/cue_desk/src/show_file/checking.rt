@@ -1,32 +1,43 @@
 //! What a controller with an empty show makes of a show file: each device and each cue in turn is put into a show, or
 //! it is told why that cannot be.
+ghost use Rattle.std.specs.Prelude.{◌≡◌, ◌&&◌, IfOk};
+ghost use Rattle.cue_show.specs.Show.{empty_show};
+ghost use Rattle.cue_desk.specs.Accepted.{after_cue, after_cues, after_device, after_devices, after_file, if_all};
+
 use super::mistake::{Finding, Findings, Mistake, Subject};
 use super::{CueEntry, DeviceEntry, ShowFile};
 use cue_show::limits::{MAX_DEVICES, MAX_PARTS};
 use cue_show::{Parts, Show};
 use std::alloc::{AllocError, Global};
 
-/// The show that a file makes of an empty one, and what of the file cannot be made.
+/// What a controller with an empty show makes of a file.
 #[derive(Drop)]
 pub struct Checked {
-    pub show: Show,
-    /// Devices first, then cues, each in the order of the file.
+    /// The show that the file makes; none where a device or a cue of it is refused.
+    pub show: Option<Show>,
+    /// Why: devices first, then cues, each in the order of the file.
     pub findings: Vec<Finding>,
 }
 
+// Puts a device into the show; whether it is taken.
 fn check_device(
     show: &mut Show,
     findings: &mut Findings,
     entry: &DeviceEntry,
-) -> Result<(), AllocError> {
+) -> Result<bool, AllocError>
+    ensures { IfOk result (λ taken. after_device show.old entry.now ≡ if_all taken show.new) }
+{
     findings.look_at(entry.line, Subject::Device(entry.number));
     if show.can_add_device(entry.number, entry.port) {
-        show.add_device(entry.number, entry.port)
-    } else if show.has_device(entry.number) {
-        findings.note(Mistake::DeviceTwice)
-    } else {
-        findings.note(Mistake::BadPort)
+        show.add_device(entry.number, entry.port)?;
+        return Ok(true);
     }
+    findings.note(if show.has_device(entry.number) {
+        Mistake::DeviceTwice
+    } else {
+        Mistake::BadPort
+    })?;
+    Ok(false)
 }
 
 // Notes each device of the parts that the show does not have.
@@ -89,45 +100,66 @@ fn note_cue(show: &Show, findings: &mut Findings, entry: &CueEntry) -> Result<()
     note_unknown(show, findings, &entry.parts)
 }
 
-fn check_cue(show: &mut Show, findings: &mut Findings, entry: &CueEntry) -> Result<(), AllocError> {
+// Puts a cue on the stack; whether it is taken.
+fn check_cue(show: &mut Show, findings: &mut Findings, entry: &CueEntry) -> Result<bool, AllocError>
+    ensures { IfOk result (λ taken. after_cue show.old entry.now ≡ if_all taken show.new) }
+{
     findings.look_at(entry.line, Subject::Cue(entry.number));
     if show.can_add_cue(entry.number, &entry.parts) {
-        show.add_cue(entry.number, entry.parts.clone()?)
-    } else {
-        note_cue(show, findings, entry)
+        show.add_cue(entry.number, entry.parts.clone()?)?;
+        return Ok(true);
     }
+    note_cue(show, findings, entry)?;
+    Ok(false)
 }
 
+// Puts each device into the show; whether all are taken.
 fn check_devices(
     show: &mut Show,
     findings: &mut Findings,
     entries: &[DeviceEntry],
-) -> Result<(), AllocError> {
+) -> Result<bool, AllocError>
+    ensures { IfOk result (λ all. after_devices show.old entries.now ≡ if_all all show.new) }
+{
+    let mut all = true;
     for entry in entries {
-        check_device(show, findings, entry)?;
+        all &= check_device(show, findings, entry)?;
     }
-    Ok(())
+    Ok(all)
 }
 
+// Puts each cue on the stack; whether all are taken.
 fn check_cues(
     show: &mut Show,
     findings: &mut Findings,
     entries: &[CueEntry],
-) -> Result<(), AllocError> {
+) -> Result<bool, AllocError>
+    ensures { IfOk result (λ all. after_cues show.old entries.now ≡ if_all all show.new) }
+{
+    let mut all = true;
     for entry in entries {
-        check_cue(show, findings, entry)?;
+        all &= check_cue(show, findings, entry)?;
     }
-    Ok(())
+    Ok(all)
+}
+
+// The show, where all of a file is taken.
+fn taken(show: Show, devices: bool, cues: bool) -> Option<Show>
+    ensures { result ≡ if_all (devices && cues) show }
+{
+    if devices && cues { Some(show) } else { None }
 }
 
 /// Puts what the file has into an empty show, devices first, and tells what cannot be put there.
-pub fn check(alloc: Global, file: &ShowFile) -> Result<Checked, AllocError> {
+pub fn check(alloc: Global, file: &ShowFile) -> Result<Checked, AllocError>
+    ensures { IfOk result (λ trial. trial.show ≡ after_file empty_show file.now) }
+{
     let mut show = Show::new(alloc);
     let mut findings = Findings::new(alloc);
-    check_devices(&mut show, &mut findings, &file.devices)?;
-    check_cues(&mut show, &mut findings, &file.cues)?;
+    let devices = check_devices(&mut show, &mut findings, &file.devices)?;
+    let cues = check_cues(&mut show, &mut findings, &file.cues)?;
     Ok(Checked {
-        show,
+        show: taken(show, devices, cues),
         findings: findings.into_vec(),
     })
 }

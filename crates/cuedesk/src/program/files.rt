@@ -22,7 +22,7 @@ pub fn read_file<R: Files<File = File> + Eprint + AllocGlobal>(
     };
     let draft = read(rt.alloc(), text.as_str())?;
     let trial = check(rt.alloc(), &draft.file)?;
-    if draft.findings.is_empty() && trial.findings.is_empty() {
+    if draft.findings.is_empty() && trial.show.is_some() {
         return Ok(draft.file);
     }
     say_findings(rt, path, &draft.findings);

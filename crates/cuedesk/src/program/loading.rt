@@ -60,7 +60,7 @@ fn add<R: Eprint + AllocGlobal>(
         }
         Heard::Replied(Replied::Reply { made, .. }) if made > 0 => Ok(Became::New),
         Heard::Replied(_) => Ok(Became::Known),
-        Heard::Silence => {
+        Heard::Silence | Heard::Noise => {
             say(
                 rt,
                 format_args!(

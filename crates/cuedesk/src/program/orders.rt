@@ -70,7 +70,7 @@ pub fn carry_order<R: Net + Eprint + AllocGlobal, W: Write>(
     let wire = Wire::new(rt, port)?;
     match wire.ask(rt.alloc(), &asked_by(order), Sendings::One)? {
         Heard::Replied(replied) => tell(rt, replied, writer),
-        Heard::Silence => {
+        Heard::Silence | Heard::Noise => {
             say(
                 rt,
                 "not acknowledged: it was carried out whole, or not at all",

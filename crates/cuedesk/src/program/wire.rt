@@ -2,7 +2,7 @@
 use super::ending::{Ending, say};
 use cue_desk::asking::{Asked, address, datagram};
 use cue_desk::replying::{Replied, read_reply};
-use std::alloc::Global;
+use std::alloc::{AllocError, Global};
 use std::io::{Eprint, ErrorKind};
 use std::net::{IpAddr, Ipv4Addr, Net, SocketAddr, UdpSocket};
 use std::time::Duration;
@@ -36,8 +36,37 @@ pub struct Wire {
 pub enum Heard {
     /// The controller replied.
     Replied(Replied),
-    /// Nobody did.
+    /// Nothing came in time.
     Silence,
+    /// Something else came.
+    Noise,
+}
+
+// What a datagram of the controller says to who asked at this address.
+fn said(alloc: Global, asked: &[u8], datagram: &[u8]) -> Result<Heard, Ending> {
+    match read_reply(alloc, asked, datagram) {
+        Ok(Some(replied)) => Ok(Heard::Replied(replied)),
+        Ok(None) => Ok(Heard::Noise),
+        Err(AllocError) => Err(Ending::Failed),
+    }
+}
+
+// What it means that no datagram was heard.
+fn unheard(kind: ErrorKind) -> Result<Heard, Ending> {
+    match kind {
+        ErrorKind::WouldBlock | ErrorKind::TimedOut => Ok(Heard::Silence),
+        ErrorKind::ConnectionRefused | ErrorKind::Interrupted => Ok(Heard::Noise),
+        _ => Err(Ending::Failed),
+    }
+}
+
+// Whether it is what is waited for: the status after its reply, and else the reply.
+fn is_wanted(heard: Heard, wants_status: bool) -> bool {
+    match heard {
+        Heard::Replied(Replied::Status(_)) => wants_status,
+        Heard::Replied(Replied::Reply { .. }) => !wants_status,
+        Heard::Silence | Heard::Noise => false,
+    }
 }
 
 impl Wire {
@@ -56,19 +85,18 @@ impl Wire {
         }
     }
 
-    // What the next datagram says to who asked at this address. Silence where none came in time.
-    fn hear(&self, alloc: Global, asked: &[u8]) -> Result<Option<Heard>, Ending> {
+    // What the next datagram says to who asked at this address.
+    fn hear(&self, alloc: Global, asked: &[u8]) -> Result<Heard, Ending> {
         let mut buffer = [0; LONGEST];
         match self.socket.recv_from(&mut buffer) {
-            Ok((n, peer)) if peer.port() == self.port => {
-                Ok(read_reply(alloc, asked, &buffer[..n])?.map(Heard::Replied))
+            Ok((n, peer)) => {
+                if peer.port() == self.port {
+                    said(alloc, asked, &buffer[..n])
+                } else {
+                    Ok(Heard::Noise)
+                }
             }
-            Ok(_) => Ok(None),
-            Err(error) => match error.kind() {
-                ErrorKind::WouldBlock | ErrorKind::TimedOut => Ok(Some(Heard::Silence)),
-                ErrorKind::ConnectionRefused | ErrorKind::Interrupted => Ok(None),
-                _ => Err(Ending::Failed),
-            },
+            Err(error) => unheard(error.kind()),
         }
     }
 
@@ -96,9 +124,9 @@ impl Wire {
         let wants_status = matches!(asked, Asked::Status);
         for _ in 0..sendings.times() {
             self.send(&datagram);
-            match self.wait(alloc, shown, wants_status, sendings.silences())? {
-                Heard::Silence => {}
-                heard => return Ok(heard),
+            let heard = self.wait(alloc, shown, wants_status, sendings.silences())?;
+            if heard != Heard::Silence {
+                return Ok(heard);
             }
         }
         Ok(Heard::Silence)
@@ -114,12 +142,12 @@ impl Wire {
     ) -> Result<Heard, Ending> {
         let mut silent = 0u32;
         for _ in 0..MOST_HEARD {
-            match self.hear(alloc, asked)? {
-                Some(Heard::Replied(replied)) if is_wanted(replied, wants_status) => {
-                    return Ok(Heard::Replied(replied));
-                }
-                Some(Heard::Silence) => silent = silent.saturating_add(1),
-                _ => {}
+            let heard = self.hear(alloc, asked)?;
+            if is_wanted(heard, wants_status) {
+                return Ok(heard);
+            }
+            if heard == Heard::Silence {
+                silent = silent.saturating_add(1);
             }
             if silent >= silences {
                 return Ok(Heard::Silence);
@@ -152,13 +180,5 @@ impl Sendings {
             Sendings::One => 4,
             Sendings::Some => 1,
         }
-    }
-}
-
-// Whether what was replied is what is waited for: the status after its reply, and else the reply.
-fn is_wanted(replied: Replied, wants_status: bool) -> bool {
-    match replied {
-        Replied::Status(_) => wants_status,
-        Replied::Reply { .. } => !wants_status,
     }
 }

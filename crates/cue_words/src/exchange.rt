@@ -1,8 +1,13 @@
 //! What devices have answered, and how attempts end, in words.
+ghost use Rattle.std.specs.Prelude.{◌≡◌};
+ghost use Rattle.cue_words.specs.Answered.{answer_words};
+
 use cue_exchange::{Answer, Outcome, Reason};
 
 /// What a device of a live attempt has answered in its present stage.
-pub fn answer_words(answer: Answer) -> &'static str {
+pub fn answer_words(answer: Answer) -> &'static str
+    ensures { result.now ≡ answer_words answer }
+{
     match answer {
         Answer::Waiting => "waiting",
         Answer::Ready => "ready",

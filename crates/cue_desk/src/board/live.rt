@@ -1,4 +1,7 @@
 //! The live attempts, and what each of their devices has answered.
+ghost use Rattle.std.specs.Prelude.{◌≡◌, IfOk, string_bytes};
+ghost use Rattle.cue_desk.specs.Board.{Begins, device_front};
+
 use super::columns::{COLUMNS, fitted};
 use crate::show_file::ShowFile;
 use cue_exchange::{Attempt, DeviceAnswer, Stage};
@@ -6,6 +9,9 @@ use cue_show::DeviceNo;
 use cue_words::{answer_words, reason_words};
 use std::alloc::{AllocError, Global};
 use std::fmt::Write;
+
+/// The column at which the line of a device goes on after its answer.
+const NAME_AT: usize = 30;
 
 // How far an attempt has come.
 fn push_stage(text: &mut String, attempt: &Attempt, now: u64) -> Result<(), AllocError> {
@@ -45,18 +51,45 @@ fn name_of<'a>(file: Option<&'a ShowFile>, device: DeviceNo) -> &'a str {
     }
 }
 
-// What a device has answered, and what it is called.
+// What a device has answered.
+fn device_front(alloc: Global, answer: &DeviceAnswer) -> Result<String, AllocError>
+    ensures { IfOk result (λ text. string_bytes text ≡ device_front answer.now) }
+{
+    let device = answer.device.number();
+    let words = answer_words(answer.answer);
+    Ok(format!(in alloc; "         device {device}: {words}")?)
+}
+
+// What follows after so many columns: whether the device is optional, and what it is called.
+fn device_rest(
+    alloc: Global,
+    file: Option<&ShowFile>,
+    answer: &DeviceAnswer,
+    front: usize,
+) -> Result<String, AllocError> {
+    let mut rest = String::new(alloc);
+    for _ in front..NAME_AT {
+        rest.push(' ')?;
+    }
+    let needed = if answer.optional { "optional" } else { "" };
+    let name = name_of(file, answer.device);
+    let text = format!(in alloc; "{needed:<10}{name}")?;
+    rest.push_str(fitted(alloc, text.as_str(), COLUMNS - NAME_AT)?.as_str())?;
+    Ok(rest)
+}
+
+// The line of a device: which it is, what it has answered, and what it is called.
 fn device_line(
     alloc: Global,
     file: Option<&ShowFile>,
     answer: &DeviceAnswer,
-) -> Result<String, AllocError> {
-    let device = answer.device.number();
-    let words = answer_words(answer.answer);
-    let needed = if answer.optional { "optional" } else { "" };
-    let name = name_of(file, answer.device);
-    let text = format!(in alloc; "         device {device}: {words:<8} {needed:<8}  {name}")?;
-    fitted(alloc, text.as_str(), COLUMNS)
+) -> Result<String, AllocError>
+    ensures { IfOk result (λ text. Begins (device_front answer.now) (string_bytes text)) }
+{
+    let mut line = device_front(alloc, answer)?;
+    let rest = device_rest(alloc, file, answer, line.len())?;
+    line.push_str(rest.as_str())?;
+    Ok(line)
 }
 
 fn push_attempt(

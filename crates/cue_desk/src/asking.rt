@@ -174,7 +174,8 @@ fn args_of<'a>(alloc: Global, asked: &'a Asked<'a>) -> Result<Vec<Arg<'a>>, Allo
 
 // The datagram of a message.
 fn message(alloc: Global, address: &[u8], args: Vec<Arg<'_>>) -> Result<Vec<u8>, AskFault>
-    ensures { IfOk result (λ bytes. datagram_at bytes.items ≡ Ok (message address.now (map arg_view args.entry.items))) }
+    ensures { let said = message address.now (map arg_view args.entry.items) in
+        IfOk result (λ bytes. datagram_at bytes.items ≡ Ok said) }
 {
     let packet = Packet::Message(Message {
         address,

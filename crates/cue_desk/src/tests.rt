@@ -2,8 +2,9 @@
 use crate::show_file::{check, read, written};
 
 /// A file with nothing wrong.
-const GOOD: &str =
-    "port = 9100\n\n[[device]]\nnumber = 3\nport = 9001\nname = \"Winch 3, \\\"blue\\\" drop\"\n\n[[cue]]\nnumber = \"12.5\"\nname = \"Blackout\"\nnote = \"wait\"\nparts = [\n  { device = 3, hex = \"0a0b\" },\n]\n";
+const GOOD: &str = "port = 9100\n\n\
+[[device]]\nnumber = 3\nport = 9001\nname = \"Winch 3, \\\"blue\\\" drop\"\n\n\
+[[cue]]\nnumber = \"12.5\"\nname = \"Blackout\"\nnote = \"wait\"\nparts = [\n  { device = 3, hex = \"0a0b\" },\n]\n";
 
 #[test]
 fn good_file_is_written_as_it_was_read(rt: HostRuntime) {

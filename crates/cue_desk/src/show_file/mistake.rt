@@ -147,7 +147,7 @@ fn write_of_key<W: fmt::Write>(f: &mut fmt::Formatter<W>, mistake: &Mistake) -> 
         ),
         Mistake::BadCue => write!(
             f,
-            "that is no cue number: write digits with single points between them, as \"12.5\", {MAX_CUE_BYTES} characters at most"
+            "that is no cue number: write digits with single points, as \"12.5\", {MAX_CUE_BYTES} characters at most"
         ),
         Mistake::BadPort => f.write_str("that is no port: take one of 1 to 65535"),
         Mistake::BadHex => f.write_str(

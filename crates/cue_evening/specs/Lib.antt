@@ -1,4 +1,3 @@
 pub mod Alone
 pub mod Busy
-pub mod CodeWords
 pub mod Ends

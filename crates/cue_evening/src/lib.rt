@@ -7,7 +7,6 @@
 
 mod alone;
 mod busy;
-mod code_words;
 mod commands;
 mod course;
 mod entry;

@@ -1,12 +1,12 @@
 //! The lines of replies.
 use crate::busy::{held_device, waiting_devices};
-use crate::code_words::code_words;
 use crate::course::Cause;
 use crate::entry::Reply;
 use crate::names::{push_cues, push_devices, push_numbers};
 use cue_core::{Code, Event, State};
 use cue_exchange::{Attempt, Live};
 use cue_show::{CueNo, DeviceNo, Part, Parts};
+use cue_words::code_words;
 use std::alloc::{AllocError, Global};
 use std::fmt::Write;
 

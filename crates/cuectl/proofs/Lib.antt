@@ -1,6 +1,5 @@
 mod ClapRows
 mod ClapWalk
 mod CommandLemmas
-mod CopyLemmas
 mod LineLemmas
 mod PerformLemmas

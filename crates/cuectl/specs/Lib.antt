@@ -1,9 +1,7 @@
 pub mod Added
-pub mod Copies
 pub mod Endings
 pub mod Lines
 pub mod Locking
-pub mod Looking
 pub mod Performing
 pub mod ShowText
 pub mod Unread

@@ -35,7 +35,6 @@ ghost use Rattle.cuectl.specs.ShowText.{show_text};
 ghost use Rattle.cuectl.specs.declared.line.words.LineFault.TheVariants.{Memory, Usage};
 ghost use Rattle.cuectl.specs.declared.program.fault.ProgramFault.TheVariants.{Io, Net};
 
-mod copies;
 pub mod fault;
 mod files;
 mod lock;
@@ -44,7 +43,7 @@ mod looking;
 use crate::line::line;
 use crate::line::words::{Line, LineFault};
 use crate::show_text::show_text;
-use copies::refusal_of;
+use cue_copies::refusal_of;
 use cue_core::State;
 use cue_disk::FileDisk;
 use cue_engine::Engine;

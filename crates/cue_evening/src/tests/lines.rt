@@ -1,6 +1,5 @@
 //! The lines of single datagrams and attempts.
 use crate::alone::standby_line;
-use crate::code_words::code_words;
 use crate::commands::count_of;
 use crate::entry::Entry;
 use crate::notes::Notebook;
@@ -8,6 +7,7 @@ use crate::replies;
 use cue_core::Event;
 use cue_exchange::{Answer, Answers, Attempt, DeviceAnswer, Reason, Stage};
 use cue_show::{CueNo, DeviceNo};
+use cue_words::code_words;
 use std::alloc::{AllocError, Global};
 use std::process::Abort;
 use std::test::Fail;

@@ -1,48 +1,16 @@
 //! How `show` reads a store that another process may serve meanwhile: again, where what it read may be of two moments.
 ghost use Rattle.std.specs.Prelude.{◌≡◌, ◌↔◌};
-ghost use Rattle.cuectl.specs.Looking.{StandsAsSeen};
+ghost use Rattle.cue_copies.specs.Looking.{StandsAsSeen};
 
-use super::copies::{copied_at_once, is_read_again};
 use super::fault::ProgramFault;
 use super::files::{open_both, refused_store, say};
 use super::lock::is_served;
+use cue_copies::{READINGS, Seen, is_read_again, look};
 use cue_disk::{Disk, MemDisk};
-use cue_keeper::{Keeper, StoreFault};
+use cue_keeper::Keeper;
 use std::alloc::Global;
 use std::fs::{File, Files};
 use std::io::Eprint;
-
-/// How many times both files are read at most.
-const READINGS: u32 = 10;
-
-/// What a reading of both files gave.
-enum Seen {
-    /// The store.
-    Whole(Keeper<MemDisk>),
-    /// The store is refused.
-    Refused(StoreFault),
-    /// A file was turned over while they were read.
-    Changing,
-}
-
-// Reads both files once.
-fn look<D: Disk>(alloc: Global, first: &mut D, second: &mut D) -> Seen
-    ensures first_kept { D.is_honest first.old → D.held first.new ≡ D.held first.old }
-    ensures second_kept { D.is_honest second.old → D.held second.new ≡ D.held second.old }
-    ensures first_honest { D.is_honest first.new ↔ D.is_honest first.old }
-    ensures second_honest { D.is_honest second.new ↔ D.is_honest second.old }
-    ensures stood { D.is_honest first.old → D.is_honest second.old
-        → StandsAsSeen (D.held first.old) (D.held second.old) result }
-{
-    match copied_at_once(alloc, first, second) {
-        Ok(Some(copies)) => match copies.open(alloc) {
-            Ok(keeper) => Seen::Whole(keeper),
-            Err(fault) => Seen::Refused(fault),
-        },
-        Ok(None) => Seen::Changing,
-        Err(fault) => Seen::Refused(fault),
-    }
-}
 
 // Reads both files until the answer is one of a single moment, `READINGS` times at most. What a store at rest answers
 // is answered at once. No write and no sync of them is made.

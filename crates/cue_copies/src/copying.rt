@@ -1,0 +1,272 @@
+//! Copies of both files of a store, in memory: what they stand for is known without a write or a sync of the files.
+ghost use Rattle.std.specs.Prelude.{
+  ◌≡◌,
+  ◌≤◌,
+  ◌-◌,
+  ◌++◌,
+  ◌↔◌,
+  length,
+  take,
+  drop,
+  Some,
+  None,
+  IfOk,
+  IfSome,
+  OnOk,
+  IsErrOf,
+};
+ghost use Rattle.cue_log.specs.declared.area.TheConstants.{AREA_LIMIT};
+ghost use Rattle.cue_disk.specs.Memory.{IsNew};
+ghost use Rattle.cue_snap.specs.Pair.{IsSpoiled, NeitherHas};
+ghost use Rattle.cue_keeper.specs.Stands.{Stands};
+ghost use Rattle.cue_keeper.specs.Refusals.{HasOtherVersion, StandsForNone};
+ghost use Rattle.cue_keeper.specs.Observed.{state_of};
+ghost use Rattle.cue_copies.specs.Copies.{IsFront, copy_of, fault_in_memory, is_read_again};
+
+use cue_disk::{Disk, MemDisk};
+use cue_engine::Engine;
+use cue_keeper::{Keeper, StoreFault};
+use cue_log::AREA_LIMIT;
+use std::alloc::{AllocError, Global};
+
+/// How many bytes at the front of a file say which area it has: the head gate, the generation, and the length of the
+/// snapshot. A file with an area is changed without a change there in one way: records are added at its end.
+const HEAD: usize = 13;
+
+/// How many times a file is read on at most, because it has grown meanwhile.
+const GROWTHS: u32 = 100;
+
+/// The heads of both files at one moment. Where a file is shorter, zeros stand for what is missing.
+#[derive(Clone, Copy, PartialEq, Eq)]
+struct Heads {
+    first: [u8; HEAD],
+    second: [u8; HEAD],
+}
+
+/// The bytes of both files of a store.
+#[derive(Drop)]
+pub struct Copies {
+    first: Vec<u8>,
+    second: Vec<u8>,
+}
+
+/// Whether a store that another process serves is read again before this is said of it. Its files are not read at one
+/// moment, so that a store that is whole can look like that.
+pub fn is_read_again(fault: StoreFault) -> bool
+    ensures { result ≡ is_read_again fault }
+{
+    match fault {
+        StoreFault::Damaged | StoreFault::Malformed | StoreFault::Version | StoreFault::Unformed =>
+            true,
+        StoreFault::NotEmpty
+        | StoreFault::Full
+        | StoreFault::Exhausted
+        | StoreFault::Memory
+        | StoreFault::Disk => false,
+    }
+}
+
+// What a fault over disks in memory is: these fail for want of memory alone.
+fn fault_in_memory(fault: StoreFault) -> StoreFault
+    ensures { result ≡ fault_in_memory fault }
+{
+    match fault {
+        StoreFault::NotEmpty => StoreFault::NotEmpty,
+        StoreFault::Unformed => StoreFault::Unformed,
+        StoreFault::Damaged => StoreFault::Damaged,
+        StoreFault::Version => StoreFault::Version,
+        StoreFault::Malformed => StoreFault::Malformed,
+        StoreFault::Full => StoreFault::Full,
+        StoreFault::Exhausted => StoreFault::Exhausted,
+        StoreFault::Memory | StoreFault::Disk => StoreFault::Memory,
+    }
+}
+
+// The front of a file.
+fn head<D: Disk>(disk: &mut D) -> Result<[u8; HEAD], StoreFault>
+    ensures kept { D.is_honest disk.old → D.held disk.new ≡ D.held disk.old }
+    ensures honest { D.is_honest disk.new ↔ D.is_honest disk.old }
+{
+    let mut head = [0; HEAD];
+    let len = disk.len().map_err(|_| StoreFault::Disk)?.min(HEAD as u64) as usize;
+    disk.read_at(0, &mut head[..len])
+        .map_err(|_| StoreFault::Disk)?;
+    Ok(head)
+}
+
+// The front of both files.
+fn heads_of<D: Disk>(first: &mut D, second: &mut D) -> Result<Heads, StoreFault>
+    ensures first_kept { D.is_honest first.old → D.held first.new ≡ D.held first.old }
+    ensures second_kept { D.is_honest second.old → D.held second.new ≡ D.held second.old }
+    ensures first_honest { D.is_honest first.new ↔ D.is_honest first.old }
+    ensures second_honest { D.is_honest second.new ↔ D.is_honest second.old }
+{
+    Ok(Heads {
+        first: head(first)?,
+        second: head(second)?,
+    })
+}
+
+// Reads on after the bytes that were read, up to this length of the file.
+fn read_on<D: Disk>(disk: &mut D, bytes: &mut Vec<u8>, len: usize) -> Result<(), StoreFault>
+    requires longer { length bytes.old.items ≤ len }
+    requires within { D.is_honest disk.old → len ≤ length (D.held disk.old).bytes }
+    ensures len { OnOk result (length bytes.new.items ≡ len) }
+    ensures read { D.is_honest disk.old → OnOk result (bytes.new.items ≡ bytes.old.items
+        ++ take (len - length bytes.old.items) (drop (length bytes.old.items) (D.held disk.old).bytes)) }
+    ensures kept { D.is_honest disk.old → D.held disk.new ≡ D.held disk.old }
+    ensures honest { D.is_honest disk.new ↔ D.is_honest disk.old }
+{
+    let have = bytes.len();
+    bytes.resize(len, 0).map_err(|_| StoreFault::Memory)?;
+    disk.read_at(have as u64, &mut bytes[have..])
+        .map_err(|_| StoreFault::Disk)
+}
+
+// Reads on up to the present length of the file, or as much as an area may have. Answers whether it had grown.
+fn read_grown<D: Disk>(disk: &mut D, bytes: &mut Vec<u8>) -> Result<bool, StoreFault>
+    requires short { length bytes.old.items ≤ AREA_LIMIT }
+    requires front { D.is_honest disk.old → IsFront bytes.old.items (D.held disk.old).bytes }
+    ensures short { OnOk result (length bytes.new.items ≤ AREA_LIMIT) }
+    ensures copy { D.is_honest disk.old → OnOk result (bytes.new.items ≡ copy_of (D.held disk.old)) }
+    ensures kept { D.is_honest disk.old → D.held disk.new ≡ D.held disk.old }
+    ensures honest { D.is_honest disk.new ↔ D.is_honest disk.old }
+{
+    let Ok(present) = disk.len() else {
+        return Err(StoreFault::Disk);
+    };
+    let len = present.min(AREA_LIMIT) as usize;
+    if len <= bytes.len() {
+        return Ok(false);
+    }
+    read_on(disk, bytes, len)?;
+    Ok(true)
+}
+
+// As much of a file as an area may have. A file that has grown meanwhile is read on: a record whose gate was read as
+// open is then there in whole.
+fn bytes_of<D: Disk>(alloc: Global, disk: &mut D) -> Result<Vec<u8>, StoreFault>
+    ensures copy { D.is_honest disk.old → IfOk result (λ bytes. bytes.items ≡ copy_of (D.held disk.old)) }
+    ensures kept { D.is_honest disk.old → D.held disk.new ≡ D.held disk.old }
+    ensures honest { D.is_honest disk.new ↔ D.is_honest disk.old }
+{
+    let mut bytes = Vec::new(alloc);
+    read_grown(disk, &mut bytes)?;
+    for _ in 1..GROWTHS {
+        if !read_grown(disk, &mut bytes)? {
+            return Ok(bytes);
+        }
+    }
+    Ok(bytes)
+}
+
+/// Copies both files as they are read, the first one first. It makes no write and no sync of them.
+pub fn copied<D: Disk>(alloc: Global, first: &mut D, second: &mut D) -> Result<Copies, StoreFault>
+    ensures first { D.is_honest first.old → IfOk result (λ copies. copies.first.items ≡ copy_of (D.held first.old)) }
+    ensures second { D.is_honest second.old → IfOk result
+        (λ copies. copies.second.items ≡ copy_of (D.held second.old)) }
+    ensures first_kept { D.is_honest first.old → D.held first.new ≡ D.held first.old }
+    ensures second_kept { D.is_honest second.old → D.held second.new ≡ D.held second.old }
+    ensures first_honest { D.is_honest first.new ↔ D.is_honest first.old }
+    ensures second_honest { D.is_honest second.new ↔ D.is_honest second.old }
+{
+    Ok(Copies {
+        first: bytes_of(alloc, first)?,
+        second: bytes_of(alloc, second)?,
+    })
+}
+
+// The copies, where no head changed while they were made.
+fn at_once(before: Heads, copies: Copies, after: Heads) -> Option<Copies>
+    ensures same { before ≡ after → result ≡ Some copies }
+    ensures changed { (before ≡ after → ⊥) → result ≡ None }
+    ensures copies { IfSome result (λ found. found ≡ copies) }
+{
+    if before == after { Some(copies) } else { None }
+}
+
+/// Copies both files so that each copy is what its file held at one moment, and both together what the store stood for
+/// at one moment. `None`: a head changed meanwhile, so the copies may be of two moments.
+pub fn copied_at_once<D: Disk>(
+    alloc: Global,
+    first: &mut D,
+    second: &mut D,
+) -> Result<Option<Copies>, StoreFault>
+    ensures first { D.is_honest first.old
+        → IfOk result (λ found. IfSome found (λ copies. copies.first.items ≡ copy_of (D.held first.old))) }
+    ensures second { D.is_honest second.old
+        → IfOk result (λ found. IfSome found (λ copies. copies.second.items ≡ copy_of (D.held second.old))) }
+    ensures first_kept { D.is_honest first.old → D.held first.new ≡ D.held first.old }
+    ensures second_kept { D.is_honest second.old → D.held second.new ≡ D.held second.old }
+    ensures first_honest { D.is_honest first.new ↔ D.is_honest first.old }
+    ensures second_honest { D.is_honest second.new ↔ D.is_honest second.old }
+{
+    let before = heads_of(first, second)?;
+    let copies = copied(alloc, first, second)?;
+    let after = heads_of(first, second)?;
+    Ok(at_once(before, copies, after))
+}
+
+// Disks in memory with these bytes.
+fn disks(alloc: Global, first: &[u8], second: &[u8]) -> Result<(MemDisk, MemDisk), AllocError>
+    ensures { IfOk result (λ disks. IsNew first.now disks.0 × IsNew second.now disks.1) }
+{
+    Ok((
+        MemDisk::from_bytes(alloc, first)?,
+        MemDisk::from_bytes(alloc, second)?,
+    ))
+}
+
+/// Opens a store of these bytes: what they stand for, or why they stand for nothing.
+fn open_bytes(alloc: Global, first: &[u8], second: &[u8]) -> Result<Keeper<MemDisk>, StoreFault>
+    ensures stood { IfOk result (λ keeper. Stands first.now second.now (state_of keeper)) }
+    ensures damaged { IsErrOf result StoreFault.Damaged → IsSpoiled first.now second.now }
+    ensures unformed { IsErrOf result StoreFault.Unformed → NeitherHas first.now second.now }
+    ensures version { IsErrOf result StoreFault.Version → HasOtherVersion first.now second.now }
+    ensures malformed { IsErrOf result StoreFault.Malformed → StandsForNone first.now second.now }
+{
+    let Ok((first, second)) = disks(alloc, first, second) else {
+        return Err(StoreFault::Memory);
+    };
+    match Keeper::open(alloc, first, second) {
+        Ok(keeper) => Ok(keeper),
+        Err((fault, _, _)) => Err(fault_in_memory(fault)),
+    }
+}
+
+impl Copies {
+    /// Opens a store of them.
+    pub fn open(&self, alloc: Global) -> Result<Keeper<MemDisk>, StoreFault>
+        ensures stood { IfOk result (λ keeper. Stands self.now.first.items self.now.second.items (state_of keeper)) }
+    {
+        open_bytes(alloc, &self.first, &self.second)
+    }
+
+    // Why a store of them cannot be recovered; `None` where it can.
+    fn refusal(&self, alloc: Global) -> Option<StoreFault> {
+        let Ok((first, second)) = disks(alloc, &self.first, &self.second) else {
+            return Some(StoreFault::Memory);
+        };
+        match Engine::recover(alloc, first, second) {
+            Ok(engine) => {
+                discard(engine);
+                None
+            }
+            Err((fault, _, _)) => Some(fault_in_memory(fault)),
+        }
+    }
+}
+
+/// Why a store of two files cannot be recovered; `None` where it can. It makes no write and no sync of them.
+pub fn refusal_of<D: Disk>(alloc: Global, first: &mut D, second: &mut D) -> Option<StoreFault>
+    ensures first_kept { D.is_honest first.old → D.held first.new ≡ D.held first.old }
+    ensures second_kept { D.is_honest second.old → D.held second.new ≡ D.held second.old }
+{
+    match copied(alloc, first, second) {
+        Ok(copies) => copies.refusal(alloc),
+        Err(fault) => Some(fault),
+    }
+}
+
+// Drops an engine. It stands apart, since what is dropped fills the goals of the function around it.
+fn discard(_engine: Engine<MemDisk>) {}

@@ -1,0 +1,9 @@
+//! A store that another process may serve: copies of its files in memory, and what they stand for. Nothing here
+//! writes, syncs or locks a file.
+#![tactic(auto)]
+
+mod copying;
+mod looking;
+
+pub use copying::{Copies, copied, copied_at_once, is_read_again, refusal_of};
+pub use looking::{READINGS, Seen, look, look_again};

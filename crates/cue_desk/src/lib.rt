@@ -1,0 +1,9 @@
+//! The desk beside the controller: show files, the messages that it sends, and the board that it shows.
+#![tactic(auto)]
+
+pub mod asking;
+pub mod board;
+pub mod replying;
+pub mod show_file;
+#[cfg(test)]
+mod tests;

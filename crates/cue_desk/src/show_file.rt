@@ -1,0 +1,59 @@
+//! Show files: the devices and cues of an evening with their names, as a text that people write.
+mod checking;
+mod headers;
+mod mistake;
+mod reading;
+mod writing;
+
+pub use checking::{Checked, check};
+use cue_show::{CueNo, DeviceNo, Parts};
+pub use mistake::{Finding, Mistake, Subject};
+pub use reading::{Draft, read};
+pub use writing::{of_show, written};
+
+/// A device of a show file.
+#[derive(Drop)]
+pub struct DeviceEntry {
+    /// The line of its header, from 1; none where the file does not tell.
+    pub line: Option<usize>,
+    pub number: DeviceNo,
+    /// The port of 127.0.0.1 at which it listens, 1 to 65,535.
+    pub port: u16,
+    /// What people call it; the controller never sees it.
+    pub name: Option<String>,
+}
+
+/// A cue of a show file.
+#[derive(Drop)]
+pub struct CueEntry {
+    /// The line of its header, from 1; none where the file does not tell.
+    pub line: Option<usize>,
+    pub number: CueNo,
+    /// What people call it; the controller never sees it.
+    pub name: Option<String>,
+    /// What the operator is to think of; the controller never sees it.
+    pub note: Option<String>,
+    pub parts: Parts,
+}
+
+/// A show file: what it says, in the order in which it says it.
+#[derive(Drop)]
+pub struct ShowFile {
+    /// The port at which the controller listens, where the file says so.
+    pub port: Option<u16>,
+    pub devices: Vec<DeviceEntry>,
+    pub cues: Vec<CueEntry>,
+}
+
+impl ShowFile {
+    /// What the file calls the device.
+    pub fn device_name(&self, device: DeviceNo) -> Option<&str> {
+        let entry = self.devices.iter().find(|entry| entry.number == device)?;
+        entry.name.as_deref()
+    }
+
+    /// The entry of the cue.
+    pub fn cue(&self, cue: CueNo) -> Option<&CueEntry> {
+        self.cues.iter().find(|entry| entry.number == cue)
+    }
+}

@@ -1,0 +1,8 @@
+//! Codes, stages and answers in words: the same ones in the log of an evening and at the desk.
+#![tactic(auto)]
+
+mod codes;
+mod exchange;
+
+pub use codes::code_words;
+pub use exchange::{answer_words, outcome_words, reason_words};

@@ -1,0 +1,47 @@
+//! How a command ends that is not done, and what is said then.
+use std::alloc::AllocError;
+use std::fmt::Display;
+use std::io::{Eprint, Write};
+
+/// Why a command was not done. What it was is on standard error already, but for memory.
+#[derive(Clone, Copy, Debug, PartialEq, Eq)]
+pub enum Ending {
+    /// The controller refused it, or a show file has mistakes.
+    Refused,
+    /// Nobody replied within a second.
+    Silent,
+    /// A file, the socket, the clock or the output failed, or memory ran out.
+    Failed,
+}
+
+impl Ending {
+    /// The exit status.
+    pub fn status(self) -> u8 {
+        match self {
+            Ending::Refused => 1,
+            Ending::Silent | Ending::Failed => 3,
+        }
+    }
+}
+
+impl From<AllocError> for Ending {
+    fn from(_: AllocError) -> Ending {
+        Ending::Failed
+    }
+}
+
+/// Says something on standard error. Where that cannot be written, the ending is the same.
+pub fn say<R: Eprint, D: Display + Drop>(rt: &R, what: D) {
+    let _ = rt.eprintln(format_args!("cuedesk: {what}"));
+}
+
+/// Prints, and sees that all of it left.
+pub fn print<W: Write>(writer: &mut W, text: &str) -> Result<(), Ending> {
+    match writer.write_all(text.as_bytes()) {
+        Ok(()) => match writer.flush() {
+            Ok(()) => Ok(()),
+            Err(_) => Err(Ending::Failed),
+        },
+        Err(_) => Err(Ending::Failed),
+    }
+}

@@ -1,0 +1,105 @@
+//! Show files and stores, as the commands read them.
+use super::ending::{Ending, print, say};
+use cue_copies::{Seen, look_again};
+use cue_desk::show_file::{Finding, ShowFile, check, of_show, read, written};
+use cue_disk::{FileDisk, MemDisk};
+use cue_keeper::Keeper;
+use std::alloc::Global;
+use std::fs::{self, File, Files};
+use std::io::{Eprint, Write};
+
+/// Reads a show file that has no mistake; else each mistake is on standard error, with the file and the line.
+pub fn read_file<R: Files<File = File> + Eprint + AllocGlobal>(
+    rt: &R,
+    path: &str,
+) -> Result<ShowFile, Ending> {
+    let text = match fs::read_to_string(rt, path) {
+        Ok(text) => text,
+        Err(why) => {
+            say(rt, format_args!("{path}: {why}"));
+            return Err(Ending::Failed);
+        }
+    };
+    let draft = read(rt.alloc(), text.as_str())?;
+    let trial = check(rt.alloc(), &draft.file)?;
+    if draft.findings.is_empty() && trial.show.is_some() {
+        return Ok(draft.file);
+    }
+    say_findings(rt, path, &draft.findings);
+    say_findings(rt, path, &trial.findings);
+    Err(Ending::Refused)
+}
+
+// Says each mistake.
+fn say_findings<R: Eprint>(rt: &R, path: &str, findings: &[Finding]) {
+    for finding in findings {
+        let _ = rt.eprintln(format_args!("{path}:{finding}"));
+    }
+}
+
+/// The command `check`.
+pub fn check_file<R: Files<File = File> + Eprint + AllocGlobal, W: Write>(
+    rt: &R,
+    path: &str,
+    writer: &mut W,
+) -> Result<(), Ending> {
+    let file = read_file(rt, path)?;
+    let (devices, cues) = (file.devices.len(), file.cues.len());
+    let text = format!(in rt.alloc(); "no mistake: {devices} devices, {cues} cues\n")?;
+    print(writer, text.as_str())
+}
+
+// One file of a store.
+fn open_one<R: Files<File = File> + AllocGlobal>(
+    rt: &R,
+    dir: &str,
+    name: &str,
+) -> Result<FileDisk, String> {
+    let alloc = rt.alloc();
+    let path = format!(in alloc; "{dir}/{name}").map_err(|_| String::new(alloc))?;
+    FileDisk::open(rt, path.as_str()).map_err(|why| words(alloc, path.as_str(), why))
+}
+
+// What failed, and why, as one text; empty where there is no memory for it.
+fn words<D: std::fmt::Display + Drop>(alloc: Global, what: &str, why: D) -> String {
+    format!(in alloc; "{what}: {why}").unwrap_or(String::new(alloc))
+}
+
+/// Opens the store of a folder in memory. Nothing is written to its files, and no sync or lock is asked of them. The
+/// error is in words; empty where memory ran out.
+pub fn open_store<R: Files<File = File> + AllocGlobal>(
+    rt: &R,
+    dir: &str,
+) -> Result<Keeper<MemDisk>, String> {
+    let alloc = rt.alloc();
+    let mut first = open_one(rt, dir, "a.area")?;
+    let mut second = open_one(rt, dir, "b.area")?;
+    match look_again(alloc, &mut first, &mut second) {
+        Seen::Whole(keeper) => Ok(keeper),
+        Seen::Refused(fault) => Err(words(alloc, dir, fault)),
+        Seen::Changing => Err(words(
+            alloc,
+            dir,
+            "the files change while they are read; ask again",
+        )),
+    }
+}
+
+/// The command `export`.
+pub fn export<R: Files<File = File> + Eprint + AllocGlobal, W: Write>(
+    rt: &R,
+    dir: &str,
+    writer: &mut W,
+) -> Result<(), Ending> {
+    match open_store(rt, dir) {
+        Ok(keeper) => {
+            let file = of_show(rt.alloc(), keeper.state().show())?;
+            let text = written(rt.alloc(), &file)?;
+            print(writer, text.as_str())
+        }
+        Err(why) => {
+            say(rt, why.as_str());
+            Err(Ending::Failed)
+        }
+    }
+}

@@ -1,0 +1,81 @@
+//! The commands of an evening: one message each.
+use super::ending::{Ending, print, say};
+use super::wire::{Heard, Sendings, Wire};
+use crate::line::words::Order;
+use cue_desk::asking::Asked;
+use cue_desk::replying::{Replied, Status};
+use cue_words::code_words;
+use std::alloc::{AllocError, Global};
+use std::fmt::Write as _;
+use std::io::{Eprint, Write};
+use std::net::Net;
+
+// What is asked by an order.
+fn asked_by(order: Order) -> Asked<'static> {
+    match order {
+        Order::Status => Asked::Status,
+        Order::OfCue(verb, cue) => Asked::OfCue(verb, cue),
+        Order::Release(device) => Asked::Release(device),
+        Order::RemoveDevice(device) => Asked::RemoveDevice(device),
+    }
+}
+
+// What a status says, a line for each fact.
+fn status_text(alloc: Global, status: Status) -> Result<String, AllocError> {
+    let mut text = format!(in alloc;
+        "last attempt {}\nlive {}\nplace ",
+        status.last, status.live
+    )?;
+    match status.place {
+        Some(cue) => write!(text, "{}\n", cue.text().escape_ascii())?,
+        None => text.push_str("-\n")?,
+    }
+    let outcome = match status.outcome {
+        1 => "complete",
+        2 => "cancelled",
+        3 => "failed",
+        _ => "none has ended",
+    };
+    write!(text, "ended {}, {outcome}\n", status.ended)?;
+    Ok(text)
+}
+
+// Says what the controller replied, and answers whether it was refused.
+fn tell<R: Eprint + AllocGlobal, W: Write>(
+    rt: &R,
+    replied: Replied,
+    writer: &mut W,
+) -> Result<(), Ending> {
+    match replied {
+        Replied::Status(status) => print(writer, status_text(rt.alloc(), status)?.as_str()),
+        Replied::Reply { refused, code, .. } if refused > 0 => {
+            say(
+                rt,
+                format_args!("refused, code {code}: {}", code_words(code)),
+            );
+            Err(Ending::Refused)
+        }
+        Replied::Reply { made, .. } if made > 0 => print(writer, "made\n"),
+        Replied::Reply { .. } => print(writer, "known: it was so already\n"),
+    }
+}
+
+/// Asks one thing of the controller, once, and says in words what it replied.
+pub fn carry_order<R: Net + Eprint + AllocGlobal, W: Write>(
+    rt: &R,
+    order: Order,
+    port: u16,
+    writer: &mut W,
+) -> Result<(), Ending> {
+    let wire = Wire::new(rt, port)?;
+    match wire.ask(rt.alloc(), &asked_by(order), Sendings::One)? {
+        Heard::Replied(replied) => tell(rt, replied, writer),
+        Heard::Silence | Heard::Noise => {
+            say(
+                rt,
+                "not acknowledged: it was carried out whole, or not at all",
+            );
+            Err(Ending::Silent)
+        }
+    }
+}

@@ -1,0 +1,184 @@
+//! The socket of the desk: one message, and what the controller replies to it.
+use super::ending::{Ending, say};
+use cue_desk::asking::{Asked, address, datagram};
+use cue_desk::replying::{Replied, read_reply};
+use std::alloc::{AllocError, Global};
+use std::io::{Eprint, ErrorKind};
+use std::net::{IpAddr, Ipv4Addr, Net, SocketAddr, UdpSocket};
+use std::time::Duration;
+
+/// How long one sending waits for its reply, in milliseconds.
+const WAIT: u64 = 250;
+
+/// How many bytes of an address a reply shows.
+const SHOWN: usize = 64;
+
+/// How many datagrams are heard for one message, before nobody has replied.
+const MOST_HEARD: u32 = 1_000;
+
+/// The longest datagram.
+const LONGEST: usize = 4096;
+
+/// A port of this machine.
+fn local(port: u16) -> SocketAddr {
+    SocketAddr::new(IpAddr::V4(Ipv4Addr::LOCALHOST), port)
+}
+
+/// A socket that asks the controller at a port of this machine.
+#[derive(Drop)]
+pub struct Wire {
+    socket: UdpSocket,
+    port: u16,
+}
+
+/// What comes to one message.
+#[derive(Clone, Copy, Debug, PartialEq, Eq)]
+pub enum Heard {
+    /// The controller replied.
+    Replied(Replied),
+    /// Nothing came in time.
+    Silence,
+    /// Something else came.
+    Noise,
+}
+
+// What a datagram of the controller says to who asked at this address.
+fn said(alloc: Global, asked: &[u8], datagram: &[u8]) -> Result<Heard, Ending> {
+    match read_reply(alloc, asked, datagram) {
+        Ok(Some(replied)) => Ok(Heard::Replied(replied)),
+        Ok(None) => Ok(Heard::Noise),
+        Err(AllocError) => Err(Ending::Failed),
+    }
+}
+
+// What it means that no datagram was heard.
+fn unheard(kind: ErrorKind) -> Result<Heard, Ending> {
+    match kind {
+        ErrorKind::WouldBlock | ErrorKind::TimedOut => Ok(Heard::Silence),
+        ErrorKind::ConnectionRefused | ErrorKind::Interrupted => Ok(Heard::Noise),
+        _ => Err(Ending::Failed),
+    }
+}
+
+// Whether it is what is waited for: the status after its reply, and else the reply.
+fn is_wanted(heard: Heard, wants_status: bool) -> bool {
+    match heard {
+        Heard::Replied(Replied::Status(_)) => wants_status,
+        Heard::Replied(Replied::Reply { .. }) => !wants_status,
+        Heard::Silence | Heard::Noise => false,
+    }
+}
+
+impl Wire {
+    /// A socket for the controller at this port.
+    pub fn new<R: Net + Eprint>(rt: &R, port: u16) -> Result<Wire, Ending> {
+        let bound = UdpSocket::bind(rt, local(0)).and_then(|socket| {
+            socket.set_read_timeout(Some(Duration::from_millis(WAIT)))?;
+            Ok(socket)
+        });
+        match bound {
+            Ok(socket) => Ok(Wire { socket, port }),
+            Err(why) => {
+                say(rt, format_args!("no socket: {why}"));
+                Err(Ending::Failed)
+            }
+        }
+    }
+
+    // What the next datagram says to who asked at this address.
+    fn hear(&self, alloc: Global, asked: &[u8]) -> Result<Heard, Ending> {
+        let mut buffer = [0; LONGEST];
+        match self.socket.recv_from(&mut buffer) {
+            Ok((n, peer)) => {
+                if peer.port() == self.port {
+                    said(alloc, asked, &buffer[..n])
+                } else {
+                    Ok(Heard::Noise)
+                }
+            }
+            Err(error) => unheard(error.kind()),
+        }
+    }
+
+    // Sends a datagram. Where nobody listens, the next call hears silence.
+    fn send(&self, datagram: &[u8]) {
+        let _ = self.socket.send_to(datagram, local(self.port));
+    }
+
+    /// Sends what is asked, so many times at most, and waits a second in all for what the controller replies: for the
+    /// status, where that is asked, and else for the reply.
+    pub fn ask(
+        &self,
+        alloc: Global,
+        asked: &Asked<'_>,
+        sendings: Sendings,
+    ) -> Result<Heard, Ending> {
+        if !asked.is_askable() {
+            return Err(Ending::Failed);
+        }
+        let Ok(datagram) = datagram(alloc, asked) else {
+            return Err(Ending::Failed);
+        };
+        let whole = address(alloc, asked)?;
+        let shown = &whole[..whole.len().min(SHOWN)];
+        let wants_status = matches!(asked, Asked::Status);
+        for _ in 0..sendings.times() {
+            self.send(&datagram);
+            let heard = self.wait(alloc, shown, wants_status, sendings.silences())?;
+            if heard != Heard::Silence {
+                return Ok(heard);
+            }
+        }
+        Ok(Heard::Silence)
+    }
+
+    // Hears until what is wanted came, or none did so many times.
+    fn wait(
+        &self,
+        alloc: Global,
+        asked: &[u8],
+        wants_status: bool,
+        silences: u32,
+    ) -> Result<Heard, Ending> {
+        let mut silent = 0u32;
+        for _ in 0..MOST_HEARD {
+            let heard = self.hear(alloc, asked)?;
+            if is_wanted(heard, wants_status) {
+                return Ok(heard);
+            }
+            if heard == Heard::Silence {
+                silent = silent.saturating_add(1);
+            }
+            if silent >= silences {
+                return Ok(Heard::Silence);
+            }
+        }
+        Ok(Heard::Silence)
+    }
+}
+
+/// How often a message is sent.
+#[derive(Clone, Copy, Debug, PartialEq, Eq)]
+pub enum Sendings {
+    /// Once: what an operator asks is asked once.
+    One,
+    /// Again where no reply came: what may be asked twice.
+    Some,
+}
+
+impl Sendings {
+    fn times(self) -> u32 {
+        match self {
+            Sendings::One => 1,
+            Sendings::Some => 4,
+        }
+    }
+
+    // After how many silent waits nobody has replied.
+    fn silences(self) -> u32 {
+        match self {
+            Sendings::One => 4,
+            Sendings::Some => 1,
+        }
+    }
+}

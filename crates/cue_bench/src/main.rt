@@ -4,6 +4,7 @@
 #![tactic(auto)]
 
 mod datagrams;
+mod devices;
 mod engines;
 mod exchanges;
 mod forgetful;
@@ -31,6 +32,7 @@ where
         return turning::measure_files(rt, word);
     }
     packets::measure(rt, word)?;
+    devices::measure(rt, word)?;
     engines::measure(rt, word)?;
     exchanges::measure(rt, word)?;
     sizes::measure(rt, word)?;

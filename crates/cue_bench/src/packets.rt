@@ -14,7 +14,8 @@ use std::io;
 use std::io::Print;
 use std::time::Clock;
 
-const STANDBY: &[u8] =
+/// A standby of attempt 1 for device 3: 44 bytes.
+pub const STANDBY: &[u8] =
     b"/msc/standby\0\0\0\0,iisb\0\0\0\0\0\0\x01\0\0\0\x031\0\0\0\0\0\0\x02\x0a\x0b\0\0";
 
 const ADD_DEVICE: &[u8] = b"/show/device\0\0\0\0,ii\0\0\0\0\x03\0\0\x23\x29";

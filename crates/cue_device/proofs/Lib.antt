@@ -4,3 +4,4 @@ pub mod CommandLemmas
 pub mod ReplyLemmas
 pub mod HistoryLemmas
 pub mod OrderLemmas
+pub mod CopyLemmas

@@ -4,3 +4,4 @@ pub mod Hearing
 pub mod Datagrams
 pub mod Histories
 pub mod Laws
+pub mod Copies

@@ -1,5 +1,6 @@
 //! Laws of a device over all that it hears and all that its machine tells, with any restarts between, each the contract
 //! of a function that does nothing.
+ghost use Rattle.cue_device.specs.Copies.{DoneAnswers, FailedAnswers, LetGoAnswers, ReadyAnswers};
 ghost use Rattle.cue_device.specs.Laws.{MovesAfterStandingBy, MovesOnce, NeverGivesUpAfterMoving, NeverMovesAfterGivingUp, NumbersRise, OneAtATime, PreparesOnce};
 
 /// It moves at most once for each number, whatever copies come and however often it starts anew.
@@ -31,4 +32,12 @@ pub fn numbers_rise()
 /// It prepares for a number only where that is above the number of each order before.
 pub fn prepares_once()
     ensures { PreparesOnce }
+{}
+
+/// It answers every copy: once it is ready, done, let go or failed, each further copy of that command has its answer.
+pub fn answers_each_copy()
+    ensures ready { ReadyAnswers }
+    ensures done { DoneAnswers }
+    ensures let_go { LetGoAnswers }
+    ensures failed { FailedAnswers }
 {}

@@ -2,7 +2,7 @@
 use crate::program::perform;
 use cue_disk::FileDisk;
 use cue_engine::Engine;
-use cue_run::{UdpReceiver, UdpSource, UdpWire, local, run};
+use cue_run::{Ended, UdpReceiver, UdpSource, UdpWire, local, run};
 use std::fs::{self, File, Files};
 use std::io::Eprint;
 use std::net::{Net, UdpSocket};
@@ -89,6 +89,18 @@ fn recovered<R: Files<File = File> + AllocGlobal>(rt: &R) -> Result<Engine<FileD
     }
 }
 
+// Runs three turns over a socket.
+fn run_three<'a, R: Net + Clock + AllocGlobal>(
+    rt: &'a R,
+    engine: &mut Engine<FileDisk>,
+    socket: &'a UdpSocket,
+    port: u16,
+) -> Result<Ended, Fail> {
+    let mut source = UdpSource::new(rt, UdpReceiver::new(socket)?, port)?;
+    let mut wire = UdpWire::new(socket);
+    Ok(run(rt.alloc(), engine, &mut source, &mut wire, 3))
+}
+
 // Takes a datagram and two ticks over a socket.
 fn take_on<R: Net + Clock + AllocGlobal + Abort>(
     rt: &R,
@@ -98,9 +110,7 @@ fn take_on<R: Net + Clock + AllocGlobal + Abort>(
     let socket = UdpSocket::bind(rt, local(0))?;
     let port = socket.local_addr()?.port();
     operator.send_to(&DEVICE, local(port))?;
-    let mut source = UdpSource::new(rt, UdpReceiver::new(&socket)?, port)?;
-    let mut wire = UdpWire::new(&socket);
-    let ended = run(rt.alloc(), engine, &mut source, &mut wire, 3);
+    let ended = run_three(rt, engine, &socket, port)?;
     assert_eq!(rt; ended.turns, 3);
     assert_eq!(rt; ended.unsent, 0);
     assert!(rt; ended.fault.is_none(), "a fault");

@@ -14,12 +14,12 @@ HERE = Path(__file__).resolve().parent
 ROOT = HERE.parent.parent
 
 
-def program(given=None):
-    """The path of the program: the given one, or the proved one, which ./cuectl builds where it is missing."""
+def program(given=None, name="cuectl"):
+    """The path of a program: the given one, or the proved one, which its launcher builds where it is missing."""
     if given:
         return str(Path(given).resolve())
-    subprocess.run([ROOT / "cuectl", "--version"], stdout=subprocess.DEVNULL, check=True)
-    return str(ROOT / "crates" / "cuectl" / "out" / "cuectl")
+    subprocess.run([ROOT / name, "--version"], stdout=subprocess.DEVNULL, check=True)
+    return str(ROOT / "crates" / name / "out" / name)
 
 
 def needs(*tools):

@@ -1,8 +1,9 @@
 //! Measures what the crates take: `cue_bench NAME` prints the nanoseconds of one call, `cue_bench all` those of each
-//! measure. A word with a slash is a folder, in which turn-overs are measured on new files. Without words it prints
-//! nothing.
+//! measure. A word with a slash is a folder, in which turn-overs and answers are measured on new files. Without words
+//! it prints nothing.
 #![tactic(auto)]
 
+mod answers;
 mod datagrams;
 mod devices;
 mod engines;
@@ -29,12 +30,14 @@ where
     R: Clock + Print + AllocGlobal + Files<File = File>,
 {
     if word.as_bytes().contains(&b'/') {
-        return turning::measure_files(rt, word);
+        turning::measure_files(rt, word)?;
+        return answers::measure_files(rt, word);
     }
     packets::measure(rt, word)?;
     devices::measure(rt, word)?;
     engines::measure(rt, word)?;
     exchanges::measure(rt, word)?;
+    answers::measure(rt, word)?;
     sizes::measure(rt, word)?;
     turning::measure(rt, word)?;
     recovering::measure(rt, word)

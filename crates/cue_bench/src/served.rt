@@ -107,6 +107,11 @@ impl<D: Disk> Served<D> {
         false
     }
 
+    /// Whether so many records fit into the live area.
+    pub fn has_room(&self, records: u64) -> bool {
+        self.records.saturating_add(records) <= MAX_RECORDS
+    }
+
     /// Goes on until the area has just turned over.
     pub fn start_area(&mut self) -> bool {
         self.go_on_to(1)
@@ -132,5 +137,5 @@ pub fn formed<D: Disk + Drop>(alloc: Global, first: D, second: D) -> Option<Serv
     }
 }
 
-// Drops a show. It stands apart, since what is dropped fills the goals of the function around it.
-pub fn let_go<D: Disk + Drop>(_served: Served<D>) {}
+// Drops a value. It stands apart, since what is dropped fills the goals of the function around it.
+pub fn let_go<T: Drop>(_value: T) {}

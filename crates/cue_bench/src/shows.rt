@@ -30,8 +30,8 @@ pub const PARTS: u8 = 16;
 // The bytes of each part.
 const BYTES: &[u8] = b"thirty-two bytes of one device..";
 
-// How many devices a wide cue has.
-const WIDTH: u8 = 13;
+/// How many devices a wide cue has.
+pub const WIDTH: u8 = 13;
 
 /// A show on two disks in memory.
 pub type Remembered = Served<ForgetfulDisk>;
@@ -130,9 +130,9 @@ fn fill<D: Disk>(alloc: Global, served: &mut Served<D>, size: Size) -> Result<bo
 }
 
 // Adds so many cues of 13 devices each, and their devices before them.
-fn fill_wide(
+fn fill_wide<D: Disk>(
     alloc: Global,
-    served: &mut Remembered,
+    served: &mut Served<D>,
     cues: u8,
     is_mixed: bool,
 ) -> Result<bool, AllocError> {
@@ -189,12 +189,25 @@ pub fn made(alloc: Global, size: Size) -> Option<Remembered> {
     made_on(alloc, size, first, second)
 }
 
-/// A show of so many cues, at most 8, of 13 devices each; where it is mixed all but the last of them are optional. None
-/// where it was not made.
-pub fn wide(alloc: Global, cues: u8, is_mixed: bool) -> Option<Remembered> {
-    let mut served = empty(alloc)?;
+/// A show on these disks of so many cues, at most 8, of 13 devices each; where it is mixed all but the last of them are
+/// optional. None where it was not made.
+pub fn wide_on<D: Disk + Drop>(
+    alloc: Global,
+    cues: u8,
+    is_mixed: bool,
+    first: D,
+    second: D,
+) -> Option<Served<D>> {
+    let mut served = formed(alloc, first, second)?;
     let filled = fill_wide(alloc, &mut served, cues, is_mixed);
     if_filled(served, filled == Ok(true))
+}
+
+/// The same in memory.
+pub fn wide(alloc: Global, cues: u8, is_mixed: bool) -> Option<Remembered> {
+    let first = ForgetfulDisk::new(alloc);
+    let second = ForgetfulDisk::new(alloc);
+    wide_on(alloc, cues, is_mixed, first, second)
 }
 
 /// What makes so many cues with numbers from 100 on, and one part of four bytes for device 0.

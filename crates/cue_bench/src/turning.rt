@@ -1,10 +1,10 @@
 //! What a turn-over takes, and beside it what its writes and syncs take alone: in memory, and on files.
 use crate::forgetful::ForgetfulDisk;
-use crate::raw::Raw;
+use crate::raw::{OPEN, Raw, file_in};
 use crate::served::{Served, let_go};
 use crate::shows::{self, FULL, SMALL, Size};
 use crate::timing::{ROUNDS, Rounds, Work, is_asked, say_wrong, time};
-use cue_disk::{Disk, DiskFault, FileDisk, FileFault};
+use cue_disk::{Disk, DiskFault};
 use cue_records::write_state;
 use std::alloc::AllocGlobal;
 use std::fs::{File, Files};
@@ -53,10 +53,8 @@ const ON_FILES: Names = Names {
 // How many records behind the first one an area has when it turns over.
 const APPENDS: u32 = 255;
 
-// A closed gate and an open one.
+// A closed gate.
 const CLOSED: &[u8] = b"\0";
-
-const OPEN: &[u8] = b"\x01";
 
 // A generation and a length.
 const HEADER: &[u8] = b"\0\0\0\0\0\0\0\x02\0\x09\x09\x09";
@@ -277,20 +275,6 @@ pub fn measure<R: Clock + Print + AllocGlobal>(rt: &R, word: &str) -> io::Result
         }
     }
     Ok(())
-}
-
-// A file of the folder.
-fn file_in<R: Files<File = File> + AllocGlobal>(
-    rt: &R,
-    folder: &str,
-    name: &str,
-) -> io::Result<FileDisk> {
-    let path = format!(in rt.alloc(); "{folder}/{name}")?;
-    match FileDisk::create(rt, &path) {
-        Ok(disk) => Ok(disk),
-        Err(FileFault::Io(error)) => Err(error),
-        Err(FileFault::NotFound) => Err(io::ErrorKind::NotFound.into()),
-    }
 }
 
 /// Prints what turn-overs take on two new files of this folder, and what the same bytes take on a third one.

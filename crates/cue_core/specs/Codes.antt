@@ -1,7 +1,10 @@
 -- The codes as they are sent: those of a command, and those of a datagram that is refused whole.
 use Rattle.std.specs.Prelude.{ℕ}
 use Rattle.cue_core.specs.declared.command.Code.{Code}
-use Rattle.cue_core.specs.declared.command.Code.TheVariants.{Unread, BadPattern, NoMethod, Arguments, BadNumber, Duplicate, Full, BadParts, UnknownDevice, InUse, Busy, NotLive, NotReady, Decided, Stale, Early, WrongPort, Clock, Exhausted, NotPart}
+use Rattle.cue_core.specs.declared.command.Code.TheVariants.{Unread, BadPattern, NoMethod, Arguments, BadNumber}
+use Rattle.cue_core.specs.declared.command.Code.TheVariants.{Duplicate, Full, BadParts, UnknownDevice, InUse, Busy}
+use Rattle.cue_core.specs.declared.command.Code.TheVariants.{NotLive, NotReady, Decided, Stale, Early, WrongPort, Clock}
+use Rattle.cue_core.specs.declared.command.Code.TheVariants.{Exhausted, NotPart}
 use Rattle.cue_core.specs.declared.refusal.Refusal.{Refusal}
 use Rattle.cue_core.specs.declared.refusal.Refusal.TheVariants as refusal
 

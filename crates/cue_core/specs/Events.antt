@@ -1,7 +1,8 @@
 -- Helper: tests of one event.
 use Rattle.std.specs.Prelude.{ℕ, Bool, true, false, ◌&&◌, nat_eq}
 use Rattle.cue_core.specs.declared.event.Event.{Event}
-use Rattle.cue_core.specs.declared.event.Event.TheVariants.{Device, NoDevice, Cue, NoCue, Place, Start, Ready, Go, Done, Cancel, LetGo, Failed, Excuse}
+use Rattle.cue_core.specs.declared.event.Event.TheVariants.{Device, NoDevice, Cue, NoCue, Place, Start, Ready, Go, Done}
+use Rattle.cue_core.specs.declared.event.Event.TheVariants.{Cancel, LetGo, Failed, Excuse}
 
 -- an attempt starts
 abbrev pub is_start : Event → Bool

@@ -1,12 +1,14 @@
 -- What a history says by itself. A history is the list of the events that were accepted, the newest first.
-use Rattle.std.specs.Prelude.{◌≡◌, ℕ, Bool, true, not, ◌&&◌, if◌then◌else◌, List, [], ◌∷◌, Some, is_some, count_by, IsTrue}
+use Rattle.std.specs.Prelude.{◌≡◌, ℕ, Bool, true, not, ◌&&◌, if◌then◌else◌, List, [], ◌∷◌, Some, is_some, count_by}
+use Rattle.std.specs.Prelude.{IsTrue}
 use Rattle.std.specs.List.{list_any}
 use Rattle.cue_show.specs.declared.part.Part.{Part}
 use Rattle.cue_exchange.specs.declared.attempt.Attempt.{Attempt}
 use Rattle.cue_exchange.specs.Answers.{devices_of, is_preparing, is_decided, is_ready, answer_passes}
 use Rattle.cue_exchange.specs.Live.{attempt_of, devices_in, is_among}
 use Rattle.cue_core.specs.declared.event.Event.{Event}
-use Rattle.cue_core.specs.declared.event.Event.TheVariants.{Device, NoDevice, Cue, NoCue, Place, Start, Ready, Go, Done, Cancel, LetGo, Failed, Excuse}
+use Rattle.cue_core.specs.declared.event.Event.TheVariants.{Device, NoDevice, Cue, NoCue, Place, Start, Ready, Go, Done}
+use Rattle.cue_core.specs.declared.event.Event.TheVariants.{Cancel, LetGo, Failed, Excuse}
 use Rattle.cue_core.specs.State.{ShowState, empty_state, cue_parts, are_of_parts}
 use Rattle.cue_core.specs.Steps.{acceptable, after}
 use Rattle.cue_core.specs.Events.{is_start, is_start_of, is_ready_of, is_go_of, is_end_of, is_excuse_of}

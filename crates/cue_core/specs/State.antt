@@ -1,5 +1,6 @@
 -- The state of a show, and its rules.
-use Rattle.std.specs.Prelude.{ℕ, Bool, true, false, not, ◌&&◌, List, [], Option, None, Some, is_some, unwrap_or, nat_eq, nat_le}
+use Rattle.std.specs.Prelude.{ℕ, Bool, true, false, not, ◌&&◌, List, [], Option, None, Some, is_some, unwrap_or, nat_eq}
+use Rattle.std.specs.Prelude.{nat_le}
 use Rattle.std.specs.Bool.{beq}
 use Rattle.std.specs.List.{list_all}
 use Rattle.std.specs.Option.{option_map_or}

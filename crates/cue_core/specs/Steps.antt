@@ -1,15 +1,19 @@
 -- When an event is acceptable in a state, and what it makes of it.
-use Rattle.std.specs.Prelude.{◌≡◌, ℕ, ◌+◌, take, Bool, true, not, ◌&&◌, List, [], ◌∷◌, Option, None, Some, is_some, option_and_then, nat_eq}
-use Rattle.cue_show.specs.Show.{ShowLists, has_cue, following, can_add_device, can_remove_device, can_add_cue, with_device, without_device, with_cue, without_cue, with_place}
+use Rattle.std.specs.Prelude.{◌≡◌, ℕ, ◌+◌, take, Bool, true, not, ◌&&◌, List, [], ◌∷◌, Option, None, Some, is_some}
+use Rattle.std.specs.Prelude.{option_and_then, nat_eq}
+use Rattle.cue_show.specs.Show.{ShowLists, has_cue, following, can_add_device, can_remove_device, can_add_cue}
+use Rattle.cue_show.specs.Show.{with_device, without_device, with_cue, without_cue, with_place}
 use Rattle.cue_exchange.specs.declared.attempt.Answer.TheVariants as answer
 use Rattle.cue_exchange.specs.declared.attempt.Stage.TheVariants.{Decided, Cancelling}
 use Rattle.cue_exchange.specs.declared.attempt.Outcome.{Outcome}
 use Rattle.cue_exchange.specs.declared.attempt.Attempt.{Attempt}
 use Rattle.cue_exchange.specs.Live.{attempt_of, attempt_of_cue}
-use Rattle.cue_exchange.specs.Steps.{can_start, can_ready, can_go, can_cancel, can_done, can_let_go, can_fail, can_excuse, started, answered, moved, without_ended, ended_in}
+use Rattle.cue_exchange.specs.Steps.{can_start, can_ready, can_go, can_cancel, can_done, can_let_go, can_fail}
+use Rattle.cue_exchange.specs.Steps.{can_excuse, started, answered, moved, without_ended, ended_in}
 use Rattle.cue_core.specs.declared.event.Ended.{Ended}
 use Rattle.cue_core.specs.declared.event.Event.{Event}
-use Rattle.cue_core.specs.declared.event.Event.TheVariants.{Device, NoDevice, Cue, NoCue, Place, Start, Ready, Go, Done, Cancel, LetGo, Failed, Excuse}
+use Rattle.cue_core.specs.declared.event.Event.TheVariants.{Device, NoDevice, Cue, NoCue, Place, Start, Ready, Go, Done}
+use Rattle.cue_core.specs.declared.event.Event.TheVariants.{Cancel, LetGo, Failed, Excuse}
 use Rattle.cue_core.specs.State.{ShowState, with_show, with_live, cue_parts}
 
 -- the number is the one after the last, the cue is in the stack, and an attempt with its devices may start

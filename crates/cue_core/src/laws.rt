@@ -2,7 +2,8 @@
 //! of a function that does nothing.
 ghost use Rattle.std.specs.Prelude.{◌≡◌};
 ghost use Rattle.cue_core.specs.declared.limits.TheConstants.{STANDBY_MS};
-ghost use Rattle.cue_core.specs.Batches.{AcceptableAreHistories, ClosedStays, DecidedByGo, EventsKeepRules, HistoriesFold, LiveByStart};
+ghost use Rattle.cue_core.specs.Batches.{AcceptableAreHistories, ClosedStays, DecidedByGo, EventsKeepRules};
+ghost use Rattle.cue_core.specs.Batches.{HistoriesFold, LiveByStart};
 ghost use Rattle.cue_core.specs.History.{FactsByHistory};
 ghost use Rattle.cue_core.specs.Happenings.{CommandsInOrder, CommandsMakeHistories};
 ghost use Rattle.cue_core.specs.InOrder.{GoAfterReady};

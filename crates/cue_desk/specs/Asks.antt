@@ -1,6 +1,8 @@
 -- What the desk asks for, and which bytes ask for it.
 use Rattle.std.specs.Prelude.{◌≡◌, ℕ, ℤ, pos, Bool, true, false, List, [], ◌∷◌, Ok}
 use Rattle.cue_show.specs.declared.part.Part.{Part}
+use Rattle.cue_osc.specs.declared.fault.WriteFault.{WriteFault}
+use Rattle.cue_osc.specs.declared.fault.WriteFault.TheVariants as write
 use Rattle.cue_osc.specs.Argument.{Argument, int, text, blob}
 use Rattle.cue_osc.specs.Content.{message}
 use Rattle.cue_osc.specs.Reading.{datagram_at}
@@ -12,6 +14,8 @@ use Rattle.cue_operator.specs.Methods.{address_of}
 use Rattle.cue_operator.specs.declared.method.DeviceVerb.TheVariants as on_device
 use Rattle.cue_operator.specs.declared.method.Method.{Method}
 use Rattle.cue_operator.specs.declared.method.Method.TheVariants as method
+use Rattle.cue_desk.specs.declared.asking.AskFault.{AskFault}
+use Rattle.cue_desk.specs.declared.asking.AskFault.TheVariants as fault
 use Rattle.cue_desk.specs.declared.asking.Asked.{Asked}
 use Rattle.cue_desk.specs.declared.asking.Asked.TheVariants as asked
 
@@ -59,3 +63,8 @@ pub record AsksFor (bytes : List ℕ) (wanted : Command) : Type 0 where
   pub arguments : List Argument
   pub message : datagram_at bytes ≡ Ok (message (address_of method) arguments)
   pub command : command_by arguments method ≡ wanted
+
+-- why there is no datagram where its message is not written
+abbrev pub ask_fault : WriteFault → AskFault
+ask_fault write.Memory = fault.Memory
+ask_fault write.TooLong = fault.Unwritable

@@ -1,3 +1,4 @@
 pub mod Asks
 pub mod Accepted
 pub mod Board
+pub mod Routes

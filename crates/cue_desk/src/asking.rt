@@ -6,7 +6,8 @@ ghost use Rattle.cue_osc.specs.Content.{message};
 ghost use Rattle.cue_osc.specs.Reading.{datagram_at};
 ghost use Rattle.cue_operator.specs.Methods.{address_of, cue_verb_text, under};
 ghost use Rattle.cue_operator.specs.declared.method.Method.TheVariants.{OfCue};
-ghost use Rattle.cue_desk.specs.Asks.{AsksFor, arguments_of, command_of, flag_of, flagged_parts, is_askable, method_of};
+ghost use Rattle.cue_desk.specs.Asks.{AsksFor, arguments_of, ask_fault, command_of, flag_of, flagged_parts};
+ghost use Rattle.cue_desk.specs.Asks.{is_askable, method_of};
 
 use cue_operator::CueVerb;
 use cue_osc::{Arg, Args, Message, Packet, WriteFault};
@@ -60,6 +61,17 @@ pub enum AskFault {
     Memory,
     /// The message would be longer than a datagram. What a show can have never is.
     Unwritable,
+}
+
+impl From<WriteFault> for AskFault {
+    ghost from_gives = { λ written fault. fault ≡ ask_fault written };
+
+    fn from(written: WriteFault) -> AskFault {
+        match written {
+            WriteFault::Memory => AskFault::Memory,
+            WriteFault::TooLong => AskFault::Unwritable,
+        }
+    }
 }
 
 impl From<AllocError> for AskFault {
@@ -184,11 +196,7 @@ fn message(alloc: Global, address: &[u8], args: Vec<Arg<'_>>) -> Result<Vec<u8>,
     if !packet.plain() {
         return Err(AskFault::Unwritable);
     }
-    match cue_osc::write(alloc, &packet) {
-        Ok(bytes) => Ok(bytes),
-        Err(WriteFault::Memory) => Err(AskFault::Memory),
-        Err(WriteFault::TooLong) => Err(AskFault::Unwritable),
-    }
+    Ok(cue_osc::write(alloc, &packet)?)
 }
 
 /// The datagram that asks for it, and for nothing else: one message.

@@ -2,13 +2,17 @@
 mod checking;
 mod headers;
 mod mistake;
+mod network;
 mod reading;
+mod routing;
 mod writing;
 
 pub use checking::{Checked, check};
+use cue_relay::Address;
 use cue_show::{CueNo, DeviceNo, Parts};
 pub use mistake::{Finding, Mistake, Subject};
 pub use reading::{Draft, read};
+pub use routing::{routes, shared_port};
 pub use writing::{of_show, written};
 
 /// A device of a show file.
@@ -19,6 +23,8 @@ pub struct DeviceEntry {
     pub number: DeviceNo,
     /// The port of 127.0.0.1 at which it listens, 1 to 65,535.
     pub port: u16,
+    /// Where it is on the stage's network; none where it is on this machine.
+    pub address: Option<Address>,
     /// What people call it; the controller never sees it.
     pub name: Option<String>,
 }
@@ -41,6 +47,8 @@ pub struct CueEntry {
 pub struct ShowFile {
     /// The port at which the controller listens, where the file says so.
     pub port: Option<u16>,
+    /// Where this machine is on the stage's network, where the file says so: the octets as one number.
+    pub listen: Option<u32>,
     pub devices: Vec<DeviceEntry>,
     pub cues: Vec<CueEntry>,
 }

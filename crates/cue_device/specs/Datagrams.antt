@@ -1,5 +1,6 @@
 -- The commands and the answers of a device as datagrams: what each is as an OSC message, and its bytes.
-use Rattle.std.specs.Prelude.{◌≡◌, ◌≢◌, ◌≤◌, ℕ, pos, List, [], ◌∷◌, ◌++◌, length, codes, decimal, IsTrue, ◌⊎◌, Option, Some, None, Result, Ok}
+use Rattle.std.specs.Prelude.{◌≡◌, ◌≢◌, ◌≤◌, ℕ, pos, List, [], ◌∷◌, ◌++◌, length, codes, decimal, IsTrue, ◌⊎◌, Option}
+use Rattle.std.specs.Prelude.{Some, None, Result, Ok}
 use Rattle.cue_osc.specs.declared.fault.Fault.{Fault}
 use Rattle.cue_osc.specs.Argument.{Argument, int, text, blob}
 use Rattle.cue_osc.specs.Content.{Content, message}
@@ -25,7 +26,8 @@ number n = int (pos n)
 
 -- a command for the device d as an OSC message
 abbrev pub command_content : ℕ → Command → Content
-command_content d (Standby q task) = message (codes "/msc/standby") (number q ∷ number d ∷ text task.cue ∷ blob task.bytes ∷ [])
+command_content d (Standby q task) = message (codes "/msc/standby")
+    (number q ∷ number d ∷ text task.cue ∷ blob task.bytes ∷ [])
 command_content d (Go q) = message (codes "/msc/go_2pc") (number q ∷ number d ∷ [])
 command_content d (Cancel q) = message (codes "/msc/cancel") (number q ∷ number d ∷ [])
 
@@ -126,7 +128,8 @@ pub record Ignores (datagram : List ℕ) (old new : Device) (order : Option Orde
 
 -- one of the three
 abbrev pub HearsDatagram : List ℕ → Device → Device → Option Order → List ℕ → Type 0
-HearsDatagram datagram old new order sent = HearsCommand datagram old new order sent ⊎ (HearsReply datagram old new order sent ⊎ Ignores datagram old new order sent)
+HearsDatagram datagram old new order sent = HearsCommand datagram old new order sent
+    ⊎ (HearsReply datagram old new order sent ⊎ Ignores datagram old new order sent)
 
 -- ---- what is found at the front of bytes
 

@@ -1,5 +1,6 @@
 -- What a device makes of what it hears, and of what its machine tells.
-use Rattle.std.specs.Prelude.{ℕ, Bool, true, false, ◌&&◌, if◌then◌else◌, Option, Some, None, nat_eq, nat_lt, is_none, is_some}
+use Rattle.std.specs.Prelude.{ℕ, Bool, true, false, ◌&&◌, if◌then◌else◌, Option, Some, None, nat_eq, nat_lt, is_none}
+use Rattle.std.specs.Prelude.{is_some}
 use Rattle.std.specs.Cmp.Lexicographic.{pointwise}
 use Rattle.cue_show.specs.Number.{same_text}
 use Rattle.cue_device.specs.declared.asked.Command.{Command}
@@ -18,7 +19,8 @@ use Rattle.cue_device.specs.declared.words.Order.{Order}
 use Rattle.cue_device.specs.declared.words.Order.TheVariants.{Prepare, Move, GiveUp}
 use Rattle.cue_device.specs.declared.words.Answer.{Answer}
 use Rattle.cue_device.specs.declared.words.Answer.TheVariants.{StandingBy, Complete, Cancelled, Abort}
-use Rattle.cue_device.specs.Table.{same_standby, other_standby, same_go, same_cancel, anew, answer_over, prepared_in, moved_in, gave_up_in, cannot_in}
+use Rattle.cue_device.specs.Table.{same_standby, other_standby, same_go, same_cancel, anew, answer_over, prepared_in}
+use Rattle.cue_device.specs.Table.{moved_in, gave_up_in, cannot_in}
 
 -- ---- what a device is
 
@@ -28,7 +30,13 @@ rested number over = record { number = number; last = over; attempt = None; doin
 
 -- a device with these parts
 abbrev pub with_parts : ℕ → ℕ → Option Attempt → Option Order → Bool → Device
-with_parts number last attempt doing unheard = record { number = number; last = last; attempt = attempt; doing = doing; unheard = unheard }
+with_parts number last attempt doing unheard = record {
+  number = number;
+  last = last;
+  attempt = attempt;
+  doing = doing;
+  unheard = unheard;
+}
 
 -- the task of the attempt
 abbrev pub task_now : Option Attempt → Option Task
@@ -99,7 +107,10 @@ doing_after (Some order) doing = Some order
 
 -- the device has taken a turn in the attempt of its last number
 abbrev pub taken : Option Task → Turn → Device → Device
-taken task turn d = record d { attempt = Some (record { phase = turn.phase; task = task }); doing = doing_after turn.order d.doing }
+taken task turn d = record d {
+  attempt = Some (record { phase = turn.phase; task = task });
+  doing = doing_after turn.order d.doing;
+}
 
 -- the device begins with a new number
 abbrev pub begun : ℕ → Device → Device
@@ -188,7 +199,8 @@ unheard_after (Cannot q) unheard = true
 
 -- the attempt with what was told of it: where nothing is answered, nothing changes
 abbrev pub noted : Told → Option Task → Turn → Device → Device
-noted told task turn d = if is_some turn.answer then record (taken task turn d) { unheard = unheard_after told d.unheard } else d
+noted told task turn d = if is_some turn.answer then record (taken task turn d)
+    { unheard = unheard_after told d.unheard } else d
 
 -- the device after its machine told something, by the place of the number
 abbrev pub told_at : Place → Told → Device → Device

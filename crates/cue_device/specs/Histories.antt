@@ -6,7 +6,8 @@ use Rattle.cue_device.specs.declared.hearing.Device.{Device}
 use Rattle.cue_device.specs.declared.hearing.Told.{Told}
 use Rattle.cue_device.specs.declared.words.Order.{Order}
 use Rattle.cue_device.specs.declared.words.Answer.{Answer}
-use Rattle.cue_device.specs.Hearing.{after_command, after_reply, after_told, answer_ticked, answer_told, doing_after, heard, left_after, ordered_for, rested}
+use Rattle.cue_device.specs.Hearing.{after_command, after_reply, after_told, answer_ticked, answer_told, doing_after}
+use Rattle.cue_device.specs.Hearing.{heard, left_after, ordered_for, rested}
 
 -- what happens to a device: it hears a command, its machine tells something, it repeats an abort, it hears a reply to
 -- that, or it starts anew, its machine at rest, and is handed in this number

@@ -6,7 +6,8 @@ ghost use Rattle.cue_device.specs.Datagrams.{Finds};
 
 // What stands after this beginning.
 pub(crate) fn after<'a>(bytes: &'a [u8], head: &[u8]) -> Option<&'a [u8]>
-    ensures { MatchOption result ((rest : List ℕ) → bytes.now ≢ head.now ++ rest) (λ rest. bytes.now ≡ head.now ++ rest.now) }
+    ensures { MatchOption result ((rest : List ℕ) → bytes.now ≢ head.now ++ rest)
+        (λ rest. bytes.now ≡ head.now ++ rest.now) }
 {
     bytes.strip_prefix(head)
 }

@@ -2,7 +2,10 @@
 ghost use Rattle.std.specs.Prelude.{◌≡◌, Some, is_none};
 ghost use Rattle.std.specs.Option.{option_map};
 ghost use Rattle.cue_device.specs.declared.hearing.Told.TheVariants.{Prepared, Moved, GaveUp, Cannot};
-ghost use Rattle.cue_device.specs.Hearing.{after_command, after_reply, after_told, again, answer_ticked, answer_told, begun, doing_after, ends, freed, heard, is_for, left_after, noted, place, rested, said, phase_now, seq_of, task_now, taken, task_of, told_in, told_of, unheard_after, with_parts};
+ghost use Rattle.cue_device.specs.Hearing.{after_command, after_reply, after_told, again, answer_ticked, answer_told};
+ghost use Rattle.cue_device.specs.Hearing.{begun, doing_after, ends, freed, heard, is_for, left_after, noted, place};
+ghost use Rattle.cue_device.specs.Hearing.{rested, said, phase_now, seq_of, task_now, taken, task_of, told_in, told_of};
+ghost use Rattle.cue_device.specs.Hearing.{unheard_after, with_parts};
 
 use crate::asked::{Command, Task};
 use crate::phase::{Attempt, Phase, Turn};

@@ -1,7 +1,8 @@
 //! Laws of a device over all that it hears and all that its machine tells, with any restarts between, each the contract
 //! of a function that does nothing.
 ghost use Rattle.cue_device.specs.Copies.{DoneAnswers, FailedAnswers, LetGoAnswers, ReadyAnswers};
-ghost use Rattle.cue_device.specs.Laws.{MovesAfterStandingBy, MovesOnce, NeverGivesUpAfterMoving, NeverMovesAfterGivingUp, NumbersRise, OneAtATime, PreparesOnce};
+ghost use Rattle.cue_device.specs.Laws.{MovesAfterStandingBy, MovesOnce, NeverGivesUpAfterMoving};
+ghost use Rattle.cue_device.specs.Laws.{NeverMovesAfterGivingUp, NumbersRise, OneAtATime, PreparesOnce};
 
 /// It moves at most once for each number, whatever copies come and however often it starts anew.
 pub fn moves_once()

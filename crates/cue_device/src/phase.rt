@@ -47,7 +47,8 @@ impl Attempt {
     }
 }
 
-/// What a command, or what the machine tells, makes of an attempt: the phase from now on, what is ordered and what is answered.
+/// What a command, or what the machine tells, makes of an attempt: the phase from now on, what is ordered and what is
+/// answered.
 #[derive(Clone, Copy, PartialEq, Eq, Debug)]
 pub struct Turn {
     pub phase: Phase,

@@ -42,8 +42,10 @@ pub fn command(datagram: &[u8], number: DeviceNo) -> Option<Command>
 
 // The number of the attempt, and the bytes after the device's number, where that is this one.
 fn seq_for(bytes: &[u8], number: DeviceNo) -> Option<(u32, &[u8])>
-    ensures found { IfSome result (λ x. (bytes.now ≡ to_be_bytes w32 x.0 ++ (to_be_bytes w32 number ++ x.1.now)) × IsNumber x.0) }
-    ensures none { IfNone result ((q : ℕ) (rest : List ℕ) → IsNumber q → bytes.now ≢ to_be_bytes w32 q ++ (to_be_bytes w32 number ++ rest)) }
+    ensures found { IfSome result (λ x. (bytes.now ≡ to_be_bytes w32 x.0 ++ (to_be_bytes w32 number ++ x.1.now))
+        × IsNumber x.0) }
+    ensures none { IfNone result ((q : ℕ) (rest : List ℕ) → IsNumber q
+        → bytes.now ≢ to_be_bytes w32 q ++ (to_be_bytes w32 number ++ rest)) }
 {
     let (seq, rest) = int_at(bytes)?;
     let (device, rest) = int_at(rest)?;
@@ -56,8 +58,10 @@ fn seq_for(bytes: &[u8], number: DeviceNo) -> Option<(u32, &[u8])>
 
 // The number of the attempt, where nothing stands after the device's number.
 fn lone_seq_for(bytes: &[u8], number: DeviceNo) -> Option<u32>
-    ensures found { IfSome result (λ q. (bytes.now ≡ to_be_bytes w32 q ++ (to_be_bytes w32 number ++ [])) × IsNumber q) }
-    ensures none { IfNone result ((q : ℕ) → IsNumber q → bytes.now ≢ to_be_bytes w32 q ++ (to_be_bytes w32 number ++ [])) }
+    ensures found { IfSome result (λ q. (bytes.now ≡ to_be_bytes w32 q ++ (to_be_bytes w32 number ++ []))
+        × IsNumber q) }
+    ensures none { IfNone result ((q : ℕ) → IsNumber q
+        → bytes.now ≢ to_be_bytes w32 q ++ (to_be_bytes w32 number ++ [])) }
 {
     let (seq, rest) = seq_for(bytes, number)?;
     if rest.is_empty() { Some(seq) } else { None }

@@ -1,7 +1,8 @@
 //! The table of what a device makes of each command and of what its machine tells: by the place of the number, and by
 //! the phase of the attempt.
 ghost use Rattle.std.specs.Prelude.{◌≡◌};
-ghost use Rattle.cue_device.specs.Table.{answer_over, anew, cannot_in, gave_up_in, moved_in, new_standby, other_standby, prepared_in, same_cancel, same_go, same_standby};
+ghost use Rattle.cue_device.specs.Table.{answer_over, anew, cannot_in, gave_up_in, moved_in, new_standby};
+ghost use Rattle.cue_device.specs.Table.{other_standby, prepared_in, same_cancel, same_go, same_standby};
 
 use crate::asked::Command;
 use crate::phase::{Phase, Turn};

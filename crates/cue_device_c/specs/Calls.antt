@@ -37,7 +37,8 @@ abbrev pub Tells : Told → CueDevice → CueDevice → CueAnswer → ℕ → Ty
 Tells told old new answer given = TellsOf (device_of old) told old new answer given
 
 -- the device d hears a datagram
-pub record DeviceHears (datagram : List ℕ) (d : Device) (new : CueDevice) (answer : CueAnswer) (given : ℕ) : Type 0 where
+pub record DeviceHears (datagram : List ℕ) (d : Device) (new : CueDevice) (answer : CueAnswer)
+    (given : ℕ) : Type 0 where
   pub after : Device
   pub order : Option Order
   pub heard : HearsDatagram datagram d after order (sent answer)

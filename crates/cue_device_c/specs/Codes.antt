@@ -18,7 +18,9 @@ phase_code (Some Failed) = 7
 
 -- the phase of a number
 abbrev pub phase_of : ℕ → Option Phase
-phase_of n = if nat_eq n 1 then Some Preparing else if nat_eq n 2 then Some Ready else if nat_eq n 3 then Some Moving else if nat_eq n 4 then Some Done else if nat_eq n 5 then Some LettingGo else if nat_eq n 6 then Some LetGo else if nat_eq n 7 then Some Failed else None
+phase_of n = if nat_eq n 1 then Some Preparing else if nat_eq n 2 then Some Ready else if nat_eq n 3 then Some Moving
+    else if nat_eq n 4 then Some Done else if nat_eq n 5 then Some LettingGo else if nat_eq n 6 then Some LetGo
+    else if nat_eq n 7 then Some Failed else None
 
 -- the number of an order, 0 for none
 abbrev pub order_code : Option Order → ℕ
@@ -36,4 +38,5 @@ order_number (Some (GiveUp q)) = q
 
 -- the order of a number, for an attempt
 abbrev pub order_of : ℕ → ℕ → Option Order
-order_of n q = if nat_eq n 1 then Some (Prepare q) else if nat_eq n 2 then Some (Move q) else if nat_eq n 3 then Some (GiveUp q) else None
+order_of n q = if nat_eq n 1 then Some (Prepare q) else if nat_eq n 2 then Some (Move q)
+    else if nat_eq n 3 then Some (GiveUp q) else None

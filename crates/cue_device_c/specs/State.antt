@@ -1,5 +1,6 @@
 -- A device as C has it: the numbers that stand for a device, and the device that numbers stand for.
-use Rattle.std.specs.Prelude.{ℕ, Bool, ◌&&◌, ◌||◌, if◌then◌else◌, Option, Some, None, List, ◌++◌, length, take, replicate, ◌-◌, nat_eq, nat_le}
+use Rattle.std.specs.Prelude.{ℕ, Bool, ◌&&◌, ◌||◌, if◌then◌else◌, Option, Some, None, List, ◌++◌, length, take}
+use Rattle.std.specs.Prelude.{replicate, ◌-◌, nat_eq, nat_le}
 use Rattle.cue_show.specs.Number.{is_cue_number}
 use Rattle.cue_show.specs.declared.limits.TheConstants.{MAX_DEVICE_NUMBER, MAX_CUE_BYTES, MAX_PART_BYTES}
 use Rattle.cue_device.specs.declared.asked.Task.{Task}
@@ -18,11 +19,14 @@ fits_cue len places = nat_eq len 0 || (nat_le len MAX_CUE_BYTES && is_cue_number
 
 -- the numbers stand for a device
 abbrev pub fits : CueDevice → Bool
-fits s = nat_le s.number MAX_DEVICE_NUMBER && (nat_le s.phase 7 && (nat_le s.doing 3 && (nat_le s.unheard 1 && (nat_le s.bytes_length MAX_PART_BYTES && fits_cue s.cue_length s.cue))))
+fits s = nat_le s.number MAX_DEVICE_NUMBER && (nat_le s.phase 7
+    && (nat_le s.doing 3 && (nat_le s.unheard 1 && (nat_le s.bytes_length MAX_PART_BYTES
+    && fits_cue s.cue_length s.cue))))
 
 -- what it is asked to prepare for
 abbrev pub task_in : CueDevice → Option Task
-task_in s = if nat_eq s.cue_length 0 then None else Some (record { cue = take s.cue_length s.cue; bytes = take s.bytes_length s.bytes })
+task_in s = if nat_eq s.cue_length 0 then None else Some
+    (record { cue = take s.cue_length s.cue; bytes = take s.bytes_length s.bytes })
 
 -- the attempt of a phase, where there is one
 abbrev pub attempt_in : Option Phase → Option Task → Option Attempt
@@ -31,7 +35,13 @@ attempt_in (Some phase) task = Some (record { phase = phase; task = task })
 
 -- the device of numbers that fit
 abbrev pub device_in : CueDevice → Device
-device_in s = record { number = s.number; last = s.last; attempt = attempt_in (phase_of s.phase) (task_in s); doing = order_of s.doing s.doing_number; unheard = nat_eq s.unheard 1 }
+device_in s = record {
+  number = s.number;
+  last = s.last;
+  attempt = attempt_in (phase_of s.phase) (task_in s);
+  doing = order_of s.doing s.doing_number;
+  unheard = nat_eq s.unheard 1;
+}
 
 -- the device that the numbers stand for; none where they stand for no device
 abbrev pub device_of : CueDevice → Option Device
@@ -65,4 +75,17 @@ bit b = if b then 1 else 0
 
 -- the numbers that stand for a device
 abbrev pub kept : Device → CueDevice
-kept d = record { number = d.number; last = d.last; phase = phase_code (phase_now d.attempt); doing = order_code d.doing; doing_number = order_number d.doing; unheard = bit d.unheard; cue_length = cue_length (task_now d.attempt); bytes_length = bytes_length (task_now d.attempt); cue = cue_places (task_now d.attempt); bytes = bytes_places (task_now d.attempt) }
+kept d = record {
+  number = d.number;
+  last = d.last;
+  phase = phase_code (phase_now d.attempt);
+  doing = order_code d.doing;
+  doing_number = order_number d.doing;
+  unheard = bit d.unheard;
+  cue_length =
+      cue_length (task_now d.attempt);
+  bytes_length = bytes_length (task_now d.attempt);
+  cue =
+      cue_places (task_now d.attempt);
+  bytes = bytes_places (task_now d.attempt);
+}

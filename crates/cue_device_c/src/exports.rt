@@ -20,7 +20,8 @@ pub const MAX_NUMBER: u32 = 2147483647;
 /// `BAD_CALL` where either is out of range.
 #[unsafe(no_mangle)]
 pub extern "C" fn cue_device_new(device: &mut CueDevice, number: u32, over: u32) -> u32
-    ensures made { number ≤ MAX_DEVICE_NUMBER → over ≤ MAX_NUMBER → (device.new ≡ kept (rested number over)) × (result ≡ 0) }
+    ensures made { number ≤ MAX_DEVICE_NUMBER → over ≤ MAX_NUMBER
+        → (device.new ≡ kept (rested number over)) × (result ≡ 0) }
     ensures no_number { MAX_DEVICE_NUMBER < number → (device.new ≡ device.old) × (result ≡ BAD_CALL) }
     ensures not_over { MAX_NUMBER < over → (device.new ≡ device.old) × (result ≡ BAD_CALL) }
 {

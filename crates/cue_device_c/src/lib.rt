@@ -1,5 +1,5 @@
-//! The door for C to `cue_device`: its calls over numbers and byte slices. `include/cue_device.h` is the page for whoever
-//! calls them, and looks for null pointers before it does.
+//! The door for C to `cue_device`: its calls over numbers and byte slices. `include/cue_device.h` is the page for
+//! whoever calls them, and looks for null pointers before it does.
 //!
 //! The state is a struct of plain numbers that the caller owns. Each call reads a `Device` from it, makes the library's
 //! call and writes the device back. What is no device is answered with `BAD_CALL`, and is left as it is.

@@ -1,7 +1,8 @@
 //! A device as C has it: plain numbers and bytes.
 ghost use Rattle.std.specs.Prelude.{◌≡◌, IsTrue};
 ghost use Rattle.cue_show.specs.DeviceNumber.{device_of_byte};
-ghost use Rattle.cue_device_c.specs.State.{bytes_length, bytes_places, cue_length, cue_places, device_of, fits, fits_cue, kept, task_in};
+ghost use Rattle.cue_device_c.specs.State.{bytes_length, bytes_places, cue_length, cue_places, device_of, fits};
+ghost use Rattle.cue_device_c.specs.State.{fits_cue, kept, task_in};
 
 use crate::codes::{order_code, order_number, order_of, phase_code, phase_of};
 use cue_device::{Attempt, Device, PartBytes, Task};

@@ -1,5 +1,6 @@
 -- What a crash makes of a memory disk, from a length and the bytes that it is handed.
-use Rattle.std.specs.Prelude.{◌≡◌, ◌<◌, ◌≤◌, ◌+◌, ℕ, zero, suc, min, nat_le, Bool, ◌||◌, if◌then◌else◌, List, length, slice_index, slice_index_or}
+use Rattle.std.specs.Prelude.{◌≡◌, ◌<◌, ◌≤◌, ◌+◌, ℕ, zero, suc, min, nat_le, Bool, ◌||◌, if◌then◌else◌, List, length}
+use Rattle.std.specs.Prelude.{slice_index, slice_index_or}
 use Rattle.cue_disk.specs.Disk.{Contents, IsImage}
 
 -- A crash may change this byte: it is touched, or lies past the synced length.

@@ -14,7 +14,8 @@
 -- * Within a sync each byte is as before or made stable. What a stop then leaves, a crash before the sync may leave:
 --   the law `StopWithinASync`, below.
 -- * A read and the question for the length change nothing.
-use Rattle.std.specs.Prelude.{◌≡◌, ◌⊎◌, ◌<◌, ◌≤◌, ◌+◌, ◌-◌, ◌^◌, ℕ, min, max, Bool, false, true, List, ◌++◌, length, take, drop, slice_index, Result, MatchResult}
+use Rattle.std.specs.Prelude.{◌≡◌, ◌⊎◌, ◌<◌, ◌≤◌, ◌+◌, ◌-◌, ◌^◌, ℕ, min, max, Bool, false, true, List, ◌++◌, length}
+use Rattle.std.specs.Prelude.{take, drop, slice_index, Result, MatchResult}
 
 -- what a disk holds at a moment
 pub record Contents : Type 0 where
@@ -66,7 +67,8 @@ pub record Elapses (before now : ℕ) (past since : ℕ → Contents) (present :
   pub rest : (k : ℕ) → before < k → k ≤ now → since k ≡ present
 
 -- A crash at any moment from `old` on up to `new` leaves only what has P. What was held up to `old` is as it was.
-pub record LeavesAtEachMoment {D : Type 0} (moment : D → ℕ) (held_at : D → ℕ → Contents) (old new : D) (P : List ℕ → Type 0) : Type 0 where
+pub record LeavesAtEachMoment {D : Type 0} (moment : D → ℕ) (held_at : D → ℕ → Contents) (old new : D)
+    (P : List ℕ → Type 0) : Type 0 where
   pub later : moment old ≤ moment new
   pub same : (k : ℕ) → k ≤ moment old → held_at new k ≡ held_at old k
   pub each : (k : ℕ) → moment old ≤ k → k ≤ moment new → (image : List ℕ) → IsImage (held_at new k) image → P image

@@ -1,5 +1,6 @@
 -- Helper: what a memory disk holds, and what it held before each write and each sync.
-use Rattle.std.specs.Prelude.{◌≡◌, ◌≤◌, ◌+◌, ℕ, nat_le, nat_lt, Bool, false, ◌&&◌, ◌||◌, List, [], ◌∷◌, length, take, drop}
+use Rattle.std.specs.Prelude.{◌≡◌, ◌≤◌, ◌+◌, ℕ, nat_le, nat_lt, Bool, false, ◌&&◌, ◌||◌, List, [], ◌∷◌, length, take}
+use Rattle.std.specs.Prelude.{drop}
 use Rattle.std.specs.List.{list_any}
 use Rattle.cue_disk.specs.Disk.{Contents, overwritten}
 use Rattle.cue_disk.specs.declared.medium.Medium.{Medium}
@@ -67,7 +68,8 @@ medium_held_at medium k = contents (rewound (state_of medium) (drop k medium.pas
 -- This change undoes each write of at most so many bytes there.
 abbrev pub UndoesWrites : Change → ℕ → ℕ → State → Type 0
 UndoesWrites change at asked state =
-    (stored : List ℕ) → length stored ≤ asked → undone change (record state { bytes = overwritten state.bytes at stored }) ≡ state
+    (stored : List ℕ) → length stored ≤ asked → undone change
+    (record state { bytes = overwritten state.bytes at stored }) ≡ state
 
 -- This change touches so many bytes from there on.
 abbrev pub Touches : Change → ℕ → ℕ → Type 0

@@ -10,7 +10,8 @@ use Rattle.cue_disk.specs.declared.medium.Change.{Change}
 pub held_now : (medium : Medium) → medium_held_at medium (medium_moment medium) ≡ medium_held medium
 held_now medium =
     let now = length medium.past.items in
-    ap (λ (l : List Change). contents (rewound (state_of medium) l) (take now medium.past.items)) (drop_all now medium.past.items (omega arith))
+    ap (λ (l : List Change). contents (rewound (state_of medium) l) (take now medium.past.items))
+    (drop_all now medium.past.items (omega arith))
     ∙ ap (contents (state_of medium)) (take_all now medium.past.items (omega arith))
 
 pub reads_as_image : (medium : Medium) → IsImage (medium_held medium) (medium_held medium).bytes

@@ -2,7 +2,7 @@
 ghost use Rattle.std.specs.Prelude.{◌≡◌, ◌≤◌, [], IfOk};
 ghost use Rattle.cue_disk.specs.Effect.{settled};
 ghost use Rattle.cue_disk.specs.Disk.{CountsFailure, MoreFailures};
-ghost use Rattle.cue_disk.specs.File.{file_failures};
+ghost use Rattle.cue_disk.specs.File.{file_failures, opening_fault};
 
 use crate::{Disk, DiskFault};
 use std::error::Error;
@@ -32,6 +32,16 @@ impl fmt::Display for FileFault {
 
 impl Error for FileFault {}
 
+// Why a file was not opened.
+fn opening_fault(error: io::Error) -> FileFault
+    ensures { result ≡ opening_fault error }
+{
+    match error.kind() {
+        ErrorKind::NotFound => FileFault::NotFound,
+        _ => FileFault::Io(error),
+    }
+}
+
 /// A disk over a file. Nothing of a real file can be proved. That the file is honest, that nobody else writes it and
 /// that it stays where it was made are premises of whoever serves a show from it.
 ///
@@ -51,11 +61,7 @@ impl FileDisk {
         ensures { IfOk result (λ disk. file_failures disk ≡ 0) }
     {
         let opened = OpenOptions::new().read(true).write(true).open(rt, path);
-        match opened.and_then(FileDisk::over) {
-            Ok(disk) => Ok(disk),
-            Err(error) if error.kind() == ErrorKind::NotFound => Err(FileFault::NotFound),
-            Err(error) => Err(FileFault::Io(error)),
-        }
+        opened.and_then(FileDisk::over).map_err(opening_fault)
     }
 
     /// Opens a file, or makes it empty where it is missing. The folder that it stands in is synced, so that a crash

@@ -58,7 +58,8 @@ impl Medium {
     ghost use Rattle.std.specs.Prelude.{take, drop, is_err, IfOk, OnOk, OnErr};
     ghost use Rattle.cue_disk.specs.Disk.{Elapses};
     ghost use Rattle.cue_disk.specs.Effect.{settled, after_write, written_as, synced_as};
-    ghost use Rattle.cue_disk.specs.Medium.{medium_held, medium_moment, medium_held_at, state_of, UndoesWrites, Touches, IsUnchanged};
+    ghost use Rattle.cue_disk.specs.Medium.{medium_held, medium_moment, medium_held_at, state_of, UndoesWrites};
+    ghost use Rattle.cue_disk.specs.Medium.{Touches, IsUnchanged};
 
     /// One with these bytes, all of them on the disk.
     pub(crate) fn of(alloc: Global, bytes: Vec<u8>) -> Medium

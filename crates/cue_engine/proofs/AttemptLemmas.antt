@@ -111,7 +111,7 @@ may_go q before p h =
     (join p.optional (list_any (is_excuse_of q p.device) before) l.0 (any_left (list_any (is_excuse_of q p.device) before) (any_onto (is_excuse_of q p.device) before [] l.1))))
     h
 
-decided_of : (q : ℕ) (before later : List Event) → IsTrue (is_in_order (onto later (event.Go q ∷ onto before []))) → IsDecidedInOrder q before later
+pub decided_of : (q : ℕ) (before later : List Event) → IsTrue (is_in_order (onto later (event.Go q ∷ onto before []))) → IsDecidedInOrder q before later
 decided_of q before later h =
     let past : List Event = onto before [] in
     let go = (both (keeps_order past (event.Go q)) (is_in_order past) (order_before later (event.Go q ∷ past) h)).0 in

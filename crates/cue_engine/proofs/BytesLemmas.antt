@@ -12,7 +12,7 @@ use Rattle.cue_osc.specs.Writing.{text_of}
 use Rattle.cue_osc.proofs.Fields.{string_again}
 use Rattle.cue_osc.proofs.Starts.{message_start}
 use Rattle.cue_core.specs.declared.event.Event.{Event}
-use Rattle.cue_core.specs.Events.{is_go_of, is_start_of}
+use Rattle.cue_core.specs.Events.{is_cancel_of, is_go_of, is_start_of}
 use Rattle.cue_core.specs.State.{ShowState, is_state}
 use Rattle.cue_core.specs.Steps.{after_events}
 use Rattle.cue_core.specs.Pending.{Order, standby, go_2pc, cancel, pending}
@@ -20,10 +20,11 @@ use Rattle.cue_outbox.specs.Sending.{Send, answer, status, order, number, order_
 use Rattle.cue_outbox.proofs.Lists.{each_append, each_map, each_passes}
 use Rattle.cue_outbox.proofs.ReadBack.{IsWritable, read_back}
 use Rattle.cue_outbox.proofs.Writable.{all_writable}
-use Rattle.cue_engine.specs.Runs.{Happening, run, joined, given_at, order_rests, send_rests, rests}
+use Rattle.cue_engine.specs.Runs.{Happening, run, joined, given_at, is_cancelling_in, order_rests, send_rests, rests}
 use Rattle.cue_core.specs.Batches.{is_live_in, is_decided_in}
 use Rattle.cue_engine.specs.InBytes.{AreReadAs, BytesRest, BytesOfEachRest}
 use Rattle.cue_core.proofs.lists.AnyLemmas.{itself}
+use Rattle.cue_core.proofs.lists.ConditionLemmas.{both}
 use Rattle.cue_engine.proofs.Histories.{happening-ok}
 use Rattle.cue_core.proofs.rules.BatchLemmas.{is_state-after_events}
 use Rattle.cue_engine.proofs.Resting.{each_rests}
@@ -94,6 +95,7 @@ answer_rests s es a m k r c = record {
   go_2pc = λ q read. not_read (codes "/reply") (codes "/msc/go_2pc") _ q (search rules) refl refl read;
   standby = λ q read. not_read (codes "/reply") (codes "/msc/standby") _ q (search rules) refl refl read;
   cancel = λ q read. not_read (codes "/reply") (codes "/msc/cancel") _ q (search rules) refl refl read;
+  cancelled = λ q read. not_read (codes "/reply") (codes "/msc/cancel") _ q (search rules) refl refl read;
 }
 
 status_rests : (s : ShowState) (es : List Event) (l : ℕ) (p : List ℕ) (v e o : ℕ) → BytesRest s es (text_of (send_content (status l p v e o)))
@@ -102,6 +104,7 @@ status_rests s es l p v e o = record {
   go_2pc = λ q read. not_read (codes "/status") (codes "/msc/go_2pc") _ q (search rules) refl refl read;
   standby = λ q read. not_read (codes "/status") (codes "/msc/standby") _ q (search rules) refl refl read;
   cancel = λ q read. not_read (codes "/status") (codes "/msc/cancel") _ q (search rules) refl refl read;
+  cancelled = λ q read. not_read (codes "/status") (codes "/msc/cancel") _ q (search rules) refl refl read;
 }
 
 -- ---- a command is read as what was meant
@@ -126,9 +129,13 @@ standby_says s es (standby p d c b) q xs h e = let P : ℕ → Type 0 = λ n. (i
 standby_says s es (go_2pc p d) q xs h e = differ (codes "/msc/go_2pc") (codes "/msc/standby") refl (ap address_in e)
 standby_says s es (cancel p d) q xs h e = differ (codes "/msc/cancel") (codes "/msc/standby") refl (ap address_in e)
 
-cancel_says : (s : ShowState) (es : List Event) (o : Order) (q : ℕ) (xs : List Argument) → order_rests s es o ≡ true → order_content o ≡ message (codes "/msc/cancel") (number q ∷ xs) → (is_live_in s q || list_any (is_start_of q) es) ≡ true
+-- a cancel is for an attempt that is live, and is cancelled
+abbrev CancelRests : ShowState → List Event → ℕ → Type 0
+CancelRests s es q = ((is_live_in s q || list_any (is_start_of q) es) ≡ true) × ((is_cancelling_in s q || list_any (is_cancel_of q) es) ≡ true)
+
+cancel_says : (s : ShowState) (es : List Event) (o : Order) (q : ℕ) (xs : List Argument) → order_rests s es o ≡ true → order_content o ≡ message (codes "/msc/cancel") (number q ∷ xs) → CancelRests s es q
 unfolding order_content
-cancel_says s es (cancel p d) q xs h e = let P : ℕ → Type 0 = λ n. (is_live_in s n || list_any (is_start_of n) es) ≡ true in subst P (ap first_number e) h
+cancel_says s es (cancel p d) q xs h e = let w = both (is_live_in s p || list_any (is_start_of p) es) _ h in subst (CancelRests s es) (ap first_number e) (w.0, w.1)
 cancel_says s es (go_2pc p d) q xs h e = differ (codes "/msc/go_2pc") (codes "/msc/cancel") refl (ap address_in e)
 cancel_says s es (standby p d c b) q xs h e = differ (codes "/msc/standby") (codes "/msc/cancel") refl (ap address_in e)
 
@@ -144,7 +151,8 @@ unfolding send_content
 order_says s es o w h = record {
   go_2pc = λ q read. go_says s es o q read.0 h (read_as (order_content o) (codes "/msc/go_2pc") q w read);
   standby = λ q read. standby_says s es o q read.0 h (read_as (order_content o) (codes "/msc/standby") q w read);
-  cancel = λ q read. cancel_says s es o q read.0 h (read_as (order_content o) (codes "/msc/cancel") q w read);
+  cancel = λ q read. (cancel_says s es o q read.0 h (read_as (order_content o) (codes "/msc/cancel") q w read)).0;
+  cancelled = λ q read. (cancel_says s es o q read.0 h (read_as (order_content o) (codes "/msc/cancel") q w read)).1;
 }
 
 -- ---- all of them

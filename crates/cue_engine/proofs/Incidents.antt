@@ -17,15 +17,17 @@ use Rattle.cue_records.specs.State.{state_text}
 use Rattle.cue_keeper.proofs.Refused.{is_opened}
 use Rattle.cue_outbox.specs.Sending.{Send, all_pending}
 use Rattle.cue_engine.specs.Given.{Input, given, given_recovery}
+use Rattle.cue_engine.specs.Groups.{batches_given}
 use Rattle.cue_core.specs.Batches.{closed}
 use Rattle.cue_engine.specs.Recovery.{ClosedFrom, IsLeftOrStands}
 use Rattle.cue_engine.specs.Runs.{took, with_batch, joined, rests}
 use Rattle.cue_engine.specs.Runs as runs
-use Rattle.cue_engine.specs.Incidents.{Incident, formed, stopped_in_form, taken, handed_out, stopped, stopped_in_take, recovered, stopped_in_recovery, refused, Store, running, at_rest, unformed, begun, LeavesOnly, AreLeft, PermitsRunning, PermitsAtRest, PermitsUnformed, Permits, left_by}
+use Rattle.cue_engine.specs.Incidents.{Incident, formed, stopped_in_form, taken, handed_out, stopped, stopped_in_take, stopped_in_commit, recovered, stopped_in_recovery, refused, Store, running, at_rest, unformed, begun, LeavesOnly, AreLeft, PermitsRunning, PermitsAtRest, PermitsUnformed, Permits, left_by}
 use Rattle.cue_engine.specs.Headline.{owed_by, handed_in, batch_of, is_cut_off}
 use Rattle.cue_core.proofs.lists.AnyLemmas.{all-append, all_implied}
 use Rattle.cue_engine.proofs.Resting.{more, earlier, input_rests, all_pending_rest}
 use Rattle.cue_engine.proofs.Histories.{input-ok, happening-ok}
+use Rattle.cue_engine.proofs.Groups.{after_joined, inputs-ok}
 use Rattle.cue_core.proofs.rules.BatchLemmas.{is_state-after_events}
 use Rattle.cue_engine.proofs.SentLemmas.{Each}
 use Rattle.cue_engine.proofs.BytesLemmas.{IsReadable, pending_readable, given_readable}
@@ -69,6 +71,7 @@ handed_rests s es store (taken now input) h = refl
 handed_rests s es store handed_out h = h
 handed_rests s es store (stopped n one other) h = all_taken (rests s es) n (owed_by store) h
 handed_rests s es store (stopped_in_take now input n one other) h = all_taken (rests s es) n (owed_by store) h
+handed_rests s es store (stopped_in_commit inputs n one other) h = all_taken (rests s es) n (owed_by store) h
 handed_rests s es store (recovered t) h = refl
 handed_rests s es store (stopped_in_recovery one other) h = refl
 handed_rests s es store (refused one other) h = refl
@@ -85,6 +88,7 @@ handed_readable store (taken now input) h = tt
 handed_readable store handed_out h = h
 handed_readable store (stopped n one other) h = each_taken (λ (m : ℕ × Send). IsReadable m.1) n (owed_by store) h
 handed_readable store (stopped_in_take now input n one other) h = each_taken (λ (m : ℕ × Send). IsReadable m.1) n (owed_by store) h
+handed_readable store (stopped_in_commit inputs n one other) h = each_taken (λ (m : ℕ × Send). IsReadable m.1) n (owed_by store) h
 handed_readable store (recovered t) h = tt
 handed_readable store (stopped_in_recovery one other) h = tt
 handed_readable store (refused one other) h = tt
@@ -153,6 +157,10 @@ goes_running s es owed handed_out x y on ok may = inl (as_before s es (running (
 goes_running s es owed (stopped n one other) x y on ok may = inl (as_before s es (at_rest one other) x y (resting_at s es one other x y on.rules (ok x y may.0 may.1)))
 goes_running s es owed (stopped_in_take now input n one other) x y on ok may =
     with_cut (resting_either s es (given (after_events s es) now input).batch one other x y on.rules (input-ok (after_events s es) now input on.rules) (ok x y may.0 may.1))
+goes_running s es owed (stopped_in_commit inputs n one other) x y on ok may =
+    let before : ShowState = after_events s es in
+    let P : ShowState → Type 0 = λ t. StandsEither before t x y in
+    with_cut (resting_either s es (joined (batches_given before inputs)) one other x y on.rules (inputs-ok before inputs on.rules) (subst P (sym (after_joined before (batches_given before inputs))) (ok x y may.0 may.1)))
 goes_running s es owed (recovered t) x y on ok may = absurd ok
 goes_running s es owed (stopped_in_recovery one other) x y on ok may = absurd ok
 goes_running s es owed (refused one other) x y on ok may = absurd ok
@@ -220,6 +228,7 @@ chosen_at_rest then_one then_other (taken now input) x y ok may = absurd ok
 chosen_at_rest then_one then_other handed_out x y ok may = absurd ok
 chosen_at_rest then_one then_other (stopped n one other) x y ok may = absurd ok
 chosen_at_rest then_one then_other (stopped_in_take now input n one other) x y ok may = absurd ok
+chosen_at_rest then_one then_other (stopped_in_commit inputs n one other) x y ok may = absurd ok
 chosen_at_rest then_one then_other (recovered t) x y ok may = record {
   first = ok.first;
   second = ok.second;
@@ -282,6 +291,7 @@ goes_unformed s es then_one then_other (taken now input) x y rules same first ok
 goes_unformed s es then_one then_other handed_out x y rules same first ok = absurd ok
 goes_unformed s es then_one then_other (stopped n one other) x y rules same first ok = absurd ok
 goes_unformed s es then_one then_other (stopped_in_take now input n one other) x y rules same first ok = absurd ok
+goes_unformed s es then_one then_other (stopped_in_commit inputs n one other) x y rules same first ok = absurd ok
 goes_unformed s es then_one then_other (recovered t) x y rules same first ok =
     let stood : ok.closed.before ≡ empty_state = stands_first ok.first ok.second ok.closed.before (first ok.first ok.second ok.left.0 ok.left.1) ok.closed.stood in
     inl (begins_again s es t x y rules (ok.closed.is ∙ ap closed (stood ∙ sym same)))

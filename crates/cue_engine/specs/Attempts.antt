@@ -20,7 +20,8 @@ accepted hs = joined (run empty_state hs).batches
 
 -- the device of the part stood by in q, or it is optional and was excused
 abbrev pub may_go_after : List Event → ℕ → Part → Bool
-may_go_after before q p = list_any (is_ready_of q p.device) before || (p.optional && list_any (is_excuse_of q p.device) before)
+may_go_after before q p = list_any (is_ready_of q p.device) before
+    || (p.optional && list_any (is_excuse_of q p.device) before)
 
 -- What was accepted before Go of an attempt, and after it.
 pub record IsDecidedInOrder (q : ℕ) (before later : List Event) : Type 0 where
@@ -35,11 +36,13 @@ pub record IsDecidedInOrder (q : ℕ) (before later : List Event) : Type 0 where
 -- Go of an attempt is accepted only after Ready of each required device, after Ready or Excuse of each optional one,
 -- and after no Cancel; and no Cancel is accepted after it.
 abbrev pub DecidedInOrder : Type 0
-DecidedInOrder = (hs : List Happening) (q : ℕ) (before later : List Event) → accepted hs ≡ before ++ Go q ∷ later → IsDecidedInOrder q before later
+DecidedInOrder = (hs : List Happening) (q : ℕ) (before later : List Event) → accepted hs ≡ before ++ Go q ∷ later
+    → IsDecidedInOrder q before later
 
 -- A number names one attempt for good: no other Start has it.
 abbrev pub NumberNamesOne : Type 0
-NumberNamesOne = (hs : List Happening) (q : ℕ) (cue : List ℕ) (deadline : ℕ) (before later : List Event) → accepted hs ≡ before ++ Start q cue deadline ∷ later
+NumberNamesOne = (hs : List Happening) (q : ℕ) (cue : List ℕ) (deadline : ℕ) (before later : List Event)
+    → accepted hs ≡ before ++ Start q cue deadline ∷ later
     → IsTrue (not (list_any (is_start_of q) before) && not (list_any (is_start_of q) later))
 
 -- a datagram that is a command with this test
@@ -60,4 +63,5 @@ NothingMoreIsSent = (hs later : List Happening) (q d : ℕ) → IsTrue (list_any
 
 -- No device is ever sent both GO_2PC and CANCEL in one attempt.
 abbrev pub NeverSentBoth : Type 0
-NeverSentBoth = (hs : List Happening) (q d : ℕ) → IsTrue (not (was_sent (is_go_to q d) hs && was_sent (is_cancel_to q d) hs))
+NeverSentBoth = (hs : List Happening) (q d : ℕ) → IsTrue
+    (not (was_sent (is_go_to q d) hs && was_sent (is_cancel_to q d) hs))

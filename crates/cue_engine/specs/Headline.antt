@@ -13,10 +13,14 @@ use Rattle.cue_keeper.specs.Stands.{Stands, StandsAs}
 use Rattle.cue_keeper.specs.Refusals.{HasOtherVersion, StandsForNone}
 use Rattle.cue_outbox.specs.Sending.{Send, all_pending, datagrams}
 use Rattle.cue_engine.specs.Given.{given, given_recovery}
+use Rattle.cue_engine.specs.Groups.{batches_given}
 use Rattle.cue_engine.specs.Recovery.{ClosedFrom}
 use Rattle.cue_engine.specs.Runs.{with_batch, joined, rests}
 use Rattle.cue_engine.specs.InBytes.{BytesRest}
-use Rattle.cue_engine.specs.Incidents.{Incident, taken, handed_out, stopped, stopped_in_take, recovered, stopped_in_recovery, Store, running, at_rest, unformed, LeavesOnly, AreLeft, left_by, Happens, left_by_all}
+use Rattle.cue_engine.specs.Incidents.{Incident, taken, handed_out, stopped, stopped_in_take, stopped_in_commit}
+use Rattle.cue_engine.specs.Incidents.{recovered, stopped_in_recovery, Store, running, at_rest, unformed, LeavesOnly}
+use Rattle.cue_engine.specs.Incidents.{AreLeft}
+use Rattle.cue_engine.specs.Incidents.{left_by, Happens, left_by_all}
 
 -- ---- what was handed to the network
 
@@ -29,6 +33,7 @@ abbrev pub handed_in : Store → Incident → List (ℕ × Send)
 handed_in store handed_out = owed_by store
 handed_in store (stopped n one other) = take n (owed_by store)
 handed_in store (stopped_in_take now input n one other) = take n (owed_by store)
+handed_in store (stopped_in_commit inputs n one other) = take n (owed_by store)
 handed_in store _ = []
 
 -- all that was handed to the network, in order
@@ -38,10 +43,12 @@ all_handed store (i ∷ is) = handed_in store i ++ all_handed (left_by store i) 
 
 -- ---- which batches are kept
 
--- the batch that an incident brings to the state before it
+-- The batch that an incident brings to the state before it. Those of a `commit` that was cut off count as one: they are
+-- kept together or not at all.
 abbrev pub batch_of : ShowState → Incident → List Event
 batch_of s (taken now input) = (given s now input).batch
 batch_of s (stopped_in_take now input n one other) = (given s now input).batch
+batch_of s (stopped_in_commit inputs n one other) = joined (batches_given s inputs)
 batch_of s (recovered t) = (given_recovery s).batch
 batch_of s (stopped_in_recovery one other) = (given_recovery s).batch
 batch_of s _ = []
@@ -49,6 +56,7 @@ batch_of s _ = []
 -- The call that accepts the batch was cut off, so the batch is not acknowledged.
 abbrev pub is_cut_off : Incident → Bool
 is_cut_off (stopped_in_take now input n one other) = true
+is_cut_off (stopped_in_commit inputs n one other) = true
 is_cut_off (stopped_in_recovery one other) = true
 is_cut_off _ = false
 
@@ -58,7 +66,8 @@ is_cut_off _ = false
 abbrev pub AreKept : ShowState → List Incident → List (List Event) → Type 0
 AreKept s [] kept = kept ≡ []
 AreKept s (i ∷ is) kept =
-    ((others : List (List Event)) × ((kept ≡ with_batch (batch_of s i) others) × AreKept (after_events s (batch_of s i)) is others))
+    ((others : List (List Event)) × ((kept ≡ with_batch (batch_of s i) others)
+    × AreKept (after_events s (batch_of s i)) is others))
     ⊎ ((is_cut_off i ≡ true) × AreKept s is kept)
 
 -- ---- where a life begins, and where it is looked at
@@ -87,7 +96,7 @@ HasState (unformed one other) x y s = (s ≡ empty_state) × (NeitherHas x y ⊎
 
 -- What a store came to from a state on: whole batches are kept, a prefix with every acknowledged one; they make the
 -- state that it has; and each datagram that was handed to the network rests on them, down to its bytes: a GO_2PC on
--- the Go of its attempt, a STANDBY or CANCEL on its Start.
+-- the Go of its attempt, a CANCEL on its Cancel, a STANDBY or CANCEL on its Start.
 pub record CameTo (s : ShowState) (store : Store) (is : List Incident) (x y : List ℕ) : Type 0 where
   pub kept : List (List Event)
   pub prefix : AreKept s is kept
@@ -99,7 +108,8 @@ pub record CameTo (s : ShowState) (store : Store) (is : List Incident) (x y : Li
 abbrev pub WhateverHappens : Type 0
 WhateverHappens =
     (s : ShowState) (store : Store) (is : List Incident) (x y : List ℕ)
-    → IsTrue (is_state s) → BeginsWith store s → Happens store is → MayRead (left_by_all store is) x y → CameTo s store is x y
+    → IsTrue (is_state s) → BeginsWith store s → Happens store is → MayRead (left_by_all store is) x y
+    → CameTo s store is x y
 
 -- Recovery has no reason to answer Unformed, Damaged, Version or Malformed.
 pub record IsReadable (x y : List ℕ) : Type 0 where
@@ -121,8 +131,10 @@ pub record IsPromised (s : ShowState) (store : Store) (is : List Incident) (x y 
   pub kept : List (List Event)
   pub prefix : AreKept s is kept
   pub readable : IsReadable x y
-  pub gives : (t : ShowState) (queue : List (ℕ × List ℕ)) → IsAnswered x y t queue → t ≡ closed (after_events s (joined kept))
-  pub owes : (t : ShowState) (queue : List (ℕ × List ℕ)) → IsAnswered x y t queue → queue ≡ datagrams (all_pending (closed (after_events s (joined kept))))
+  pub gives : (t : ShowState) (queue : List (ℕ × List ℕ)) → IsAnswered x y t queue
+      → t ≡ closed (after_events s (joined kept))
+  pub owes : (t : ShowState) (queue : List (ℕ × List ℕ)) → IsAnswered x y t queue
+      → queue ≡ datagrams (all_pending (closed (after_events s (joined kept))))
   pub decided : IsTrue (list_all (rests s (joined kept)) (all_handed store is))
   pub in_bytes : AllByRecursion (λ d. BytesRest s (joined kept) d.1) (datagrams (all_handed store is))
 
@@ -131,4 +143,5 @@ pub record IsPromised (s : ShowState) (store : Store) (is : List Incident) (x y 
 abbrev pub RecoveryGivesAPrefix : Type 0
 RecoveryGivesAPrefix =
     (s : ShowState) (store : Store) (is : List Incident) (one other : Contents) (x y : List ℕ)
-    → IsTrue (is_state s) → BeginsWith store s → Happens store is → left_by_all store is ≡ at_rest one other → AreLeft one other x y → IsPromised s store is x y
+    → IsTrue (is_state s) → BeginsWith store s → Happens store is → left_by_all store is ≡ at_rest one other
+    → AreLeft one other x y → IsPromised s store is x y

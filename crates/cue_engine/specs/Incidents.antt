@@ -7,10 +7,11 @@ use Rattle.std.specs.Prelude.{ℕ, List, [], ◌∷◌, ◌++◌}
 use Rattle.cue_disk.specs.Disk.{Contents, IsImage}
 use Rattle.cue_core.specs.State.{ShowState, empty_state}
 use Rattle.cue_core.specs.Steps.{after_events}
-use Rattle.cue_keeper.specs.Stands.{StandsEither, StandsAs, first_area}
+use Rattle.cue_keeper.specs.Stands.{StandsEither, StandsAs, first_area, folded_all}
 use Rattle.cue_outbox.specs.Sending.{Send, all_pending}
 use Rattle.cue_snap.specs.Pair.{IsUnformedOr}
 use Rattle.cue_engine.specs.Given.{Input, given}
+use Rattle.cue_engine.specs.Groups.{batches_given}
 use Rattle.cue_engine.specs.Recovery.{ClosedFrom, IsLeftOrStands}
 
 -- What may happen to a store. After a stop, with power lost or not, or a refusal the disks hold `one` and `other`.
@@ -28,6 +29,9 @@ pub data Incident : Type 0 where
   stopped : (n : ℕ) (one other : Contents) → Incident
   -- A stop came within `take`, or a disk failed there. Of what was owed before it n datagrams may still be handed over.
   stopped_in_take : (now : ℕ) (input : Input) (n : ℕ) (one other : Contents) → Incident
+  -- The same within `commit`, of these inputs that had been offered: they are kept together or not at all. A `commit`
+  -- that answered Ok is each of its inputs taken, one after the other.
+  stopped_in_commit : (inputs : List (ℕ × Input)) (n : ℕ) (one other : Contents) → Incident
   -- `recover` answered Ok, with this state.
   recovered : (state : ShowState) → Incident
   -- A stop came within `recover`, or a disk failed there.
@@ -66,12 +70,15 @@ pub record RecoversAs (one other : Contents) (s : ShowState) : Type 0 where
 
 -- While an engine runs and no call writes, whatever a crash leaves stands for the state (`accepted` of `take`,
 -- `stands` of `recover` and `close`, `formed` of `form`). A stop within `take` leaves the state from before or the one
--- after the whole batch (`any_moment`).
+-- after the whole batch, one within `commit` the state from before or the one after all of its batches (`any_moment`).
 abbrev pub PermitsRunning : ShowState → Incident → Type 0
 PermitsRunning s (taken now input) = Unit {0}
 PermitsRunning s handed_out = Unit {0}
 PermitsRunning s (stopped n one other) = StandsAs one other s
-PermitsRunning s (stopped_in_take now input n one other) = LeavesOnly one other (StandsEither s (after_events s (given s now input).batch))
+PermitsRunning s (stopped_in_take now input n one other) =
+    LeavesOnly one other (StandsEither s (after_events s (given s now input).batch))
+PermitsRunning s (stopped_in_commit inputs n one other) =
+    LeavesOnly one other (StandsEither s (folded_all s (batches_given s inputs)))
 PermitsRunning s _ = ⊥
 
 -- Recovery gives the closed state of one that the disks stood for (`stood`). A stop within it leaves what a crash might
@@ -79,7 +86,8 @@ PermitsRunning s _ = ⊥
 -- what a crash might have left before it (`unwritten`).
 abbrev pub PermitsAtRest : Contents → Contents → Incident → Type 0
 PermitsAtRest then_one then_other (recovered s) = RecoversAs then_one then_other s
-PermitsAtRest then_one then_other (stopped_in_recovery one other) = LeavesOnly one other (IsLeftOrStands then_one then_other)
+PermitsAtRest then_one then_other (stopped_in_recovery one other) =
+    LeavesOnly one other (IsLeftOrStands then_one then_other)
 PermitsAtRest then_one then_other (refused one other) = LeavesOnly one other (AreLeft then_one then_other)
 PermitsAtRest then_one then_other _ = ⊥
 
@@ -87,9 +95,11 @@ PermitsAtRest then_one then_other _ = ⊥
 -- (`any_moment`). All else is as at rest.
 abbrev pub PermitsUnformed : Contents → Contents → Incident → Type 0
 PermitsUnformed then_one then_other formed = Unit {0}
-PermitsUnformed then_one then_other (stopped_in_form one other) = LeavesOnly one other (IsUnformedOr first_area then_one then_other)
+PermitsUnformed then_one then_other (stopped_in_form one other) =
+    LeavesOnly one other (IsUnformedOr first_area then_one then_other)
 PermitsUnformed then_one then_other (recovered s) = RecoversAs then_one then_other s
-PermitsUnformed then_one then_other (stopped_in_recovery one other) = LeavesOnly one other (IsLeftOrStands then_one then_other)
+PermitsUnformed then_one then_other (stopped_in_recovery one other) =
+    LeavesOnly one other (IsLeftOrStands then_one then_other)
 PermitsUnformed then_one then_other (refused one other) = LeavesOnly one other (AreLeft then_one then_other)
 PermitsUnformed then_one then_other _ = ⊥
 
@@ -103,7 +113,8 @@ Permits (unformed one other) i = PermitsUnformed one other i
 
 -- an engine that took an input has the state after the batch, and owes what is sent for it, too
 abbrev pub having_taken : Store → ℕ → Input → Store
-having_taken (running s owed) now input = running (after_events s (given s now input).batch) (owed ++ (given s now input).sends)
+having_taken (running s owed) now input = running (after_events s (given s now input).batch)
+    (owed ++ (given s now input).sends)
 having_taken (at_rest one other) now input = at_rest one other
 having_taken (unformed one other) now input = unformed one other
 
@@ -126,6 +137,7 @@ left_by store (taken now input) = having_taken store now input
 left_by store handed_out = having_handed_out store
 left_by store (stopped n one other) = at_rest one other
 left_by store (stopped_in_take now input n one other) = at_rest one other
+left_by store (stopped_in_commit inputs n one other) = at_rest one other
 left_by store (recovered s) = begun s
 left_by store (stopped_in_recovery one other) = still_at_rest store one other
 left_by store (refused one other) = still_at_rest store one other

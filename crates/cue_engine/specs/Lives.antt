@@ -1,5 +1,5 @@
 -- The life of a store that the calls themselves make: each call goes on with it.
-use Rattle.std.specs.Prelude.{◌≡◌, ℕ, List, [], ◌∷◌, ◌++◌, IsTrue}
+use Rattle.std.specs.Prelude.{◌≡◌, ℕ, List, [], ◌∷◌, ◌++◌, map, IsTrue}
 use Rattle.std.specs.List.{AllByRecursion, list_all}
 use Rattle.cue_disk.specs.Disk.{Contents, IsImage}
 use Rattle.cue_snap.specs.Pair.{AfterBarrier}
@@ -11,7 +11,8 @@ use Rattle.cue_outbox.specs.Sending.{Send, all_pending, datagrams}
 use Rattle.cue_engine.specs.Given.{Input}
 use Rattle.cue_engine.specs.Runs.{joined, rests}
 use Rattle.cue_engine.specs.InBytes.{BytesRest}
-use Rattle.cue_engine.specs.Incidents.{Incident, stopped_in_take, Store, running, at_rest, unformed, Happens, left_by_all}
+use Rattle.cue_engine.specs.Incidents.{Incident, taken, stopped_in_take, stopped_in_commit, Store, running, at_rest}
+use Rattle.cue_engine.specs.Incidents.{unformed, Happens, left_by_all}
 use Rattle.cue_engine.specs.Headline.{BeginsWith, AreKept, all_handed, IsPromised}
 use Rattle.cue_engine.specs.Permitted.{IsWithin, IsFromTo, IsStop}
 
@@ -22,7 +23,8 @@ pub record IsLife (s : ShowState) (store : Store) (is : List Incident) : Type 0 
   pub happens : Happens store is
 
 -- By now an engine runs with this state, and this queue is what it owes.
-pub record RunsWith (s : ShowState) (store : Store) (is : List Incident) (state : ShowState) (queue : List (ℕ × List ℕ)) : Type 0 where
+pub record RunsWith (s : ShowState) (store : Store) (is : List Incident) (state : ShowState)
+    (queue : List (ℕ × List ℕ)) : Type 0 where
   pub life : IsLife s store is
   pub owed : List (ℕ × Send)
   pub runs : left_by_all store is ≡ running state owed
@@ -40,18 +42,22 @@ pub record RestsUnformed (s : ShowState) (store : Store) (is : List Incident) (o
 
 -- Of each life that has come to an engine with this state and this queue P holds.
 abbrev pub InEachLifeWith : ShowState → List (ℕ × List ℕ) → (ShowState → Store → List Incident → Type 0) → Type 0
-InEachLifeWith state queue P = (s : ShowState) (store : Store) (is : List Incident) → RunsWith s store is state queue → P s store is
+InEachLifeWith state queue P = (s : ShowState) (store : Store) (is : List Incident) → RunsWith s store is state queue
+    → P s store is
 
 -- Of each life that has come to rest on disks that hold these P holds.
 abbrev pub InEachLifeAt : Contents → Contents → (ShowState → Store → List Incident → Type 0) → Type 0
-InEachLifeAt one other P = (s : ShowState) (store : Store) (is : List Incident) → RestsWith s store is one other → P s store is
+InEachLifeAt one other P = (s : ShowState) (store : Store) (is : List Incident) → RestsWith s store is one other
+    → P s store is
 
 -- Of each life that has come to disks that hold these, and to no store yet, P holds.
 abbrev pub InEachLifeBefore : Contents → Contents → (ShowState → Store → List Incident → Type 0) → Type 0
-InEachLifeBefore one other P = (s : ShowState) (store : Store) (is : List Incident) → RestsUnformed s store is one other → P s store is
+InEachLifeBefore one other P = (s : ShowState) (store : Store) (is : List Incident) → RestsUnformed s store is one other
+    → P s store is
 
 -- Wherever a stop finds the two disks within `take`, and whatever a crash leaves of them there, the promise holds.
-abbrev pub IsPromisedAtEachMoment : {D : Type 0} (moment : D → ℕ) (held_at : D → ℕ → Contents) (a b new_a new_b : D) → ShowState → Store → List Incident → ℕ → Input → Type 0
+abbrev pub IsPromisedAtEachMoment : {D : Type 0} (moment : D → ℕ) (held_at : D → ℕ → Contents) (a b new_a new_b : D)
+    → ShowState → Store → List Incident → ℕ → Input → Type 0
 IsPromisedAtEachMoment moment held_at a b new_a new_b s store is now input =
     (n i j : ℕ) (x y : List ℕ)
     → IsFromTo (moment a) (moment new_a) i → IsFromTo (moment b) (moment new_b) j
@@ -59,23 +65,48 @@ IsPromisedAtEachMoment moment held_at a b new_a new_b s store is now input =
     → IsPromised s store (is ++ stopped_in_take now input n (held_at new_a i) (held_at new_b j) ∷ []) x y
 
 -- Wherever a stop finds them there, with power lost or not, the life goes on at rest.
-abbrev pub RestsAtEachMoment : {D : Type 0} (moment : D → ℕ) (held_at : D → ℕ → Contents) (a b new_a new_b : D) → ShowState → Store → List Incident → ℕ → Input → Type 0
+abbrev pub RestsAtEachMoment : {D : Type 0} (moment : D → ℕ) (held_at : D → ℕ → Contents) (a b new_a new_b : D)
+    → ShowState → Store → List Incident → ℕ → Input → Type 0
 RestsAtEachMoment moment held_at a b new_a new_b s store is now input =
     (n i j : ℕ) (one other : Contents)
     → IsFromTo (moment a) (moment new_a) i → IsFromTo (moment b) (moment new_b) j
     → IsWithin (held_at new_a i) one → IsWithin (held_at new_b j) other
     → RestsWith s store (is ++ stopped_in_take now input n one other ∷ []) one other
 
+-- The same within `commit`, of these inputs.
+abbrev pub IsPromisedWithin : {D : Type 0} (moment : D → ℕ) (held_at : D → ℕ → Contents) (a b new_a new_b : D)
+    → ShowState → Store → List Incident → List (ℕ × Input) → Type 0
+IsPromisedWithin moment held_at a b new_a new_b s store is inputs =
+    (n i j : ℕ) (x y : List ℕ)
+    → IsFromTo (moment a) (moment new_a) i → IsFromTo (moment b) (moment new_b) j
+    → IsImage (held_at new_a i) x → IsImage (held_at new_b j) y
+    → IsPromised s store (is ++ stopped_in_commit inputs n (held_at new_a i) (held_at new_b j) ∷ []) x y
+
+abbrev pub RestsWithin : {D : Type 0} (moment : D → ℕ) (held_at : D → ℕ → Contents) (a b new_a new_b : D)
+    → ShowState → Store → List Incident → List (ℕ × Input) → Type 0
+RestsWithin moment held_at a b new_a new_b s store is inputs =
+    (n i j : ℕ) (one other : Contents)
+    → IsFromTo (moment a) (moment new_a) i → IsFromTo (moment b) (moment new_b) j
+    → IsWithin (held_at new_a i) one → IsWithin (held_at new_b j) other
+    → RestsWith s store (is ++ stopped_in_commit inputs n one other ∷ []) one other
+
+-- inputs that were taken together, each as one that was taken
+abbrev pub all_taken : List (ℕ × Input) → List Incident
+all_taken inputs = map (λ i. taken i.0 i.1) inputs
+
 -- Wherever a stop finds the two disks within a call that has a barrier, with power lost or not, Q holds of what they
 -- hold from then on. P is what the call says of them from the barrier on.
-pub record LeavesAtEachStop {D : Type 0} (moment : D → ℕ) (held_at : D → ℕ → Contents) (a b new_a new_b : D) (P : List ℕ → List ℕ → Type 0) (Q : Contents → Contents → Type 0) : Type 0 where
+pub record LeavesAtEachStop {D : Type 0} (moment : D → ℕ) (held_at : D → ℕ → Contents) (a b new_a new_b : D)
+    (P : List ℕ → List ℕ → Type 0) (Q : Contents → Contents → Type 0) : Type 0 where
   pub barrier : AfterBarrier moment held_at a b new_a new_b P
-  pub each : (i j : ℕ) (one other : Contents) → IsStop moment held_at a b new_a new_b P barrier i j → IsWithin (held_at new_a i) one → IsWithin (held_at new_b j) other → Q one other
+  pub each : (i j : ℕ) (one other : Contents) → IsStop moment held_at a b new_a new_b P barrier i j
+      → IsWithin (held_at new_a i) one → IsWithin (held_at new_b j) other → Q one other
 
 -- A recovery gave this state and this queue: those of a prefix of the accepted batches, each whole, that holds every
 -- acknowledged one, with its undecided attempts cancelled, and what is pending in it; and no GO_2PC was handed to the
 -- network for an attempt whose decision that prefix lacks.
-pub record IsGivenBack (s : ShowState) (store : Store) (is : List Incident) (state : ShowState) (queue : List (ℕ × List ℕ)) : Type 0 where
+pub record IsGivenBack (s : ShowState) (store : Store) (is : List Incident) (state : ShowState)
+    (queue : List (ℕ × List ℕ)) : Type 0 where
   pub kept : List (List Event)
   pub prefix : AreKept s is kept
   pub gives : state ≡ closed (after_events s (joined kept))

@@ -71,7 +71,8 @@ impl MemWire {
 
     // Keeps what was handed over, where the wire tells and there is memory for it.
     fn keep(&mut self, to: u16, bytes: &[u8], refused: bool) -> Result<(), AllocError>
-        ensures kept { OnOk result (Grew (told_by self.old) (handed ((to, bytes.now) ∷ []) (refused ∷ [])) (told_by self.new)) }
+        ensures kept { OnOk result (Grew (told_by self.old) (handed ((to, bytes.now) ∷ []) (refused ∷ []))
+            (told_by self.new)) }
         ensures tells { self.new.tells ≡ self.old.tells }
         ensures plan { self.new.refuse_in ≡ self.old.refuse_in }
     {

@@ -81,6 +81,6 @@ pub(crate) fn close_undecided<D: Disk>(
 {
     let _broken = keeper.is_broken();
     let (batch, queue) = close_on(alloc, keeper.state(), draft)?;
-    accept_batch(keeper, draft, batch)?;
+    accept_batch(alloc, keeper, draft, batch)?;
     Ok(queue)
 }

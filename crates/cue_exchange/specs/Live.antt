@@ -1,5 +1,6 @@
 -- The live attempts, by rising number: their rules, and how one is found.
-use Rattle.std.specs.Prelude.{ℕ, Bool, true, ◌&&◌, List, [], ◌∷◌, length, map, filter, find, Option, nat_eq, nat_le, nat_lt}
+use Rattle.std.specs.Prelude.{ℕ, Bool, true, ◌&&◌, List, [], ◌∷◌, length, map, filter, find, Option, nat_eq, nat_le}
+use Rattle.std.specs.Prelude.{nat_lt}
 use Rattle.std.specs.List.{list_all}
 pub use Rattle.cue_show.specs.Devices.{is_among, distinct, disjoint, devices_in}
 use Rattle.cue_show.specs.Number.{same_text}

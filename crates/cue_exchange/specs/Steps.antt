@@ -1,5 +1,6 @@
 -- The steps of the exchange: when each may be taken, and what it makes of the live attempts.
-use Rattle.std.specs.Prelude.{ℕ, Bool, not, ◌&&◌, ◌||◌, if◌then◌else◌, List, [], ◌∷◌, ◌++◌, length, map, filter, find, Option, is_none, nat_eq, nat_lt}
+use Rattle.std.specs.Prelude.{ℕ, Bool, not, ◌&&◌, ◌||◌, if◌then◌else◌, List, [], ◌∷◌, ◌++◌, length, map, filter, find}
+use Rattle.std.specs.Prelude.{Option, is_none, nat_eq, nat_lt}
 use Rattle.std.specs.List.{list_any, list_all}
 use Rattle.std.specs.Option.{option_map}
 use Rattle.cue_show.specs.Parts.{has_required_part}
@@ -11,8 +12,11 @@ use Rattle.cue_exchange.specs.declared.attempt.Outcome.{Outcome}
 use Rattle.cue_exchange.specs.declared.attempt.Outcome.TheVariants as outcome
 use Rattle.cue_exchange.specs.declared.attempt.Attempt.{Attempt}
 use Rattle.cue_exchange.specs.declared.limits.TheConstants.{MAX_LIVE}
-use Rattle.cue_exchange.specs.Answers.{is_waiting, is_preparing, is_decided, is_cancelling, is_concluding, first_answers, entered, with_answer, answer_passes, is_excusable, all_may_go, all_have_done, some_waits, devices_of}
-use Rattle.cue_exchange.specs.Live.{distinct, disjoint, devices_in, is_number, is_moment, is_attempt, has_number, attempt_of_device}
+use Rattle.cue_exchange.specs.Answers.{is_waiting, is_preparing, is_decided, is_cancelling, is_concluding}
+use Rattle.cue_exchange.specs.Answers.{first_answers, entered, with_answer, answer_passes, is_excusable, all_may_go}
+use Rattle.cue_exchange.specs.Answers.{all_have_done, some_waits, devices_of}
+use Rattle.cue_exchange.specs.Live.{distinct, disjoint, devices_in, is_number, is_moment, is_attempt, has_number}
+use Rattle.cue_exchange.specs.Live.{attempt_of_device}
 
 -- ---- when a step may be taken
 

@@ -4,7 +4,9 @@ ghost use Rattle.std.specs.List.{list_all};
 ghost use Rattle.std.specs.Option.{option_copied};
 ghost use Rattle.cue_show.specs.Devices.{distinct, disjoint};
 ghost use Rattle.cue_exchange.specs.Live.{have_sound_devices};
-ghost use Rattle.cue_exchange.specs.Answers.{is_waiting, device_answer, answer_passes, is_one_of, has_required, is_excusable, some_waits, all_may_go, all_have_done, with_answer, answers_with, devices_of, stands, entered, enters};
+ghost use Rattle.cue_exchange.specs.Answers.{is_waiting, device_answer, answer_passes, is_one_of, has_required};
+ghost use Rattle.cue_exchange.specs.Answers.{is_excusable, some_waits, all_may_go, all_have_done, with_answer};
+ghost use Rattle.cue_exchange.specs.Answers.{answers_with, devices_of, stands, entered, enters};
 
 use crate::attempt::{Answer, DeviceAnswer, Stage};
 use cue_show::DeviceNo;

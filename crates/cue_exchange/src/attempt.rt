@@ -3,7 +3,9 @@ ghost use Rattle.std.specs.Prelude.{◌≡◌, ◌≤◌};
 ghost use Rattle.cue_exchange.specs.Live.{is_attempt, is_due, is_number, is_open, is_sound};
 ghost use Rattle.cue_exchange.specs.Steps.{can_excuse_now, can_go_now, is_apart, outcome_of};
 ghost use Rattle.cue_exchange.specs.Outcomes.{outcome_number, outcome_numbered};
-ghost use Rattle.cue_exchange.specs.Answers.{is_waiting, is_ready, is_done, is_excused, is_required, stands, may_go, has_done, can_be_excused, is_preparing, is_decided, is_cancelling, is_concluding, is_known_in, entering};
+ghost use Rattle.cue_exchange.specs.Answers.{is_waiting, is_ready, is_done, is_excused, is_required, stands, may_go};
+ghost use Rattle.cue_exchange.specs.Answers.{has_done, can_be_excused, is_preparing, is_decided, is_cancelling};
+ghost use Rattle.cue_exchange.specs.Answers.{is_concluding, is_known_in, entering};
 
 use crate::answers::Answers;
 use crate::limits::MAX_NUMBER;

@@ -7,7 +7,9 @@ ghost use Rattle.cue_show.specs.Devices.{devices_in};
 ghost use Rattle.cue_exchange.specs.declared.attempt.Answer.TheVariants as answer;
 ghost use Rattle.cue_exchange.specs.declared.attempt.Stage.TheVariants as stage;
 ghost use Rattle.cue_exchange.specs.Live.{are_live, attempt_of, attempt_of_device, attempt_of_cue, due, pairwise};
-ghost use Rattle.cue_exchange.specs.Steps.{answered, are_below, are_free, are_sound_parts, can_cancel, can_done, can_excuse, can_fail, can_go, can_let_go, can_put, can_ready, can_start, ended_in, has_room, is_apart, moved, started, with_attempt, without_ended};
+ghost use Rattle.cue_exchange.specs.Steps.{answered, are_below, are_free, are_sound_parts, can_cancel, can_done};
+ghost use Rattle.cue_exchange.specs.Steps.{can_excuse, can_fail, can_go, can_let_go, can_put, can_ready, can_start};
+ghost use Rattle.cue_exchange.specs.Steps.{ended_in, has_room, is_apart, moved, started, with_attempt, without_ended};
 
 use crate::attempt::{Answer, Attempt, Outcome, Reason, Stage, is_number};
 use crate::holders::{Holders, holders_of, no_holders};

@@ -3,7 +3,8 @@ ghost use Rattle.std.specs.Prelude.{◌≡◌, ◌≤◌, IfOk, nat_lt, vec_len}
 ghost use Rattle.std.specs.List.{position, position_or_len};
 ghost use Rattle.cue_exchange.specs.Answers.{first_answer, first_answers};
 ghost use Rattle.cue_exchange.specs.Live.{due};
-ghost use Rattle.cue_exchange.specs.Steps.{answered, answers_as, changed, ended_in, goes_on, moved, moves_to, without_ended};
+ghost use Rattle.cue_exchange.specs.Steps.{answered, answers_as, changed, ended_in, goes_on, moved, moves_to};
+ghost use Rattle.cue_exchange.specs.Steps.{without_ended};
 
 use crate::answers::Answers;
 use crate::attempt::{Answer, Attempt, DeviceAnswer, Outcome, Stage};

@@ -5,7 +5,7 @@ use Rattle.std.proofs.lemmas.List.{append-nil, length-take, take_at, drop_at}
 use Rattle.cue_disk.specs.Disk.{Contents, IsImage, IsStable, Torn, Writes, overwritten, LeavesAtEachMoment, Elapses}
 use Rattle.cue_disk.proofs.Crash.{image_stable, image_torn, torn_elsewhere}
 use Rattle.cue_disk.proofs.Moments.{started, goes_on}
-use Rattle.cue_log.specs.declared.area.TheConstants.{AREA_LIMIT}
+use Rattle.cue_log.specs.declared.area.TheConstants.{AREA_LIMIT, HEAD_LEN}
 use Rattle.cue_log.specs.Area.{Area, IsArea, IsAbsent, area_text, body_text, fresh, framed, eight_bytes, four_bytes}
 use Rattle.cue_log.specs.Reading.{area_in}
 use Rattle.cue_log.specs.Log.{IsSettled, IsShut, IsFilled, IsNoneOr}
@@ -67,7 +67,7 @@ filled_after generation snapshot header written synced rest is shut body same st
 }
 
 -- A body behind a gate: the gate says whether it is an area.
-module _ (held : Contents) (generation : ℕ) (snapshot : List ℕ) (filled : IsFilled held generation snapshot) (numbered : generation < 2 ^ 64) (room : 14 + length snapshot ≤ AREA_LIMIT) where
+module _ (held : Contents) (generation : ℕ) (snapshot : List ℕ) (filled : IsFilled held generation snapshot) (numbered : generation < 2 ^ 64) (room : HEAD_LEN + length snapshot < AREA_LIMIT) where
   abbrev area : Area
   area = fresh generation snapshot
 

@@ -40,7 +40,8 @@ abbrev pub DiskHasFailed : {D : Type 0} {disk : Ghosts D} → (old new : Log D d
 DiskHasFailed {D} {disk} old new = MoreFailures (disk.failures (disk_of old)) (disk.failures (disk_of new))
 
 -- why records are refused with this fault
-abbrev pub HasCause : {D : Type 0} {disk : Ghosts D} → List (List ℕ) → (old new : Log D disk) → AppendFault → Type 0
+abbrev pub HasCause :
+    {D : Type 0} {disk : Ghosts D} → List (List ℕ) → (old new : Log D disk) → AppendFault → Type 0
 HasCause payloads old new fault.Broken = is_broken old ≡ true
 HasCause payloads old new fault.Full = (is_broken old ≡ false) × LacksRoom old payloads
 HasCause payloads old new fault.Disk = (is_broken old ≡ false) × DiskHasFailed old new
@@ -50,7 +51,8 @@ HasCause payloads old new fault.Disk = (is_broken old ≡ false) × DiskHasFaile
 abbrev pub LeavesLog : {D : Type 0} {disk : Ghosts D} → (old new : Log D disk) → AppendFault → Type 0
 LeavesLog old new fault.Broken = new ≡ old
 LeavesLog old new fault.Full = new ≡ old
-LeavesLog old new fault.Disk = (is_broken new ≡ true) × (count_of new ≡ count_of old) × (end_of new ≡ end_of old)
+LeavesLog old new fault.Disk =
+    (is_broken new ≡ true) × (count_of new ≡ count_of old) × (end_of new ≡ end_of old)
 
 -- Records are given to a log.
 pub record Appends {T D : Type 0} {disk : Ghosts D} (payloads : List (List ℕ)) (result : Result T AppendFault)
@@ -79,7 +81,8 @@ pub record Appends {T D : Type 0} {disk : Ghosts D} (payloads : List (List ℕ))
       1 ≤ length payloads
       → disk.is_honest (disk_of old)
       → OnOk result
-      ((disk.held (disk_of new)).bytes ≡ overwritten (disk.held (disk_of old)).bytes (end_of old) (group_text payloads))
+      ((disk.held (disk_of new)).bytes
+      ≡ overwritten (disk.held (disk_of old)).bytes (end_of old) (group_text payloads))
   -- a stop at any moment leaves the area as it was, or with all of the records
   pub any_moment :
       disk.is_honest (disk_of old)

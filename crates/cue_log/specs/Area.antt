@@ -1,7 +1,9 @@
 -- What the bytes of an area stand for.
-use Rattle.std.specs.Prelude.{◌≡◌, ◌≢◌, ◌<◌, ◌+◌, ◌*◌, ◌^◌, ℕ, nat_le, Bool, true, ◌&&◌, List, [], ◌∷◌, ◌++◌, length, take, sum_by, slice_index}
+use Rattle.std.specs.Prelude.{◌≡◌, ◌≢◌, ◌<◌, ◌+◌, ◌*◌, ◌^◌, ℕ, nat_le, Bool, true}
+use Rattle.std.specs.Prelude.{◌&&◌, List, [], ◌∷◌, ◌++◌, length}
+use Rattle.std.specs.Prelude.{take, sum_by, slice_index}
 use Rattle.std.specs.Int.{to_be_bytes, w32, w64}
-use Rattle.cue_log.specs.declared.area.TheConstants.{AREA_LIMIT, PAYLOAD_LIMIT}
+use Rattle.cue_log.specs.declared.area.TheConstants.{AREA_LIMIT, FRAME_LEN, PAYLOAD_LIMIT}
 
 -- what an area has: a generation, a snapshot, and the payloads of the records behind it
 pub record Area : Type 0 where
@@ -66,17 +68,25 @@ record_text payload = 1 ∷ (framed payload ++ 0 ∷ [])
 abbrev pub group_text : List (List ℕ) → List ℕ
 group_text payloads = records_text payloads ++ 0 ∷ []
 
--- how many bytes records take of an area: five each, beside their payloads
+-- how many bytes records take of an area: a frame each, beside their payloads
 abbrev pub room_of : List (List ℕ) → ℕ
-room_of payloads = 5 * length payloads + sum_by length payloads
+room_of payloads = FRAME_LEN * length payloads + sum_by length payloads
 
 -- records more
 abbrev pub with_payloads : Area → List (List ℕ) → Area
-with_payloads area payloads = record { generation = area.generation; snapshot = area.snapshot; payloads = area.payloads ++ payloads }
+with_payloads area payloads = record {
+  generation = area.generation;
+  snapshot = area.snapshot;
+  payloads = area.payloads ++ payloads;
+}
 
 -- one record more
 abbrev pub with_payload : Area → List ℕ → Area
-with_payload area payload = record { generation = area.generation; snapshot = area.snapshot; payloads = area.payloads ++ payload ∷ [] }
+with_payload area payload = record {
+  generation = area.generation;
+  snapshot = area.snapshot;
+  payloads = area.payloads ++ payload ∷ [];
+}
 
 -- no record yet
 abbrev pub fresh : ℕ → List ℕ → Area

@@ -3,7 +3,7 @@ use Rattle.std.specs.Prelude.{◌≡◌, ◌⊎◌, ◌<◌, ℕ, List, Some, sl
 use Rattle.cue_log.specs.Area.{Area, IsArea, IsAbsent}
 use Rattle.cue_log.specs.Reading.{read_area}
 use Rattle.cue_log.specs.Log.{IsDamaged}
-use Rattle.cue_log.specs.declared.area.TheConstants.{AREA_LIMIT, PAYLOAD_LIMIT, OPEN, CLOSED}
+use Rattle.cue_log.specs.declared.area.TheConstants.{AREA_LIMIT, PAYLOAD_LIMIT, HEAD_LEN, FRAME_LEN, OPEN, CLOSED}
 
 -- each cell is a byte
 abbrev pub AreBytes : List ℕ → Type 0
@@ -19,17 +19,20 @@ ReaderFindsEach = (area : Area) (bytes : List ℕ) → IsArea area bytes → rea
 
 -- What the reader finds is there.
 abbrev pub ReaderFindsOnly : Type 0
-ReaderFindsOnly = (bytes : List ℕ) (area : Area) → AreBytes bytes → read_area bytes ≡ Some area → IsArea area bytes
+ReaderFindsOnly =
+    (bytes : List ℕ) (area : Area) → AreBytes bytes → read_area bytes ≡ Some area → IsArea area bytes
 
 -- Any bytes are absent, or an area, or damaged.
 abbrev pub AnyBytesAnswer : Type 0
-AnyBytesAnswer = (bytes : List ℕ) → AreBytes bytes → IsAbsent bytes ⊎ ((area : Area) × IsArea area bytes) ⊎ IsDamaged bytes
+AnyBytesAnswer = (bytes : List ℕ) → AreBytes bytes → IsAbsent bytes ⊎ ((area : Area) × IsArea area bytes)
+    ⊎ IsDamaged bytes
 
 -- An area is not absent.
 abbrev pub NoAreaIsAbsent : Type 0
 NoAreaIsAbsent = (area : Area) (bytes : List ℕ) → IsArea area bytes → IsAbsent bytes → ⊥
 
--- The limits as numbers: the bytes of the longest area and of the longest payload, and the bytes of an open and of a
--- closed gate.
+-- The limits as numbers: the bytes of the longest area and of the longest payload, those in front of a snapshot and of
+-- a payload, and the bytes of an open and of a closed gate.
 abbrev pub LimitsOfAnArea : Type 0
-LimitsOfAnArea = (AREA_LIMIT ≡ 16777216) × (PAYLOAD_LIMIT ≡ 32768) × (OPEN ≡ 1) × (CLOSED ≡ 0)
+LimitsOfAnArea = (AREA_LIMIT ≡ 16777216) × (PAYLOAD_LIMIT ≡ 32768) × (HEAD_LEN ≡ 13) × (FRAME_LEN ≡ 5)
+    × (OPEN ≡ 1) × (CLOSED ≡ 0)

@@ -1,5 +1,7 @@
 -- What a log knows of its disk.
-use Rattle.std.specs.Prelude.{◌≡◌, ◌≢◌, ◌⊎◌, ◌<◌, ◌≤◌, ℕ, false, List, [], ◌∷◌, ◌++◌, length, take, drop, slice_index, IsSome, ◌==◌, if◌then◌else◌}
+use Rattle.std.specs.Prelude.{◌≡◌, ◌≢◌, ◌⊎◌, ◌<◌, ◌≤◌, ℕ, false, List, [], ◌∷◌}
+use Rattle.std.specs.Prelude.{◌++◌, length, take, drop, slice_index}
+use Rattle.std.specs.Prelude.{IsSome, ◌==◌, if◌then◌else◌}
 use Rattle.cue_disk.specs.Disk.{Contents, IsImage, IsStable, LeavesAtEachMoment}
 use Rattle.cue_log.specs.declared.area.TheConstants.{AREA_LIMIT}
 use Rattle.cue_log.specs.Area.{Area, IsArea, IsAbsent, area_text, body_text}
@@ -68,7 +70,8 @@ closed_bytes (gate ∷ bytes) = (if gate == 1 then 0 else gate) ∷ bytes
 
 -- Calls that only read: the disk holds what it held, and a crash at any moment of them leaves what it might have left
 -- before.
-pub record OnlyReads {D : Type 0} (moment : D → ℕ) (held : D → Contents) (held_at : D → ℕ → Contents) (old new : D) : Type 0 where
+pub record OnlyReads {D : Type 0} (moment : D → ℕ) (held : D → Contents) (held_at : D → ℕ → Contents)
+    (old new : D) : Type 0 where
   pub same : held new ≡ held old
   pub leaves : LeavesAtEachMoment moment held_at old new (IsImage (held old))
 

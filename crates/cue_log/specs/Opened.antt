@@ -7,7 +7,11 @@ use Rattle.cue_log.specs.declared.opening.OpenFault.{OpenFault}
 
 -- what was read
 abbrev pub area_read : {D : Type 0} {disk : _} → Opened D disk → Area
-area_read opened = record { generation = generation_of opened.log; snapshot = opened.snapshot; payloads = opened.records }
+area_read opened = record {
+  generation = generation_of opened.log;
+  snapshot = opened.snapshot;
+  payloads = opened.records;
+}
 
 -- the disk that the log has
 abbrev pub opened_disk : {D : Type 0} {disk : _} → Opened D disk → D

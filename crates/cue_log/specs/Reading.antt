@@ -1,5 +1,7 @@
 -- Reading an area from the front.
-use Rattle.std.specs.Prelude.{◌+◌, ◌-◌, ℕ, zero, suc, nat_lt, ◌||◌, ◌==◌, if◌then◌else◌, List, [], ◌∷◌, ◌++◌, length, take, drop, Option, Some, None, IsSome}
+use Rattle.std.specs.Prelude.{◌+◌, ◌-◌, ℕ, zero, suc, nat_lt, ◌||◌, ◌==◌, if◌then◌else◌, List}
+use Rattle.std.specs.Prelude.{[], ◌∷◌, ◌++◌, length}
+use Rattle.std.specs.Prelude.{take, drop, Option, Some, None, IsSome}
 use Rattle.std.specs.Int.{from_be_bytes, w32, w64}
 use Rattle.cue_log.specs.declared.area.TheConstants.{AREA_LIMIT, PAYLOAD_LIMIT}
 use Rattle.std.specs.Option.{option_map}
@@ -23,14 +25,16 @@ abbrev pub in_front : List ℕ → Option (List (List ℕ)) → Option (List (Li
 in_front payload None = None
 in_front payload (Some payloads) = Some (payload ∷ payloads)
 
-abbrev pub payloads_after : (List ℕ → Option (List (List ℕ))) → Option (List ℕ × List ℕ) → Option (List (List ℕ))
+abbrev pub payloads_after :
+    (List ℕ → Option (List (List ℕ))) → Option (List ℕ × List ℕ) → Option (List (List ℕ))
 payloads_after rest_at None = None
 payloads_after rest_at (Some frame) = in_front frame.0 (rest_at frame.1)
 
 abbrev pub payloads_at : ℕ → List ℕ → Option (List (List ℕ))
 payloads_at zero bytes = None
 payloads_at (suc most) [] = None
-payloads_at (suc most) (gate ∷ bytes) = if gate == 1 then payloads_after (payloads_at most) (frame_at PAYLOAD_LIMIT bytes) else Some []
+payloads_at (suc most) (gate ∷ bytes) =
+    if gate == 1 then payloads_after (payloads_at most) (frame_at PAYLOAD_LIMIT bytes) else Some []
 
 -- these payloads, and then those
 abbrev pub behind : List (List ℕ) → Option (List (List ℕ)) → Option (List (List ℕ))
@@ -51,7 +55,8 @@ HasRecords bytes = IsSome (payloads_at (length bytes) bytes)
 
 abbrev pub area_with : ℕ → List ℕ → Option (List (List ℕ)) → Option Area
 area_with generation snapshot None = None
-area_with generation snapshot (Some payloads) = Some (record { generation = generation; snapshot = snapshot; payloads = payloads })
+area_with generation snapshot (Some payloads) =
+    Some (record { generation = generation; snapshot = snapshot; payloads = payloads })
 
 abbrev pub area_after : ℕ → Option (List ℕ × List ℕ) → Option Area
 area_after generation None = None
@@ -60,7 +65,10 @@ area_after generation (Some frame) = area_with generation frame.0 (payloads_at (
 -- the area in bytes that are cut to the largest one
 abbrev pub area_at : List ℕ → Option Area
 area_at [] = None
-area_at (gate ∷ bytes) = if gate == 1 then (if nat_lt (length bytes) 8 then None else area_after (eight_at bytes) (frame_at AREA_LIMIT (drop 8 bytes))) else None
+area_at (gate ∷ bytes) =
+    if gate == 1
+    then (if nat_lt (length bytes) 8 then None else area_after (eight_at bytes) (frame_at AREA_LIMIT (drop 8 bytes)))
+    else None
 
 -- The area that the bytes read as, where there is one.
 unfoldable pub read_area : List ℕ → Option Area
@@ -76,4 +84,5 @@ area_in bytes = or_empty (read_area bytes)
 
 -- how many bytes stand from the last gate on, where the records end
 abbrev pub bytes_behind : List ℕ → Option ℕ
-bytes_behind bytes = option_map (λ payloads. length bytes - length (records_text payloads)) (payloads_at (length bytes) bytes)
+bytes_behind bytes = option_map (λ payloads. length bytes - length (records_text payloads))
+    (payloads_at (length bytes) bytes)

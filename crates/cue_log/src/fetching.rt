@@ -1,5 +1,7 @@
 // How the text of an area comes from the device: from the front, until the area is there in whole.
-ghost use Rattle.std.specs.Prelude.{◌≡◌, ◌⊎◌, ◌+◌, ◌<◌, ◌≤◌, ◌↔◌, ◌++◌, length, take, drop, IsSome, IfOk, OnOk, IsErrOf};
+ghost use Rattle.std.specs.Prelude.{◌≡◌, ◌⊎◌, ◌+◌, ◌<◌, ◌≤◌, ◌↔◌, ◌++◌, length};
+ghost use Rattle.std.specs.Prelude.{take, drop, IsSome, IfOk, OnOk};
+ghost use Rattle.std.specs.Prelude.{IsErrOf};
 ghost use Rattle.cue_disk.specs.Disk.{LeavesAtEachMoment, IsImage, IsStable, MoreFailures};
 ghost use Rattle.cue_log.specs.Area.{IsArea, IsAbsent, area_text};
 ghost use Rattle.cue_log.specs.Reading.{area_at};
@@ -20,7 +22,8 @@ fn read_more<D: Disk>(disk: &mut D, text: &mut Vec<u8>, more: usize) -> Result<(
     requires room { length text.old.items + more ≤ AREA_LIMIT }
     requires within { D.is_honest disk.old → length text.old.items + more ≤ length (D.held disk.old).bytes }
     ensures reads { D.is_honest disk.old → OnlyReads D.moment D.held D.held_at disk.old disk.new }
-    ensures text { D.is_honest disk.old → OnOk result (text.new.items ≡ text.old.items ++ take more (drop (length text.old.items) (D.held disk.old).bytes)) }
+    ensures text { D.is_honest disk.old → OnOk result (text.new.items
+        ≡ text.old.items ++ take more (drop (length text.old.items) (D.held disk.old).bytes)) }
     ensures len { OnOk result (length text.new.items ≡ length text.old.items + more) }
     ensures disk { IsErrOf result OpenFault.Disk → MoreFailures (D.failures disk.old) (D.failures disk.new) }
     ensures only { IsErrOf result OpenFault.Absent ⊎ IsErrOf result OpenFault.Damaged → ⊥ }
@@ -40,7 +43,8 @@ fn read_text<D: Disk>(alloc: Global, disk: &mut D, most: usize) -> Result<Vec<u8
     requires room { most ≤ AREA_LIMIT }
     requires within { D.is_honest disk.old → most ≤ length (D.held disk.old).bytes }
     ensures reads { D.is_honest disk.old → OnlyReads D.moment D.held D.held_at disk.old disk.new }
-    ensures text { D.is_honest disk.old → IfOk result (λ text. text.items ≡ take (length text.items) (D.held disk.old).bytes) }
+    ensures text { D.is_honest disk.old → IfOk result (λ text. text.items
+        ≡ take (length text.items) (D.held disk.old).bytes) }
     ensures enough { IfOk result (λ text. IsSome (area_at text.items) ⊎ (length text.items ≡ most)) }
     ensures short { IfOk result (λ text. length text.items ≤ most) }
     ensures disk { IsErrOf result OpenFault.Disk → MoreFailures (D.failures disk.old) (D.failures disk.new) }
@@ -62,7 +66,8 @@ fn read_text<D: Disk>(alloc: Global, disk: &mut D, most: usize) -> Result<Vec<u8
 
 /// Makes the disk stable, and reads the front of it that has the area, where there is one.
 pub(crate) fn fetch<D: Disk>(alloc: Global, disk: &mut D) -> Result<Vec<u8>, OpenFault>
-    ensures any_moment { D.is_honest disk.old → LeavesAtEachMoment D.moment D.held_at disk.old disk.new (IsImage (D.held disk.old)) }
+    ensures any_moment { D.is_honest disk.old → LeavesAtEachMoment D.moment D.held_at disk.old disk.new
+        (IsImage (D.held disk.old)) }
     ensures bytes { D.is_honest disk.old → (D.held disk.new).bytes ≡ (D.held disk.old).bytes }
     ensures stable { D.is_honest disk.old → OnOk result (IsStable (D.held disk.new)) }
     ensures front { D.is_honest disk.old → IfOk result (λ text. IsFront text.items (D.held disk.old).bytes) }
@@ -90,7 +95,8 @@ pub(crate) fn fetch<D: Disk>(alloc: Global, disk: &mut D) -> Result<Vec<u8>, Ope
 
 /// Reads the area of a disk: what is answered stands there, and stays.
 pub(crate) fn read_area<D: Disk>(alloc: Global, disk: &mut D) -> Result<Parts, OpenFault>
-    ensures any_moment { D.is_honest disk.old → LeavesAtEachMoment D.moment D.held_at disk.old disk.new (IsImage (D.held disk.old)) }
+    ensures any_moment { D.is_honest disk.old → LeavesAtEachMoment D.moment D.held_at disk.old disk.new
+        (IsImage (D.held disk.old)) }
     ensures bytes { D.is_honest disk.old → (D.held disk.new).bytes ≡ (D.held disk.old).bytes }
     ensures stable { D.is_honest disk.old → OnOk result (IsStable (D.held disk.new)) }
     ensures stood { D.is_honest disk.old → IfOk result (λ parts. IsArea (parts_area parts) (D.held disk.old).bytes) }

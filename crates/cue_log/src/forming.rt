@@ -1,11 +1,12 @@
 // How an area comes to be: its body is on the disk, behind a closed head gate, before that gate is opened.
-ghost use Rattle.std.specs.Prelude.{◌≡◌, ◌≤◌, ◌+◌, ◌↔◌, [], ◌∷◌, ◌++◌, length, OnOk};
+ghost use Rattle.std.specs.Prelude.{◌≡◌, ◌<◌, ◌≤◌, ◌+◌, ◌↔◌, [], ◌∷◌, ◌++◌, length};
+ghost use Rattle.std.specs.Prelude.{OnOk};
 ghost use Rattle.cue_disk.specs.Disk.{LeavesAtEachMoment, CountsFailure, overwritten};
 ghost use Rattle.cue_log.specs.Area.{IsAbsent, fresh, body_text, formed_text, eight_bytes, four_bytes};
 ghost use Rattle.cue_log.specs.Reading.{area_in};
 ghost use Rattle.cue_log.specs.Log.{IsClosed, IsShut, IsFilled, IsNoneOr, IsSettled, ReadsAs, prepared};
 
-use crate::area::{AREA_LIMIT, CLOSED, OPEN};
+use crate::area::{AREA_LIMIT, CLOSED, HEAD_LEN, OPEN};
 use cue_disk::{Disk, DiskFault};
 
 // Writes a closed head gate where the disk is empty.
@@ -13,7 +14,8 @@ fn prepare<D: Disk>(disk: &mut D) -> Result<(), DiskFault>
     requires { D.is_honest disk.old → IsClosed (D.held disk.old) }
     ensures any_moment { D.is_honest disk.old → LeavesAtEachMoment D.moment D.held_at disk.old disk.new IsAbsent }
     ensures shut { D.is_honest disk.old → OnOk result (IsShut (D.held disk.new)) }
-    ensures bytes { D.is_honest disk.old → OnOk result ((D.held disk.new).bytes ≡ prepared (D.held disk.old).bytes) }
+    ensures bytes { D.is_honest disk.old → OnOk result
+        ((D.held disk.new).bytes ≡ prepared (D.held disk.old).bytes) }
     ensures count { CountsFailure result (D.failures disk.old) (D.failures disk.new) }
     ensures honest { D.is_honest disk.new ↔ D.is_honest disk.old }
 {
@@ -36,29 +38,35 @@ fn header_of(generation: u64, len: u32) -> [u8; 12]
 
 // Writes the body behind the closed head gate, and a closed gate behind the body.
 fn fill<D: Disk>(disk: &mut D, generation: u64, snapshot: &[u8]) -> Result<(), DiskFault>
-    requires room { 14 + length snapshot.now ≤ AREA_LIMIT }
+    requires room { HEAD_LEN + length snapshot.now < AREA_LIMIT }
     requires shut { D.is_honest disk.old → IsShut (D.held disk.old) }
     ensures any_moment { D.is_honest disk.old → LeavesAtEachMoment D.moment D.held_at disk.old disk.new IsAbsent }
     ensures filled { D.is_honest disk.old → OnOk result (IsFilled (D.held disk.new) generation snapshot.now) }
-    ensures bytes { D.is_honest disk.old → OnOk result ((D.held disk.new).bytes ≡ overwritten (D.held disk.old).bytes 1 (body_text generation snapshot.now ++ 0 ∷ [])) }
+    ensures bytes { D.is_honest disk.old → OnOk result
+        ((D.held disk.new).bytes ≡ overwritten (D.held disk.old).bytes 1
+        (body_text generation snapshot.now ++ 0 ∷ [])) }
     ensures count { CountsFailure result (D.failures disk.old) (D.failures disk.new) }
     ensures honest { D.is_honest disk.new ↔ D.is_honest disk.old }
 {
     let header = header_of(generation, snapshot.len() as u32);
     disk.write_at(1, &header)?;
-    disk.write_at(13, snapshot)?;
-    disk.write_at(13 + snapshot.len() as u64, &[CLOSED])?;
+    disk.write_at(HEAD_LEN, snapshot)?;
+    disk.write_at(HEAD_LEN + snapshot.len() as u64, &[CLOSED])?;
     disk.sync()
 }
 
 // Opens the head gate of a body that is on the disk.
 fn open_gate<D: Disk>(disk: &mut D, generation: u64, snapshot: &[u8]) -> Result<(), DiskFault>
-    requires room { 14 + length snapshot.now ≤ AREA_LIMIT }
+    requires room { HEAD_LEN + length snapshot.now < AREA_LIMIT }
     requires filled { D.is_honest disk.old → IsFilled (D.held disk.old) generation snapshot.now }
-    ensures any_moment { D.is_honest disk.old → LeavesAtEachMoment D.moment D.held_at disk.old disk.new (IsNoneOr (fresh generation snapshot.now)) }
-    ensures settled { D.is_honest disk.old → OnOk result (IsSettled (D.held disk.new) (13 + length snapshot.now)) }
-    ensures area { D.is_honest disk.old → OnOk result (area_in (D.held disk.new).bytes ≡ fresh generation snapshot.now) }
-    ensures bytes { D.is_honest disk.old → OnOk result ((D.held disk.new).bytes ≡ overwritten (D.held disk.old).bytes 0 (1 ∷ [])) }
+    ensures any_moment { D.is_honest disk.old → LeavesAtEachMoment D.moment D.held_at disk.old disk.new
+        (IsNoneOr (fresh generation snapshot.now)) }
+    ensures settled { D.is_honest disk.old → OnOk result
+        (IsSettled (D.held disk.new) (HEAD_LEN + length snapshot.now)) }
+    ensures area { D.is_honest disk.old → OnOk result (area_in (D.held disk.new).bytes
+        ≡ fresh generation snapshot.now) }
+    ensures bytes { D.is_honest disk.old → OnOk result
+        ((D.held disk.new).bytes ≡ overwritten (D.held disk.old).bytes 0 (1 ∷ [])) }
     ensures count { CountsFailure result (D.failures disk.old) (D.failures disk.new) }
     ensures honest { D.is_honest disk.new ↔ D.is_honest disk.old }
 {
@@ -72,12 +80,16 @@ pub(crate) fn form_on<D: Disk>(
     generation: u64,
     snapshot: &[u8],
 ) -> Result<(), DiskFault>
-    requires room { 14 + length snapshot.now ≤ AREA_LIMIT }
+    requires room { HEAD_LEN + length snapshot.now < AREA_LIMIT }
     requires closed { D.is_honest disk.old → IsClosed (D.held disk.old) }
-    ensures any_moment { D.is_honest disk.old → LeavesAtEachMoment D.moment D.held_at disk.old disk.new (IsNoneOr (fresh generation snapshot.now)) }
-    ensures settled { D.is_honest disk.old → OnOk result (IsSettled (D.held disk.new) (13 + length snapshot.now)) }
-    ensures area { D.is_honest disk.old → OnOk result (area_in (D.held disk.new).bytes ≡ fresh generation snapshot.now) }
-    ensures bytes { D.is_honest disk.old → OnOk result ((D.held disk.new).bytes ≡ overwritten (D.held disk.old).bytes 0 (formed_text generation snapshot.now)) }
+    ensures any_moment { D.is_honest disk.old → LeavesAtEachMoment D.moment D.held_at disk.old disk.new
+        (IsNoneOr (fresh generation snapshot.now)) }
+    ensures settled { D.is_honest disk.old → OnOk result
+        (IsSettled (D.held disk.new) (HEAD_LEN + length snapshot.now)) }
+    ensures area { D.is_honest disk.old → OnOk result (area_in (D.held disk.new).bytes
+        ≡ fresh generation snapshot.now) }
+    ensures bytes { D.is_honest disk.old → OnOk result
+        ((D.held disk.new).bytes ≡ overwritten (D.held disk.old).bytes 0 (formed_text generation snapshot.now)) }
     ensures count { CountsFailure result (D.failures disk.old) (D.failures disk.new) }
     ensures honest { D.is_honest disk.new ↔ D.is_honest disk.old }
 {

@@ -1,5 +1,6 @@
 // What the definitions of an area give, over any bytes.
-ghost use Rattle.cue_log.specs.Laws.{OneArea, ReaderFindsEach, ReaderFindsOnly, AnyBytesAnswer, NoAreaIsAbsent, LimitsOfAnArea};
+ghost use Rattle.cue_log.specs.Laws.{OneArea, ReaderFindsEach, ReaderFindsOnly, AnyBytesAnswer, NoAreaIsAbsent};
+ghost use Rattle.cue_log.specs.Laws.{LimitsOfAnArea};
 
 /// The same bytes read as one area at most.
 pub fn one_area()
@@ -26,7 +27,8 @@ pub fn no_area_is_absent()
     ensures { NoAreaIsAbsent }
 {}
 
-/// The limits of an area as numbers: 16,777,216 bytes in all, 32,768 bytes of a payload, and the bytes of its gates.
+/// The limits of an area as numbers: 16,777,216 bytes in all, 32,768 bytes of a payload, 13 in front of the snapshot, 5
+/// in front of a payload, and the bytes of its gates.
 pub fn limits_of_an_area()
     ensures { LimitsOfAnArea }
 {}

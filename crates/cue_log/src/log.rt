@@ -1,12 +1,12 @@
 // A log: one area that is open, and the disk that holds it.
 ghost use Rattle.std.specs.Prelude.{◌≡◌, ◌<◌, ◌≤◌, false};
-ghost use Rattle.cue_log.specs.declared.area.TheConstants.{AREA_LIMIT};
+ghost use Rattle.cue_log.specs.declared.area.TheConstants.{AREA_LIMIT, HEAD_LEN};
 ghost use Rattle.cue_log.specs.Log.{IsSettled, IsNumbered};
 
 mod queries;
 
 use crate::appending::commit;
-use crate::area::AREA_LIMIT;
+use crate::area::{AREA_LIMIT, HEAD_LEN};
 use crate::forming::form_on;
 use crate::group::RecordGroup;
 use crate::record::Record;
@@ -48,29 +48,36 @@ pub struct Log<D: Disk> {
 }
 
 impl<D: Disk> Log<D> {
-    ghost use Rattle.std.specs.Prelude.{◌≡◌, ◌≤◌, ◌<◌, ◌+◌, ◌↔◌, ◌∷◌, [], false, length, OnOk, OnErr, IfOk};
+    ghost use Rattle.std.specs.Prelude.{◌≡◌, ◌≤◌, ◌<◌, ◌+◌, ◌↔◌, ◌∷◌, [], false};
+    ghost use Rattle.std.specs.Prelude.{length, OnOk, OnErr, IfOk};
     ghost use Rattle.cue_disk.specs.Disk.{LeavesAtEachMoment, CountsFailure, overwritten};
     ghost use Rattle.cue_log.specs.Area.{fresh, formed_text};
     ghost use Rattle.cue_log.specs.Appending.{Appends};
     ghost use Rattle.cue_log.specs.Reading.{payloads_in};
     ghost use Rattle.cue_log.specs.Record.{IsGroup};
     ghost use Rattle.cue_log.specs.Log.{IsClosed, IsNoneOr, IsSettled, IsNumbered, ReadsAs};
-    ghost use Rattle.cue_log.specs.Observed.{disk_of, generation_of, end_of, count_of, is_broken, area_of, disk_after, formed_disk};
+    ghost use Rattle.cue_log.specs.Observed.{disk_of, generation_of, end_of, count_of, is_broken, area_of, disk_after};
+    ghost use Rattle.cue_log.specs.Observed.{formed_disk};
 
     /// Forms an area with this generation and snapshot and no record, on a disk that is empty or was closed. It takes
     /// no memory; a refusal hands the disk back, which then has no area or this one.
     pub fn form(disk: D, generation: u64, snapshot: &[u8]) -> Result<Log<D>, (DiskFault, D)>
-        requires room { 14 + length snapshot.now ≤ AREA_LIMIT }
+        requires room { HEAD_LEN + length snapshot.now < AREA_LIMIT }
         requires closed { D.is_honest disk → IsClosed (D.held disk) }
 
-        ensures formed { D.is_honest disk → IfOk result (λ log. ReadsAs (D.held (disk_of log)) (fresh generation snapshot.now)) }
+        ensures formed { D.is_honest disk → IfOk result
+            (λ log. ReadsAs (D.held (disk_of log)) (fresh generation snapshot.now)) }
         ensures area { D.is_honest disk → IfOk result (λ log. area_of D.held log ≡ fresh generation snapshot.now) }
-        ensures bytes { D.is_honest disk → IfOk result (λ log. (D.held (disk_of log)).bytes ≡ overwritten (D.held disk).bytes 0 (formed_text generation snapshot.now)) }
-        ensures numbers { IfOk result (λ log. (generation_of log ≡ generation) × (count_of log ≡ 0) × (end_of log ≡ 13 + length snapshot.now)) }
+        ensures bytes { D.is_honest disk → IfOk result
+            (λ log. (D.held (disk_of log)).bytes ≡ overwritten (D.held disk).bytes 0
+            (formed_text generation snapshot.now)) }
+        ensures numbers { IfOk result (λ log. (generation_of log ≡ generation) × (count_of log ≡ 0)
+            × (end_of log ≡ HEAD_LEN + length snapshot.now)) }
         ensures works { IfOk result (λ log. is_broken log ≡ false) }
 
         // A stop at any moment leaves no area, or this one.
-        ensures any_moment { D.is_honest disk → LeavesAtEachMoment D.moment D.held_at disk (disk_after disk_of result) (IsNoneOr (fresh generation snapshot.now)) }
+        ensures any_moment { D.is_honest disk → LeavesAtEachMoment D.moment D.held_at disk (disk_after disk_of result)
+            (IsNoneOr (fresh generation snapshot.now)) }
         ensures count { CountsFailure result (D.failures disk) (D.failures (disk_after disk_of result)) }
         ensures honest { D.is_honest (disk_after disk_of result) ↔ D.is_honest disk }
     {
@@ -80,7 +87,7 @@ impl<D: Disk> Log<D> {
             Ok(()) => Ok(Log {
                 disk,
                 generation,
-                end: 13 + snapshot.len() as u64,
+                end: HEAD_LEN + snapshot.len() as u64,
                 count: 0,
                 broken: false,
             }),
@@ -94,7 +101,8 @@ impl<D: Disk> Log<D> {
         requires settled { D.is_honest disk → IsSettled (D.held disk) end }
         requires counted { D.is_honest disk → IsNumbered (D.held disk) generation count }
         ensures disk { disk_of result ≡ disk }
-        ensures numbers { (generation_of result ≡ generation) × (count_of result ≡ count) × (end_of result ≡ end) }
+        ensures numbers { (generation_of result ≡ generation) × (count_of result ≡ count)
+            × (end_of result ≡ end) }
         ensures works { is_broken result ≡ false }
     {
         Log {
@@ -153,27 +161,34 @@ impl<D: Disk> Log<D> {
         generation: u64,
         snapshot: &[u8],
     ) -> Result<(), DiskFault>
-        requires room { 14 + length snapshot.now ≤ AREA_LIMIT }
+        requires room { HEAD_LEN + length snapshot.now < AREA_LIMIT }
         requires works { is_broken self.old ≡ false }
         requires closed { D.is_honest spare.old → IsClosed (D.held spare.old) }
 
-        ensures formed { D.is_honest spare.old → OnOk result (ReadsAs (D.held (disk_of self.new)) (fresh generation snapshot.now)) }
-        ensures area { D.is_honest spare.old → OnOk result (area_of D.held self.new ≡ fresh generation snapshot.now) }
-        ensures bytes { D.is_honest spare.old → OnOk result ((D.held (disk_of self.new)).bytes ≡ overwritten (D.held spare.old).bytes 0 (formed_text generation snapshot.now)) }
-        ensures numbers { OnOk result ((generation_of self.new ≡ generation) × (count_of self.new ≡ 0) × (end_of self.new ≡ 13 + length snapshot.now)) }
+        ensures formed { D.is_honest spare.old → OnOk result
+            (ReadsAs (D.held (disk_of self.new)) (fresh generation snapshot.now)) }
+        ensures area { D.is_honest spare.old → OnOk result
+            (area_of D.held self.new ≡ fresh generation snapshot.now) }
+        ensures bytes { D.is_honest spare.old → OnOk result
+            ((D.held (disk_of self.new)).bytes ≡ overwritten (D.held spare.old).bytes 0
+            (formed_text generation snapshot.now)) }
+        ensures numbers { OnOk result ((generation_of self.new ≡ generation) × (count_of self.new ≡ 0)
+            × (end_of self.new ≡ HEAD_LEN + length snapshot.now)) }
         ensures works { OnOk result (is_broken self.new ≡ false) }
         ensures swapped { OnOk result (spare.new ≡ disk_of self.old) }
         ensures unchanged { OnErr result (self.new ≡ self.old) }
 
         // A stop at any moment leaves no area on the other disk, or this one.
-        ensures any_moment { D.is_honest spare.old → LeavesAtEachMoment D.moment D.held_at spare.old (formed_disk result (disk_of self.new) spare.new) (IsNoneOr (fresh generation snapshot.now)) }
-        ensures count { CountsFailure result (D.failures spare.old) (D.failures (formed_disk result (disk_of self.new) spare.new)) }
+        ensures any_moment { D.is_honest spare.old → LeavesAtEachMoment D.moment D.held_at spare.old
+            (formed_disk result (disk_of self.new) spare.new) (IsNoneOr (fresh generation snapshot.now)) }
+        ensures count { CountsFailure result (D.failures spare.old)
+            (D.failures (formed_disk result (disk_of self.new) spare.new)) }
         ensures honest { D.is_honest (formed_disk result (disk_of self.new) spare.new) ↔ D.is_honest spare.old }
     {
         form_on(spare, generation, snapshot)?;
         mem::swap(&mut self.disk, spare);
         self.generation = generation;
-        self.end = 13 + snapshot.len() as u64;
+        self.end = HEAD_LEN + snapshot.len() as u64;
         self.count = 0;
         Ok(())
     }

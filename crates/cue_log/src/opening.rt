@@ -67,22 +67,27 @@ impl<D: Disk> Log<D> {
     pub fn open(alloc: Global, disk: D) -> Result<Opened<D>, (OpenFault, D)>
         // What is answered stood on the disk, and stays.
         ensures stood { D.is_honest disk → IfOk result (λ opened. IsArea (area_read opened) (D.held disk).bytes) }
-        ensures reads { D.is_honest disk → IfOk result (λ opened. ReadsAs (D.held (disk_of opened.log)) (area_read opened)) }
+        ensures reads { D.is_honest disk → IfOk result
+            (λ opened. ReadsAs (D.held (disk_of opened.log)) (area_read opened)) }
         ensures area { D.is_honest disk → IfOk result (λ opened. area_of D.held opened.log ≡ area_read opened) }
         ensures works { IfOk result (λ opened. is_broken opened.log ≡ false) }
         ensures counted { IfOk result (λ opened. count_of opened.log ≡ length opened.records) }
 
         // Each refusal has its reason.
         ensures absent { D.is_honest disk → FailsAs OpenFault.Absent (IsAbsent (D.held disk).bytes) result }
-        ensures stays_absent { D.is_honest disk → FailsAs OpenFault.Absent (LeavesAbsent (D.held (disk_after opened_disk result))) result }
+        ensures stays_absent { D.is_honest disk → FailsAs OpenFault.Absent
+            (LeavesAbsent (D.held (disk_after opened_disk result))) result }
         ensures damaged { D.is_honest disk → FailsAs OpenFault.Damaged (IsDamaged (D.held disk).bytes) result }
-        ensures disk { FailsAs OpenFault.Disk (MoreFailures (D.failures disk) (D.failures (disk_after opened_disk result))) result }
+        ensures disk { FailsAs OpenFault.Disk (MoreFailures (D.failures disk)
+            (D.failures (disk_after opened_disk result))) result }
 
         // No other answer hides a fault of the device: want of memory is told only where each call went through.
-        ensures memory { CountsOnlyAs OpenFault.Disk (D.failures disk) (D.failures (disk_after opened_disk result)) result }
+        ensures memory { CountsOnlyAs OpenFault.Disk (D.failures disk)
+            (D.failures (disk_after opened_disk result)) result }
 
         // A stop at any moment leaves what one at entry might have left.
-        ensures any_moment { D.is_honest disk → LeavesAtEachMoment D.moment D.held_at disk (disk_after opened_disk result) (IsImage (D.held disk)) }
+        ensures any_moment { D.is_honest disk → LeavesAtEachMoment D.moment D.held_at disk
+            (disk_after opened_disk result) (IsImage (D.held disk)) }
         ensures bytes { D.is_honest disk → (D.held (disk_after opened_disk result)).bytes ≡ (D.held disk).bytes }
         ensures failures { D.failures disk ≤ D.failures (disk_after opened_disk result) }
         ensures honest { D.is_honest (disk_after opened_disk result) ↔ D.is_honest disk }

@@ -1,11 +1,13 @@
 // Reading the text of an area from the front. Any bytes at all give an answer.
-ghost use Rattle.std.specs.Prelude.{◌≡◌, ◌<◌, ◌≤◌, ◌+◌, ◌↔◌, None, Some, MatchOption, IsTrue, IsSome, IfSome, IfOk, length};
+ghost use Rattle.std.specs.Prelude.{◌≡◌, ◌<◌, ◌≤◌, ◌+◌, ◌↔◌, None, Some, MatchOption, IsTrue};
+ghost use Rattle.std.specs.Prelude.{IsSome, IfSome, IfOk};
+ghost use Rattle.std.specs.Prelude.{length};
 ghost use Rattle.std.specs.Option.{option_map};
 ghost use Rattle.cue_log.specs.Area.{IsArea, area_text};
 ghost use Rattle.cue_log.specs.Parts.{parts_area};
 ghost use Rattle.cue_log.specs.Reading.{frame_at, payloads_at, area_with, area_at, bytes_behind};
 
-use crate::area::{AREA_LIMIT, OPEN, PAYLOAD_LIMIT};
+use crate::area::{AREA_LIMIT, HEAD_LEN, OPEN, PAYLOAD_LIMIT};
 use crate::records::Records;
 use std::alloc::{AllocError, Global};
 
@@ -20,7 +22,8 @@ pub(crate) struct Front<'a> {
 /// A length of at most `most` and so many bytes: those, and what follows them.
 #[tactic(auto, unfolding(crate::specs::Reading::frame_at, crate::specs::Reading::four_at))]
 pub(crate) fn frame(bytes: &[u8], most: usize) -> Option<(&[u8], &[u8])>
-    ensures frame { MatchOption result (frame_at most bytes.now ≡ None) (λ parts. frame_at most bytes.now ≡ Some (parts.0.now, parts.1.now)) }
+    ensures frame { MatchOption result (frame_at most bytes.now ≡ None)
+        (λ parts. frame_at most bytes.now ≡ Some (parts.0.now, parts.1.now)) }
     ensures len { IfSome result (λ parts. 4 + length parts.0.now + length parts.1.now ≡ length bytes.now) }
     ensures short { IfSome result (λ parts. length parts.0.now ≤ most) }
 {
@@ -39,8 +42,10 @@ pub(crate) fn frame(bytes: &[u8], most: usize) -> Option<(&[u8], &[u8])>
 #[tactic(auto, unfolding(crate::specs::Reading::eight_at))]
 fn split_front(text: &[u8]) -> Option<Front<'_>>
     ensures front { MatchOption result (area_at text.now ≡ None)
-        (λ front. area_at text.now ≡ area_with front.generation front.snapshot.now (payloads_at (length front.tail.now) front.tail.now)) }
-    ensures len { IfSome result (λ front. 13 + length front.snapshot.now + length front.tail.now ≡ length text.now) }
+        (λ front. area_at text.now ≡ area_with front.generation front.snapshot.now
+        (payloads_at (length front.tail.now) front.tail.now)) }
+    ensures len { IfSome result
+        (λ front. HEAD_LEN + length front.snapshot.now + length front.tail.now ≡ length text.now) }
 {
     let (gate, after) = text.split_first()?;
     if *gate != OPEN {

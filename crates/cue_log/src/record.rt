@@ -1,9 +1,10 @@
 // A record: a payload that is kept as an area stores it, so that writing it takes no memory.
-ghost use Rattle.std.specs.Prelude.{◌≡◌, ◌<◌, ◌≤◌, ◌+◌, ◌↔◌, ◌∷◌, [], length, IfOk, IsErrOf};
+ghost use Rattle.std.specs.Prelude.{◌≡◌, ◌<◌, ◌≤◌, ◌+◌, ◌↔◌, ◌∷◌, [], length, IfOk};
+ghost use Rattle.std.specs.Prelude.{IsErrOf};
 ghost use Rattle.cue_log.specs.Reading.{payloads_in};
 ghost use Rattle.cue_log.specs.Record.{IsFramed, AreFramed, payload_in};
 
-use crate::area::{CLOSED, OPEN, PAYLOAD_LIMIT};
+use crate::area::{CLOSED, FRAME_LEN, OPEN, PAYLOAD_LIMIT};
 use std::alloc::{AllocError, AllocFailed, Global};
 use std::marker::Model;
 use thiserror::Error;
@@ -74,14 +75,14 @@ impl Record {
         ensures payload { result.now ≡ self.now }
         ensures short { length result.now ≤ PAYLOAD_LIMIT }
     {
-        &self.bytes[5..self.bytes.len() - 1]
+        &self.bytes[FRAME_LEN..self.bytes.len() - 1]
     }
 
     /// What an area stores of it, from its gate on.
     pub(crate) fn text(&self) -> &[u8]
         ensures framed { AreFramed result.now }
         ensures payload { payloads_in result.now ≡ self.now ∷ [] }
-        ensures len { length result.now ≡ 6 + length self.now }
+        ensures len { length result.now ≡ FRAME_LEN + 1 + length self.now }
     {
         &self.bytes
     }
@@ -94,7 +95,7 @@ fn frame(alloc: Global, payload: &[u8]) -> Result<Vec<u8>, AllocError>
     ensures framed { IfOk result (λ bytes. IsFramed bytes.items) }
     ensures payload { IfOk result (λ bytes. payload_in bytes.items ≡ payload.now) }
 {
-    let mut bytes = Vec::with_capacity(alloc, 6 + payload.len())?;
+    let mut bytes = Vec::with_capacity(alloc, FRAME_LEN + 1 + payload.len())?;
     bytes.push(OPEN)?;
     bytes.extend_from_slice(&(payload.len() as u32).to_be_bytes())?;
     bytes.extend_from_slice(payload)?;

@@ -5,7 +5,8 @@ ghost use Rattle.std.specs.Option.{option_copied, option_to_list};
 ghost use Rattle.cue_show.specs.Number.{same_text};
 ghost use Rattle.cue_show.specs.Show.{is_show};
 ghost use Rattle.cue_operator.specs.Methods.{address_of, fixed_methods};
-ghost use Rattle.cue_operator.specs.LookUp.{behind_front, name_and_verb, number_at, device_named, cue_methods_at, device_methods_at, looked_up};
+ghost use Rattle.cue_operator.specs.LookUp.{behind_front, name_and_verb, number_at, device_named, cue_methods_at};
+ghost use Rattle.cue_operator.specs.LookUp.{device_methods_at, looked_up};
 
 use crate::method::{CueVerb, DeviceVerb, Method};
 use cue_pattern::cut_first;

@@ -1,7 +1,8 @@
 -- The words in which faults are printed.
 use Rattle.std.specs.Prelude.{ℕ, List, codes}
 use Rattle.cue_osc.specs.declared.fault.Fault.{Fault}
-use Rattle.cue_osc.specs.declared.fault.Fault.TheVariants.{TooLong, NotMultiple, BadStart, BadString, BadBlob, BadSize, TooDeep, Trailing, Memory}
+use Rattle.cue_osc.specs.declared.fault.Fault.TheVariants.{TooLong, NotMultiple, BadStart, BadString, BadBlob, BadSize}
+use Rattle.cue_osc.specs.declared.fault.Fault.TheVariants.{TooDeep, Trailing, Memory}
 use Rattle.cue_osc.specs.declared.fault.WriteFault.{WriteFault}
 use Rattle.cue_osc.specs.declared.fault.WriteFault.TheVariants as write
 

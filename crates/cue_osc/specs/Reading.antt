@@ -1,11 +1,13 @@
 -- Reading from front to back: what is found, or the first fault that is met. This order is what the
 -- grammar does not say; that both agree on what is found is a law.
-use Rattle.std.specs.Prelude.{◌≡◌, ℕ, zero, suc, ◌-◌, ◌%◌, ◌^◌, List, [], ◌∷◌, length, take, drop, Bool, false, ◌&&◌, not, Option, Some, None, Result, Ok, Err, nat_lt, nat_le, nat_eq, ◌==◌, if◌then◌else◌}
+use Rattle.std.specs.Prelude.{◌≡◌, ℕ, zero, suc, ◌-◌, ◌%◌, ◌^◌, List, [], ◌∷◌, length, take, drop, Bool, false, ◌&&◌}
+use Rattle.std.specs.Prelude.{not, Option, Some, None, Result, Ok, Err, nat_lt, nat_le, nat_eq, ◌==◌, if◌then◌else◌}
 use Rattle.std.specs.List.{list_all, prefix_len, starts_with}
 use Rattle.std.specs.Option.{ok_or}
 use Rattle.std.specs.Int.{Width, w32, w64, byte_len, from_be_bytes, cast_signed}
 use Rattle.cue_osc.specs.declared.fault.Fault.{Fault}
-use Rattle.cue_osc.specs.declared.fault.Fault.TheVariants.{TooLong, NotMultiple, BadStart, BadString, BadBlob, BadSize, TooDeep, Trailing, Memory}
+use Rattle.cue_osc.specs.declared.fault.Fault.TheVariants.{TooLong, NotMultiple, BadStart, BadString, BadBlob, BadSize}
+use Rattle.cue_osc.specs.declared.fault.Fault.TheVariants.{TooDeep, Trailing, Memory}
 use Rattle.cue_osc.specs.Argument.{Argument, int, text, blob}
 use Rattle.cue_osc.specs.Content.{Content, message, discarded, bundle, Contents, nothing, element}
 use Rattle.cue_osc.specs.Spelling.{slash, comma, padding, is_known_tag, bundle_head}

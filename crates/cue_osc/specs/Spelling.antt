@@ -1,6 +1,7 @@
 -- The grammar of OSC 1.0: which bytes a packet has, by cases on the packet. The sections that are
 -- named are those of "The Open Sound Control 1.0 Specification".
-use Rattle.std.specs.Prelude.{◌≡◌, ◌≢◌, ℕ, zero, suc, ◌-◌, ◌%◌, ◌^◌, ◌<◌, ◌≤◌, List, [], ◌∷◌, ◌++◌, length, map, replicate, codes, Bool, false, ◌==◌, ◌||◌, ◌⊎◌, FitsSigned}
+use Rattle.std.specs.Prelude.{◌≡◌, ◌≢◌, ℕ, zero, suc, ◌-◌, ◌%◌, ◌^◌, ◌<◌, ◌≤◌, List, [], ◌∷◌, ◌++◌, length, map}
+use Rattle.std.specs.Prelude.{replicate, codes, Bool, false, ◌==◌, ◌||◌, ◌⊎◌, FitsSigned}
 use Rattle.std.specs.List.{flat_map, AllByRecursion, list_all}
 use Rattle.std.specs.Int.{w32, w64, to_be_bytes, cast_unsigned}
 use Rattle.cue_osc.specs.Argument.{Argument, int, text, blob}

@@ -1,5 +1,6 @@
 -- The one spelling of a packet: each message with its type tag string.
-use Rattle.std.specs.Prelude.{ℕ, ◌-◌, ◌<◌, ◌^◌, List, [], ◌++◌, length, Option, Some, None, nat_le, if◌then◌else◌, FitsSigned}
+use Rattle.std.specs.Prelude.{ℕ, ◌-◌, ◌<◌, ◌^◌, List, [], ◌++◌, length, Option, Some, None, nat_le, if◌then◌else◌}
+use Rattle.std.specs.Prelude.{FitsSigned}
 use Rattle.std.specs.List.{AllByRecursion}
 use Rattle.std.specs.Int.{w32, w64, to_be_bytes}
 use Rattle.cue_osc.specs.Argument.{Argument, int, text, blob}

@@ -2,7 +2,8 @@
 
 ghost use Rattle.std.specs.Prelude.{◌≡◌};
 ghost use Rattle.cue_osc.specs.declared.limits.TheConstants.{MAX_DEPTH, MAX_LEN};
-ghost use Rattle.cue_osc.specs.Laws.{ReadingIsTheGrammar, OnePacket, WrittenIsSpelled, WrittenIsRead, MessagesHaveAddresses, MemoryIsNoFault};
+ghost use Rattle.cue_osc.specs.Laws.{ReadingIsTheGrammar, OnePacket, WrittenIsSpelled, WrittenIsRead};
+ghost use Rattle.cue_osc.specs.Laws.{MessagesHaveAddresses, MemoryIsNoFault};
 
 /// Reading from front to back finds a packet exactly where the grammar has one, and that one.
 pub fn reading_is_the_grammar()

@@ -5,7 +5,8 @@ use Rattle.cue_pattern.specs.declared.ranges.Range.{Range}
 use Rattle.cue_pattern.specs.declared.piece.Piece.{Piece}
 use Rattle.cue_pattern.specs.declared.piece.Piece.TheVariants.{One, Many, Listed, Unlisted, Among, Plain}
 use Rattle.cue_pattern.specs.Meaning.{HasNo, IsCut, AreParts}
-use Rattle.cue_pattern.specs.Bytes.{asterisk, close_brace, close_bracket, comma, exclamation_mark, minus, open_brace, open_bracket, question_mark}
+use Rattle.cue_pattern.specs.Bytes.{asterisk, close_brace, close_bracket, comma, exclamation_mark, minus, open_brace}
+use Rattle.cue_pattern.specs.Bytes.{open_bracket, question_mark}
 
 -- a byte that stands for itself
 abbrev pub only : ℕ → Range

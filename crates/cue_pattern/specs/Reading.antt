@@ -1,11 +1,13 @@
 -- Reading as a function on lists: the one pattern that bytes spell, or none.
-use Rattle.std.specs.Prelude.{ℕ, zero, suc, ◌+◌, Bool, ◌&&◌, ◌==◌, not, if◌then◌else◌, List, [], ◌∷◌, length, Option, None, Some, option_and_then}
+use Rattle.std.specs.Prelude.{ℕ, zero, suc, ◌+◌, Bool, ◌&&◌, ◌==◌, not, if◌then◌else◌, List, [], ◌∷◌, length, Option}
+use Rattle.std.specs.Prelude.{None, Some, option_and_then}
 use Rattle.std.specs.Option.{option_map}
 use Rattle.std.specs.List.{list_all}
 use Rattle.cue_pattern.specs.declared.piece.Piece.{Piece}
 use Rattle.cue_pattern.specs.declared.piece.Piece.TheVariants.{One, Many, Listed, Unlisted, Among, Plain}
 use Rattle.cue_pattern.specs.Grammar.{ranges}
-use Rattle.cue_pattern.specs.Bytes.{asterisk, close_brace, close_bracket, comma, exclamation_mark, open_brace, open_bracket, question_mark, slash}
+use Rattle.cue_pattern.specs.Bytes.{asterisk, close_brace, close_bracket, comma, exclamation_mark, open_brace}
+use Rattle.cue_pattern.specs.Bytes.{open_bracket, question_mark, slash}
 
 -- one byte more at the front of the first text
 abbrev pub with_byte : ℕ → List (List ℕ) → List (List ℕ)

@@ -1,5 +1,6 @@
 -- Helper: what the steps of reading and matching give each other.
-use Rattle.std.specs.Prelude.{◌≡◌, ℕ, ◌+◌, ◌<◌, ◌≤◌, Bool, false, List, [], ◌∷◌, ◌++◌, ◌&&◌, nat_eq, length, drop, Option, None, Some, IfSome, slice_index_or}
+use Rattle.std.specs.Prelude.{◌≡◌, ℕ, ◌+◌, ◌<◌, ◌≤◌, Bool, false, List, [], ◌∷◌, ◌++◌, ◌&&◌, nat_eq, length, drop}
+use Rattle.std.specs.Prelude.{Option, None, Some, IfSome, slice_index_or}
 use Rattle.std.specs.List.{starts_with}
 use Rattle.std.specs.Option.{option_map}
 use Rattle.cue_pattern.specs.declared.piece.Piece.{Piece}

@@ -1,6 +1,7 @@
 //! A whole pattern: read from bytes, and matched with addresses.
 
-ghost use Rattle.std.specs.Prelude.{◌≡◌, ◌↔◌, ◌≤◌, ◌==◌, ℕ, count_by, List, IsTrue, IfOk, IsOk, MatchResult, Some, None, length};
+ghost use Rattle.std.specs.Prelude.{◌≡◌, ◌↔◌, ◌≤◌, ◌==◌, ℕ, count_by, List, IsTrue, IfOk, IsOk, MatchResult, Some};
+ghost use Rattle.std.specs.Prelude.{None, length};
 ghost use Rattle.std.specs.List.{list_all};
 ghost use Rattle.std.specs.Option.{option_copied, option_map};
 ghost use Rattle.cue_pattern.specs.Bytes.{slash};

@@ -4,7 +4,8 @@ ghost use Rattle.std.specs.Prelude.{◌≡◌, MatchOption, None, length};
 ghost use Rattle.std.specs.List.{list_all};
 ghost use Rattle.std.specs.Option.{option_map};
 ghost use Rattle.cue_pattern.specs.Bytes.{close_bracket, close_brace};
-ghost use Rattle.cue_pattern.specs.Reading.{piece_at, bracketed_piece, braced_piece, piece_between, text_before, is_braced, pieces_behind};
+ghost use Rattle.cue_pattern.specs.Reading.{piece_at, bracketed_piece, braced_piece, piece_between, text_before};
+ghost use Rattle.cue_pattern.specs.Reading.{is_braced, pieces_behind};
 ghost use Rattle.cue_pattern.specs.Steps.{Reads, piece_of};
 
 use crate::cut::cut_first;

@@ -2,7 +2,7 @@
 use cue_core::{Event, State};
 use cue_disk::MemDisk;
 use cue_engine::{Engine, MemWire};
-use cue_run::{Ended, MemAnswer, MemSource, RunFault, Watch, run_watched};
+use cue_run::{Ended, MemAnswer, MemSource, RunFault, Source, Waiting, Watch, run_watched};
 use std::alloc::Global;
 use std::process::Abort;
 use std::test::Fail;
@@ -90,4 +90,29 @@ fn a_run_in_memory(rt: HostRuntime) -> Result<(), Fail> {
         }
         Err((fault, _, _)) => Err(Fail::from(fault)),
     }
+}
+
+/// Of a source in memory a datagram is given that is the next answer; a tick, a fault and the end stay for the next turn.
+#[test]
+fn what_waits_in_memory(rt: HostRuntime) -> Result<(), Fail> {
+    let alloc = rt.alloc();
+    let bytes = Vec::from_slice(alloc, &DEVICE)?;
+    let mut source = MemSource::new(vec![in alloc;
+        MemAnswer::Datagram {
+            now: 7,
+            from: 8000,
+            bytes
+        },
+        MemAnswer::Tick { now: 250 },
+    ]?);
+    let mut buffer = [0; 64];
+    let expected = Waiting {
+        now: 7,
+        from: 8000,
+        n: 28,
+    };
+    assert!(rt; source.waiting(&mut buffer) == Ok(Some(expected)));
+    assert_eq!(rt; &buffer[..28], DEVICE.as_slice());
+    assert!(rt; source.waiting(&mut buffer) == Ok(None));
+    Ok(())
 }

@@ -1,5 +1,5 @@
 //! The source of a socket, over a receiver and a clock that stand in for a socket and the machine's clock.
-use cue_run::{Receive, Source, Tries, Turn, UdpSource};
+use cue_run::{Receive, Source, Tries, Turn, UdpSource, Waiting};
 use std::cell::Cell;
 use std::io::{self, ErrorKind};
 use std::test::Fail;
@@ -39,6 +39,10 @@ impl Receive for &StandIn {
     fn receive(&mut self, buffer: &mut [u8]) -> io::Result<(usize, u16)> {
         self.now.set(self.after.get());
         self.waits.set(self.waits.get().saturating_add(1));
+        self.receive_waiting(buffer)
+    }
+
+    fn receive_waiting(&mut self, buffer: &mut [u8]) -> io::Result<(usize, u16)> {
         match self.comes.get() {
             Comes::From(port) => Ok((buffer.len().min(4), port)),
             Comes::Fails(kind) => Err(io::Error::from(kind)),
@@ -151,6 +155,56 @@ fn tries(rt: HostRuntime) -> Result<(), Fail> {
         let brought = source.try_next(&mut buffer).ok();
         assert!(rt; brought == expected, "the try at {now}");
     }
+    Ok(())
+}
+
+/// What is there at a moment, and the datagram that a look finds then; None where the look is a fault. The source begins
+/// at 1,000.
+const LOOKS: [(u64, Comes, Option<Option<Waiting>>); 6] = [
+    (
+        1_010,
+        Comes::From(8000),
+        Some(Some(Waiting {
+            now: 1_010,
+            from: 8000,
+            n: 4,
+        })),
+    ),
+    (1_020, Comes::Fails(ErrorKind::WouldBlock), Some(None)),
+    (1_030, Comes::From(OWN), Some(None)),
+    (
+        1_040,
+        Comes::Fails(ErrorKind::ConnectionRefused),
+        Some(None),
+    ),
+    (1_050, Comes::Fails(ErrorKind::PermissionDenied), None),
+    // A tick is due, and stays so.
+    (
+        1_400,
+        Comes::From(8001),
+        Some(Some(Waiting {
+            now: 1_400,
+            from: 8001,
+            n: 4,
+        })),
+    ),
+];
+
+/// What each look finds. None waits, and none is a tick: the one that is due comes with the next try.
+#[test]
+fn looks(rt: HostRuntime) -> Result<(), Fail> {
+    let stand_in = StandIn::new();
+    let mut source = UdpSource::new(&stand_in, &stand_in, OWN)?;
+    let mut buffer = [0; 8];
+    for (now, comes, expected) in LOOKS {
+        stand_in.now.set(now);
+        stand_in.comes.set(comes);
+        let found = source.waiting(&mut buffer).ok();
+        assert!(rt; found == expected, "the look at {now}");
+    }
+    assert_eq!(rt; stand_in.waits.get(), 0);
+    let tick = source.try_next(&mut buffer).ok();
+    assert!(rt; tick == Some(Some(Turn::Tick { now: 1_400 })));
     Ok(())
 }
 

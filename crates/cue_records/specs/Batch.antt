@@ -6,9 +6,11 @@ use Rattle.cue_show.specs.Number.{is_cue_number}
 use Rattle.cue_show.specs.Parts.{are_parts}
 use Rattle.cue_exchange.specs.Live.{is_number, is_moment}
 use Rattle.cue_core.specs.declared.event.Event.{Event}
-use Rattle.cue_core.specs.declared.event.Event.TheVariants.{Device, NoDevice, Cue, NoCue, Place, Start, Ready, Go, Done, Cancel, LetGo, Failed, Excuse}
+use Rattle.cue_core.specs.declared.event.Event.TheVariants.{Device, NoDevice, Cue, NoCue, Place, Start, Ready, Go, Done}
+use Rattle.cue_core.specs.declared.event.Event.TheVariants.{Cancel, LetGo, Failed, Excuse}
 use Rattle.cue_records.specs.declared.limits.TheConstants.{MAX_EVENTS}
-use Rattle.cue_records.specs.Fields.{byte_text, short_text, number_text, moment_text, text_text, entry_text, new_cue_text, reason_number, are_required, form_for}
+use Rattle.cue_records.specs.Fields.{byte_text, short_text, number_text, moment_text, text_text, entry_text}
+use Rattle.cue_records.specs.Fields.{new_cue_text, reason_number, are_required, form_for}
 
 -- the number of an event's kind; a cue with an optional part is of a kind of its own
 abbrev pub event_number : Event → ℕ

@@ -10,7 +10,8 @@ use Rattle.cue_records.specs.declared.batch.kind.Kind.{Kind}
 use Rattle.cue_records.specs.declared.batch.kind.Kind.TheVariants as kind
 use Rattle.cue_records.specs.declared.parts_form.PartsForm.TheVariants.{Plain, Flagged}
 use Rattle.cue_records.specs.Fields.{are_required}
-use Rattle.cue_records.specs.Reading.{◌>>=◌, Reads, where_it, where_at, made_at, as_at, both_at, counted_at, byte_at, number_at, device_at, sequence_at, cue_at, entry_at, new_cue_at, reason_at}
+use Rattle.cue_records.specs.Reading.{◌>>=◌, Reads, where_it, where_at, made_at, as_at, both_at, counted_at, byte_at}
+use Rattle.cue_records.specs.Reading.{number_at, device_at, sequence_at, cue_at, entry_at, new_cue_at, reason_at}
 
 -- the kind with the number
 abbrev pub kind_of : ℕ → Option Kind

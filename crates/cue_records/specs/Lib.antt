@@ -1,5 +1,6 @@
 pub mod Batch
 pub mod BatchReading
+pub mod Faults
 pub mod Fields
 pub mod Laws
 pub mod Reading

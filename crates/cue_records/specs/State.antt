@@ -1,5 +1,6 @@
 -- The text of a state.
-use Rattle.std.specs.Prelude.{◌≡◌, ℕ, ◌+◌, ◌==◌, Bool, true, false, ◌&&◌, if◌then◌else◌, List, [], ◌∷◌, ◌++◌, length, map, nat_le, Option, None, Some, is_none, IsTrue}
+use Rattle.std.specs.Prelude.{◌≡◌, ℕ, ◌+◌, ◌==◌, Bool, true, false, ◌&&◌, if◌then◌else◌, List, [], ◌∷◌, ◌++◌, length}
+use Rattle.std.specs.Prelude.{map, nat_le, Option, None, Some, is_none, IsTrue}
 use Rattle.std.specs.List.{flat_map, list_all}
 use Rattle.cue_show.specs.Show.{Cues, ShowLists}
 use Rattle.cue_exchange.specs.declared.attempt.Answer.{Answer}
@@ -15,7 +16,8 @@ use Rattle.cue_records.specs.declared.limits.TheConstants.{OLD_MAX_CUES}
 use Rattle.cue_records.specs.declared.state.TheConstants.{VERSION, OLD_VERSION}
 use Rattle.cue_records.specs.declared.parts_form.PartsForm.{PartsForm}
 use Rattle.cue_records.specs.declared.parts_form.PartsForm.TheVariants.{Plain, Flagged}
-use Rattle.cue_records.specs.Fields.{byte_text, short_text, number_text, moment_text, text_text, entry_text, new_cue_text, reason_number, are_required}
+use Rattle.cue_records.specs.Fields.{byte_text, short_text, number_text, moment_text, text_text, entry_text}
+use Rattle.cue_records.specs.Fields.{new_cue_text, reason_number, are_required}
 
 -- ---- the show
 

@@ -1,9 +1,11 @@
 -- Reading a state.
-use Rattle.std.specs.Prelude.{◌≡◌, ℕ, zero, suc, Bool, ◌&&◌, ◌||◌, ◌==◌, if◌then◌else◌, List, [], ◌∷◌, length, nat_le, Option, None, Some, Result, Ok, Err}
+use Rattle.std.specs.Prelude.{◌≡◌, ℕ, zero, suc, Bool, ◌&&◌, ◌||◌, ◌==◌, if◌then◌else◌, List, [], ◌∷◌, length, nat_le}
+use Rattle.std.specs.Prelude.{Option, None, Some, Result, Ok, Err}
 use Rattle.std.specs.Int.{w16, w32, w64}
 use Rattle.std.specs.Str.{bytes_eq}
 use Rattle.cue_show.specs.Number.{is_cue_number}
-use Rattle.cue_show.specs.Show.{ShowLists, empty_show, parts_of, is_place_of, can_add_device, can_add_cue, with_device, with_cue, with_place}
+use Rattle.cue_show.specs.Show.{ShowLists, empty_show, parts_of, is_place_of, can_add_device, can_add_cue, with_device}
+use Rattle.cue_show.specs.Show.{with_cue, with_place}
 use Rattle.cue_show.specs.declared.limits.TheConstants.{MAX_CUES}
 use Rattle.cue_show.specs.declared.part.Part.{Part}
 use Rattle.cue_exchange.specs.Steps.{are_below, can_put, with_attempt}
@@ -22,7 +24,8 @@ use Rattle.cue_records.specs.declared.fault.StateFault.TheVariants as fault
 use Rattle.cue_records.specs.declared.limits.TheConstants.{OLD_MAX_CUES}
 use Rattle.cue_records.specs.declared.parts_form.PartsForm.{PartsForm}
 use Rattle.cue_records.specs.declared.parts_form.PartsForm.TheVariants.{Plain, Flagged}
-use Rattle.cue_records.specs.Reading.{◌>>=◌, Reads, where_it, where_at, made_at, both_at, byte_at, number_at, text_at, sequence_at, cue_at, entry_at, new_cue_at}
+use Rattle.cue_records.specs.Reading.{◌>>=◌, Reads, where_it, where_at, made_at, both_at, byte_at, number_at, text_at}
+use Rattle.cue_records.specs.Reading.{sequence_at, cue_at, entry_at, new_cue_at}
 use Rattle.cue_records.specs.State.{form_of_version, has_text, text_in}
 
 -- what a function returned is what reading gives, unless memory ran out

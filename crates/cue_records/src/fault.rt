@@ -1,6 +1,7 @@
 //! Why bytes are not read.
 ghost use Rattle.std.specs.Prelude.{◌≡◌};
 ghost use Rattle.cue_records.specs.declared.fault.ReadFault.TheVariants.{Memory};
+ghost use Rattle.cue_records.specs.Faults.{state_fault};
 
 use std::alloc::{AllocError, AllocFailed};
 use thiserror::Error;
@@ -43,5 +44,16 @@ impl<T: Drop> From<AllocFailed<T>> for ReadFault {
 
     fn from(_e: AllocFailed<T>) -> ReadFault {
         ReadFault::Memory
+    }
+}
+
+impl From<ReadFault> for StateFault {
+    ghost from_gives = { λ read fault. fault ≡ state_fault read };
+
+    fn from(read: ReadFault) -> StateFault {
+        match read {
+            ReadFault::Malformed => StateFault::Malformed,
+            ReadFault::Memory => StateFault::Memory,
+        }
     }
 }

@@ -1,5 +1,6 @@
 //! Laws of the texts, each the contract of a function that does nothing.
-ghost use Rattle.cue_records.specs.Laws.{AcceptableEventsFit, BatchTextsDiffer, BatchesAreReadBack, StateTextsDiffer, StatesAreReadBack, StateTextsAreBounded, LimitsOfTexts};
+ghost use Rattle.cue_records.specs.Laws.{AcceptableEventsFit, BatchTextsDiffer, BatchesAreReadBack, StateTextsDiffer};
+ghost use Rattle.cue_records.specs.Laws.{StatesAreReadBack, StateTextsAreBounded, LimitsOfTexts};
 
 /// The text of a batch reads back as the batch.
 pub fn batches_are_read_back()

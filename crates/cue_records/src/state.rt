@@ -8,7 +8,7 @@ mod numbers;
 mod reading;
 mod writing;
 
-use crate::fault::{ReadFault, StateFault};
+use crate::fault::StateFault;
 use crate::fields::{put_byte, put_u32};
 use crate::limits::MAX_STATE_BYTES;
 use cue_core::State;
@@ -62,11 +62,7 @@ fn state_in(alloc: Global, bytes: &[u8]) -> Result<State, StateFault>
             let Some(form) = numbers::form_of_version(*number) else {
                 return Err(StateFault::Version);
             };
-            match reading::standing_of(alloc, form, rest) {
-                Ok(state) => Ok(state),
-                Err(ReadFault::Malformed) => Err(StateFault::Malformed),
-                Err(ReadFault::Memory) => Err(StateFault::Memory),
-            }
+            Ok(reading::standing_of(alloc, form, rest)?)
         }
     }
 }

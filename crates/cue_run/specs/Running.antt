@@ -35,7 +35,8 @@ pub record IsTaken (s : ShowState) (now : ℕ) (input : Input) (told : Option (L
   pub state : s_then ≡ after_events s (given s now input).batch
   pub handed : AllHanded told (datagrams (given s now input).sends) refused told_then
 
--- So far these inputs were taken, as the source gave them, and what was owed at first and what they owe was handed over.
+-- So far these inputs were taken, as the source gave them, and what was owed at first and what they owe was handed
+-- over.
 pub record HasRun (size : ℕ) (left : Option (List Answer)) (s : ShowState) (owed : List (ℕ × List ℕ))
     (told : Option (List Handed)) (turns unsent : ℕ) (left_then : Option (List Answer)) (s_then : ShowState)
     (told_then : Option (List Handed)) : Type 0 where
@@ -104,7 +105,8 @@ pub record Refuses {D : Type 0} {disk : Ghosts D} (size : ℕ) (f : Fault) (old 
       (after_events (kept.state_of met) (given (kept.state_of met) next.now next.input).batch)
 
 -- Why a run ended. Memory is also the end of one that had none for its buffer, and asked nothing of the source.
-abbrev pub EndedBy : {D : Type 0} {disk : Ghosts D} → (size asked turns : ℕ) → Option RunFault → (old new : Keeper D disk)
+abbrev pub EndedBy : {D : Type 0} {disk : Ghosts D} → (size asked turns : ℕ) → Option RunFault
+    → (old new : Keeper D disk)
     → (left left_then : Option (List Answer)) → Type 0
 EndedBy size asked turns None old new left left_then =
     ((turns ≡ asked) × (left_then ≡ left)) ⊎ GaveAll size left (ends ∷ []) left_then

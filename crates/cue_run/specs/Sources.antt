@@ -3,6 +3,7 @@ use Rattle.std.specs.Prelude.{◌≡◌, ◌≤◌, ℕ, List, [], ◌∷◌, ta
 use Rattle.cue_run.specs.declared.source.Turn.{Turn}
 use Rattle.cue_run.specs.declared.source.Turn.TheVariants as turn
 use Rattle.cue_run.specs.declared.source.SourceFault.{SourceFault}
+use Rattle.cue_run.specs.declared.source.Waiting.{Waiting}
 use Rattle.cue_engine.specs.Given.{Input, datagram, tick}
 
 -- one answer of a source: an input at a moment, the end, or a fault
@@ -51,3 +52,21 @@ abbrev pub GaveAll : ℕ → Option (List Answer) → List Answer → Option (Li
 GaveAll size old gs None = Unit {0}
 GaveAll size None gs (Some new) = ⊥
 GaveAll size (Some old) gs (Some new) = GaveInTurn size old gs new
+
+-- a datagram that waited lies within the buffer
+abbrev pub WaitsWithin : Result (Option Waiting) SourceFault → ℕ → Type 0
+WaitsWithin (Ok (Some waiting)) size = waiting.n ≤ size
+WaitsWithin (Ok None) size = Unit {0}
+WaitsWithin (Err e) size = Unit {0}
+
+-- the answer that a datagram is that waited
+abbrev pub gave_waiting : Waiting → List ℕ → Answer
+gave_waiting waiting buffer = comes waiting.now (datagram waiting.from (take waiting.n buffer))
+
+-- What a call for a datagram that waits answered, with what stands in its buffer: the next answer is a datagram or a
+-- fault, or else all answers are left.
+abbrev pub Waited : ℕ → Result (Option Waiting) SourceFault → (buffer : List ℕ)
+    → (left left_then : Option (List Answer)) → Type 0
+Waited size (Ok (Some waiting)) buffer left left_then = GaveAll size left (gave_waiting waiting buffer ∷ []) left_then
+Waited size (Ok None) buffer left left_then = left_then ≡ left
+Waited size (Err e) buffer left left_then = GaveAll size left (fails ∷ []) left_then

@@ -8,6 +8,7 @@ use Rattle.std.specs.declared.io.ErrorKind.TheVariants.{WouldBlock, TimedOut, Co
 use Rattle.cue_run.specs.declared.udp.came.Came.{Came}
 use Rattle.cue_run.specs.declared.udp.came.Came.TheVariants as came
 use Rattle.cue_run.specs.declared.source.Turn.{Turn}
+use Rattle.cue_run.specs.declared.source.Waiting.{Waiting}
 use Rattle.cue_run.specs.declared.source.Turn.TheVariants as turn
 use Rattle.cue_run.specs.Sources.{IsWithin}
 
@@ -57,6 +58,12 @@ abbrev pub next_of : Came → ℕ → Option Turn
 next_of came.Noise now = None
 next_of came.Nothing now = Some (turn.Tick now)
 next_of (came.Datagram from n) now = Some (turn.Datagram now from n)
+
+-- the datagram that a look found at this moment: none where nothing came, or noise
+abbrev pub waiting_of : Came → ℕ → Option Waiting
+waiting_of came.Nothing now = None
+waiting_of came.Noise now = None
+waiting_of (came.Datagram from n) now = Some (record { now = now; from = from; n = n })
 
 -- the moment of the last tick after a turn
 abbrev pub last_after : ℕ → Option Turn → ℕ

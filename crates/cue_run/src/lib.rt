@@ -9,7 +9,7 @@ mod udp;
 mod watch;
 
 pub use mem_source::{MemAnswer, MemSource};
-pub use source::{Source, SourceFault, Turn};
+pub use source::{Source, SourceFault, Turn, Waiting};
 pub use turns::{Ended, RunFault, run, run_watched};
 pub use udp::{Receive, Tries, UdpReceiver, UdpSource, UdpWire, first_turn, local, udp_limits};
 pub use watch::{Unwatched, Watch};

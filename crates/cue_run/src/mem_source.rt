@@ -3,7 +3,7 @@ ghost use Rattle.std.specs.Prelude.{◌≡◌, ◌≤◌, Some, length, take};
 ghost use Rattle.cue_run.specs.Sources.{gave, cut, IsWithin};
 ghost use Rattle.cue_run.specs.MemSources.{answer_view, left_by, answers_view};
 
-use crate::source::{Source, SourceFault, Turn};
+use crate::source::{Source, SourceFault, Turn, Waiting};
 
 /// What a source in memory is to answer: one call each.
 #[derive(Debug, Drop)]
@@ -77,6 +77,21 @@ impl Source for MemSource {
                 turn
             }
             None => Ok(Turn::End),
+        }
+    }
+
+    fn waiting(&mut self, buffer: &mut [u8]) -> Result<Option<Waiting>, SourceFault> {
+        match self.answers.get(self.given) {
+            Some(MemAnswer::Datagram { now, from, bytes }) => {
+                let waiting = Waiting {
+                    now: *now,
+                    from: *from,
+                    n: put(bytes, buffer),
+                };
+                self.given += 1;
+                Ok(Some(waiting))
+            }
+            _ => Ok(None),
         }
     }
 }

@@ -1,6 +1,6 @@
 //! Where datagrams and ticks come from.
 ghost use Rattle.std.specs.Prelude.{List, Option, [], ◌∷◌, length};
-ghost use Rattle.cue_run.specs.Sources.{Answer, gave, IsWithin, GaveAll};
+ghost use Rattle.cue_run.specs.Sources.{Answer, gave, IsWithin, GaveAll, WaitsWithin, Waited};
 
 use std::error::Error;
 use std::fmt;
@@ -13,6 +13,15 @@ pub enum Turn {
     Tick { now: u64 },
     /// The first `n` bytes of the buffer, from this port.
     Datagram { now: u64, from: u16, n: usize },
+}
+
+/// A datagram that was there already: the first `n` bytes of the buffer, from this port, at a moment in milliseconds
+/// since 1970.
+#[derive(Clone, Copy, Debug, PartialEq, Eq)]
+pub struct Waiting {
+    pub now: u64,
+    pub from: u16,
+    pub n: usize,
 }
 
 /// The source failed.
@@ -36,4 +45,10 @@ pub trait Source {
     fn next(&mut self, buffer: &mut [u8]) -> Result<Turn, SourceFault>
         ensures within { IsWithin result (length buffer.old) }
         ensures gave { GaveAll (length buffer.old) (left self.old) (gave result buffer.new ∷ []) (left self.new) };
+
+    /// A datagram that is there already, cut to the length of the buffer; None where none is. It does not wait, and it
+    /// is never a tick.
+    fn waiting(&mut self, buffer: &mut [u8]) -> Result<Option<Waiting>, SourceFault>
+        ensures within { WaitsWithin result (length buffer.old) }
+        ensures waited { Waited (length buffer.old) result buffer.new (left self.old) (left self.new) };
 }

@@ -7,8 +7,8 @@ mod receive;
 mod ticks;
 mod tries;
 
-use crate::source::{Source, SourceFault, Turn};
-use came::{Came, what_came};
+use crate::source::{Source, SourceFault, Turn, Waiting};
+use came::{Came, waiting_of, what_came};
 use cue_engine::{Wire, WireFault};
 pub use receive::{Receive, UdpReceiver};
 use std::io::{self, ErrorKind};
@@ -62,6 +62,16 @@ impl<'a, C: Clock, R: Receive + Drop> UdpSource<'a, C, R> {
         let now = moment(self.clock)?;
         Ok((came, now))
     }
+
+    // Looks whether a datagram is there, and tells what came, and when.
+    fn look(&mut self, buffer: &mut [u8]) -> io::Result<(Came, u64)>
+        ensures within { IfOk result (λ looked. CameWithin looked.0 (length buffer.old)) }
+        ensures ticks { self.new.ticks ≡ self.old.ticks }
+    {
+        let came = what_came(self.own, self.receiver.receive_waiting(buffer))?;
+        let now = moment(self.clock)?;
+        Ok((came, now))
+    }
 }
 
 impl<'a, C: Clock, R: Receive + Drop> Tries for UdpSource<'a, C, R> {
@@ -82,6 +92,13 @@ impl<'a, C: Clock, R: Receive + Drop> Source for UdpSource<'a, C, R> {
 
     fn next(&mut self, buffer: &mut [u8]) -> Result<Turn, SourceFault> {
         first_turn(self, MOST_DROPPED, buffer)
+    }
+
+    fn waiting(&mut self, buffer: &mut [u8]) -> Result<Option<Waiting>, SourceFault> {
+        match self.look(buffer) {
+            Ok((came, now)) => Ok(waiting_of(came, now)),
+            Err(_) => Err(SourceFault),
+        }
     }
 }
 

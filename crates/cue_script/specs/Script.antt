@@ -1,5 +1,6 @@
 -- A script: what is written for what happens in it, and how it ends.
-use Rattle.std.specs.Prelude.{◌≡◌, ℕ, ◌≤◌, ◌<◌, true, List, [], ◌∷◌, ◌++◌, length, map, codes, decimal, Option, Some}
+use Rattle.std.specs.Prelude.{◌≡◌, ℕ, ◌≤◌, ◌<◌, true, List, [], ◌∷◌, ◌++◌, length, map}
+use Rattle.std.specs.Prelude.{codes, decimal, Option, Some}
 use Rattle.std.specs.Prelude.{None}
 use Rattle.std.specs.Io.KnownBytes.{Appends}
 use Rattle.std.specs.List.{flat_map}
@@ -26,7 +27,8 @@ output first hs = printed (datagrams (run first hs).sends)
 
 -- The first lines of a text told of what happened, and the others are left; what is written is the output, and behind
 -- it this last line.
-pub record Ran (first : ShowState) (text : List ℕ) (left : List (List ℕ)) (last : List ℕ) (old new : Option (List ℕ)) : Type 0 where
+pub record Ran (first : ShowState) (text : List ℕ) (left : List (List ℕ)) (last : List ℕ)
+    (old new : Option (List ℕ)) : Type 0 where
   pub happened : List Happening
   pub lines : List (List ℕ)
   pub all : lines_of text ≡ lines ++ left

@@ -1,5 +1,6 @@
 -- The text of a script: its lines, and what a line tells of.
-use Rattle.std.specs.Prelude.{ℕ, ◌&&◌, ◌==◌, not, nat_le, if◌then◌else◌, List, [], ◌∷◌, length, take, drop, Option}
+use Rattle.std.specs.Prelude.{ℕ, ◌&&◌, ◌==◌, not, nat_le, if◌then◌else◌, List, [], ◌∷◌, length}
+use Rattle.std.specs.Prelude.{take, drop, Option}
 use Rattle.std.specs.Prelude.{Some, None, codes}
 use Rattle.std.specs.List.{onto_first}
 use Rattle.std.specs.Option.{option_map, option_and_then, option_or}
@@ -28,7 +29,8 @@ cut_at mark (byte ∷ bytes) =
 -- one decimal digit or more, leading zeros allowed, of a value of at most `most`
 abbrev pub number_in : ℕ → List ℕ → Option ℕ
 number_in most digits =
-    if not (length digits == 0) && (all_ascii_digits digits && nat_le (digits_value 10 digits) most) then Some (digits_value 10 digits) else None
+    if not (length digits == 0) && (all_ascii_digits digits && nat_le (digits_value 10 digits) most)
+    then Some (digits_value 10 digits) else None
 
 -- a datagram that arrived: the moment, the port that it came from, and its bytes
 pub record Arrived : Type 0 where
@@ -80,4 +82,5 @@ ticks now = took now tick
 -- line of another form
 unfoldable pub happening_in : List ℕ → Option Happening
 happening_in line =
-    if bytes_eq line (codes "x") then Some recovered else option_or (option_map ticks (tick_in line)) (option_map arrives (arrival_in line))
+    if bytes_eq line (codes "x") then Some recovered else option_or (option_map ticks (tick_in line))
+    (option_map arrives (arrival_in line))

@@ -1,5 +1,6 @@
 //! Scripts: lines of text that tell of datagrams, ticks and power loss, and what is sent for them.
-ghost use Rattle.std.specs.Prelude.{◌≡◌, ◌≢◌, ◌≤◌, IfOk, IfErr, OnOk, IfSome, MatchOption, [], length, ◌<◌, ◌-◌, ◌^◌};
+ghost use Rattle.std.specs.Prelude.{◌≡◌, ◌≢◌, ◌≤◌, IfOk, IfErr, OnOk, IfSome, MatchOption, []};
+ghost use Rattle.std.specs.Prelude.{length, ◌<◌, ◌-◌, ◌^◌};
 ghost use Rattle.std.specs.Io.KnownBytes.{Appends};
 ghost use Rattle.cue_core.specs.State.{empty_state};
 ghost use Rattle.cue_script.specs.Endings.{failure_of};
@@ -26,7 +27,8 @@ fn read_at_most<R: Read>(
 ) -> io::Result<Option<Vec<u8>>>
     requires { limit < 2 ^ 64 - 1 }
     ensures read { IfOk result (λ found. IfSome (R.remaining reader.old)
-        (λ text. MatchOption found (limit < length text) (λ bytes. (bytes.items ≡ text) × (length text ≤ limit)))) }
+        (λ text. MatchOption found (limit < length text)
+        (λ bytes. (bytes.items ≡ text) × (length text ≤ limit)))) }
     ensures limit { IfOk result (λ found. IfSome found (λ bytes. length bytes.items ≤ limit)) }
     ensures no_failure { OnOk result (streams.new ≡ streams.old) }
     ensures cause { IfErr result (λ error. FailedAs (failure_of error) streams.old streams.new) }

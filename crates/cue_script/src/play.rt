@@ -159,8 +159,10 @@ fn run_line<W: Write>(
     requires { IsReady engine }
     ensures ready { IfOk result (λ next. IsReady next) }
     ensures state { IfOk result
-        (λ next. state_of next ≡ after_events (state_of engine) (given_at (state_of engine) (line_view line.now)).batch) }
-    ensures wrote { OnOk result (Appends (W.contents writer.old) (W.contents writer.new) (printed (datagrams (given_at (state_of engine) (line_view line.now)).sends))) }
+        (λ next. state_of next ≡ after_events (state_of engine)
+        (given_at (state_of engine) (line_view line.now)).batch) }
+    ensures wrote { OnOk result (Appends (W.contents writer.old) (W.contents writer.new)
+        (printed (datagrams (given_at (state_of engine) (line_view line.now)).sends))) }
     ensures ends { IfErr result (λ ending. EndsUnheard ending (W.contents writer.old) (W.contents writer.new)) }
     ensures no_failure { OnOk result (streams.new ≡ streams.old) }
     ensures cause { IfErr result (λ ending. HasCause ending streams.old streams.new) }

@@ -1,6 +1,7 @@
 //! What the definitions of this crate come to, in other words. Each contract is a theorem; there is nothing to run.
 ghost use Rattle.std.specs.Prelude.{◌≡◌};
-ghost use Rattle.cue_show.specs.declared.limits.TheConstants.{MAX_DEVICE_NUMBER, MAX_PORT, MAX_CUE_BYTES, MAX_CUES, MAX_DEVICES, MAX_PART_BYTES, MAX_PARTS};
+ghost use Rattle.cue_show.specs.declared.limits.TheConstants.{MAX_DEVICE_NUMBER, MAX_PORT, MAX_CUE_BYTES, MAX_CUES};
+ghost use Rattle.cue_show.specs.declared.limits.TheConstants.{MAX_DEVICES, MAX_PART_BYTES, MAX_PARTS};
 ghost use Rattle.cue_show.specs.Laws.{CueNumbersAreRunsJoinedByPoints, FollowingStandsBehind, RemovalsKeepTheOrder};
 
 /// A text is a cue number exactly where it has at most 16 bytes and is one run of digits or more, with single points

@@ -3,7 +3,8 @@ ghost use Rattle.std.specs.Prelude.{◌≡◌, ◌+◌, [], ◌∷◌, ◌++◌,
 ghost use Rattle.std.specs.Cmp.{partial_equiv_from_equiv};
 ghost use Rattle.std.specs.List.{list_all};
 ghost use Rattle.cue_show.specs.Devices.{distinct, devices_in};
-ghost use Rattle.cue_show.specs.Parts.{is_part, is_required_part, has_required_part, are_parts, uses, same_parts, same_parts_equiv};
+ghost use Rattle.cue_show.specs.Parts.{is_part, is_required_part, has_required_part, are_parts, uses, same_parts};
+ghost use Rattle.cue_show.specs.Parts.{same_parts_equiv};
 
 use crate::bytes::Bytes;
 use crate::device::DeviceNo;

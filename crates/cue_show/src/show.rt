@@ -2,7 +2,10 @@
 ghost use Rattle.std.specs.Prelude.{◌≡◌, ◌≤◌, ℕ, List, IsTrue, IfSome, IfOk, OnOk, OnErr, length};
 ghost use Rattle.std.specs.Map.Iter.{ShowsInOrder, ShowsValuesInOrder, deref_pair};
 ghost use Rattle.std.specs.Option.{option_copied};
-ghost use Rattle.cue_show.specs.Show.{empty_show, port_of, parts_of, has_device, has_cue, is_used, is_full, are_known, following, is_place_of, is_entry, is_cue_of, is_show, can_add_device, can_remove_device, can_add_cue, with_device, without_device, with_cue, without_cue, with_place};
+ghost use Rattle.cue_show.specs.Show.{empty_show, port_of, parts_of, has_device, has_cue, is_used, is_full, are_known};
+ghost use Rattle.cue_show.specs.Show.{following, is_place_of, is_entry, is_cue_of, is_show, can_add_device};
+ghost use Rattle.cue_show.specs.Show.{can_remove_device, can_add_cue, with_device, without_device, with_cue};
+ghost use Rattle.cue_show.specs.Show.{without_cue, with_place};
 ghost use Rattle.cue_show.specs.declared.part.Part.{Part};
 
 use crate::device::DeviceNo;

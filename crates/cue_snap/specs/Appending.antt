@@ -1,5 +1,6 @@
 -- What a call that appends records does to a pair, whether it succeeds or fails.
-use Rattle.std.specs.Prelude.{◌≡◌, ◌≤◌, ◌<◌, ◌+◌, ◌↔◌, ℕ, false, true, List, [], length, Result, OnOk, IfErr, IsErrOf}
+use Rattle.std.specs.Prelude.{◌≡◌, ◌≤◌, ◌<◌, ◌+◌, ◌↔◌, ℕ, false, true, List, [], length}
+use Rattle.std.specs.Prelude.{Result, OnOk, IfErr, IsErrOf}
 use Rattle.cue_disk.specs.declared.disk.Disk.{Ghosts}
 use Rattle.cue_disk.specs.Disk.{IsImage, LeavesAtEachMoment, MoreFailures, overwritten}
 use Rattle.cue_log.specs.declared.area.TheConstants.{AREA_LIMIT}
@@ -20,7 +21,8 @@ abbrev pub LiveHasFailed : {D : Type 0} {disk : Ghosts D} → (old new : Snap D 
 LiveHasFailed {D} {disk} old new = MoreFailures (disk.failures (live_of old)) (disk.failures (live_of new))
 
 -- why records are refused with this fault
-abbrev pub HasCause : {D : Type 0} {disk : Ghosts D} → List (List ℕ) → (old new : Snap D disk) → AppendFault → Type 0
+abbrev pub HasCause :
+    {D : Type 0} {disk : Ghosts D} → List (List ℕ) → (old new : Snap D disk) → AppendFault → Type 0
 HasCause payloads old new fault.Broken = is_broken old ≡ true
 HasCause payloads old new fault.Full = (is_broken old ≡ false) × LacksRoom old payloads
 HasCause payloads old new fault.Disk = (is_broken old ≡ false) × LiveHasFailed old new
@@ -30,7 +32,8 @@ HasCause payloads old new fault.Disk = (is_broken old ≡ false) × LiveHasFaile
 abbrev pub LeavesSnap : {D : Type 0} {disk : Ghosts D} → (old new : Snap D disk) → AppendFault → Type 0
 LeavesSnap old new fault.Broken = new ≡ old
 LeavesSnap old new fault.Full = new ≡ old
-LeavesSnap old new fault.Disk = (is_broken new ≡ true) × (count_of new ≡ count_of old) × (end_of new ≡ end_of old)
+LeavesSnap old new fault.Disk =
+    (is_broken new ≡ true) × (count_of new ≡ count_of old) × (end_of new ≡ end_of old)
 
 -- Records are given to a pair.
 pub record Appends {T D : Type 0} {disk : Ghosts D} (payloads : List (List ℕ)) (result : Result T AppendFault)
@@ -62,7 +65,8 @@ pub record Appends {T D : Type 0} {disk : Ghosts D} (payloads : List (List ℕ))
       1 ≤ length payloads
       → disk.is_honest (live_of old)
       → OnOk result
-      ((disk.held (live_of new)).bytes ≡ overwritten (disk.held (live_of old)).bytes (end_of old) (group_text payloads))
+      ((disk.held (live_of new)).bytes
+      ≡ overwritten (disk.held (live_of old)).bytes (end_of old) (group_text payloads))
   -- the spare disk is not touched
   pub spare : spare_of new ≡ spare_of old
   pub sides : is_first_live new ≡ is_first_live old

@@ -22,11 +22,13 @@ disk_in (Damaged disk) = disk
 
 -- whatever a crash leaves reads as what was opened, and the log has just that
 abbrev pub IsOpened : {D : Type 0} {disk : _} → (D → Contents) → Opened D disk → Type 0
-IsOpened held opened = ReadsAs (held (log.opened_disk opened)) (log.area_read opened) × (log_observed.area_of held opened.log ≡ log.area_read opened)
+IsOpened held opened = ReadsAs (held (log.opened_disk opened)) (log.area_read opened)
+    × (log_observed.area_of held opened.log ≡ log.area_read opened)
 
 -- its log works, and counts its records
 abbrev pub OpenedWorks : {D : Type 0} {disk : _} → Opened D disk → Type 0
-OpenedWorks opened = (log_observed.is_broken opened.log ≡ false) × (log_observed.count_of opened.log ≡ length opened.records)
+OpenedWorks opened = (log_observed.is_broken opened.log ≡ false)
+    × (log_observed.count_of opened.log ≡ length opened.records)
 
 -- what was found is there, and stays
 abbrev pub IsFound : {D : Type 0} {disk : _} → (D → Contents) → Found D disk → Type 0
@@ -41,7 +43,8 @@ FoundWorks (Absent disk) = Unit {0}
 FoundWorks (Damaged disk) = Unit {0}
 
 -- The pair is made of this log and this spare disk.
-pub record IsPairOf {D : Type 0} {disk : _} (log : Log D disk) (spare : D) (first_is_live : Bool) (snap : Snap D disk) : Type 0 where
+pub record IsPairOf {D : Type 0} {disk : _} (log : Log D disk) (spare : D) (first_is_live : Bool)
+    (snap : Snap D disk) : Type 0 where
   pub live : live_of snap ≡ log_observed.disk_of log
   pub spare_is : spare_of snap ≡ spare
   pub side : is_first_live snap ≡ first_is_live

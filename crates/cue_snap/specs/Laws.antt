@@ -20,11 +20,13 @@ ReaderFindsEachPair = (area : Area) (x y : List ℕ) → PairReads area x y → 
 
 -- Any two lists of bytes read as an area, or neither has one, or they are spoiled.
 abbrev pub AnyPairAnswers : Type 0
-AnyPairAnswers = (x y : List ℕ) → AreBytes x → AreBytes y → NeitherHas x y ⊎ ((area : Area) × PairReads area x y) ⊎ IsSpoiled x y
+AnyPairAnswers = (x y : List ℕ) → AreBytes x → AreBytes y
+    → NeitherHas x y ⊎ ((area : Area) × PairReads area x y) ⊎ IsSpoiled x y
 
 -- A pair that reads as an area has one, and is not spoiled.
 abbrev pub PairThatReadsIsGood : Type 0
-PairThatReadsIsGood = (area : Area) (x y : List ℕ) → PairReads area x y → (NeitherHas x y → ⊥) × (IsSpoiled x y → ⊥)
+PairThatReadsIsGood =
+    (area : Area) (x y : List ℕ) → PairReads area x y → (NeitherHas x y → ⊥) × (IsSpoiled x y → ⊥)
 
 -- The generation that a pair begins with, as a number.
 abbrev pub PairsBeginWithOne : Type 0

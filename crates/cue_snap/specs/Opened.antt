@@ -5,7 +5,11 @@ use Rattle.cue_snap.specs.declared.opening.Opened2.{Opened2}
 
 -- what was read
 abbrev pub live_area_read : {D : Type 0} {disk : _} → Opened2 D disk → Area
-live_area_read opened = record { generation = generation_of opened.snap; snapshot = opened.base; payloads = opened.tail }
+live_area_read opened = record {
+  generation = generation_of opened.snap;
+  snapshot = opened.base;
+  payloads = opened.tail;
+}
 
 -- the two disks in their order
 abbrev pub first_opened : {D : Type 0} {disk : _} → Opened2 D disk → D

@@ -23,7 +23,8 @@ PairLeaves one other area = (x y : List ℕ) → IsImage one x → IsImage other
 
 -- Whatever a crash leaves of a disk is older: it is absent, or an area of a lower generation, which the reader names.
 abbrev pub LeavesOlder : Contents → ℕ → Type 0
-LeavesOlder held generation = (image : List ℕ) → IsImage held image → (IsAbsent image → ⊥) → IsArea (area_in image) image × ((area_in image).generation < generation)
+LeavesOlder held generation = (image : List ℕ) → IsImage held image → (IsAbsent image → ⊥)
+    → IsArea (area_in image) image × ((area_in image).generation < generation)
 
 -- a spare disk while it is formed anew: an image of then, absent, or this area
 abbrev pub IsOldOrNew : Contents → Area → List ℕ → Type 0
@@ -51,7 +52,8 @@ IsUnformedOr area then_a then_b x y = (IsImage then_a x × IsImage then_b y) ⊎
 
 -- A call that writes nothing before it has synced both disks. Up to a moment of each, a crash leaves what it might have
 -- left at entry; from these moments on each pair has P. What was held up to the entry is as it was.
-pub record AfterBarrier {D : Type 0} (moment : D → ℕ) (held_at : D → ℕ → Contents) (a b new_a new_b : D) (P : List ℕ → List ℕ → Type 0) : Type 0 where
+pub record AfterBarrier {D : Type 0} (moment : D → ℕ) (held_at : D → ℕ → Contents) (a b new_a new_b : D)
+    (P : List ℕ → List ℕ → Type 0) : Type 0 where
   pub at_a : ℕ
   pub at_b : ℕ
   pub from_a : moment a ≤ at_a
@@ -60,6 +62,9 @@ pub record AfterBarrier {D : Type 0} (moment : D → ℕ) (held_at : D → ℕ �
   pub to_b : at_b ≤ moment new_b
   pub same_a : (k : ℕ) → k ≤ moment a → held_at new_a k ≡ held_at a k
   pub same_b : (k : ℕ) → k ≤ moment b → held_at new_b k ≡ held_at b k
-  pub before_a : (k : ℕ) → moment a ≤ k → k ≤ at_a → (x : List ℕ) → IsImage (held_at new_a k) x → IsImage (held_at a (moment a)) x
-  pub before_b : (k : ℕ) → moment b ≤ k → k ≤ at_b → (y : List ℕ) → IsImage (held_at new_b k) y → IsImage (held_at b (moment b)) y
-  pub each : (i j : ℕ) → at_a ≤ i → i ≤ moment new_a → at_b ≤ j → j ≤ moment new_b → (x y : List ℕ) → IsImage (held_at new_a i) x → IsImage (held_at new_b j) y → P x y
+  pub before_a : (k : ℕ) → moment a ≤ k → k ≤ at_a → (x : List ℕ) → IsImage (held_at new_a k) x
+      → IsImage (held_at a (moment a)) x
+  pub before_b : (k : ℕ) → moment b ≤ k → k ≤ at_b → (y : List ℕ) → IsImage (held_at new_b k) y
+      → IsImage (held_at b (moment b)) y
+  pub each : (i j : ℕ) → at_a ≤ i → i ≤ moment new_a → at_b ≤ j → j ≤ moment new_b
+      → (x y : List ℕ) → IsImage (held_at new_a i) x → IsImage (held_at new_b j) y → P x y

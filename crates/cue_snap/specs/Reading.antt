@@ -1,5 +1,6 @@
 -- Reading two areas, by functions that compute.
-use Rattle.std.specs.Prelude.{ℕ, Bool, true, false, if◌then◌else◌, List, [], ◌∷◌, Option, None, Some, nat_lt, ◌==◌}
+use Rattle.std.specs.Prelude.{ℕ, Bool, true, false, if◌then◌else◌, List, [], ◌∷◌, Option, None, Some}
+use Rattle.std.specs.Prelude.{nat_lt, ◌==◌}
 use Rattle.cue_log.specs.Area.{Area}
 use Rattle.cue_log.specs.Reading.{read_area}
 
@@ -11,7 +12,10 @@ is_absent (gate ∷ byte ∷ bytes) = if gate == 1 then false else true
 
 -- the newer of two areas; none where both have one generation
 abbrev pub newer : Area → Area → Option Area
-newer a b = if nat_lt b.generation a.generation then Some a else if nat_lt a.generation b.generation then Some b else None
+newer a b =
+    if nat_lt b.generation a.generation then Some a
+    else if nat_lt a.generation b.generation then Some b
+    else None
 
 -- the only area, where the other bytes are absent
 abbrev pub only : Bool → Option Area → Option Area

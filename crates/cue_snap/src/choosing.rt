@@ -2,7 +2,8 @@
 ghost use Rattle.std.specs.Prelude.{◌≡◌, IfOk};
 ghost use Rattle.cue_log.specs.Log.{LeavesAbsent, IsDamaged};
 ghost use Rattle.cue_log.specs.Opened.{opened_disk, area_read};
-ghost use Rattle.cue_snap.specs.Found.{disk_in, IsFound, FoundWorks, IsOpened, OpenedWorks, IsPairOf, PairWorks, IsChosen};
+ghost use Rattle.cue_snap.specs.Found.{disk_in, IsFound, FoundWorks, IsOpened, OpenedWorks, IsPairOf, PairWorks};
+ghost use Rattle.cue_snap.specs.Found.{IsChosen};
 ghost use Rattle.cue_snap.specs.Invariant.{SpareIsOlder};
 ghost use Rattle.cue_snap.specs.Opened.{live_area_read, first_opened, second_opened};
 ghost use Rattle.cue_snap.specs.Pair.{NeitherHas, IsSpoiled, OneGeneration};
@@ -76,9 +77,11 @@ fn newer<D: Disk>(first: Opened<D>, second: Opened<D>) -> Result<Opened2<D>, (Un
     ensures first { first_after first_opened result ≡ opened_disk first }
     ensures second { second_after second_opened result ≡ opened_disk second }
     ensures works { IfOk result PairWorks }
-    ensures chosen { D.is_honest (opened_disk first) → D.is_honest (opened_disk second) → IfOk result (IsChosen D.held (opened_disk first) (opened_disk second)) }
+    ensures chosen { D.is_honest (opened_disk first) → D.is_honest (opened_disk second)
+        → IfOk result (IsChosen D.held (opened_disk first) (opened_disk second)) }
     ensures damaged { D.is_honest (opened_disk first) → D.is_honest (opened_disk second)
-        → RefusedAs Unfit.Damaged (OneGeneration (D.held (opened_disk first)).bytes (D.held (opened_disk second)).bytes) result }
+        → RefusedAs Unfit.Damaged (OneGeneration (D.held (opened_disk first)).bytes
+        (D.held (opened_disk second)).bytes) result }
     ensures unformed { RefusedAs Unfit.Unformed ⊥ result }
 {
     let first_generation = first.log.generation();
@@ -101,9 +104,11 @@ fn beside_area<D: Disk>(first: Opened<D>, second: Found<D>) -> Result<Opened2<D>
     ensures first { first_after first_opened result ≡ opened_disk first }
     ensures second { second_after second_opened result ≡ disk_in second }
     ensures works { IfOk result PairWorks }
-    ensures chosen { D.is_honest (opened_disk first) → D.is_honest (disk_in second) → IfOk result (IsChosen D.held (opened_disk first) (disk_in second)) }
+    ensures chosen { D.is_honest (opened_disk first) → D.is_honest (disk_in second)
+        → IfOk result (IsChosen D.held (opened_disk first) (disk_in second)) }
     ensures damaged { D.is_honest (opened_disk first) → D.is_honest (disk_in second)
-        → RefusedAs Unfit.Damaged (IsSpoiled (D.held (opened_disk first)).bytes (D.held (disk_in second)).bytes) result }
+        → RefusedAs Unfit.Damaged (IsSpoiled (D.held (opened_disk first)).bytes
+        (D.held (disk_in second)).bytes) result }
     ensures unformed { RefusedAs Unfit.Unformed ⊥ result }
 {
     match second {
@@ -121,9 +126,12 @@ fn beside_none<D: Disk>(first: D, second: Found<D>) -> Result<Opened2<D>, (Unfit
     ensures first { first_after first_opened result ≡ first }
     ensures second { second_after second_opened result ≡ disk_in second }
     ensures works { IfOk result PairWorks }
-    ensures chosen { D.is_honest first → D.is_honest (disk_in second) → IfOk result (IsChosen D.held first (disk_in second)) }
-    ensures damaged { D.is_honest (disk_in second) → RefusedAs Unfit.Damaged (IsDamaged (D.held (disk_in second)).bytes) result }
-    ensures unformed { D.is_honest first → D.is_honest (disk_in second) → RefusedAs Unfit.Unformed (NeitherHas (D.held first).bytes (D.held (disk_in second)).bytes) result }
+    ensures chosen { D.is_honest first → D.is_honest (disk_in second)
+        → IfOk result (IsChosen D.held first (disk_in second)) }
+    ensures damaged { D.is_honest (disk_in second) → RefusedAs Unfit.Damaged
+        (IsDamaged (D.held (disk_in second)).bytes) result }
+    ensures unformed { D.is_honest first → D.is_honest (disk_in second)
+        → RefusedAs Unfit.Unformed (NeitherHas (D.held first).bytes (D.held (disk_in second)).bytes) result }
 {
     match second {
         Found::Area(second) => Ok(pair_of(second, first, false)),
@@ -144,11 +152,13 @@ pub(crate) fn choose<D: Disk>(
     ensures first { first_after first_opened result ≡ disk_in first }
     ensures second { second_after second_opened result ≡ disk_in second }
     ensures works { IfOk result PairWorks }
-    ensures chosen { D.is_honest (disk_in first) → D.is_honest (disk_in second) → IfOk result (IsChosen D.held (disk_in first) (disk_in second)) }
+    ensures chosen { D.is_honest (disk_in first) → D.is_honest (disk_in second)
+        → IfOk result (IsChosen D.held (disk_in first) (disk_in second)) }
     ensures damaged { D.is_honest (disk_in first) → D.is_honest (disk_in second)
         → RefusedAs Unfit.Damaged (IsSpoiled (D.held (disk_in first)).bytes (D.held (disk_in second)).bytes) result }
     ensures unformed { D.is_honest (disk_in first) → D.is_honest (disk_in second)
-        → RefusedAs Unfit.Unformed (NeitherHas (D.held (disk_in first)).bytes (D.held (disk_in second)).bytes) result }
+        → RefusedAs Unfit.Unformed
+        (NeitherHas (D.held (disk_in first)).bytes (D.held (disk_in second)).bytes) result }
 {
     match first {
         Found::Area(first) => beside_area(first, second),

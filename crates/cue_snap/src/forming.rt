@@ -1,10 +1,11 @@
 // How a pair comes to be: both disks are looked at and synced, and then the first one gets an area.
-ghost use Rattle.std.specs.Prelude.{◌≡◌, ◌⊎◌, ◌≤◌, ◌+◌, ◌↔◌, false, length, IfOk, OnOk, IsErrOf};
+ghost use Rattle.std.specs.Prelude.{◌≡◌, ◌⊎◌, ◌<◌, ◌≤◌, ◌+◌, ◌↔◌};
+ghost use Rattle.std.specs.Prelude.{false, length, IfOk, OnOk, IsErrOf};
 ghost use Rattle.cue_disk.specs.Disk.{LeavesAtEachMoment, IsImage, IsStable, CountsFailure, MoreFailures, overwritten};
 ghost use Rattle.cue_log.specs.Area.{fresh, formed_text};
 ghost use Rattle.cue_log.specs.Log.{IsNoneOr, LeavesAbsent, ReadsAs};
 ghost use Rattle.cue_log.specs.Observed.{disk_of, disk_after, generation_of, end_of, count_of, is_broken, area_of};
-ghost use Rattle.cue_log.specs.declared.area.TheConstants.{AREA_LIMIT};
+ghost use Rattle.cue_log.specs.declared.area.TheConstants.{AREA_LIMIT, HEAD_LEN};
 ghost use Rattle.cue_snap.specs.Pair.{NeitherHas, SomeIsThere};
 
 use cue_disk::{Disk, DiskFault};
@@ -38,15 +39,21 @@ const FIRST: u64 = 1;
 
 /// Syncs both disks, and tells whether neither has an area.
 pub(crate) fn look<D: Disk>(first: &mut D, second: &mut D) -> Result<(), FormFault>
-    ensures empty { D.is_honest first.old → D.is_honest second.old → OnOk result (NeitherHas (D.held first.old).bytes (D.held second.old).bytes) }
-    ensures not_empty { D.is_honest first.old → D.is_honest second.old → IsErrOf result FormFault.NotEmpty → SomeIsThere (D.held first.old).bytes (D.held second.old).bytes }
-    ensures disk { IsErrOf result FormFault.Disk → MoreFailures (D.failures first.old) (D.failures first.new) ⊎ MoreFailures (D.failures second.old) (D.failures second.new) }
+    ensures empty { D.is_honest first.old → D.is_honest second.old
+        → OnOk result (NeitherHas (D.held first.old).bytes (D.held second.old).bytes) }
+    ensures not_empty { D.is_honest first.old → D.is_honest second.old → IsErrOf result FormFault.NotEmpty
+        → SomeIsThere (D.held first.old).bytes (D.held second.old).bytes }
+    ensures disk { IsErrOf result FormFault.Disk → MoreFailures (D.failures first.old) (D.failures first.new)
+        ⊎ MoreFailures (D.failures second.old) (D.failures second.new) }
     ensures first_synced { D.is_honest first.old → IsErrOf result FormFault.NotEmpty → IsStable (D.held first.new) }
-    ensures second_synced { D.is_honest second.old → IsErrOf result FormFault.NotEmpty → IsStable (D.held second.new) }
+    ensures second_synced { D.is_honest second.old → IsErrOf result FormFault.NotEmpty
+        → IsStable (D.held second.new) }
     ensures first_stays { D.is_honest first.old → OnOk result (LeavesAbsent (D.held first.new)) }
     ensures second_stays { D.is_honest second.old → OnOk result (LeavesAbsent (D.held second.new)) }
-    ensures first_moments { D.is_honest first.old → LeavesAtEachMoment D.moment D.held_at first.old first.new (IsImage (D.held first.old)) }
-    ensures second_moments { D.is_honest second.old → LeavesAtEachMoment D.moment D.held_at second.old second.new (IsImage (D.held second.old)) }
+    ensures first_moments { D.is_honest first.old → LeavesAtEachMoment D.moment D.held_at first.old first.new
+        (IsImage (D.held first.old)) }
+    ensures second_moments { D.is_honest second.old → LeavesAtEachMoment D.moment D.held_at second.old second.new
+        (IsImage (D.held second.old)) }
     ensures first_bytes { D.is_honest first.old → (D.held first.new).bytes ≡ (D.held first.old).bytes }
     ensures second_bytes { D.is_honest second.old → (D.held second.new).bytes ≡ (D.held second.old).bytes }
     ensures first_failures { D.failures first.old ≤ D.failures first.new }
@@ -67,14 +74,17 @@ pub(crate) fn look<D: Disk>(first: &mut D, second: &mut D) -> Result<(), FormFau
 
 /// Forms a first area on a disk without one.
 pub(crate) fn form_first<D: Disk>(disk: D, snapshot: &[u8]) -> Result<Log<D>, (DiskFault, D)>
-    requires room { 14 + length snapshot.now ≤ AREA_LIMIT }
+    requires room { HEAD_LEN + length snapshot.now < AREA_LIMIT }
     requires absent { D.is_honest disk → LeavesAbsent (D.held disk) }
     ensures formed { D.is_honest disk → IfOk result (λ log. ReadsAs (D.held (disk_of log)) (fresh 1 snapshot.now)) }
     ensures area { D.is_honest disk → IfOk result (λ log. area_of D.held log ≡ fresh 1 snapshot.now) }
-    ensures bytes { D.is_honest disk → IfOk result (λ log. (D.held (disk_of log)).bytes ≡ overwritten (D.held disk).bytes 0 (formed_text 1 snapshot.now)) }
-    ensures numbers { IfOk result (λ log. (generation_of log ≡ 1) × (count_of log ≡ 0) × (end_of log ≡ 13 + length snapshot.now)) }
+    ensures bytes { D.is_honest disk → IfOk result (λ log. (D.held (disk_of log)).bytes
+        ≡ overwritten (D.held disk).bytes 0 (formed_text 1 snapshot.now)) }
+    ensures numbers { IfOk result (λ log. (generation_of log ≡ 1) × (count_of log ≡ 0)
+        × (end_of log ≡ HEAD_LEN + length snapshot.now)) }
     ensures works { IfOk result (λ log. is_broken log ≡ false) }
-    ensures any_moment { D.is_honest disk → LeavesAtEachMoment D.moment D.held_at disk (disk_after disk_of result) (IsNoneOr (fresh 1 snapshot.now)) }
+    ensures any_moment { D.is_honest disk → LeavesAtEachMoment D.moment D.held_at disk (disk_after disk_of result)
+        (IsNoneOr (fresh 1 snapshot.now)) }
     ensures count { CountsFailure result (D.failures disk) (D.failures (disk_after disk_of result)) }
     ensures honest { D.is_honest (disk_after disk_of result) ↔ D.is_honest disk }
 {

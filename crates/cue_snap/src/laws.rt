@@ -1,5 +1,6 @@
 // What the definitions of a pair give, over any bytes.
-ghost use Rattle.cue_snap.specs.Laws.{PairsAreSymmetric, OneAreaOfAPair, ReaderFindsEachPair, AnyPairAnswers, PairThatReadsIsGood, PairsBeginWithOne};
+ghost use Rattle.cue_snap.specs.Laws.{PairsAreSymmetric, OneAreaOfAPair, ReaderFindsEachPair, AnyPairAnswers};
+ghost use Rattle.cue_snap.specs.Laws.{PairThatReadsIsGood, PairsBeginWithOne};
 
 /// Which of the two disks comes first does not count.
 pub fn pairs_are_symmetric()

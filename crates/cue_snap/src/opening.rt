@@ -41,11 +41,13 @@ pub struct Opened2<D: Disk> {
 fn find<D: Disk>(alloc: Global, disk: D) -> Result<Found<D>, (OpenFault, D)>
     ensures found { D.is_honest disk → IfOk result (IsFound D.held) }
     ensures works { IfOk result FoundWorks }
-    ensures disk { FailsAs OpenFault.Disk (MoreFailures (D.failures disk) (D.failures (disk_after disk_in result))) result }
+    ensures disk { FailsAs OpenFault.Disk (MoreFailures (D.failures disk)
+        (D.failures (disk_after disk_in result))) result }
     ensures memory { CountsOnlyAs OpenFault.Disk (D.failures disk) (D.failures (disk_after disk_in result)) result }
     ensures damaged { FailsAs OpenFault.Damaged ⊥ result }
     ensures unformed { FailsAs OpenFault.Unformed ⊥ result }
-    ensures any_moment { D.is_honest disk → LeavesAtEachMoment D.moment D.held_at disk (disk_after disk_in result) (IsImage (D.held disk)) }
+    ensures any_moment { D.is_honest disk → LeavesAtEachMoment D.moment D.held_at disk (disk_after disk_in result)
+        (IsImage (D.held disk)) }
     ensures bytes { D.is_honest disk → (D.held (disk_after disk_in result)).bytes ≡ (D.held disk).bytes }
     ensures failures { D.failures disk ≤ D.failures (disk_after disk_in result) }
     ensures honest { D.is_honest (disk_after disk_in result) ↔ D.is_honest disk }
@@ -70,25 +72,39 @@ impl<D: Disk> Snap<D> {
     /// nothing, and takes memory in proportion to the areas. A refusal hands both disks back.
     pub fn open(alloc: Global, first: D, second: D) -> Result<Opened2<D>, (OpenFault, D, D)>
         // What is answered stood on the disks, and stays.
-        ensures stood { D.is_honest first → D.is_honest second → IfOk result (λ opened. PairReads (live_area_read opened) (D.held first).bytes (D.held second).bytes) }
-        ensures reads { D.is_honest first → D.is_honest second → IfOk result (λ opened. PairLeaves (D.held (first_opened opened)) (D.held (second_opened opened)) (live_area_read opened)) }
-        ensures area { D.is_honest first → D.is_honest second → IfOk result (λ opened. live_area_of D.held opened.snap ≡ live_area_read opened) }
+        ensures stood { D.is_honest first → D.is_honest second
+            → IfOk result (λ opened. PairReads (live_area_read opened) (D.held first).bytes (D.held second).bytes) }
+        ensures reads { D.is_honest first → D.is_honest second
+            → IfOk result (λ opened. PairLeaves (D.held (first_opened opened)) (D.held (second_opened opened))
+            (live_area_read opened)) }
+        ensures area { D.is_honest first → D.is_honest second
+            → IfOk result (λ opened. live_area_of D.held opened.snap ≡ live_area_read opened) }
         ensures works { IfOk result (λ opened. is_broken opened.snap ≡ false) }
-        ensures went_through { IfOk result (λ opened. (D.failures (first_opened opened) ≡ D.failures first) × (D.failures (second_opened opened) ≡ D.failures second)) }
+        ensures went_through { IfOk result (λ opened. (D.failures (first_opened opened) ≡ D.failures first)
+            × (D.failures (second_opened opened) ≡ D.failures second)) }
         ensures counted { IfOk result (λ opened. count_of opened.snap ≡ length opened.tail) }
 
         // Each refusal has its reason.
-        ensures damaged { D.is_honest first → D.is_honest second → RefusedAs OpenFault.Damaged (IsSpoiled (D.held first).bytes (D.held second).bytes) result }
-        ensures unformed { D.is_honest first → D.is_honest second → RefusedAs OpenFault.Unformed (NeitherHas (D.held first).bytes (D.held second).bytes) result }
-        ensures disk { RefusedAs OpenFault.Disk (MoreFailures (D.failures first) (D.failures (first_after first_opened result)) ⊎ MoreFailures (D.failures second) (D.failures (second_after second_opened result))) result }
+        ensures damaged { D.is_honest first → D.is_honest second
+            → RefusedAs OpenFault.Damaged (IsSpoiled (D.held first).bytes (D.held second).bytes) result }
+        ensures unformed { D.is_honest first → D.is_honest second
+            → RefusedAs OpenFault.Unformed (NeitherHas (D.held first).bytes (D.held second).bytes) result }
+        ensures disk { RefusedAs OpenFault.Disk (MoreFailures (D.failures first)
+            (D.failures (first_after first_opened result))
+            ⊎ MoreFailures (D.failures second) (D.failures (second_after second_opened result))) result }
         // Want of memory hides no fault of a device: each call went through.
-        ensures memory { RefusedAs OpenFault.Memory ((D.failures (first_after first_opened result) ≡ D.failures first) × (D.failures (second_after second_opened result) ≡ D.failures second)) result }
+        ensures memory { RefusedAs OpenFault.Memory ((D.failures (first_after first_opened result) ≡ D.failures first)
+            × (D.failures (second_after second_opened result) ≡ D.failures second)) result }
 
         // A stop at any moment leaves of each disk what one at entry might have left.
-        ensures first_moments { D.is_honest first → LeavesAtEachMoment D.moment D.held_at first (first_after first_opened result) (IsImage (D.held first)) }
-        ensures second_moments { D.is_honest second → LeavesAtEachMoment D.moment D.held_at second (second_after second_opened result) (IsImage (D.held second)) }
-        ensures first_bytes { D.is_honest first → (D.held (first_after first_opened result)).bytes ≡ (D.held first).bytes }
-        ensures second_bytes { D.is_honest second → (D.held (second_after second_opened result)).bytes ≡ (D.held second).bytes }
+        ensures first_moments { D.is_honest first → LeavesAtEachMoment D.moment D.held_at first
+            (first_after first_opened result) (IsImage (D.held first)) }
+        ensures second_moments { D.is_honest second → LeavesAtEachMoment D.moment D.held_at second
+            (second_after second_opened result) (IsImage (D.held second)) }
+        ensures first_bytes { D.is_honest first → (D.held (first_after first_opened result)).bytes
+            ≡ (D.held first).bytes }
+        ensures second_bytes { D.is_honest second → (D.held (second_after second_opened result)).bytes
+            ≡ (D.held second).bytes }
         ensures first_failures { D.failures first ≤ D.failures (first_after first_opened result) }
         ensures second_failures { D.failures second ≤ D.failures (second_after second_opened result) }
         ensures first_honest { D.is_honest (first_after first_opened result) ↔ D.is_honest first }

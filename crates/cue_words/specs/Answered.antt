@@ -1,7 +1,11 @@
--- What devices have answered, in words.
+-- What devices have answered, why preparations are given up and how attempts end, in words.
 use Rattle.std.specs.Prelude.{ℕ, List, codes}
 use Rattle.cue_exchange.specs.declared.attempt.Answer.{Answer}
 use Rattle.cue_exchange.specs.declared.attempt.Answer.TheVariants as answer
+use Rattle.cue_exchange.specs.declared.attempt.Outcome.{Outcome}
+use Rattle.cue_exchange.specs.declared.attempt.Outcome.TheVariants as outcome
+use Rattle.cue_exchange.specs.declared.attempt.Reason.{Reason}
+use Rattle.cue_exchange.specs.declared.attempt.Reason.TheVariants as reason
 
 -- a word for each answer, and no two the same
 abbrev pub answer_words : Answer → List ℕ
@@ -11,3 +15,17 @@ answer_words answer.Done = codes "done"
 answer_words answer.LetGo = codes "let go"
 answer_words answer.Failed = codes "failed"
 answer_words answer.Excused = codes "excused"
+
+-- why a preparation was given up
+abbrev pub reason_words : Reason → List ℕ
+reason_words reason.Operator = codes "the operator gave it up"
+reason_words reason.Deadline = codes "ten seconds passed"
+reason_words reason.Abort = codes "a device aborted"
+reason_words reason.Power = codes "the power was lost"
+reason_words reason.Release = codes "a device was released"
+
+-- how an attempt ended
+abbrev pub outcome_words : Outcome → List ℕ
+outcome_words outcome.Complete = codes "complete"
+outcome_words outcome.Cancelled = codes "cancelled"
+outcome_words outcome.Failed = codes "failed"

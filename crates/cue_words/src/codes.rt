@@ -1,5 +1,6 @@
 //! The codes of replies in words, as the table of codes has them.
-ghost use Rattle.std.specs.Prelude.{◌≡◌};
+ghost use Rattle.std.specs.Prelude.{◌≡◌, find, nat_eq, pos};
+ghost use Rattle.cue_core.specs.Codes.{code_number, refusal_number};
 ghost use Rattle.cue_words.specs.CodeWords as words;
 
 use cue_core::{Code, Refusal};
@@ -74,17 +75,50 @@ fn words_of_refusal(refusal: Refusal) -> &'static str
     }
 }
 
-/// What the code with this number says; `refused` where there is no such code.
-pub fn code_words(number: i32) -> &'static str {
-    let code = CODES.iter().find(|code| i32::from(code.number()) == number);
-    if let Some(code) = code {
-        return words_of_code(*code);
-    }
-    let refusal = REFUSALS
+// The code among these that has the number.
+fn code_in(codes: &[Code], number: u32) -> Option<Code>
+    ensures { result ≡ find (λ c. nat_eq (code_number c) number) codes.now }
+{
+    codes
         .iter()
-        .find(|refusal| i32::from(refusal.number()) == number);
-    match refusal {
-        Some(refusal) => words_of_refusal(*refusal),
+        .copied()
+        .find(|code| u32::from(code.number()) == number)
+}
+
+// The refusal among these that has the number.
+fn refusal_in(refusals: &[Refusal], number: u32) -> Option<Refusal>
+    ensures { result ≡ find (λ r. nat_eq (refusal_number r) number) refusals.now }
+{
+    refusals
+        .iter()
+        .copied()
+        .find(|refusal| u32::from(refusal.number()) == number)
+}
+
+fn words_of_refusal_number(number: u32) -> &'static str
+    ensures { result.now ≡ words.refusal_number_words number }
+{
+    match refusal_in(&REFUSALS, number) {
+        Some(refusal) => words_of_refusal(refusal),
         None => "refused",
+    }
+}
+
+fn words_of_number(number: u32) -> &'static str
+    ensures { result.now ≡ words.number_words (pos number) }
+{
+    match code_in(&CODES, number) {
+        Some(code) => words_of_code(code),
+        None => words_of_refusal_number(number),
+    }
+}
+
+/// What the code with this number says; `refused` where there is no such code.
+pub fn code_words(number: i32) -> &'static str
+    ensures { result.now ≡ words.number_words number }
+{
+    match u32::try_from(number) {
+        Ok(number) => words_of_number(number),
+        Err(_) => "refused",
     }
 }

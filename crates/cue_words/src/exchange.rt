@@ -1,6 +1,6 @@
 //! What devices have answered, and how attempts end, in words.
 ghost use Rattle.std.specs.Prelude.{◌≡◌};
-ghost use Rattle.cue_words.specs.Answered.{answer_words};
+ghost use Rattle.cue_words.specs.Answered.{answer_words, outcome_words, reason_words};
 
 use cue_exchange::{Answer, Outcome, Reason};
 
@@ -19,7 +19,9 @@ pub fn answer_words(answer: Answer) -> &'static str
 }
 
 /// Why a preparation was given up.
-pub fn reason_words(reason: Reason) -> &'static str {
+pub fn reason_words(reason: Reason) -> &'static str
+    ensures { result.now ≡ reason_words reason }
+{
     match reason {
         Reason::Operator => "the operator gave it up",
         Reason::Deadline => "ten seconds passed",
@@ -30,7 +32,9 @@ pub fn reason_words(reason: Reason) -> &'static str {
 }
 
 /// How an attempt ended.
-pub fn outcome_words(outcome: Outcome) -> &'static str {
+pub fn outcome_words(outcome: Outcome) -> &'static str
+    ensures { result.now ≡ outcome_words outcome }
+{
     match outcome {
         Outcome::Complete => "complete",
         Outcome::Cancelled => "cancelled",

@@ -3,6 +3,7 @@
 
 mod codes;
 mod exchange;
+pub mod laws;
 
 pub use codes::code_words;
 pub use exchange::{answer_words, outcome_words, reason_words};

@@ -1,5 +1,6 @@
 pub mod Added
 pub mod Endings
+pub mod Files
 pub mod Lines
 pub mod Locking
 pub mod Performing

@@ -1,5 +1,6 @@
 -- The commands as clap knows them, and what a line says of the one that it matched.
-use Rattle.std.specs.Prelude.{◌≡◌, ◌⊎◌, ℕ, ◌≤◌, ◌<◌, ◌^◌, pos, Bool, List, Option, Some, None, true, false, codes}
+use Rattle.std.specs.Prelude.{◌≡◌, ◌⊎◌, ℕ, ◌≤◌, ◌<◌, ◌^◌, pos, Bool, List, Option, Some}
+use Rattle.std.specs.Prelude.{None, true, false, codes}
 use Rattle.std.specs.Prelude.{string_bytes}
 use Rattle.std.specs.Str.Parse.{IsNumeral, digits_value, without_leading_plus}
 use Rattle.clap.specs.Words.{App, Rule, Row, Text, new_app, new_rule, with_rule, with_subcommand, first_of, one_of}
@@ -20,12 +21,22 @@ dir_rule = record (new_rule (codes "DIR")) { required = true; action = Some Set 
 -- --port, a number of 16 bits; it must be there
 abbrev pub port_rule : Rule
 port_rule =
-    record (new_rule (codes "port")) { long = Some (codes "port"); required = true; action = Some Set; parser = Some (Signed (pos 0) (pos 65535)) }
+    record (new_rule (codes "port")) {
+      long = Some (codes "port");
+      required = true;
+      action = Some Set;
+      parser = Some (Signed (pos 0) (pos 65535));
+    }
 
 -- --turns, a number of 64 bits; it must be there
 abbrev pub turns_rule : Rule
 turns_rule =
-    record (new_rule (codes "turns")) { long = Some (codes "turns"); required = true; action = Some Set; parser = Some (Unsigned 0 18446744073709551615) }
+    record (new_rule (codes "turns")) {
+      long = Some (codes "turns");
+      required = true;
+      action = Some Set;
+      parser = Some (Unsigned 0 18446744073709551615);
+    }
 
 -- the command form, with its folder
 abbrev pub form_app : App
@@ -50,7 +61,8 @@ bare_app = let bare = new_app (codes "cuectl") in record bare { top = record bar
 -- all commands
 abbrev pub cuectl_app : App
 cuectl_app =
-    with_subcommand (with_subcommand (with_subcommand (with_subcommand bare_app form_app.top) serve_app.top) show_app.top) script_app.top
+    with_subcommand (with_subcommand (with_subcommand
+    (with_subcommand bare_app form_app.top) serve_app.top) show_app.top) script_app.top
 
 -- the decimal number that stands behind an option
 pub record IsNumberIn (id : Text) (rows : List Row) (n : ℕ) : Type 0 where
@@ -114,7 +126,8 @@ pub record IsRefused (kinds : Kinds) : Type 0 where
 -- the words are no command: clap stops for another reason, none is named, or the port is 0
 abbrev pub IsNoCommand : List Text → Type 0
 IsNoCommand words =
-    IsRefused (fault_of cuectl_app words) ⊎ (subcommand_of cuectl_app words ≡ None) ⊎ HasPortZero (subcommand_of cuectl_app words)
+    IsRefused (fault_of cuectl_app words) ⊎ (subcommand_of cuectl_app words ≡ None)
+    ⊎ HasPortZero (subcommand_of cuectl_app words)
 
 -- what the program makes of an error of clap
 abbrev pub IsFaultOf : ErrorKind → LineFault → Type 0

@@ -36,7 +36,8 @@ stage_word (Cancelling reason) = codes "cancelling"
 -- the line `attempt Q C STAGE`
 abbrev pub attempt_line : Attempt → List ℕ
 attempt_line attempt =
-    codes "attempt " ++ (decimal attempt.seq ++ (32 ∷ attempt.cue ++ (32 ∷ stage_word attempt.stage ++ (10 ∷ []))))
+    codes "attempt " ++ (decimal attempt.seq
+    ++ (32 ∷ attempt.cue ++ (32 ∷ stage_word attempt.stage ++ (10 ∷ []))))
 
 -- the first three lines
 abbrev pub head_text : ShowState → List ℕ

@@ -179,7 +179,8 @@ fn serve_at<R: Net + Clock + Eprint>(
 
 // Prints how a run ended.
 fn print_turns<W: Write>(alloc: Global, ended: &Ended, writer: &mut W) -> Result<(), ProgramFault>
-    ensures { OnOk result (Appends (W.contents writer.old) (W.contents writer.new) (turns_text ended.now.turns ended.now.unsent)) }
+    ensures { OnOk result (Appends (W.contents writer.old) (W.contents writer.new)
+        (turns_text ended.now.turns ended.now.unsent)) }
 {
     let text = format!(in alloc; "turns {} unsent {}\n", ended.turns, ended.unsent)?;
     print(writer, text.as_bytes())
@@ -221,7 +222,8 @@ fn finish<R: Eprint, W: Write>(
     writer: &mut W,
 ) -> Result<(), ProgramFault>
     ensures refused { IfSome ended.fault (λ why. IsErrOf result (run_fault why)) }
-    ensures printed { OnOk result (Appends (W.contents writer.old) (W.contents writer.new) (turns_text ended.turns ended.unsent)) }
+    ensures printed { OnOk result (Appends (W.contents writer.old) (W.contents writer.new)
+        (turns_text ended.turns ended.unsent)) }
 {
     match ended.fault {
         None => {
@@ -363,7 +365,8 @@ pub fn perform<R: Files<File = File> + Net + Clock + Eprint + AllocGlobal, I: Re
     ensures statuses { result ≤ 3 }
     // 0 comes where a text was asked for, or where a command was carried out; then it is known what was printed.
     ensures done { result ≡ 0 → AsksForText (fault_of cuectl_app (map string_bytes words.now))
-        ⊎ HasEnded (map string_bytes words.now) result (I.remaining reader.old) (W.contents writer.old) (W.contents writer.new) }
+        ⊎ HasEnded (map string_bytes words.now) result (I.remaining reader.old) (W.contents writer.old)
+        (W.contents writer.new) }
     // 1 comes only of words that clap takes, and 2 only where they are no command.
     ensures refused { result ≡ 1 → fault_of cuectl_app (map string_bytes words.now) ≡ [] }
     ensures usage { result ≡ 2 → IsNoCommand (map string_bytes words.now) }

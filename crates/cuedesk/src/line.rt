@@ -1,12 +1,16 @@
 //! The command line, read over `clap`.
+pub mod rehearsing;
+pub mod web;
 pub mod words;
 
 use clap::error::ErrorKind;
 use clap::{Arg, ArgAction, ArgMatches, Command, Error, value_parser};
 use cue_operator::CueVerb;
 use cue_show::{CueNo, DeviceNo};
+use rehearsing::{rehearsal_in, rehearse};
 use std::alloc::{AllocError, Global};
-use words::{Line, LineFault, Order};
+use web::{web_command, web_in};
+use words::{Line, LineFault, Order, Watched};
 
 // A word that has to be there.
 fn word<'a>(alloc: Global, id: &'a str, help: &'a str) -> Arg<'a> {
@@ -64,6 +68,14 @@ fn board<'a>(alloc: Global) -> Result<Command<'a>, AllocError> {
     let file = Arg::new(alloc, "FILE")
         .help("The show file, for names and notes")
         .action(ArgAction::Set);
+    let log = Arg::new(alloc, "log")
+        .help("The log of serve: its last lines are shown")
+        .long("log")
+        .action(ArgAction::Set);
+    let relay = Arg::new(alloc, "relay")
+        .help("What `cuedesk relay --status` writes: when each device was heard")
+        .long("relay")
+        .action(ArgAction::Set);
     let once = Arg::new(alloc, "once")
         .help("Print it once, as text")
         .long("once")
@@ -74,7 +86,39 @@ fn board<'a>(alloc: Global) -> Result<Command<'a>, AllocError> {
         "Show the stack and who has answered, four times a second:  cuedesk board show evening.toml",
     )?
     .arg(file)?
+    .arg(log)?
+    .arg(relay)?
     .arg(once)
+}
+
+// The command `load`.
+fn load<'a>(alloc: Global) -> Result<Command<'a>, AllocError> {
+    let replace = Arg::new(alloc, "replace")
+        .help("Remove first what is there and differs; refused while a cue is live")
+        .long("replace")
+        .action(ArgAction::SetTrue);
+    over_file(
+        alloc,
+        "load",
+        "Add the devices and cues of a show file:  cuedesk load evening.toml",
+    )?
+    .arg(port(alloc))?
+    .arg(replace)
+}
+
+// The command `relay`.
+fn relay<'a>(alloc: Global) -> Result<Command<'a>, AllocError> {
+    let status = Arg::new(alloc, "status")
+        .help("Write there, once a second, when each device was heard; the board reads it")
+        .long("status")
+        .action(ArgAction::Set);
+    over_file(
+        alloc,
+        "relay",
+        "Stand between the controller and devices on the stage's network:  cuedesk relay evening.toml",
+    )?
+    .arg(port(alloc))?
+    .arg(status)
 }
 
 // The command `remove`, which is of a cue or of a device.
@@ -101,18 +145,16 @@ fn with_files<'a>(alloc: Global, command: Command<'a>) -> Result<Command<'a>, Al
             "check",
             "Tell every mistake of a show file:  cuedesk check evening.toml",
         )?)?
-        .subcommand(over_file(
-            alloc,
-            "load",
-            "Add the devices and cues of a show file:  cuedesk load evening.toml",
-        )?
-        .arg(port(alloc))?)?
+        .subcommand(load(alloc)?)?
         .subcommand(over_dir(
             alloc,
             "export",
             "Print the show of a store as a show file:  cuedesk export show > evening.toml",
         )?)?
-        .subcommand(board(alloc)?)
+        .subcommand(board(alloc)?)?
+        .subcommand(web_command(alloc)?)?
+        .subcommand(rehearse(alloc)?)?
+        .subcommand(relay(alloc)?)
 }
 
 // The commands of an evening.
@@ -218,24 +260,46 @@ fn file_line_in(
         "load" => Line::Load {
             file: text_in(alloc, found, "FILE")?,
             port: port_in(found)?,
+            replace: found.get_flag("replace"),
         },
         "export" => Line::Export {
             dir: text_in(alloc, found, "DIR")?,
         },
         "board" => board_in(alloc, found)?,
+        "web" => Line::Web(web_in(alloc, found)?),
+        "rehearse" => Line::Rehearse(rehearsal_in(alloc, found)?),
+        "relay" => relay_in(alloc, found)?,
         _ => return Ok(None),
     }))
 }
 
+// The word after an option, where it is given.
+fn option_in(alloc: Global, found: &ArgMatches<'_>, id: &str) -> Result<Option<String>, LineFault> {
+    match found.get_str(id) {
+        Some(text) => Ok(Some(String::from_str(alloc, text)?)),
+        None => Ok(None),
+    }
+}
+
+// The command `relay`, with what stands after it.
+fn relay_in(alloc: Global, found: &ArgMatches<'_>) -> Result<Line, LineFault> {
+    Ok(Line::Relay {
+        file: text_in(alloc, found, "FILE")?,
+        port: port_in(found)?,
+        status: option_in(alloc, found, "status")?,
+    })
+}
+
 // The command `board`, with what stands after it.
 fn board_in(alloc: Global, found: &ArgMatches<'_>) -> Result<Line, LineFault> {
-    let file = match found.get_str("FILE") {
-        Some(file) => Some(String::from_str(alloc, file)?),
-        None => None,
+    let watched = Watched {
+        dir: text_in(alloc, found, "DIR")?,
+        file: option_in(alloc, found, "FILE")?,
+        log: option_in(alloc, found, "log")?,
+        relay: option_in(alloc, found, "relay")?,
     };
     Ok(Line::Board {
-        dir: text_in(alloc, found, "DIR")?,
-        file,
+        watched,
         once: found.get_flag("once"),
     })
 }

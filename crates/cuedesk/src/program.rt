@@ -1,22 +1,29 @@
 //! The program: what each command does, prints and answers.
+mod board;
 mod ending;
 mod files;
 mod loading;
 mod orders;
-mod screen;
+mod rehearsing;
+mod relaying;
+mod web;
 mod wire;
 
 use crate::line::line;
 use crate::line::words::{Line, LineFault};
+use board::show_board;
 use ending::{Ending, print, say};
 use files::{check_file, export};
-use loading::load;
+use loading::{How, load};
 use orders::carry_order;
-use screen::show_board;
+use rehearsing::rehearse;
+use relaying::relay_devices;
 use std::fs::{File, Files};
 use std::io::{Eprint, Write};
 use std::net::Net;
+use std::random::RandomSource;
 use std::time::Clock;
+use web::serve_page;
 
 /// The port at which the controller listens, where neither the command line nor a show file says another.
 const PORT: u16 = 9100;
@@ -40,7 +47,7 @@ fn refused_line<R: Eprint, W: Write>(rt: &R, fault: LineFault, writer: &mut W) -
 }
 
 // Carries a command out.
-fn carry_out<R: Files<File = File> + Net + Clock + Eprint + AllocGlobal, W: Write>(
+fn carry_out<R: Files<File = File> + Net + Clock + RandomSource + Eprint + AllocGlobal, W: Write>(
     rt: &R,
     line: &Line,
     is_terminal: bool,
@@ -48,11 +55,23 @@ fn carry_out<R: Files<File = File> + Net + Clock + Eprint + AllocGlobal, W: Writ
 ) -> Result<(), Ending> {
     match line {
         Line::Check { file } => check_file(rt, file.as_str(), writer),
-        Line::Load { file, port } => load(rt, file.as_str(), *port, writer),
+        Line::Load {
+            file,
+            port,
+            replace,
+        } => {
+            let how = How {
+                replaces: *replace,
+                tells: is_terminal,
+            };
+            load(rt, file.as_str(), *port, how, writer)
+        }
         Line::Export { dir } => export(rt, dir.as_str(), writer),
-        Line::Board { dir, file, once } => {
-            let is_once = *once || !is_terminal;
-            show_board(rt, dir.as_str(), file.as_deref(), is_once, writer)
+        Line::Board { watched, once } => show_board(rt, watched, *once || !is_terminal, writer),
+        Line::Web(web) => serve_page(rt, web, writer),
+        Line::Rehearse(rehearsal) => rehearse(rt, rehearsal, writer),
+        Line::Relay { file, port, status } => {
+            relay_devices(rt, file.as_str(), *port, status.as_deref(), writer)
         }
         Line::Ask { order, port } => carry_order(rt, *order, port.unwrap_or(PORT), writer),
     }
@@ -61,7 +80,7 @@ fn carry_out<R: Files<File = File> + Net + Clock + Eprint + AllocGlobal, W: Writ
 /// Carries a command line out, the program's name first, and answers the exit status: 0 where it is done, 1 where the
 /// controller refuses or a show file has mistakes, 2 where the words are no command, 3 where nobody replies or the
 /// machine fails. Why stands on standard error.
-pub fn perform<R: Files<File = File> + Net + Clock + Eprint + AllocGlobal, W: Write>(
+pub fn perform<R: Files<File = File> + Net + Clock + RandomSource + Eprint + AllocGlobal, W: Write>(
     rt: &R,
     words: &[String],
     is_terminal: bool,

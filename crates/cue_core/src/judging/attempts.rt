@@ -2,7 +2,8 @@
 ghost use Rattle.std.specs.Prelude.{◌≡◌, [], ◌∷◌};
 ghost use Rattle.cue_exchange.specs.declared.attempt.Reason.TheVariants as reason;
 ghost use Rattle.cue_core.specs.declared.event.Event.TheVariants as event;
-ghost use Rattle.cue_core.specs.Judge.{made, prepares, on_standby, on_standby_of, on_go, on_go_of, on_cancel, on_cancel_of, on_release, on_release_of, on_release_in, release_early};
+ghost use Rattle.cue_core.specs.Judge.{made, prepares, on_standby, on_standby_of, on_go, on_go_of, on_cancel};
+ghost use Rattle.cue_core.specs.Judge.{on_cancel_of, on_release, on_release_of, on_release_in, release_early};
 
 use crate::command::{Code, Verdict};
 use crate::event::Event;

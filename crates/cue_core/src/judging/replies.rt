@@ -3,7 +3,8 @@ ghost use Rattle.std.specs.Prelude.{◌≡◌, [], ◌∷◌};
 ghost use Rattle.cue_exchange.specs.declared.attempt.Reason.TheVariants as reason;
 ghost use Rattle.cue_core.specs.declared.event.Event.TheVariants as event;
 ghost use Rattle.cue_core.specs.declared.command.Code.TheVariants as code;
-ghost use Rattle.cue_core.specs.Judge.{made, refused, on_reply, on_reply_to, on_reply_in, is_from_another, on_standing_by, on_complete, on_cancelled, on_abort, abort_early, abort_late};
+ghost use Rattle.cue_core.specs.Judge.{made, refused, on_reply, on_reply_to, on_reply_in, is_from_another};
+ghost use Rattle.cue_core.specs.Judge.{on_standing_by, on_complete, on_cancelled, on_abort, abort_early, abort_late};
 
 use crate::command::{Code, ReplyKind, Verdict};
 use crate::event::Event;

@@ -1,6 +1,7 @@
 //! What an event makes of a state.
 ghost use Rattle.std.specs.Prelude.{◌≡◌, ◌+◌, nat_eq, IsTrue, IfOk, OnOk, OnErr};
-ghost use Rattle.cue_core.specs.Steps.{acceptable, after, are_acceptable, can_begin, ended_as, after_events, place_after, AppliesFirst};
+ghost use Rattle.cue_core.specs.Steps.{acceptable, after, are_acceptable, can_begin, ended_as, after_events};
+ghost use Rattle.cue_core.specs.Steps.{place_after, AppliesFirst};
 ghost use Rattle.cue_core.specs.State.{cue_parts};
 ghost use Rattle.cue_show.specs.Show.{has_cue};
 ghost use Rattle.cue_core.specs.declared.event.Event.TheVariants as event;

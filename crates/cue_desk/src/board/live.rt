@@ -1,46 +1,68 @@
 //! The live attempts, and what each of their devices has answered.
-ghost use Rattle.std.specs.Prelude.{◌≡◌, IfOk, string_bytes};
-ghost use Rattle.cue_desk.specs.Board.{Begins, device_front};
+ghost use Rattle.std.specs.Prelude.{◌≡◌, ◌++◌, IfOk, OnOk, map, string_bytes};
+ghost use Rattle.std.specs.List.{flat_map};
+ghost use Rattle.cue_desk.specs.Board as board;
+ghost use Rattle.cue_desk.specs.Board.{said_of};
 
-use super::columns::{COLUMNS, fitted};
+use super::line::{BoardLine, cue_text, push_spaces};
 use crate::show_file::ShowFile;
 use cue_exchange::{Attempt, DeviceAnswer, Stage};
 use cue_show::DeviceNo;
 use cue_words::{answer_words, reason_words};
 use std::alloc::{AllocError, Global};
-use std::fmt::Write;
 
 /// The column at which the line of a device goes on after its answer.
 const NAME_AT: usize = 30;
 
-// How far an attempt has come.
-fn push_stage(text: &mut String, attempt: &Attempt, now: u64) -> Result<(), AllocError> {
-    match attempt.stage {
-        Stage::Preparing => {
-            let words = if attempt.can_go() {
-                "ready, GO can be given"
-            } else {
-                "preparing"
-            };
-            let left = attempt.deadline.saturating_sub(now);
-            write!(
-                text,
-                "{words}, {}.{} s left",
-                left / 1000,
-                left % 1000 / 100
-            )?;
-        }
-        Stage::Decided => text.push_str("given")?,
-        Stage::Cancelling(reason) => write!(text, "given up: {}", reason_words(reason))?,
-    }
-    Ok(())
+// Seconds with one digit after the point.
+fn seconds(alloc: Global, millis: u64) -> Result<String, AllocError>
+    ensures { IfOk result (λ text. string_bytes text ≡ board.seconds millis) }
+{
+    let (whole, tenths) = (millis / 1000, millis % 1000 / 100);
+    Ok(format!(in alloc; "{whole}.{tenths}")?)
 }
 
-fn attempt_line(alloc: Global, attempt: &Attempt, now: u64) -> Result<String, AllocError> {
-    let cue = attempt.cue.text().escape_ascii();
-    let mut text = format!(in alloc; "LIVE   cue {cue}, attempt {}: ", attempt.seq)?;
-    push_stage(&mut text, attempt, now)?;
-    fitted(alloc, text.as_str(), COLUMNS)
+// Whether GO can be given.
+fn readiness(attempt: &Attempt) -> &'static str
+    ensures { result.now ≡ board.readiness attempt.now }
+{
+    if attempt.can_go() {
+        "ready, GO can be given"
+    } else {
+        "preparing"
+    }
+}
+
+// How far an attempt has come at this moment.
+fn stage_at(alloc: Global, attempt: &Attempt, now: u64) -> Result<String, AllocError>
+    ensures { IfOk result (λ text. string_bytes text ≡ board.stage_at now attempt.now attempt.now.stage) }
+{
+    match attempt.stage {
+        Stage::Preparing => {
+            let words = readiness(attempt);
+            let left = seconds(alloc, attempt.deadline.saturating_sub(now))?;
+            let left = left.as_str();
+            Ok(format!(in alloc; "{words}, {left} s left")?)
+        }
+        Stage::Decided => String::from_str(alloc, "given"),
+        Stage::Cancelling(reason) => {
+            let words = reason_words(reason);
+            Ok(format!(in alloc; "given up: {words}")?)
+        }
+    }
+}
+
+// The line of an attempt.
+#[tactic(auto, unfolding(crate::specs::Board::attempt_said))]
+fn attempt_line(alloc: Global, attempt: &Attempt, now: u64) -> Result<BoardLine, AllocError>
+    ensures { IfOk result (λ line. said_of line ≡ board.attempt_said now attempt.now) }
+{
+    let cue = cue_text(&attempt.cue);
+    let seq = attempt.seq;
+    let stage = stage_at(alloc, attempt, now)?;
+    let stage = stage.as_str();
+    let said = format!(in alloc; "LIVE   cue {cue}, attempt {seq}: {stage}")?;
+    Ok(BoardLine::bare(alloc, said))
 }
 
 // What the file calls the device.
@@ -51,57 +73,91 @@ fn name_of<'a>(file: Option<&'a ShowFile>, device: DeviceNo) -> &'a str {
     }
 }
 
-// What a device has answered.
-fn device_front(alloc: Global, answer: &DeviceAnswer) -> Result<String, AllocError>
-    ensures { IfOk result (λ text. string_bytes text ≡ device_front answer.now) }
+// Which device it is, and what it has answered.
+#[tactic(auto, unfolding(crate::specs::Board::device_said))]
+fn device_said(alloc: Global, answer: &DeviceAnswer) -> Result<String, AllocError>
+    ensures { IfOk result (λ text. string_bytes text ≡ board.device_said answer.now) }
 {
     let device = answer.device.number();
     let words = answer_words(answer.answer);
     Ok(format!(in alloc; "         device {device}: {words}")?)
 }
 
-// What follows after so many columns: whether the device is optional, and what it is called.
+// What follows: from so many columns on, whether the device is optional, and what it is called.
 fn device_rest(
     alloc: Global,
     file: Option<&ShowFile>,
     answer: &DeviceAnswer,
-    front: usize,
+    columns: usize,
 ) -> Result<String, AllocError> {
     let mut rest = String::new(alloc);
-    for _ in front..NAME_AT {
-        rest.push(' ')?;
-    }
-    let needed = if answer.optional { "optional" } else { "" };
-    let name = name_of(file, answer.device);
-    let text = format!(in alloc; "{needed:<10}{name}")?;
-    rest.push_str(fitted(alloc, text.as_str(), COLUMNS - NAME_AT)?.as_str())?;
+    push_spaces(&mut rest, NAME_AT.saturating_sub(columns))?;
+    rest.push_str(if answer.optional {
+        "optional  "
+    } else {
+        "          "
+    })?;
+    rest.push_str(name_of(file, answer.device))?;
     Ok(rest)
 }
 
-// The line of a device: which it is, what it has answered, and what it is called.
+// The line of a device.
 fn device_line(
     alloc: Global,
     file: Option<&ShowFile>,
     answer: &DeviceAnswer,
-) -> Result<String, AllocError>
-    ensures { IfOk result (λ text. Begins (device_front answer.now) (string_bytes text)) }
+) -> Result<BoardLine, AllocError>
+    ensures { IfOk result (λ line. said_of line ≡ board.device_said answer.now) }
 {
-    let mut line = device_front(alloc, answer)?;
-    let rest = device_rest(alloc, file, answer, line.len())?;
-    line.push_str(rest.as_str())?;
-    Ok(line)
+    let said = device_said(alloc, answer)?;
+    let rest = device_rest(alloc, file, answer, said.len())?;
+    BoardLine::with_rest(alloc, said, rest.as_str())
 }
 
+// Puts the line of each device after the lines.
+fn push_devices(
+    alloc: Global,
+    lines: &mut Vec<BoardLine>,
+    answers: &[DeviceAnswer],
+    file: Option<&ShowFile>,
+) -> Result<(), AllocError>
+    ensures { OnOk result
+        (map said_of lines.new.items ≡ map said_of lines.old.items ++ map board.device_said answers.now) }
+{
+    for answer in answers {
+        lines.push(device_line(alloc, file, answer)?)?;
+    }
+    Ok(())
+}
+
+// Puts an attempt with its devices after the lines.
 fn push_attempt(
     alloc: Global,
-    lines: &mut Vec<String>,
+    lines: &mut Vec<BoardLine>,
     attempt: &Attempt,
     file: Option<&ShowFile>,
     now: u64,
-) -> Result<(), AllocError> {
+) -> Result<(), AllocError>
+    ensures { OnOk result
+        (map said_of lines.new.items ≡ map said_of lines.old.items ++ board.attempt_lines now attempt.now) }
+{
     lines.push(attempt_line(alloc, attempt, now)?)?;
-    for answer in attempt.answers.as_slice() {
-        lines.push(device_line(alloc, file, answer)?)?;
+    push_devices(alloc, lines, attempt.answers.as_slice(), file)
+}
+
+// Puts each attempt with its devices after the lines.
+fn push_attempts(
+    alloc: Global,
+    lines: &mut Vec<BoardLine>,
+    live: &[Attempt],
+    file: Option<&ShowFile>,
+    now: u64,
+) -> Result<(), AllocError>
+    ensures { OnOk result
+        (map said_of lines.new.items ≡ map said_of lines.old.items ++ flat_map (board.attempt_lines now) live.now) }
+{
+    for attempt in live {
+        push_attempt(alloc, lines, attempt, file, now)?;
     }
     Ok(())
 }
@@ -109,16 +165,20 @@ fn push_attempt(
 /// Puts each live attempt with its devices after the lines.
 pub(super) fn push_live(
     alloc: Global,
-    lines: &mut Vec<String>,
+    lines: &mut Vec<BoardLine>,
     live: &[Attempt],
     file: Option<&ShowFile>,
     now: u64,
-) -> Result<(), AllocError> {
-    if live.is_empty() {
-        lines.push(String::from_str(alloc, "LIVE   nothing is stood by")?)?;
+) -> Result<(), AllocError>
+    ensures { OnOk result
+        (map said_of lines.new.items ≡ map said_of lines.old.items ++ board.live_said now live.now) }
+{
+    match live {
+        [] => {
+            let said = String::from_str(alloc, "LIVE   nothing is stood by")?;
+            lines.push(BoardLine::bare(alloc, said))?;
+            Ok(())
+        }
+        _ => push_attempts(alloc, lines, live, file, now),
     }
-    for attempt in live {
-        push_attempt(alloc, lines, attempt, file, now)?;
-    }
-    Ok(())
 }

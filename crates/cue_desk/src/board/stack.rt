@@ -1,6 +1,11 @@
 //! The stack around the place.
-use super::columns::{COLUMNS, fitted};
-use crate::show_file::ShowFile;
+ghost use Rattle.std.specs.Prelude.{◌≡◌, ◌++◌, IfOk, OnOk, map, string_bytes};
+ghost use Rattle.std.specs.Map.{keys_of};
+ghost use Rattle.cue_desk.specs.Board as board;
+ghost use Rattle.cue_desk.specs.Board.{said_of};
+
+use super::line::{BoardLine, cue_text, push_spaces};
+use crate::show_file::{CueEntry, ShowFile};
 use cue_show::{CueNo, Show};
 use std::alloc::{AllocError, Global};
 
@@ -10,87 +15,180 @@ const BEFORE: usize = 3;
 /// How many cues are shown in all.
 const SHOWN: usize = 9;
 
+/// The column at which the name of a cue of the stack stands.
+const NAME_AT: usize = 25;
+
+// What the file has of the cue that is next.
+fn entry_of<'a>(file: Option<&'a ShowFile>, next: Option<CueNo>) -> Option<&'a CueEntry> {
+    match (file, next) {
+        (Some(file), Some(cue)) => file.cue(cue),
+        _ => None,
+    }
+}
+
 // What the file calls the cue.
-fn name_of<'a>(file: Option<&'a ShowFile>, cue: CueNo) -> &'a str {
-    let Some(file) = file else {
-        return "";
-    };
-    match file.cue(cue) {
+fn name_of(entry: Option<&CueEntry>) -> &str {
+    match entry {
         Some(entry) => entry.name.as_deref().unwrap_or(""),
         None => "",
     }
 }
 
 // What the file notes at the cue.
-fn note_of<'a>(file: Option<&'a ShowFile>, cue: CueNo) -> Option<&'a str> {
-    file?.cue(cue)?.note.as_deref()
-}
-
-// The cue that is next: that of the place, or the first one.
-fn next_cue(show: &Show) -> Option<CueNo> {
-    match show.place() {
-        Some(cue) => Some(cue),
-        None => {
-            let (first, _) = show.cues().next()?;
-            Some(*first)
-        }
+fn note_of(entry: Option<&CueEntry>) -> &str {
+    match entry {
+        Some(entry) => entry.note.as_deref().unwrap_or(""),
+        None => "",
     }
 }
 
-// How many cues stand before the place.
-fn place_index(show: &Show) -> usize {
-    match show.place() {
-        Some(place) => show.cues().position(|(cue, _)| *cue == place).unwrap_or(0),
+// The numbers of the cues, in the order of the stack.
+fn cues_of(alloc: Global, show: &Show) -> Result<Vec<CueNo>, AllocError>
+    ensures { IfOk result (λ cues. cues.items ≡ keys_of show.now.cues) }
+{
+    let mut cues = Vec::new(alloc);
+    for (cue, _) in show.cues() {
+        cues.push(*cue)?;
+    }
+    Ok(cues)
+}
+
+// The cue that is next: that of the place, or the first one.
+fn next_of(place: Option<CueNo>, cues: &[CueNo]) -> Option<CueNo>
+    ensures { result ≡ board.next_of place cues.now }
+{
+    match (place, cues) {
+        (Some(cue), _) => Some(cue),
+        (None, []) => None,
+        (None, [first, ..]) => Some(*first),
+    }
+}
+
+// How many cues stand before this one.
+fn cues_before(cue: CueNo, cues: &[CueNo]) -> usize
+    ensures { result ≡ board.cues_before cue cues.now }
+{
+    let mut before = 0;
+    for other in cues {
+        if *other == cue {
+            return before;
+        }
+        before += 1;
+    }
+    before
+}
+
+// How many stand before the place.
+fn before_place(place: Option<CueNo>, cues: &[CueNo]) -> usize
+    ensures { result ≡ board.before_place place cues.now }
+{
+    match place {
+        Some(cue) => cues_before(cue, cues),
         None => 0,
     }
 }
 
-fn next_line(alloc: Global, show: &Show, file: Option<&ShowFile>) -> Result<String, AllocError> {
-    match next_cue(show) {
+// The cues around the place.
+fn around(place: Option<CueNo>, cues: &[CueNo]) -> &[CueNo]
+    ensures { result.now ≡ board.around place cues.now }
+{
+    let first = before_place(place, cues)
+        .saturating_sub(BEFORE)
+        .min(cues.len());
+    let rest = &cues[first..];
+    &rest[..SHOWN.min(rest.len())]
+}
+
+// What is said of the cue that is next.
+#[tactic(auto, unfolding(crate::specs::Board::next_said))]
+fn next_said(alloc: Global, next: Option<CueNo>) -> Result<String, AllocError>
+    ensures { IfOk result (λ text. string_bytes text ≡ board.next_said next) }
+{
+    match next {
         Some(cue) => {
-            let number = cue.text().escape_ascii();
-            let text = format!(in alloc; "NEXT   cue {number}  {}", name_of(file, cue))?;
-            fitted(alloc, text.as_str(), COLUMNS)
+            let cue = cue_text(&cue);
+            Ok(format!(in alloc; "NEXT   cue {cue}")?)
         }
         None => String::from_str(alloc, "NEXT   the stack has no cue after the place"),
     }
 }
 
-fn note_line(alloc: Global, show: &Show, file: Option<&ShowFile>) -> Result<String, AllocError> {
-    let note = match next_cue(show) {
-        Some(cue) => note_of(file, cue).unwrap_or(""),
-        None => "",
-    };
-    let text = format!(in alloc; "       {note}")?;
-    fitted(alloc, text.as_str(), COLUMNS)
+// The line of the next cue.
+fn next_line(
+    alloc: Global,
+    next: Option<CueNo>,
+    entry: Option<&CueEntry>,
+) -> Result<BoardLine, AllocError>
+    ensures { IfOk result (λ line. said_of line ≡ board.next_said next) }
+{
+    let said = next_said(alloc, next)?;
+    let mut rest = String::from_str(alloc, "  ")?;
+    rest.push_str(name_of(entry))?;
+    BoardLine::with_rest(alloc, said, rest.as_str())
 }
 
+// A cue of the stack, with a mark where it is the place.
+#[tactic(auto, unfolding(crate::specs::Board::cue_said))]
+fn cue_said(alloc: Global, place: Option<CueNo>, cue: CueNo) -> Result<String, AllocError>
+    ensures { IfOk result (λ text. string_bytes text ≡ board.cue_said place cue) }
+{
+    let number = cue_text(&cue);
+    if place == Some(cue) {
+        Ok(format!(in alloc; " -->   {number}")?)
+    } else {
+        Ok(format!(in alloc; "       {number}")?)
+    }
+}
+
+// The line of a cue of the stack.
 fn cue_line(
     alloc: Global,
-    file: Option<&ShowFile>,
+    place: Option<CueNo>,
     cue: CueNo,
-    is_place: bool,
-) -> Result<String, AllocError> {
-    let mark = if is_place { "-->" } else { "   " };
-    let number = format!(in alloc; "{}", cue.text().escape_ascii())?;
-    let text = format!(in alloc; " {mark}   {:<16}  {}", number.as_str(), name_of(file, cue))?;
-    fitted(alloc, text.as_str(), COLUMNS)
+    file: Option<&ShowFile>,
+) -> Result<BoardLine, AllocError>
+    ensures { IfOk result (λ line. said_of line ≡ board.cue_said place cue) }
+{
+    let said = cue_said(alloc, place, cue)?;
+    let mut rest = String::new(alloc);
+    push_spaces(&mut rest, NAME_AT.saturating_sub(said.len()))?;
+    rest.push_str(name_of(entry_of(file, Some(cue))))?;
+    BoardLine::with_rest(alloc, said, rest.as_str())
+}
+
+// Puts the line of each cue after the lines.
+fn push_cues(
+    alloc: Global,
+    lines: &mut Vec<BoardLine>,
+    place: Option<CueNo>,
+    cues: &[CueNo],
+    file: Option<&ShowFile>,
+) -> Result<(), AllocError>
+    ensures { OnOk result
+        (map said_of lines.new.items ≡ map said_of lines.old.items ++ map (board.cue_said place) cues.now) }
+{
+    for cue in cues {
+        lines.push(cue_line(alloc, place, *cue, file)?)?;
+    }
+    Ok(())
 }
 
 /// Puts the next cue, its note and the stack around the place after the lines.
 pub(super) fn push_stack(
     alloc: Global,
-    lines: &mut Vec<String>,
+    lines: &mut Vec<BoardLine>,
     show: &Show,
     file: Option<&ShowFile>,
-) -> Result<(), AllocError> {
-    lines.push(next_line(alloc, show, file)?)?;
-    lines.push(note_line(alloc, show, file)?)?;
-    lines.push(String::from_str(alloc, "STACK")?)?;
-    let first = place_index(show).saturating_sub(BEFORE);
-    for (cue, _) in show.cues().skip(first).take(SHOWN) {
-        let is_place = show.place() == Some(*cue);
-        lines.push(cue_line(alloc, file, *cue, is_place)?)?;
-    }
-    Ok(())
+) -> Result<(), AllocError>
+    ensures { OnOk result
+        (map said_of lines.new.items ≡ map said_of lines.old.items ++ board.stack_said show.now) }
+{
+    let (place, cues) = (show.place(), cues_of(alloc, show)?);
+    let next = next_of(place, &cues);
+    let entry = entry_of(file, next);
+    lines.push(next_line(alloc, next, entry)?)?;
+    let margin = String::from_str(alloc, "       ")?;
+    lines.push(BoardLine::with_rest(alloc, margin, note_of(entry))?)?;
+    lines.push(BoardLine::bare(alloc, String::from_str(alloc, "STACK")?))?;
+    push_cues(alloc, lines, place, around(place, &cues), file)
 }

@@ -35,6 +35,8 @@ impl fmt::Display for Subject {
 #[derive(Clone, Copy, Debug, PartialEq, Eq)]
 pub enum Key {
     Port,
+    Address,
+    Listen,
     Number,
     CueNumber,
     Name,
@@ -50,6 +52,8 @@ impl fmt::Display for Key {
     fn fmt<W: fmt::Write>(&self, f: &mut fmt::Formatter<W>) -> fmt::Result {
         f.write_str(match self {
             Key::Port => "port = 9001",
+            Key::Address => "address = \"10.0.7.31:9001\"",
+            Key::Listen => "listen = \"10.0.7.1\"",
             Key::Number => "number = 3",
             Key::CueNumber => "number = \"12.5\"",
             Key::Name => "name = \"Winch 3\"",
@@ -76,6 +80,10 @@ pub enum Mistake {
     Wanted(Key),
     /// A port is 1 to 65,535.
     BadPort,
+    /// The address of a device is four numbers of 0 to 255 and a port, neither all of them 0.
+    BadAddress,
+    /// The address of this machine is four numbers of 0 to 255, neither 0.0.0.0 nor 127.0.0.1.
+    BadListen,
     /// A device number is 0 to 111.
     BadDevice,
     /// A cue number is digits with single points between them, 16 characters at most.
@@ -150,6 +158,12 @@ fn write_of_key<W: fmt::Write>(f: &mut fmt::Formatter<W>, mistake: &Mistake) -> 
             "that is no cue number: write digits with single points, as \"12.5\", {MAX_CUE_BYTES} characters at most"
         ),
         Mistake::BadPort => f.write_str("that is no port: take one of 1 to 65535"),
+        Mistake::BadAddress => {
+            f.write_str("that is no address of a device: write it as \"10.0.7.31:9001\"")
+        }
+        Mistake::BadListen => f.write_str(
+            "that is no address at which to listen: write this machine's own on the stage's network, as \"10.0.7.1\"",
+        ),
         Mistake::BadHex => f.write_str(
             "hex is no pairs of hexadecimal digits: write them as \"0a0b\"",
         ),

@@ -1,8 +1,13 @@
 //! Reading a show file: from TOML to devices and cues, with each mistake on the way.
+mod keys;
+mod parts;
+
 use super::headers::header_lines;
 use super::mistake::{Finding, Findings, Key, Mistake, Subject};
+use super::network::{read_address, read_listen};
 use super::{CueEntry, DeviceEntry, ShowFile};
-use cue_show::{CueNo, DeviceNo, Part, Parts};
+use keys::{cue_in, device_in, note_unknown, port_in, text_in};
+use parts::read_parts;
 use std::alloc::{AllocError, Global};
 use toml::{Table, Value};
 
@@ -35,173 +40,6 @@ fn note_no_toml(
     findings.note(Mistake::NotToml(String::from_str(alloc, error.message())?))
 }
 
-// Notes each key that is not among these.
-fn note_unknown(
-    alloc: Global,
-    findings: &mut Findings,
-    table: &Table,
-    known: &[&str],
-) -> Result<(), AllocError> {
-    for key in table.keys() {
-        if !known.iter().any(|name| *name == key.as_str()) {
-            let name = String::from_str(alloc, key.as_str())?;
-            findings.note(Mistake::UnknownKey(name))?;
-        }
-    }
-    Ok(())
-}
-
-// The text of a key that may be left out.
-fn text_in(
-    findings: &mut Findings,
-    table: &Table,
-    name: &str,
-    key: Key,
-) -> Result<Option<String>, AllocError> {
-    match table.get(name) {
-        None => Ok(None),
-        Some(Value::String(text)) => Ok(Some(text.clone()?)),
-        Some(_) => {
-            findings.note(Mistake::Wanted(key))?;
-            Ok(None)
-        }
-    }
-}
-
-// The device that a number of the file names.
-fn device_of(number: i64) -> Option<DeviceNo> {
-    match i32::try_from(number) {
-        Ok(number) => DeviceNo::of(number),
-        Err(_) => None,
-    }
-}
-
-// The port that a number of the file names.
-fn port_of(number: i64) -> Option<u16> {
-    match u16::try_from(number) {
-        Ok(port) if port >= 1 => Some(port),
-        _ => None,
-    }
-}
-
-// The port at this key, or what is wrong with it.
-fn port_in(table: &Table) -> Result<u16, Mistake> {
-    match table.get("port") {
-        Some(Value::Integer(number)) => port_of(*number).ok_or(Mistake::BadPort),
-        _ => Err(Mistake::Wanted(Key::Port)),
-    }
-}
-
-// The device at this key, or what is wrong with it.
-fn device_in(table: &Table, name: &str, key: Key) -> Result<DeviceNo, Mistake> {
-    match table.get(name) {
-        Some(Value::Integer(number)) => device_of(*number).ok_or(Mistake::BadDevice),
-        _ => Err(Mistake::Wanted(key)),
-    }
-}
-
-// The cue at the key `number`, or what is wrong with it.
-fn cue_in(table: &Table) -> Result<CueNo, Mistake> {
-    match table.get("number") {
-        Some(Value::String(text)) => CueNo::read(text.as_bytes()).ok_or(Mistake::BadCue),
-        _ => Err(Mistake::Wanted(Key::CueNumber)),
-    }
-}
-
-// Whether a part is optional.
-fn optional_in(table: &Table) -> Result<bool, Mistake> {
-    match table.get("optional") {
-        None => Ok(false),
-        Some(Value::Boolean(optional)) => Ok(*optional),
-        Some(_) => Err(Mistake::Wanted(Key::Optional)),
-    }
-}
-
-// The bytes of hexadecimal digits. The inner `Err` is what is wrong with them.
-fn hex_of(alloc: Global, value: &Value) -> Result<Result<Vec<u8>, Mistake>, AllocError> {
-    let Value::String(text) = value else {
-        return Ok(Err(Mistake::Wanted(Key::Hex)));
-    };
-    match hex::decode(alloc, text.as_bytes()) {
-        Ok(bytes) => Ok(Ok(bytes)),
-        Err(hex::FromHexError::OutOfMemory) => Err(AllocError),
-        Err(_) => Ok(Err(Mistake::BadHex)),
-    }
-}
-
-// The bytes of a text.
-fn text_of(alloc: Global, value: &Value) -> Result<Result<Vec<u8>, Mistake>, AllocError> {
-    match value {
-        Value::String(text) => Ok(Ok(Vec::from_slice(alloc, text.as_bytes())?)),
-        _ => Ok(Err(Mistake::Wanted(Key::Text))),
-    }
-}
-
-// The bytes of the part for a device; none where neither `hex` nor `text` stands there.
-fn bytes_in(
-    alloc: Global,
-    table: &Table,
-    device: DeviceNo,
-) -> Result<Result<Vec<u8>, Mistake>, AllocError> {
-    match (table.get("hex"), table.get("text")) {
-        (None, None) => Ok(Ok(Vec::new(alloc))),
-        (Some(digits), None) => hex_of(alloc, digits),
-        (None, Some(text)) => text_of(alloc, text),
-        (Some(_), Some(_)) => Ok(Err(Mistake::TwoBytes(device))),
-    }
-}
-
-// The part that a table is, or what is wrong with it.
-fn part_in(alloc: Global, table: &Table) -> Result<Result<Part, Mistake>, AllocError> {
-    let device = match device_in(table, "device", Key::Device) {
-        Ok(device) => device,
-        Err(mistake) => return Ok(Err(mistake)),
-    };
-    let optional = match optional_in(table) {
-        Ok(optional) => optional,
-        Err(mistake) => return Ok(Err(mistake)),
-    };
-    match bytes_in(alloc, table, device)? {
-        Ok(bytes) => Ok(Ok(Part::of(alloc, device, optional, &bytes)?)),
-        Err(mistake) => Ok(Err(mistake)),
-    }
-}
-
-// Reads a part, and puts it after the others.
-fn read_part(
-    alloc: Global,
-    findings: &mut Findings,
-    parts: &mut Parts,
-    value: &Value,
-) -> Result<(), AllocError> {
-    let Value::Table(table) = value else {
-        return findings.note(Mistake::Wanted(Key::Parts));
-    };
-    note_unknown(
-        alloc,
-        findings,
-        table,
-        &["device", "hex", "text", "optional"],
-    )?;
-    match part_in(alloc, table)? {
-        Ok(part) => parts.push(part),
-        Err(mistake) => findings.note(mistake),
-    }
-}
-
-// The parts of a cue.
-fn read_parts(alloc: Global, findings: &mut Findings, table: &Table) -> Result<Parts, AllocError> {
-    let mut parts = Parts::new(alloc);
-    let Some(Value::Array(values)) = table.get("parts") else {
-        findings.note(Mistake::Wanted(Key::Parts))?;
-        return Ok(parts);
-    };
-    for value in values {
-        read_part(alloc, findings, &mut parts, value)?;
-    }
-    Ok(parts)
-}
-
 // Where the next table stands, and the subject of its findings.
 #[derive(Clone, Copy)]
 struct Place {
@@ -226,7 +64,12 @@ fn read_device(
         }
     };
     findings.look_at(at.line, Subject::Device(number));
-    note_unknown(alloc, findings, table, &["number", "port", "name"])?;
+    note_unknown(
+        alloc,
+        findings,
+        table,
+        &["number", "port", "address", "name"],
+    )?;
     let name = text_in(findings, table, "name", Key::Name)?;
     let port = match port_in(table) {
         Ok(port) => port,
@@ -235,10 +78,12 @@ fn read_device(
             1
         }
     };
+    let address = read_address(findings, table)?;
     draft.devices.push(DeviceEntry {
         line: at.line,
         number,
         port,
+        address,
         name,
     })?;
     Ok(())
@@ -368,8 +213,14 @@ fn read_table(
     text: &str,
     table: &Table,
 ) -> Result<(), AllocError> {
-    note_unknown(alloc, findings, table, &["port", "device", "cue"])?;
+    note_unknown(
+        alloc,
+        findings,
+        table,
+        &["port", "listen", "device", "cue", "rehearse"],
+    )?;
     file.port = read_port(findings, table)?;
+    file.listen = read_listen(findings, table)?;
     read_devices(alloc, file, findings, text, table)?;
     read_cues(alloc, file, findings, text, table)
 }
@@ -379,6 +230,7 @@ pub fn read(alloc: Global, text: &str) -> Result<Draft, AllocError> {
     let mut findings = Findings::new(alloc);
     let mut file = ShowFile {
         port: None,
+        listen: None,
         devices: Vec::new(alloc),
         cues: Vec::new(alloc),
     };

@@ -8,6 +8,7 @@ use std::fmt::Write;
 pub fn of_show(alloc: Global, show: &Show) -> Result<ShowFile, AllocError> {
     let mut file = ShowFile {
         port: None,
+        listen: None,
         devices: Vec::new(alloc),
         cues: Vec::new(alloc),
     };
@@ -25,6 +26,7 @@ fn device_entry(number: cue_show::DeviceNo, port: u16) -> DeviceEntry {
         line: None,
         number,
         port,
+        address: None,
         name: None,
     }
 }
@@ -113,7 +115,8 @@ fn push_cue(text: &mut String, entry: &CueEntry) -> Result<(), AllocError> {
     Ok(())
 }
 
-/// The text of a show file. Reading it gives the same devices and cues.
+/// The text of a show file. Reading it gives the same devices and cues. Addresses on the network are left out: no
+/// store has them.
 pub fn written(alloc: Global, file: &ShowFile) -> Result<String, AllocError> {
     let mut text = String::new(alloc);
     if let Some(port) = file.port {

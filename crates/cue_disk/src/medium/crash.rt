@@ -20,8 +20,10 @@ impl Medium {
     // Makes the bytes of an image, as they are now, what the crash leaves of them.
     fn scramble(&self, junk: &[u8], image: &mut [u8])
         requires within { length image.old ≤ length (medium_held self.now).bytes }
-        requires present { (i : ℕ) → i < length image.old → slice_index image.old i ≡ slice_index (medium_held self.now).bytes i }
-        ensures { (i : ℕ) → i < length image.new → slice_index image.new i ≡ crashed_byte (medium_held self.now) junk.now i }
+        requires present { (i : ℕ) → i < length image.old
+            → slice_index image.old i ≡ slice_index (medium_held self.now).bytes i }
+        ensures { (i : ℕ) → i < length image.new → slice_index image.new i
+            ≡ crashed_byte (medium_held self.now) junk.now i }
     {
         let mut changed = 0;
         for i in 0..image.len() {

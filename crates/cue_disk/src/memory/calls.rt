@@ -1,5 +1,6 @@
 // The device calls of a memory disk.
-ghost use Rattle.std.specs.Prelude.{◌≡◌, ◌≤◌, ◌+◌, ◌&&◌, ℕ, not, List, length, is_ok, is_err, take, drop, OnErr, IfOk, OnOk};
+ghost use Rattle.std.specs.Prelude.{◌≡◌, ◌≤◌, ◌+◌, ◌&&◌, ℕ, not, List, length, is_ok, is_err, take, drop, OnErr, IfOk};
+ghost use Rattle.std.specs.Prelude.{OnOk};
 ghost use Rattle.cue_disk.specs.Disk.{IsImage, IsStable, Writes, AllTouched, overwritten, Elapses, CountsFailure};
 ghost use Rattle.cue_disk.specs.Memory.{
   memory_held,
@@ -105,7 +106,8 @@ impl Disk for MemDisk {
 
     fn write_at(&mut self, at: u64, bytes: &[u8]) -> Result<(), DiskFault>
         requires { at ≤ length (memory_held self.old).bytes }
-        ensures written { OnOk result ((memory_held self.new).bytes ≡ overwritten (memory_held self.old).bytes at bytes.now) }
+        ensures written { OnOk result ((memory_held self.new).bytes
+            ≡ overwritten (memory_held self.old).bytes at bytes.now) }
         ensures touched { OnOk result (AllTouched at (length bytes.now) (memory_held self.new)) }
         ensures crash { Writes at (length bytes.now) (memory_held self.old) (memory_held self.new) }
         ensures time { Elapses (memory_moment self.old) (memory_moment self.new)
@@ -113,7 +115,8 @@ impl Disk for MemDisk {
         ensures count { CountsFailure result (memory_failures self.old) (memory_failures self.new) }
         ensures counted { IsCounted self.old self.new }
         ensures succeeds { GoesWithMemory result self.old self.new }
-        ensures stored { memory_held self.new ≡ written_as (fate_of (memory_plan self.old) 1) (lacked_memory self.new) at bytes.now (memory_held self.old) }
+        ensures stored { memory_held self.new ≡ written_as (fate_of (memory_plan self.old) 1)
+            (lacked_memory self.new) at bytes.now (memory_held self.old) }
     {
         let fate = self.begin();
         let done = self.medium.write_as(fate, at as usize, bytes);
@@ -129,7 +132,8 @@ impl Disk for MemDisk {
         ensures count { CountsFailure result (memory_failures self.old) (memory_failures self.new) }
         ensures counted { IsCounted self.old self.new }
         ensures succeeds { GoesWithMemory result self.old self.new }
-        ensures stored { memory_held self.new ≡ synced_as (fate_of (memory_plan self.old) 1) (lacked_memory self.new) (memory_held self.old) }
+        ensures stored { memory_held self.new ≡ synced_as (fate_of (memory_plan self.old) 1) (lacked_memory self.new)
+            (memory_held self.old) }
     {
         let fate = self.begin();
         let done = self.medium.sync_as(fate);

@@ -10,10 +10,12 @@ ghost use Rattle.cue_keeper.specs.Refusals.{HasOtherVersion, StandsForNone};
 ghost use Rattle.cue_keeper.specs.Observed as kept;
 ghost use Rattle.cue_outbox.specs.Sending.{datagrams, all_pending};
 ghost use Rattle.cue_core.specs.Batches.{closed};
-ghost use Rattle.cue_engine.specs.Recovery.{ClosedFrom, IsLeftOrStands, MustBeRefusedAs, NoGenerationLeft, NoRoomLeft, RefusedBut};
+ghost use Rattle.cue_engine.specs.Recovery.{ClosedFrom, IsLeftOrStands, MustBeRefusedAs, NoGenerationLeft, NoRoomLeft};
+ghost use Rattle.cue_engine.specs.Recovery.{RefusedBut};
+ghost use Rattle.cue_engine.specs.Taking.{IsOffered};
 ghost use Rattle.cue_engine.specs.Words.{keeper_of, state_of, queue_of, first_of, second_of};
 
-use super::{Engine, let_go};
+use super::{Engine, discard};
 use crate::drafts::Draft;
 use crate::recovering::close_undecided;
 use cue_disk::Disk;
@@ -27,28 +29,43 @@ impl<D: Disk> Engine<D> {
     pub fn form(alloc: Global, first: D, second: D) -> Result<Engine<D>, (StoreFault, D, D)>
         ensures state { IfOk result (λ engine. state_of engine ≡ empty_state) }
         ensures queue { IfOk result (λ engine. queue_of engine ≡ []) }
+        ensures offered { IfOk result (IsOffered []) }
         ensures works { IfOk result (λ engine. kept.is_broken (keeper_of engine) ≡ false) }
         ensures formed { D.is_honest first → D.is_honest second
             → IfOk result (λ engine. PairLeaves (D.held (first_of engine)) (D.held (second_of engine)) first_area) }
-        ensures numbers { IfOk result (λ engine. (kept.generation_of (keeper_of engine) ≡ 1) × (kept.count_of (keeper_of engine) ≡ 0)) }
+        ensures numbers { IfOk result (λ engine. (kept.generation_of (keeper_of engine) ≡ 1)
+            × (kept.count_of (keeper_of engine) ≡ 0)) }
         ensures stands { D.is_honest first → D.is_honest second
             → IfOk result (λ engine. StandsAs (D.held (first_of engine)) (D.held (second_of engine)) empty_state) }
 
         // It goes on only where neither disk has an area.
-        ensures empty { D.is_honest first → D.is_honest second → OnOk result (NeitherHas (D.held first).bytes (D.held second).bytes) }
-        ensures not_empty { D.is_honest first → D.is_honest second → RefusedAs StoreFault.NotEmpty (SomeIsThere (D.held first).bytes (D.held second).bytes) result }
-        ensures first_kept { D.is_honest first → RefusedAs StoreFault.NotEmpty (LeavesAtEachMoment D.moment D.held_at first (first_after first_of result) (IsImage (D.held first))) result }
-        ensures first_bytes { D.is_honest first → RefusedAs StoreFault.NotEmpty ((D.held (first_after first_of result)).bytes ≡ (D.held first).bytes) result }
-        ensures memory { RefusedAs StoreFault.Memory ((first_after first_of result ≡ first) × (second_after second_of result ≡ second)) result }
-        ensures disk { RefusedAs StoreFault.Disk (MoreFailures (D.failures first) (D.failures (first_after first_of result)) ⊎ MoreFailures (D.failures second) (D.failures (second_after second_of result))) result }
-        ensures no_other { RefusedAs StoreFault.Unformed ⊥ result × RefusedAs StoreFault.Damaged ⊥ result × RefusedAs StoreFault.Version ⊥ result × RefusedAs StoreFault.Malformed ⊥ result × RefusedAs StoreFault.Full ⊥ result × RefusedAs StoreFault.Exhausted ⊥ result }
+        ensures empty { D.is_honest first → D.is_honest second
+            → OnOk result (NeitherHas (D.held first).bytes (D.held second).bytes) }
+        ensures not_empty { D.is_honest first → D.is_honest second
+            → RefusedAs StoreFault.NotEmpty (SomeIsThere (D.held first).bytes (D.held second).bytes) result }
+        ensures first_kept { D.is_honest first → RefusedAs StoreFault.NotEmpty
+            (LeavesAtEachMoment D.moment D.held_at first (first_after first_of result)
+            (IsImage (D.held first))) result }
+        ensures first_bytes { D.is_honest first → RefusedAs StoreFault.NotEmpty
+            ((D.held (first_after first_of result)).bytes ≡ (D.held first).bytes) result }
+        ensures memory { RefusedAs StoreFault.Memory ((first_after first_of result ≡ first)
+            × (second_after second_of result ≡ second)) result }
+        ensures disk { RefusedAs StoreFault.Disk (MoreFailures (D.failures first)
+            (D.failures (first_after first_of result))
+            ⊎ MoreFailures (D.failures second) (D.failures (second_after second_of result))) result }
+        ensures no_other { RefusedAs StoreFault.Unformed ⊥ result × RefusedAs StoreFault.Damaged ⊥ result
+            × RefusedAs StoreFault.Version ⊥ result × RefusedAs StoreFault.Malformed ⊥ result
+            × RefusedAs StoreFault.Full ⊥ result × RefusedAs StoreFault.Exhausted ⊥ result }
 
         // Up to the barrier a stop leaves what one at entry might have left, from then on no area or the first one.
-        ensures any_moment { D.is_honest first → D.is_honest second → AfterBarrier D.moment D.held_at first second (first_after first_of result) (second_after second_of result)
+        ensures any_moment { D.is_honest first → D.is_honest second
+            → AfterBarrier D.moment D.held_at first second (first_after first_of result) (second_after second_of result)
             (IsUnformedOr first_area (D.held first) (D.held second)) }
         // The second disk is synced, and no more.
-        ensures second_kept { D.is_honest second → LeavesAtEachMoment D.moment D.held_at second (second_after second_of result) (IsImage (D.held second)) }
-        ensures second_bytes { D.is_honest second → (D.held (second_after second_of result)).bytes ≡ (D.held second).bytes }
+        ensures second_kept { D.is_honest second → LeavesAtEachMoment D.moment D.held_at second
+            (second_after second_of result) (IsImage (D.held second)) }
+        ensures second_bytes { D.is_honest second → (D.held (second_after second_of result)).bytes
+            ≡ (D.held second).bytes }
         ensures first_failures { D.failures first ≤ D.failures (first_after first_of result) }
         ensures second_failures { D.failures second ≤ D.failures (second_after second_of result) }
         ensures first_honest { D.is_honest (first_after first_of result) ↔ D.is_honest first }
@@ -59,6 +76,8 @@ impl<D: Disk> Engine<D> {
                 alloc,
                 keeper,
                 draft: Draft::new(alloc),
+                spare: Draft::new(alloc),
+                offered: None,
                 queue: Queue::new(alloc),
             }),
             Err(refused) => Err(refused),
@@ -69,36 +88,58 @@ impl<D: Disk> Engine<D> {
     /// that is pending is owed again. A refusal hands both disks back, and the call may be made again.
     pub fn recover(alloc: Global, first: D, second: D) -> Result<Engine<D>, (StoreFault, D, D)>
         // The state was closed from one that stood there, and stays; what is pending in it is owed.
-        ensures stood { D.is_honest first → D.is_honest second → IfOk result (λ engine. ClosedFrom (D.held first).bytes (D.held second).bytes (state_of engine)) }
-        ensures stands { D.is_honest first → D.is_honest second → IfOk result (λ engine. StandsAs (D.held (first_of engine)) (D.held (second_of engine)) (state_of engine)) }
+        ensures stood { D.is_honest first → D.is_honest second
+            → IfOk result (λ engine. ClosedFrom (D.held first).bytes (D.held second).bytes (state_of engine)) }
+        ensures stands { D.is_honest first → D.is_honest second
+            → IfOk result (λ engine. StandsAs (D.held (first_of engine)) (D.held (second_of engine))
+            (state_of engine)) }
         ensures queue { IfOk result (λ engine. queue_of engine ≡ datagrams (all_pending (state_of engine))) }
+        ensures offered { IfOk result (IsOffered []) }
         ensures works { IfOk result (λ engine. kept.is_broken (keeper_of engine) ≡ false) }
 
         // Each refusal has its reason.
-        ensures damaged { D.is_honest first → D.is_honest second → RefusedAs StoreFault.Damaged (IsSpoiled (D.held first).bytes (D.held second).bytes) result }
-        ensures unformed { D.is_honest first → D.is_honest second → RefusedAs StoreFault.Unformed (NeitherHas (D.held first).bytes (D.held second).bytes) result }
-        ensures version { D.is_honest first → D.is_honest second → RefusedAs StoreFault.Version (HasOtherVersion (D.held first).bytes (D.held second).bytes) result }
-        ensures malformed { D.is_honest first → D.is_honest second → RefusedAs StoreFault.Malformed (StandsForNone (D.held first).bytes (D.held second).bytes) result }
-        ensures exhausted { D.is_honest first → D.is_honest second → RefusedAs StoreFault.Exhausted (NoGenerationLeft (D.held first).bytes (D.held second).bytes) result }
-        ensures full { D.is_honest first → D.is_honest second → RefusedAs StoreFault.Full (NoRoomLeft (D.held first).bytes (D.held second).bytes) result }
-        ensures disk { RefusedAs StoreFault.Disk (MoreFailures (D.failures first) (D.failures (first_after first_of result)) ⊎ MoreFailures (D.failures second) (D.failures (second_after second_of result))) result }
+        ensures damaged { D.is_honest first → D.is_honest second
+            → RefusedAs StoreFault.Damaged (IsSpoiled (D.held first).bytes (D.held second).bytes) result }
+        ensures unformed { D.is_honest first → D.is_honest second
+            → RefusedAs StoreFault.Unformed (NeitherHas (D.held first).bytes (D.held second).bytes) result }
+        ensures version { D.is_honest first → D.is_honest second
+            → RefusedAs StoreFault.Version (HasOtherVersion (D.held first).bytes (D.held second).bytes) result }
+        ensures malformed { D.is_honest first → D.is_honest second
+            → RefusedAs StoreFault.Malformed (StandsForNone (D.held first).bytes (D.held second).bytes) result }
+        ensures exhausted { D.is_honest first → D.is_honest second
+            → RefusedAs StoreFault.Exhausted (NoGenerationLeft (D.held first).bytes (D.held second).bytes) result }
+        ensures full { D.is_honest first → D.is_honest second
+            → RefusedAs StoreFault.Full (NoRoomLeft (D.held first).bytes (D.held second).bytes) result }
+        ensures disk { RefusedAs StoreFault.Disk (MoreFailures (D.failures first)
+            (D.failures (first_after first_of result))
+            ⊎ MoreFailures (D.failures second) (D.failures (second_after second_of result))) result }
         // Want of memory hides no fault of a device: each call went through.
-        ensures memory { RefusedAs StoreFault.Memory ((D.failures (first_after first_of result) ≡ D.failures first) × (D.failures (second_after second_of result) ≡ D.failures second)) result }
+        ensures memory { RefusedAs StoreFault.Memory ((D.failures (first_after first_of result) ≡ D.failures first)
+            × (D.failures (second_after second_of result) ≡ D.failures second)) result }
         ensures no_other { RefusedAs StoreFault.NotEmpty ⊥ result }
         // Exhausted and Full come wherever they can.
-        ensures due_at_the_last { D.is_honest first → D.is_honest second → NoGenerationLeft (D.held first).bytes (D.held second).bytes → MustBeRefusedAs StoreFault.Exhausted result }
-        ensures due_without_room { D.is_honest first → D.is_honest second → (none : NoRoomLeft (D.held first).bytes (D.held second).bytes) → none.area.generation < 2 ^ 64 - 1 → MustBeRefusedAs StoreFault.Full result }
+        ensures due_at_the_last { D.is_honest first → D.is_honest second
+            → NoGenerationLeft (D.held first).bytes (D.held second).bytes
+            → MustBeRefusedAs StoreFault.Exhausted result }
+        ensures due_without_room { D.is_honest first → D.is_honest second
+            → (none : NoRoomLeft (D.held first).bytes (D.held second).bytes) → none.area.generation < 2 ^ 64 - 1
+            → MustBeRefusedAs StoreFault.Full result }
         // A store that stands for a state is never called unformed, damaged, of another version or malformed.
-        ensures readable { D.is_honest first → D.is_honest second → (s : ShowState) → Stands (D.held first).bytes (D.held second).bytes s
-            → RefusedAs StoreFault.Unformed ⊥ result × RefusedAs StoreFault.Damaged ⊥ result × RefusedAs StoreFault.Version ⊥ result × RefusedAs StoreFault.Malformed ⊥ result }
+        ensures readable { D.is_honest first → D.is_honest second → (s : ShowState)
+            → Stands (D.held first).bytes (D.held second).bytes s
+            → RefusedAs StoreFault.Unformed ⊥ result × RefusedAs StoreFault.Damaged ⊥ result
+            × RefusedAs StoreFault.Version ⊥ result × RefusedAs StoreFault.Malformed ⊥ result }
 
         // Up to the barrier a stop leaves what one at entry might have left, from then on what stands for such a
         // state or for that state closed.
-        ensures any_moment { D.is_honest first → D.is_honest second → AfterBarrier D.moment D.held_at first second (first_after first_of result) (second_after second_of result)
+        ensures any_moment { D.is_honest first → D.is_honest second
+            → AfterBarrier D.moment D.held_at first second (first_after first_of result) (second_after second_of result)
             (IsLeftOrStands (D.held first) (D.held second)) }
         // Any refusal but that of a device has written nothing.
         ensures unwritten { D.is_honest first → D.is_honest second → RefusedBut StoreFault.Disk
-            (LeavesAtEachMoment D.moment D.held_at first (first_after first_of result) (IsImage (D.held first)) × LeavesAtEachMoment D.moment D.held_at second (second_after second_of result) (IsImage (D.held second))) result }
+            (LeavesAtEachMoment D.moment D.held_at first (first_after first_of result) (IsImage (D.held first))
+            × LeavesAtEachMoment D.moment D.held_at second (second_after second_of result)
+            (IsImage (D.held second))) result }
         ensures first_failures { D.failures first ≤ D.failures (first_after first_of result) }
         ensures second_failures { D.failures second ≤ D.failures (second_after second_of result) }
         ensures first_honest { D.is_honest (first_after first_of result) ↔ D.is_honest first }
@@ -116,19 +157,34 @@ fn close_opened<D: Disk>(alloc: Global, keeper: Keeper<D>) -> Result<Engine<D>, 
     requires works { kept.is_broken keeper ≡ false }
     ensures state { IfOk result (λ engine. state_of engine ≡ closed (kept.state_of keeper)) }
     ensures queue { IfOk result (λ engine. queue_of engine ≡ datagrams (all_pending (state_of engine))) }
+    ensures offered { IfOk result (IsOffered []) }
     ensures works { IfOk result (λ engine. kept.is_broken (keeper_of engine) ≡ false) }
-    ensures exhausted { D.is_honest (kept.first_of keeper) → D.is_honest (kept.second_of keeper) → RefusedAs StoreFault.Exhausted (NoGenerationLeft (D.held (kept.first_of keeper)).bytes (D.held (kept.second_of keeper)).bytes) result }
-    ensures full { D.is_honest (kept.first_of keeper) → D.is_honest (kept.second_of keeper) → RefusedAs StoreFault.Full (NoRoomLeft (D.held (kept.first_of keeper)).bytes (D.held (kept.second_of keeper)).bytes) result }
-    ensures disk { RefusedAs StoreFault.Disk (MoreFailures (D.failures (kept.first_of keeper)) (D.failures (first_after first_of result)) ⊎ MoreFailures (D.failures (kept.second_of keeper)) (D.failures (second_after second_of result))) result }
-    ensures no_other { RefusedAs StoreFault.NotEmpty ⊥ result × RefusedAs StoreFault.Unformed ⊥ result × RefusedAs StoreFault.Damaged ⊥ result × RefusedAs StoreFault.Version ⊥ result × RefusedAs StoreFault.Malformed ⊥ result }
+    ensures exhausted { D.is_honest (kept.first_of keeper) → D.is_honest (kept.second_of keeper)
+        → RefusedAs StoreFault.Exhausted (NoGenerationLeft (D.held (kept.first_of keeper)).bytes
+        (D.held (kept.second_of keeper)).bytes) result }
+    ensures full { D.is_honest (kept.first_of keeper) → D.is_honest (kept.second_of keeper)
+        → RefusedAs StoreFault.Full (NoRoomLeft (D.held (kept.first_of keeper)).bytes
+        (D.held (kept.second_of keeper)).bytes) result }
+    ensures disk { RefusedAs StoreFault.Disk (MoreFailures (D.failures (kept.first_of keeper))
+        (D.failures (first_after first_of result)) ⊎ MoreFailures (D.failures (kept.second_of keeper))
+        (D.failures (second_after second_of result))) result }
+    ensures no_other { RefusedAs StoreFault.NotEmpty ⊥ result × RefusedAs StoreFault.Unformed ⊥ result
+        × RefusedAs StoreFault.Damaged ⊥ result × RefusedAs StoreFault.Version ⊥ result
+        × RefusedAs StoreFault.Malformed ⊥ result }
     ensures due_at_the_last { D.is_honest (kept.first_of keeper) → D.is_honest (kept.second_of keeper)
-        → NoGenerationLeft (D.held (kept.first_of keeper)).bytes (D.held (kept.second_of keeper)).bytes → MustBeRefusedAs StoreFault.Exhausted result }
+        → NoGenerationLeft (D.held (kept.first_of keeper)).bytes (D.held (kept.second_of keeper)).bytes
+        → MustBeRefusedAs StoreFault.Exhausted result }
     ensures due_without_room { D.is_honest (kept.first_of keeper) → D.is_honest (kept.second_of keeper)
-        → (none : NoRoomLeft (D.held (kept.first_of keeper)).bytes (D.held (kept.second_of keeper)).bytes) → none.area.generation < 2 ^ 64 - 1 → MustBeRefusedAs StoreFault.Full result }
+        → (none : NoRoomLeft (D.held (kept.first_of keeper)).bytes (D.held (kept.second_of keeper)).bytes)
+        → none.area.generation < 2 ^ 64 - 1 → MustBeRefusedAs StoreFault.Full result }
     ensures any_moment { D.is_honest (kept.first_of keeper) → D.is_honest (kept.second_of keeper)
-        → LeavesPairsAtEachMoment D.moment D.held_at (kept.first_of keeper) (kept.second_of keeper) (first_after first_of result) (second_after second_of result) (StandsEither (kept.state_of keeper) (closed (kept.state_of keeper))) }
-    ensures unwritten { RefusedBut StoreFault.Disk ((first_after first_of result ≡ kept.first_of keeper) × (second_after second_of result ≡ kept.second_of keeper)) result }
-    ensures stands { D.is_honest (kept.first_of keeper) → D.is_honest (kept.second_of keeper) → IfOk result (λ engine. StandsAs (D.held (first_of engine)) (D.held (second_of engine)) (state_of engine)) }
+        → LeavesPairsAtEachMoment D.moment D.held_at (kept.first_of keeper) (kept.second_of keeper)
+        (first_after first_of result) (second_after second_of result)
+        (StandsEither (kept.state_of keeper) (closed (kept.state_of keeper))) }
+    ensures unwritten { RefusedBut StoreFault.Disk ((first_after first_of result ≡ kept.first_of keeper)
+        × (second_after second_of result ≡ kept.second_of keeper)) result }
+    ensures stands { D.is_honest (kept.first_of keeper) → D.is_honest (kept.second_of keeper)
+        → IfOk result (λ engine. StandsAs (D.held (first_of engine)) (D.held (second_of engine)) (state_of engine)) }
     ensures first_failures { D.failures (kept.first_of keeper) ≤ D.failures (first_after first_of result) }
     ensures second_failures { D.failures (kept.second_of keeper) ≤ D.failures (second_after second_of result) }
     ensures first_honest { D.is_honest (first_after first_of result) ↔ D.is_honest (kept.first_of keeper) }
@@ -142,10 +198,12 @@ fn close_opened<D: Disk>(alloc: Global, keeper: Keeper<D>) -> Result<Engine<D>, 
             alloc,
             keeper,
             draft,
+            spare: Draft::new(alloc),
+            offered: None,
             queue,
         }),
         Err(fault) => {
-            let_go(draft);
+            discard(draft);
             let (first, second) = keeper.close();
             Err((store_fault(fault), first, second))
         }
@@ -159,7 +217,8 @@ fn store_fault(fault: Fault) -> StoreFault
     ensures exhausted { (result ≡ StoreFault.Exhausted) ↔ (fault ≡ Fault.Exhausted) }
     ensures full { (result ≡ StoreFault.Full) ↔ (fault ≡ Fault.Full) }
     ensures disk { (result ≡ StoreFault.Disk) ↔ (fault ≡ Fault.Disk) }
-    ensures no_other { (result ≡ StoreFault.Memory) ⊎ (result ≡ StoreFault.Exhausted) ⊎ (result ≡ StoreFault.Full) ⊎ (result ≡ StoreFault.Disk) }
+    ensures no_other { (result ≡ StoreFault.Memory) ⊎ (result ≡ StoreFault.Exhausted) ⊎ (result ≡ StoreFault.Full)
+        ⊎ (result ≡ StoreFault.Disk) }
 {
     match fault {
         Fault::Broken | Fault::Disk => StoreFault::Disk,

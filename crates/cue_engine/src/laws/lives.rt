@@ -9,6 +9,7 @@ ghost use Rattle.cue_keeper.specs.Observed.{is_broken};
 ghost use Rattle.cue_outbox.specs.Sending.{datagrams};
 ghost use Rattle.cue_snap.specs.Pair.{IsUnformedOr};
 ghost use Rattle.cue_keeper.specs.Stands.{first_area};
+ghost use Rattle.cue_engine.specs.Taking.{IsOffered, WhateverWasOffered};
 ghost use Rattle.cue_engine.specs.Words.{keeper_of, state_of, queue_of, first_of, second_of};
 ghost use Rattle.cue_engine.specs.Inputs.{input_view};
 ghost use Rattle.cue_engine.specs.Wires.{AllHanded};
@@ -35,6 +36,9 @@ ghost use Rattle.cue_engine.specs.Lives.{
   InEachLifeBefore,
   IsPromisedAtEachMoment,
   RestsAtEachMoment,
+  IsPromisedWithin,
+  RestsWithin,
+  all_taken,
   LeavesAtEachStop,
   IsGivenBack,
 };
@@ -51,9 +55,11 @@ use std::alloc::Global;
 /// wherever a stop finds the disks in it, the life goes on with a store that is not formed.
 pub fn form<D: Disk>(alloc: Global, first: D, second: D) -> Result<Engine<D>, (StoreFault, D, D)>
     ensures formed { InEachLifeBefore (D.held first) (D.held second)
-        (λ s store is. IfOk result (λ engine. RunsWith s store (is ++ formed ∷ []) (state_of engine) (queue_of engine))) }
+        (λ s store is. IfOk result (λ engine. RunsWith s store (is ++ formed ∷ []) (state_of engine)
+        (queue_of engine))) }
     ensures stopped { D.is_honest first → D.is_honest second → InEachLifeBefore (D.held first) (D.held second)
-        (λ s store is. LeavesAtEachStop D.moment D.held_at first second (first_after first_of result) (second_after second_of result) (IsUnformedOr first_area (D.held first) (D.held second))
+        (λ s store is. LeavesAtEachStop D.moment D.held_at first second (first_after first_of result)
+        (second_after second_of result) (IsUnformedOr first_area (D.held first) (D.held second))
         (λ one other. RestsUnformed s store (is ++ stopped_in_form one other ∷ []) one other)) }
 {
     Engine::form(alloc, first, second)
@@ -63,17 +69,56 @@ pub fn form<D: Disk>(alloc: Global, first: D, second: D) -> Result<Engine<D>, (S
 /// At any moment of the call the promise holds of whatever a crash leaves, and the life goes on at rest.
 pub fn take<D: Disk>(engine: &mut Engine<D>, now: u64, input: Input<'_>) -> Result<Taken, Fault>
     ensures taken { InEachLifeWith (state_of engine.old) (queue_of engine.old)
-        (λ s store is. OnOk result (RunsWith s store (is ++ taken now (input_view input.entry) ∷ []) (state_of engine.new) (queue_of engine.new))) }
+        (λ s store is. OnOk result (RunsWith s store (is ++ taken now (input_view input.entry) ∷ [])
+        (state_of engine.new) (queue_of engine.new))) }
     ensures not_taken { InEachLifeWith (state_of engine.old) (queue_of engine.old)
         (λ s store is. OnErr result (RunsWith s store is (state_of engine.new) (queue_of engine.new))) }
-    ensures promised { D.is_honest (first_of engine.old) → D.is_honest (second_of engine.old) → is_broken (keeper_of engine.old) ≡ false
+    ensures promised { D.is_honest (first_of engine.old) → D.is_honest (second_of engine.old)
+        → is_broken (keeper_of engine.old) ≡ false
         → InEachLifeWith (state_of engine.old) (queue_of engine.old)
-        (λ s store is. IsPromisedAtEachMoment D.moment D.held_at (first_of engine.old) (second_of engine.old) (first_of engine.new) (second_of engine.new) s store is now (input_view input.entry)) }
-    ensures stopped { D.is_honest (first_of engine.old) → D.is_honest (second_of engine.old) → is_broken (keeper_of engine.old) ≡ false
+        (λ s store is. IsPromisedAtEachMoment D.moment D.held_at (first_of engine.old) (second_of engine.old)
+        (first_of engine.new) (second_of engine.new) s store is now (input_view input.entry)) }
+    ensures stopped { D.is_honest (first_of engine.old) → D.is_honest (second_of engine.old)
+        → is_broken (keeper_of engine.old) ≡ false
         → InEachLifeWith (state_of engine.old) (queue_of engine.old)
-        (λ s store is. RestsAtEachMoment D.moment D.held_at (first_of engine.old) (second_of engine.old) (first_of engine.new) (second_of engine.new) s store is now (input_view input.entry)) }
+        (λ s store is. RestsAtEachMoment D.moment D.held_at (first_of engine.old) (second_of engine.old)
+        (first_of engine.new) (second_of engine.new) s store is now (input_view input.entry)) }
 {
     engine.take(now, input)
+}
+
+/// `Engine::offer` in the life of a store: an input that was offered is the next of those that a commit takes, and the
+/// life is as it was.
+pub fn offer<D: Disk>(engine: &mut Engine<D>, now: u64, input: Input<'_>) -> Result<Taken, Fault>
+    ensures next { WhateverWasOffered engine.old (λ inputs. OnOk result
+        (IsOffered (inputs ++ (now, input_view input.entry) ∷ []) engine.new)) }
+    ensures lives { InEachLifeWith (state_of engine.old) (queue_of engine.old)
+        (λ s store is. RunsWith s store is (state_of engine.new) (queue_of engine.new)) }
+{
+    engine.offer(now, input)
+}
+
+/// `Engine::commit` in the life of a store: each input that was offered is an incident, one after the other, as if each
+/// had been taken; one that was refused is none. At any moment of the call the promise holds of whatever a crash
+/// leaves, and the life goes on at rest.
+pub fn commit<D: Disk>(engine: &mut Engine<D>) -> Result<(), Fault>
+    ensures taken { WhateverWasOffered engine.old (λ inputs. InEachLifeWith (state_of engine.old) (queue_of engine.old)
+        (λ s store is. OnOk result (RunsWith s store (is ++ all_taken inputs) (state_of engine.new)
+        (queue_of engine.new)))) }
+    ensures not_taken { InEachLifeWith (state_of engine.old) (queue_of engine.old)
+        (λ s store is. OnErr result (RunsWith s store is (state_of engine.new) (queue_of engine.new))) }
+    ensures promised { D.is_honest (first_of engine.old) → D.is_honest (second_of engine.old)
+        → is_broken (keeper_of engine.old) ≡ false
+        → WhateverWasOffered engine.old (λ inputs. InEachLifeWith (state_of engine.old) (queue_of engine.old)
+        (λ s store is. IsPromisedWithin D.moment D.held_at (first_of engine.old) (second_of engine.old)
+        (first_of engine.new) (second_of engine.new) s store is inputs)) }
+    ensures stopped { D.is_honest (first_of engine.old) → D.is_honest (second_of engine.old)
+        → is_broken (keeper_of engine.old) ≡ false
+        → WhateverWasOffered engine.old (λ inputs. InEachLifeWith (state_of engine.old) (queue_of engine.old)
+        (λ s store is. RestsWithin D.moment D.held_at (first_of engine.old) (second_of engine.old)
+        (first_of engine.new) (second_of engine.new) s store is inputs)) }
+{
+    engine.commit()
 }
 
 /// `Engine::hand_out` in the life of a store: it is the next incident, and what the wire reports grew by what the life
@@ -82,7 +127,8 @@ pub fn hand_out<D: Disk, W: Wire>(engine: &mut Engine<D>, wire: &mut W) -> u64
     ensures handed_out { InEachLifeWith (state_of engine.old) (queue_of engine.old)
         (λ s store is. RunsWith s store (is ++ handed_out ∷ []) (state_of engine.new) (queue_of engine.new)) }
     ensures handed { InEachLifeWith (state_of engine.old) (queue_of engine.old)
-        (λ s store is. AllHanded (W.told wire.old) (datagrams (handed_in (left_by_all store is) handed_out)) result (W.told wire.new)) }
+        (λ s store is. AllHanded (W.told wire.old) (datagrams (handed_in (left_by_all store is) handed_out)) result
+        (W.told wire.new)) }
 {
     engine.hand_out(wire)
 }
@@ -94,14 +140,19 @@ pub fn recover<D: Disk>(alloc: Global, first: D, second: D) -> Result<Engine<D>,
     ensures promised { D.is_honest first → D.is_honest second → InEachLifeAt (D.held first) (D.held second)
         (λ s store is. IfOk result (λ engine. IsGivenBack s store is (state_of engine) (queue_of engine))) }
     ensures recovered { D.is_honest first → D.is_honest second → InEachLifeAt (D.held first) (D.held second)
-        (λ s store is. IfOk result (λ engine. RunsWith s store (is ++ recovered (state_of engine) ∷ []) (state_of engine) (queue_of engine))) }
+        (λ s store is. IfOk result (λ engine. RunsWith s store (is ++ recovered (state_of engine) ∷ [])
+        (state_of engine) (queue_of engine))) }
     ensures readable { D.is_honest first → D.is_honest second → InEachLifeAt (D.held first) (D.held second)
-        (λ s store is. RefusedAs StoreFault.Unformed ⊥ result × RefusedAs StoreFault.Damaged ⊥ result × RefusedAs StoreFault.Version ⊥ result × RefusedAs StoreFault.Malformed ⊥ result) }
+        (λ s store is. RefusedAs StoreFault.Unformed ⊥ result × RefusedAs StoreFault.Damaged ⊥ result
+        × RefusedAs StoreFault.Version ⊥ result × RefusedAs StoreFault.Malformed ⊥ result) }
     ensures refused { D.is_honest first → D.is_honest second → InEachLifeAt (D.held first) (D.held second)
         (λ s store is. RefusedBut StoreFault.Disk
-        (RestsWith s store (is ++ refused (D.held (first_after first_of result)) (D.held (second_after second_of result)) ∷ []) (D.held (first_after first_of result)) (D.held (second_after second_of result))) result) }
+        (RestsWith s store (is ++ refused (D.held (first_after first_of result))
+        (D.held (second_after second_of result)) ∷ []) (D.held (first_after first_of result))
+        (D.held (second_after second_of result))) result) }
     ensures stopped { D.is_honest first → D.is_honest second → InEachLifeAt (D.held first) (D.held second)
-        (λ s store is. LeavesAtEachStop D.moment D.held_at first second (first_after first_of result) (second_after second_of result) (IsLeftOrStands (D.held first) (D.held second))
+        (λ s store is. LeavesAtEachStop D.moment D.held_at first second (first_after first_of result)
+        (second_after second_of result) (IsLeftOrStands (D.held first) (D.held second))
         (λ one other. RestsWith s store (is ++ stopped_in_recovery one other ∷ []) one other)) }
 {
     Engine::recover(alloc, first, second)
@@ -110,9 +161,11 @@ pub fn recover<D: Disk>(alloc: Global, first: D, second: D) -> Result<Engine<D>,
 /// `Engine::close` in the life of a store: the engine stops between two calls, and n of the datagrams that it owed may
 /// have been handed over. A stop that finds no call at work leaves the disks so, too.
 pub fn close<D: Disk>(engine: Engine<D>) -> (D, D)
-    ensures stopped { D.is_honest (first_of engine) → D.is_honest (second_of engine) → is_broken (keeper_of engine) ≡ false
+    ensures stopped { D.is_honest (first_of engine) → D.is_honest (second_of engine)
+        → is_broken (keeper_of engine) ≡ false
         → InEachLifeWith (state_of engine) (queue_of engine)
-        (λ s store is. (n : ℕ) (one other : Contents) → IsWithin (D.held result.0) one → IsWithin (D.held result.1) other → RestsWith s store (is ++ stopped n one other ∷ []) one other) }
+        (λ s store is. (n : ℕ) (one other : Contents) → IsWithin (D.held result.0) one
+        → IsWithin (D.held result.1) other → RestsWith s store (is ++ stopped n one other ∷ []) one other) }
 {
     engine.close()
 }

@@ -1,6 +1,6 @@
 // What a log tells of itself. None of it makes a device call.
 use super::Log;
-use crate::area::AREA_LIMIT;
+use crate::area::{AREA_LIMIT, FRAME_LEN};
 use crate::group::RecordGroup;
 use crate::record::Record;
 use cue_disk::Disk;
@@ -13,7 +13,7 @@ impl<D: Disk> Log<D> {
 
     /// Whether the area's text would stay within `AREA_LIMIT` with this record.
     pub fn has_room(&self, added: &Record) -> bool
-        ensures { IsTrue result ↔ (end_of self.now + 6 + length added.now ≤ AREA_LIMIT) }
+        ensures { IsTrue result ↔ (end_of self.now + (FRAME_LEN + 1) + length added.now ≤ AREA_LIMIT) }
     {
         self.end + added.text().len() as u64 <= AREA_LIMIT
     }
@@ -28,16 +28,17 @@ impl<D: Disk> Log<D> {
     /// Whether it would stay within it with so many records more, whose payloads have so many bytes together. A caller
     /// asks it before it makes the records.
     pub fn has_room_for(&self, count: u64, bytes: u64) -> bool
-        ensures { IsTrue result ↔ (end_of self.now + 1 + 5 * count + bytes ≤ AREA_LIMIT) }
+        ensures { IsTrue result ↔ (end_of self.now + 1 + FRAME_LEN * count + bytes ≤ AREA_LIMIT) }
     {
         let room = AREA_LIMIT - 1 - self.end;
-        bytes <= room && count <= (room - bytes) / 5
+        bytes <= room && count <= (room - bytes) / FRAME_LEN as u64
     }
 
     /// The generation that the area was formed with.
     pub fn generation(&self) -> u64
         ensures number { result ≡ generation_of self.now }
-        ensures area { D.is_honest (disk_of self.now) → is_broken self.now ≡ false → result ≡ (area_of D.held self.now).generation }
+        ensures area { D.is_honest (disk_of self.now) → is_broken self.now ≡ false
+            → result ≡ (area_of D.held self.now).generation }
     {
         self.generation
     }
@@ -45,7 +46,8 @@ impl<D: Disk> Log<D> {
     /// How many records the area has.
     pub fn count(&self) -> u64
         ensures number { result ≡ count_of self.now }
-        ensures area { D.is_honest (disk_of self.now) → is_broken self.now ≡ false → result ≡ length (area_of D.held self.now).payloads }
+        ensures area { D.is_honest (disk_of self.now) → is_broken self.now ≡ false
+            → result ≡ length (area_of D.held self.now).payloads }
     {
         self.count
     }
@@ -54,8 +56,10 @@ impl<D: Disk> Log<D> {
     pub fn is_broken(&self) -> bool
         ensures broken { result ≡ is_broken self.now }
         // A log that is not broken reads as its area, whatever a stop leaves.
-        ensures reads { D.is_honest (disk_of self.now) → is_broken self.now ≡ false → ReadsAs (D.held (disk_of self.now)) (area_of D.held self.now) }
-        ensures ends { D.is_honest (disk_of self.now) → is_broken self.now ≡ false → end_of self.now ≡ length (area_text (area_of D.held self.now)) }
+        ensures reads { D.is_honest (disk_of self.now) → is_broken self.now ≡ false
+            → ReadsAs (D.held (disk_of self.now)) (area_of D.held self.now) }
+        ensures ends { D.is_honest (disk_of self.now) → is_broken self.now ≡ false
+            → end_of self.now ≡ length (area_text (area_of D.held self.now)) }
     {
         self.broken
     }
@@ -63,7 +67,8 @@ impl<D: Disk> Log<D> {
     /// Gives the disk back, as it is. It makes no device call.
     pub fn retire(self) -> D
         ensures disk { result ≡ disk_of self }
-        ensures reads { D.is_honest (disk_of self) → is_broken self ≡ false → ReadsAs (D.held result) (area_of D.held self) }
+        ensures reads { D.is_honest (disk_of self) → is_broken self ≡ false
+            → ReadsAs (D.held result) (area_of D.held self) }
     {
         let Log { disk, .. } = self;
         disk

@@ -2,7 +2,9 @@
 
 ghost use Rattle.std.specs.Prelude.{◌≡◌, ◌≤◌, map, length};
 ghost use Rattle.cue_osc.specs.Content.{view, contents_of};
-ghost use Rattle.cue_osc.specs.Reading.{Gives, element_at, elements_by, bundle_by, packet_at, is_size as is_element_size, is_message_start as begins_message, is_bundle_start as begins_bundle};
+ghost use Rattle.cue_osc.specs.Reading.{Gives, element_at, elements_by, bundle_by, packet_at};
+ghost use Rattle.cue_osc.specs.Reading.{is_size as is_element_size, is_message_start as begins_message};
+ghost use Rattle.cue_osc.specs.Reading.{is_bundle_start as begins_bundle};
 
 use super::fields::{u32_at, u64_at};
 use super::message::message;

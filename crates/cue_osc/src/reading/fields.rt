@@ -3,7 +3,8 @@
 ghost use Rattle.std.specs.Prelude.{◌≡◌, option_map};
 ghost use Rattle.std.specs.Int.{w32, w64};
 ghost use Rattle.cue_osc.specs.Argument.{arg_view};
-ghost use Rattle.cue_osc.specs.Reading.{Gives, number_at, text_len as text_length, padded_at, string_at, blob_at, arg_at, are_zeros as all_zeros};
+ghost use Rattle.cue_osc.specs.Reading.{Gives, number_at, text_len as text_length, padded_at, string_at, blob_at};
+ghost use Rattle.cue_osc.specs.Reading.{arg_at, are_zeros as all_zeros};
 
 use crate::fault::Fault;
 use crate::packet::Arg;

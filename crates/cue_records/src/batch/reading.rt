@@ -1,7 +1,8 @@
 //! Reading events one behind the other.
 ghost use Rattle.std.specs.Prelude.{◌≡◌};
 ghost use Rattle.cue_records.specs.Reading.{Gives, list_at};
-ghost use Rattle.cue_records.specs.BatchReading.{kind_at, start_at, answer_at, cancel_at, mixed_cue_at, body_at, event_at, event_count_at, batch_of};
+ghost use Rattle.cue_records.specs.BatchReading.{kind_at, start_at, answer_at, cancel_at, mixed_cue_at, body_at};
+ghost use Rattle.cue_records.specs.BatchReading.{event_at, event_count_at, batch_of};
 
 use crate::batch::Batch;
 use crate::batch::kind::{Kind, kind_of};

@@ -1,7 +1,10 @@
 //! Reading fields one behind the other.
 ghost use Rattle.std.specs.Prelude.{◌≡◌, List, ℕ};
 ghost use Rattle.std.specs.Int.{w16, w32, w64};
-ghost use Rattle.cue_records.specs.Reading.{Gives, byte_at, bytes_at, number_at, text_at, device_at, port_at, sequence_at, cue_at, part_bytes_at, flag_of, flag_at, part_at, part_count_at, list_at, parts_at, entry_at, new_cue_at, reason_at, reason_of};
+ghost use Rattle.cue_records.specs.Reading.{Gives, byte_at, bytes_at, number_at, text_at, device_at, port_at};
+ghost use Rattle.cue_records.specs.Reading.{sequence_at, cue_at, part_bytes_at, flag_of, flag_at, part_at};
+ghost use Rattle.cue_records.specs.Reading.{part_count_at, list_at, parts_at, entry_at, new_cue_at, reason_at};
+ghost use Rattle.cue_records.specs.Reading.{reason_of};
 
 use crate::fault::ReadFault;
 use crate::parts_form::PartsForm;

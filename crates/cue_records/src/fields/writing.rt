@@ -2,7 +2,8 @@
 ghost use Rattle.std.specs.Prelude.{◌≡◌, ◌≤◌, ◌++◌, length, IsTrue, OnOk};
 ghost use Rattle.std.specs.List.{flat_map, list_all};
 ghost use Rattle.cue_show.specs.Parts.{is_part, are_parts};
-ghost use Rattle.cue_records.specs.Fields.{byte_text, number_text, text_text, flag_number, flag_text, part_text, parts_text, entry_text, new_cue_text, reason_number};
+ghost use Rattle.cue_records.specs.Fields.{byte_text, number_text, text_text, flag_number, flag_text, part_text};
+ghost use Rattle.cue_records.specs.Fields.{parts_text, entry_text, new_cue_text, reason_number};
 
 use crate::parts_form::PartsForm;
 use cue_exchange::Reason;

@@ -3,7 +3,10 @@ ghost use Rattle.std.specs.Prelude.{◌≡◌};
 ghost use Rattle.cue_show.specs.Show.{is_place_of, with_place};
 ghost use Rattle.cue_exchange.specs.Steps.{are_below};
 ghost use Rattle.cue_records.specs.Reading.{Gives, where_it};
-ghost use Rattle.cue_records.specs.StateReading.{fold_at, device_step, cue_step, place_of, place_at, place_step, table_at, most_cues, cue_count_at, stack_at, show_at, ended_of, ended_at, stage_at, one_answer_at, answers_at, head_at, attempt_at, attempt_step, live_at, tail_of, standing_of};
+ghost use Rattle.cue_records.specs.StateReading.{fold_at, device_step, cue_step, place_of, place_at, place_step};
+ghost use Rattle.cue_records.specs.StateReading.{table_at, most_cues, cue_count_at, stack_at, show_at, ended_of};
+ghost use Rattle.cue_records.specs.StateReading.{ended_at, stage_at, one_answer_at, answers_at, head_at, attempt_at};
+ghost use Rattle.cue_records.specs.StateReading.{attempt_step, live_at, tail_of, standing_of};
 
 use crate::fault::ReadFault;
 use crate::fields::Reader;

@@ -4,7 +4,8 @@ ghost use Rattle.std.specs.List.{flat_map};
 ghost use Rattle.cue_exchange.specs.declared.limits.TheConstants.{MAX_LIVE};
 ghost use Rattle.cue_records.specs.declared.parts_form.PartsForm.TheVariants.{Flagged};
 ghost use Rattle.cue_records.specs.Fields.{entry_text, new_cue_text};
-ghost use Rattle.cue_records.specs.State.{table_text, stack_text, place_text, show_text, ended_text, answers_text, attempt_text, live_text};
+ghost use Rattle.cue_records.specs.State.{table_text, stack_text, place_text, show_text, ended_text, answers_text};
+ghost use Rattle.cue_records.specs.State.{attempt_text, live_text};
 
 use crate::fields::{put_byte, put_cue, put_entry, put_new_cue, put_numbered, put_u32};
 use crate::parts_form::PartsForm;

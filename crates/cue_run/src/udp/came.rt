@@ -1,7 +1,8 @@
 //! What came while a call waited for a datagram.
 ghost use Rattle.std.specs.Prelude.{◌≡◌};
-ghost use Rattle.cue_run.specs.Udp.{came_of, meaning_of};
+ghost use Rattle.cue_run.specs.Udp.{came_of, meaning_of, waiting_of};
 
+use crate::source::Waiting;
 use std::io::{self, ErrorKind};
 
 /// What came while a call waited.
@@ -37,5 +38,16 @@ pub fn what_came(own: u16, received: io::Result<(usize, u16)>) -> io::Result<Cam
             Some(came) => Ok(came),
             None => Err(error),
         },
+    }
+}
+
+/// The datagram that a look found at this moment; None where nothing came, or noise.
+pub fn waiting_of(came: Came, now: u64) -> Option<Waiting>
+    ensures { result ≡ waiting_of came now }
+{
+    match came {
+        Came::Nothing => None,
+        Came::Noise => None,
+        Came::Datagram { from, n } => Some(Waiting { now, from, n }),
     }
 }

@@ -5,14 +5,15 @@ use cue_log::Record;
 
 impl<D: Disk> Snap<D> {
     ghost use Rattle.std.specs.Prelude.{◌≡◌, ◌≤◌, ◌+◌, ◌*◌, ◌↔◌, false, length, IsTrue};
-    ghost use Rattle.cue_log.specs.declared.area.TheConstants.{AREA_LIMIT};
+    ghost use Rattle.cue_log.specs.declared.area.TheConstants.{AREA_LIMIT, FRAME_LEN};
     ghost use Rattle.cue_log.specs.Area.{area_text};
     ghost use Rattle.cue_snap.specs.Pair.{PairLeaves};
-    ghost use Rattle.cue_snap.specs.Observed.{live_of, spare_of, first_of, second_of, generation_of, end_of, count_of, is_broken, live_area_of};
+    ghost use Rattle.cue_snap.specs.Observed.{live_of, spare_of, first_of, second_of, generation_of, end_of, count_of};
+    ghost use Rattle.cue_snap.specs.Observed.{is_broken, live_area_of};
 
     /// Whether the live area's text would stay within its limit with this record.
     pub fn has_room(&self, added: &Record) -> bool
-        ensures { IsTrue result ↔ (end_of self.now + 6 + length added.now ≤ AREA_LIMIT) }
+        ensures { IsTrue result ↔ (end_of self.now + (FRAME_LEN + 1) + length added.now ≤ AREA_LIMIT) }
     {
         self.log.has_room(added)
     }
@@ -20,7 +21,7 @@ impl<D: Disk> Snap<D> {
     /// Whether it would stay within it with so many records more, whose payloads have so many bytes together. A caller
     /// asks it before it makes the records.
     pub fn has_room_for(&self, count: u64, bytes: u64) -> bool
-        ensures { IsTrue result ↔ (end_of self.now + 1 + 5 * count + bytes ≤ AREA_LIMIT) }
+        ensures { IsTrue result ↔ (end_of self.now + 1 + FRAME_LEN * count + bytes ≤ AREA_LIMIT) }
     {
         self.log.has_room_for(count, bytes)
     }
@@ -28,7 +29,8 @@ impl<D: Disk> Snap<D> {
     /// The generation of the live area.
     pub fn generation(&self) -> u64
         ensures number { result ≡ generation_of self.now }
-        ensures area { D.is_honest (live_of self.now) → is_broken self.now ≡ false → result ≡ (live_area_of D.held self.now).generation }
+        ensures area { D.is_honest (live_of self.now) → is_broken self.now ≡ false
+            → result ≡ (live_area_of D.held self.now).generation }
     {
         self.log.generation()
     }
@@ -36,7 +38,8 @@ impl<D: Disk> Snap<D> {
     /// How many records the live area has.
     pub fn count(&self) -> u64
         ensures number { result ≡ count_of self.now }
-        ensures area { D.is_honest (live_of self.now) → is_broken self.now ≡ false → result ≡ length (live_area_of D.held self.now).payloads }
+        ensures area { D.is_honest (live_of self.now) → is_broken self.now ≡ false
+            → result ≡ length (live_area_of D.held self.now).payloads }
     {
         self.log.count()
     }
@@ -45,11 +48,15 @@ impl<D: Disk> Snap<D> {
     pub fn is_broken(&self) -> bool
         ensures broken { result ≡ is_broken self.now }
         // A pair that is not broken reads as its live area, whatever a stop leaves.
-        ensures reads { D.is_honest (live_of self.now) → D.is_honest (spare_of self.now) → is_broken self.now ≡ false
+        ensures reads { D.is_honest (live_of self.now) → D.is_honest (spare_of self.now)
+            → is_broken self.now ≡ false
             → PairLeaves (D.held (live_of self.now)) (D.held (spare_of self.now)) (live_area_of D.held self.now) }
-        ensures numbered { D.is_honest (live_of self.now) → is_broken self.now ≡ false → generation_of self.now ≡ (live_area_of D.held self.now).generation }
-        ensures ends { D.is_honest (live_of self.now) → is_broken self.now ≡ false → end_of self.now ≡ length (area_text (live_area_of D.held self.now)) }
+        ensures numbered { D.is_honest (live_of self.now) → is_broken self.now ≡ false
+            → generation_of self.now ≡ (live_area_of D.held self.now).generation }
+        ensures ends { D.is_honest (live_of self.now) → is_broken self.now ≡ false
+            → end_of self.now ≡ length (area_text (live_area_of D.held self.now)) }
     {
+        // Called for its clauses on what the log's disk reads as.
         let _broken = self.log.is_broken();
         self.broken
     }

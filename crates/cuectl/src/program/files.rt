@@ -1,7 +1,9 @@
 //! The two files of a folder: opened and made, and what is said where that fails.
-ghost use Rattle.std.specs.Prelude.{◌≡◌, ◌++◌, codes, string_bytes, IfOk};
+ghost use Rattle.std.specs.Prelude.{◌≡◌, string_bytes, IfOk, Ok};
+ghost use Rattle.std.specs.Fn.{FnReturnsAt};
 ghost use Rattle.cue_script.specs.declared.ending.Failure.TheVariants.{Store};
 ghost use Rattle.cuectl.specs.Endings.{file_fault};
+ghost use Rattle.cuectl.specs.Files.{first_path, second_path};
 ghost use Rattle.cuectl.specs.declared.program.fault.ProgramFault.TheVariants.{Failed};
 
 use super::fault::{ProgramFault, file_fault};
@@ -19,14 +21,14 @@ pub fn say<R: Eprint, D: Display + Drop>(rt: &R, what: &str, why: D) {
 
 /// The first file of a folder, which is the one that is locked.
 pub fn first_path(alloc: Global, dir: &str) -> Result<String, AllocError>
-    ensures { IfOk result (λ path. string_bytes path ≡ dir.now ++ codes "/a.area") }
+    ensures { IfOk result (λ path. string_bytes path ≡ first_path dir.now) }
 {
     Ok(format!(in alloc; "{dir}/a.area")?)
 }
 
 // The second file of a folder.
 fn second_path(alloc: Global, dir: &str) -> Result<String, AllocError>
-    ensures { IfOk result (λ path. string_bytes path ≡ dir.now ++ codes "/b.area") }
+    ensures { IfOk result (λ path. string_bytes path ≡ second_path dir.now) }
 {
     Ok(format!(in alloc; "{dir}/b.area")?)
 }
@@ -50,17 +52,27 @@ fn create_one<R: Files<File = File> + Eprint>(
     FileDisk::create(rt, path).map_err(|fault| refused_file(rt, path, fault))
 }
 
+// What `opener` makes of the two files of a folder, the first one first. All that concerns their order stands here.
+fn both<T: Drop, F: Fn(&str) -> Result<T, ProgramFault>>(
+    alloc: Global,
+    dir: &str,
+    opener: F,
+) -> Result<(T, T), ProgramFault>
+    requires { F.IsAlwaysCallable opener }
+    ensures first { IfOk result (λ both. FnReturnsAt F.Fn opener (first_path dir.now) (Ok both.0)) }
+    ensures second { IfOk result (λ both. FnReturnsAt F.Fn opener (second_path dir.now) (Ok both.1)) }
+{
+    let (first, second) = (first_path(alloc, dir)?, second_path(alloc, dir)?);
+    Ok((opener(first.as_str())?, opener(second.as_str())?))
+}
+
 /// Opens both files of a folder.
 pub fn open_both<R: Files<File = File> + Eprint>(
     rt: &R,
     alloc: Global,
     dir: &str,
 ) -> Result<(FileDisk, FileDisk), ProgramFault> {
-    let (first, second) = (first_path(alloc, dir)?, second_path(alloc, dir)?);
-    Ok((
-        open_one(rt, first.as_str())?,
-        open_one(rt, second.as_str())?,
-    ))
+    both(alloc, dir, |path| open_one(rt, path))
 }
 
 /// Opens both files of a folder, and makes those that are missing.
@@ -69,11 +81,7 @@ pub fn create_both<R: Files<File = File> + Eprint>(
     alloc: Global,
     dir: &str,
 ) -> Result<(FileDisk, FileDisk), ProgramFault> {
-    let (first, second) = (first_path(alloc, dir)?, second_path(alloc, dir)?);
-    Ok((
-        create_one(rt, first.as_str())?,
-        create_one(rt, second.as_str())?,
-    ))
+    both(alloc, dir, |path| create_one(rt, path))
 }
 
 /// Why the store of a folder was refused; where a disk failed, which file, and how.

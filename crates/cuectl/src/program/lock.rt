@@ -3,7 +3,7 @@
 ghost use Rattle.std.specs.Prelude.{◌≡◌, ◌⊎◌, true, false, Some, IfOk, IfErr, IsErrOf, IsOk, OnOk};
 ghost use Rattle.cue_keeper.specs.declared.fault.StoreFault.TheVariants.{Memory};
 ghost use Rattle.cue_script.specs.declared.ending.Failure.TheVariants.{Store};
-ghost use Rattle.cuectl.specs.Locking.{is_of_another};
+ghost use Rattle.cuectl.specs.Locking.{is_locked, is_of_another};
 ghost use Rattle.cuectl.specs.declared.program.fault.ProgramFault.TheVariants.{Failed, Io};
 
 use super::fault::ProgramFault;
@@ -96,13 +96,28 @@ pub fn lock_store<R: Files<File = File> + Eprint>(
     lock_of(rt, dir, file, answer)
 }
 
+// What the lock of a store answers to one that only looks. `None`: it could not be asked for.
+fn shared_answer<R: Files<File = File>>(
+    rt: &R,
+    alloc: Global,
+    dir: &str,
+) -> Option<Result<(), TryLockError>> {
+    let path = first_path(alloc, dir).ok()?;
+    let file = open(rt, path.as_str()).ok()?;
+    Some(file.try_lock_shared())
+}
+
+// Whether a `serve` has the lock, by that answer.
+fn is_locked(answer: Option<Result<(), TryLockError>>) -> bool
+    ensures { result ≡ is_locked answer }
+{
+    match answer {
+        Some(answer) => is_of_another(&answer),
+        None => false,
+    }
+}
+
 /// Whether a `serve` holds the lock of a store now. Where that cannot be known, none does.
 pub fn is_served<R: Files<File = File>>(rt: &R, alloc: Global, dir: &str) -> bool {
-    let Ok(path) = first_path(alloc, dir) else {
-        return false;
-    };
-    match open(rt, path.as_str()) {
-        Ok(file) => is_of_another(&file.try_lock_shared()),
-        Err(_) => false,
-    }
+    is_locked(shared_answer(rt, alloc, dir))
 }

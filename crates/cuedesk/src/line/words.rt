@@ -1,4 +1,6 @@
 //! What a command line can say.
+use super::rehearsing::Rehearsal;
+use super::web::Web;
 use cue_operator::CueVerb;
 use cue_show::{CueNo, DeviceNo};
 use std::alloc::AllocError;
@@ -12,6 +14,19 @@ pub enum Order {
     RemoveDevice(DeviceNo),
 }
 
+/// What a board is made of: the paths of what it reads.
+#[derive(Drop)]
+pub struct Watched {
+    /// The folder of the store.
+    pub dir: String,
+    /// The show file, for names and notes.
+    pub file: Option<String>,
+    /// The log of `serve`.
+    pub log: Option<String>,
+    /// What a relay tells of itself.
+    pub relay: Option<String>,
+}
+
 /// A command, as the words of a command line give it.
 #[derive(Drop)]
 pub enum Line {
@@ -23,16 +38,27 @@ pub enum Line {
     Load {
         file: String,
         port: Option<u16>,
+        /// Whether what is there and differs is removed first.
+        replace: bool,
     },
     /// Print the show of this folder as a show file.
     Export {
         dir: String,
     },
-    /// Show the board of this folder, with the names of a show file where there is one.
+    /// Show the board.
     Board {
-        dir: String,
-        file: Option<String>,
+        watched: Watched,
         once: bool,
+    },
+    /// Show the board of a folder with buttons in a browser.
+    Web(Web),
+    /// Play every device of a show file.
+    Rehearse(Rehearsal),
+    /// Stand between the controller and the devices of this show file that are on the stage's network.
+    Relay {
+        file: String,
+        port: Option<u16>,
+        status: Option<String>,
     },
     /// Ask one thing.
     Ask {

@@ -1,4 +1,7 @@
 //! How a command ends that is not done, and what is said then.
+ghost use Rattle.std.specs.Prelude.{◌≡◌};
+ghost use Rattle.cuedesk.specs.Endings.{ending_status};
+
 use std::alloc::AllocError;
 use std::fmt::Display;
 use std::io::{Eprint, Write};
@@ -16,7 +19,9 @@ pub enum Ending {
 
 impl Ending {
     /// The exit status.
-    pub fn status(self) -> u8 {
+    pub fn status(self) -> u8
+        ensures { result ≡ ending_status self }
+    {
         match self {
             Ending::Refused => 1,
             Ending::Silent | Ending::Failed => 3,

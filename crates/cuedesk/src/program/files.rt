@@ -1,5 +1,6 @@
 //! Show files and stores, as the commands read them.
 use super::ending::{Ending, print, say};
+use super::rehearsing::{knows_plan, read_plan_of};
 use cue_copies::{Seen, look_again};
 use cue_desk::show_file::{Finding, ShowFile, check, of_show, read, written};
 use cue_disk::{FileDisk, MemDisk};
@@ -44,6 +45,7 @@ pub fn check_file<R: Files<File = File> + Eprint + AllocGlobal, W: Write>(
     writer: &mut W,
 ) -> Result<(), Ending> {
     let file = read_file(rt, path)?;
+    knows_plan(rt, &file, &read_plan_of(rt, path)?)?;
     let (devices, cues) = (file.devices.len(), file.cues.len());
     let text = format!(in rt.alloc(); "no mistake: {devices} devices, {cues} cues\n")?;
     print(writer, text.as_str())
@@ -60,8 +62,8 @@ fn open_one<R: Files<File = File> + AllocGlobal>(
     FileDisk::open(rt, path.as_str()).map_err(|why| words(alloc, path.as_str(), why))
 }
 
-// What failed, and why, as one text; empty where there is no memory for it.
-fn words<D: std::fmt::Display + Drop>(alloc: Global, what: &str, why: D) -> String {
+/// What failed, and why, as one text; empty where there is no memory for it.
+pub fn words<D: std::fmt::Display + Drop>(alloc: Global, what: &str, why: D) -> String {
     format!(in alloc; "{what}: {why}").unwrap_or(String::new(alloc))
 }
 

@@ -1,136 +1,237 @@
 //! Loading a show file: each device and each cue in turn, each waited for.
+mod asking;
+mod counts;
+mod progress;
+
 use super::PORT;
-use super::ending::{Ending, print, say};
+use super::ending::{Ending, say};
 use super::files::read_file;
-use super::wire::{Heard, Sendings, Wire};
+use asking::{Answered, Asker};
+use counts::{Became, Counts};
 use cue_desk::asking::Asked;
-use cue_desk::replying::Replied;
 use cue_desk::show_file::{CueEntry, DeviceEntry, ShowFile, Subject};
-use cue_words::code_words;
-use std::alloc::Global;
+use cue_operator::CueVerb;
+use cue_show::CueNo;
+use progress::Progress;
 use std::fs::{File, Files};
 use std::io::{Eprint, Write};
 use std::net::Net;
 
-/// What became of the devices, or of the cues.
+/// The code of what is there already, and differs.
+const DUPLICATE: i32 = 6;
+
+/// How a file is loaded.
 #[derive(Clone, Copy, Debug, PartialEq, Eq)]
-struct Counts {
-    new: usize,
-    known: usize,
-    refused: usize,
+pub struct How {
+    /// What is there and differs is removed first.
+    pub replaces: bool,
+    /// Where the loading is, is told on the way.
+    pub tells: bool,
 }
 
-impl Counts {
-    const NONE: Counts = Counts {
-        new: 0,
-        known: 0,
-        refused: 0,
-    };
+/// A loading.
+#[derive(Drop)]
+struct Loading<'a, R, W: Write> {
+    asker: Asker<'a, R>,
+    how: How,
+    // Whether a cue was new or differed: then the stack from there on is written again, in the order of the file.
+    rewrites: bool,
+    progress: Progress<'a, W>,
+}
 
-    // One more that became this.
-    fn count(&mut self, became: Became) {
-        match became {
-            Became::New => self.new = self.new.saturating_add(1),
-            Became::Known => self.known = self.known.saturating_add(1),
-            Became::Refused => self.refused = self.refused.saturating_add(1),
+impl<'a, R: Net + Eprint + AllocGlobal, W: Write> Loading<'a, R, W> {
+    // Says that something was refused.
+    fn say_refused(&mut self, subject: Subject, code: i32) {
+        self.progress.clear();
+        self.asker.say_refused(subject, code);
+    }
+
+    // Says what became of a device or a cue, where it was refused.
+    fn tell(&mut self, subject: Subject, became: Became) {
+        if let Became::Refused(code) = became {
+            self.say_refused(subject, code);
         }
     }
-}
 
-/// What became of a device or of a cue.
-#[derive(Clone, Copy, Debug, PartialEq, Eq)]
-enum Became {
-    New,
-    Known,
-    Refused,
-}
+    // Asks for one thing more.
+    fn add(&mut self, subject: Subject, asked: &Asked<'_>) -> Result<Became, Ending> {
+        Ok(match self.asker.ask(subject, asked)? {
+            Answered::Made => Became::New,
+            Answered::Known => Became::Known,
+            Answered::Refused(code) => Became::Refused(code),
+        })
+    }
 
-// Asks for one device or cue, and says why where it is refused.
-fn add<R: Eprint + AllocGlobal>(
-    rt: &R,
-    wire: &Wire,
-    subject: Subject,
-    asked: &Asked<'_>,
-) -> Result<Became, Ending> {
-    match wire.ask(rt.alloc(), asked, Sendings::Some)? {
-        Heard::Replied(Replied::Reply { refused, code, .. }) if refused > 0 => {
-            let words = code_words(code);
-            say(rt, format_args!("{subject}: refused, code {code}: {words}"));
-            Ok(Became::Refused)
-        }
-        Heard::Replied(Replied::Reply { made, .. }) if made > 0 => Ok(Became::New),
-        Heard::Replied(_) => Ok(Became::Known),
-        Heard::Silence | Heard::Noise => {
-            say(
-                rt,
-                format_args!(
-                    "{subject}: not acknowledged: it was carried out whole, or not at all; load again"
-                ),
-            );
-            Err(Ending::Silent)
+    // Takes a cue off the stack; whether it was there. A refusal but for that is said, and ends the loading.
+    fn remove_cue(&mut self, cue: CueNo) -> Result<bool, Ending> {
+        /// The code of a cue that is not there.
+        const NO_METHOD: i32 = 3;
+        let asked = Asked::OfCue(CueVerb::Remove, cue);
+        match self.asker.ask(Subject::Cue(cue), &asked)? {
+            Answered::Made => Ok(true),
+            Answered::Known | Answered::Refused(NO_METHOD) => Ok(false),
+            Answered::Refused(code) => {
+                self.say_refused(Subject::Cue(cue), code);
+                Err(Ending::Refused)
+            }
         }
     }
-}
 
-fn add_devices<R: Eprint + AllocGlobal>(
-    rt: &R,
-    wire: &Wire,
-    devices: &[DeviceEntry],
-) -> Result<Counts, Ending> {
-    let mut counts = Counts::NONE;
-    for entry in devices {
+    // Takes all cues of the file off the stack, so that a device can be removed.
+    fn remove_cues(&mut self, cues: &[CueEntry]) -> Result<(), Ending> {
+        for entry in cues {
+            self.remove_cue(entry.number)?;
+        }
+        Ok(())
+    }
+
+    // A device that has another port: it is removed, with the cues of the file before it, and added again.
+    fn replace_device(&mut self, entry: &DeviceEntry, cues: &[CueEntry]) -> Result<Became, Ending> {
+        if !self.rewrites {
+            self.remove_cues(cues)?;
+            self.rewrites = true;
+        }
+        if let Answered::Refused(code) = self.asker.ask(
+            Subject::Device(entry.number),
+            &Asked::RemoveDevice(entry.number),
+        )? {
+            return Ok(Became::Refused(code));
+        }
         let asked = Asked::AddDevice(entry.number, entry.port);
-        counts.count(add(rt, wire, Subject::Device(entry.number), &asked)?);
+        match self.add(Subject::Device(entry.number), &asked)? {
+            Became::New => Ok(Became::Replaced),
+            other => Ok(other),
+        }
     }
-    Ok(counts)
-}
 
-fn add_cues<R: Eprint + AllocGlobal>(
-    rt: &R,
-    wire: &Wire,
-    cues: &[CueEntry],
-) -> Result<Counts, Ending> {
-    let mut counts = Counts::NONE;
-    for entry in cues {
+    // Adds a device.
+    fn load_device(&mut self, entry: &DeviceEntry, cues: &[CueEntry]) -> Result<Became, Ending> {
+        let subject = Subject::Device(entry.number);
+        let asked = Asked::AddDevice(entry.number, entry.port);
+        let answered = self.asker.ask(subject, &asked)?;
+        match answered {
+            Answered::Made => Ok(Became::New),
+            Answered::Known => Ok(Became::Known),
+            Answered::Refused(DUPLICATE) if self.how.replaces => self.replace_device(entry, cues),
+            Answered::Refused(code) => Ok(Became::Refused(code)),
+        }
+    }
+
+    // Adds a cue at the end of the stack; where it is there it is removed first.
+    fn rewrite_cue(&mut self, entry: &CueEntry) -> Result<Became, Ending> {
+        let was_there = self.remove_cue(entry.number)?;
         let asked = Asked::AddCue(entry.number, &entry.parts);
-        counts.count(add(rt, wire, Subject::Cue(entry.number), &asked)?);
+        match self.add(Subject::Cue(entry.number), &asked)? {
+            Became::New if was_there => Ok(Became::Replaced),
+            other => Ok(other),
+        }
     }
-    Ok(counts)
+
+    // Adds a cue. With `--replace` all cues after one that is new or differs are written again, so that the stack has
+    // the order of the file.
+    fn load_cue(&mut self, entry: &CueEntry) -> Result<Became, Ending> {
+        if self.rewrites {
+            return self.rewrite_cue(entry);
+        }
+        let subject = Subject::Cue(entry.number);
+        let asked = Asked::AddCue(entry.number, &entry.parts);
+        let answered = self.asker.ask(subject, &asked)?;
+        match answered {
+            Answered::Made => {
+                self.rewrites = self.how.replaces;
+                Ok(Became::New)
+            }
+            Answered::Known => Ok(Became::Known),
+            Answered::Refused(DUPLICATE) if self.how.replaces => {
+                self.rewrites = true;
+                self.rewrite_cue(entry)
+            }
+            Answered::Refused(code) => Ok(Became::Refused(code)),
+        }
+    }
+
+    fn load_devices(&mut self, file: &ShowFile) -> Result<Counts, Ending> {
+        let mut counts = Counts::NONE;
+        for entry in &file.devices {
+            let became = self.load_device(entry, &file.cues)?;
+            self.tell(Subject::Device(entry.number), became);
+            counts.count(became);
+            self.progress.step()?;
+        }
+        Ok(counts)
+    }
+
+    fn load_cues(&mut self, cues: &[CueEntry]) -> Result<Counts, Ending> {
+        let mut counts = Counts::NONE;
+        for entry in cues {
+            let became = self.load_cue(entry)?;
+            self.tell(Subject::Cue(entry.number), became);
+            counts.count(became);
+            self.progress.step()?;
+        }
+        Ok(counts)
+    }
+
+    // Moves the place to where it was, where a removal took it from there.
+    fn put_place_back(&mut self, place: Option<CueNo>) -> Result<(), Ending> {
+        match place {
+            Some(cue) if self.rewrites => {
+                let became = self.add(Subject::Cue(cue), &Asked::OfCue(CueVerb::Goto, cue))?;
+                self.tell(Subject::Cue(cue), became);
+                Ok(())
+            }
+            _ => Ok(()),
+        }
+    }
 }
 
-// Prints what became of them.
-fn print_counts<W: Write>(
-    alloc: Global,
-    what: &str,
-    counts: Counts,
-    writer: &mut W,
-) -> Result<(), Ending> {
-    let Counts {
-        new,
-        known,
-        refused,
-    } = counts;
-    let text = format!(in alloc; "{what}: {new} new, {known} known, {refused} refused\n")?;
-    print(writer, text.as_str())
+// The place of a show of which nothing is live; else it is said that nothing can be replaced now.
+fn place_at_rest<R: Net + Eprint + AllocGlobal>(
+    rt: &R,
+    asker: &mut Asker<'_, R>,
+) -> Result<Option<CueNo>, Ending> {
+    let status = asker.status()?;
+    if status.live == 0 {
+        return Ok(status.place);
+    }
+    say(
+        rt,
+        "a cue is live: nothing is replaced. Wait until it has ended, or load without --replace",
+    );
+    Err(Ending::Refused)
 }
 
-// Adds what the file has, devices first.
-fn add_all<R: Net + Eprint + AllocGlobal, W: Write>(
+// Adds what the file has, devices first; whether something was refused.
+fn load_all<R: Net + Eprint + AllocGlobal, W: Write>(
     rt: &R,
     file: &ShowFile,
     port: u16,
+    how: How,
     writer: &mut W,
-) -> Result<(), Ending> {
-    let wire = Wire::new(rt, port)?;
-    let devices = add_devices(rt, &wire, &file.devices)?;
-    print_counts(rt.alloc(), "devices", devices, writer)?;
-    let cues = add_cues(rt, &wire, &file.cues)?;
-    print_counts(rt.alloc(), "cues", cues, writer)?;
-    if devices.refused > 0 || cues.refused > 0 {
-        Err(Ending::Refused)
+) -> Result<bool, Ending> {
+    let alloc = rt.alloc();
+    let mut asker = Asker::new(rt, port)?;
+    let place = if how.replaces {
+        place_at_rest(rt, &mut asker)?
     } else {
-        Ok(())
-    }
+        None
+    };
+    let all = file.devices.len().saturating_add(file.cues.len());
+    let mut loading = Loading {
+        asker,
+        how,
+        rewrites: false,
+        progress: Progress::new(alloc, how.tells, all, writer),
+    };
+    let devices = loading.load_devices(file)?;
+    let cues = loading.load_cues(&file.cues)?;
+    loading.put_place_back(place)?;
+    loading.progress.clear();
+    let devices_text = devices.text(alloc, "devices", how.replaces)?;
+    loading.progress.print(devices_text.as_str())?;
+    let cues_text = cues.text(alloc, "cues", how.replaces)?;
+    loading.progress.print(cues_text.as_str())?;
+    Ok(devices.refused > 0 || cues.refused > 0)
 }
 
 /// The command `load`. It may be called again: what is there already is known. A message without a reply is sent again,
@@ -139,9 +240,14 @@ pub fn load<R: Files<File = File> + Net + Eprint + AllocGlobal, W: Write>(
     rt: &R,
     path: &str,
     port: Option<u16>,
+    how: How,
     writer: &mut W,
 ) -> Result<(), Ending> {
     let file = read_file(rt, path)?;
     let port = port.unwrap_or(file.port.unwrap_or(PORT));
-    add_all(rt, &file, port, writer)
+    if load_all(rt, &file, port, how, writer)? {
+        Err(Ending::Refused)
+    } else {
+        Ok(())
+    }
 }

@@ -7,7 +7,7 @@ use std::io::{Eprint, ErrorKind};
 use std::net::{IpAddr, Ipv4Addr, Net, SocketAddr, UdpSocket};
 use std::time::Duration;
 
-/// How long one sending waits for its reply, in milliseconds.
+/// How long one silent wait is, in milliseconds.
 const WAIT: u64 = 250;
 
 /// How many bytes of an address a reply shows.
@@ -105,8 +105,8 @@ impl Wire {
         let _ = self.socket.send_to(datagram, local(self.port));
     }
 
-    /// Sends what is asked, so many times at most, and waits a second in all for what the controller replies: for the
-    /// status, where that is asked, and else for the reply.
+    /// Sends what is asked, once, and waits for what the controller replies: for the status, where that is asked, and
+    /// else for the reply.
     pub fn ask(
         &self,
         alloc: Global,
@@ -122,14 +122,8 @@ impl Wire {
         let whole = address(alloc, asked)?;
         let shown = &whole[..whole.len().min(SHOWN)];
         let wants_status = matches!(asked, Asked::Status);
-        for _ in 0..sendings.times() {
-            self.send(&datagram);
-            let heard = self.wait(alloc, shown, wants_status, sendings.silences())?;
-            if heard != Heard::Silence {
-                return Ok(heard);
-            }
-        }
-        Ok(Heard::Silence)
+        self.send(&datagram);
+        self.wait(alloc, shown, wants_status, sendings.silences())
     }
 
     // Hears until what is wanted came, or none did so many times.
@@ -157,28 +151,21 @@ impl Wire {
     }
 }
 
-/// How often a message is sent.
+/// How often a message is sent, which says how long one sending waits for its reply.
 #[derive(Clone, Copy, Debug, PartialEq, Eq)]
 pub enum Sendings {
-    /// Once: what an operator asks is asked once.
+    /// Once, as what an operator asks: it waits a second.
     One,
-    /// Again where no reply came: what may be asked twice.
-    Some,
+    /// It is one of some, as what may be asked again: it waits a quarter of a second.
+    OfSome,
 }
 
 impl Sendings {
-    fn times(self) -> u32 {
-        match self {
-            Sendings::One => 1,
-            Sendings::Some => 4,
-        }
-    }
-
     // After how many silent waits nobody has replied.
     fn silences(self) -> u32 {
         match self {
             Sendings::One => 4,
-            Sendings::Some => 1,
+            Sendings::OfSome => 1,
         }
     }
 }

@@ -1,0 +1,70 @@
+//! The keys of a show file that say where devices are on the stage's network.
+use super::mistake::{Findings, Key, Mistake};
+use cue_relay::Address;
+use std::alloc::AllocError;
+use std::net::Ipv4Addr;
+use toml::{Table, Value};
+
+// The address at the key `address`, or what is wrong with it.
+fn address_in(table: &Table) -> Result<Option<Address>, Mistake> {
+    match table.get("address") {
+        None => Ok(None),
+        Some(Value::String(text)) => match Address::read(text.as_str()) {
+            Some(address) => Ok(Some(address)),
+            None => Err(Mistake::BadAddress),
+        },
+        Some(_) => Err(Mistake::Wanted(Key::Address)),
+    }
+}
+
+// The address that a text names at which a machine can listen to the stage: neither 0.0.0.0 nor one of 127.0.0.1, where
+// the controller is.
+fn listen_of(text: &str) -> Option<u32> {
+    let host: Ipv4Addr = text.parse().ok()?;
+    if host.is_unspecified() || host == Ipv4Addr::LOCALHOST {
+        return None;
+    }
+    Some(host.to_bits())
+}
+
+// The address at the key `listen`, or what is wrong with it.
+fn listen_in(table: &Table) -> Result<Option<u32>, Mistake> {
+    match table.get("listen") {
+        None => Ok(None),
+        Some(Value::String(text)) => match listen_of(text.as_str()) {
+            Some(host) => Ok(Some(host)),
+            None => Err(Mistake::BadListen),
+        },
+        Some(_) => Err(Mistake::Wanted(Key::Listen)),
+    }
+}
+
+/// Where a device is on the stage's network; none where the file does not say so, or where that is wrong, which is
+/// noted.
+pub(crate) fn read_address(
+    findings: &mut Findings,
+    table: &Table,
+) -> Result<Option<Address>, AllocError> {
+    match address_in(table) {
+        Ok(address) => Ok(address),
+        Err(mistake) => {
+            findings.note(mistake)?;
+            Ok(None)
+        }
+    }
+}
+
+/// Where this machine is on the stage's network; none where the file does not say so, or where that is wrong, which is
+/// noted.
+pub(crate) fn read_listen(
+    findings: &mut Findings,
+    table: &Table,
+) -> Result<Option<u32>, AllocError> {
+    match listen_in(table) {
+        Ok(host) => Ok(host),
+        Err(mistake) => {
+            findings.note(mistake)?;
+            Ok(None)
+        }
+    }
+}

@@ -1,0 +1,85 @@
+//! The board of a show that is at rest.
+use crate::board::{board_lines, heard_lines, log_lines};
+use crate::show_file::{Checked, check, read};
+use cue_core::State;
+use cue_exchange::Live;
+use cue_relay::status;
+
+/// A show of two cues; the second one has no name.
+const FILE: &str = "[[device]]\nnumber = 3\nport = 9001\n\n\
+[[cue]]\nnumber = \"1\"\nname = \"Drop\"\nnote = \"wait\"\nparts = [\n  { device = 3 },\n]\n\n\
+[[cue]]\nnumber = \"2.5\"\nparts = [\n  { device = 3 },\n]\n";
+
+/// Its board.
+const BOARD: [&str; 7] = [
+    "NEXT   cue 1  Drop",
+    "       wait",
+    "STACK",
+    "       1                 Drop",
+    "       2.5               ",
+    "LIVE   nothing is stood by",
+    "LAST   no attempt has ended yet",
+];
+
+#[test]
+fn board_of_a_show_at_rest(rt: HostRuntime) {
+    let alloc = rt.alloc();
+    let draft = read(alloc, FILE).expect(&rt, "memory");
+    let Checked { show, findings } = check(alloc, &draft.file).expect(&rt, "memory");
+    assert!(rt; findings.is_empty());
+    let Some(show) = show else {
+        panic!(rt; "the file makes no show");
+    };
+    let Some(state) = State::of(show, Live::new(alloc), 0, None) else {
+        panic!(rt; "the show makes no state");
+    };
+    let lines = board_lines(alloc, &state, Some(&draft.file), 0).expect(&rt, "memory");
+    assert!(rt; lines.len() == BOARD.len());
+    for (line, wanted) in lines.iter().zip(BOARD.iter()) {
+        assert!(rt; line.as_str() == *wanted, "{}", line.as_str());
+    }
+}
+
+/// What a relay says of two devices.
+const STATUS: &str = "relay 1 1000000\npassed 7 lost 0 dropped 2\n\
+device 3 10.0.7.31:9001 heard 997000\ndevice 4 10.0.7.32:7000 never silent\nend\n";
+
+#[test]
+fn devices_of_a_relay(rt: HostRuntime) {
+    let alloc = rt.alloc();
+    let status = status::read(alloc, STATUS).expect(&rt, "memory");
+    let Some(status) = status else {
+        panic!(rt; "this is no status");
+    };
+    let lines = heard_lines(alloc, &status, 1_000_000).expect(&rt, "memory");
+    let [line] = lines.as_slice() else {
+        panic!(rt; "not one line");
+    };
+    let wanted = "HEARD  3: heard 3 s ago        4: silent, never heard";
+    assert!(rt; line.as_str() == wanted, "{}", line.as_str());
+    let lines = heard_lines(alloc, &status, 1_012_000).expect(&rt, "memory");
+    let [line] = lines.as_slice() else {
+        panic!(rt; "not one line");
+    };
+    assert!(rt;
+        line.as_str() == "HEARD  the relay has stopped, 12 s ago",
+        "{}",
+        line.as_str()
+    );
+}
+
+#[test]
+fn last_lines_of_a_log(rt: HostRuntime) {
+    let alloc = rt.alloc();
+    let log = "2026-11-24T12:13:35Z one\n2026-11-24T12:13:36Z two\nthree\n";
+    let lines = log_lines(alloc, log, 2).expect(&rt, "memory");
+    let [first, second] = lines.as_slice() else {
+        panic!(rt; "not two lines");
+    };
+    assert!(rt;
+        first.as_str() == "LOG    12:13:36Z two",
+        "{}",
+        first.as_str()
+    );
+    assert!(rt; second.as_str() == "LOG    three", "{}", second.as_str());
+}

@@ -1,0 +1,38 @@
+//! What the controller replies, byte for byte as docs/PROTOCOL.md has it.
+use crate::replying::{Replied, Status, read_reply};
+use cue_show::CueNo;
+
+/// `/reply` to `/cue/1/go`: one refused, code 13.
+const REFUSED: &[u8] = b"/reply\0\0,siiii\0\0/cue/1/go\0\0\0\
+\0\0\0\0\0\0\0\0\0\0\0\x01\0\0\0\x0d";
+
+/// `/status` after attempt 2, which is complete, with the place at cue 1.5.
+const STATUS: &[u8] = b"/status\0,isiii\0\0\0\0\0\x02\x31.5\0\
+\0\0\0\0\0\0\0\x02\0\0\0\x01";
+
+#[test]
+fn refusal_is_read(rt: HostRuntime) {
+    let heard = read_reply(rt.alloc(), b"/cue/1/go", REFUSED).expect(&rt, "memory");
+    let wanted = Replied::Reply {
+        made: 0,
+        known: 0,
+        refused: 1,
+        code: 13,
+    };
+    assert!(rt; heard == Some(wanted));
+}
+
+#[test]
+fn status_is_read(rt: HostRuntime) {
+    let heard = read_reply(rt.alloc(), b"/status", STATUS).expect(&rt, "memory");
+    let wanted = Status {
+        last: 2,
+        place: CueNo::read(b"1.5"),
+        live: 0,
+        ended: 2,
+        outcome: 1,
+    };
+    assert!(rt; heard == Some(Replied::Status(wanted)));
+    let other = read_reply(rt.alloc(), b"/cue/2/go", REFUSED).expect(&rt, "memory");
+    assert!(rt; other.is_none());
+}

@@ -1,0 +1,121 @@
+// Inputs that are offered one after the other and then committed together, with the two writes and two syncs of one.
+ghost use Rattle.std.specs.Prelude.{◌≡◌, ◌⊎◌, ◌↔◌, [], true};
+ghost use Rattle.std.specs.Prelude.{IfOk, IfErr, OnOk, OnErr, IsErrOf};
+ghost use Rattle.std.specs.Result.{result_err};
+ghost use Rattle.cue_keeper.specs.Accepting.{AcceptsTogether};
+ghost use Rattle.cue_keeper.specs.Groups.{batches_view};
+ghost use Rattle.cue_keeper.specs.Observed as kept;
+ghost use Rattle.cue_engine.specs.Given.{given};
+ghost use Rattle.cue_engine.specs.Inputs.{input_view};
+
+use super::{Engine, discard};
+use crate::input::Input;
+use crate::keeping::keep_together;
+use crate::offers::{offer_first, offer_next};
+use crate::taken::Taken;
+use cue_core::Event;
+use cue_disk::Disk;
+use cue_keeper::Fault;
+
+impl<D: Disk> Engine<D> {
+    ghost use Rattle.cue_engine.specs.Taking.{Offers, IsOffered, TakesTogether};
+    ghost use Rattle.cue_engine.specs.Words.{keeper_of, state_of, queue_of, latest_of, has_room, last_batches_of};
+    ghost use Rattle.cue_engine.specs.Words.{offered_of, offered_sends_of};
+
+    /// Judges what came after all that was offered before, and keeps what it gives until `commit`; it answers how many
+    /// commands are made, known and refused then. It makes no device call, and state and queue stay as they are. Where
+    /// it answers Broken or Memory, what was offered before stays as it was.
+    pub fn offer(&mut self, now: u64, input: Input<'_>) -> Result<Taken, Fault>
+        ensures offers { IfOk result
+            (λ counts. Offers (given (latest_of self.old) now (input_view input.entry)) counts self.old self.new) }
+        ensures keeper { keeper_of self.new ≡ keeper_of self.old }
+        ensures queue { queue_of self.new ≡ queue_of self.old }
+        ensures refused { OnErr result ((offered_of self.new ≡ offered_of self.old)
+            × (offered_sends_of self.new ≡ offered_sends_of self.old)) }
+        ensures broken { IsErrOf result Fault.Broken ↔ (kept.is_broken (keeper_of self.old) ≡ true) }
+        ensures memory { IfErr result (λ fault. (fault ≡ Fault.Broken) ⊎ (fault ≡ Fault.Memory)) }
+    {
+        if self.keeper.is_broken() {
+            return Err(Fault::Broken);
+        }
+        match &mut self.offered {
+            Some(offered) => Ok(offer_next(
+                self.alloc,
+                now,
+                offered,
+                &mut self.draft,
+                &mut self.spare,
+                input,
+            )?),
+            None => {
+                let (first, counts) = offer_first(
+                    self.alloc,
+                    now,
+                    self.keeper.state(),
+                    &mut self.draft,
+                    &mut self.spare,
+                    input,
+                )?;
+                self.offered = Some(first);
+                Ok(counts)
+            }
+        }
+    }
+
+    /// Whether one input more can be offered, whatever it is, and all be committed together. Where it cannot, a caller
+    /// commits what was offered first: `commit` may answer Full otherwise.
+    pub fn has_room(&self) -> bool
+        ensures { result ≡ has_room self.now }
+    {
+        match &self.offered {
+            Some(offered) => self.keeper.has_room_beside(&offered.group),
+            None => true,
+        }
+    }
+
+    /// Takes all that was offered together: the batch of each input is on both disks, each its own record, and what
+    /// they owe at the end of the queue, in order; or nothing has changed, and what was offered is dropped. A stop
+    /// within it leaves the state before all of them, or after all. Where several change something it makes two writes
+    /// and two syncs; where none was offered it makes no device call.
+    pub fn commit(&mut self) -> Result<(), Fault>
+        // State and queue are what the inputs give, one after the other.
+        ensures gives { OnOk result (TakesTogether self.old self.new) }
+        // On a fault state and queue are as they were.
+        ensures same { OnErr result
+            ((state_of self.new ≡ state_of self.old) × (queue_of self.new ≡ queue_of self.old)) }
+        // Their batches are on both disks, each whole, or the fault says why not.
+        ensures accepts { AcceptsTogether (offered_of self.old) (result_err result)
+            (keeper_of self.old) (keeper_of self.new) }
+        ensures dropped { IsOffered [] self.new }
+    {
+        let offered = self.offered.take();
+        if self.keeper.is_broken() {
+            discard(offered);
+            self.spare.is_valid = false;
+            return Err(Fault::Broken);
+        }
+        match offered {
+            None => Ok(()),
+            Some(offered) => {
+                let kept = keep_together(
+                    &mut self.keeper,
+                    &mut self.draft,
+                    &mut self.queue,
+                    offered,
+                );
+                if kept.is_err() {
+                    self.spare.is_valid = false;
+                }
+                kept
+            }
+        }
+    }
+
+    /// The batches that were accepted last, one for each input of the last `commit`, in order, for whoever writes a
+    /// log. One is empty where its input changed nothing. After `take` and `recover` it is the one batch of that call.
+    pub fn last_batches(&self) -> &[Vec<Event>]
+        ensures { batches_view result.now ≡ last_batches_of self.now }
+    {
+        &self.draft.missing
+    }
+}

@@ -1,0 +1,136 @@
+// Inputs that are offered before they are committed together.
+ghost use Rattle.std.specs.Prelude.{◌≡◌, ◌≤◌, ◌++◌, ◌∷◌, [], false, length};
+ghost use Rattle.std.specs.Prelude.{IfOk, OnOk, OnErr, MatchResult, IsTrue};
+ghost use Rattle.cue_core.specs.Steps.{after_events, are_acceptable};
+ghost use Rattle.cue_outbox.specs.Sending.{datagrams};
+ghost use Rattle.cue_outbox.specs.Views.{outs_view};
+ghost use Rattle.cue_engine.specs.Given.{given};
+ghost use Rattle.cue_engine.specs.Inputs.{input_view};
+ghost use Rattle.cue_engine.specs.Takes.{FitsRecord, CanFollow, Follows, InStep, IsAhead};
+ghost use Rattle.cue_records.specs.Batch.{is_batch};
+
+use crate::drafts::{Draft, follow, last_batch, set_missing};
+use crate::heard::Heard;
+use crate::input::Input;
+use crate::taken::Taken;
+use crate::taking::judge_input;
+use cue_core::State;
+use cue_keeper::BatchGroup;
+use cue_outbox::Out;
+use std::alloc::{AllocError, Global};
+use std::mem;
+
+/// What was offered and is not committed yet.
+#[derive(Drop)]
+pub(crate) struct Offered {
+    /// The batch of each input.
+    pub(crate) group: BatchGroup,
+    /// What is sent for them, in order.
+    pub(crate) sends: Vec<Out>,
+}
+
+impl Offered {
+    /// Nothing yet.
+    fn new(alloc: Global) -> Result<Offered, AllocError>
+        ensures group { IfOk result (λ offered. offered.group ≡ []) }
+        ensures sends { IfOk result (λ offered. outs_view offered.sends.items ≡ []) }
+    {
+        Ok(Offered {
+            group: BatchGroup::new(alloc)?,
+            sends: Vec::new(alloc),
+        })
+    }
+
+    // Adds what an input gives after all that was offered before. Where memory runs out nothing changes.
+    fn add(&mut self, heard: Heard) -> Result<Taken, AllocError>
+        requires batch { 1 ≤ length heard.batch.items → IsTrue (is_batch heard.batch.items) }
+        requires fits { FitsRecord heard.batch.items }
+        ensures group { OnOk result (self.new.group ≡ self.old.group ++ heard.batch.items ∷ []) }
+        ensures sends { OnOk result (outs_view self.new.sends.items
+            ≡ outs_view self.old.sends.items ++ outs_view heard.sends.items) }
+        ensures counts { IfOk result (λ counts. counts ≡ heard.counts) }
+        ensures same { OnErr result ((self.new.group ≡ self.old.group)
+            × (outs_view self.new.sends.items ≡ outs_view self.old.sends.items)) }
+    {
+        let Heard {
+            batch,
+            mut sends,
+            counts,
+            ..
+        } = heard;
+        let before = self.sends.len();
+        self.sends.append(&mut sends)?;
+        if let Err(refused) = self.group.push(batch) {
+            self.sends.truncate(before);
+            return Err(refused);
+        }
+        Ok(counts)
+    }
+}
+
+/// Judges the first input of a group on the draft, which is ahead of the kept state from then on.
+pub(crate) fn offer_first(
+    alloc: Global,
+    now: u64,
+    kept: &State,
+    draft: &mut Draft,
+    spare: &mut Draft,
+    input: Input<'_>,
+) -> Result<(Offered, Taken), AllocError>
+    requires can_follow { CanFollow draft.old }
+    requires follows { Follows kept.now draft.old }
+    requires spare { InStep kept.now spare.old }
+    ensures marked { draft.new.is_valid ≡ false }
+    ensures ahead { IfOk result (λ first. IsAhead kept.now draft.new first.0) }
+    ensures group { IfOk result (λ first. first.0.group
+        ≡ (given kept.now now (input_view input.entry)).batch ∷ []) }
+    ensures sends { IfOk result (λ first. outs_view first.0.sends.items
+        ≡ datagrams (given kept.now now (input_view input.entry)).sends) }
+    ensures counts { IfOk result (λ first. first.1 ≡ (given kept.now now (input_view input.entry)).counts) }
+    ensures spare { MatchResult result (λ _. InStep draft.new.state spare.new) (λ _. InStep kept.now spare.new) }
+{
+    let _last = kept.last_seq();
+    let heard = judge_input(alloc, now, kept, draft, input)?;
+    let mut first = Offered::new(alloc)?;
+    let counts = first.add(heard)?;
+    follow(alloc, spare, last_batch(first.group.batches()));
+    Ok((first, counts))
+}
+
+/// Judges one input more on the spare draft, after all that was offered; then the two drafts change places. Where
+/// memory runs out, what was offered stays as it was.
+pub(crate) fn offer_next(
+    alloc: Global,
+    now: u64,
+    offered: &mut Offered,
+    draft: &mut Draft,
+    spare: &mut Draft,
+    input: Input<'_>,
+) -> Result<Taken, AllocError>
+    requires marked { draft.old.is_valid ≡ false }
+    requires spare { InStep draft.old.state spare.old }
+    ensures marked { draft.new.is_valid ≡ false }
+    ensures draft { MatchResult result
+        (λ _. draft.new.state ≡ after_events draft.old.state
+        (given draft.old.state now (input_view input.entry)).batch)
+        (λ _. draft.new.state ≡ draft.old.state) }
+    ensures in_turn { OnOk result (IsTrue (are_acceptable draft.old.state
+        (given draft.old.state now (input_view input.entry)).batch)) }
+    ensures group { OnOk result (offered.new.group
+        ≡ offered.old.group ++ (given draft.old.state now (input_view input.entry)).batch ∷ []) }
+    ensures sends { OnOk result (outs_view offered.new.sends.items
+        ≡ outs_view offered.old.sends.items
+        ++ datagrams (given draft.old.state now (input_view input.entry)).sends) }
+    ensures counts { IfOk result (λ counts. counts ≡ (given draft.old.state now (input_view input.entry)).counts) }
+    ensures same { OnErr result ((offered.new.group ≡ offered.old.group)
+        × (outs_view offered.new.sends.items ≡ outs_view offered.old.sends.items)) }
+    ensures spare { InStep draft.new.state spare.new }
+{
+    let _last = draft.state.last_seq();
+    let heard = judge_input(alloc, now, &draft.state, spare, input)?;
+    let counts = offered.add(heard)?;
+    mem::swap(&mut draft.state, &mut spare.state);
+    set_missing(spare, Vec::new(alloc));
+    follow(alloc, spare, last_batch(offered.group.batches()));
+    Ok(counts)
+}

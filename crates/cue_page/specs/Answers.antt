@@ -1,0 +1,39 @@
+-- The bytes of an answer.
+use Rattle.std.specs.Prelude.{ℕ, List, ◌++◌, length, codes}
+use Rattle.std.specs.Fmt.{decimal}
+use Rattle.cue_page.specs.declared.answering.Kind.{Kind}
+use Rattle.cue_page.specs.declared.answering.Kind.TheVariants as kind
+use Rattle.cue_page.specs.declared.answering.Outcome.{Outcome}
+use Rattle.cue_page.specs.declared.answering.Outcome.TheVariants as outcome
+use Rattle.cue_page.specs.declared.request.Refusal.TheVariants as refusal
+
+-- the status and its reason, as RFC 9110 has them
+abbrev pub status_of : Outcome → List ℕ
+status_of outcome.Done = codes "200 OK"
+status_of (outcome.Refused refusal.Unreadable) = codes "400 Bad Request"
+status_of (outcome.Refused refusal.Foreign) = codes "403 Forbidden"
+status_of (outcome.Refused refusal.Unknown) = codes "404 Not Found"
+status_of (outcome.Refused refusal.Method) = codes "405 Method Not Allowed"
+status_of (outcome.Refused refusal.Late) = codes "408 Request Timeout"
+status_of (outcome.Refused refusal.LongBody) = codes "413 Content Too Large"
+status_of (outcome.Refused refusal.LongHead) = codes "431 Request Header Fields Too Large"
+status_of outcome.Unavailable = codes "503 Service Unavailable"
+
+-- the type of a body
+abbrev pub type_of : Kind → List ℕ
+type_of kind.Page = codes "text/html; charset=utf-8"
+type_of kind.Json = codes "application/json"
+type_of kind.Text = codes "text/plain; charset=utf-8"
+
+-- what each answer says of itself: its connection ends with it, nothing keeps a copy, it is what its type says, and no
+-- other page shows it in a frame
+abbrev pub guard_fields : List ℕ
+guard_fields =
+    codes "\r\nConnection: close\r\nCache-Control: no-store\r\nX-Content-Type-Options: nosniff\r\nX-Frame-Options: DENY"
+
+-- a status, a type, what the body may do in a browser, and the body
+abbrev pub answer_of : List ℕ → List ℕ → List ℕ → List ℕ → List ℕ
+answer_of status type policy body =
+    codes "HTTP/1.1 " ++ (status ++ (codes "\r\nContent-Type: " ++ (type
+    ++ (codes "\r\nContent-Length: " ++ (decimal (length body) ++ (guard_fields
+    ++ (codes "\r\nContent-Security-Policy: " ++ (policy ++ (codes "\r\n\r\n" ++ body)))))))))

@@ -1,0 +1,5 @@
+pub mod Fields
+pub mod Requests
+pub mod Presses
+pub mod Board
+pub mod Answers

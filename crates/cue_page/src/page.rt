@@ -1,0 +1,81 @@
+//! The page itself: one text of HTML with its style and its script, and nothing from anywhere else.
+mod script;
+mod style;
+
+use base64::engine::general_purpose::STANDARD;
+use script::SCRIPT;
+use sha2::{Digest, Sha256};
+use std::alloc::{AllocError, Global};
+use style::STYLE;
+
+/// What stands before the style.
+const HEAD: &str = r#"<!DOCTYPE html>
+<html lang="en">
+<head>
+<meta charset="utf-8">
+<meta name="viewport" content="width=device-width, initial-scale=1">
+<title>cuedesk</title>
+<link rel="icon" href="data:,">
+<style>"#;
+
+/// What stands between the style and the token.
+const TOKEN: &str = r#"</style>
+<meta name="cuedesk-token" content=""#;
+
+/// What stands between the token and the script.
+const BODY: &str = r#"">
+</head>
+<body>
+<header>
+<h1>CUEDESK</h1>
+<div>Last: <span id="last">no board yet</span></div>
+<div id="age" role="status" aria-label="Age of the board">no board yet</div>
+</header>
+<main>
+<section aria-labelledby="stack-title"><h2 id="stack-title">Stack</h2><ol id="stack"></ol></section>
+<section aria-labelledby="next-title">
+<h2 id="next-title">Next</h2>
+<div id="next" class="next"></div>
+<h2 id="live-title">Live</h2>
+<div id="live" role="group" aria-labelledby="live-title"></div>
+</section>
+</main>
+<footer aria-label="Commands">
+<div id="words" role="alert">S is STANDBY, the space bar GO, Esc CANCEL.</div>
+<button id="standby" type="button" disabled aria-keyshortcuts="S">
+<b>STANDBY</b> <span id="standby-cue">no cue</span></button>
+<button id="cancel" type="button" disabled aria-keyshortcuts="Escape">
+<b>CANCEL</b> <span id="cancel-cue"></span></button>
+<button id="go" type="button" disabled aria-keyshortcuts="Space">
+<b>GO</b> <span id="go-cue">no cue is ready</span></button>
+</footer>
+<div id="spoken" class="hidden" aria-live="polite"></div>
+<script>"#;
+
+/// What stands after the script.
+const END: &str = "</script>\n</body>\n</html>\n";
+
+/// The page with its token.
+pub fn page_text(alloc: Global, token: &str) -> Result<String, AllocError> {
+    format!(in alloc; "{HEAD}{STYLE}{TOKEN}{token}{BODY}{SCRIPT}{END}")
+}
+
+// How a policy names a text: by its digest, so that no other text is taken in its place.
+fn named(alloc: Global, text: &str) -> Result<String, AllocError> {
+    let digest = Sha256::digest(text.as_bytes());
+    let spelled = STANDARD.encode(alloc, &digest)?;
+    format!(in alloc; "'sha256-{}'", spelled.as_str())
+}
+
+/// What the page may do in a browser: run its own script with its own style, and speak with where it came from. No
+/// other page may show it in a frame.
+pub fn policy(alloc: Global) -> Result<String, AllocError> {
+    let script = named(alloc, SCRIPT)?;
+    let style = named(alloc, STYLE)?;
+    format!(in alloc;
+        "default-src 'none'; script-src {}; style-src {}; img-src data:; connect-src 'self'; \
+        base-uri 'none'; form-action 'none'; frame-ancestors 'none'",
+        script.as_str(),
+        style.as_str()
+    )
+}

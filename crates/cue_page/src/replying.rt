@@ -1,0 +1,54 @@
+//! What the page is told of a press: what became of it, in words.
+use cue_words::code_words;
+use serde_json::json;
+use std::alloc::{AllocError, Global};
+
+/// What became of a press.
+#[derive(Clone, Copy, Debug, PartialEq, Eq)]
+pub enum Told {
+    /// The controller carried it out.
+    Made,
+    /// Nothing was to be changed.
+    Known,
+    /// The controller refused it, by this code.
+    Refused(i32),
+    /// Nobody replied.
+    Silent,
+    /// It is no press of a button: nothing was sent.
+    Unread,
+}
+
+// What became of it, as one word.
+fn outcome_word(told: Told) -> &'static str {
+    match told {
+        Told::Made => "made",
+        Told::Known => "known",
+        Told::Refused(_) | Told::Unread => "refused",
+        Told::Silent => "silent",
+    }
+}
+
+// The same as a sentence.
+fn sentence(alloc: Global, told: Told) -> Result<String, AllocError> {
+    match told {
+        Told::Made => String::from_str(alloc, "made"),
+        Told::Known => String::from_str(alloc, "it was so already"),
+        Told::Refused(code) => format!(in alloc; "refused: {} (code {code})", code_words(code)),
+        Told::Silent => String::from_str(
+            alloc,
+            "not acknowledged: it was carried out whole, or not at all",
+        ),
+        Told::Unread => String::from_str(alloc, "refused: this is no command of the page"),
+    }
+}
+
+/// What became of a press, as JSON: one word, and a sentence that is shown.
+pub fn told_text(alloc: Global, told: Told) -> Result<String, AllocError> {
+    let words = sentence(alloc, told)?;
+    json!(in alloc; {"outcome": outcome_word(told), "words": words.as_str()})?.to_string(alloc)
+}
+
+/// Why there is no answer, as JSON: a sentence that is shown.
+pub fn trouble_text(alloc: Global, words: &str) -> Result<String, AllocError> {
+    json!(in alloc; {"outcome": "refused", "words": words})?.to_string(alloc)
+}

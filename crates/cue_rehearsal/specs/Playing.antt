@@ -1,0 +1,73 @@
+-- A rehearsed device: how long its machine takes, and what it tells the device at the end.
+use Rattle.std.specs.Prelude.{ℕ, ◌+◌, ◌-◌, Bool, true, false, Option, Some, None, nat_le, if◌then◌else◌}
+use Rattle.cue_device.specs.declared.hearing.Device.{Device}
+use Rattle.cue_device.specs.declared.hearing.Told.{Told}
+use Rattle.cue_device.specs.declared.hearing.Told.TheVariants.{Prepared, Moved, GaveUp, Cannot}
+use Rattle.cue_device.specs.declared.words.Answer.{Answer}
+use Rattle.cue_device.specs.declared.words.Order.{Order}
+use Rattle.cue_device.specs.declared.words.Order.TheVariants.{Prepare, Move, GiveUp}
+use Rattle.cue_device.specs.Hearing.{after_told, answer_told, ordered_for}
+use Rattle.cue_rehearsal.specs.declared.manner.Fate.{Fate}
+use Rattle.cue_rehearsal.specs.declared.manner.Fate.TheVariants.{Plays, Silent, Refuses, Fails}
+use Rattle.cue_rehearsal.specs.declared.manner.Manner.{Manner}
+use Rattle.cue_rehearsal.specs.declared.player.Player.{Player}
+use Rattle.cue_rehearsal.specs.declared.player.Work.{Work}
+
+-- the device hears nothing
+abbrev pub is_silent : Fate → Bool
+is_silent Plays = false
+is_silent Silent = true
+is_silent Refuses = false
+is_silent Fails = false
+
+-- the machine cannot carry this order out
+abbrev pub breaks_at : Fate → Order → Bool
+breaks_at Refuses (Prepare q) = true
+breaks_at Fails (Move q) = true
+breaks_at fate order = false
+
+-- how long the machine always takes for an order
+abbrev pub least_for : Manner → Order → ℕ
+least_for m (Prepare q) = m.prepare
+least_for m (Move q) = m.moving
+least_for m (GiveUp q) = m.prepare
+
+-- how long it takes this time
+abbrev pub time_for : Manner → Order → ℕ → ℕ
+time_for m order longer = least_for m order + longer
+
+-- the machine begins with an order
+abbrev pub begun : Manner → ℕ → ℕ → Order → Work
+begun m now longer order = record { order = order; since = now; takes = time_for m order longer }
+
+-- what the machine does: what was ordered last
+abbrev pub work_after : (Order → Work) → Option Order → Option Work → Option Work
+work_after begun None work = work
+work_after begun (Some order) work = Some (begun order)
+
+-- the order whose end has come
+abbrev pub due : ℕ → Option Work → Option Order
+due now None = None
+due now (Some work) = if nat_le work.takes (now - work.since) then Some work.order else None
+
+-- what the machine tells at the end of an order that it carries out
+abbrev pub done : Order → Told
+done (Prepare q) = Prepared q
+done (Move q) = Moved q
+done (GiveUp q) = GaveUp q
+
+-- and at the end of any order
+abbrev pub told_at_end : Fate → Order → Told
+told_at_end fate order = if breaks_at fate order then Cannot (ordered_for order) else done order
+
+-- a device whose machine is at rest
+abbrev pub player_of : Device → Manner → Player
+player_of d m = record { device = d; manner = m; work = None }
+
+-- after the end of an order the machine is at rest, and the device was told
+abbrev pub after_end : Order → Player → Player
+after_end order p = record p { device = after_told (told_at_end p.manner.fate order) p.device; work = None }
+
+-- what the device answers then
+abbrev pub answer_at_end : Order → Player → Option Answer
+answer_at_end order p = answer_told (told_at_end p.manner.fate order) p.device

@@ -1,0 +1,16 @@
+//! Rehearsed devices: each answers as `cue_device` does, over a machine that is a clock and a manner.
+#![tactic(auto)]
+
+mod chance;
+mod manner;
+mod plan;
+mod player;
+mod telling;
+#[cfg(test)]
+mod tests;
+
+pub use chance::Chance;
+pub use manner::{Fate, Manner};
+pub use plan::{MOST_TIME, Plan, PlanFault, read_devices, read_plan};
+pub use player::{Player, Work};
+pub use telling::{Deed, Line};

@@ -1,0 +1,7 @@
+use Rattle.std.proofs.Common.{lit<}
+use Rattle.cue_relay.specs.declared.relaying.TheConstants.{BUFFER}
+use Rattle.cue_relay.proofs.WayLemmas.{nothing-of-strangers}
+use Rattle.cue_relay.proofs.laws.nothing_of_strangers.Goals as goal
+
+pub returns : goal.returns
+returns c = nothing-of-strangers

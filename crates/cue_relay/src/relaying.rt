@@ -1,0 +1,204 @@
+//! The loop of the relay: what comes is handed on, or dropped, or lost.
+ghost use Rattle.std.specs.Prelude.{◌≡◌, ◌+◌, ◌-◌, ◌<◌, ◌^◌, length};
+ghost use Rattle.cue_relay.specs.Relayed.{Ran, Takes, Turned, counted};
+ghost use Rattle.cue_relay.specs.Sources.{comes};
+
+use crate::route::{Address, Opening, Route, way_of};
+use crate::source::{Source, Turn};
+use crate::wire::Wire;
+use std::alloc::Global;
+
+/// The buffer is longer than the longest datagram, so that one that is too long is seen to be so.
+const BUFFER: usize = 4_100;
+
+/// A relay: where the controller is, and the ways to its devices.
+#[derive(Clone, Copy)]
+pub struct Relay<'a> {
+    pub controller: Address,
+    pub routes: &'a [Route],
+}
+
+/// What happened in a turn, at a moment in milliseconds since 1970.
+#[derive(Clone, Copy, Debug, PartialEq, Eq)]
+pub enum Happening {
+    /// A datagram that came at this opening was handed on.
+    Passed { now: u64, at: Opening },
+    /// It was to be handed on, and could not be sent.
+    Lost { now: u64, at: Opening },
+    /// It was dropped: its sender is not the one at that side, or it is too long.
+    Dropped { now: u64 },
+    /// Nothing came.
+    Tick { now: u64 },
+}
+
+/// How many datagrams were handed on, lost and dropped.
+#[derive(Clone, Copy, Debug, PartialEq, Eq)]
+pub struct Counts {
+    pub passed: u64,
+    pub lost: u64,
+    pub dropped: u64,
+}
+
+/// Why a relay ended before its turns and before its source did.
+#[derive(Clone, Copy, Debug, PartialEq, Eq)]
+pub enum RelayFault {
+    /// The source failed.
+    Source,
+    /// There was no memory for its buffer.
+    Memory,
+}
+
+/// How a relay ended.
+#[derive(Clone, Copy, Debug, PartialEq, Eq)]
+pub struct Ended {
+    /// How many datagrams and ticks came.
+    pub turns: u64,
+    pub counts: Counts,
+    /// None where it had its turns or the source ended.
+    pub fault: Option<RelayFault>,
+}
+
+/// Looks on while a relay runs. It can change nothing of what is handed on.
+pub trait Watch {
+    /// Looks at what happened, and at the counts after it.
+    fn look(&mut self, what: Happening, counts: Counts);
+}
+
+/// Nobody looks on.
+#[derive(Drop)]
+pub struct Unwatched;
+
+impl Watch for Unwatched {
+    fn look(&mut self, _what: Happening, _counts: Counts) {}
+}
+
+impl Counts {
+    /// Nothing came yet.
+    pub const NONE: Counts = Counts {
+        passed: 0,
+        lost: 0,
+        dropped: 0,
+    };
+
+    // Counts what happened.
+    fn after(self, what: Happening) -> Counts
+        requires { self.passed + self.lost + self.dropped < 2 ^ 64 - 1 }
+        ensures { result ≡ counted self what }
+    {
+        let mut counts = self;
+        match what {
+            Happening::Passed { .. } => counts.passed += 1,
+            Happening::Lost { .. } => counts.lost += 1,
+            Happening::Dropped { .. } => counts.dropped += 1,
+            Happening::Tick { .. } => {}
+        }
+        counts
+    }
+}
+
+// Hands a datagram on, where it goes on.
+fn hand_on<W: Wire>(
+    relay: Relay<'_>,
+    wire: &mut W,
+    now: u64,
+    at: Opening,
+    from: Address,
+    bytes: &[u8],
+) -> Happening
+    ensures { Takes relay.entry (comes now at from bytes.now) result (W.told wire.old) (W.told wire.new) }
+{
+    match way_of(relay.controller, relay.routes, at, from, bytes.len()) {
+        Some(way) => match wire.send(way, bytes) {
+            Ok(()) => Happening::Passed { now, at },
+            Err(_) => Happening::Lost { now, at },
+        },
+        None => Happening::Dropped { now },
+    }
+}
+
+// One turn. None: the source ended.
+fn turn_once<S: Source, W: Wire>(
+    relay: Relay<'_>,
+    source: &mut S,
+    wire: &mut W,
+    buffer: &mut [u8],
+) -> Result<Option<Happening>, RelayFault>
+    ensures { Turned relay.entry (length buffer.old) result (S.left source.old) (S.left source.new)
+        (W.told wire.old) (W.told wire.new) }
+{
+    match source.next(buffer) {
+        Ok(Turn::End) => Ok(None),
+        Ok(Turn::Tick { now }) => Ok(Some(Happening::Tick { now })),
+        Ok(Turn::Datagram { now, at, from, n }) => {
+            Ok(Some(hand_on(relay, wire, now, at, from, &buffer[..n])))
+        }
+        Err(_) => Err(RelayFault::Source),
+    }
+}
+
+// Takes turns in order.
+fn relay_turns<S: Source, W: Wire, V: Watch>(
+    relay: Relay<'_>,
+    source: &mut S,
+    wire: &mut W,
+    watch: &mut V,
+    buffer: &mut [u8],
+    turns: u64,
+) -> Ended
+    ensures { Ran relay.entry (length buffer.old) turns result (S.left source.old) (S.left source.new)
+        (W.told wire.old) (W.told wire.new) }
+{
+    let mut counts = Counts::NONE;
+    for taken in 0..turns {
+        match turn_once(relay, source, wire, buffer) {
+            Ok(Some(what)) => {
+                counts = counts.after(what);
+                watch.look(what, counts);
+            }
+            Ok(None) => {
+                return Ended {
+                    turns: taken,
+                    counts,
+                    fault: None,
+                };
+            }
+            Err(fault) => {
+                return Ended {
+                    turns: taken,
+                    counts,
+                    fault: Some(fault),
+                };
+            }
+        }
+    }
+    Ended {
+        turns,
+        counts,
+        fault: None,
+    }
+}
+
+/// Takes so many datagrams and ticks at most, and hands on what goes on, each at once and with its own bytes. It ends
+/// at its turns, where the source ends, or at a fault of the source. After each turn `watch` looks at what happened.
+pub fn run<S: Source, W: Wire, V: Watch>(
+    alloc: Global,
+    relay: Relay<'_>,
+    source: &mut S,
+    wire: &mut W,
+    turns: u64,
+    watch: &mut V,
+) -> Ended
+    // What was taken is what the source gave first, the wire was handed what the definition makes of it, all of it is
+    // counted, and it ended for its reason.
+    ensures ran { Ran relay.entry BUFFER turns result (S.left source.old) (S.left source.new)
+        (W.told wire.old) (W.told wire.new) }
+{
+    match vec![in alloc; 0u8; BUFFER] {
+        Ok(mut buffer) => relay_turns(relay, source, wire, watch, &mut buffer, turns),
+        Err(_) => Ended {
+            turns: 0,
+            counts: Counts::NONE,
+            fault: Some(RelayFault::Memory),
+        },
+    }
+}

@@ -1,0 +1,11 @@
+pub mod Moves
+pub mod Lives
+pub mod Delivered
+pub mod Decisions
+pub mod Kept
+pub mod Once
+pub mod Readies
+pub mod Asking
+pub mod Saying
+pub mod Prepared
+pub mod Consenting

@@ -1,0 +1,5 @@
+use Rattle.cue_stage.proofs.Once.{moves_once}
+use Rattle.cue_stage.proofs.laws.moves_once.Goals as goal
+
+pub returns : goal.returns
+returns c = moves_once

@@ -1,0 +1,49 @@
+-- What holds of every stage, whatever happens to it.
+use Rattle.std.specs.Prelude.{◌≡◌, ◌≤◌, ℕ, true, List, IsTrue, count_by}
+use Rattle.std.specs.List.{Contains, list_any}
+use Rattle.cue_core.specs.declared.event.Event.{Event}
+use Rattle.cue_core.specs.Events.{is_cancel_of, is_go_of}
+use Rattle.cue_core.specs.State.{empty_state}
+use Rattle.cue_core.specs.Steps.{after_events}
+use Rattle.cue_engine.specs.Headline.{AreKept, HasState, MayRead}
+use Rattle.cue_engine.specs.Runs.{joined}
+use Rattle.cue_device.specs.declared.asked.Command.TheVariants.{Cancel}
+use Rattle.cue_device.specs.Histories.{hears}
+use Rattle.cue_device.specs.Laws.{has_moved, is_move}
+use Rattle.cue_stage.specs.Stage.{Beginning, Happening, Happens, incidents, life_of, orders_by, store_after}
+
+-- the device d was ordered to move for the attempt q
+abbrev pub WasToMove : Beginning → List Happening → ℕ → ℕ → Type 0
+WasToMove from past d q = has_moved q (orders_by from past d) ≡ true
+
+-- a CANCEL of the attempt q came to the device d
+abbrev pub WasToGiveUp : Beginning → List Happening → ℕ → ℕ → Type 0
+WasToGiveUp from past d q = Contains (life_of d past) (hears (Cancel q))
+
+-- The batches that the store keeps, a prefix of the accepted ones with every acknowledged one. They make the state
+-- that the store has, and hold the Go of each attempt for which any device was ordered to move, and the Cancel of each
+-- of which a CANCEL came to any device.
+pub record KeepsEachDecision (from : Beginning) (past : List Happening) (x y : List ℕ) : Type 0 where
+  pub kept : List (List Event)
+  pub prefix : AreKept empty_state (incidents past) kept
+  pub has : HasState (store_after from past) x y (after_events empty_state (joined kept))
+  pub decided : (d q : ℕ) → WasToMove from past d q → IsTrue (list_any (is_go_of q) (joined kept))
+  pub cancelled : (d q : ℕ) → WasToGiveUp from past d q → IsTrue (list_any (is_cancel_of q) (joined kept))
+
+-- A move rests on a decision that stays: whatever happens, and whatever the disks then read as, the store keeps the
+-- Go of each attempt for which any device was ever ordered to move.
+abbrev pub MovesRestOnDecisions : Type 0
+MovesRestOnDecisions = (from : Beginning) (past : List Happening) (x y : List ℕ) → Happens from past
+    → MayRead (store_after from past) x y → KeepsEachDecision from past x y
+
+-- Not by halves: where one device was ordered to move for an attempt, the controller has none give it up, and the
+-- other way round.
+abbrev pub NotByHalves : Type 0
+NotByHalves = (from : Beginning) (past : List Happening) (x y : List ℕ) (d e q : ℕ) → Happens from past
+    → MayRead (store_after from past) x y → WasToMove from past d q → WasToGiveUp from past e q → ⊥
+
+-- Once: a device is ordered to move for an attempt at most once, whatever the network repeats and however often the
+-- power is lost.
+abbrev pub MovesOnce : Type 0
+MovesOnce = (from : Beginning) (past : List Happening) (d q : ℕ) → Happens from past
+    → count_by (is_move q) (orders_by from past d) ≤ 1

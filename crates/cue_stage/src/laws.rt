@@ -1,0 +1,27 @@
+//! Laws of every stage, whatever happens to it, each the contract of a function that does nothing.
+ghost use Rattle.cue_stage.specs.Consent.{OnlyWithConsent};
+ghost use Rattle.cue_stage.specs.Laws.{MovesOnce, MovesRestOnDecisions, NotByHalves};
+
+/// A move rests on a decision that stays: a device is ordered to move for an attempt only where its Go is in the
+/// batches that the store keeps, and there it is kept, before and after every stop from then on.
+pub fn moves_rest_on_decisions()
+    ensures { MovesRestOnDecisions }
+{}
+
+/// Where one device was ordered to move for an attempt, no CANCEL of it ever comes to any device, and the other way
+/// round.
+pub fn not_by_halves()
+    ensures { NotByHalves }
+{}
+
+/// A device is ordered to move for an attempt at most once, whatever copies the network delivers, and however often
+/// the power is lost at the controller or at the device.
+pub fn moves_once()
+    ensures { MovesOnce }
+{}
+
+/// Where nobody but a device says of itself that it stands by, a device is ordered to move for an attempt only after
+/// each required device of it has prepared for it and has answered so.
+pub fn only_with_consent()
+    ensures { OnlyWithConsent }
+{}

@@ -1,0 +1,10 @@
+-- How a command ends that is not done.
+use Rattle.std.specs.Prelude.{ℕ}
+use Rattle.cuedesk.specs.declared.program.ending.Ending.{Ending}
+use Rattle.cuedesk.specs.declared.program.ending.Ending.TheVariants as ending
+
+-- 1 where it was refused, 3 where nobody replied or something failed
+abbrev pub ending_status : Ending → ℕ
+ending_status ending.Refused = 1
+ending_status ending.Silent = 3
+ending_status ending.Failed = 3

@@ -1,0 +1,10 @@
+-- Helper: what a try at the sockets of the relay brings lies within the buffer.
+use Rattle.std.specs.Prelude.{ℕ, Ok}
+use Rattle.cue_relay.specs.Sources.{IsWithin}
+use Rattle.cuedesk.specs.declared.program.relaying.sockets.Try.{Try}
+use Rattle.cuedesk.specs.declared.program.relaying.sockets.Try.TheVariants.{Brings, Passes}
+
+-- the datagram of its turn, where it brings one
+abbrev pub IsTryWithin : Try → ℕ → Type 0
+IsTryWithin (Brings turn) size = IsWithin (Ok turn) size
+IsTryWithin Passes size = Unit {0}

@@ -1,0 +1,53 @@
+//! The command `web`, and what stands after it.
+use super::words::LineFault;
+use super::{option_in, over_dir, port, port_in, text_in};
+use clap::{Arg, ArgAction, ArgMatches, Command, value_parser};
+use std::alloc::{AllocError, Global};
+
+/// What is shown as a page, and where.
+#[derive(Drop)]
+pub struct Web {
+    /// The folder of the store.
+    pub dir: String,
+    /// The show file, for names and notes.
+    pub file: Option<String>,
+    /// The port of 127.0.0.1 at which the page is.
+    pub http: u16,
+    /// The port of the controller, where the command line says it.
+    pub port: Option<u16>,
+}
+
+/// The command `web`.
+pub fn web_command<'a>(alloc: Global) -> Result<Command<'a>, AllocError> {
+    let file = Arg::new(alloc, "FILE")
+        .help("The show file, for names and notes")
+        .action(ArgAction::Set);
+    let http = Arg::new(alloc, "http")
+        .help("The port of 127.0.0.1 at which the page is served")
+        .long("http")
+        .required(true)
+        .action(ArgAction::Set)
+        .value_parser(value_parser!(u16));
+    over_dir(
+        alloc,
+        "web",
+        "Show the board with buttons in a browser:  cuedesk web show evening.toml --http 8080",
+    )?
+    .arg(file)?
+    .arg(http)?
+    .arg(port(alloc))
+}
+
+/// The command `web`, with what stands after it.
+pub fn web_in(alloc: Global, found: &ArgMatches<'_>) -> Result<Web, LineFault> {
+    let file = option_in(alloc, found, "FILE")?;
+    match found.get_one::<u16>("http") {
+        Some(http) if http >= 1 => Ok(Web {
+            dir: text_in(alloc, found, "DIR")?,
+            file,
+            http,
+            port: port_in(found)?,
+        }),
+        _ => Err(LineFault::Usage),
+    }
+}

@@ -1,0 +1,58 @@
+//! Where a loading is, told on a terminal: a line that is drawn over itself.
+use super::super::ending::{Ending, print};
+use std::alloc::{AllocError, Global};
+use std::io::Write;
+
+/// After so many steps it is told again.
+const STEPS: usize = 16;
+
+/// How many of all steps are done.
+#[derive(Drop)]
+pub struct Progress<'a, W: Write> {
+    alloc: Global,
+    tells: bool,
+    done: usize,
+    all: usize,
+    writer: &'a mut W,
+}
+
+impl<'a, W: Write> Progress<'a, W> {
+    /// None of so many; it tells nothing where it is not to.
+    pub fn new(alloc: Global, tells: bool, all: usize, writer: &'a mut W) -> Progress<'a, W> {
+        Progress {
+            alloc,
+            tells,
+            done: 0,
+            all,
+            writer,
+        }
+    }
+
+    // The line of the steps that are done.
+    fn text(&self) -> Result<String, AllocError> {
+        let (done, all) = (self.done, self.all);
+        Ok(format!(in self.alloc; "\r{done} of {all}")?)
+    }
+
+    /// One more step is done.
+    pub fn step(&mut self) -> Result<(), Ending> {
+        self.done = self.done.saturating_add(1);
+        if self.tells && self.done % STEPS == 0 {
+            let text = self.text()?;
+            print(self.writer, text.as_str())?;
+        }
+        Ok(())
+    }
+
+    /// Empties the line, so that another one can stand there. Where that cannot be written, nothing else can.
+    pub fn clear(&mut self) {
+        if self.tells {
+            let _ = print(self.writer, "\r\x1b[K");
+        }
+    }
+
+    /// Prints a line that stays.
+    pub fn print(&mut self, line: &str) -> Result<(), Ending> {
+        print(self.writer, line)
+    }
+}

@@ -1,0 +1,305 @@
+//! The command `rehearse`: every device of a show file at its own port, in one loop over their sockets.
+ghost use Rattle.std.specs.Prelude.{◌≤◌, IfSome, length};
+
+use super::ending::{Ending, print, say};
+use super::files::read_file;
+use crate::line::rehearsing::{Rehearsal, with_flags};
+use cue_desk::show_file::{DeviceEntry, ShowFile};
+use cue_device::{Answer, MAX_ANSWER, Order};
+use cue_rehearsal::{Chance, Deed, Line, Plan, Player, read_plan};
+use cue_show::DeviceNo;
+use std::fs::{self, File, Files};
+use std::io::{Eprint, Write};
+use std::net::{IpAddr, Ipv4Addr, Net, SocketAddr, UdpSocket};
+use std::thread;
+use std::time::{Clock, Duration, Instant};
+
+/// The time between two rounds over the sockets, in milliseconds.
+const PAUSE: u64 = 4;
+
+/// How many rounds there are from one tick of the devices to the next: some four ticks in a second.
+const ROUNDS: u64 = 60;
+
+/// How many datagrams of one device are heard in a round.
+const MOST_HEARD: u32 = 16;
+
+/// The longest datagram.
+const LONGEST: usize = 4096;
+
+/// A rehearsed device at its socket.
+#[derive(Drop)]
+struct Seat {
+    socket: UdpSocket,
+    player: Player,
+    // Where its last datagram came from; itself, before the first one.
+    controller: SocketAddr,
+}
+
+/// What all seats share.
+#[derive(Drop)]
+struct Hall {
+    plan: Plan,
+    chance: Chance,
+    // Milliseconds since the rehearsal began.
+    now: u64,
+}
+
+impl Seat {
+    // The next datagram: its length. None where none waits.
+    fn next(&mut self, buffer: &mut [u8; LONGEST]) -> Option<usize>
+        ensures { IfSome result (λ n. n ≤ length buffer.new) }
+    {
+        match self.socket.recv_from(buffer) {
+            Ok((n, from)) => {
+                self.controller = from;
+                Some(n)
+            }
+            Err(_) => None,
+        }
+    }
+
+    // Sends an answer to where the last datagram came from, unless it is lost.
+    fn send(&self, hall: &mut Hall, answer: &[u8]) {
+        if answer.is_empty() || hall.chance.is_lost(hall.plan.loss) {
+            return;
+        }
+        let _ = self.socket.send_to(answer, self.controller);
+    }
+
+    fn send_answer(&self, hall: &mut Hall, answer: Option<Answer>) {
+        let mut out = [0; MAX_ANSWER];
+        let len = self.player.device().write_answer(answer, &mut out);
+        self.send(hall, &out[..len]);
+    }
+
+    // Tells a deed of the device on a line of its own.
+    fn tell<R: AllocGlobal, W: Write>(
+        &self,
+        rt: &R,
+        deed: Deed,
+        writer: &mut W,
+    ) -> Result<(), Ending> {
+        let device = self.player.device();
+        let cue = device.task().map(|task| task.cue);
+        let line = Line {
+            cue,
+            device: device.number(),
+            deed,
+        };
+        print(writer, format!(in rt.alloc(); "{line}\n")?.as_str())
+    }
+
+    // Hears one datagram: the order that came of it.
+    fn hear(&mut self, hall: &mut Hall, datagram: &[u8]) -> Option<Order> {
+        if hall.chance.is_lost(hall.plan.loss) {
+            return None;
+        }
+        let longer = hall.chance.up_to(hall.plan.spread);
+        let mut out = [0; MAX_ANSWER];
+        let (order, len) = self.player.hear(datagram, hall.now, longer, &mut out);
+        self.send(hall, &out[..len]);
+        order
+    }
+
+    // Hears all that waits.
+    fn hear_all<R: AllocGlobal, W: Write>(
+        &mut self,
+        rt: &R,
+        hall: &mut Hall,
+        writer: &mut W,
+    ) -> Result<(), Ending> {
+        let mut buffer = [0; LONGEST];
+        for _ in 0..MOST_HEARD {
+            let Some(n) = self.next(&mut buffer) else {
+                return Ok(());
+            };
+            if let Some(order) = self.hear(hall, &buffer[..n]) {
+                self.tell(rt, Deed::of_order(order), writer)?;
+            }
+        }
+        Ok(())
+    }
+
+    // Ends what the machine does, where its time is over.
+    fn work<R: AllocGlobal, W: Write>(
+        &mut self,
+        rt: &R,
+        hall: &mut Hall,
+        writer: &mut W,
+    ) -> Result<(), Ending> {
+        let Some(order) = self.player.due(hall.now) else {
+            return Ok(());
+        };
+        let answer = self.player.end(order);
+        self.send_answer(hall, answer);
+        match answer.and_then(Deed::of_answer) {
+            Some(deed) => self.tell(rt, deed, writer),
+            None => Ok(()),
+        }
+    }
+}
+
+/// The plan of a show file, which is read already; else what is wrong with it is on standard error.
+pub fn read_plan_of<R: Files<File = File> + Eprint + AllocGlobal>(
+    rt: &R,
+    path: &str,
+) -> Result<Plan, Ending> {
+    let text = match fs::read_to_string(rt, path) {
+        Ok(text) => text,
+        Err(why) => {
+            say(rt, format_args!("{path}: {why}"));
+            return Err(Ending::Failed);
+        }
+    };
+    match read_plan(rt.alloc(), text.as_str()) {
+        Ok(plan) => Ok(plan),
+        Err(why) => {
+            let _ = rt.eprintln(format_args!("{path}: [rehearse]: {why}"));
+            Err(Ending::Refused)
+        }
+    }
+}
+
+// Whether each of these devices is in the file; else which one is not is on standard error.
+fn knows_all<R: Eprint>(rt: &R, file: &ShowFile, devices: &[DeviceNo]) -> bool {
+    for device in devices {
+        if !file.devices.iter().any(|entry| entry.number == *device) {
+            let number = device.number();
+            say(
+                rt,
+                format_args!("the file has no device {number} to rehearse"),
+            );
+            return false;
+        }
+    }
+    true
+}
+
+/// Whether each device that the plan names is in the file; else which one is not is on standard error.
+pub fn knows_plan<R: Eprint>(rt: &R, file: &ShowFile, plan: &Plan) -> Result<(), Ending> {
+    let known = knows_all(rt, file, &plan.silent)
+        && knows_all(rt, file, &plan.refuses)
+        && knows_all(rt, file, &plan.fails);
+    if known { Ok(()) } else { Err(Ending::Refused) }
+}
+
+/// A port of this machine.
+fn local(port: u16) -> SocketAddr {
+    SocketAddr::new(IpAddr::V4(Ipv4Addr::LOCALHOST), port)
+}
+
+// A socket of this machine at the port, which gives what waits and never waits itself.
+fn socket_at<R: Net + Eprint>(rt: &R, port: u16) -> Result<UdpSocket, Ending> {
+    let bound = UdpSocket::bind(rt, local(port)).and_then(|socket| {
+        socket.set_nonblocking(true)?;
+        Ok(socket)
+    });
+    match bound {
+        Ok(socket) => Ok(socket),
+        Err(why) => {
+            say(rt, format_args!("no socket at port {port}: {why}"));
+            Err(Ending::Failed)
+        }
+    }
+}
+
+// A device of the file at its port.
+fn seat_of<R: Net + Eprint>(rt: &R, entry: &DeviceEntry, plan: &Plan) -> Result<Seat, Ending> {
+    Ok(Seat {
+        socket: socket_at(rt, entry.port)?,
+        player: Player::new(entry.number, plan.manner_of(entry.number)),
+        controller: local(entry.port),
+    })
+}
+
+// All devices of the file.
+fn seats_of<R: Net + Eprint + AllocGlobal>(
+    rt: &R,
+    file: &ShowFile,
+    plan: &Plan,
+) -> Result<Vec<Seat>, Ending> {
+    let mut seats = Vec::new(rt.alloc());
+    for entry in file.devices.iter() {
+        let seat = seat_of(rt, entry, plan)?;
+        if seats.push(seat).is_err() {
+            return Err(Ending::Failed);
+        }
+    }
+    Ok(seats)
+}
+
+// One round over the sockets.
+fn play_round<R: AllocGlobal, W: Write>(
+    rt: &R,
+    seats: &mut [Seat],
+    hall: &mut Hall,
+    writer: &mut W,
+) -> Result<(), Ending> {
+    for seat in seats {
+        seat.hear_all(rt, hall, writer)?;
+        seat.work(rt, hall, writer)?;
+    }
+    Ok(())
+}
+
+// Each device repeats the abort that nobody asked for.
+fn tick(seats: &[Seat], hall: &mut Hall) {
+    for seat in seats {
+        seat.send_answer(hall, seat.player.tick());
+    }
+}
+
+// Milliseconds since the rehearsal began.
+fn since<C: Clock>(clock: &C, start: Instant) -> Result<u64, Ending> {
+    match start.elapsed(clock) {
+        Ok(time) => Ok(u64::try_from(time.as_millis()).unwrap_or(u64::MAX)),
+        Err(_) => Err(Ending::Failed),
+    }
+}
+
+// Plays on until the program is ended.
+fn play<R: Clock + AllocGlobal, W: Write>(
+    rt: &R,
+    seats: &mut [Seat],
+    hall: &mut Hall,
+    writer: &mut W,
+) -> Result<(), Ending> {
+    let Ok(start) = Instant::now(rt) else {
+        return Err(Ending::Failed);
+    };
+    for round in 0..u64::MAX {
+        hall.now = since(rt, start)?;
+        play_round(rt, seats, hall, writer)?;
+        if round % ROUNDS == 0 {
+            tick(seats, hall);
+        }
+        thread::sleep(rt, Duration::from_millis(PAUSE));
+    }
+    Ok(())
+}
+
+/// The command `rehearse`.
+pub fn rehearse<R: Files<File = File> + Net + Clock + Eprint + AllocGlobal, W: Write>(
+    rt: &R,
+    rehearsal: &Rehearsal,
+    writer: &mut W,
+) -> Result<(), Ending> {
+    let file = read_file(rt, rehearsal.file.as_str())?;
+    let mut plan = read_plan_of(rt, rehearsal.file.as_str())?;
+    with_flags(rt.alloc(), &mut plan, &rehearsal.flags)?;
+    knows_plan(rt, &file, &plan)?;
+    let mut seats = seats_of(rt, &file, &plan)?;
+    let count = seats.len();
+    print(
+        writer,
+        format!(in rt.alloc();
+            "{count} devices play, each at its port; Ctrl-C ends it\n"
+        )?.as_str(),
+    )?;
+    let mut hall = Hall {
+        plan,
+        chance: Chance::new(rehearsal.seed),
+        now: 0,
+    };
+    play(rt, &mut seats, &mut hall, writer)
+}

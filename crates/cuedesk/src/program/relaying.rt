@@ -1,0 +1,114 @@
+//! The command `relay`: it stands between the controller and devices that are on the stage's network.
+mod ready;
+mod reporting;
+mod sockets;
+
+use super::PORT;
+use super::ending::{Ending, print, say};
+use super::files::read_file;
+use cue_desk::show_file::{ShowFile, routes, shared_port};
+use cue_relay::{Address, Relay, RelayFault, Route, run};
+use reporting::Reporter;
+use sockets::{NetSource, NetWire, Sides, bind};
+use std::fs::{File, Files};
+use std::io::{Eprint, Write};
+use std::net::{Ipv4Addr, Net};
+use std::time::Clock;
+
+// Where this machine is on the stage's network, and the routes; else what the file lacks is on standard error.
+fn plan<R: Eprint + AllocGlobal>(
+    rt: &R,
+    path: &str,
+    file: &ShowFile,
+) -> Result<(u32, Vec<Route>), Ending> {
+    let routes = routes(rt.alloc(), &file.devices)?;
+    if routes.is_empty() {
+        say(
+            rt,
+            format_args!("{path}: no device has an address: there is nothing to relay"),
+        );
+        return Err(Ending::Refused);
+    }
+    if let Some(port) = shared_port(&routes) {
+        say(
+            rt,
+            format_args!(
+                "{path}: two devices with an address have the port {port}: give each its own"
+            ),
+        );
+        return Err(Ending::Refused);
+    }
+    match file.listen {
+        Some(listen) => Ok((listen, routes)),
+        None => {
+            say(
+                rt,
+                format_args!(
+                    "{path}: a line as `listen = \"10.0.7.1\"` is missing: this machine's own address there"
+                ),
+            );
+            Err(Ending::Refused)
+        }
+    }
+}
+
+// What the relay stands between, in words.
+fn begun<R: AllocGlobal, W: Write>(
+    rt: &R,
+    sides: Sides,
+    count: usize,
+    writer: &mut W,
+) -> Result<(), Ending> {
+    let (controller, stage) = (sides.controller, Ipv4Addr::from_bits(sides.stage));
+    let text = format!(in rt.alloc();
+        "relaying {count} devices between {controller} and {stage}\n"
+    )?;
+    print(writer, text.as_str())
+}
+
+// Why the relay ended, in words.
+fn why(fault: Option<RelayFault>) -> &'static str {
+    match fault {
+        Some(RelayFault::Source) => "a socket failed",
+        Some(RelayFault::Memory) => "out of memory",
+        None => "it has had its turns",
+    }
+}
+
+/// The command `relay`: until a signal ends it.
+pub fn relay_devices<R: Files<File = File> + Net + Clock + Eprint + AllocGlobal, W: Write>(
+    rt: &R,
+    path: &str,
+    port: Option<u16>,
+    status: Option<&str>,
+    writer: &mut W,
+) -> Result<(), Ending> {
+    let file = read_file(rt, path)?;
+    let (stage, routes) = plan(rt, path, &file)?;
+    let host = Ipv4Addr::LOCALHOST.to_bits();
+    let port = port.or(file.port).unwrap_or(PORT);
+    let controller = Address { host, port };
+    let sides = Sides { controller, stage };
+    let mut sockets = bind(rt, sides, &routes)?;
+    let Ok(mut source) = NetSource::new(rt, rt, &mut sockets) else {
+        say(rt, "the sockets cannot be waited at");
+        return Err(Ending::Failed);
+    };
+    begun(rt, sides, routes.len(), writer)?;
+    let mut reporter = Reporter::new(rt, &routes, status, writer)?;
+    let mut wire = NetWire::new(source.sockets());
+    let relay = Relay {
+        controller,
+        routes: &routes,
+    };
+    let ended = run(
+        rt.alloc(),
+        relay,
+        &mut source,
+        &mut wire,
+        u64::MAX,
+        &mut reporter,
+    );
+    say(rt, why(ended.fault));
+    Err(Ending::Failed)
+}

@@ -1,0 +1,182 @@
+//! What the relay says while it runs: a line when a device is heard or falls silent, and the status for the desk.
+use super::super::ending::{print, say};
+use cue_relay::status::{Status, written};
+use cue_relay::{Contact, Counts, Happening, News, Opening, Route, Side, Watch};
+use std::alloc::{AllocError, Global};
+use std::fs::{self, File, Files};
+use std::io::{Eprint, Write};
+
+/// The time between two statuses, in milliseconds.
+const STATUS_PAUSE: u64 = 1_000;
+
+/// The time between two lines on what was dropped, in milliseconds.
+const DROPPED_PAUSE: u64 = 10_000;
+
+/// The file of the status, and the one beside it that takes its place whole.
+#[derive(Drop)]
+struct StatusFile<'a> {
+    path: &'a str,
+    beside: String,
+    // When it was written last; none where that has failed.
+    last: u64,
+    has_failed: bool,
+}
+
+/// Says what happens. It looks on, and changes nothing of what is handed on.
+#[derive(Drop)]
+pub struct Reporter<'a, R, W: Write> {
+    rt: &'a R,
+    routes: &'a [Route],
+    contacts: Vec<Contact>,
+    status: Option<StatusFile<'a>>,
+    writer: &'a mut W,
+    // How many datagrams were dropped when that was said last, and when that was.
+    dropped: u64,
+    dropped_at: u64,
+}
+
+// What there is to say of a device, in words.
+fn words(news: News) -> &'static str {
+    match news {
+        News::FirstHeard => "heard",
+        News::HeardAgain => "heard again",
+        News::Silent => "silent: nothing came for a second, and something is pending for it",
+    }
+}
+
+// Where the status is written first.
+fn status_file<'a>(alloc: Global, path: &'a str) -> Result<StatusFile<'a>, AllocError> {
+    Ok(StatusFile {
+        path,
+        beside: format!(in alloc; "{path}.new")?,
+        last: 0,
+        has_failed: false,
+    })
+}
+
+impl<'a, R: Files<File = File> + Eprint + AllocGlobal, W: Write> Reporter<'a, R, W> {
+    /// None of the devices was heard yet.
+    pub fn new(
+        rt: &'a R,
+        routes: &'a [Route],
+        status: Option<&'a str>,
+        writer: &'a mut W,
+    ) -> Result<Reporter<'a, R, W>, AllocError> {
+        let alloc = rt.alloc();
+        let status = match status {
+            Some(path) => Some(status_file(alloc, path)?),
+            None => None,
+        };
+        Ok(Reporter {
+            rt,
+            routes,
+            contacts: vec![in alloc; Contact::NEVER; routes.len()]?,
+            status,
+            writer,
+            dropped: 0,
+            dropped_at: 0,
+        })
+    }
+
+    // Says something of the device of a route. A line that cannot be written is left out: the relay goes on.
+    fn tell(&mut self, route: usize, news: Option<News>) {
+        let (Some(news), Some(route)) = (news, self.routes.get(route)) else {
+            return;
+        };
+        let (device, address) = (route.device.number(), route.address);
+        let words = words(news);
+        if let Ok(line) = format!(in self.rt.alloc(); "device {device} at {address}: {words}\n") {
+            let _ = print(self.writer, line.as_str());
+        }
+    }
+
+    // Something came at an opening: the device was heard, or something is pending for it.
+    fn note(&mut self, at: Opening, now: u64) {
+        let Some(contact) = self.contacts.get_mut(at.route) else {
+            return;
+        };
+        let news = match at.side {
+            Side::Stage => contact.hear(now),
+            Side::Controller => {
+                contact.ask(now);
+                None
+            }
+        };
+        self.tell(at.route, news);
+    }
+
+    // Says which devices fall silent.
+    fn look_at_silence(&mut self, now: u64) {
+        for route in 0..self.routes.len() {
+            let news = match self.contacts.get_mut(route) {
+                Some(contact) => contact.pass(now),
+                None => None,
+            };
+            self.tell(route, news);
+        }
+    }
+
+    // Says how many more were dropped, at most once in ten seconds.
+    fn look_at_dropped(&mut self, now: u64, dropped: u64) {
+        if dropped == self.dropped || now.saturating_sub(self.dropped_at) < DROPPED_PAUSE {
+            return;
+        }
+        let more = dropped.saturating_sub(self.dropped);
+        self.dropped = dropped;
+        self.dropped_at = now;
+        let words = "datagrams dropped: from nobody whom the file names, or too long";
+        if let Ok(line) = format!(in self.rt.alloc(); "{more} {words}\n") {
+            let _ = print(self.writer, line.as_str());
+        }
+    }
+
+    // Writes the status, where a second has passed since it was written.
+    fn write_status(&mut self, now: u64, counts: Counts) {
+        let Some(file) = &mut self.status else {
+            return;
+        };
+        if now >= file.last && now - file.last < STATUS_PAUSE {
+            return;
+        }
+        file.last = now;
+        let alloc = self.rt.alloc();
+        let is_written = match Status::of(alloc, now, counts, self.routes, &self.contacts) {
+            Ok(status) => replace(self.rt, file, &status),
+            Err(AllocError) => false,
+        };
+        if !is_written && !file.has_failed {
+            say(
+                self.rt,
+                format_args!("{}: the status cannot be written", file.path),
+            );
+        }
+        file.has_failed = !is_written;
+    }
+}
+
+// Replaces the file whole; whether that was done.
+fn replace<R: Files<File = File> + AllocGlobal>(
+    rt: &R,
+    file: &StatusFile<'_>,
+    status: &Status,
+) -> bool {
+    let Ok(text) = written(rt.alloc(), status) else {
+        return false;
+    };
+    fs::write(rt, file.beside.as_str(), text.as_str()).is_ok()
+        && fs::rename(rt, file.beside.as_str(), file.path).is_ok()
+}
+
+impl<'a, R: Files<File = File> + Eprint + AllocGlobal, W: Write> Watch for Reporter<'a, R, W> {
+    fn look(&mut self, what: Happening, counts: Counts) {
+        match what {
+            Happening::Passed { now, at } | Happening::Lost { now, at } => self.note(at, now),
+            Happening::Dropped { .. } => {}
+            Happening::Tick { now } => {
+                self.look_at_silence(now);
+                self.look_at_dropped(now, counts.dropped);
+                self.write_status(now, counts);
+            }
+        }
+    }
+}

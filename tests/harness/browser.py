@@ -1,0 +1,86 @@
+"""A headless browser that the page is tried in, by Debian's chromium, chromium-driver and python3-selenium."""
+import shutil
+import sys
+import time
+
+sys.path.append("/usr/lib/python3/dist-packages")
+NEEDED = "apt-get install chromium chromium-driver python3-selenium"
+
+
+def is_there():
+    """Whether a browser can be driven here."""
+    try:
+        import selenium  # noqa: F401
+    except ImportError:
+        return False
+    return bool(shutil.which("chromium") and shutil.which("chromedriver"))
+
+
+class Browser:
+    """One window, 1280 by 800."""
+
+    def __init__(self):
+        from selenium import webdriver
+        options = webdriver.ChromeOptions()
+        for word in ("--headless=new", "--no-sandbox", "--disable-gpu", "--disable-dev-shm-usage",
+                     "--hide-scrollbars", "--window-size=1280,940", "--force-device-scale-factor=1"):
+            options.add_argument(word)
+        options.set_capability("goog:loggingPrefs", {"browser": "ALL"})
+        service = webdriver.ChromeService("/usr/bin/chromedriver") if hasattr(webdriver, "ChromeService") else None
+        if service is None:
+            from selenium.webdriver.chrome.service import Service
+            service = Service("/usr/bin/chromedriver")
+        self.driver = webdriver.Chrome(service=service, options=options)
+
+    def open(self, address):
+        self.driver.get(address)
+
+    def run(self, script, *values):
+        return self.driver.execute_script(script, *values)
+
+    def find(self, name):
+        return self.driver.find_element("id", name)
+
+    def text(self, name):
+        return self.find(name).text
+
+    def click(self, name):
+        """Presses it as soon as it can be pressed."""
+        def pressed():
+            place = self.find(name)
+            return place.is_enabled() and (place.click() or True)
+        if not self.waits_for(pressed):
+            raise AssertionError(f"{name} cannot be pressed")
+
+    def key(self, key):
+        """A key that the whole page hears."""
+        from selenium.webdriver.common.action_chains import ActionChains
+        ActionChains(self.driver).send_keys(key).perform()
+
+    def waits_for(self, holds, seconds=10.0):
+        """Whether it holds in time."""
+        end = time.monotonic() + seconds
+        while time.monotonic() < end:
+            try:
+                if holds():
+                    return True
+            except Exception as error:  # an element that was replaced meanwhile
+                if "StaleElement" not in type(error).__name__ and "NoSuchElement" not in type(error).__name__:
+                    raise
+            time.sleep(0.02)
+        return False
+
+    def shows(self, name, text, seconds=10.0):
+        """Whether the element comes to show this text."""
+        return self.waits_for(lambda: text in self.text(name), seconds)
+
+    def picture(self, path):
+        self.driver.save_screenshot(str(path))
+
+    def complaints(self):
+        """What the browser's console says against the page, but for requests that a test made fail."""
+        return [line["message"] for line in self.driver.get_log("browser")
+                if "net::" not in line["message"] and "503" not in line["message"]]
+
+    def close(self):
+        self.driver.quit()

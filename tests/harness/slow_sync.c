@@ -1,0 +1,22 @@
+/* Makes each sync take as many milliseconds longer as the variable SYNC_MS says, as a slow disk does. For LD_PRELOAD:
+   cc -shared -fPIC -O2 -o slow_sync.so slow_sync.c */
+#include <stdlib.h>
+#include <sys/syscall.h>
+#include <time.h>
+#include <unistd.h>
+
+static void wait_on(void) {
+    long millis = getenv("SYNC_MS") ? atol(getenv("SYNC_MS")) : 0;
+    struct timespec span = {millis / 1000, millis % 1000 * 1000000}, left;
+    while (nanosleep(&span, &left)) span = left;
+}
+
+int fdatasync(int file) {
+    wait_on();
+    return syscall(SYS_fdatasync, file);
+}
+
+int fsync(int file) {
+    wait_on();
+    return syscall(SYS_fsync, file);
+}

@@ -1,6 +1,6 @@
 //! Reading packets, finding commands, and writing a state.
 use crate::datagrams::bundle;
-use crate::served::let_go;
+use crate::served::discard;
 use crate::shows::{self, FULL};
 use crate::timing::{Work, is_asked, say_wrong, time};
 use cue_core::{Command, ReplyKind, State, judge};
@@ -278,7 +278,7 @@ fn measure_full<R: Clock + Print + AllocGlobal>(
     match shows::made(rt.alloc(), FULL) {
         Some(full) => {
             let measured = measure_over(rt, word, empty, full.state());
-            let_go(full);
+            discard(full);
             measured
         }
         None => say_wrong(rt, word),
@@ -293,7 +293,7 @@ fn measure_shows<R: Clock + Print + AllocGlobal>(rt: &R, word: &str) -> io::Resu
     match shows::empty(rt.alloc()) {
         Some(empty) => {
             let measured = measure_full(rt, word, empty.state());
-            let_go(empty);
+            discard(empty);
             measured
         }
         None => say_wrong(rt, word),

@@ -138,4 +138,4 @@ pub fn formed<D: Disk + Drop>(alloc: Global, first: D, second: D) -> Option<Serv
 }
 
 // Drops a value. It stands apart, since what is dropped fills the goals of the function around it.
-pub fn let_go<T: Drop>(_value: T) {}
+pub fn discard<T: Drop>(_value: T) {}

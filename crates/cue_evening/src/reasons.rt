@@ -1,8 +1,9 @@
 //! The lines of attempts: what was recovered, why a preparation was given up, and how an attempt ended.
 use crate::course::{Cause, Failure, Followed};
 use cue_core::Event;
-use cue_exchange::{Attempt, Outcome, Reason, Stage};
+use cue_exchange::{Attempt, Reason, Stage};
 use cue_show::{CueNo, DeviceNo};
+use cue_words::{outcome_words, reason_words};
 use std::alloc::{AllocError, Global};
 use std::fmt::Write;
 
@@ -45,17 +46,6 @@ fn push_cue(text: &mut String, cue: Option<CueNo>) -> Result<(), AllocError> {
     Ok(())
 }
 
-fn push_device(
-    text: &mut String,
-    device: Option<DeviceNo>,
-    words: &'static str,
-) -> Result<(), AllocError> {
-    match device {
-        Some(device) => write!(text, "device {}{words}", device.number()),
-        None => write!(text, "a device{words}"),
-    }
-}
-
 /// The line of an attempt that is given up for a reason, by a device where it has one.
 pub fn cancel_line(
     alloc: Global,
@@ -67,12 +57,10 @@ pub fn cancel_line(
     let mut text = format!(in alloc; "CANCEL attempt {seq}")?;
     push_cue(&mut text, cue)?;
     text.push_str(": ")?;
-    match reason {
-        Reason::Operator => text.push_str("the operator gave it up")?,
-        Reason::Deadline => text.push_str("ten seconds passed")?,
-        Reason::Abort => push_device(&mut text, device, " aborted")?,
-        Reason::Power => text.push_str("the power was lost")?,
-        Reason::Release => push_device(&mut text, device, " was released")?,
+    match (reason, device) {
+        (Reason::Abort, Some(device)) => write!(text, "device {} aborted", device.number())?,
+        (Reason::Release, Some(device)) => write!(text, "device {} was released", device.number())?,
+        _ => text.push_str(reason_words(reason))?,
     }
     Ok(text)
 }
@@ -82,14 +70,6 @@ fn cause_words(cause: Cause) -> &'static str {
         Cause::Aborted => "aborted",
         Cause::Released => "was released",
         Cause::Unseen => "failed",
-    }
-}
-
-fn outcome_words(outcome: Outcome) -> &'static str {
-    match outcome {
-        Outcome::Complete => "complete",
-        Outcome::Cancelled => "cancelled",
-        Outcome::Failed => "failed",
     }
 }
 

@@ -1,5 +1,5 @@
 // Inputs that are offered one after the other and then committed together, with the two writes and two syncs of one.
-ghost use Rattle.std.specs.Prelude.{◌≡◌, ◌⊎◌, ◌↔◌, [], true};
+ghost use Rattle.std.specs.Prelude.{◌≡◌, ◌⊎◌, ◌↔◌, [], true, length};
 ghost use Rattle.std.specs.Prelude.{IfOk, IfErr, OnOk, OnErr, IsErrOf};
 ghost use Rattle.std.specs.Result.{result_err};
 ghost use Rattle.cue_keeper.specs.Accepting.{AcceptsTogether};
@@ -8,7 +8,7 @@ ghost use Rattle.cue_keeper.specs.Observed as kept;
 ghost use Rattle.cue_engine.specs.Given.{given};
 ghost use Rattle.cue_engine.specs.Inputs.{input_view};
 
-use super::{Engine, discard};
+use super::{Engine, discard, drop_offered};
 use crate::input::Input;
 use crate::keeping::keep_together;
 use crate::offers::{offer_first, offer_next};
@@ -71,6 +71,26 @@ impl<D: Disk> Engine<D> {
             Some(offered) => self.keeper.has_room_beside(&offered.group),
             None => true,
         }
+    }
+
+    /// How many datagrams are sent for all that was offered.
+    pub fn offered_sends(&self) -> usize
+        ensures { result ≡ length (offered_sends_of self.now) }
+    {
+        match &self.offered {
+            Some(offered) => offered.sends.len(),
+            None => 0,
+        }
+    }
+
+    /// Drops what was offered. It makes no device call, and state and queue stay as they are.
+    pub fn withdraw(&mut self)
+        ensures keeper { keeper_of self.new ≡ keeper_of self.old }
+        ensures queue { queue_of self.new ≡ queue_of self.old }
+        ensures dropped { IsOffered [] self.new }
+        ensures last { last_batches_of self.new ≡ last_batches_of self.old }
+    {
+        drop_offered(&mut self.offered, &mut self.spare);
     }
 
     /// Takes all that was offered together: the batch of each input is on both disks, each its own record, and what

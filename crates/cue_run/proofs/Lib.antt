@@ -1,3 +1,7 @@
+mod GroupLemmas
+mod GroupWork
+mod OfferLemmas
+mod Rounds
 mod RunLemmas
 mod StandLemmas
 mod TryLemmas

@@ -21,7 +21,7 @@ gave_more : (size : ℕ) (old : List Answer) (gs : List Answer) (mid : List Answ
 gave_more size old [] mid hs new e h = subst (λ (xs : List Answer). GaveInTurn size xs hs new) e h
 gave_more size old (g ∷ gs) mid hs new k h = (k.0, gave_more size (others_left old) gs mid hs new k.1 h)
 
-gave_all_more : (size : ℕ) (old : Option (List Answer)) (gs : List Answer) (mid : Option (List Answer)) (hs : List Answer) (new : Option (List Answer)) → GaveAll size old gs mid → GaveAll size mid hs new → GaveAll size old (gs ++ hs) new
+pub gave_all_more : (size : ℕ) (old : Option (List Answer)) (gs : List Answer) (mid : Option (List Answer)) (hs : List Answer) (new : Option (List Answer)) → GaveAll size old gs mid → GaveAll size mid hs new → GaveAll size old (gs ++ hs) new
 gave_all_more size old gs mid hs None k h = tt
 gave_all_more size old gs None hs (Some new) k h = absurd h
 gave_all_more size None gs (Some mid) hs (Some new) k h = absurd k
@@ -42,7 +42,7 @@ story_sends s (i ∷ is) t =
     ap (λ (xs : List (ℕ × Send)). (given s i.0 i.1).sends ++ xs) (story_sends (after_events s (given s i.0 i.1).batch) is t)
     ∙ sym (append_assoc (given s i.0 i.1).sends (story (after_events s (given s i.0 i.1).batch) is).sends (given (story (after_events s (given s i.0 i.1).batch) is).state t.0 t.1).sends)
 
-datagrams_more : (xs ys : List (ℕ × Send)) → datagrams xs ++ datagrams ys ≡ datagrams (xs ++ ys)
+pub datagrams_more : (xs ys : List (ℕ × Send)) → datagrams xs ++ datagrams ys ≡ datagrams (xs ++ ys)
 datagrams_more [] ys = refl
 datagrams_more (x ∷ xs) ys = ap (λ (os : List (ℕ × List ℕ)). datagram x ∷ os) (datagrams_more xs ys)
 
@@ -62,7 +62,7 @@ refused_both : (fs gs : List Bool) → how_many_refused (fs ++ gs) ≡ how_many_
 refused_both [] gs = omega arith
 refused_both (f ∷ fs) gs = omega (arith, refused_both fs gs)
 
-all_handed_both : (told mid new : Option (List Handed)) (os ps : List (ℕ × List ℕ)) (n m : ℕ) → AllHanded told os n mid → AllHanded mid ps m new → AllHanded told (os ++ ps) (n + m) new
+pub all_handed_both : (told mid new : Option (List Handed)) (os ps : List (ℕ × List ℕ)) (n m : ℕ) → AllHanded told os n mid → AllHanded mid ps m new → AllHanded told (os ++ ps) (n + m) new
 all_handed_both told mid new os ps n m a b = record {
   flags = a.flags ++ b.flags;
   each = omega (arith, a.each, b.each, length-append a.flags b.flags, length-append os ps);

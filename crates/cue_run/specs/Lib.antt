@@ -1,3 +1,4 @@
+pub mod Grouping
 pub mod MemSources
 pub mod Running
 pub mod Sources

@@ -1,6 +1,7 @@
 //! The run of a show: where datagrams and ticks come from, where datagrams go, and the loop between them.
 #![tactic(auto)]
 
+mod groups;
 pub mod laws;
 mod mem_source;
 mod source;
@@ -8,6 +9,7 @@ mod turns;
 mod udp;
 mod watch;
 
+pub use groups::{MOST_TOGETHER, run_grouped};
 pub use mem_source::{MemAnswer, MemSource};
 pub use source::{Source, SourceFault, Turn, Waiting};
 pub use turns::{Ended, RunFault, run, run_watched};

@@ -17,7 +17,7 @@ use cue_keeper::Fault;
 use std::alloc::Global;
 
 /// The buffer is longer than the longest datagram, so that one that is too long is seen to be so.
-const BUFFER: usize = 4_100;
+pub(crate) const BUFFER: usize = 4_100;
 
 /// Why a run ended before its turns and before its source did.
 #[derive(Clone, Copy, Debug, PartialEq, Eq)]

@@ -1,0 +1,11 @@
+use Rattle.std.proofs.Common.{◌≡◌}
+use Rattle.cue_engine.specs.Words.{keeper_of, queue_of, offered_of, offered_sends_of}
+use Rattle.cue_run.specs.Grouping.{CountedSoFar}
+use Rattle.cue_run.proofs.groups.handing.hand_out_each.Given as goal
+
+abbrev pub invariant-loop-place : goal.invariant-loop-place
+invariant-loop-place g l =
+    CountedSoFar (g.W.Wire.told l.fn.wire) (queue_of l.fn.engine) (queue_of l.engine) l.unsent (g.W.Wire.told l.wire)
+    × (keeper_of l.engine ≡ keeper_of l.fn.engine)
+    × (offered_of l.engine ≡ offered_of l.fn.engine)
+    × (offered_sends_of l.engine ≡ offered_sends_of l.fn.engine)

@@ -1,0 +1,21 @@
+use Rattle.std.proofs.Common.{inl, inr, ap, refl}
+use Rattle.cue_run.specs.declared.groups.round.Round.{Round}
+use Rattle.cue_run.proofs.groups.round.close_round.Goals as goal
+
+pub returns-in-Ok-clause-closed : goal.returns-in-Ok-clause-closed
+returns-in-Ok-clause-closed g c = inl (record {
+  turns = refl;
+  stop = c.stop_of.ensures;
+  accepts = c.in-Ok.ensures.accepts;
+  handed = c.in-Ok.ensures.handed;
+})
+
+pub returns-in-Err-clause-closed : goal.returns-in-Err-clause-closed
+returns-in-Err-clause-closed g c = inr (record {
+  why = c.in-Err.fault;
+  turns = ap (λ (r : Round). r.turns) c.none.ensures;
+  unsent = ap (λ (r : Round). r.unsent) c.none.ensures;
+  stop = ap (λ (r : Round). r.stop) c.none.ensures;
+  accepts = c.in-Err.ensures.accepts;
+  told_same = c.in-Err.ensures.handed;
+})

@@ -1,0 +1,27 @@
+use Rattle.std.proofs.Common.{◌≡◌, refl, inl, arith}
+use Rattle.cue_engine.specs.Words.{keeper_of, state_of, queue_of}
+use Rattle.cue_run.specs.declared.turns.TheConstants.{BUFFER}
+use Rattle.cue_run.proofs.RunLemmas.{begun}
+use Rattle.cue_run.proofs.WorkLemmas.{begins}
+use Rattle.cue_run.proofs.groups.run_grouped.Goals as goal
+
+pub returns-in-Err : goal.returns-in-Err
+returns-in-Err g c =
+    let old = c.args.engine.now in
+    let new = c.hand_out-unsent.new.self in
+    let left = g.S.Source.left c.args.source.now in
+    let same = c.hand_out-unsent.ensures.keeper in
+    let state : state_of new ≡ state_of old = rw same refl in
+    let works = begins (keeper_of old) (keeper_of new) same c.state-state.ensures.stands in record {
+      ran = record {
+        mid = left;
+        taken = begun BUFFER left (state_of old) (state_of new) (queue_of old) (g.W.Wire.told c.args.wire.now) (g.W.Wire.told c.hand_out-unsent.new.wire) c.hand_out-unsent.result
+            (omega (arith, c.hand_out-unsent.type_inv)) state c.hand_out-unsent.ensures.handed;
+        why = inl (inl (refl, refl, refl, same));
+        at_most = omega arith;
+        none_taken = λ _. refl;
+        emptied = c.hand_out-unsent.ensures.emptied;
+        keeps = works.keeps;
+        works = λ _. works;
+      };
+    }

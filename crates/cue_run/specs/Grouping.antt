@@ -1,0 +1,209 @@
+-- What a run by groups comes to: the same as a run, and a commit may refuse several inputs together.
+use Rattle.std.specs.Prelude.{◌≡◌, ◌≤◌, ◌+◌, ◌⊎◌, ◌↔◌, ◌^◌, ◌-◌, ℕ, Bool, true, false, length, min}
+use Rattle.std.specs.Prelude.{List, [], ◌∷◌, ◌++◌, Option, Some, None, Result, Ok, Err}
+use Rattle.cue_disk.specs.declared.disk.Disk.{Ghosts}
+use Rattle.cue_keeper.specs.declared.fault.Fault.{Fault}
+use Rattle.cue_keeper.specs.declared.fault.Fault.TheVariants.{Broken, Memory, Disk}
+use Rattle.cue_keeper.specs.declared.keeper.Keeper.{Keeper}
+use Rattle.cue_keeper.specs.Accepting.{AcceptsTogether}
+use Rattle.cue_keeper.specs.Stands.{folded_all}
+use Rattle.cue_keeper.specs.Observed as kept
+use Rattle.cue_engine.specs.declared.engine.Engine.{Engine}
+use Rattle.cue_engine.specs.Given.{Input}
+use Rattle.cue_engine.specs.Groups.{batches_given}
+use Rattle.cue_engine.specs.Taking.{IsOffered, WhateverWasOffered}
+use Rattle.cue_engine.specs.Words.{keeper_of, state_of, queue_of, offered_of, offered_sends_of}
+use Rattle.cue_engine.specs.Wires.{Handed, AllHanded}
+use Rattle.cue_run.specs.declared.turns.Ended.{Ended}
+use Rattle.cue_run.specs.declared.turns.RunFault.{RunFault}
+use Rattle.cue_run.specs.declared.turns.RunFault.TheVariants as fault
+use Rattle.cue_run.specs.declared.groups.round.Round.{Round}
+use Rattle.cue_run.specs.declared.groups.offering.Stop.{Stop}
+use Rattle.cue_run.specs.declared.groups.offering.Stop.TheVariants as stop
+use Rattle.cue_run.specs.declared.groups.offering.First.{First}
+use Rattle.cue_run.specs.Running.{given_answers, HasRun, LeavesEither, Keeps, Works, Refuses, EndedBy}
+use Rattle.cue_run.specs.Sources.{Answer, comes, ends, fails, GaveAll}
+
+-- ---- a whole run
+
+-- Inputs that came last were not taken: the keeper that met them refused their batches together with this fault. The
+-- source may have given one answer more, which ended the group.
+pub record RefusesTogether {D : Type 0} {disk : Ghosts D} (size : ℕ) (f : Fault) (old new : Keeper D disk)
+    (left left_then : Option (List Answer)) : Type 0 where
+  pub met : Keeper D disk
+  pub works : Works old met
+  pub inputs : List (ℕ × Input)
+  pub some : 1 ≤ length inputs
+  pub after : List Answer
+  pub few : length after ≤ 1
+  pub came : GaveAll size left (given_answers inputs ++ after) left_then
+  pub accepts : AcceptsTogether (batches_given (kept.state_of met) inputs) (Some f) met new
+  -- even where a device failed a crash leaves the state, or the one after all of the inputs
+  pub leaves :
+      disk.is_honest (kept.first_of old)
+      → disk.is_honest (kept.second_of old)
+      → kept.is_broken old ≡ false
+      → LeavesEither (disk.held (kept.first_of new)) (disk.held (kept.second_of new)) (kept.state_of met)
+      (folded_all (kept.state_of met) (batches_given (kept.state_of met) inputs))
+
+-- Why a run by groups ended: as a run does, or a commit refused several inputs together.
+abbrev pub EndedByGroup : {D : Type 0} {disk : Ghosts D} → (size asked turns : ℕ) → Option RunFault
+    → (old new : Keeper D disk)
+    → (left left_then : Option (List Answer)) → Type 0
+EndedByGroup size asked turns None old new left left_then = EndedBy size asked turns None old new left left_then
+EndedByGroup size asked turns (Some fault.Source) old new left left_then =
+    EndedBy size asked turns (Some fault.Source) old new left left_then
+EndedByGroup size asked turns (Some (fault.Engine f)) old new left left_then =
+    EndedBy size asked turns (Some (fault.Engine f)) old new left left_then
+    ⊎ RefusesTogether size f old new left left_then
+
+-- A whole run by groups: what was taken is told in the words of a run, in which there are no groups; why it ended, and
+-- what it leaves.
+pub record RanByGroups {D : Type 0} {disk : Ghosts D} (size asked : ℕ) (ended : Ended) (old new : Engine D disk)
+    (left left_then : Option (List Answer)) (told told_then : Option (List Handed)) : Type 0 where
+  -- what the source had left after the last input that was taken
+  pub mid : Option (List Answer)
+  pub taken :
+      HasRun size left (state_of old) (queue_of old) told ended.turns ended.unsent mid (state_of new) told_then
+  pub why : EndedByGroup size asked ended.turns ended.fault (keeper_of old) (keeper_of new) mid left_then
+  pub at_most : ended.turns ≤ asked
+  pub none_taken : kept.is_broken (keeper_of old) ≡ true → ended.turns ≡ 0
+  pub emptied : queue_of new ≡ []
+  pub keeps : Keeps (keeper_of old) (keeper_of new)
+  pub works : (ended.fault ≡ Some (fault.Engine Disk) → ⊥) → Works (keeper_of old) (keeper_of new)
+
+-- ---- what was offered
+
+-- What was offered stays, and nothing else has changed.
+pub record StaysOffered {D : Type 0} {disk : Ghosts D} (old new : Engine D disk) : Type 0 where
+  pub keeper : keeper_of new ≡ keeper_of old
+  pub queue : queue_of new ≡ queue_of old
+  pub batches : offered_of new ≡ offered_of old
+  pub sends : offered_sends_of new ≡ offered_sends_of old
+
+-- Inputs were offered after those before them, as the source gave them, and nothing else has changed. So many were
+-- offered before, and so many are now.
+pub record HasOffered {D : Type 0} {disk : Ghosts D} (size count count_then : ℕ) (old new : Engine D disk)
+    (left left_then : Option (List Answer)) : Type 0 where
+  pub inputs : List (ℕ × Input)
+  pub number : count_then ≡ count + length inputs
+  pub gave : GaveAll size left (given_answers inputs) left_then
+  pub offered : WhateverWasOffered old (λ before. IsOffered (before ++ inputs) new)
+  pub keeper : keeper_of new ≡ keeper_of old
+  pub queue : queue_of new ≡ queue_of old
+
+-- why an engine refuses what it is offered
+abbrev pub IsTurnedDown : {D : Type 0} {disk : Ghosts D} → Fault → Keeper D disk → Type 0
+IsTurnedDown f keeper = ((f ≡ Broken) ↔ (kept.is_broken keeper ≡ true)) × ((f ≡ Broken) ⊎ (f ≡ Memory))
+
+-- no further input was offered: nothing waits, the source failed, or the engine refused what came
+abbrev pub CutShort : {D : Type 0} {disk : Ghosts D} → ℕ → Option RunFault → Keeper D disk
+    → (left left_then : Option (List Answer)) → Type 0
+CutShort size None keeper left left_then = left_then ≡ left
+CutShort size (Some fault.Source) keeper left left_then = GaveAll size left (fails ∷ []) left_then
+CutShort size (Some (fault.Engine f)) keeper left left_then =
+    ((t : ℕ × Input) × GaveAll size left (comes t.0 t.1 ∷ []) left_then) × IsTurnedDown f keeper
+
+-- the next input was offered, or nothing was there
+abbrev pub OfferedNext : {D : Type 0} {disk : Ghosts D} → (size count count_then : ℕ) → Result Bool RunFault
+    → (old new : Engine D disk) → (left left_then : Option (List Answer)) → Type 0
+OfferedNext size count count_then (Ok true) old new left left_then =
+    HasOffered size count count_then old new left left_then × (count_then ≡ count + 1)
+OfferedNext size count count_then (Ok false) old new left left_then =
+    StaysOffered old new × (count_then ≡ count) × (left_then ≡ left)
+OfferedNext size count count_then (Err why) old new left left_then =
+    StaysOffered old new × (count_then ≡ count) × CutShort size (Some why) (keeper_of old) left left_then
+
+-- nothing was offered: the source ended or failed, or the engine refused what came
+abbrev pub StoppedAtFirst : {D : Type 0} {disk : Ghosts D} → ℕ → Stop → Keeper D disk
+    → (left left_then : Option (List Answer)) → Type 0
+StoppedAtFirst size stop.Ended keeper left left_then = GaveAll size left (ends ∷ []) left_then
+StoppedAtFirst size (stop.Fault why) keeper left left_then = CutShort size (Some why) keeper left left_then
+
+-- the first input of a group was offered, or none
+abbrev pub OfferedFirst : {D : Type 0} {disk : Ghosts D} → (size count count_then : ℕ) → Result First Stop
+    → (old new : Engine D disk) → (left left_then : Option (List Answer)) → Type 0
+OfferedFirst size count count_then (Ok first) old new left left_then =
+    HasOffered size count count_then old new left left_then × (count_then ≡ count + 1)
+OfferedFirst size count count_then (Err stop) old new left left_then =
+    StaysOffered old new × StoppedAtFirst size stop (keeper_of old) left left_then
+
+-- Inputs were offered for as long as some waited, and this cut them short.
+pub record Gathered {D : Type 0} {disk : Ghosts D} (size count count_then : ℕ) (why : Option RunFault)
+    (old new : Engine D disk) (left left_then : Option (List Answer)) : Type 0 where
+  pub mid : Option (List Answer)
+  pub offered : HasOffered size count count_then old new left mid
+  pub cut : CutShort size why (keeper_of old) mid left_then
+
+-- A group of so many inputs at most was offered, of one at least; or none.
+abbrev pub OfferedGroup : {D : Type 0} {disk : Ghosts D} → (size room count : ℕ) → Result (Option RunFault) Stop
+    → (old new : Engine D disk) → (left left_then : Option (List Answer)) → Type 0
+OfferedGroup size room count (Ok cut) old new left left_then =
+    Gathered size 0 count cut old new left left_then × (1 ≤ count) × (count ≤ room)
+OfferedGroup size room count (Err stop) old new left left_then =
+    StaysOffered old new × StoppedAtFirst size stop (keeper_of old) left left_then
+
+-- ---- one round
+
+-- all were handed over, and as many were refused as a number of 64 bits can say
+pub record HandedCounted (told : Option (List Handed)) (sent : List (ℕ × List ℕ)) (unsent : ℕ)
+    (told_then : Option (List Handed)) : Type 0 where
+  pub refused : ℕ
+  pub handed : AllHanded told sent refused told_then
+  pub counted : unsent ≡ min refused (2 ^ 64 - 1)
+
+-- so far some of what was owed were handed over, and the others are left
+pub record CountedSoFar (told : Option (List Handed)) (owed left : List (ℕ × List ℕ)) (unsent : ℕ)
+    (told_then : Option (List Handed)) : Type 0 where
+  pub sent : List (ℕ × List ℕ)
+  pub together : owed ≡ sent ++ left
+  pub handed : HandedCounted told sent unsent told_then
+
+-- the fault that cut a group short ends the run
+abbrev pub stop_of : Option RunFault → Option Stop
+stop_of None = None
+stop_of (Some why) = Some (stop.Fault why)
+
+-- how a run ends after its last round
+abbrev pub fault_of : Stop → Option RunFault
+fault_of stop.Ended = None
+fault_of (stop.Fault why) = Some why
+
+-- what was offered was committed and handed out
+pub record TookGroup {D : Type 0} {disk : Ghosts D} (count : ℕ) (cut : Option RunFault) (round : Round)
+    (old new : Engine D disk) (told told_then : Option (List Handed)) : Type 0 where
+  pub turns : round.turns ≡ count
+  pub stop : round.stop ≡ stop_of cut
+  pub accepts : AcceptsTogether (offered_of old) None (keeper_of old) (keeper_of new)
+  pub handed : HandedCounted told (offered_sends_of old) round.unsent told_then
+
+-- its commit was refused, and nothing was handed out
+pub record LostGroup {D : Type 0} {disk : Ghosts D} (round : Round) (old new : Engine D disk)
+    (told told_then : Option (List Handed)) : Type 0 where
+  pub why : Fault
+  pub turns : round.turns ≡ 0
+  pub unsent : round.unsent ≡ 0
+  pub stop : round.stop ≡ Some (stop.Fault (fault.Engine why))
+  pub accepts : AcceptsTogether (offered_of old) (Some why) (keeper_of old) (keeper_of new)
+  pub told_same : told_then ≡ told
+
+-- why no round follows
+abbrev pub StoppedBy : {D : Type 0} {disk : Ghosts D} → ℕ → Option Stop → (old new : Keeper D disk)
+    → (left left_then : Option (List Answer)) → Type 0
+StoppedBy size None old new left left_then = left_then ≡ left
+StoppedBy size (Some stop.Ended) old new left left_then = GaveAll size left (ends ∷ []) left_then
+StoppedBy size (Some (stop.Fault fault.Source)) old new left left_then = GaveAll size left (fails ∷ []) left_then
+StoppedBy size (Some (stop.Fault (fault.Engine f))) old new left left_then =
+    Refuses size f old new left left_then ⊎ RefusesTogether size f old new left left_then
+
+-- One round: one group was taken and handed out, or none.
+pub record HasRound {D : Type 0} {disk : Ghosts D} (size room : ℕ) (round : Round) (old new : Engine D disk)
+    (left left_then : Option (List Answer)) (told told_then : Option (List Handed)) : Type 0 where
+  pub mid : Option (List Answer)
+  pub taken : HasRun size left (state_of old) [] told round.turns round.unsent mid (state_of new) told_then
+  pub why : StoppedBy size round.stop (keeper_of old) (keeper_of new) mid left_then
+  pub at_most : round.turns ≤ room
+  pub some : round.stop ≡ None → 1 ≤ round.turns
+  pub none_taken : kept.is_broken (keeper_of old) ≡ true → round.turns ≡ 0
+  pub keeps : Keeps (keeper_of old) (keeper_of new)
+  pub works : (round.stop ≡ Some (stop.Fault (fault.Engine Disk)) → ⊥) → Works (keeper_of old) (keeper_of new)

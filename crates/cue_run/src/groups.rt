@@ -1,0 +1,115 @@
+//! The run of a show by groups: what waits together is committed together, and then handed out input by input.
+ghost use Rattle.std.specs.Prelude.{◌≡◌, ◌≤◌, length, max, vec_capacity, IfOk};
+ghost use Rattle.cue_run.specs.Grouping.{RanByGroups, fault_of};
+ghost use Rattle.cue_run.specs.declared.turns.TheConstants.{BUFFER};
+
+mod handing;
+mod offering;
+mod round;
+
+use crate::source::Source;
+use crate::turns::{BUFFER, Ended, RunFault};
+use crate::watch::Watch;
+use cue_disk::Disk;
+use cue_engine::{Engine, Wire};
+use cue_keeper::Fault;
+use offering::Stop;
+use round::take_round;
+use std::alloc::{AllocError, Global};
+
+/// The most inputs that a served show commits together.
+pub const MOST_TOGETHER: u64 = 128;
+
+// Why a run ends after its last round: None where the source ended.
+fn fault_of(stop: Stop) -> Option<RunFault>
+    ensures { result ≡ fault_of stop }
+{
+    match stop {
+        Stop::Ended => None,
+        Stop::Fault(fault) => Some(fault),
+    }
+}
+
+// Room for a datagram, and for a number of each input of a group.
+fn places(alloc: Global, most: u64) -> Result<(Vec<u8>, Vec<usize>), AllocError>
+    ensures buffer { IfOk result (λ places. length places.0.items ≡ BUFFER) }
+    ensures ends { IfOk result (λ places. vec_capacity places.1 ≡ max 1 most) }
+{
+    let buffer = vec![in alloc; 0u8; BUFFER]?;
+    let ends = Vec::with_capacity(alloc, most.max(1) as usize)?;
+    Ok((buffer, ends))
+}
+
+// Hands out what is owed, and then takes rounds in order, of as many inputs as `ends` has room for.
+fn run_rounds<D: Disk, S: Source, W: Wire, V: Watch<W>>(
+    engine: &mut Engine<D>,
+    source: &mut S,
+    wire: &mut W,
+    watch: &mut V,
+    buffer: &mut [u8],
+    ends: &mut Vec<usize>,
+    turns: u64,
+) -> Ended
+    requires { 1 ≤ vec_capacity ends.old }
+    ensures { RanByGroups (length buffer.old) turns result engine.old engine.new
+        (S.left source.old) (S.left source.new) (W.told wire.old) (W.told wire.new) }
+{
+    engine.withdraw();
+    let mut unsent = engine.hand_out(wire);
+    watch.look(engine.state(), &[], wire);
+    let mut taken = 0;
+    while taken < turns {
+        let room = (ends.capacity() as u64).min(turns - taken);
+        let round = take_round(engine, source, wire, watch, buffer, ends, room);
+        taken += round.turns;
+        unsent = unsent.saturating_add(round.unsent);
+        if let Some(stop) = round.stop {
+            return Ended {
+                turns: taken,
+                unsent,
+                fault: fault_of(stop),
+            };
+        }
+    }
+    Ended {
+        turns,
+        unsent,
+        fault: None,
+    }
+}
+
+/// Hands out what is owed, and then takes at most so many inputs, in groups: an input, and the datagrams that are there
+/// already, up to `most` of them and the room of the live area. A group is committed with the writes and syncs of one
+/// input; then what each owes is handed out in order, and after each `watch` looks. A tick is a group of its own. The
+/// run ends at its turns, where the source ends, or at the first fault; what was offered before the fault is committed
+/// and handed out first. Of a group whose commit is refused nothing is handed out.
+pub fn run_grouped<D: Disk, S: Source, W: Wire, V: Watch<W>>(
+    alloc: Global,
+    engine: &mut Engine<D>,
+    source: &mut S,
+    wire: &mut W,
+    turns: u64,
+    most: u64,
+    watch: &mut V,
+) -> Ended
+    // What was taken is what the source gave first, the state and the wire are what the definition of a run makes of
+    // it, one input after the other; it ended for its reason, and the engine works on unless a device failed.
+    ensures ran { RanByGroups BUFFER turns result engine.old engine.new
+        (S.left source.old) (S.left source.new) (W.told wire.old) (W.told wire.new) }
+{
+    match places(alloc, most) {
+        Ok((mut buffer, mut ends)) => {
+            run_rounds(engine, source, wire, watch, &mut buffer, &mut ends, turns)
+        }
+        Err(_) => {
+            // Called for its clause that an engine that works stands for its state.
+            let _state = engine.state();
+            let unsent = engine.hand_out(wire);
+            Ended {
+                turns: 0,
+                unsent,
+                fault: Some(RunFault::Engine(Fault::Memory)),
+            }
+        }
+    }
+}

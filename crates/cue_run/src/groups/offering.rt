@@ -1,0 +1,163 @@
+// Offering what a source gives, one input after the other.
+ghost use Rattle.std.specs.Prelude.{◌≡◌, ◌≤◌, ◌<◌, ◌+◌, ◌++◌, ◌∷◌, [], length};
+ghost use Rattle.std.specs.Prelude.{vec_len, vec_capacity, OnOk, IfErr};
+ghost use Rattle.cue_engine.specs.Inputs.{input_view};
+ghost use Rattle.cue_engine.specs.Taking.{IsOffered, WhateverWasOffered};
+ghost use Rattle.cue_engine.specs.Words.{keeper_of, queue_of};
+ghost use Rattle.cue_run.specs.Grouping.{StaysOffered, IsTurnedDown, OfferedNext};
+ghost use Rattle.cue_run.specs.Grouping.{OfferedFirst, OfferedGroup, Gathered};
+
+use crate::source::{Source, Turn, Waiting};
+use crate::turns::RunFault;
+use cue_disk::Disk;
+use cue_engine::{Engine, Input};
+use cue_keeper::Fault;
+
+/// Why no round follows.
+#[derive(Clone, Copy)]
+pub(crate) enum Stop {
+    /// The source ended.
+    Ended,
+    Fault(RunFault),
+}
+
+// The first input of a group.
+#[derive(Clone, Copy)]
+enum First {
+    /// A tick is a group of its own.
+    Tick,
+    Datagram,
+}
+
+// Offers an input after those before it, and notes how many datagrams are sent up to it.
+fn offer_one<D: Disk>(
+    engine: &mut Engine<D>,
+    ends: &mut Vec<usize>,
+    now: u64,
+    input: Input<'_>,
+) -> Result<(), Fault>
+    requires room { vec_len ends.old < vec_capacity ends.old }
+    ensures offered { OnOk result (WhateverWasOffered engine.old
+        (λ inputs. IsOffered (inputs ++ (now, input_view input.entry) ∷ []) engine.new)) }
+    ensures number { OnOk result (vec_len ends.new ≡ vec_len ends.old + 1) }
+    ensures keeper { keeper_of engine.new ≡ keeper_of engine.old }
+    ensures queue { queue_of engine.new ≡ queue_of engine.old }
+    ensures refused { IfErr result (λ fault. StaysOffered engine.old engine.new
+        × (vec_len ends.new ≡ vec_len ends.old) × IsTurnedDown fault (keeper_of engine.old)) }
+    ensures capacity { vec_capacity ends.new ≡ vec_capacity ends.old }
+{
+    match engine.offer(now, input) {
+        Ok(_) => {
+            ends.push_reserved(engine.offered_sends());
+            Ok(())
+        }
+        Err(fault) => Err(fault),
+    }
+}
+
+// Offers a datagram that is there already, if one is; answers whether one was.
+fn offer_waiting<D: Disk, S: Source>(
+    engine: &mut Engine<D>,
+    source: &mut S,
+    buffer: &mut [u8],
+    ends: &mut Vec<usize>,
+) -> Result<bool, RunFault>
+    requires room { vec_len ends.old < vec_capacity ends.old }
+    ensures offered { OfferedNext (length buffer.old) (vec_len ends.old) (vec_len ends.new) result
+        engine.old engine.new (S.left source.old) (S.left source.new) }
+    ensures capacity { vec_capacity ends.new ≡ vec_capacity ends.old }
+{
+    match source.waiting(buffer) {
+        Ok(Some(Waiting { now, from, n })) => {
+            let bytes = &buffer[..n];
+            match offer_one(engine, ends, now, Input::Datagram { from, bytes }) {
+                Ok(()) => Ok(true),
+                Err(fault) => Err(RunFault::Engine(fault)),
+            }
+        }
+        Ok(None) => Ok(false),
+        Err(_) => Err(RunFault::Source),
+    }
+}
+
+// Waits for the first input of a group, and offers it.
+fn offer_first<D: Disk, S: Source>(
+    engine: &mut Engine<D>,
+    source: &mut S,
+    buffer: &mut [u8],
+    ends: &mut Vec<usize>,
+) -> Result<First, Stop>
+    requires room { vec_len ends.old < vec_capacity ends.old }
+    ensures offered { OfferedFirst (length buffer.old) (vec_len ends.old) (vec_len ends.new) result
+        engine.old engine.new (S.left source.old) (S.left source.new) }
+    ensures capacity { vec_capacity ends.new ≡ vec_capacity ends.old }
+{
+    match source.next(buffer) {
+        Ok(Turn::End) => Err(Stop::Ended),
+        Ok(Turn::Tick { now }) => match offer_one(engine, ends, now, Input::Tick) {
+            Ok(()) => Ok(First::Tick),
+            Err(fault) => Err(Stop::Fault(RunFault::Engine(fault))),
+        },
+        Ok(Turn::Datagram { now, from, n }) => {
+            let bytes = &buffer[..n];
+            match offer_one(engine, ends, now, Input::Datagram { from, bytes }) {
+                Ok(()) => Ok(First::Datagram),
+                Err(fault) => Err(Stop::Fault(RunFault::Engine(fault))),
+            }
+        }
+        Err(_) => Err(Stop::Fault(RunFault::Source)),
+    }
+}
+
+// Offers what waits after the first input of a group, until it has so many, until nothing waits, or until the live area
+// may lack room for one more. Answers the fault that ended it, if one did.
+fn gather<D: Disk, S: Source>(
+    engine: &mut Engine<D>,
+    source: &mut S,
+    buffer: &mut [u8],
+    ends: &mut Vec<usize>,
+    most: u64,
+) -> Option<RunFault>
+    requires one { vec_len ends.old ≡ 1 }
+    requires some { 1 ≤ most }
+    requires room { most ≤ vec_capacity ends.old }
+    ensures gathered { Gathered (length buffer.old) (vec_len ends.old) (vec_len ends.new) result
+        engine.old engine.new (S.left source.old) (S.left source.new) }
+    ensures at_most { vec_len ends.new ≤ most }
+    ensures capacity { vec_capacity ends.new ≡ vec_capacity ends.old }
+{
+    for count in 1..most {
+        if !engine.has_room() {
+            return None;
+        }
+        match offer_waiting(engine, source, buffer, ends) {
+            Ok(true) => {}
+            Ok(false) => return None,
+            Err(fault) => return Some(fault),
+        }
+    }
+    None
+}
+
+/// Offers one group: the first input that comes, and what waits after it, so many at most. Answers the fault that ended
+/// the group, if one did; where no input was offered, why not.
+pub(crate) fn offer_group<D: Disk, S: Source>(
+    engine: &mut Engine<D>,
+    source: &mut S,
+    buffer: &mut [u8],
+    ends: &mut Vec<usize>,
+    room: u64,
+) -> Result<Option<RunFault>, Stop>
+    requires none { vec_len ends.old ≡ 0 }
+    requires some { 1 ≤ room }
+    requires room { room ≤ vec_capacity ends.old }
+    ensures offered { OfferedGroup (length buffer.old) room (vec_len ends.new) result engine.old engine.new
+        (S.left source.old) (S.left source.new) }
+    ensures capacity { vec_capacity ends.new ≡ vec_capacity ends.old }
+{
+    match offer_first(engine, source, buffer, ends) {
+        Ok(First::Tick) => Ok(None),
+        Ok(First::Datagram) => Ok(gather(engine, source, buffer, ends, room)),
+        Err(stop) => Err(stop),
+    }
+}

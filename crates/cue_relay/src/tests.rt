@@ -124,7 +124,7 @@ fn status_is_read_as_it_was_written(rt: HostRuntime) {
         .expect(&rt, "memory")
         .expect(&rt, "a status");
     assert!(rt; written(alloc, &again).expect(&rt, "memory").as_str() == STATUS);
-    let device = again.devices[1].device;
+    let device = again.devices.get(1).expect(&rt, "a device").device;
     let words = heard_words(alloc, &again, device, 1_764_000_005_500).expect(&rt, "memory");
     assert!(rt;
         words.as_str() == "silent, never heard",

@@ -248,27 +248,67 @@ fn restarted(alloc: Global, engine: Engine<MemDisk>) -> Result<Engine<MemDisk>, 
     }
 }
 
-// Plays evenings on one show, which is restarted after each. The send with this number is refused in each.
-fn play(rt: &impl Abort, alloc: Global, texts: &[(u64, &str)]) -> Result<(), Fail> {
-    let paper = Paper::new(alloc);
-    let mut engine = formed(alloc)?;
-    for (refused, text) in texts {
-        follow(rt, &paper, &mut engine, *refused, text)?;
-        engine = restarted(alloc, engine)?;
+// A part of an evening: its text, and the number of the send in it that is refused.
+#[derive(Clone, Copy)]
+struct Part {
+    refused: u64,
+    text: &'static str,
+}
+
+// Drops a value. It stands apart, since what is dropped fills the goals of the function around it.
+fn discard<T: Drop>(_value: T) {}
+
+// Plays a part of an evening, and gives the engine back.
+fn played(
+    rt: &impl Abort,
+    paper: &Paper,
+    mut engine: Engine<MemDisk>,
+    part: Part,
+) -> Result<Engine<MemDisk>, Fail> {
+    match follow(rt, paper, &mut engine, part.refused, part.text) {
+        Ok(()) => Ok(engine),
+        Err(fail) => {
+            discard(engine);
+            Err(fail)
+        }
     }
+}
+
+// Plays an evening in two parts on one show, which is restarted between them.
+fn play(rt: &impl Abort, alloc: Global, before: Part, after: Part) -> Result<(), Fail> {
+    let paper = Paper::new(alloc);
+    let engine = played(rt, &paper, formed(alloc)?, before)?;
+    let engine = restarted(alloc, engine)?;
+    discard(played(rt, &paper, engine, after)?);
     Ok(())
 }
 
 /// An evening with each kind of line; the power is lost before its second part.
 #[test]
 fn evening(rt: HostRuntime) -> Result<(), Fail> {
-    play(&rt, rt.alloc(), &[(0, EVENING), (0, AFTER_POWER_LOSS)])
+    let before = Part {
+        refused: 0,
+        text: EVENING,
+    };
+    let after = Part {
+        refused: 0,
+        text: AFTER_POWER_LOSS,
+    };
+    play(&rt, rt.alloc(), before, after)
 }
 
 /// A send that is refused is in the line of what was to be sent, also of what was only known.
 #[test]
 fn refused_sends(rt: HostRuntime) -> Result<(), Fail> {
-    play(&rt, rt.alloc(), &[(1, UNHEARD), (4, UNSENT)])
+    let before = Part {
+        refused: 1,
+        text: UNHEARD,
+    };
+    let after = Part {
+        refused: 4,
+        text: UNSENT,
+    };
+    play(&rt, rt.alloc(), before, after)
 }
 
 /// The line of a show that is ready has date and time.

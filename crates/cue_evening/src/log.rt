@@ -1,5 +1,6 @@
 //! The log: what it writes at each look.
-ghost use Rattle.std.specs.Prelude.{◌≡◌, Some};
+ghost use Rattle.std.specs.Prelude.{◌≡◌, true, Some, IfSome};
+ghost use Rattle.cue_core.specs.Steps.{after, after_events};
 
 use crate::alone::standby_line;
 use crate::commands::cut;
@@ -29,12 +30,16 @@ pub fn say_ready<R: Clock + Eprint>(rt: &R, dir: &str, port: u16) {
     };
 }
 
-/// Writes the log of the evening. It takes the notes of a logged wire at each look, and follows the attempts.
+/// Writes the log of the evening. It takes the notes of a logged wire at each look, and follows the attempts. Where
+/// inputs are committed together it writes what it writes of inputs that come one by one: it has a state of its own, to
+/// which it lets the events of each input happen.
 #[derive(Drop)]
 pub struct EveningLog<'a, R: Clock + Eprint> {
     rt: &'a R,
     alloc: Global,
     course: Course,
+    /// The state after the input that was seen last; None before the first look, or where there was no memory for it.
+    followed: Option<State>,
     /// The number of the last attempt that was seen; None before the first look.
     last: Option<u32>,
 }
@@ -46,6 +51,7 @@ impl<'a, R: Clock + Eprint> EveningLog<'a, R> {
             rt,
             alloc,
             course: Course::new(alloc),
+            followed: None,
             last: None,
         }
     }
@@ -146,6 +152,29 @@ impl<'a, R: Clock + Eprint> EveningLog<'a, R> {
     }
 }
 
+// The state after the events of an input: the one before it with these, where it is known. Else a copy of the state
+// that the run shows, which may be ahead of the input until its group ends. None where there is no memory for it.
+fn state_after(before: Option<State>, shown: &State, batch: &[Event]) -> Option<State>
+    ensures { IfSome before (λ s. IfSome result (λ t. t ≡ after_events s batch.now)) }
+{
+    let Some(mut state) = before else {
+        return shown.try_clone().ok();
+    };
+    for event in batch {
+        if !has_applied(&mut state, event) {
+            return None;
+        }
+    }
+    Some(state)
+}
+
+// Lets an event happen to a state, where it may and there is memory for it; answers whether it happened.
+fn has_applied(state: &mut State, event: &Event) -> bool
+    ensures { result ≡ true → state.new ≡ after state.old event.now }
+{
+    state.can_apply(event) && state.apply(event).is_ok()
+}
+
 // How many commands of a reply made events, where each reply that made some has a note.
 fn made_count(notes: &Notes, reply: &Reply) -> usize {
     if notes.are_whole {
@@ -158,6 +187,11 @@ fn made_count(notes: &Notes, reply: &Reply) -> usize {
 impl<'a, R: Clock + Eprint, W: Wire + Drop> Watch<LoggedWire<W>> for EveningLog<'a, R> {
     fn look(&mut self, state: &State, batch: &[Event], wire: &mut LoggedWire<W>) {
         let notes = wire.take_notes();
-        self.tell(state, batch, &notes);
+        let followed = state_after(self.followed.take(), state, batch);
+        match &followed {
+            Some(followed) => self.tell(followed, batch, &notes),
+            None => self.tell(state, batch, &notes),
+        }
+        self.followed = followed;
     }
 }

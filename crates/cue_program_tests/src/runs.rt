@@ -1,9 +1,11 @@
 //! A run in memory, with a watch that counts. The datagram and its reply are written by hand.
 use cue_core::{Event, State};
 use cue_disk::MemDisk;
-use cue_engine::{Engine, MemWire};
-use cue_run::{Ended, MemAnswer, MemSource, RunFault, Source, Waiting, Watch, run_watched};
-use std::alloc::Global;
+use cue_engine::{Engine, MemWire, Sent};
+use cue_run::{
+    Ended, MemAnswer, MemSource, RunFault, Source, Waiting, Watch, run_grouped, run_watched,
+};
+use std::alloc::{AllocError, Global};
 use std::process::Abort;
 use std::test::Fail;
 
@@ -114,5 +116,114 @@ fn what_waits_in_memory(rt: HostRuntime) -> Result<(), Fail> {
     assert!(rt; source.waiting(&mut buffer) == Ok(Some(expected)));
     assert_eq!(rt; &buffer[..28], DEVICE.as_slice());
     assert!(rt; source.waiting(&mut buffer) == Ok(None));
+    Ok(())
+}
+
+// What comes: three datagrams that wait together, a tick, and two more.
+fn answers(alloc: Global) -> Result<Vec<MemAnswer>, AllocError> {
+    let mut answers = Vec::new(alloc);
+    for (now, device) in [(0, 3), (1, 3), (2, 4), (250, 0), (251, 5), (252, 6)] {
+        if device == 0 {
+            answers.push(MemAnswer::Tick { now })?;
+        } else {
+            let mut bytes = Vec::from_slice(alloc, &DEVICE[..23])?;
+            bytes.extend_from_slice(&[device, 0, 0, 0x23, device])?;
+            answers.push(MemAnswer::Datagram {
+                now,
+                from: 8000,
+                bytes,
+            })?;
+        }
+    }
+    Ok(answers)
+}
+
+/// What a run left.
+#[derive(Drop)]
+struct Played {
+    ended: Ended,
+    looks: usize,
+    wire: MemWire,
+    disks: (MemDisk, MemDisk),
+}
+
+// Runs over the answers, by groups of so many at most, or one input at a time.
+fn play(
+    alloc: Global,
+    mut engine: Engine<MemDisk>,
+    answers: Vec<MemAnswer>,
+    most: Option<u64>,
+) -> Played {
+    let mut source = MemSource::new(answers);
+    let mut wire = MemWire::new(alloc);
+    let mut count = Count {
+        looks: 0,
+        events: 0,
+    };
+    let ended = match most {
+        Some(most) => run_grouped(
+            alloc,
+            &mut engine,
+            &mut source,
+            &mut wire,
+            5,
+            most,
+            &mut count,
+        ),
+        None => run_watched(alloc, &mut engine, &mut source, &mut wire, 5, &mut count),
+    };
+    Played {
+        ended,
+        looks: count.looks,
+        wire,
+        disks: engine.close(),
+    }
+}
+
+fn make_played(rt: &impl Abort, alloc: Global, most: Option<u64>) -> Played {
+    let answers = answers(alloc).expect(rt, "no memory");
+    match Engine::form(alloc, MemDisk::new(alloc), MemDisk::new(alloc)) {
+        Ok(engine) => play(alloc, engine, answers, most),
+        Err(_) => panic!(rt; "no engine"),
+    }
+}
+
+fn is_same(one: &Sent, other: &Sent) -> bool {
+    one.to == other.to && one.bytes == other.bytes && one.refused == other.refused
+}
+
+// Whether both wires tell the same.
+fn are_same(one: &MemWire, other: &MemWire) -> bool {
+    match (one.sent(), other.sent()) {
+        (Some(one), Some(other)) => {
+            one.len() == other.len() && one.iter().zip(other).all(|(x, y)| is_same(x, y))
+        }
+        _ => false,
+    }
+}
+
+fn expect_same(rt: &impl Abort, one: &Played, other: &Played) {
+    assert_eq!(rt; one.ended, other.ended);
+    assert_eq!(rt; one.looks, other.looks);
+    assert!(rt; are_same(&one.wire, &other.wire), "the wire");
+    assert!(rt;
+        one.disks.0.bytes() == other.disks.0.bytes(),
+        "the first file"
+    );
+    assert!(rt;
+        one.disks.1.bytes() == other.disks.1.bytes(),
+        "the second file"
+    );
+}
+
+/// What waits together leaves the same replies, turns and files as one by one, and is looked at as often. The run has 5
+/// turns, so the last group has one of the two that wait.
+#[test]
+fn a_run_by_groups(rt: HostRuntime) -> Result<(), Fail> {
+    let alone = make_played(&rt, rt.alloc(), None);
+    assert_eq!(rt; alone.ended.turns, 5);
+    for most in [0, 2, 128] {
+        expect_same(&rt, &alone, &make_played(&rt, rt.alloc(), Some(most)));
+    }
     Ok(())
 }

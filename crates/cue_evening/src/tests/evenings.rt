@@ -7,7 +7,7 @@ use super::texts::{AFTER_POWER_LOSS, EVENING, UNHEARD, UNSENT};
 use crate::{EveningLog, LoggedWire, say_ready};
 use cue_disk::MemDisk;
 use cue_engine::{Engine, Input, MemWire};
-use cue_run::Watch;
+use cue_run::{MemAnswer, MemSource, Watch, run_grouped, run_watched};
 use std::alloc::{AllocError, Global};
 use std::cell::{Cell, RefCell};
 use std::collections::VecDeque;
@@ -155,6 +155,25 @@ fn take(
     Ok(())
 }
 
+// What comes by a line of the text.
+fn answer(alloc: Global, line: &str) -> Result<MemAnswer, Fail> {
+    let mut words = line.split_whitespace();
+    let after: u64 = words.next().ok_or("no moment")?.parse()?;
+    let now = START.saturating_add(after);
+    let port = words.next().ok_or("no port")?;
+    if port == "tick" {
+        return Ok(MemAnswer::Tick { now });
+    }
+    let from: u16 = port.parse()?;
+    let address = words.next().ok_or("no address")?;
+    let mut numbers: Vec<i32> = Vec::new(alloc);
+    for word in words {
+        numbers.push(word.parse()?)?;
+    }
+    let bytes = datagram(alloc, address, &numbers)?;
+    Ok(MemAnswer::Datagram { now, from, bytes })
+}
+
 // Takes what a line of the text says.
 fn step(
     paper: &Paper,
@@ -163,31 +182,18 @@ fn step(
     log: &mut EveningLog<'_, Paper>,
     line: &str,
 ) -> Result<(), Fail> {
-    let mut words = line.split_whitespace();
-    let after: u64 = words.next().ok_or("no moment")?.parse()?;
-    let now = START.saturating_add(after);
-    paper.now.set(now);
-    let port = words.next().ok_or("no port")?;
-    if port == "tick" {
-        return take(engine, wire, log, now, Input::Tick);
+    match answer(paper.alloc, line)? {
+        MemAnswer::Tick { now } => {
+            paper.now.set(now);
+            take(engine, wire, log, now, Input::Tick)
+        }
+        MemAnswer::Datagram { now, from, bytes } => {
+            paper.now.set(now);
+            let bytes = bytes.as_slice();
+            take(engine, wire, log, now, Input::Datagram { from, bytes })
+        }
+        _ => Err("nothing comes".into()),
     }
-    let from: u16 = port.parse()?;
-    let address = words.next().ok_or("no address")?;
-    let mut numbers: Vec<i32> = Vec::new(paper.alloc);
-    for word in words {
-        numbers.push(word.parse()?)?;
-    }
-    let bytes = datagram(paper.alloc, address, &numbers)?;
-    take(
-        engine,
-        wire,
-        log,
-        now,
-        Input::Datagram {
-            from,
-            bytes: &bytes,
-        },
-    )
 }
 
 // The next line that was written is this one, after date and time.
@@ -318,5 +324,54 @@ fn ready(rt: HostRuntime) -> Result<(), Fail> {
     say_ready(&paper, "show/", 9100);
     let line = paper.next()?;
     assert!(rt; line.as_str() == "2026-11-24T19:30:00Z cuectl: ready, show/ at 127.0.0.1:9100");
+    Ok(())
+}
+
+// What comes in a text.
+fn answers(alloc: Global, text: &str) -> Result<Vec<MemAnswer>, Fail> {
+    let mut answers = Vec::new(alloc);
+    for line in text.lines() {
+        if !line.starts_with(' ') {
+            answers.push(answer(alloc, line)?)?;
+        }
+    }
+    Ok(answers)
+}
+
+// The log of a run over what comes in a text, by groups of so many at most or one input at a time. The clock stands
+// still.
+fn logged(alloc: Global, text: &str, most: Option<u64>) -> Result<Paper, Fail> {
+    let paper = Paper::new(alloc);
+    let mut engine = formed(alloc)?;
+    let mut source = MemSource::new(answers(alloc, text)?);
+    let mut wire = LoggedWire::new(alloc, MemWire::new(alloc));
+    let mut log = EveningLog::new(&paper, alloc);
+    let _ended = match most {
+        None => run_watched(alloc, &mut engine, &mut source, &mut wire, 999, &mut log),
+        Some(most) => run_grouped(
+            alloc,
+            &mut engine,
+            &mut source,
+            &mut wire,
+            999,
+            most,
+            &mut log,
+        ),
+    };
+    Ok(paper)
+}
+
+/// What is committed together has the lines of what comes one by one.
+#[test]
+fn groups(rt: HostRuntime) -> Result<(), Fail> {
+    let alone = logged(rt.alloc(), EVENING, None)?;
+    let together = logged(rt.alloc(), EVENING, Some(128))?;
+    let mut count = 0;
+    while !alone.is_read() {
+        assert!(rt; alone.next()? == together.next()?, "line {count}");
+        count += 1;
+    }
+    assert!(rt; together.is_read());
+    assert!(rt; count > 40, "{count} lines");
     Ok(())
 }

@@ -49,7 +49,9 @@ use cue_disk::FileDisk;
 use cue_engine::Engine;
 use cue_evening::{EveningLog, LoggedWire, say_ready};
 use cue_keeper::{Fault, StoreFault};
-use cue_run::{Ended, RunFault, UdpReceiver, UdpSource, UdpWire, local, run_watched};
+use cue_run::{
+    Ended, MOST_TOGETHER, RunFault, UdpReceiver, UdpSource, UdpWire, local, run_grouped,
+};
 use cue_script::script;
 use fault::{ProgramFault, print_fault, run_fault, status_of};
 use files::{create_both, open_both, refused_store, say, say_failures};
@@ -150,7 +152,8 @@ fn serve_on<'a, R: Clock + Eprint>(
     let mut source = UdpSource::new(rt, UdpReceiver::new(socket)?, port)?;
     let mut wire = LoggedWire::new(alloc, UdpWire::new(socket));
     let mut log = EveningLog::new(rt, alloc);
-    Ok(run_watched(alloc, engine, &mut source, &mut wire, turns, &mut log))
+    let most = MOST_TOGETHER;
+    Ok(run_grouped(alloc, engine, &mut source, &mut wire, turns, most, &mut log))
 }
 
 // Why the port cannot be served.

@@ -1,2 +1,4 @@
 pub mod AskLemmas
 pub mod BoardLemmas
+pub mod ReadLemmas
+pub mod TakenLemmas

@@ -1,4 +1,5 @@
 pub mod Asks
 pub mod Accepted
 pub mod Board
+pub mod Loading
 pub mod Routes

@@ -1,4 +1,7 @@
 pub mod AskLemmas
 pub mod BoardLemmas
+pub mod DefinedLemmas
 pub mod ReadLemmas
+pub mod StepLemmas
 pub mod TakenLemmas
+pub mod WrittenLemmas

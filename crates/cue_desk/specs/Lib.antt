@@ -3,3 +3,4 @@ pub mod Accepted
 pub mod Board
 pub mod Loading
 pub mod Routes
+pub mod Written

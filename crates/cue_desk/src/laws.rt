@@ -1,5 +1,6 @@
 //! Laws of what the desk asks and writes, each the contract of a function that does nothing.
 ghost use Rattle.cue_desk.specs.Loading.{AskedIsRead, CheckedIsTaken};
+ghost use Rattle.cue_desk.specs.Said.{ExportSaysTheShow};
 ghost use Rattle.cue_desk.specs.Written.{ExportIsRead, WrittenIsRead};
 
 /// From the message that asks for something a controller reads exactly that command: one, and no other. The cue or the
@@ -23,4 +24,10 @@ pub fn written_is_read()
 /// So the text that is exported of a show is read as exactly the devices and cues of this show.
 pub fn export_is_read()
     ensures { ExportIsRead }
+{}
+
+/// And that table says the show, by the definition of a show file: the same devices with their ports and the same cues
+/// with their parts, in the same order. So nothing is lost in an export.
+pub fn export_says_the_show()
+    ensures { ExportSaysTheShow }
 {}

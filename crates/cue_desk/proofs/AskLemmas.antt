@@ -18,6 +18,7 @@ use Rattle.cue_operator.specs.Arguments.{are_triples, triples_in, optional_by, p
 use Rattle.cue_desk.specs.declared.asking.Asked.{Asked}
 use Rattle.cue_desk.specs.declared.asking.Asked.TheVariants as asked
 use Rattle.cue_desk.specs.Asks.{AsksFor, arguments_of, command_of, flag_of, flagged_parts, is_askable, method_of}
+use Rattle.cue_desk.specs.Loading.{message_of}
 
 flagged-triples : (ps : List Part) → are_triples (flagged_parts ps) ≡ true
 flagged-triples [] = refl
@@ -38,7 +39,7 @@ parts-read (p ∷ ps) h =
     let k = and_parts (is_part p) (list_all is_part ps) h in
     rw (part-read p k.0, parts-read ps k.1) refl
 
-are_parts-each : (ps : List Part) → IsTrue (are_parts ps) → IsTrue (list_all is_part ps)
+pub are_parts-each : (ps : List Part) → IsTrue (are_parts ps) → IsTrue (list_all is_part ps)
 are_parts-each ps h =
     let some = and_parts (has_required_part ps) (nat_le (length ps) MAX_PARTS && (distinct (devices_in ps) && list_all is_part ps)) h in
     let few = and_parts (nat_le (length ps) MAX_PARTS) (distinct (devices_in ps) && list_all is_part ps) some.1 in
@@ -57,13 +58,17 @@ asked-read (asked.OfCue verb cue) h = refl
 asked-read (asked.Release device) h = refl
 asked-read (asked.RemoveDevice device) h = refl
 
--- so a message at that address with these arguments asks for it
+-- a message at that address with these arguments is the message that asks for it
+pub says : (a : Asked) (bytes address : List ℕ) (xs : List Argument) → address ≡ address_of (method_of a) → xs ≡ arguments_of a → datagram_at bytes ≡ Ok (message address xs) → datagram_at bytes ≡ Ok (message_of a)
+says a bytes address xs e f read = read ∙ (ap (λ x. Ok (message x xs)) e ∙ ap (λ ys. Ok (message (address_of (method_of a)) ys)) f)
+
+-- so it asks for it
 pub asks-for : (a : Asked) → IsTrue (is_askable a) → (bytes address : List ℕ) (xs : List Argument) → address ≡ address_of (method_of a) → xs ≡ arguments_of a
     → datagram_at bytes ≡ Ok (message address xs) → AsksFor bytes (command_of a)
 asks-for a h bytes address xs e f read = record {
   method = method_of a;
   arguments = arguments_of a;
-  message = read ∙ (ap (λ x. Ok (message x xs)) e ∙ ap (λ ys. Ok (message (address_of (method_of a)) ys)) f);
+  message = says a bytes address xs e f read;
   command = asked-read a h;
 }
 

@@ -8,6 +8,7 @@ ghost use Rattle.cue_operator.specs.Methods.{address_of, cue_verb_text, under};
 ghost use Rattle.cue_operator.specs.declared.method.Method.TheVariants.{OfCue};
 ghost use Rattle.cue_desk.specs.Asks.{AsksFor, arguments_of, ask_fault, command_of, flag_of, flagged_parts};
 ghost use Rattle.cue_desk.specs.Asks.{is_askable, method_of};
+ghost use Rattle.cue_desk.specs.Loading.{message_of};
 
 use cue_operator::CueVerb;
 use cue_osc::{Arg, Args, Message, Packet, WriteFault};
@@ -202,7 +203,8 @@ fn message(alloc: Global, address: &[u8], args: Vec<Arg<'_>>) -> Result<Vec<u8>,
 /// The datagram that asks for it, and for nothing else: one message.
 pub fn datagram(alloc: Global, asked: &Asked<'_>) -> Result<Vec<u8>, AskFault>
     requires { IsTrue (is_askable asked.now) }
-    ensures { IfOk result (λ bytes. AsksFor bytes.items (command_of asked.now)) }
+    ensures asks { IfOk result (λ bytes. AsksFor bytes.items (command_of asked.now)) }
+    ensures message { IfOk result (λ bytes. datagram_at bytes.items ≡ Ok (message_of asked.now)) }
 {
     let address = address(alloc, asked)?;
     let args = args_of(alloc, asked)?;

@@ -15,6 +15,7 @@ pub use beside::{heard_lines, log_lines};
 pub use columns::{COLUMNS, fitted};
 use cue_core::{Ended, State};
 use cue_words::outcome_words;
+pub(crate) use line::cue_text;
 use line::{BoardLine, texts};
 use live::push_live;
 use stack::push_stack;

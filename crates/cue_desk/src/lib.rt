@@ -3,6 +3,7 @@
 
 pub mod asking;
 pub mod board;
+pub mod laws;
 pub mod replying;
 pub mod show_file;
 #[cfg(test)]

@@ -56,7 +56,7 @@ impl BoardLine {
 }
 
 /// The text of a cue number.
-pub(super) fn cue_text(cue: &CueNo) -> &str
+pub(crate) fn cue_text(cue: &CueNo) -> &str
     ensures { result.now ≡ cue.now }
 {
     match str::from_utf8(cue.text()) {

@@ -1,27 +1,19 @@
 //! Writing a show file.
+ghost use Rattle.std.specs.Prelude.{◌≡◌, ◌++◌, ◌∷◌, [], IfOk, OnOk, codes, map, string_bytes, true};
+ghost use Rattle.std.specs.List.{flat_map};
+ghost use Rattle.toml.specs.Text.{before_item, after_item, array_end};
+ghost use Rattle.cue_desk.specs.Written as written;
+
 use super::{CueEntry, DeviceEntry, ShowFile};
-use cue_show::{Part, Parts, Show};
+use crate::board::cue_text;
+use cue_show::{CueNo, DeviceNo, Part, Parts, Show};
 use std::alloc::{AllocError, Global};
-use std::fmt::Write;
+use std::fmt::{self, Write};
 
-/// The file of a show: its devices and cues in their order, without names and notes, which no controller keeps.
-pub fn of_show(alloc: Global, show: &Show) -> Result<ShowFile, AllocError> {
-    let mut file = ShowFile {
-        port: None,
-        listen: None,
-        devices: Vec::new(alloc),
-        cues: Vec::new(alloc),
-    };
-    for (number, port) in show.devices() {
-        file.devices.push(device_entry(*number, *port))?;
-    }
-    for (number, parts) in show.cues() {
-        file.cues.push(cue_entry(*number, parts)?)?;
-    }
-    Ok(file)
-}
-
-fn device_entry(number: cue_show::DeviceNo, port: u16) -> DeviceEntry {
+// A device of a show, without a name.
+fn device_entry(number: DeviceNo, port: u16) -> DeviceEntry
+    ensures { result ≡ written.bare_device (number, port) }
+{
     DeviceEntry {
         line: None,
         number,
@@ -31,7 +23,10 @@ fn device_entry(number: cue_show::DeviceNo, port: u16) -> DeviceEntry {
     }
 }
 
-fn cue_entry(number: cue_show::CueNo, parts: &Parts) -> Result<CueEntry, AllocError> {
+// A cue of a show, without a name or a note.
+fn cue_entry(number: CueNo, parts: &Parts) -> Result<CueEntry, AllocError>
+    ensures { IfOk result (λ entry. entry ≡ written.bare_cue (number, parts.now)) }
+{
     Ok(CueEntry {
         line: None,
         number,
@@ -41,92 +36,207 @@ fn cue_entry(number: cue_show::CueNo, parts: &Parts) -> Result<CueEntry, AllocEr
     })
 }
 
-// Writes a character of a text between quotes.
-fn push_char(text: &mut String, c: char) -> Result<(), AllocError> {
-    match c {
-        '"' => text.push_str("\\\""),
-        '\\' => text.push_str("\\\\"),
-        '\n' => text.push_str("\\n"),
-        '\t' => text.push_str("\\t"),
-        c if u32::from(c) < 32 || u32::from(c) == 127 => { write!(text, "\\u{:04x}", u32::from(c)) }
-        c => text.push(c),
-    }?;
-    Ok(())
+fn device_entries(alloc: Global, show: &Show) -> Result<Vec<DeviceEntry>, AllocError>
+    ensures { IfOk result (λ entries. entries.items ≡ map written.bare_device show.now.devices) }
+{
+    let mut entries = Vec::new(alloc);
+    for (number, port) in show.devices() {
+        entries.push(device_entry(*number, *port))?;
+    }
+    Ok(entries)
 }
 
-// Writes a text between quotes.
-fn push_quoted(text: &mut String, value: &str) -> Result<(), AllocError> {
-    text.push_str("\"")?;
-    for c in value.chars() {
-        push_char(text, c)?;
+fn cue_entries(alloc: Global, show: &Show) -> Result<Vec<CueEntry>, AllocError>
+    ensures { IfOk result (λ entries. entries.items ≡ map written.bare_cue show.now.cues) }
+{
+    let mut entries = Vec::new(alloc);
+    for (number, parts) in show.cues() {
+        entries.push(cue_entry(*number, parts)?)?;
     }
-    text.push_str("\"")?;
-    Ok(())
+    Ok(entries)
+}
+
+/// The file of a show: its devices and cues in their order, without names and notes, which no controller keeps.
+pub fn of_show(alloc: Global, show: &Show) -> Result<ShowFile, AllocError>
+    ensures { IfOk result (λ file. written.IsFileOf show.now file) }
+{
+    Ok(ShowFile {
+        port: None,
+        listen: None,
+        devices: device_entries(alloc, show)?,
+        cues: cue_entries(alloc, show)?,
+    })
+}
+
+/// A text as TOML writes it, in the first form that needs no escape.
+#[derive(Clone, Copy)]
+struct Quoted<'a> {
+    text: &'a str,
+}
+
+impl fmt::Display for Quoted<'_> {
+    ghost use Rattle.std.specs.Prelude.{Some};
+    ghost use Rattle.toml_writer.specs.Text.{string_text};
+
+    ghost output = { λ quoted. Some (string_text quoted.text.now) };
+
+    fn fmt<W: fmt::Write>(&self, f: &mut fmt::Formatter<W>) -> fmt::Result {
+        toml_writer::write_string(f, self.text)
+    }
 }
 
 // Writes a line with a key and a text, where there is one.
-fn push_text(text: &mut String, key: &str, value: &Option<String>) -> Result<(), AllocError> {
-    if let Some(value) = value {
-        write!(text, "{key} = ")?;
-        push_quoted(text, value.as_str())?;
-        text.push_str("\n")?;
+fn push_text(text: &mut String, key: &str, value: &Option<String>) -> Result<(), AllocError>
+    ensures { OnOk result (string_bytes text.new ≡ string_bytes text.old ++ written.text_line key.now value.now) }
+{
+    match value {
+        Some(value) => {
+            let quoted = Quoted {
+                text: value.as_str(),
+            };
+            write!(text, "{key} = {quoted}\n")
+        }
+        None => Ok(()),
     }
-    Ok(())
 }
 
-fn push_bytes(text: &mut String, bytes: &[u8]) -> Result<(), AllocError> {
-    for byte in bytes {
-        write!(text, "{byte:02x}")?;
-    }
-    Ok(())
-}
-
-fn push_part(text: &mut String, part: &Part) -> Result<(), AllocError> {
-    write!(text, "  {{ device = {}, hex = \"", part.device.number())?;
-    push_bytes(text, part.bytes.as_slice())?;
-    text.push_str(if part.optional {
-        "\", optional = true },\n"
-    } else {
-        "\" },\n"
-    })?;
-    Ok(())
-}
-
-fn push_device(text: &mut String, entry: &DeviceEntry) -> Result<(), AllocError> {
-    write!(
-        text,
-        "\n[[device]]\nnumber = {}\nport = {}\n",
-        entry.number.number(),
-        entry.port
-    )?;
+fn push_device(text: &mut String, entry: &DeviceEntry) -> Result<(), AllocError>
+    ensures { OnOk result (string_bytes text.new ≡ string_bytes text.old ++ written.device_text entry.now) }
+{
+    let (number, port) = (entry.number.number(), entry.port);
+    write!(text, "\n[[device]]\nnumber = {number}\nport = {port}\n")?;
     push_text(text, "name", &entry.name)
 }
 
-fn push_cue(text: &mut String, entry: &CueEntry) -> Result<(), AllocError> {
-    let number = entry.number.text().escape_ascii();
-    write!(text, "\n[[cue]]\nnumber = \"{number}\"\n")?;
-    push_text(text, "name", &entry.name)?;
-    push_text(text, "note", &entry.note)?;
-    text.push_str("parts = [\n")?;
-    for part in entry.parts.as_slice() {
-        push_part(text, part)?;
+// How a part ends, after its bytes.
+fn part_end(optional: bool) -> &'static str
+    ensures { result.now ≡ written.part_end optional }
+{
+    if optional {
+        ", optional = true }"
+    } else {
+        " }"
     }
-    text.push_str("]\n")?;
+}
+
+fn push_part(alloc: Global, text: &mut String, part: &Part) -> Result<(), AllocError>
+    ensures { OnOk result (string_bytes text.new ≡ string_bytes text.old ++ written.part_text part.now) }
+{
+    let digits = hex::encode(alloc, part.bytes.as_slice())?;
+    let device = part.device.number();
+    let hex = Quoted {
+        text: digits.as_str(),
+    };
+    let end = part_end(part.optional);
+    write!(text, "{{ device = {device}, hex = {hex}{end}")
+}
+
+// What stands before each part, where each has a line of its own and where not.
+fn before_part(lines: bool) -> &'static str
+    ensures { result.now ≡ before_item lines true }
+{
+    if lines { "\n    " } else { "" }
+}
+
+// What stands after each part.
+fn after_part(lines: bool) -> &'static str
+    ensures { result.now ≡ after_item lines }
+{
+    if lines { "," } else { "" }
+}
+
+// What stands after the last one.
+fn parts_end(lines: bool) -> &'static str
+    ensures { result.now ≡ array_end lines }
+{
+    if lines { "\n]" } else { "]" }
+}
+
+fn push_parts(
+    alloc: Global,
+    text: &mut String,
+    parts: &[Part],
+    lines: bool,
+) -> Result<(), AllocError>
+    ensures { OnOk result (string_bytes text.new
+        ≡ string_bytes text.old ++ flat_map (written.part_item lines) parts.now) }
+{
+    for part in parts {
+        text.push_str(before_part(lines))?;
+        push_part(alloc, text, part)?;
+        text.push_str(after_part(lines))?;
+    }
     Ok(())
 }
 
-/// The text of a show file. Reading it gives the same devices and cues. Addresses on the network are left out: no
-/// store has them.
-pub fn written(alloc: Global, file: &ShowFile) -> Result<String, AllocError> {
+// Writes the line with the parts. Two or more have a line each.
+fn push_parts_line(alloc: Global, text: &mut String, parts: &Parts) -> Result<(), AllocError>
+    ensures { OnOk result (string_bytes text.new ≡ string_bytes text.old ++ written.parts_line parts.now) }
+{
+    let parts = parts.as_slice();
+    let lines = parts.len() > 1;
+    text.push_str("parts = [")?;
+    push_parts(alloc, text, parts, lines)?;
+    text.push_str(parts_end(lines))?;
+    text.push_str("\n")
+}
+
+// Writes the header of a cue, and its number.
+fn push_cue_head(text: &mut String, entry: &CueEntry) -> Result<(), AllocError>
+    ensures { OnOk result (string_bytes text.new ≡ string_bytes text.old ++ written.cue_head entry.now) }
+{
+    let number = Quoted {
+        text: cue_text(&entry.number),
+    };
+    write!(text, "\n[[cue]]\nnumber = {number}\n")
+}
+
+fn push_cue(alloc: Global, text: &mut String, entry: &CueEntry) -> Result<(), AllocError>
+    ensures { OnOk result (string_bytes text.new ≡ string_bytes text.old ++ written.cue_text entry.now) }
+{
+    push_cue_head(text, entry)?;
+    push_text(text, "name", &entry.name)?;
+    push_text(text, "note", &entry.note)?;
+    push_parts_line(alloc, text, &entry.parts)
+}
+
+fn push_port(text: &mut String, port: Option<u16>) -> Result<(), AllocError>
+    ensures { OnOk result (string_bytes text.new ≡ string_bytes text.old ++ written.port_text port) }
+{
+    match port {
+        Some(port) => write!(text, "port = {port}\n"),
+        None => Ok(()),
+    }
+}
+
+fn push_devices(text: &mut String, entries: &[DeviceEntry]) -> Result<(), AllocError>
+    ensures { OnOk result (string_bytes text.new
+        ≡ string_bytes text.old ++ flat_map written.device_text entries.now) }
+{
+    for entry in entries {
+        push_device(text, entry)?;
+    }
+    Ok(())
+}
+
+fn push_cues(alloc: Global, text: &mut String, entries: &[CueEntry]) -> Result<(), AllocError>
+    ensures { OnOk result (string_bytes text.new ≡ string_bytes text.old ++ flat_map written.cue_text entries.now) }
+{
+    for entry in entries {
+        push_cue(alloc, text, entry)?;
+    }
+    Ok(())
+}
+
+/// The text of a show file: its port, its devices and its cues. By the grammar of TOML it is read as exactly that
+/// (`laws::written_is_read`); that `read` makes the same file of it is tested. Where this machine and its devices are
+/// on the stage's network is left out: no store has it.
+pub fn written(alloc: Global, file: &ShowFile) -> Result<String, AllocError>
+    ensures { IfOk result (λ text. string_bytes text ≡ written.file_text file.now) }
+{
     let mut text = String::new(alloc);
-    if let Some(port) = file.port {
-        write!(text, "port = {port}\n")?;
-    }
-    for entry in &file.devices {
-        push_device(&mut text, entry)?;
-    }
-    for entry in &file.cues {
-        push_cue(&mut text, entry)?;
-    }
+    push_port(&mut text, file.port)?;
+    push_devices(&mut text, &file.devices)?;
+    push_cues(alloc, &mut text, &file.cues)?;
     Ok(text)
 }

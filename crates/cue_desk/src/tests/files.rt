@@ -3,12 +3,12 @@ use crate::show_file::{Checked, check, of_show, read, written};
 
 /// A file with nothing wrong.
 const GOOD: &str = "port = 9100\n\n\
-[[device]]\nnumber = 3\nport = 9001\nname = \"Winch 3, \\\"blue\\\" drop\"\n\n\
-[[cue]]\nnumber = \"12.5\"\nname = \"Blackout\"\nnote = \"wait\"\nparts = [\n  { device = 3, hex = \"0a0b\" },\n]\n";
+[[device]]\nnumber = 3\nport = 9001\nname = 'Winch 3, \"blue\" drop'\n\n\
+[[cue]]\nnumber = \"12.5\"\nname = \"Blackout\"\nnote = \"wait\"\nparts = [{ device = 3, hex = \"0a0b\" }]\n";
 
 /// The same without what no controller keeps.
 const BARE: &str = "\n[[device]]\nnumber = 3\nport = 9001\n\n\
-[[cue]]\nnumber = \"12.5\"\nparts = [\n  { device = 3, hex = \"0a0b\" },\n]\n";
+[[cue]]\nnumber = \"12.5\"\nparts = [{ device = 3, hex = \"0a0b\" }]\n";
 
 #[test]
 fn good_file_is_written_as_it_was_read(rt: HostRuntime) {

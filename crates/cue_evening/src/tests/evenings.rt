@@ -338,40 +338,44 @@ fn answers(alloc: Global, text: &str) -> Result<Vec<MemAnswer>, Fail> {
     Ok(answers)
 }
 
-// The log of a run over what comes in a text, by groups of so many at most or one input at a time. The clock stands
-// still.
+// Runs over these answers of a source, by groups of so many at most or one input at a time, and writes the log. The
+// clock stands still.
+fn run_logged(
+    paper: &Paper,
+    engine: &mut Engine<MemDisk>,
+    answers: Vec<MemAnswer>,
+    most: Option<u64>,
+) {
+    let alloc = paper.alloc;
+    let mut source = MemSource::new(answers);
+    let mut wire = LoggedWire::new(alloc, MemWire::new(alloc));
+    let mut log = EveningLog::new(paper, alloc);
+    let _ended = match most {
+        None => run_watched(alloc, engine, &mut source, &mut wire, 999, &mut log),
+        Some(most) => run_grouped(alloc, engine, &mut source, &mut wire, 999, most, &mut log),
+    };
+}
+
+// The log of a run over what comes in a text.
 fn logged(alloc: Global, text: &str, most: Option<u64>) -> Result<Paper, Fail> {
     let paper = Paper::new(alloc);
+    let answers = answers(alloc, text)?;
     let mut engine = formed(alloc)?;
-    let mut source = MemSource::new(answers(alloc, text)?);
-    let mut wire = LoggedWire::new(alloc, MemWire::new(alloc));
-    let mut log = EveningLog::new(&paper, alloc);
-    let _ended = match most {
-        None => run_watched(alloc, &mut engine, &mut source, &mut wire, 999, &mut log),
-        Some(most) => run_grouped(
-            alloc,
-            &mut engine,
-            &mut source,
-            &mut wire,
-            999,
-            most,
-            &mut log,
-        ),
-    };
+    run_logged(&paper, &mut engine, answers, most);
+    discard(engine);
     Ok(paper)
 }
 
-/// What is committed together has the lines of what comes one by one.
+/// What is committed together has the lines of what comes one by one: as many as the text of the evening has.
 #[test]
 fn groups(rt: HostRuntime) -> Result<(), Fail> {
     let alone = logged(rt.alloc(), EVENING, None)?;
     let together = logged(rt.alloc(), EVENING, Some(128))?;
-    let mut count = 0;
-    while !alone.is_read() {
-        assert!(rt; alone.next()? == together.next()?, "line {count}");
-        count += 1;
+    for line in EVENING.lines() {
+        if line.starts_with(' ') {
+            assert!(rt; alone.next()? == together.next()?, "{line}");
+        }
     }
-    assert!(rt; together.is_read());
-    assert!(rt; count > 40, "{count} lines");
+    assert!(rt; alone.is_read() && together.is_read());
     Ok(())
 }

@@ -1,7 +1,9 @@
 """What the tests beside the gate share: the program, stores, `cuectl serve` as a child, sockets that speak to it."""
 import atexit
 import os
+import re
 import shutil
+import signal
 import socket
 import struct
 import subprocess
@@ -99,6 +101,19 @@ class Serve:
         """What it printed and its status, once it has ended by itself."""
         out, _ = self.child.communicate(timeout=seconds)
         return out.decode(), self.child.returncode
+
+    def pid(self):
+        """The program's own, also where a tracer is around it."""
+        return [self.child.pid, *children(self.child.pid)][-1]
+
+    def hold(self):
+        """Stops it until `go_on`: what comes meanwhile waits together."""
+        os.kill(self.pid(), signal.SIGSTOP)
+        while not re.search(r"^State:\t[Tt]", Path(f"/proc/{self.pid()}/status").read_text(), re.M):
+            time.sleep(0.001)
+
+    def go_on(self):
+        os.kill(self.pid(), signal.SIGCONT)
 
     def kill(self):
         """Ends it, and where a tracer is around it that too."""

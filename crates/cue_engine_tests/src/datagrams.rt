@@ -12,6 +12,7 @@ mod optional;
 mod packets;
 mod rows;
 mod stops;
+mod together;
 
 #[derive(Clone, Copy)]
 enum Step {

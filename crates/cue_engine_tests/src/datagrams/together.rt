@@ -1,0 +1,171 @@
+// Inputs that are offered and committed together, beside the same inputs one at a time.
+use super::*;
+use cue_engine::Sent;
+
+/// A device, its cue, a message that nobody reads, and the device again.
+const GROUP: [&[u8]; 4] = [
+    b"/show/device\0\0\0\0,ii\0\0\0\0\x03\0\0\x23\x29",
+    b"/show/cue\0\0\0,sib\0\0\0\x001\0\0\0\0\0\0\x03\0\0\0\x02\x0a\x0b\0\0",
+    b"/x\0\0,f\0\0\x3f\x80\0\0",
+    b"/show/device\0\0\0\0,ii\0\0\0\0\x03\0\0\x23\x29",
+];
+
+/// A second cue, and datagrams that move to each of both.
+const CUE_2: &[u8] = b"/show/cue\0\0\0,sib\0\0\0\x002\0\0\0\0\0\0\x03\0\0\0\x02\x0a\x0b\0\0";
+
+const GOTO_1: &[u8] = b"/cue/1/goto\0";
+
+const GOTO_2: &[u8] = b"/cue/2/goto\0";
+
+fn input(bytes: &[u8]) -> Input<'_> {
+    Input::Datagram { from: 8000, bytes }
+}
+
+// Recovers a show from two disks.
+fn opened(alloc: Global, disks: Disks) -> Result<Engine<MemDisk>, Fail> {
+    let Disks { first, second } = disks;
+    match Engine::recover(alloc, first, second) {
+        Ok(engine) => Ok(engine),
+        Err((fault, _, _)) => Err(fault.into()),
+    }
+}
+
+fn closed(engine: Engine<MemDisk>) -> Disks {
+    let (first, second) = engine.close();
+    Disks { first, second }
+}
+
+// Takes the group one at a time; answers how many commands each made.
+fn take_each(engine: &mut Engine<MemDisk>) -> Result<[u16; 4], Fail> {
+    let mut made = [0; 4];
+    for (place, bytes) in GROUP.iter().enumerate() {
+        made[place] = engine.take(0, input(bytes))?.made;
+    }
+    Ok(made)
+}
+
+// Offers the group; until it is committed nothing is owed.
+fn offer_each(rt: &impl Abort, engine: &mut Engine<MemDisk>) -> Result<(), Fail> {
+    for bytes in GROUP {
+        assert!(rt; engine.has_room());
+        let _counts = engine.offer(0, input(bytes))?;
+    }
+    assert!(rt; engine.queue().is_empty());
+    assert_eq!(rt; engine.offered_sends(), 4);
+    Ok(())
+}
+
+fn is_same(one: &Sent, other: &Sent) -> bool {
+    one.to == other.to && one.bytes == other.bytes
+}
+
+// Both wires tell the same.
+fn are_same(one: &MemWire, other: &MemWire) -> bool {
+    match (one.sent(), other.sent()) {
+        (Some(one), Some(other)) => {
+            one.len() == other.len() && one.iter().zip(other).all(|(x, y)| is_same(x, y))
+        }
+        _ => false,
+    }
+}
+
+fn expect_same_bytes(rt: &impl Abort, one: &Disks, other: &Disks) {
+    assert!(rt; one.first.bytes() == other.first.bytes(), "the first disk");
+    assert!(rt;
+        one.second.bytes() == other.second.bytes(),
+        "the second disk"
+    );
+}
+
+/// A group leaves the same bytes on both disks as one at a time, and the same datagrams, whole or in parts.
+#[test]
+fn as_one_at_a_time(rt: HostRuntime) -> Result<(), Fail> {
+    let alloc = rt.alloc();
+    let mut alone = opened(alloc, show(&rt, alloc, &[])?)?;
+    let mut wire = MemWire::new(alloc);
+    let _made = take_each(&mut alone)?;
+    assert_eq!(rt; alone.hand_out(&mut wire), 0);
+    let mut group = opened(alloc, show(&rt, alloc, &[])?)?;
+    let mut other = MemWire::new(alloc);
+    offer_each(&rt, &mut group)?;
+    group.commit()?;
+    assert_eq!(rt; group.last_batches().len(), 4);
+    assert_eq!(rt; group.hand_out_first(&mut other, 3), 0);
+    assert_eq!(rt; group.queue().len(), 1);
+    assert_eq!(rt; group.hand_out(&mut other), 0);
+    assert!(rt; are_same(&wire, &other));
+    expect_same_bytes(&rt, &closed(alone), &closed(group));
+    Ok(())
+}
+
+/// What was offered and is withdrawn is not committed.
+#[test]
+fn withdrawn(rt: HostRuntime) -> Result<(), Fail> {
+    let alloc = rt.alloc();
+    let mut engine = opened(alloc, show(&rt, alloc, &[])?)?;
+    offer_each(&rt, &mut engine)?;
+    engine.withdraw();
+    engine.commit()?;
+    assert!(rt; engine.queue().is_empty());
+    expect_same_bytes(&rt, &closed(engine), &show(&rt, alloc, &[])?);
+    Ok(())
+}
+
+// The first disk's calls while a show is recovered.
+fn calls_at_recovery(rt: &impl Abort, alloc: Global) -> Result<u64, Fail> {
+    let disks = show(rt, alloc, &[])?;
+    let before = disks.first.calls();
+    let disks = closed(opened(alloc, disks)?);
+    Ok(disks.first.calls().saturating_sub(before))
+}
+
+// The disks after a commit that stops at its k-th call on the first disk. Nothing is owed then.
+fn stopped(rt: &impl Abort, alloc: Global, k: u64) -> Result<Disks, Fail> {
+    let calls = calls_at_recovery(rt, alloc)?;
+    let mut disks = show(rt, alloc, &[])?;
+    disks.first.stop_at(calls.saturating_add(k));
+    let mut engine = opened(alloc, disks)?;
+    offer_each(rt, &mut engine)?;
+    assert_eq!(rt; engine.commit(), Err(Fault::Disk));
+    assert!(rt; engine.queue().is_empty());
+    Ok(closed(engine))
+}
+
+/// A stop at each of the two writes and two syncs of a commit leaves none of the group, or all of it.
+#[test]
+fn stops_within_a_commit(rt: HostRuntime) -> Result<(), Fail> {
+    let alloc = rt.alloc();
+    for k in 1..=4 {
+        let disks = stopped(&rt, alloc, k)?;
+        for (extra, junk) in [(0, 0), (1, 1), (u64::MAX, 0), (u64::MAX, 1)] {
+            let left = crash(&disks, extra, &[junk])?;
+            let made = take_each(&mut opened(alloc, left)?)?;
+            assert!(rt; made == [1, 1, 0, 0] || made == [0; 4], "{made:?} at {k}");
+        }
+    }
+    Ok(())
+}
+
+/// Where an area lacks room for all that was offered, the commit is refused, and what was offered is dropped.
+#[test]
+fn full_without_room(rt: HostRuntime) -> Result<(), Fail> {
+    let alloc = rt.alloc();
+    let mut engine = opened(alloc, show(&rt, alloc, &[])?)?;
+    let _made = take_each(&mut engine)?;
+    let _counts = engine.take(0, input(CUE_2))?;
+    for _ in 0..126 {
+        let _counts = engine.take(0, input(GOTO_2))?;
+        let _counts = engine.take(0, input(GOTO_1))?;
+    }
+    // The area has 255 of its 256 records.
+    let owed = engine.queue().len();
+    let _counts = engine.offer(0, input(GOTO_2))?;
+    assert!(rt; !engine.has_room());
+    let _counts = engine.offer(0, input(GOTO_1))?;
+    assert_eq!(rt; engine.commit(), Err(Fault::Full));
+    assert_eq!(rt; engine.queue().len(), owed);
+    assert_eq!(rt; engine.offered_sends(), 0);
+    let _counts = engine.offer(0, input(GOTO_2))?;
+    engine.commit()?;
+    Ok(())
+}

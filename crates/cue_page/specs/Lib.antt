@@ -2,4 +2,5 @@ pub mod Fields
 pub mod Requests
 pub mod Presses
 pub mod Board
+pub mod Heard
 pub mod Answers

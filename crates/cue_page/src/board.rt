@@ -3,6 +3,7 @@ ghost use Rattle.std.specs.Prelude.{◌≡◌, IfOk};
 ghost use Rattle.serde_json.specs.View.{view};
 ghost use Rattle.cue_page.specs.Board.{device_data};
 
+use crate::relay::{Relay, relay_value};
 use cue_core::{Ended, State};
 use cue_desk::show_file::ShowFile;
 use cue_exchange::{Attempt, DeviceAnswer, Stage};
@@ -17,15 +18,21 @@ const BEFORE: usize = 3;
 /// How many cues are shown in all.
 const SHOWN: usize = 24;
 
-/// When the store was read, and when the board is asked for, in milliseconds since 1970.
-#[derive(Clone, Copy, Debug, PartialEq, Eq)]
-pub struct Moments {
+/// What is shown around a state.
+#[derive(Clone, Copy)]
+pub struct Around<'a> {
+    /// The show file, for names and notes.
+    pub file: Option<&'a ShowFile>,
+    pub relay: &'a Relay,
+    /// When the store was read, and when the board is asked for, in milliseconds since 1970.
     pub read: u64,
     pub now: u64,
+    /// Why the store could not be read again; empty where it was.
+    pub trouble: &'a str,
 }
 
 // What the file calls the device.
-fn device_name<'a>(file: Option<&'a ShowFile>, device: DeviceNo) -> &'a str {
+pub(crate) fn device_name<'a>(file: Option<&'a ShowFile>, device: DeviceNo) -> &'a str {
     match file {
         Some(file) => file.device_name(device).unwrap_or(""),
         None => "",
@@ -169,23 +176,18 @@ fn ended_value(alloc: Global, ended: Option<Ended>) -> Result<Value, AllocError>
 }
 
 /// The board as JSON: the next cue, the stack around the place, each live attempt with its devices, how the last one
-/// ended, and how old all that is. Names and notes are those of the file, where there is one. `trouble` is why the
-/// store could not be read again; empty where it was.
-pub fn board_text(
-    alloc: Global,
-    state: &State,
-    file: Option<&ShowFile>,
-    moments: Moments,
-    trouble: &str,
-) -> Result<String, AllocError> {
-    let show = state.show();
+/// ended, what a relay tells, and how old all that is.
+pub fn board_text(alloc: Global, state: &State, around: &Around<'_>) -> Result<String, AllocError> {
+    let (show, file) = (state.show(), around.file);
     let next = next_value(alloc, show, file)?;
     let stack = stack_value(alloc, show, file)?;
-    let live = live_value(alloc, state.live().as_slice(), file, moments.now)?;
+    let live = live_value(alloc, state.live().as_slice(), file, around.now)?;
     let last = ended_value(alloc, state.ended())?;
-    let age = moments.now.saturating_sub(moments.read);
+    let relay = relay_value(alloc, around.relay, file, around.now)?;
+    let age = around.now.saturating_sub(around.read);
     let board = json!(in alloc; {
-        "next": next, "stack": stack, "live": live, "last": last, "age": age, "trouble": trouble
+        "next": next, "stack": stack, "live": live, "last": last, "relay": relay, "age": age,
+        "trouble": around.trouble
     })?;
     board.to_string(alloc)
 }

@@ -6,6 +6,7 @@ pub mod board;
 mod fields;
 pub mod page;
 pub mod pressing;
+pub mod relay;
 pub mod replying;
 pub mod request;
 #[cfg(test)]

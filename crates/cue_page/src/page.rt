@@ -38,6 +38,11 @@ const BODY: &str = r#"">
 <div id="next" class="next"></div>
 <h2 id="live-title">Live</h2>
 <div id="live" role="group" aria-labelledby="live-title"></div>
+<div id="network" role="group" aria-labelledby="network-title" hidden>
+<h2 id="network-title">Devices on the network</h2>
+<p id="relay" class="empty"></p>
+<ul id="heard"></ul>
+</div>
 </section>
 </main>
 <footer aria-label="Commands">

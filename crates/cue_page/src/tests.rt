@@ -1,13 +1,16 @@
 //! Requests as browsers and strangers send them, presses, and what they are answered.
 use crate::answering::{Kind, NOTHING, Outcome, answer};
-use crate::board::{Moments, board_text};
+use crate::board::{Around, board_text};
 use crate::page::{page_text, policy};
 use crate::pressing::read_press;
+use crate::relay::{Relay, relay_value};
 use crate::replying::{Told, told_text, trouble_text};
 use crate::request::{Door, Refusal, Wish, judge, read_head};
 use cue_core::State;
 use cue_desk::asking::Asked;
 use cue_operator::CueVerb;
+use cue_relay::status::read;
+use std::alloc::{AllocError, Global};
 
 const DOOR: Door<'static> = Door {
     port: 8123,
@@ -154,11 +157,51 @@ fn replies_are_told_in_words(rt: HostRuntime) {
 #[test]
 fn board_of_an_empty_show_is_empty(rt: HostRuntime) {
     let state = State::empty(rt.alloc());
-    let moments = Moments { read: 1, now: 251 };
-    let text = board_text(rt.alloc(), &state, None, moments, "").expect(&rt, "memory");
-    let wanted =
-        "{\"age\":250,\"last\":null,\"live\":[],\"next\":null,\"stack\":[],\"trouble\":\"\"}";
+    let around = Around {
+        file: None,
+        relay: &Relay::Unwatched,
+        read: 1,
+        now: 251,
+        trouble: "",
+    };
+    let text = board_text(rt.alloc(), &state, &around).expect(&rt, "memory");
+    let wanted = "{\"age\":250,\"last\":null,\"live\":[],\"next\":null,\"relay\":null,\
+        \"stack\":[],\"trouble\":\"\"}";
     assert!(rt; text.as_str() == wanted);
+}
+
+/// What a relay tells of two devices.
+const STATUS: &str = "relay 1 1000000\npassed 7 lost 0 dropped 2\n\
+device 3 10.0.7.31:9001 heard 997000\ndevice 4 10.0.7.32:7000 never silent\nend\n";
+
+/// The moments at which it is asked, and what is told then.
+const TOLD: [(u64, &str); 2] = [
+    (
+        1_000_000,
+        "{\"devices\":[{\"device\":3,\"heard\":\"heard 3 s ago\",\"name\":\"\",\"silent\":false},\
+        {\"device\":4,\"heard\":\"silent, never heard\",\"name\":\"\",\"silent\":true}],\"words\":\"\"}",
+    ),
+    (
+        1_012_000,
+        "{\"devices\":[],\"words\":\"the relay has stopped, 12 s ago\"}",
+    ),
+];
+
+// What is told of a relay at a moment; none where its status is none.
+fn told_at(alloc: Global, now: u64) -> Result<Option<String>, AllocError> {
+    let Some(status) = read(alloc, STATUS)? else {
+        return Ok(None);
+    };
+    let value = relay_value(alloc, &Relay::Told(status), None, now)?;
+    Ok(Some(value.to_string(alloc)?))
+}
+
+#[test]
+fn relays_are_told_with_their_devices(rt: HostRuntime) {
+    for (now, wanted) in TOLD {
+        let text = told_at(rt.alloc(), now).expect(&rt, "memory");
+        assert!(rt; text.is_some_and(|text| text.as_str() == wanted));
+    }
 }
 
 #[test]

@@ -1,2 +1,5 @@
 pub mod Endings
+pub mod Readings
+pub mod Replies
 pub mod Sockets
+pub mod Told

@@ -31,6 +31,14 @@ fn port<'a>(alloc: Global) -> Arg<'a> {
         .value_parser(value_parser!(u16))
 }
 
+// The file in which a relay tells of itself.
+fn relay_status<'a>(alloc: Global) -> Arg<'a> {
+    Arg::new(alloc, "relay")
+        .help("What `cuedesk relay --status` writes: when each device was heard")
+        .long("relay")
+        .action(ArgAction::Set)
+}
+
 // A command that asks something of a cue.
 fn of_cue<'a>(alloc: Global, name: &'a str, about: &'a str) -> Result<Command<'a>, AllocError> {
     Command::new(alloc, name)
@@ -72,10 +80,6 @@ fn board<'a>(alloc: Global) -> Result<Command<'a>, AllocError> {
         .help("The log of serve: its last lines are shown")
         .long("log")
         .action(ArgAction::Set);
-    let relay = Arg::new(alloc, "relay")
-        .help("What `cuedesk relay --status` writes: when each device was heard")
-        .long("relay")
-        .action(ArgAction::Set);
     let once = Arg::new(alloc, "once")
         .help("Print it once, as text")
         .long("once")
@@ -87,7 +91,7 @@ fn board<'a>(alloc: Global) -> Result<Command<'a>, AllocError> {
     )?
     .arg(file)?
     .arg(log)?
-    .arg(relay)?
+    .arg(relay_status(alloc))?
     .arg(once)
 }
 

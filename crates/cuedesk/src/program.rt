@@ -1,9 +1,11 @@
 //! The program: what each command does, prints and answers.
+mod answered;
 mod board;
 mod ending;
 mod files;
 mod loading;
 mod orders;
+mod reading;
 mod rehearsing;
 mod relaying;
 mod web;

@@ -69,13 +69,20 @@ function deviceRow(attempt, device) {
   const last = make("td");
   last.append(release);
   row.append(make("td", "number", device.device), make("td", "", device.name), answer,
-    make("td", "", device.optional ? "optional" : "required"), last);
+    make("td", "", device.optional ? "optional" : "required"));
+  if (board.relay) {
+    const cell = make("td");
+    cell.id = "heard-" + attempt.attempt + "-" + device.device;
+    row.append(cell);
+  }
+  row.append(last);
   return row;
 }
 
 function deviceTable(attempt) {
   const table = make("table"), head = make("tr");
-  for (const title of ["Device", "Name", "Answer", "Needed", ""]) {
+  const heard = board.relay ? ["Heard"] : [];
+  for (const title of ["Device", "Name", "Answer", "Needed", ...heard, ""]) {
     const cell = make("th", "", title);
     cell.scope = "col";
     head.append(cell);
@@ -116,6 +123,48 @@ function attemptCard(attempt) {
   }
   card.append(deviceTable(attempt));
   return card;
+}
+
+// What a relay tells of the device; nothing where it has no route there.
+const heardOf = (device) => board.relay && board.relay.devices.find((seen) => seen.device === device);
+const heardWords = (seen) => !seen ? "" : seen.silent ? "\u2715 " + seen.heard : seen.heard;
+
+function showHeard(cell, seen) {
+  cell.className = seen && seen.silent ? "silent" : "heard";
+  if (cell.textContent !== heardWords(seen)) cell.textContent = heardWords(seen);
+}
+
+function heardLine(seen) {
+  const line = make("li"), words = make("span");
+  words.id = "heard-" + seen.device;
+  line.append(make("span", "number", seen.device), make("span", "", seen.name), words);
+  return line;
+}
+
+// When each device was heard. The words change each second: they are put where they stand, and no button is made anew.
+function showRelay() {
+  const told = board.relay;
+  at("network").hidden = !told;
+  if (!told) return;
+  at("relay").textContent = told.words;
+  const known = told.devices.map((seen) => [seen.device, seen.name]);
+  place("heard", () => told.devices.map(heardLine), JSON.stringify(known));
+  for (const seen of told.devices) showHeard(at("heard-" + seen.device), seen);
+  for (const attempt of board.live) {
+    for (const device of attempt.devices) {
+      const cell = at("heard-" + attempt.attempt + "-" + device.device);
+      if (cell) showHeard(cell, heardOf(device.device));
+    }
+  }
+}
+
+// What a screen reader is told where it changes: how far each cue is, and who is silent.
+function spokenWords() {
+  const cues = board.live.map((attempt) => "Cue " + attempt.cue + " " + stageWords(attempt));
+  const silent = (board.relay ? board.relay.devices : []).filter((seen) => seen.silent);
+  const words = [...cues, ...silent.map((seen) => "Device " + seen.device + " " + seen.name + " is silent")];
+  if (board.relay && board.relay.words) words.push("No device is heard: the relay cannot be read or has stopped");
+  return words.join(". ");
 }
 
 function liveCards() {
@@ -169,12 +218,13 @@ function show() {
     place("stack", () => board.stack.map(cueLine), JSON.stringify([board.stack, board.next]));
     place("next", nextCard, JSON.stringify(board.next));
     const live = board.live.map((attempt) => ({ ...attempt, left: 0 }));
-    place("live", liveCards, JSON.stringify([live, chosen]));
+    place("live", liveCards, JSON.stringify([live, chosen, board.relay !== null]));
     showBars();
+    showRelay();
     const last = board.last ? "attempt " + board.last.attempt + ", " + board.last.outcome : "no attempt has ended yet";
     place("last", () => [last], last);
     at("last").className = board.last && board.last.outcome === "failed" ? "failed" : "";
-    const spoken = board.live.map((attempt) => "Cue " + attempt.cue + " " + stageWords(attempt)).join(". ");
+    const spoken = spokenWords();
     if (spoken !== said) { said = spoken; at("spoken").textContent = spoken || "Nothing is stood by."; }
   }
   showButtons();

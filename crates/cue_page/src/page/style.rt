@@ -40,11 +40,17 @@ section { min-height: 0; overflow: auto; }
 .bar i { display: block; height: 100%; background: var(--amber); }
 .ready .bar i { background: var(--green); }
 table { width: 100%; border-collapse: collapse; margin-top: .4rem; }
-th { text-align: left; color: var(--soft); font-weight: 400; font-size: .85rem; }
+th { padding-right: .5rem; text-align: left; color: var(--soft); font-weight: 400; font-size: .85rem; }
 td { border-top: 1px solid var(--line); padding: .28rem .5rem .28rem 0; }
-td.answer { font-weight: 700; }
+td.answer { font-weight: 700; white-space: nowrap; }
+td.heard, td.silent { font-size: .9rem; white-space: nowrap; }
 .waiting { color: var(--amber); } .is-ready, .done { color: var(--green); } .failed-device { color: var(--red); }
 .excused { color: var(--violet); } .let-go { color: var(--blue); }
+#network { margin-top: 1.1rem; }
+#heard { list-style: none; padding: 0; margin-top: .4rem; font-size: .9rem; display: grid; gap: .1rem 1.2rem;
+  grid-template-columns: repeat(auto-fill, minmax(17rem, 1fr)); }
+#heard li { display: grid; grid-template-columns: 2.4rem 1fr auto; gap: .4rem; border-top: 1px solid var(--line); }
+.heard { color: var(--soft); } .silent { color: var(--red); font-weight: 700; }
 .small { font: inherit; font-size: .85rem; color: var(--text); background: #2a323b; border: 1px solid #5d6977;
   border-radius: .3rem; padding: .12rem .7rem; cursor: pointer; }
 .small:disabled { visibility: hidden; }

@@ -1,6 +1,6 @@
 //! The command `web`, and what stands after it.
 use super::words::LineFault;
-use super::{option_in, over_dir, port, port_in, text_in};
+use super::{option_in, over_dir, port, port_in, relay_status, text_in};
 use clap::{Arg, ArgAction, ArgMatches, Command, value_parser};
 use std::alloc::{AllocError, Global};
 
@@ -11,6 +11,8 @@ pub struct Web {
     pub dir: String,
     /// The show file, for names and notes.
     pub file: Option<String>,
+    /// What a relay tells of itself.
+    pub relay: Option<String>,
     /// The port of 127.0.0.1 at which the page is.
     pub http: u16,
     /// The port of the controller, where the command line says it.
@@ -35,6 +37,7 @@ pub fn web_command<'a>(alloc: Global) -> Result<Command<'a>, AllocError> {
     )?
     .arg(file)?
     .arg(http)?
+    .arg(relay_status(alloc))?
     .arg(port(alloc))
 }
 
@@ -45,6 +48,7 @@ pub fn web_in(alloc: Global, found: &ArgMatches<'_>) -> Result<Web, LineFault> {
         Some(http) if http >= 1 => Ok(Web {
             dir: text_in(alloc, found, "DIR")?,
             file,
+            relay: option_in(alloc, found, "relay")?,
             http,
             port: port_in(found)?,
         }),

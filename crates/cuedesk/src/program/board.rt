@@ -3,14 +3,13 @@ mod beside;
 mod screen;
 
 use super::ending::{Ending, print, say};
-use super::files::{open_store, read_file};
+use super::files::read_file;
+use super::reading::{Reading, Store, moment_now};
 use crate::line::words::Watched;
 pub use beside::read_status;
 use beside::{read_heard, read_log};
 use cue_desk::board::{COLUMNS, age_line, board_lines, fitted};
 use cue_desk::show_file::ShowFile;
-use cue_disk::MemDisk;
-use cue_keeper::Keeper;
 use screen::Screen;
 use std::alloc::{AllocError, Global};
 use std::fs::{File, Files};
@@ -20,21 +19,6 @@ use std::time::{Clock, Duration};
 
 /// The time between two readings, in milliseconds.
 const PAUSE: u64 = 250;
-
-/// A store that was read, and when, in milliseconds since 1970.
-#[derive(Drop)]
-struct Reading {
-    keeper: Keeper<MemDisk>,
-    moment: u64,
-}
-
-// Milliseconds since 1970; 0 where the clock has none.
-fn now<C: Clock>(clock: &C) -> u64 {
-    match clock.since_1970() {
-        Ok(since) => u64::try_from(since.as_millis()).unwrap_or(0),
-        Err(_) => 0,
-    }
-}
 
 // Puts these lines after the others.
 fn append(lines: &mut Vec<String>, more: Vec<String>) -> Result<(), AllocError> {
@@ -52,8 +36,8 @@ fn lines_of(
     moment: u64,
     trouble: &str,
 ) -> Result<Vec<String>, AllocError> {
-    let mut lines = board_lines(alloc, reading.keeper.state(), file, moment)?;
-    lines.push(age_line(alloc, reading.moment, moment)?)?;
+    let mut lines = board_lines(alloc, reading.state(), file, moment)?;
+    lines.push(age_line(alloc, reading.moment(), moment)?)?;
     if !trouble.is_empty() {
         let text = format!(in alloc; "OLD    {trouble}")?;
         lines.push(fitted(alloc, text.as_str(), COLUMNS)?)?;
@@ -67,24 +51,10 @@ struct Board<'a, R> {
     rt: &'a R,
     watched: &'a Watched,
     file: Option<ShowFile>,
-    last: Option<Reading>,
+    store: Store,
 }
 
 impl<'a, R: Files<File = File> + Clock + AllocGlobal> Board<'a, R> {
-    // Reads the store again; where that cannot be, the last reading stays, and why is answered.
-    fn read_again(&mut self) -> String {
-        match open_store(self.rt, self.watched.dir.as_str()) {
-            Ok(keeper) => {
-                self.last = Some(Reading {
-                    keeper,
-                    moment: now(self.rt),
-                });
-                String::new(self.rt.alloc())
-            }
-            Err(why) => why,
-        }
-    }
-
     // Puts what is read beside the store after the lines.
     fn push_beside(&self, lines: &mut Vec<String>, moment: u64) -> Result<(), AllocError> {
         if let Some(path) = &self.watched.relay {
@@ -98,9 +68,9 @@ impl<'a, R: Files<File = File> + Clock + AllocGlobal> Board<'a, R> {
 
     // The lines as of now; the outer `Err` is why there is no board at all.
     fn lines(&mut self) -> Result<Result<Vec<String>, String>, AllocError> {
-        let trouble = self.read_again();
-        let (alloc, moment) = (self.rt.alloc(), now(self.rt));
-        let Some(reading) = &self.last else {
+        let trouble = self.store.look(self.rt);
+        let (alloc, moment) = (self.rt.alloc(), moment_now(self.rt));
+        let Some(reading) = self.store.last() else {
             return Ok(Err(trouble));
         };
         let file = self.file.as_ref();
@@ -179,11 +149,12 @@ pub fn show_board<R: Files<File = File> + Clock + Eprint + AllocGlobal, W: Write
         Some(path) => Some(read_file(rt, path.as_str())?),
         None => None,
     };
+    let dir = String::from_str(rt.alloc(), watched.dir.as_str())?;
     let mut board = Board {
         rt,
         watched,
         file,
-        last: None,
+        store: Store::new(dir),
     };
     if is_once {
         print_once(&mut board, writer)

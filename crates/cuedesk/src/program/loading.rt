@@ -4,9 +4,10 @@ mod counts;
 mod progress;
 
 use super::PORT;
+use super::answered::Answered;
 use super::ending::{Ending, say};
 use super::files::read_file;
-use asking::{Answered, Asker};
+use asking::Asker;
 use counts::{Became, Counts};
 use cue_desk::asking::Asked;
 use cue_desk::show_file::{CueEntry, DeviceEntry, ShowFile, Subject};

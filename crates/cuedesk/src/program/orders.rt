@@ -1,4 +1,5 @@
 //! The commands of an evening: one message each.
+use super::answered::Answered;
 use super::ending::{Ending, print, say};
 use super::wire::{Heard, Sendings, Wire};
 use crate::line::words::Order;
@@ -40,6 +41,25 @@ fn status_text(alloc: Global, status: Status) -> Result<String, AllocError> {
     Ok(text)
 }
 
+// Says what became of a command, and answers whether it was refused.
+fn tell_reply<R: Eprint, W: Write>(
+    rt: &R,
+    answered: Answered,
+    writer: &mut W,
+) -> Result<(), Ending> {
+    match answered {
+        Answered::Made => print(writer, "made\n"),
+        Answered::Known => print(writer, "known: it was so already\n"),
+        Answered::Refused(code) => {
+            say(
+                rt,
+                format_args!("refused, code {code}: {}", code_words(code)),
+            );
+            Err(Ending::Refused)
+        }
+    }
+}
+
 // Says what the controller replied, and answers whether it was refused.
 fn tell<R: Eprint + AllocGlobal, W: Write>(
     rt: &R,
@@ -48,15 +68,7 @@ fn tell<R: Eprint + AllocGlobal, W: Write>(
 ) -> Result<(), Ending> {
     match replied {
         Replied::Status(status) => print(writer, status_text(rt.alloc(), status)?.as_str()),
-        Replied::Reply { refused, code, .. } if refused > 0 => {
-            say(
-                rt,
-                format_args!("refused, code {code}: {}", code_words(code)),
-            );
-            Err(Ending::Refused)
-        }
-        Replied::Reply { made, .. } if made > 0 => print(writer, "made\n"),
-        Replied::Reply { .. } => print(writer, "known: it was so already\n"),
+        reply => tell_reply(rt, Answered::of(reply), writer),
     }
 }
 

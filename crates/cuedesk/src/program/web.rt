@@ -5,10 +5,11 @@ mod visitor;
 use super::PORT;
 use super::ending::{Ending, print, say};
 use super::files::read_file;
+use super::reading::Store;
 use super::wire::Wire;
 use crate::line::web::Web;
 use cue_page::request::Door;
-use desk::Desk;
+use desk::{Desk, Sources};
 use hex::encode;
 use mio::net::TcpListener;
 use mio::{Events, Interest, Poll, Token};
@@ -144,7 +145,19 @@ fn open_desk<R: Files<File = File> + Net + Clock + Eprint + AllocGlobal>(
     };
     let named = file.as_ref().and_then(|file| file.port);
     let wire = Wire::new(rt, web.port.or(named).unwrap_or(PORT))?;
-    Ok(Desk::new(rt.alloc(), web.dir.as_str(), file, wire, token)?)
+    let alloc = rt.alloc();
+    let relay = match &web.relay {
+        Some(path) => Some(path.clone()?),
+        None => None,
+    };
+    let store = Store::new(web.dir.clone()?);
+    let sources = Sources {
+        store,
+        file,
+        relay,
+        wire,
+    };
+    Ok(Desk::new(alloc, sources, token)?)
 }
 
 // Listens at this port; else why it cannot is said.

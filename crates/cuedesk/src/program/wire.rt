@@ -1,4 +1,5 @@
 //! The socket of the desk: one message, and what the controller replies to it.
+use super::answered::Answered;
 use super::ending::{Ending, say};
 use cue_desk::asking::{Asked, address, datagram};
 use cue_desk::replying::{Replied, read_reply};
@@ -124,6 +125,15 @@ impl Wire {
         let wants_status = matches!(asked, Asked::Status);
         self.send(&datagram);
         self.wait(alloc, shown, wants_status, sendings.silences())
+    }
+
+    /// Asks a command, once: what became of it; none where nobody replied.
+    pub fn ask_once(&self, alloc: Global, asked: &Asked<'_>) -> Result<Option<Answered>, Ending> {
+        match self.ask(alloc, asked, Sendings::One) {
+            Ok(Heard::Replied(replied)) => Ok(Some(Answered::of(replied))),
+            Ok(Heard::Silence | Heard::Noise) => Ok(None),
+            Err(ending) => Err(ending),
+        }
     }
 
     // Hears until what is wanted came, or none did so many times.

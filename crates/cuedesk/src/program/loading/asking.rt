@@ -1,4 +1,5 @@
 //! One thing asked while a show file is loaded: again where no reply came, with words where it is refused.
+use super::super::answered::Answered;
 use super::super::ending::{Ending, say};
 use super::super::wire::{Heard, Sendings, Wire};
 use cue_desk::asking::Asked;
@@ -11,30 +12,12 @@ use std::net::Net;
 /// How many times a message is sent at most.
 const SENDINGS: u32 = 4;
 
-/// What the controller replied.
-#[derive(Clone, Copy, Debug, PartialEq, Eq)]
-pub enum Answered {
-    Made,
-    Known,
-    /// With this code.
-    Refused(i32),
-}
-
 /// Asks one thing after the other.
 #[derive(Drop)]
 pub struct Asker<'a, R> {
     rt: &'a R,
     port: u16,
     wire: Wire,
-}
-
-// What a reply says of the one command that was asked.
-fn answer_in(replied: Replied) -> Answered {
-    match replied {
-        Replied::Reply { refused, code, .. } if refused > 0 => Answered::Refused(code),
-        Replied::Reply { made, .. } if made > 0 => Answered::Made,
-        Replied::Reply { .. } | Replied::Status(_) => Answered::Known,
-    }
 }
 
 impl<'a, R: Net + Eprint + AllocGlobal> Asker<'a, R> {
@@ -59,7 +42,7 @@ impl<'a, R: Net + Eprint + AllocGlobal> Asker<'a, R> {
     /// Asks it. Where nobody replies, that is said, and the loading ends.
     pub fn ask(&mut self, subject: Subject, asked: &Asked<'_>) -> Result<Answered, Ending> {
         match self.hear(asked)? {
-            Some(replied) => Ok(answer_in(replied)),
+            Some(replied) => Ok(Answered::of(replied)),
             None => {
                 say(
                     self.rt,

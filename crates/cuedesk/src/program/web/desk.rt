@@ -1,67 +1,84 @@
 //! What the page is answered: itself, the board, the show file, and what became of a press.
+ghost use Rattle.std.specs.Prelude.{◌≡◌};
+ghost use Rattle.cuedesk.specs.Told.{outcome_of, told_of};
+
+use super::super::answered::Answered;
+use super::super::board::read_status;
 use super::super::ending::Ending;
-use super::super::files::open_store;
-use super::super::wire::{Heard, Sendings, Wire};
+use super::super::files::words;
+use super::super::reading::{Reading, Store, moment_now};
+use super::super::wire::Wire;
 use super::visitor::Asking;
 use cue_desk::asking::Asked;
-use cue_desk::replying::Replied;
 use cue_desk::show_file::{ShowFile, of_show, written};
-use cue_disk::MemDisk;
-use cue_keeper::Keeper;
 use cue_page::answering::{Kind, NOTHING, Outcome, answer, refusal_words};
-use cue_page::board::{Moments, board_text};
+use cue_page::board::{Around, board_text};
 use cue_page::page::{page_text, policy};
+use cue_page::relay::Relay;
 use cue_page::replying::{Told, told_text, trouble_text};
 use cue_page::request::Refusal;
 use std::alloc::{AllocError, Global};
 use std::fs::{File, Files};
 use std::time::Clock;
 
-/// A store that was read, and when, in milliseconds since 1970.
-#[derive(Drop)]
-struct Reading {
-    keeper: Keeper<MemDisk>,
-    moment: u64,
-}
-
 /// What the page is answered from.
 #[derive(Drop)]
-pub struct Desk {
-    /// The folder of the store.
-    pub dir: String,
+pub struct Sources {
+    pub store: Store,
     /// The show file, for names and notes.
     pub file: Option<ShowFile>,
+    /// Where a relay tells of itself.
+    pub relay: Option<String>,
     /// The controller.
     pub wire: Wire,
-    /// The page with its token, and what it may do in a browser.
-    page: String,
-    policy: String,
-    last: Option<Reading>,
 }
 
-// Milliseconds since 1970; 0 where the clock has none.
-fn moment_now<C: Clock>(clock: &C) -> u64 {
-    match clock.since_1970() {
-        Ok(since) => u64::try_from(since.as_millis()).unwrap_or(0),
-        Err(_) => 0,
+/// A page, and what it is answered from.
+#[derive(Drop)]
+pub struct Desk {
+    sources: Sources,
+    // The page with its token, and what it may do in a browser.
+    page: String,
+    policy: String,
+}
+
+// What the page is told of what the controller replied; none where nobody did.
+fn told_of(answered: Option<Answered>) -> Told
+    ensures { result ≡ told_of answered }
+{
+    match answered {
+        Some(Answered::Made) => Told::Made,
+        Some(Answered::Known) => Told::Known,
+        Some(Answered::Refused(code)) => Told::Refused(code),
+        None => Told::Silent,
+    }
+}
+
+// How the answer to a press begins.
+fn outcome_of(told: Told) -> Outcome
+    ensures { result ≡ outcome_of told }
+{
+    match told {
+        Told::Unread => Outcome::Refused(Refusal::Unreadable),
+        Told::Made | Told::Known | Told::Refused(_) | Told::Silent => Outcome::Done,
     }
 }
 
 // Asks one thing of the controller, once.
 fn ask(alloc: Global, wire: &Wire, asked: &Asked<'_>) -> Result<Told, Ending> {
-    match wire.ask(alloc, asked, Sendings::One)? {
-        Heard::Replied(Replied::Reply { refused, code, .. }) if refused > 0 => {
-            Ok(Told::Refused(code))
-        }
-        Heard::Replied(Replied::Reply { made, .. }) if made > 0 => Ok(Told::Made),
-        Heard::Replied(_) => Ok(Told::Known),
-        Heard::Silence | Heard::Noise => Ok(Told::Silent),
-    }
+    let answered = wire.ask_once(alloc, asked)?;
+    Ok(told_of(answered))
 }
 
 // An answer of JSON.
 fn json_answer(alloc: Global, outcome: Outcome, text: &str) -> Result<String, AllocError> {
     answer(alloc, outcome, Kind::Json, NOTHING, text)
+}
+
+// That there is no answer, and why.
+fn trouble_answer(alloc: Global, words: &str) -> Result<String, AllocError> {
+    let text = trouble_text(alloc, words)?;
+    json_answer(alloc, Outcome::Unavailable, text.as_str())
 }
 
 // That a request is not carried out, and why.
@@ -70,35 +87,42 @@ fn refused_answer(alloc: Global, refusal: Refusal) -> Result<String, AllocError>
     json_answer(alloc, Outcome::Refused(refusal), text.as_str())
 }
 
+// What a relay tells that writes this file.
+fn read_relay<R: Files<File = File> + AllocGlobal>(
+    rt: &R,
+    path: Option<&str>,
+) -> Result<Relay, AllocError> {
+    let Some(path) = path else {
+        return Ok(Relay::Unwatched);
+    };
+    Ok(match read_status(rt, path) {
+        Ok(Some(status)) => Relay::Told(status),
+        Ok(None) => Relay::Unread(format!(in rt.alloc(); "{path}: this is no status of a relay")?),
+        Err(why) => Relay::Unread(words(rt.alloc(), path, why)),
+    })
+}
+
+// The show as a show file: the one that was handed in, else that of the store; none where nothing was read.
+fn show_text(
+    alloc: Global,
+    file: Option<&ShowFile>,
+    reading: Option<&Reading>,
+) -> Result<Option<String>, AllocError> {
+    Ok(match (file, reading) {
+        (Some(file), _) => Some(written(alloc, file)?),
+        (None, Some(reading)) => Some(written(alloc, &of_show(alloc, reading.state().show())?)?),
+        (None, None) => None,
+    })
+}
+
 impl Desk {
-    /// A desk over the store of this folder, whose page has this token.
-    pub fn new(
-        alloc: Global,
-        dir: &str,
-        file: Option<ShowFile>,
-        wire: Wire,
-        token: &str,
-    ) -> Result<Desk, AllocError> {
+    /// A desk over these sources, whose page has this token.
+    pub fn new(alloc: Global, sources: Sources, token: &str) -> Result<Desk, AllocError> {
         Ok(Desk {
-            dir: String::from_str(alloc, dir)?,
-            file,
-            wire,
+            sources,
             page: page_text(alloc, token)?,
             policy: policy(alloc)?,
-            last: None,
         })
-    }
-
-    // Reads the store again. Where that cannot be, the last reading stays, and why is answered.
-    fn read_again<R: Files<File = File> + Clock + AllocGlobal>(&mut self, rt: &R) -> String {
-        match open_store(rt, self.dir.as_str()) {
-            Ok(keeper) => {
-                let moment = moment_now(rt);
-                self.last = Some(Reading { keeper, moment });
-                String::new(rt.alloc())
-            }
-            Err(why) => why,
-        }
     }
 
     // The board as it is now; else the last one, and why it is old.
@@ -107,53 +131,43 @@ impl Desk {
         rt: &R,
     ) -> Result<String, AllocError> {
         let alloc = rt.alloc();
-        let trouble = self.read_again(rt);
-        let Some(reading) = &self.last else {
-            let text = trouble_text(alloc, trouble.as_str())?;
-            return json_answer(alloc, Outcome::Unavailable, text.as_str());
+        let trouble = self.sources.store.look(rt);
+        let Some(reading) = self.sources.store.last() else {
+            return trouble_answer(alloc, trouble.as_str());
         };
-        let moments = Moments {
-            read: reading.moment,
+        let around = Around {
+            file: self.sources.file.as_ref(),
+            relay: &read_relay(rt, self.sources.relay.as_deref())?,
+            read: reading.moment(),
             now: moment_now(rt),
+            trouble: trouble.as_str(),
         };
-        let state = reading.keeper.state();
-        let text = board_text(alloc, state, self.file.as_ref(), moments, trouble.as_str())?;
+        let text = board_text(alloc, reading.state(), &around)?;
         json_answer(alloc, Outcome::Done, text.as_str())
     }
 
-    // The show as a show file: the one that was handed in, else that of the store.
+    // The show as a show file.
     fn file_answer<R: Files<File = File> + Clock + AllocGlobal>(
         &mut self,
         rt: &R,
     ) -> Result<String, AllocError> {
         let alloc = rt.alloc();
-        let trouble = self.read_again(rt);
-        let text = match (&self.file, &self.last) {
-            (Some(file), _) => written(alloc, file)?,
-            (None, Some(reading)) => written(
-                alloc,
-                &of_show(alloc, reading.keeper.state().show())?,
-            )?,
-            (None, None) => {
-                let text = trouble_text(alloc, trouble.as_str())?;
-                return json_answer(alloc, Outcome::Unavailable, text.as_str());
-            }
-        };
-        answer(alloc, Outcome::Done, Kind::Text, NOTHING, text.as_str())
+        let trouble = self.sources.store.look(rt);
+        let (file, reading) = (self.sources.file.as_ref(), self.sources.store.last());
+        match show_text(alloc, file, reading)? {
+            Some(text) => answer(alloc, Outcome::Done, Kind::Text, NOTHING, text.as_str()),
+            None => trouble_answer(alloc, trouble.as_str()),
+        }
     }
 
     // What became of a press.
     fn command_answer(&self, alloc: Global, asked: Option<&Asked<'_>>) -> Result<String, Ending> {
         let told = match asked {
-            Some(asked) => ask(alloc, &self.wire, asked)?,
+            Some(asked) => ask(alloc, &self.sources.wire, asked)?,
             None => Told::Unread,
         };
-        let outcome = match told {
-            Told::Unread => Outcome::Refused(Refusal::Unreadable),
-            Told::Made | Told::Known | Told::Refused(_) | Told::Silent => Outcome::Done,
-        };
         let text = told_text(alloc, told)?;
-        Ok(json_answer(alloc, outcome, text.as_str())?)
+        Ok(json_answer(alloc, outcome_of(told), text.as_str())?)
     }
 
     /// What a connection is answered that asks this. It fails where memory ran out or the controller's socket failed.

@@ -1,0 +1,163 @@
+"""What the page is tried with: a served store with the show of a file, its devices rehearsed, and its page."""
+import json
+import re
+import socket
+import subprocess
+import sys
+import tempfile
+import time
+from pathlib import Path
+
+import serving
+from checking import check
+
+EVENING = serving.ROOT / "examples" / "evening.toml"
+NASTY = "<script>alert(1)</script> & \\\"'<b>"
+SHOWN = "<script>alert(1)</script> & \"'<b>"
+
+
+def free_tcp():
+    with socket.socket() as wire:
+        wire.bind(("127.0.0.1", 0))
+        return wire.getsockname()[1]
+
+
+class Evening:
+    """A served store with the show of a file, its devices rehearsed, and its page; `relay`: the file that a relay writes."""
+
+    def __init__(self, desk, cuectl, folder, text, relay=None):
+        self.desk, self.cuectl, self.folder = desk, cuectl, folder / "show"
+        self.folder.mkdir(parents=True)
+        subprocess.run([cuectl, "form", self.folder], stdout=subprocess.DEVNULL, check=True)
+        self.serve = serving.Serve(cuectl, self.folder)
+        if not self.serve.ready():
+            sys.exit(f"serve does not start: {self.serve.errors()}")
+        self.file = folder / "evening.toml"
+        self.file.write_text(text)
+        check("the show is loaded", serving.run(desk, "load", self.file, "--port", self.serve.port)[1] == 0)
+        self.children, self.http = {}, free_tcp()
+        words = ["web", self.folder, self.file, "--http", self.http, "--port", self.serve.port]
+        words += ["--relay", relay] if relay else []
+        self.page = subprocess.Popen([desk, *map(str, words)], stdout=subprocess.PIPE)
+        self.children["page"] = self.page
+        check("the page says where it is", f"http://127.0.0.1:{self.http}/".encode() in self.page.stdout.readline())
+
+    def play(self, *words, move=300):
+        """Rehearses the devices."""
+        self.stop("devices")
+        times = ("--prepare", "150", "--move", str(move), "--spread", "50")
+        words = [self.desk, "rehearse", str(self.file), *times, *words]
+        self.children["devices"] = subprocess.Popen(words, stdout=subprocess.DEVNULL)
+
+    def play_apart(self, number):
+        """Rehearses the devices, this one apart from the others: it fails while they still move."""
+        self.stop("devices")
+        devices = re.findall(r"\[\[device\]\]\n(?:.+\n)+", self.file.read_text())
+        apart = [text for text in devices if f"number = {number}\n" in text]
+        for name, texts, words in (("apart", apart, ("--fails", str(number), "--move", "200")),
+                                   ("devices", [text for text in devices if text not in apart], ("--move", "2500"))):
+            file = self.file.with_name(f"{name}.toml")
+            file.write_text("\n".join(texts))
+            words = [self.desk, "rehearse", str(file), "--prepare", "150", "--spread", "50", *words]
+            self.children[name] = subprocess.Popen(words, stdout=subprocess.DEVNULL)
+
+    def stop(self, name):
+        if name in self.children:
+            child = self.children.pop(name)
+            child.kill()
+            child.wait()
+
+    def power_is_lost(self):
+        """`kill -9` of the controller, and its start again at the same port."""
+        port = self.serve.port
+        self.serve.kill()
+        said = tempfile.NamedTemporaryFile()
+        words = [self.cuectl, "serve", str(self.folder), "--port", str(port), "--turns", "1000000000"]
+        self.serve.child = subprocess.Popen(words, stdout=subprocess.PIPE, stderr=said)
+        self.serve.said = said
+        check("the controller is there again", self.serve.ready())
+
+    def end(self):
+        for name in list(self.children):
+            self.stop(name)
+        self.serve.kill()
+
+    # ---- requests by hand
+
+    def send(self, data, seconds=3.0):
+        """What is answered to these bytes."""
+        with socket.create_connection(("127.0.0.1", self.http), timeout=seconds) as wire:
+            wire.sendall(data)
+            got = b""
+            while piece := wire.recv(65536):
+                got += piece
+            return got
+
+    def ask(self, body=b"goto 2", method="POST", target="/command", length=None, **fields):
+        """A request as the page itself makes it, but for what is said otherwise; none leaves a field out."""
+        home = f"127.0.0.1:{self.http}"
+        head = {"Host": home, "Origin": f"http://{home}", "Cuedesk_Token": self.token,
+                "Content_Length": len(body) if length is None else length, **fields}
+        lines = [f"{name.replace('_', '-')}: {value}" for name, value in head.items() if value is not None]
+        return self.send("\r\n".join([f"{method} {target} HTTP/1.1", *lines, "", ""]).encode() + body)
+
+    def board(self):
+        answer = self.send(f"GET /board.json HTTP/1.1\r\nHost: 127.0.0.1:{self.http}\r\n\r\n".encode())
+        return json.loads(answer.split(b"\r\n\r\n", 1)[1])
+
+    def place(self):
+        return self.board()["next"]["cue"]
+
+    def memory(self):
+        """What the page has of the machine's memory, in kB."""
+        return int(re.search(r"VmRSS:\s+(\d+)", Path(f"/proc/{self.page.pid}/status").read_text())[1])
+
+    def read_token(self):
+        page = self.send(f"GET / HTTP/1.1\r\nHost: localhost:{self.http}\r\n\r\n".encode()).decode()
+        self.token = re.search(r'cuedesk-token" content="([0-9a-f]{32})"', page)[1]
+        return page
+
+
+def status(answer):
+    return int(answer.split(b" ", 2)[1]) if answer else None
+
+
+def is_checked(program):
+    """Whether this is a build with checks in place of proofs: it is slow, and keeps what it frees."""
+    return b"__asan_" in Path(program).read_bytes()
+
+
+def is_answered(evening, within=1.2):
+    """Whether the next request is answered in time."""
+    begun = time.monotonic()
+    evening.board()
+    return time.monotonic() - begun < within
+
+
+def evening_text():
+    """The evening of the examples at ports of this run, with names that a page could take for more than texts."""
+    free = iter(range(serving.device_port(0), serving.device_port(0) + 100))
+    text = re.sub(r"(number = \d+\nport = )\d+", lambda m: f"{m[1]}{next(free)}", EVENING.read_text())
+    return text.replace("House to half", NASTY).replace("Winch 4, forest drop", f"Winch {NASTY}")
+
+
+def full_text():
+    """As many devices and cues as a show can have, each cue with 16 parts; seven cues in a row have all devices."""
+    devices = [f'[[device]]\nnumber = {n}\nport = {20000 + n}\nname = "Winch {n}"\n' for n in range(112)]
+    cues = []
+    for n in range(1, 1025):
+        first = n % 7 * 16
+        parts = ", ".join(f'{{ device = {k}, text = "{"x" * 32}" }}' for k in range(first, first + 16))
+        cues.append(f'[[cue]]\nnumber = "{n}"\nname = "Cue {n}"\nnote = "Note {n}"\nparts = [{parts}]\n')
+    return "\n".join(devices + cues)
+
+
+def write_status(path, devices, now=None):
+    """What a relay tells of these devices: for each the seconds since it was heard, or none, and whether it is silent."""
+    now = time.time_ns() // 10**6 if now is None else now
+    lines = [f"relay 1 {now}", "passed 7 lost 0 dropped 2"]
+    for number, (ago, silent) in devices.items():
+        heard = "never" if ago is None else f"heard {now - 1000 * ago}"
+        lines.append(f"device {number} 10.0.7.31:{9000 + number} {heard}{' silent' if silent else ''}")
+    path.with_suffix(".new").write_text("\n".join([*lines, "end", ""]))
+    path.with_suffix(".new").rename(path)

@@ -1,5 +1,5 @@
-//! The answers of 104 devices to a standby, taken one by one, and beside them two writes and two syncs for all of them:
-//! in memory, and on files.
+//! The answers of 104 devices to a standby, taken one by one, and together; and beside them two writes and two syncs for
+//! all of them: in memory, and on files.
 use crate::datagrams::{port_of, reply};
 use crate::forgetful::ForgetfulDisk;
 use crate::raw::{OPEN, Raw, file_in};
@@ -31,17 +31,20 @@ type Answer = (u16, Vec<u8>);
 #[derive(Clone, Copy)]
 struct Names {
     one_by_one: &'static str,
-    // beside it: two writes and two syncs of the same bytes
+    together: &'static str,
+    // beside them: two writes and two syncs of the same bytes
     calls: &'static str,
 }
 
 const IN_MEMORY: Names = Names {
     one_by_one: "answers_104",
+    together: "answers_104_together",
     calls: "answers_104_calls",
 };
 
 const ON_FILES: Names = Names {
     one_by_one: "answers_104 on files",
+    together: "answers_104_together on files",
     calls: "answers_104_calls on files",
 };
 
@@ -80,39 +83,42 @@ fn stand_by<D: Disk>(served: &mut Served<D>) -> bool {
     }
 }
 
-// Answers that are taken one after the other.
+// Makes room for a round and stands all cues by: the answers of all devices, or None where something failed.
+fn next_answers<D: Disk>(alloc: Global, served: &mut Served<D>) -> Option<Vec<Answer>> {
+    if !make_room(served) || !stand_by(served) {
+        return None;
+    }
+    let last = served.state().last_seq();
+    answers_to(alloc, last.saturating_sub(u32::from(CUES - 1))).ok()
+}
+
+// How answers are taken.
+#[derive(Clone, Copy)]
+enum Way {
+    OneByOne,
+    Together,
+}
+
+// The answers of all devices, and the show that takes them.
 #[derive(Drop)]
-struct OneByOne<'a, D: Disk> {
+struct Answering<'a, D: Disk> {
     alloc: Global,
+    way: Way,
     served: &'a mut Served<D>,
     answers: Vec<Answer>,
 }
 
-impl<'a, D: Disk> OneByOne<'a, D> {
-    fn new(alloc: Global, served: &'a mut Served<D>) -> OneByOne<'a, D> {
-        OneByOne {
+impl<'a, D: Disk> Answering<'a, D> {
+    fn new(alloc: Global, way: Way, served: &'a mut Served<D>) -> Answering<'a, D> {
+        Answering {
             alloc,
+            way,
             served,
             answers: Vec::new(alloc),
         }
     }
-}
 
-impl<'a, D: Disk> Work for OneByOne<'a, D> {
-    fn prepare(&mut self) -> bool {
-        let is_ready = make_room(self.served) && stand_by(self.served);
-        let last = self.served.state().last_seq();
-        let first = last.saturating_sub(u32::from(CUES - 1));
-        match answers_to(self.alloc, first) {
-            Ok(answers) => {
-                self.answers = answers;
-                is_ready
-            }
-            Err(_) => false,
-        }
-    }
-
-    fn once(&mut self) -> bool {
+    fn make_each(&mut self) -> bool {
         let mut all = true;
         for (port, bytes) in &self.answers {
             if !self.served.make(*port, bytes.as_slice()) {
@@ -120,6 +126,25 @@ impl<'a, D: Disk> Work for OneByOne<'a, D> {
             }
         }
         all
+    }
+}
+
+impl<'a, D: Disk> Work for Answering<'a, D> {
+    fn prepare(&mut self) -> bool {
+        match next_answers(self.alloc, self.served) {
+            Some(answers) => {
+                self.answers = answers;
+                true
+            }
+            None => false,
+        }
+    }
+
+    fn once(&mut self) -> bool {
+        match self.way {
+            Way::OneByOne => self.make_each(),
+            Way::Together => self.served.make_together(self.answers.as_slice()),
+        }
     }
 }
 
@@ -172,15 +197,26 @@ fn measure_in_turn<R: Clock + Print + AllocGlobal, D: Disk + Raw>(
 ) -> io::Result<()> {
     let alloc = rt.alloc();
     let mut one_by_one = Rounds::new(alloc);
+    let mut together = Rounds::new(alloc);
     let mut calls = Rounds::new(alloc);
     let records = records(alloc)?;
     for _ in 0..ROUNDS {
-        one_by_one.add(rt, 1, &mut OneByOne::new(alloc, &mut *served))?;
+        one_by_one.add(
+            rt,
+            1,
+            &mut Answering::new(alloc, Way::OneByOne, &mut *served),
+        )?;
+        together.add(
+            rt,
+            1,
+            &mut Answering::new(alloc, Way::Together, &mut *served),
+        )?;
         let disk = &mut *alone;
         let records = records.as_slice();
         calls.add(rt, 1, &mut Calls { disk, records })?;
     }
     one_by_one.print(rt, names.one_by_one)?;
+    together.print(rt, names.together)?;
     calls.print(rt, names.calls)
 }
 

@@ -85,6 +85,28 @@ impl<D: Disk> Served<D> {
         }
     }
 
+    // Offers datagrams in turn; whether each makes one command.
+    fn offer_all(&mut self, datagrams: &[(u16, Vec<u8>)]) -> bool {
+        let mut all = true;
+        for (from, bytes) in datagrams {
+            let from = *from;
+            let bytes = bytes.as_slice();
+            match self.engine.offer(NOW, Input::Datagram { from, bytes }) {
+                Ok(taken) if taken.made == 1 && taken.refused == 0 => self.count(taken),
+                _ => all = false,
+            }
+        }
+        all
+    }
+
+    /// Takes datagrams together and hands out what is owed; whether each made one command.
+    pub fn make_together(&mut self, datagrams: &[(u16, Vec<u8>)]) -> bool {
+        let offered = self.offer_all(datagrams);
+        let committed = self.engine.commit().is_ok();
+        let unsent = self.engine.hand_out(&mut Nowhere);
+        offered && committed && unsent == 0
+    }
+
     /// Goes to the first cue and to the last one in turn; whether it was made.
     pub fn go_on(&mut self) -> bool {
         let bytes = if self.goes_to_last {

@@ -77,24 +77,70 @@ fn expect_same_bytes(rt: &impl Abort, one: &Disks, other: &Disks) {
     );
 }
 
+// One at a time: all is handed out after the last.
+fn play_each(
+    rt: &impl Abort,
+    engine: &mut Engine<MemDisk>,
+    wire: &mut MemWire,
+) -> Result<(), Fail> {
+    let _made = take_each(engine)?;
+    assert_eq!(rt; engine.hand_out(wire), 0);
+    Ok(())
+}
+
+// Together: all is handed out in two parts.
+fn play_group(
+    rt: &impl Abort,
+    engine: &mut Engine<MemDisk>,
+    wire: &mut MemWire,
+) -> Result<(), Fail> {
+    offer_each(rt, engine)?;
+    engine.commit()?;
+    assert_eq!(rt; engine.last_batches().len(), 4);
+    assert_eq!(rt; engine.hand_out_first(wire, 3), 0);
+    assert_eq!(rt; engine.queue().len(), 1);
+    assert_eq!(rt; engine.hand_out(wire), 0);
+    Ok(())
+}
+
+#[derive(Clone, Copy)]
+enum Way {
+    OneAtATime,
+    Together,
+}
+
+// The disks after the group was taken, and a wire that has all that was sent.
+fn played(rt: &impl Abort, alloc: Global, wire: &mut MemWire, way: Way) -> Result<Disks, Fail> {
+    let mut engine = opened(alloc, show(rt, alloc, &[])?)?;
+    let done = match way {
+        Way::OneAtATime => play_each(rt, &mut engine, wire),
+        Way::Together => play_group(rt, &mut engine, wire),
+    };
+    let disks = closed(engine);
+    match done {
+        Ok(()) => Ok(disks),
+        Err(fail) => Err(fail),
+    }
+}
+
 /// A group leaves the same bytes on both disks as one at a time, and the same datagrams, whole or in parts.
 #[test]
 fn as_one_at_a_time(rt: HostRuntime) -> Result<(), Fail> {
     let alloc = rt.alloc();
-    let mut alone = opened(alloc, show(&rt, alloc, &[])?)?;
     let mut wire = MemWire::new(alloc);
-    let _made = take_each(&mut alone)?;
-    assert_eq!(rt; alone.hand_out(&mut wire), 0);
-    let mut group = opened(alloc, show(&rt, alloc, &[])?)?;
     let mut other = MemWire::new(alloc);
-    offer_each(&rt, &mut group)?;
-    group.commit()?;
-    assert_eq!(rt; group.last_batches().len(), 4);
-    assert_eq!(rt; group.hand_out_first(&mut other, 3), 0);
-    assert_eq!(rt; group.queue().len(), 1);
-    assert_eq!(rt; group.hand_out(&mut other), 0);
+    let alone = played(&rt, alloc, &mut wire, Way::OneAtATime)?;
+    let group = played(&rt, alloc, &mut other, Way::Together)?;
     assert!(rt; are_same(&wire, &other));
-    expect_same_bytes(&rt, &closed(alone), &closed(group));
+    expect_same_bytes(&rt, &alone, &group);
+    Ok(())
+}
+
+fn offer_and_withdraw(rt: &impl Abort, engine: &mut Engine<MemDisk>) -> Result<(), Fail> {
+    offer_each(rt, engine)?;
+    engine.withdraw();
+    engine.commit()?;
+    assert!(rt; engine.queue().is_empty());
     Ok(())
 }
 
@@ -102,13 +148,11 @@ fn as_one_at_a_time(rt: HostRuntime) -> Result<(), Fail> {
 #[test]
 fn withdrawn(rt: HostRuntime) -> Result<(), Fail> {
     let alloc = rt.alloc();
+    let plain = show(&rt, alloc, &[])?;
     let mut engine = opened(alloc, show(&rt, alloc, &[])?)?;
-    offer_each(&rt, &mut engine)?;
-    engine.withdraw();
-    engine.commit()?;
-    assert!(rt; engine.queue().is_empty());
-    expect_same_bytes(&rt, &closed(engine), &show(&rt, alloc, &[])?);
-    Ok(())
+    let done = offer_and_withdraw(&rt, &mut engine);
+    expect_same_bytes(&rt, &closed(engine), &plain);
+    done
 }
 
 // The first disk's calls while a show is recovered.
@@ -119,16 +163,43 @@ fn calls_at_recovery(rt: &impl Abort, alloc: Global) -> Result<u64, Fail> {
     Ok(disks.first.calls().saturating_sub(before))
 }
 
-// The disks after a commit that stops at its k-th call on the first disk. Nothing is owed then.
+// Offers the group and commits it, where a disk stops. Nothing is owed then.
+fn commit_stopped(rt: &impl Abort, engine: &mut Engine<MemDisk>) -> Result<(), Fail> {
+    offer_each(rt, engine)?;
+    assert_eq!(rt; engine.commit(), Err(Fault::Disk));
+    assert!(rt; engine.queue().is_empty());
+    Ok(())
+}
+
+// The disks after a commit that stops at its k-th call on the first disk.
 fn stopped(rt: &impl Abort, alloc: Global, k: u64) -> Result<Disks, Fail> {
     let calls = calls_at_recovery(rt, alloc)?;
     let mut disks = show(rt, alloc, &[])?;
     disks.first.stop_at(calls.saturating_add(k));
     let mut engine = opened(alloc, disks)?;
-    offer_each(rt, &mut engine)?;
-    assert_eq!(rt; engine.commit(), Err(Fault::Disk));
-    assert!(rt; engine.queue().is_empty());
-    Ok(closed(engine))
+    let done = commit_stopped(rt, &mut engine);
+    let disks = closed(engine);
+    match done {
+        Ok(()) => Ok(disks),
+        Err(fail) => Err(fail),
+    }
+}
+
+// How many commands of the group are made on what a crash left.
+fn made_after(alloc: Global, left: Disks) -> Result<[u16; 4], Fail> {
+    let mut engine = opened(alloc, left)?;
+    let made = take_each(&mut engine);
+    let _disks = closed(engine);
+    made
+}
+
+// Whatever a crash leaves of these disks has none of the group, or all of it.
+fn expect_none_or_all(rt: &impl Abort, alloc: Global, disks: &Disks) -> Result<(), Fail> {
+    for (extra, junk) in [(0, 0), (1, 1), (u64::MAX, 0), (u64::MAX, 1)] {
+        let made = made_after(alloc, crash(disks, extra, &[junk])?)?;
+        assert!(rt; made == [1, 1, 0, 0] || made == [0; 4], "{made:?}");
+    }
+    Ok(())
 }
 
 /// A stop at each of the two writes and two syncs of a commit leaves none of the group, or all of it.
@@ -137,27 +208,24 @@ fn stops_within_a_commit(rt: HostRuntime) -> Result<(), Fail> {
     let alloc = rt.alloc();
     for k in 1..=4 {
         let disks = stopped(&rt, alloc, k)?;
-        for (extra, junk) in [(0, 0), (1, 1), (u64::MAX, 0), (u64::MAX, 1)] {
-            let left = crash(&disks, extra, &[junk])?;
-            let made = take_each(&mut opened(alloc, left)?)?;
-            assert!(rt; made == [1, 1, 0, 0] || made == [0; 4], "{made:?} at {k}");
-        }
+        expect_none_or_all(&rt, alloc, &disks)?;
     }
     Ok(())
 }
 
-/// Where an area lacks room for all that was offered, the commit is refused, and what was offered is dropped.
-#[test]
-fn full_without_room(rt: HostRuntime) -> Result<(), Fail> {
-    let alloc = rt.alloc();
-    let mut engine = opened(alloc, show(&rt, alloc, &[])?)?;
-    let _made = take_each(&mut engine)?;
+// Fills the live area but for one record.
+fn fill(engine: &mut Engine<MemDisk>) -> Result<(), Fail> {
+    let _made = take_each(engine)?;
     let _counts = engine.take(0, input(CUE_2))?;
     for _ in 0..126 {
         let _counts = engine.take(0, input(GOTO_2))?;
         let _counts = engine.take(0, input(GOTO_1))?;
     }
-    // The area has 255 of its 256 records.
+    Ok(())
+}
+
+// Offers two where there is room for one, and then one.
+fn offer_too_many(rt: &impl Abort, engine: &mut Engine<MemDisk>) -> Result<(), Fail> {
     let owed = engine.queue().len();
     let _counts = engine.offer(0, input(GOTO_2))?;
     assert!(rt; !engine.has_room());
@@ -166,6 +234,20 @@ fn full_without_room(rt: HostRuntime) -> Result<(), Fail> {
     assert_eq!(rt; engine.queue().len(), owed);
     assert_eq!(rt; engine.offered_sends(), 0);
     let _counts = engine.offer(0, input(GOTO_2))?;
-    engine.commit()?;
-    Ok(())
+    Ok(engine.commit()?)
+}
+
+fn fill_and_offer(rt: &impl Abort, engine: &mut Engine<MemDisk>) -> Result<(), Fail> {
+    fill(engine)?;
+    offer_too_many(rt, engine)
+}
+
+/// Where an area lacks room for all that was offered, the commit is refused, and what was offered is dropped.
+#[test]
+fn full_without_room(rt: HostRuntime) -> Result<(), Fail> {
+    let alloc = rt.alloc();
+    let mut engine = opened(alloc, show(&rt, alloc, &[])?)?;
+    let done = fill_and_offer(&rt, &mut engine);
+    let _disks = closed(engine);
+    done
 }

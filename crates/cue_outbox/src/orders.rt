@@ -57,7 +57,7 @@ fn is_among(numbers: &[u32], number: u32) -> bool
     numbers.binary_search(&number).is_ok()
 }
 
-// Puts the orders of an attempt behind the others.
+// Puts the orders of an attempt after the others.
 fn push_orders(
     alloc: Global,
     outs: &mut Vec<Out>,

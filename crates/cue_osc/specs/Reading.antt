@@ -11,7 +11,7 @@ use Rattle.cue_osc.specs.declared.fault.Fault.TheVariants.{TooDeep, Trailing, Me
 use Rattle.cue_osc.specs.Argument.{Argument, int, text, blob}
 use Rattle.cue_osc.specs.Content.{Content, message, discarded, bundle, Contents, nothing, element}
 use Rattle.cue_osc.specs.Spelling.{slash, comma, padding, is_known_tag, bundle_head}
-use Rattle.cue_osc.specs.declared.limits.TheConstants.{MAX_LEN}
+use Rattle.cue_osc.specs.declared.limits.TheConstants.{MAX_LEN, MAX_DEPTH}
 
 -- one step, and the next where it did not fail
 infixl 10 ◌>>=◌
@@ -147,4 +147,4 @@ packet_at (suc d) bytes = start_at (bundle_by (packet_at d) (drop 8 bytes)) byte
 unfoldable pub datagram_at : List ℕ → Result Content Fault
 datagram_at bytes =
     if nat_lt MAX_LEN (length bytes) then Err TooLong else if not (length bytes % 4 == 0) then Err NotMultiple
-    else packet_at 8 bytes
+    else packet_at MAX_DEPTH bytes

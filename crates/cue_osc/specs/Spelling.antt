@@ -6,7 +6,7 @@ use Rattle.std.specs.List.{flat_map, AllByRecursion, list_all}
 use Rattle.std.specs.Int.{w32, w64, to_be_bytes, cast_unsigned}
 use Rattle.cue_osc.specs.Argument.{Argument, int, text, blob}
 use Rattle.cue_osc.specs.Content.{Content, message, discarded, bundle, Contents, nothing, element}
-use Rattle.cue_osc.specs.declared.limits.TheConstants.{MAX_LEN}
+use Rattle.cue_osc.specs.declared.limits.TheConstants.{MAX_LEN, MAX_DEPTH}
 
 -- the characters / and ,
 abbrev pub slash : ℕ
@@ -115,4 +115,4 @@ abbrev mutual
 
 -- a datagram that is this packet: at most 4,096 bytes, a multiple of 4, bundles at most 8 deep
 abbrev pub Spells : List ℕ → Content → Type 0
-Spells bytes c = (length bytes ≤ MAX_LEN) × (length bytes % 4 ≡ 0) × IsPacket 8 bytes c
+Spells bytes c = (length bytes ≤ MAX_LEN) × (length bytes % 4 ≡ 0) × IsPacket MAX_DEPTH bytes c

@@ -51,8 +51,8 @@ impl Queue {
         self.outs.pop_front()
     }
 
-    #[tactic(auto, using(crate::proofs::Fronts::view_of_front))]
     /// Keeps the first `count` datagrams, and drops the others.
+    #[tactic(auto, using(crate::proofs::Fronts::view_of_front))]
     pub fn truncate(&mut self, count: usize)
         ensures { self.new ≡ take count self.old }
     {

@@ -1,5 +1,5 @@
-//! The answers of 104 devices to a standby, taken one by one, and together; and beside them two writes and two syncs for
-//! all of them: in memory, and on files.
+//! The answers of 104 devices to a standby, taken one by one, and together; and beside them two writes and two syncs
+//! for all of them: in memory, and on files.
 use crate::datagrams::{port_of, reply};
 use crate::forgetful::ForgetfulDisk;
 use crate::raw::{OPEN, Raw, file_in};

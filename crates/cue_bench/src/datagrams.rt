@@ -5,7 +5,7 @@ use std::alloc::{AllocError, Global};
 #[derive(Clone, Copy)]
 pub struct NewCue<'a> {
     pub number: &'a [u8],
-    /// Its devices are this one and those behind it.
+    /// Its devices are this one and those after it.
     pub first: u8,
     pub parts: u8,
     /// The bytes of each part: as many as a multiple of 4.
@@ -14,7 +14,7 @@ pub struct NewCue<'a> {
     pub is_mixed: bool,
 }
 
-// The nulls behind a text, by its length modulo 4.
+// The nulls after a text, by its length modulo 4.
 const NULLS: [&[u8]; 4] = [b"\0\0\0\0", b"\0\0\0", b"\0\0", b"\0"];
 
 // A text with its nulls.

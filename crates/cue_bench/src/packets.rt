@@ -20,8 +20,8 @@ pub const STANDBY: &[u8] =
 
 const ADD_DEVICE: &[u8] = b"/show/device\0\0\0\0,ii\0\0\0\0\x03\0\0\x23\x29";
 
-// The bytes of the text of a full show's state without a place, counted by hand: 340 for the devices and what stands
-// before the cues, 1,021 cues of 578 and three of 565, and 11 behind them.
+// The bytes of the encoding of a full show's state without a place, counted by hand: 340 for the devices and what
+// stands before the cues, 1,021 cues of 578 and three of 565, and 11 after them.
 const TEXT_LEN: usize = 592_184;
 
 // Reads one packet.
@@ -78,7 +78,7 @@ impl<'a> Work for CompareAll<'a> {
     }
 }
 
-// Writes the text of a state.
+// Writes the encoding of a state.
 #[derive(Drop)]
 struct WriteState<'a> {
     alloc: Global,
@@ -269,7 +269,7 @@ const OVER_STATES: [&str; 7] = [
     "write_state",
 ];
 
-// The same over a full show, which is dropped behind it.
+// The same over a full show, which is dropped afterwards.
 fn measure_full<R: Clock + Print + AllocGlobal>(
     rt: &R,
     word: &str,

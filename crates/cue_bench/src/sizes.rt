@@ -66,7 +66,7 @@ fn measure_bundles<R: Clock + Print + AllocGlobal>(rt: &R, word: &str) -> io::Re
     Ok(())
 }
 
-// Removes all cues by one message, once they are there again; the datagram behind it is taken, too, since the second
+// Removes all cues by one message, once they are there again; the datagram after it is taken, too, since the second
 // state follows only then.
 #[derive(Drop)]
 struct RemoveAll<'a> {

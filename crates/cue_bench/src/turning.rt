@@ -21,7 +21,7 @@ struct Names {
     turn_over: &'static str,
     // beside it: its writes and syncs alone
     calls: &'static str,
-    // beside it: the state's text and the record, each written and synced
+    // beside it: the state's encoding and the record, each written and synced
     two_writes: &'static str,
 }
 
@@ -50,7 +50,7 @@ const ON_FILES: Names = Names {
     two_writes: "two_writes on files",
 };
 
-// How many records behind the first one an area has when it turns over.
+// How many records after the first one an area has when it turns over.
 const APPENDS: u32 = 255;
 
 // A closed gate.
@@ -94,7 +94,7 @@ impl<'a, D: Disk> Work for TurnOver<'a, D> {
     }
 }
 
-// A disk without a show, and the text of a state.
+// A disk without a show, and the encoding of a state.
 #[derive(Drop)]
 struct Alone<'a, D> {
     disk: &'a mut D,
@@ -102,7 +102,7 @@ struct Alone<'a, D> {
 }
 
 impl<'a, D: Raw> Alone<'a, D> {
-    // Where the first gate behind the text stands.
+    // Where the first gate after the encoding stands.
     fn end(&self) -> u64 {
         (self.text.len() as u64).saturating_add(13)
     }
@@ -139,7 +139,7 @@ impl<'a, D: Raw> Alone<'a, D> {
         Ok(())
     }
 
-    // Writes the text and a record, and syncs each.
+    // Writes the encoding and a record, and syncs each.
     fn write_both(&mut self) -> Result<(), DiskFault> {
         let end = self.end();
         self.disk.store(13, self.text)?;
@@ -173,7 +173,7 @@ impl<'a, D: Raw> Work for Calls<'a, D> {
     }
 }
 
-// The text of a state and a record, each written and synced.
+// The encoding of a state and a record, each written and synced.
 #[derive(Drop)]
 struct TwoWrites<'a, D> {
     alone: Alone<'a, D>,

@@ -197,7 +197,7 @@ on_release s d =
     if not (has_device s.show d) then refused code.NoMethod
     else option_map_or (on_release_of d) (attempt_of_device s.live d) (refused code.NotLive)
 
--- ---- the table of replies: the attempt, the device as it is recorded, the stage, and the answer of the record
+-- ---- the table of answers: the attempt, the device as it is recorded, the stage, and the answer of the record
 
 abbrev pub on_standing_by : ℕ → DeviceAnswer → Stage → Answer → Judgement
 on_standing_by q x Preparing answer.Waiting = made (event.Ready q x.device ∷ [])
@@ -297,12 +297,12 @@ on_reply_in reply.Complete = on_complete
 on_reply_in reply.Cancelled = on_cancelled
 on_reply_in reply.Abort = on_abort
 
--- a reply to a live attempt
+-- an answer to a live attempt
 abbrev pub on_reply_to : ReplyKind → ℕ → Attempt → Judgement
 on_reply_to kind d a =
     option_map_or (λ x. on_reply_in kind a.seq x a.stage x.answer) (device_answer a.answers d) (refused code.NotPart)
 
--- a reply that came from the port of another
+-- an answer that came from the port of another
 abbrev pub is_from_another : ShowState → ℕ → ℕ → Bool
 is_from_another s d from = option_map_or (λ port. not (nat_eq port from)) (port_of s.show d) true
 

@@ -1,4 +1,4 @@
--- What the devices are still to be told.
+-- The orders that the devices are still to answer.
 use Rattle.std.specs.Prelude.{ℕ, if◌then◌else◌, List, [], ◌∷◌, Option, None, Some, unwrap_or, nat_eq}
 use Rattle.std.specs.List.{filter_map, flat_map}
 use Rattle.cue_show.specs.declared.part.Part.{Part}
@@ -10,7 +10,7 @@ use Rattle.cue_exchange.specs.declared.attempt.Attempt.{Attempt}
 use Rattle.cue_exchange.specs.Answers.{waits}
 use Rattle.cue_core.specs.State.{ShowState, cue_parts}
 
--- what a device is told
+-- an order to a device
 pub data Order : Type 0 where
   standby : (q d : ℕ) (cue bytes : List ℕ) → Order
   go_2pc : (q d : ℕ) → Order
@@ -21,7 +21,7 @@ abbrev pub bytes_for : ℕ → List Part → List ℕ
 bytes_for d [] = []
 bytes_for d (p ∷ ps) = if nat_eq p.device d then p.bytes else bytes_for d ps
 
--- what a device is told in a stage
+-- what a device is ordered in a stage
 abbrev pub order_at : Stage → ℕ → ℕ → List ℕ → List ℕ → Order
 order_at Preparing q d cue bytes = standby q d cue bytes
 order_at Decided q d cue bytes = go_2pc q d

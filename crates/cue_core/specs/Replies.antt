@@ -1,4 +1,4 @@
--- Replies of devices to one attempt.
+-- Answers of devices to one attempt.
 use Rattle.std.specs.Prelude.{◌≡◌, ◌≢◌, ℕ, Bool, true, false, IsTrue}
 use Rattle.cue_exchange.specs.Live.{attempt_of}
 use Rattle.cue_core.specs.declared.command.ReplyKind.{ReplyKind}
@@ -14,22 +14,22 @@ is_made Made = true
 is_made Known = false
 is_made (No c) = false
 
--- what a reply says, of which device to which attempt, and the port that it came from
+-- what an answer says, of which device to which attempt, and the port that it came from
 pub record Said : Type 0 where
   pub from : ℕ
   pub kind : ReplyKind
   pub device : ℕ
   pub number : ℕ
 
--- the reply is carried out in the state
+-- the answer is carried out in the state
 abbrev pub is_reply_made : ShowState → Said → Bool
 is_reply_made s r = is_made (on_reply s r.from r.kind r.device r.number).0
 
--- the state after the reply was judged and its events were applied
+-- the state after the answer was judged and its events were applied
 abbrev pub after_reply : ShowState → Said → ShowState
 after_reply s r = after_events s (on_reply s r.from r.kind r.device r.number).1
 
--- Two replies to one attempt by different devices, each carried out in the same state, give the same state in either
+-- Two answers to one attempt by different devices, each carried out in the same state, give the same state in either
 -- order.
 abbrev pub RepliesCommute : Type 0
 RepliesCommute =
@@ -37,12 +37,12 @@ RepliesCommute =
     → IsTrue (is_reply_made s r) → IsTrue (is_reply_made s t)
     → after_reply (after_reply s r) t ≡ after_reply (after_reply s t) r
 
--- what a reply to q leaves as it was: the show with its place, the last number, and every other attempt
+-- what an answer to q leaves as it was: the show with its place, the last number, and every other attempt
 pub record LeavesOthers (q : ℕ) (old new : ShowState) : Type 0 where
   pub show : new.show ≡ old.show
   pub last : new.last_seq ≡ old.last_seq
   pub others : (p : ℕ) → p ≢ q → attempt_of new.live p ≡ attempt_of old.live p
 
--- A device's reply leaves every other attempt, the show, the place and the last number as they were.
+-- A device's answer leaves every other attempt, the show, the place and the last number as they were.
 abbrev pub RepliesLeaveOthers : Type 0
 RepliesLeaveOthers = (s : ShowState) (r : Said) → IsTrue (is_state s) → LeavesOthers r.number s (after_reply s r)

@@ -10,19 +10,19 @@ use Rattle.cue_core.specs.History.{state_of, is_history, is_decided_by}
 use Rattle.cue_core.specs.Events.{is_end_of}
 use Rattle.cue_core.specs.Pending.{Order, standby, go_2pc, cancel, pending}
 
--- the device d is told to carry the cue out in q
+-- the device d is ordered to carry the cue out in q
 abbrev pub is_go_to : ℕ → ℕ → Order → Bool
 is_go_to q d (standby p e c b) = false
 is_go_to q d (go_2pc p e) = nat_eq p q && nat_eq e d
 is_go_to q d (cancel p e) = false
 
--- the device d is told to give the preparation up in q
+-- the device d is ordered to give the preparation up in q
 abbrev pub is_cancel_to : ℕ → ℕ → Order → Bool
 is_cancel_to q d (standby p e c b) = false
 is_cancel_to q d (go_2pc p e) = false
 is_cancel_to q d (cancel p e) = nat_eq p q && nat_eq e d
 
--- the device d is told anything in q
+-- the device d is ordered anything in q
 abbrev pub is_order_to : ℕ → ℕ → Order → Bool
 is_order_to q d (standby p e c b) = nat_eq p q && nat_eq e d
 is_order_to q d (go_2pc p e) = nat_eq p q && nat_eq e d

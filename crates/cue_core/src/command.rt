@@ -1,8 +1,8 @@
-//! What operators and devices can ask for, and what they are answered.
+//! What operators ask and devices answer, and what becomes of it.
 use cue_exchange::limits::MAX_NUMBER;
 use cue_show::{CueNo, DeviceNo, Parts};
 
-/// What a device says in a reply.
+/// What a device says in an answer.
 #[derive(Clone, Copy, PartialEq, Eq, Debug)]
 pub enum ReplyKind {
     /// It is prepared, and waits for the word.
@@ -46,11 +46,11 @@ pub enum Code {
     NotReady,
     /// 14: the cue was decided, and that is not taken back.
     Decided,
-    /// 15: the attempt has ended, or has gone past what the reply says, or the device was excused from it.
+    /// 15: the attempt has ended, or has gone past what the answer says, or the device was excused from it.
     Stale,
-    /// 16: the attempt has not come as far as the reply says.
+    /// 16: the attempt has not come as far as the answer says.
     Early,
-    /// 17: the reply came from another port than the device's.
+    /// 17: the answer came from another port than the device's.
     WrongPort,
     /// 18: the moment is too late for a deadline.
     Clock,
@@ -107,7 +107,7 @@ pub enum Verdict {
 /// What an operator or a device asks for.
 #[derive(Drop)]
 pub enum Command {
-    /// To be told the state.
+    /// To be sent the status.
     Status,
     /// To put the device with its port into the table.
     AddDevice(DeviceNo, u16),
@@ -137,8 +137,8 @@ impl Command {
     ghost use Rattle.std.specs.Prelude.{◌≡◌};
     ghost use Rattle.cue_core.specs.Judge.{is_fit};
 
-    /// Whether the numbers and parts of the command are ones that there are: a port is not 0, a sequence number is 1
-    /// to 2,147,483,647, and the parts are ones that a cue can have. For who reads commands from outside; what is not
+    /// Whether the numbers and parts of the command are ones that there are: a port is not 0, a sequence number is 1 to
+    /// 2,147,483,647, and the parts are ones that a cue can have. For whoever reads commands from outside; what is not
     /// so is `Bad`.
     pub fn is_fit(&self) -> bool
         ensures { result ≡ is_fit self.now }

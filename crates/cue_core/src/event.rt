@@ -1,4 +1,4 @@
-//! The thirteen kinds of event: all that can happen to a state.
+//! The kinds of event: all that can happen to a state.
 ghost use Rattle.std.specs.Prelude.{◌≡◌};
 
 use cue_exchange::{Outcome, Reason};

@@ -60,12 +60,12 @@ pub fn decided_stays()
     ensures { DecidedStays }
 {}
 
-/// A device's reply leaves every other attempt, the show, the place and the last number as they were.
+/// A device's answer leaves every other attempt, the show, the place and the last number as they were.
 pub fn replies_leave_others()
     ensures { RepliesLeaveOthers }
 {}
 
-/// Two replies to one attempt by different devices, each of which would be carried out in the same state, give the
+/// Two answers to one attempt by different devices, each of which would be carried out in the same state, give the
 /// same state in either order.
 pub fn replies_commute()
     ensures { RepliesCommute }

@@ -47,7 +47,7 @@ impl State {
         }
     }
 
-    /// The state of these parts, where they keep the rules of a state together. For who reads a stored state.
+    /// The state of these parts, where they keep the rules of a state together. For whoever reads a stored state.
     pub fn of(show: Show, live: Live, last_seq: u32, ended: Option<Ended>) -> Option<State>
         ensures found { IfSome result (λ s. s
             ≡ record { show = show; live = live; last_seq = last_seq; ended = ended }) }

@@ -25,7 +25,7 @@ abbrev pub LetGoAnswers : Type 0
 LetGoAnswers = (d : Device) (a : Attempt) (q : ℕ) → place d q ≡ Same a → a.phase ≡ LetGo
     → (heard (Cancel q) d).answer ≡ Some (Cancelled q)
 
--- It has failed: each command of the attempt has an answer.
+-- It has failed: each order of the controller for the attempt has an answer.
 abbrev pub FailedAnswers : Type 0
 FailedAnswers = (d : Device) (a : Attempt) (c : Command) → place d (seq_of c) ≡ Same a → a.phase ≡ Failed
     → is_some (heard c d).answer ≡ true

@@ -1,4 +1,4 @@
--- The commands and the answers of a device as datagrams: what each is as an OSC message, and its bytes.
+-- The orders to a device and its answers as datagrams: what each is as an OSC message, and its bytes.
 use Rattle.std.specs.Prelude.{◌≡◌, ◌≢◌, ◌≤◌, ℕ, pos, List, [], ◌∷◌, ◌++◌, length, codes, decimal, IsTrue, ◌⊎◌, Option}
 use Rattle.std.specs.Prelude.{Some, None, Result, Ok}
 use Rattle.cue_osc.specs.declared.fault.Fault.{Fault}
@@ -22,9 +22,9 @@ use Rattle.cue_device.specs.Hearing.{seq_of, task_of, answered_for, after_comman
 abbrev pub number : ℕ → Argument
 number n = int (pos n)
 
--- ---- commands
+-- ---- orders
 
--- a command for the device d as an OSC message
+-- an order to the device d as an OSC message
 abbrev pub command_content : ℕ → Command → Content
 command_content d (Standby q task) = message (codes "/msc/standby")
     (number q ∷ number d ∷ text task.cue ∷ blob task.bytes ∷ [])
@@ -49,17 +49,17 @@ abbrev pub HasTask : Option Task → Type 0
 HasTask None = Unit {0}
 HasTask (Some task) = IsTask task
 
--- a command that a controller may send
+-- an order that a controller may send
 pub record IsCommand (c : Command) : Type 0 where
   pub numbered : IsNumber (seq_of c)
   pub tasked : HasTask (task_of c)
 
--- the datagram is this command for the device d
+-- the datagram is this order to the device d
 pub record IsFor (d : ℕ) (datagram : List ℕ) (c : Command) : Type 0 where
   pub is_command : IsCommand c
   pub text : datagram ≡ command_text d c
 
--- the datagram is no command for the device d
+-- the datagram is no order to the device d
 abbrev pub IsForNone : ℕ → List ℕ → Type 0
 IsForNone d datagram = (c : Command) → IsFor d datagram c → ⊥
 
@@ -103,7 +103,7 @@ pub record IsReply (d : ℕ) (datagram : List ℕ) : Type 0 where
 
 -- ---- what a datagram makes of a device
 
--- it is this command: the device hears it, and sends the answer
+-- it is this order: the device hears it, and sends the answer
 pub record HearsCommand (datagram : List ℕ) (old new : Device) (order : Option Order) (sent : List ℕ) : Type 0 where
   pub command : Command
   pub is_for : IsFor old.number datagram command

@@ -1,4 +1,4 @@
--- What a device makes of what it hears, and of what its machine tells.
+-- What a device makes of what it hears, and of what its machine reports.
 use Rattle.std.specs.Prelude.{ℕ, Bool, true, false, ◌&&◌, if◌then◌else◌, Option, Some, None, nat_eq, nat_lt, is_none}
 use Rattle.std.specs.Prelude.{is_some}
 use Rattle.std.specs.Cmp.Lexicographic.{pointwise}
@@ -48,19 +48,19 @@ abbrev pub phase_now : Option Attempt → Option Phase
 phase_now None = None
 phase_now (Some a) = Some a.phase
 
--- the number of a command
+-- the number of an order of the controller
 abbrev pub seq_of : Command → ℕ
 seq_of (Standby q task) = q
 seq_of (Go q) = q
 seq_of (Cancel q) = q
 
--- the task of a command
+-- the task of an order of the controller
 abbrev pub task_of : Command → Option Task
 task_of (Standby q task) = Some task
 task_of (Go q) = None
 task_of (Cancel q) = None
 
--- the number of an order
+-- the number of an order to the machine
 abbrev pub ordered_for : Order → ℕ
 ordered_for (Prepare q) = q
 ordered_for (Move q) = q
@@ -100,7 +100,7 @@ again a (Standby q task) = if is_for task a.task then same_standby q a.phase els
 again a (Go q) = same_go q a.phase
 again a (Cancel q) = same_cancel q a.phase
 
--- the order whose end is not told, once this was ordered
+-- the order whose end is not reported, once this was ordered
 abbrev pub doing_after : Option Order → Option Order → Option Order
 doing_after None doing = doing
 doing_after (Some order) doing = Some order
@@ -116,7 +116,7 @@ taken task turn d = record d {
 abbrev pub begun : ℕ → Device → Device
 begun q d = record d { last = q; unheard = false }
 
--- the device after a command, by the place of its number
+-- the device after an order of the controller, by the place of its number
 abbrev pub after_at : Place → Command → Device → Device
 after_at Over c d = d
 after_at (Same a) c d = taken a.task (again a c) d
@@ -126,23 +126,23 @@ after_at New c d = taken (task_of c) (anew (is_none d.doing) c) (begun (seq_of c
 abbrev pub said : Turn → Heard
 said turn = record { order = turn.order; answer = turn.answer }
 
--- what is ordered and answered, by the place of the command's number
+-- what is ordered and answered, by the place of the number
 abbrev pub heard_at : Place → Command → Device → Heard
 heard_at Over c d = record { order = None; answer = Some (answer_over c) }
 heard_at (Same a) c d = said (again a c)
 heard_at New c d = said (anew (is_none d.doing) c)
 
--- the device after a command
+-- the device after an order of the controller
 abbrev pub after_command : Command → Device → Device
 after_command c d = after_at (place d (seq_of c)) c d
 
--- what comes of a command
+-- what comes of an order of the controller
 abbrev pub heard : Command → Device → Heard
 heard c d = heard_at (place d (seq_of c)) c d
 
--- ---- what its machine tells
+-- ---- what its machine reports
 
--- the number of what is told
+-- the number of what is reported
 abbrev pub told_of : Told → ℕ
 told_of (Prepared q) = q
 told_of (Moved q) = q
@@ -181,12 +181,12 @@ ends (Prepare p) told = ends_preparing p told
 ends (Move p) told = ends_moving p told
 ends (GiveUp p) told = ends_giving_up p told
 
--- the order whose end is not told, once this was told
+-- the order whose end is not reported, once this was reported
 abbrev pub left_after : Told → Option Order → Option Order
 left_after told None = None
 left_after told (Some order) = if ends order told then None else Some order
 
--- the device, once its machine told the end of what it does
+-- the device, once its machine reported the end of what it does
 abbrev pub freed : Told → Device → Device
 freed told d = record d { doing = left_after told d.doing }
 
@@ -197,12 +197,12 @@ unheard_after (Moved q) unheard = unheard
 unheard_after (GaveUp q) unheard = unheard
 unheard_after (Cannot q) unheard = true
 
--- the attempt with what was told of it: where nothing is answered, nothing changes
+-- the attempt with what was reported of it: where nothing is answered, nothing changes
 abbrev pub noted : Told → Option Task → Turn → Device → Device
 noted told task turn d = if is_some turn.answer then record (taken task turn d)
     { unheard = unheard_after told d.unheard } else d
 
--- the device after its machine told something, by the place of the number
+-- the device after its machine reported something, by the place of the number
 abbrev pub told_at : Place → Told → Device → Device
 told_at Over told d = freed told d
 told_at (Same a) told d = noted told a.task (told_in told a.phase) (freed told d)
@@ -214,7 +214,7 @@ answer_at Over told = None
 answer_at (Same a) told = (told_in told a.phase).answer
 answer_at New told = None
 
--- the device after its machine told something
+-- the device after its machine reported something
 abbrev pub after_told : Told → Device → Device
 after_told told d = told_at (place d (told_of told)) told d
 

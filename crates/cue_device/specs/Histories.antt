@@ -9,8 +9,8 @@ use Rattle.cue_device.specs.declared.words.Answer.{Answer}
 use Rattle.cue_device.specs.Hearing.{after_command, after_reply, after_told, answer_ticked, answer_told, doing_after}
 use Rattle.cue_device.specs.Hearing.{heard, left_after, ordered_for, rested}
 
--- what happens to a device: it hears a command, its machine tells something, it repeats an abort, it hears a reply to
--- that, or it starts anew, its machine at rest, and is handed in this number
+-- what happens to a device: it hears an order of the controller, its machine reports something, it repeats an
+-- abort, it hears a reply to that, or it restarts, its machine at rest, and is handed in this number
 pub data Happening : Type 0 where
   hears : Command → Happening
   tells : Told → Happening
@@ -62,7 +62,7 @@ abbrev pub answers_of : Device → List Happening → List Answer
 answers_of d [] = []
 answers_of d (h ∷ hs) = latest (answer_to h (device_after d hs)) (answers_of d hs)
 
--- what is left of an order, once this happened: nothing, where its end was told, or where the device started anew
+-- what is left of an order, once this happened: nothing, where its end was reported, or where the device restarted
 abbrev pub left_then : Happening → Option Order → Option Order
 left_then (hears c) u = u
 left_then (tells t) u = left_after t u
@@ -70,7 +70,7 @@ left_then repeats u = u
 left_then hears_reply u = u
 left_then (restarts n) u = None
 
--- the order whose end the machine has not told
+-- the order whose end the machine has not reported
 abbrev pub unfinished : Device → List Happening → Option Order
 unfinished d [] = None
 unfinished d (h ∷ hs) = doing_after (order_at h (device_after d hs)) (left_then h (unfinished d hs))

@@ -43,7 +43,7 @@ abbrev pub MovesOnce : Type 0
 MovesOnce = (d over q : ℕ) (h : Happening) (hs : List Happening) → KeepsNumbers (rested d over) hs
     → order_at h (device_after (rested d over) hs) ≡ Some (Move q) → has_moved q (orders_of (rested d over) hs) ≡ false
 
--- it never moves for a number for which it was told to give up
+-- it never moves for a number for which it was ordered to give up
 abbrev pub NeverMovesAfterGivingUp : Type 0
 NeverMovesAfterGivingUp = (d over q : ℕ) (h : Happening) (hs : List Happening) → KeepsNumbers (rested d over) hs
     → order_at h (device_after (rested d over) hs) ≡ Some (Move q)
@@ -61,7 +61,7 @@ MovesAfterStandingBy = (d over q : ℕ) (h : Happening) (hs : List Happening) �
     → order_at h (device_after (rested d over) hs) ≡ Some (Move q)
     → has_stood_by q (answers_of (rested d over) hs) ≡ true
 
--- an order may come: the machine has told the end of the last one; or it prepares, and is to give that up
+-- an order may come: the machine has reported the end of the last one; or it prepares, and is to give that up
 abbrev pub MayCome : Option Order → Order → Type 0
 MayCome None o = Unit {0}
 MayCome (Some u) o = (q : ℕ) × (u ≡ Prepare q) × (o ≡ GiveUp q)

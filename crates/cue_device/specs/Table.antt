@@ -1,4 +1,5 @@
--- The table of what a device makes of each command, by the place of its number q and the phase of the attempt.
+-- The table of what a device makes of each order of the controller, by the place of its number q and the phase of the
+-- attempt.
 use Rattle.std.specs.Prelude.{ℕ, Bool, if◌then◌else◌, Some, None}
 use Rattle.cue_device.specs.declared.asked.Command.{Command}
 use Rattle.cue_device.specs.declared.asked.Command.TheVariants.{Standby, Go, Cancel}
@@ -54,7 +55,7 @@ same_go q LettingGo = say Failed (Abort q)
 same_go q LetGo = say Failed (Abort q)
 same_go q Failed = say Failed (Abort q)
 
--- a cancel; the controller sends none to a device that it has told to go
+-- a cancel; the controller sends none to a device that it has ordered to go
 abbrev pub same_cancel : ℕ → Phase → Turn
 same_cancel q Preparing = act LettingGo (GiveUp q)
 same_cancel q Ready = act LettingGo (GiveUp q)
@@ -78,13 +79,13 @@ new_go q = say Failed (Abort q)
 abbrev pub new_cancel : ℕ → Turn
 new_cancel q = say LetGo (Cancelled q)
 
--- what is made of a command of a new number
+-- what is made of an order of the controller with a new number
 abbrev pub anew : Bool → Command → Turn
 anew free (Standby q task) = new_standby q free
 anew free (Go q) = new_go q
 anew free (Cancel q) = new_cancel q
 
--- ---- what the machine tells of the attempt's own number
+-- ---- what the machine reports of the attempt's own number
 
 -- it has prepared
 abbrev pub prepared_in : ℕ → Phase → Turn

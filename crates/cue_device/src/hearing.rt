@@ -1,4 +1,4 @@
-//! One device: what it hears, what its machine tells, and what comes of both.
+//! One device: what it hears, what its machine reports, and what comes of both.
 ghost use Rattle.std.specs.Prelude.{◌≡◌, Some, is_none};
 ghost use Rattle.std.specs.Option.{option_map};
 ghost use Rattle.cue_device.specs.declared.hearing.Told.TheVariants.{Prepared, Moved, GaveUp, Cannot};
@@ -16,14 +16,14 @@ use crate::table::{
 use crate::words::{Answer, Order};
 use cue_show::DeviceNo;
 
-/// What comes of a command: what the machine is to do now, and what the controller is to be answered now.
+/// What comes of an order of the controller: what the machine is to do now, and what is to be answered now.
 #[derive(Clone, Copy, PartialEq, Eq, Debug)]
 pub struct Heard {
     pub order: Option<Order>,
     pub answer: Option<Answer>,
 }
 
-/// What the machine tells of the attempt of this number.
+/// What the machine reports of the attempt of this number.
 #[derive(Clone, Copy)]
 pub enum Told {
     /// It has prepared.
@@ -55,7 +55,7 @@ pub struct Device {
     last: u32,
     // What it has made of that number; none where the number is over.
     attempt: Option<Attempt>,
-    // The order whose end the machine has not told.
+    // The order whose end the machine has not reported.
     doing: Option<Order>,
     // Whether it said by itself that it cannot go on, and has no reply to that.
     unheard: bool,
@@ -132,15 +132,16 @@ impl Device {
         }
     }
 
-    /// The order whose end the machine has not told; none where it is free.
+    /// The order whose end the machine has not reported; none where it is free.
     pub fn doing(&self) -> Option<Order>
         ensures { result ≡ self.now.doing }
     {
         self.doing
     }
 
-    /// A command came. The order is carried out and the answer is sent, at once. A standby of a new number that comes
-    /// while the machine still does what an earlier one asked for is aborted, and orders nothing.
+    /// An order of the controller came. What the machine is ordered is carried out, and the answer is sent, at once. A
+    /// standby of a new number that comes while the machine still does what an earlier one asked for is aborted, and
+    /// orders nothing.
     pub fn hear(&mut self, command: &Command) -> Heard
         ensures state { self.new ≡ after_command command.now self.old }
         ensures said { result ≡ heard command.now self.old }
@@ -257,7 +258,7 @@ impl Device {
         Heard { order, answer }
     }
 
-    // The machine has told this.
+    // The machine has reported this.
     fn tell(&mut self, told: Told) -> Option<Answer>
         ensures state { self.new ≡ after_told told self.old }
         ensures said { result ≡ answer_told told self.old }
@@ -275,7 +276,7 @@ impl Device {
         }
     }
 
-    // The attempt goes on as the machine told, where that is something new.
+    // The attempt goes on as the machine reported, where that is something new.
     fn note(&mut self, told: Told, turn: Turn, task: Option<Task>)
         ensures { self.new ≡ noted told task turn self.old }
     {
@@ -333,7 +334,7 @@ impl Told {
     }
 }
 
-// What the table says of a command of the attempt's own number.
+// What the table says of an order of the controller with the attempt's own number.
 fn again(command: &Command, attempt: Attempt) -> Turn
     ensures { result ≡ again attempt command.now }
 {
@@ -350,7 +351,7 @@ fn again(command: &Command, attempt: Attempt) -> Turn
     }
 }
 
-// The order whose end is not told, once this was ordered.
+// The order whose end is not reported, once this was ordered.
 fn doing_after(order: Option<Order>, doing: Option<Order>) -> Option<Order>
     ensures { result ≡ doing_after order doing }
 {
@@ -360,7 +361,7 @@ fn doing_after(order: Option<Order>, doing: Option<Order>) -> Option<Order>
     }
 }
 
-// The order whose end is not told, once this was told.
+// The order whose end is not reported, once this was reported.
 fn left_after(told: Told, doing: Option<Order>) -> Option<Order>
     ensures { result ≡ left_after told doing }
 {

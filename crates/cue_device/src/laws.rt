@@ -1,10 +1,10 @@
-//! Laws of a device over all that it hears and all that its machine tells, with any restarts between, each the contract
-//! of a function that does nothing.
+//! Laws of a device over all that it hears and all that its machine reports, with any restarts between, each the
+//! contract of a function that does nothing.
 ghost use Rattle.cue_device.specs.Copies.{DoneAnswers, FailedAnswers, LetGoAnswers, ReadyAnswers};
 ghost use Rattle.cue_device.specs.Laws.{MovesAfterStandingBy, MovesOnce, NeverGivesUpAfterMoving};
 ghost use Rattle.cue_device.specs.Laws.{NeverMovesAfterGivingUp, NumbersRise, OneAtATime, PreparesOnce};
 
-/// It moves at most once for each number, whatever copies come and however often it starts anew.
+/// It moves at most once for each number, whatever copies come and however often it restarts.
 pub fn moves_once()
     ensures { MovesOnce }
 {}
@@ -20,7 +20,8 @@ pub fn moves_after_standing_by()
     ensures { MovesAfterStandingBy }
 {}
 
-/// It is ordered nothing before its machine told the end of the last order; only a preparation gives way to giving up.
+/// Its machine is ordered nothing before it reported the end of the last order; only a preparation gives way to giving
+/// up.
 pub fn one_at_a_time()
     ensures { OneAtATime }
 {}
@@ -35,7 +36,7 @@ pub fn prepares_once()
     ensures { PreparesOnce }
 {}
 
-/// It answers every copy: once it is ready, done, let go or failed, each further copy of that command has its answer.
+/// It answers every copy: once it is ready, done, let go or failed, each further copy of that order has its answer.
 pub fn answers_each_copy()
     ensures ready { ReadyAnswers }
     ensures done { DoneAnswers }

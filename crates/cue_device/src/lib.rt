@@ -1,7 +1,7 @@
 //! A device's half of the exchange with the cue controller: what it orders its machine, and what it answers.
 //!
 //! One value for one device, with neither memory of its own nor a clock, a socket or a float. The maker's program
-//! receives the datagrams, moves the machine, and tells the value what the machine has done.
+//! receives the datagrams, moves the machine, and reports to the value what the machine has done.
 #![tactic(auto)]
 
 mod asked;

@@ -14,8 +14,8 @@ const REPLY: [u8; 16] = *b"/reply\0\0,siiii\0\0";
 
 impl Device {
     /// A datagram came. The order, where there is one, is carried out at once; the bytes of `out` up to the length that
-    /// is given are sent at once to where the datagram came from, unless it is 0. A datagram that is neither a command
-    /// for this device nor a reply to an abort of it changes nothing and has no answer.
+    /// is given are sent at once to where the datagram came from, unless it is 0. A datagram that is neither an order
+    /// of the controller for this device nor a reply to an abort of it changes nothing and has no answer.
     pub fn hear_datagram(
         &mut self,
         datagram: &[u8],

@@ -1,4 +1,4 @@
-//! How far a device has come in an attempt, and what one command makes of it.
+//! How far a device has come in an attempt, and what one order of the controller makes of it.
 
 ghost use Rattle.std.specs.Prelude.{◌≡◌};
 ghost use Rattle.cue_device.specs.Hearing.{is_for};
@@ -47,8 +47,8 @@ impl Attempt {
     }
 }
 
-/// What a command, or what the machine tells, makes of an attempt: the phase from now on, what is ordered and what is
-/// answered.
+/// What an order of the controller, or what the machine reports, makes of an attempt: the phase from now on, what is
+/// ordered and what is answered.
 #[derive(Clone, Copy, PartialEq, Eq, Debug)]
 pub struct Turn {
     pub phase: Phase,

@@ -1,4 +1,4 @@
-//! The datagrams of the controller as commands.
+//! The datagrams of the controller as orders.
 ghost use Rattle.std.specs.Prelude.{◌≡◌, ◌≢◌, ◌++◌, ℕ, List, [], IfSome, IfNone};
 ghost use Rattle.std.specs.Int.{w32, to_be_bytes};
 ghost use Rattle.cue_osc.specs.Spelling.{osc_blob, osc_string};
@@ -13,15 +13,15 @@ use cue_show::{CueNo, DeviceNo};
 /// The highest number of an attempt; the lowest is 1.
 pub const MAX_NUMBER: u32 = 2147483647;
 
-// How each command begins: its address, and its type tag string.
+// How each order begins: its address, and its type tag string.
 const STANDBY: [u8; 24] = *b"/msc/standby\0\0\0\0,iisb\0\0\0";
 
 const GO: [u8; 16] = *b"/msc/go_2pc\0,ii\0";
 
 const CANCEL: [u8; 16] = *b"/msc/cancel\0,ii\0";
 
-/// The command that the datagram is, where it is one for this device: a message with exactly the arguments of the
-/// command, a number of 1 or higher, and in a standby the number of a cue and at most 32 bytes. `/reply` is none.
+/// The order that the datagram is, where it is one for this device: a message with exactly the arguments of the
+/// order, a number of 1 or higher, and in a standby the number of a cue and at most 32 bytes. `/reply` is none.
 pub fn command(datagram: &[u8], number: DeviceNo) -> Option<Command>
     ensures found { IfSome result (λ c. IsFor number datagram.now c) }
     ensures none { IfNone result (IsForNone number datagram.now) }

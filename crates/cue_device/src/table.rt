@@ -1,5 +1,5 @@
-//! The table of what a device makes of each command and of what its machine tells: by the place of the number, and by
-//! the phase of the attempt.
+//! The table of what a device makes of each order of the controller and of what its machine reports: by the place of
+//! the number, and by the phase of the attempt.
 ghost use Rattle.std.specs.Prelude.{◌≡◌};
 ghost use Rattle.cue_device.specs.Table.{answer_over, anew, cannot_in, gave_up_in, moved_in, new_standby};
 ghost use Rattle.cue_device.specs.Table.{other_standby, prepared_in, same_cancel, same_go, same_standby};
@@ -60,7 +60,8 @@ pub(crate) fn same_cancel(seq: u32, phase: Phase) -> Turn
     }
 }
 
-// A command of a new number, where the machine is free or still does what an earlier number asked for.
+// An order of the controller with a new number, where the machine is free or still does what an earlier number asked
+// for.
 pub(crate) fn anew(command: &Command, is_free: bool) -> Turn
     ensures { result ≡ anew is_free command.now }
 {

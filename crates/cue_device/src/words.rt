@@ -7,11 +7,11 @@ ghost use Rattle.cue_device.specs.Hearing.{ordered_for, answered_for};
 #[derive(Clone, Copy, PartialEq, Eq, Debug)]
 pub enum Order {
     /// Prepare for the task that `Device::task` gives, and give up first what is held for an earlier number. The
-    /// machine tells the end by `Device::prepared`.
+    /// machine reports the end by `Device::prepared`.
     Prepare(u32),
-    /// Carry the cue out. The machine tells the end by `Device::moved`.
+    /// Carry the cue out. The machine reports the end by `Device::moved`.
     Move(u32),
-    /// Give up what is prepared, or is being prepared. The machine tells the end by `Device::gave_up`.
+    /// Give up what is prepared, or is being prepared. The machine reports the end by `Device::gave_up`.
     GiveUp(u32),
 }
 

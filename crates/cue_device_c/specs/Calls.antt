@@ -21,18 +21,18 @@ pub record IsNoCall (old new : CueDevice) (answer : CueAnswer) (given : ℕ) : T
   pub silent : sent answer ≡ []
   pub result : given ≡ BAD_CALL
 
--- the machine of the device d tells
+-- the machine of the device d reports
 pub record DeviceTells (told : Told) (d : Device) (new : CueDevice) (answer : CueAnswer) (given : ℕ) : Type 0 where
   pub state : new ≡ kept (after_told told d)
   pub answered : sent answer ≡ answered_text d.number (answer_told told d)
   pub result : given ≡ 0
 
--- it tells where the numbers stand for a device
+-- it reports where the numbers stand for a device
 abbrev pub TellsOf : Option Device → Told → CueDevice → CueDevice → CueAnswer → ℕ → Type 0
 TellsOf None told old new answer given = IsNoCall old new answer given
 TellsOf (Some d) told old new answer given = DeviceTells told d new answer given
 
--- the machine tells
+-- the machine reports
 abbrev pub Tells : Told → CueDevice → CueDevice → CueAnswer → ℕ → Type 0
 Tells told old new answer given = TellsOf (device_of old) told old new answer given
 

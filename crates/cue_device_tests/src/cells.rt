@@ -1,4 +1,4 @@
-//! Each cell of the table: what a device in a phase of attempt 5 makes of a command.
+//! Each cell of the table: what a device in a phase of attempt 5 makes of an order.
 ghost use Rattle.std.specs.Prelude.{◌≤◌};
 
 use cue_device::{Answer, Command, Device, MAX_ANSWER, Order, PartBytes, Phase, Task};
@@ -375,7 +375,7 @@ fn device_in(rt: &impl Abort, phase: Phase) -> Device {
     device
 }
 
-// Hears the command of each cell as a call.
+// Hears the order of each cell as a call.
 fn hear_cells(rt: &impl Abort, cells: &[Cell]) {
     for (phase, sent, seq, order, answer, then) in cells {
         let mut device = device_in(rt, *phase);
@@ -396,7 +396,7 @@ fn each_cell_of_other_numbers(rt: HostRuntime) {
     hear_cells(&rt, &OTHERS);
 }
 
-// The datagrams of the commands for device 3, with the number 0.
+// The datagrams of the orders to device 3, with the number 0.
 const STANDBY: [u8; 44] =
     *b"/msc/standby\0\0\0\0,iisb\0\0\0\0\0\0\0\0\0\0\x031\0\0\0\0\0\0\x02\x0a\x0b\0\0";
 
@@ -447,7 +447,7 @@ fn is_datagram(bytes: &[u8], answer: Option<Answer>) -> bool {
     }
 }
 
-// Hears the command of each cell as a datagram.
+// Hears the order of each cell as a datagram.
 fn hear_datagrams(rt: &impl Abort, cells: &[Cell]) {
     let mut out = [0; MAX_ANSWER];
     for (phase, sent, seq, order, answer, then) in cells {

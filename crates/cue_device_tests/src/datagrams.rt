@@ -1,9 +1,9 @@
-//! Datagrams that are no command for device 3, and replies.
+//! Datagrams that are no order to device 3, and replies.
 use cue_device::{Answer, Device, MAX_ANSWER, Order};
 use cue_show::DeviceNo;
 use std::process::Abort;
 
-// No command for device 3, each for a reason of its own.
+// No order to device 3, each for a reason of its own.
 const NONE: [&[u8]; 12] = [
     b"",
     // another device

@@ -39,7 +39,7 @@ impl Change {
     }
 }
 
-/// The bytes of a memory disk, and all changes since it was made. They tell what was written since the last sync, which
+/// The bytes of a memory disk, and all changes since it was made. They say what was written since the last sync, which
 /// a crash may change.
 #[derive(Drop)]
 pub struct Medium {
@@ -168,7 +168,7 @@ impl Medium {
     }
 }
 
-// Puts bytes in place of those from an offset on, and behind the last, where there is room for them.
+// Puts bytes in place of those from an offset on, and after the last, where there is room for them.
 fn overwrite(bytes: &mut Vec<u8>, at: usize, stored: &[u8])
     requires within { at ≤ vec_len bytes.old }
     requires room { vec_len bytes.old + (length stored.now - (vec_len bytes.old - at)) ≤ vec_capacity bytes.old }

@@ -94,7 +94,7 @@ is_known_in (Cancelling r) LetGo = true
 is_known_in (Cancelling r) Failed = true
 is_known_in (Cancelling r) Excused = false
 
--- what an answer becomes when its attempt enters the stage: each device is asked anew, but for one that was excused,
+-- what an answer becomes when its attempt enters the stage: each device is asked again, but for one that was excused,
 -- which is asked nothing more
 abbrev pub entering : Stage → Answer → Answer
 entering Preparing Waiting = Waiting

@@ -109,9 +109,9 @@ pub enum Reason {
 pub enum Stage {
     /// The devices are asked to stand by.
     Preparing,
-    /// The devices are told to carry the cue out; this is never taken back.
+    /// The devices are ordered to carry the cue out; this is never taken back.
     Decided,
-    /// The devices are told to give the preparation up.
+    /// The devices are ordered to give the preparation up.
     Cancelling(Reason),
 }
 
@@ -196,7 +196,7 @@ impl Outcome {
         }
     }
 
-    /// The outcome with the number. For who reads a stored one.
+    /// The outcome with the number. For whoever reads a stored one.
     pub fn of_number(number: u8) -> Option<Outcome>
         ensures { result ≡ outcome_numbered number }
     {

@@ -313,7 +313,7 @@ impl Live {
         steps::move_to(&mut self.attempts, seq, Stage::Decided);
     }
 
-    /// The preparation is given up: each device that was not excused is told so. Asked first: `can_cancel`.
+    /// The preparation is given up: each device that was not excused is ordered to do so. Asked first: `can_cancel`.
     pub fn cancel(&mut self, seq: u32, reason: Reason)
         requires { IsTrue (can_cancel seq self.old) }
         ensures { self.new ≡ moved seq (stage.Cancelling reason) self.old }

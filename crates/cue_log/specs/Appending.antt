@@ -31,7 +31,7 @@ pub record Writes {T E D : Type 0} (disk : Ghosts D) (payloads : List (List ℕ)
   pub count : CountsFailure result (disk.failures old) (disk.failures new)
   pub honest : disk.is_honest new ↔ disk.is_honest old
 
--- with them the text of the area, its last gate included, would pass the limit
+-- with them the encoding of the area, its last gate included, would pass the limit
 abbrev pub LacksRoom : {D : Type 0} {disk : Ghosts D} → Log D disk → List (List ℕ) → Type 0
 LacksRoom log payloads = AREA_LIMIT < end_of log + 1 + room_of payloads
 

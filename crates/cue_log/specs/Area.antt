@@ -5,7 +5,7 @@ use Rattle.std.specs.Prelude.{take, sum_by, slice_index}
 use Rattle.std.specs.Int.{to_be_bytes, w32, w64}
 use Rattle.cue_log.specs.declared.area.TheConstants.{AREA_LIMIT, FRAME_LEN, PAYLOAD_LIMIT}
 
--- what an area has: a generation, a snapshot, and the payloads of the records behind it
+-- what an area has: a generation, a snapshot, and the payloads of the records after it
 pub record Area : Type 0 where
   pub generation : ℕ
   pub snapshot : List ℕ
@@ -40,7 +40,7 @@ abbrev pub are_records : List (List ℕ) → Bool
 are_records [] = true
 are_records (payload ∷ payloads) = nat_le (length payload) PAYLOAD_LIMIT && are_records payloads
 
--- The bytes read as this area: its text comes first and then a gate that is not open, within the largest area. What
+-- The bytes read as this area: its encoding comes first and then a gate that is not open, within the largest area. What
 -- follows that gate is not read.
 pub record IsArea (area : Area) (bytes : List ℕ) : Type 0 where
   pub text : take (length (area_text area)) bytes ≡ area_text area
@@ -56,7 +56,7 @@ IsAbsent [] = Unit {0}
 IsAbsent (gate ∷ []) = Unit {0}
 IsAbsent (gate ∷ byte ∷ bytes) = gate ≢ 1
 
--- what a formed area has: its text, and behind it a gate that is not open
+-- what a formed area has: its encoding, and after it a gate that is not open
 abbrev pub formed_text : ℕ → List ℕ → List ℕ
 formed_text generation snapshot = 1 ∷ (body_text generation snapshot ++ 0 ∷ [])
 

@@ -13,7 +13,7 @@ disk_of log = log.disk
 abbrev pub generation_of : {D : Type 0} {disk : _} → Log D disk → ℕ
 generation_of log = log.generation
 
--- where its last gate stands: its text has one byte more
+-- where its last gate stands: its encoding has one byte more
 abbrev pub end_of : {D : Type 0} {disk : _} → Log D disk → ℕ
 end_of log = log.end
 
@@ -25,7 +25,7 @@ count_of log = log.count
 abbrev pub is_broken : {D : Type 0} {disk : _} → Log D disk → Bool
 is_broken log = log.broken
 
--- the area that its disk holds, over what the disk's type tells of it
+-- the area that its disk holds, over what the disk's type says of it
 abbrev pub area_of : {D : Type 0} {disk : _} → (D → Contents) → Log D disk → Area
 area_of held log = area_in (held log.disk).bytes
 

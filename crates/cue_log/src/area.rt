@@ -6,7 +6,7 @@ ghost use Rattle.cue_log.specs.Log.{IsOldOrAbsent, IsClosed, LeavesAbsent, close
 
 use cue_disk::{Disk, DiskFault};
 
-/// The longest text of an area, in bytes.
+/// The longest encoding of an area, in bytes.
 pub const AREA_LIMIT: u64 = 16_777_216;
 
 /// The longest payload of a record, in bytes.
@@ -18,7 +18,7 @@ pub const HEAD_LEN: u64 = 13;
 /// The bytes that a record takes in front of its payload: its gate, and the payload's length.
 pub const FRAME_LEN: usize = 5;
 
-/// The byte of a gate that is open: what stands behind it counts.
+/// The byte of a gate that is open: what follows it counts.
 pub(crate) const OPEN: u8 = 1;
 
 /// The byte that closes a gate. Every byte but `OPEN` is a gate that is not open.

@@ -1,4 +1,4 @@
-// How the text of an area comes from the device: from the front, until the area is there in whole.
+// How the encoding of an area comes from the device: from the front, until the area is there in whole.
 ghost use Rattle.std.specs.Prelude.{◌≡◌, ◌⊎◌, ◌+◌, ◌<◌, ◌≤◌, ◌↔◌, ◌++◌, length};
 ghost use Rattle.std.specs.Prelude.{take, drop, IsSome, IfOk, OnOk};
 ghost use Rattle.std.specs.Prelude.{IsErrOf};
@@ -17,7 +17,7 @@ use std::alloc::Global;
 // How many bytes are read at first.
 const CHUNK: usize = 65_536;
 
-// Reads some bytes more, behind those that were read.
+// Reads some bytes more, after those that were read.
 fn read_more<D: Disk>(disk: &mut D, text: &mut Vec<u8>, more: usize) -> Result<(), OpenFault>
     requires room { length text.old.items + more ≤ AREA_LIMIT }
     requires within { D.is_honest disk.old → length text.old.items + more ≤ length (D.held disk.old).bytes }

@@ -36,7 +36,7 @@ fn header_of(generation: u64, len: u32) -> [u8; 12]
     [g0, g1, g2, g3, g4, g5, g6, g7, l0, l1, l2, l3]
 }
 
-// Writes the body behind the closed head gate, and a closed gate behind the body.
+// Writes the body behind the closed head gate, and a closed gate after the body.
 fn fill<D: Disk>(disk: &mut D, generation: u64, snapshot: &[u8]) -> Result<(), DiskFault>
     requires room { HEAD_LEN + length snapshot.now < AREA_LIMIT }
     requires shut { D.is_honest disk.old → IsShut (D.held disk.old) }

@@ -1,4 +1,4 @@
-//! A log in one area of a disk: a generation, a snapshot and records behind it, read the same after a stop at any
+//! A log in one area of a disk: a generation, a snapshot and records after it, read the same after a stop at any
 //! moment.
 #![tactic(auto)]
 

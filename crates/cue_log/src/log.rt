@@ -20,7 +20,7 @@ pub enum AppendFault {
     /// A device call failed in an earlier `append`. Open the area again.
     #[error("the log is broken until it is opened again")]
     Broken,
-    /// The text of the area would be longer than `AREA_LIMIT`. Nothing has changed.
+    /// The encoding of the area would be longer than `AREA_LIMIT`. Nothing has changed.
     #[error("the area is full")]
     Full,
     /// A device call failed: the record is there or it is not, and of a group all are or none. The log is `Broken` from
@@ -31,7 +31,7 @@ pub enum AppendFault {
 
 /// One area of a disk: a generation, a snapshot and the records that were appended to it.
 ///
-/// A log that is not broken keeps that whatever a stop leaves of its disk reads as its area.
+/// As long as a log is not broken, whatever a stop leaves of its disk reads as its area.
 #[derive(Drop)]
 pub struct Log<D: Disk> {
     disk: D,
@@ -152,9 +152,9 @@ impl<D: Disk> Log<D> {
         Ok(())
     }
 
-    /// Forms an area on another disk and goes on there: for who holds a log behind a reference. After Ok the old disk
-    /// stands in the place of the other, as it was; a refusal leaves the log as it was. It takes no memory. A log that
-    /// is broken is not renewed, since nothing but opening its area again mends it.
+    /// Forms an area on the spare disk and goes on there, for whoever holds the log behind a reference. After Ok
+    /// `spare` is the old disk, as it was; a refusal leaves the log as it was. It takes no memory. A log that is broken
+    /// is not renewed, since nothing but opening its area again mends it.
     pub fn renew(
         &mut self,
         spare: &mut D,

@@ -13,7 +13,7 @@ pub enum OpenFault {
     /// There is no area: the length is 0 or 1, or the head gate is not open.
     #[error("there is no area")]
     Absent,
-    /// The head gate is open, and the bytes are no text of an area.
+    /// The head gate is open, and the bytes are no encoding of an area.
     #[error("the area is damaged")]
     Damaged,
     /// A device call failed.
@@ -81,7 +81,7 @@ impl<D: Disk> Log<D> {
         ensures disk { FailsAs OpenFault.Disk (MoreFailures (D.failures disk)
             (D.failures (disk_after opened_disk result))) result }
 
-        // No other answer hides a fault of the device: want of memory is told only where each call went through.
+        // No other answer hides a fault of the device: out of memory is reported only where each call went through.
         ensures memory { CountsOnlyAs OpenFault.Disk (D.failures disk)
             (D.failures (disk_after opened_disk result)) result }
 

@@ -1,4 +1,4 @@
-// Reading the text of an area from the front. Any bytes at all give an answer.
+// Reading the encoding of an area from the front. Any bytes at all give an answer.
 ghost use Rattle.std.specs.Prelude.{◌≡◌, ◌<◌, ◌≤◌, ◌+◌, ◌↔◌, None, Some, MatchOption, IsTrue};
 ghost use Rattle.std.specs.Prelude.{IsSome, IfSome, IfOk};
 ghost use Rattle.std.specs.Prelude.{length};
@@ -38,7 +38,7 @@ pub(crate) fn frame(bytes: &[u8], most: usize) -> Option<(&[u8], &[u8])>
     Some(behind.split_at(len))
 }
 
-// The front of an area's text, where it is there in whole.
+// The front of an area's encoding, where it is there in whole.
 #[tactic(auto, unfolding(crate::specs::Reading::eight_at))]
 fn split_front(text: &[u8]) -> Option<Front<'_>>
     ensures front { MatchOption result (area_at text.now ≡ None)
@@ -76,7 +76,7 @@ fn len_behind(tail: &[u8]) -> Option<usize>
     None
 }
 
-/// Whether the text of an area stands in front of these bytes, whole.
+/// Whether the encoding of an area stands in front of these bytes, whole.
 pub(crate) fn is_whole(text: &[u8]) -> bool
     ensures { IsTrue result ↔ IsSome (area_at text.now) }
 {

@@ -1,4 +1,4 @@
-// The records of an area, as they stand behind its snapshot: nothing is built of them until they are asked for.
+// The records of an area, as they stand after its snapshot: nothing is built of them until they are asked for.
 ghost use Rattle.std.specs.Prelude.{◌≡◌, ◌<◌, ◌^◌, ◌∷◌, [], length, IfOk, MatchOption};
 ghost use Rattle.cue_log.specs.Reading.{payloads_in, HasRecords};
 

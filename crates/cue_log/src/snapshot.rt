@@ -32,7 +32,7 @@ impl Snapshot {
         &self.bytes
     }
 
-    /// The bytes, for who wants to own them. It takes no memory.
+    /// The bytes, for a caller who is to own them. It takes no memory.
     pub fn into_vec(self) -> Vec<u8>
         ensures { result.items ≡ self }
     {

@@ -24,7 +24,7 @@ enum Step {
     Failed(u32, i32),
 }
 
-// A step, the outcome where it ends its attempt, and the attempts behind it.
+// A step, the outcome where it ends its attempt, and the attempts after it.
 type Row = (Step, Option<Outcome>, &'static str);
 
 fn cue(rt: &impl Abort, text: &[u8]) -> CueNo {
@@ -41,7 +41,7 @@ fn push_part(rt: &impl Abort, alloc: Global, parts: &mut Parts, number: i32, opt
     parts.push(part).expect(rt, "there is memory");
 }
 
-// Required parts of those devices, and behind them optional parts of these.
+// Required parts of those devices, and after them optional parts of these.
 fn parts(rt: &impl Abort, alloc: Global, required: &[i32], optional: &[i32]) -> Parts {
     let mut parts = Parts::new(alloc);
     for number in required {

@@ -8,7 +8,7 @@ use Rattle.cue_osc.specs.Reading.{datagram_at}
 use Rattle.cue_osc.specs.Plain.{IsPlain}
 use Rattle.cue_osc.specs.Walking.{leaves, HasAddress}
 use Rattle.cue_osc.specs.Writing.{text_of, IsInRange}
-use Rattle.cue_osc.specs.declared.limits.TheConstants.{MAX_LEN}
+use Rattle.cue_osc.specs.declared.limits.TheConstants.{MAX_LEN, MAX_DEPTH}
 
 -- each is a byte
 abbrev pub AreBytes : List ℕ → Type 0
@@ -24,12 +24,13 @@ OnePacket = (bytes : List ℕ) (c d : Content) → Spells bytes c → Spells byt
 
 -- the spelling of a plain packet is a datagram of it
 abbrev pub WrittenIsSpelled : Type 0
-WrittenIsSpelled = (c : Content) → IsPlain 8 c → IsInRange c → length (text_of c) ≤ MAX_LEN → Spells (text_of c) c
+WrittenIsSpelled =
+    (c : Content) → IsPlain MAX_DEPTH c → IsInRange c → length (text_of c) ≤ MAX_LEN → Spells (text_of c) c
 
 -- and is read again as the same
 abbrev pub WrittenIsRead : Type 0
 WrittenIsRead =
-    (c : Content) → IsPlain 8 c → IsInRange c → length (text_of c) ≤ MAX_LEN → datagram_at (text_of c) ≡ Ok c
+    (c : Content) → IsPlain MAX_DEPTH c → IsInRange c → length (text_of c) ≤ MAX_LEN → datagram_at (text_of c) ≡ Ok c
 
 -- each message of a datagram has an address
 abbrev pub MessagesHaveAddresses : Type 0

@@ -11,7 +11,7 @@ use Rattle.cue_osc.specs.declared.fault.Fault.TheVariants.{TooDeep, Trailing, Me
 use Rattle.cue_osc.specs.Argument.{Argument, int, text, blob}
 use Rattle.cue_osc.specs.Content.{Content, message, discarded, bundle, Contents, nothing, element}
 use Rattle.cue_osc.specs.Spelling.{slash, comma, padding, is_known_tag, bundle_head}
-use Rattle.cue_osc.specs.declared.limits.TheConstants.{MAX_LEN}
+use Rattle.cue_osc.specs.declared.limits.TheConstants.{MAX_LEN, MAX_DEPTH}
 
 -- one step, and the next where it did not fail
 infixl 10 ◌>>=◌
@@ -79,7 +79,7 @@ all_args_at (kind ∷ kinds) bytes = do
   others ← all_args_at kinds first.1
   Ok (first.0 ∷ others)
 
--- what stands behind an address, beginning with a type tag string: all tags are looked at first
+-- what stands after an address, beginning with a type tag string: all tags are looked at first
 unfoldable pub tagged_at : List ℕ → List ℕ → Result Content Fault
 tagged_at a bytes = do
   found ← string_at bytes
@@ -87,7 +87,7 @@ tagged_at a bytes = do
     xs ← all_args_at (drop 1 found.0) found.1
     Ok (message a xs)) else Ok (discarded a)
 
--- what stands behind an address
+-- what stands after an address
 unfoldable pub behind_address : List ℕ → List ℕ → Result Content Fault
 behind_address a [] = Ok (message a [])
 behind_address a (b ∷ bs) = if b == comma then tagged_at a (b ∷ bs) else Ok (discarded a)
@@ -126,7 +126,7 @@ is_message_start (b ∷ bs) = b == slash
 abbrev pub is_bundle_start : List ℕ → Bool
 is_bundle_start bytes = starts_with nat_eq bytes bundle_head
 
--- what stands behind a bundle's head, its elements by read
+-- what stands after a bundle's head, its elements by read
 unfoldable pub bundle_by : (List ℕ → Result Content Fault) → List ℕ → Result Content Fault
 bundle_by read bytes = do
   time ← number_at w64 bytes
@@ -147,4 +147,4 @@ packet_at (suc d) bytes = start_at (bundle_by (packet_at d) (drop 8 bytes)) byte
 unfoldable pub datagram_at : List ℕ → Result Content Fault
 datagram_at bytes =
     if nat_lt MAX_LEN (length bytes) then Err TooLong else if not (length bytes % 4 == 0) then Err NotMultiple
-    else packet_at 8 bytes
+    else packet_at MAX_DEPTH bytes

@@ -6,7 +6,7 @@ use Rattle.std.specs.List.{flat_map, AllByRecursion, list_all}
 use Rattle.std.specs.Int.{w32, w64, to_be_bytes, cast_unsigned}
 use Rattle.cue_osc.specs.Argument.{Argument, int, text, blob}
 use Rattle.cue_osc.specs.Content.{Content, message, discarded, bundle, Contents, nothing, element}
-use Rattle.cue_osc.specs.declared.limits.TheConstants.{MAX_LEN}
+use Rattle.cue_osc.specs.declared.limits.TheConstants.{MAX_LEN, MAX_DEPTH}
 
 -- the characters / and ,
 abbrev pub slash : ℕ
@@ -71,7 +71,7 @@ IsMessage bytes a xs =
 abbrev pub is_known_tag : ℕ → Bool
 is_known_tag b = (b == 105) || ((b == 115) || (b == 98))
 
--- what stands behind an address that is not followed by a type tag string
+-- what stands after an address that is not followed by a type tag string
 abbrev pub IsNoTag : List ℕ → Type 0
 IsNoTag [] = ⊥
 IsNoTag (b ∷ bs) = b ≢ comma
@@ -84,8 +84,8 @@ pub record IsOtherTags (rest : List ℕ) : Type 0 where
   pub other : list_all is_known_tag kinds ≡ false
   pub spelled : rest ≡ osc_string (comma ∷ kinds) ++ after
 
--- these bytes are a message that is not understood: what stands behind its address is not looked at
--- if it is no type tag string, and behind another tag nothing is
+-- these bytes are a message that is not understood: what stands after its address is not looked at
+-- if it is no type tag string, and after another tag nothing is
 abbrev pub IsDiscarded : List ℕ → List ℕ → Type 0
 IsDiscarded bytes a = IsAddress a × (rest : List ℕ) × (bytes ≡ osc_string a ++ rest) × (IsNoTag rest ⊎ IsOtherTags rest)
 
@@ -98,7 +98,7 @@ abbrev pub IsSize : ℕ → Type 0
 IsSize n = (0 < n) × (n < 2 ^ 31) × (n % 4 ≡ 0)
 
 -- these bytes are this packet, with bundles at most so deep ("OSC Packets", "OSC Bundles"): a message, or
--- a bundle, which is its head, a time tag of 64 bits, and elements, each behind its size
+-- a bundle, which is its head, a time tag of 64 bits, and elements, each after its size
 abbrev mutual
   pub IsPacket : ℕ → List ℕ → Content → Type 0
   IsPacket d bytes (message a xs) = IsMessage bytes a xs
@@ -115,4 +115,4 @@ abbrev mutual
 
 -- a datagram that is this packet: at most 4,096 bytes, a multiple of 4, bundles at most 8 deep
 abbrev pub Spells : List ℕ → Content → Type 0
-Spells bytes c = (length bytes ≤ MAX_LEN) × (length bytes % 4 ≡ 0) × IsPacket 8 bytes c
+Spells bytes c = (length bytes ≤ MAX_LEN) × (length bytes % 4 ≡ 0) × IsPacket MAX_DEPTH bytes c

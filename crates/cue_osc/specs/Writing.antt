@@ -18,7 +18,7 @@ abbrev mutual
   elements_text nothing = []
   elements_text (element c cs) = to_be_bytes w32 (length (text_of c)) ++ (text_of c ++ elements_text cs)
 
--- what is left of so many bytes behind n of them, if they fit
+-- what is left of so many bytes after n of them, if they fit
 abbrev pub room_left : ℕ → ℕ → Option ℕ
 room_left room n = if nat_le n room then Some (room - n) else None
 

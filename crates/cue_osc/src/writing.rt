@@ -48,7 +48,7 @@ fn text_len(packet: &Packet<'_>) -> usize
     }
 }
 
-/// A packet, behind what stands already.
+/// A packet, after what stands already.
 #[cycle(put)]
 fn put(out: &mut Vec<u8>, packet: &Packet<'_>) -> Result<(), AllocError>
     requires { length (text_of (view packet.now)) ≤ MAX_LEN }
@@ -66,7 +66,7 @@ fn put(out: &mut Vec<u8>, packet: &Packet<'_>) -> Result<(), AllocError>
     }
 }
 
-/// The elements of a bundle, each behind its size.
+/// The elements of a bundle, each after its size.
 #[cycle(put)]
 fn put_elements(out: &mut Vec<u8>, items: &[Packet<'_>]) -> Result<(), AllocError>
     requires { length (elements_text (contents_of (map view items.now))) ≤ MAX_LEN }

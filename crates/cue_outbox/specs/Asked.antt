@@ -1,4 +1,4 @@
--- The attempts whose devices are asked anew by events, and the orders to them.
+-- The attempts whose devices get new orders by events, and the orders to them.
 use Rattle.std.specs.Prelude.{◌≡◌, ◌≢◌, ℕ, Bool, List, filter, Option, None, Some, IsTrue}
 use Rattle.std.specs.List.{AllPairs, filter_map, list_all}
 use Rattle.cue_show.specs.Devices.{is_among}
@@ -20,7 +20,7 @@ number_of (standby q d cue bytes) = q
 number_of (go_2pc q d) = q
 number_of (cancel q d) = q
 
--- the attempt whose devices the event asks anew: it starts, is decided, or is cancelled
+-- the attempt whose devices get new orders by the event: it starts, is decided, or is cancelled
 abbrev pub number_asked : Event → Option ℕ
 number_asked (Device d port) = None
 number_asked (NoDevice d) = None
@@ -36,7 +36,7 @@ number_asked (LetGo q d) = None
 number_asked (Failed q d) = None
 number_asked (Excuse q d) = None
 
--- some of the events ask the devices of q anew
+-- the devices of q get new orders by some of the events
 abbrev pub is_asked : ℕ → List Event → Bool
 is_asked q events = is_among q (filter_map number_asked events)
 
@@ -44,16 +44,16 @@ is_asked q events = is_among q (filter_map number_asked events)
 abbrev pub pending_of : List ℕ → ShowState → List (ℕ × Send)
 pending_of numbers s = orders (filter (λ o. is_among (number_of o.1) numbers) (pending s))
 
--- After events that are acceptable in turn, the newly pending orders are those of the attempts that the events ask
--- anew.
+-- After events that are acceptable in turn, the newly pending orders are those of the attempts whose devices get
+-- new orders by the events.
 abbrev pub NewlyPendingAreAsked : Type 0
 NewlyPendingAreAsked =
     (s : ShowState) (events : List Event) (numbers : List ℕ) → IsTrue (is_state s) → IsTrue (are_acceptable s events)
     → ((q : ℕ) → is_among q numbers ≡ is_asked q events)
     → newly_pending s (after_events s events) ≡ pending_of numbers (after_events s events)
 
--- And so after the commands of a datagram, judged in turn: the newly pending are those of the attempts that their
--- events ask anew.
+-- And so after the commands of a datagram, judged in turn: the newly pending are those of the attempts whose
+-- devices get new orders by their events.
 abbrev pub StepsAskAnew : Type 0
 StepsAskAnew =
     (s : ShowState) (now from : ℕ) (commands : List Command) (numbers : List ℕ) → IsTrue (is_state s)

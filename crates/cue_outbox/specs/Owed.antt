@@ -13,11 +13,11 @@ use Rattle.cue_core.specs.Pending.{Order, bytes_for, order_at, order_for}
 use Rattle.cue_outbox.specs.Asked.{number_of}
 use Rattle.cue_outbox.specs.Sending.{order, orders, datagram, datagrams}
 
--- what a device of the attempt is told, of the parts of its cue
+-- the order to a device of the attempt, by the parts of its cue
 abbrev pub order_in : Attempt → List Part → ℕ → Order
 order_in a parts d = order_at a.stage a.seq d a.cue (bytes_for d parts)
 
--- what a device of the attempt is told
+-- the order to a device of the attempt
 abbrev pub order_to : ShowLists → Attempt → ℕ → Order
 order_to show a d = order_in a (cue_parts show a.cue) d
 

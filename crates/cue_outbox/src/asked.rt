@@ -1,4 +1,4 @@
-//! The attempts whose devices are asked anew by events.
+//! The attempts whose devices get new orders by events.
 ghost use Rattle.std.specs.Prelude.{◌≡◌, ℕ, IfOk};
 ghost use Rattle.std.specs.List.{filter_map};
 ghost use Rattle.std.specs.List.Sorted.{IsStrictlyIncreasing};

@@ -28,13 +28,13 @@ pub fn orders_differ()
 {}
 
 /// After events that are acceptable in turn, the orders that were not pending before, as datagrams, are those of
-/// the attempts whose devices the events ask anew, in the new state: by their Start, Go or Cancel.
+/// the attempts whose devices get new orders by the events, in the new state: by their Start, Go or Cancel.
 pub fn newly_pending_are_asked()
     ensures { NewlyPendingAreAsked }
 {}
 
-/// After the commands of a datagram, judged in turn, the newly pending are those of the attempts whose devices their
-/// events ask anew.
+/// After the commands of a datagram, judged in turn, the newly pending are those of the attempts whose devices get
+/// new orders by their events.
 pub fn steps_ask_anew()
     ensures { StepsAskAnew }
 {}

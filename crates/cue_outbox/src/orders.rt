@@ -57,7 +57,7 @@ fn is_among(numbers: &[u32], number: u32) -> bool
     numbers.binary_search(&number).is_ok()
 }
 
-// Puts the orders of an attempt behind the others.
+// Puts the orders of an attempt after the others.
 fn push_orders(
     alloc: Global,
     outs: &mut Vec<Out>,
@@ -143,7 +143,7 @@ fn bytes_for(parts: &[Part], device: DeviceNo) -> &[u8]
     &[]
 }
 
-#[tactic(auto, using(crate::proofs::Facts::number_text, crate::proofs::Facts::number_short), unfolding(crate::specs::Sending::send_content, crate::specs::Sending::order_content, crate::specs::Sending::datagram))]
+#[tactic(auto, using(crate::proofs::Facts::number_text, crate::proofs::Facts::number_short))]
 fn standby(
     alloc: Global,
     to: u16,
@@ -165,7 +165,6 @@ fn standby(
     written(alloc, to, b"/msc/standby", args)
 }
 
-#[tactic(auto, unfolding(crate::specs::Sending::send_content, crate::specs::Sending::order_content, crate::specs::Sending::datagram))]
 fn go_2pc(alloc: Global, to: u16, seq: u32, device: DeviceNo) -> Result<Out, AllocError>
     requires { seq ≤ MAX_NUMBER }
     ensures { IfOk result (λ out. out_view out ≡ datagram (to, order (go_2pc seq device))) }
@@ -174,7 +173,6 @@ fn go_2pc(alloc: Global, to: u16, seq: u32, device: DeviceNo) -> Result<Out, All
     written(alloc, to, b"/msc/go_2pc", args)
 }
 
-#[tactic(auto, unfolding(crate::specs::Sending::send_content, crate::specs::Sending::order_content, crate::specs::Sending::datagram))]
 fn cancel(alloc: Global, to: u16, seq: u32, device: DeviceNo) -> Result<Out, AllocError>
     requires { seq ≤ MAX_NUMBER }
     ensures { IfOk result (λ out. out_view out ≡ datagram (to, order (cancel seq device))) }

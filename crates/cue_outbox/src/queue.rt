@@ -8,7 +8,7 @@ use std::alloc::{AllocError, Global};
 use std::collections::VecDeque;
 use std::marker::Model;
 
-/// Datagrams in order: new ones go behind, and the first is taken from the front.
+/// Datagrams in order: new ones go to the back, and the first is taken from the front.
 #[derive(Drop)]
 pub struct Queue {
     outs: VecDeque<Out>,
@@ -33,7 +33,7 @@ impl Queue {
         }
     }
 
-    /// Puts the datagrams behind the others, in order; their bytes stay where they are. Where memory runs out nothing
+    /// Puts the datagrams after the others, in order; their bytes stay where they are. Where memory runs out nothing
     /// changes, and they are dropped.
     pub fn push_all(&mut self, outs: Vec<Out>) -> Result<(), AllocError>
         ensures ok { OnOk result (self.new ≡ self.old ++ outs_view outs.items) }
@@ -51,8 +51,8 @@ impl Queue {
         self.outs.pop_front()
     }
 
-    #[tactic(auto, using(crate::proofs::Fronts::view_of_front))]
     /// Keeps the first `count` datagrams, and drops the others.
+    #[tactic(auto, using(crate::proofs::Fronts::view_of_front))]
     pub fn truncate(&mut self, count: usize)
         ensures { self.new ≡ take count self.old }
     {

@@ -12,9 +12,9 @@ use std::alloc::{AllocError, Global};
 /// The most bytes of an address that a reply shows.
 const SHOWN: usize = 64;
 
-#[tactic(auto, unfolding(crate::specs::Sending::send_content, crate::specs::Sending::datagram))]
 /// The reply to a message: its address, of which the first 64 bytes are shown, how many of its commands were made,
 /// were known and were refused, and the code of the first that was refused, 0 where none was.
+#[tactic(auto, unfolding(crate::specs::Sending::send_content, crate::specs::Sending::datagram))]
 pub fn reply(
     alloc: Global,
     to: u16,

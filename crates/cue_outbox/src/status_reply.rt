@@ -13,7 +13,6 @@ use cue_osc::Arg;
 use cue_show::CueNo;
 use std::alloc::{AllocError, Global};
 
-#[tactic(auto, unfolding(crate::specs::Sending::send_content, crate::specs::Sending::datagram, crate::specs::Sending::status_of))]
 /// The status: the last number that was drawn, the place, how many attempts are live, and which attempt ended last,
 /// and how.
 pub fn status(alloc: Global, to: u16, state: &State) -> Result<Out, AllocError>
@@ -38,8 +37,8 @@ fn last_number(state: &State) -> u32
     state.last_seq()
 }
 
-#[tactic(auto, using(crate::proofs::Facts::number_text, crate::proofs::Facts::number_short))]
 // The text of the place; empty where there is none.
+#[tactic(auto, using(crate::proofs::Facts::number_text, crate::proofs::Facts::number_short))]
 fn text_of(place: &Option<CueNo>) -> &[u8]
     ensures value { result.now ≡ unwrap_or place.now [] }
     ensures text { IsText result.now }

@@ -38,7 +38,7 @@ IsPiece t Many = t ≡ asterisk ∷ []
 IsPiece t (Listed rs) =
     (first : ℕ) × (more : List ℕ) × (t ≡ open_bracket ∷ (first ∷ more ++ close_bracket ∷ []))
     × (first ≢ exclamation_mark) × HasNo close_bracket (first ∷ more) × (rs ≡ ranges (first ∷ more))
--- [!..], not empty behind the exclamation mark
+-- [!..], not empty after the exclamation mark
 IsPiece t (Unlisted rs) =
     (first : ℕ) × (more : List ℕ) × (t ≡ open_bracket ∷ exclamation_mark ∷ (first ∷ more ++ close_bracket ∷ []))
     × HasNo close_bracket (first ∷ more) × (rs ≡ ranges (first ∷ more))

@@ -29,7 +29,7 @@ abbrev pub text_before : ℕ → List ℕ → Option (List ℕ)
 text_before c [] = None
 text_before c (b ∷ bs) = if b == c then Some [] else option_map (λ t. b ∷ t) (text_before c bs)
 
--- the piece that brackets make of what stands behind their exclamation mark; none where nothing does
+-- the piece that brackets make of what stands after their exclamation mark; none where nothing does
 abbrev pub negated_piece : List ℕ → Option Piece
 negated_piece [] = None
 negated_piece (b ∷ bs) = Some (Unlisted (ranges (b ∷ bs)))
@@ -49,12 +49,12 @@ is_braced b =
 abbrev pub braced_piece : List ℕ → Option Piece
 braced_piece inside = if list_all is_braced inside then Some (Among (cut comma inside)) else None
 
--- the piece that is made of what is enclosed, and how many bytes behind its first are its own
+-- the piece that is made of what is enclosed, and how many bytes after its first are its own
 abbrev pub piece_between : (List ℕ → Option Piece) → Option (List ℕ) → Option (Piece × ℕ)
 piece_between piece None = None
 piece_between piece (Some inside) = option_map (λ p. (p, length inside + 1)) (piece inside)
 
--- the piece that begins with this byte, and how many of the bytes behind it are its own
+-- the piece that begins with this byte, and how many of the bytes after it are its own
 unfoldable pub piece_at : ℕ → List ℕ → Option (Piece × ℕ)
 piece_at b bs =
     if b == question_mark then Some (One, 0) else
@@ -63,7 +63,7 @@ piece_at b bs =
     if b == open_brace then piece_between braced_piece (text_before close_brace bs) else
     Some (Plain b, 0)
 
--- the pieces of what is left of a text behind so many bytes
+-- the pieces of what is left of a text after so many bytes
 unfoldable pub pieces_behind : ℕ → List ℕ → Option (List Piece)
 pieces_behind zero [] = Some []
 pieces_behind (suc n) [] = Some []

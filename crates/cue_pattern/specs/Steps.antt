@@ -21,7 +21,7 @@ abbrev pub left_len : Option (List ℕ) → ℕ
 left_len None = 0
 left_len (Some bytes) = length bytes + 1
 
--- what stands before the first separator, and behind it where there is one
+-- what stands before the first separator, and after it where there is one
 pub record CutsFirst (c : ℕ) (bytes before : List ℕ) (behind : Option (List ℕ)) : Type 0 where
   pub parts : cut c bytes ≡ before ∷ cut_left c behind
   pub inside : text_before c bytes ≡ option_map (λ _. before) behind
@@ -46,11 +46,11 @@ pub record Reads (found : Option (Piece × ℕ)) (behind : List ℕ) (piece : Pi
 abbrev pub with_front : {A : Type 0} → List A → Option (List A) → Option (List A)
 with_front front read = option_map (λ rest. front ++ rest) read
 
--- whether the text u stands at the front of t, and the position behind it is reached
+-- whether the text u stands at the front of t, and the position after it is reached
 abbrev pub leads : List ℕ → List ℕ → List Bool → Bool
 leads u t reached = starts_with nat_eq t u && slice_index_or reached (length u) false
 
--- the marks tell from which positions of the text the test passes
+-- the marks say from which positions of the text the test passes
 pub record Tells (test : List ℕ → Bool) (text : List ℕ) (reached : List Bool) : Type 0 where
   pub long : length text < length reached
   pub marks : (k : ℕ) → k ≤ length text → slice_index_or reached k false ≡ test (drop k text)

@@ -30,7 +30,7 @@ impl Model for Pattern {
     ghost view = { λ p. p.parts.items };
 }
 
-/// What stands behind the slash that begins an address or a pattern.
+/// What stands after the slash that begins an address or a pattern.
 fn behind_slash(bytes: &[u8]) -> Option<&[u8]>
     ensures parts { parts_of bytes.now ≡ option_map (cut slash) (option_copied result) }
     ensures shorter { left_len (option_copied result) ≤ length bytes.now }
@@ -79,7 +79,7 @@ impl Pattern {
     ghost use Rattle.cue_pattern.specs.Short.{is_short, are_short};
 
     /// Reads the address of a message as a pattern. An address without special bytes is a pattern
-    /// too, which matches itself alone. Bad bytes are told from a refused allocation in every case.
+    /// too, which matches itself alone. Bad bytes are told apart from a refused allocation in every case.
     pub fn read(alloc: Global, bytes: &[u8]) -> Result<Pattern, Fault>
         // What is read is what the bytes spell.
         ensures found { IfOk result (λ p. IsPattern bytes.now p) }

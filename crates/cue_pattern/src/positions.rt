@@ -48,7 +48,7 @@ fn step_many(text: &[u8], reached: &mut [bool])
     }
 }
 
-/// One of some texts: from here, where one stands here and the rest matches from behind it.
+/// One of some texts: from here, where one stands here and the rest matches from where that one ends.
 fn step_texts(texts: &Texts, text: &[u8], reached: &mut [bool])
     requires { length text.now < length reached.old }
     ensures { (rest : List ℕ → Bool) → Tells rest text.now reached.old

@@ -42,7 +42,7 @@ fn first_range(low: u8, behind: &[u8]) -> (Range, &[u8])
 impl Ranges {
     ghost use Rattle.cue_pattern.specs.Matching.{is_in};
 
-    /// Reads what stands between the brackets, behind the `!` where there is one.
+    /// Reads what stands between the brackets, after the `!` where there is one.
     pub(crate) fn read(alloc: Global, inside: &[u8]) -> Result<Ranges, AllocError>
         ensures { IfOk result (λ r. r ≡ ranges inside.now) }
     {

@@ -32,7 +32,7 @@ impl Text {
         Ok(Text { bytes })
     }
 
-    /// Whether the text stands at the front, and the position behind it is reached.
+    /// Whether the text stands at the front, and the position after it is reached.
     fn leads(&self, text: &[u8], reached: &[bool]) -> bool
         requires { length text.now < length reached.now }
         ensures { result ≡ leads self.now text.now reached.now }
@@ -71,7 +71,7 @@ impl Texts {
         Ok(Texts { items })
     }
 
-    /// Whether one of the texts stands at the front, and the position behind it is reached.
+    /// Whether one of the texts stands at the front, and the position after it is reached.
     pub(crate) fn lead(&self, text: &[u8], reached: &[bool]) -> bool
         requires { length text.now < length reached.now }
         ensures { result ≡ list_any (λ u. leads u text.now reached.now) self.now }

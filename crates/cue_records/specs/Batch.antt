@@ -1,4 +1,4 @@
--- The text of a batch of events.
+-- The encoding of a batch of events.
 use Rattle.std.specs.Prelude.{◌≢◌, ℕ, Bool, ◌&&◌, if◌then◌else◌, List, ◌∷◌, ◌++◌, length, nat_le, IsTrue}
 use Rattle.std.specs.List.{flat_map, list_all}
 use Rattle.cue_show.specs.DeviceNumber.{is_device, is_port}
@@ -28,7 +28,7 @@ event_number (LetGo q d) = 11
 event_number (Failed q d) = 12
 event_number (Excuse q d) = 14
 
--- what stands behind the number of its kind
+-- what stands after the number of its kind
 abbrev pub body_text : Event → List ℕ
 body_text (Device d port) = entry_text (d, port)
 body_text (NoDevice d) = byte_text d
@@ -44,11 +44,11 @@ body_text (LetGo q d) = number_text q ++ byte_text d
 body_text (Failed q d) = number_text q ++ byte_text d
 body_text (Excuse q d) = number_text q ++ byte_text d
 
--- the number of its kind, and what stands behind it
+-- the number of its kind, and what stands after it
 abbrev pub event_text : Event → List ℕ
 event_text e = event_number e ∷ body_text e
 
--- the event has a text: each number, cue and list of parts is within its range
+-- the event has an encoding: each number, cue and list of parts is within its range
 abbrev pub is_event : Event → Bool
 is_event (Device d port) = is_device d && is_port port
 is_event (NoDevice d) = is_device d
@@ -68,10 +68,10 @@ is_event (Excuse q d) = is_number q && is_device d
 abbrev pub batch_text : List Event → List ℕ
 batch_text events = short_text (length events) ++ flat_map event_text events
 
--- the events have a text: 1 to 4,096 of them, each within its ranges
+-- the events have an encoding: 1 to 4,096 of them, each within its ranges
 abbrev pub is_batch : List Event → Bool
 is_batch events = nat_le 1 (length events) && (nat_le (length events) MAX_EVENTS && list_all is_event events)
 
--- the bytes are the text of no batch
+-- the bytes are the encoding of no batch
 abbrev pub IsNoBatch : List ℕ → Type 0
 IsNoBatch bytes = (events : List Event) → IsTrue (is_batch events) → bytes ≢ batch_text events

@@ -42,7 +42,7 @@ cancel_at = both_at sequence_at reason_at
 unfoldable pub mixed_cue_at : Reads (List ℕ × List Part)
 mixed_cue_at = where_at (λ x. not (are_required x.1)) (new_cue_at Flagged)
 
--- what stands behind a kind
+-- what stands after a kind
 unfoldable pub body_at : Kind → Reads Event
 body_at kind.Device = as_at (λ x. event.Device x.0 x.1) entry_at
 body_at kind.NoDevice = as_at (λ d. event.NoDevice d) device_at

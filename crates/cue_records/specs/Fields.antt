@@ -1,4 +1,4 @@
--- Helper: the fields of a text, how each is spelled. All numbers stand with the highest byte first.
+-- Helper: the fields of an encoding, how each is spelled. All numbers stand with the highest byte first.
 use Rattle.std.specs.Prelude.{ℕ, Bool, true, false, if◌then◌else◌, List, [], ◌∷◌, ◌++◌, length}
 use Rattle.std.specs.List.{flat_map, list_all}
 use Rattle.std.specs.Int.{w16, w32, w64, to_be_bytes}
@@ -51,7 +51,7 @@ parts_text form parts = length parts ∷ flat_map (part_text form) parts
 abbrev pub are_required : List Part → Bool
 are_required parts = list_all is_required_part parts
 
--- the parts have a text in this form: as plain parts only where each is required
+-- the parts have an encoding in this form: as plain parts only where each is required
 abbrev pub have_text : PartsForm → List Part → Bool
 have_text Plain parts = are_required parts
 have_text Flagged parts = true

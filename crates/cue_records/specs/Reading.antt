@@ -1,4 +1,4 @@
--- Reading fields from the front of the bytes: what is found, and the bytes behind it.
+-- Reading fields from the front of the bytes: what is found, and the bytes after it.
 use Rattle.std.specs.Prelude.{◌≡◌, ℕ, zero, suc, Bool, true, false, ◌&&◌, ◌==◌, if◌then◌else◌, List, [], ◌∷◌, length}
 use Rattle.std.specs.Prelude.{take, drop, Option, None, Some, Result, Ok, Err, nat_le, nat_lt}
 use Rattle.std.specs.Int.{Width, w16, w32, byte_len, from_be_bytes}
@@ -18,7 +18,7 @@ use Rattle.cue_records.specs.declared.parts_form.PartsForm.TheVariants.{Plain, F
 
 -- ---- what a reader is
 
--- a value and the bytes behind it, or none
+-- a value and the bytes after it, or none
 abbrev pub Reads : Type 0 → Type 0
 Reads X = List ℕ → Option (X × List ℕ)
 
@@ -56,11 +56,11 @@ made_at make read bytes = read bytes >>= λ x. make x.0 >>= λ y. Some (y, x.1)
 abbrev pub as_at : {A B : Type 0} → (A → B) → Reads A → Reads B
 as_at make read bytes = read bytes >>= λ x. Some (make x.0, x.1)
 
--- one behind the other
+-- one after the other
 abbrev pub both_at : {A B : Type 0} → Reads A → Reads B → Reads (A × B)
 both_at first second bytes = first bytes >>= λ a. second a.1 >>= λ b. Some ((a.0, b.0), b.1)
 
--- so many of them, one behind the other
+-- so many of them, one after the other
 unfoldable pub list_at : {A : Type 0} → Reads A → ℕ → Reads (List A)
 list_at read zero bytes = Some ([], bytes)
 list_at read (suc n) bytes = read bytes >>= λ x. list_at read n x.1 >>= λ xs. Some (x.0 ∷ xs.0, xs.1)

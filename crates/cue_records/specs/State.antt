@@ -1,4 +1,4 @@
--- The text of a state.
+-- The encoding of a state.
 use Rattle.std.specs.Prelude.{◌≡◌, ℕ, ◌+◌, ◌==◌, Bool, true, false, ◌&&◌, if◌then◌else◌, List, [], ◌∷◌, ◌++◌, length}
 use Rattle.std.specs.Prelude.{map, nat_le, Option, None, Some, is_none, IsTrue}
 use Rattle.std.specs.List.{flat_map, list_all}
@@ -90,8 +90,8 @@ abbrev pub is_other_version : List ℕ → Bool
 is_other_version [] = false
 is_other_version (b ∷ bytes) = is_none (form_of_version b)
 
--- the state has a text with parts of this form: with plain parts only where it has at most 256 cues, of required parts
--- alone
+-- the state has an encoding with parts of this form: with plain parts only where it has at most 256 cues, of required
+-- parts alone
 abbrev pub has_text : PartsForm → ShowState → Bool
 has_text Plain s = nat_le (length s.show.cues) OLD_MAX_CUES && list_all (λ e. are_required e.1) s.show.cues
 has_text Flagged s = true
@@ -104,16 +104,16 @@ text_in form s =
     byte_text (version_number form) ++ (show_text form s.show
     ++ (number_text s.last_seq ++ (ended_text s.ended ++ live_text s.live)))
 
--- the text of a state as it is written, which each state has
+-- the encoding of a state as it is written, which each state has
 abbrev pub state_text : ShowState → List ℕ
 state_text s = text_in Flagged s
 
--- The bytes are a text of the state, in a form in which it has one.
+-- The bytes are an encoding of the state, in a form in which it has one.
 pub record IsStateText (bytes : List ℕ) (s : ShowState) : Type 0 where
   pub form : PartsForm
   pub has : IsTrue (has_text form s)
   pub is : bytes ≡ text_in form s
 
--- the bytes are the text of no state
+-- the bytes are the encoding of no state
 abbrev pub IsNoState : List ℕ → Type 0
 IsNoState bytes = (s : ShowState) → IsTrue (is_state s) → IsStateText bytes s → ⊥

@@ -73,12 +73,12 @@ place_step = added_at is_place_of with_place place_at
 unfoldable pub table_at : ShowLists → Reads ShowLists
 table_at s bytes = byte_at bytes >>= λ n. fold_at device_step n.0 s n.1
 
--- the most cues of a text with parts of this form
+-- the most cues of an encoding with parts of this form
 abbrev pub most_cues : PartsForm → ℕ
 most_cues Plain = OLD_MAX_CUES
 most_cues Flagged = MAX_CUES
 
--- a count of cues, no more than such a text has
+-- a count of cues, no more than such an encoding has
 unfoldable pub cue_count_at : PartsForm → Reads ℕ
 cue_count_at form = where_at (λ n. nat_le n (most_cues form)) (number_at w16)
 
@@ -141,7 +141,7 @@ attempt_at show bytes =
     head_at bytes >>= λ h. parts_of show h.0.1.0 >>= λ ps. answers_at ps h.1 >>= λ xs. Some
     (record { seq = h.0.0; cue = h.0.1.0; deadline = h.0.1.1.0; stage = h.0.1.1.1; answers = xs.0 }, xs.1)
 
--- the attempt may be live behind these
+-- the attempt may follow these live ones
 abbrev pub can_follow : List Attempt → Attempt → Bool
 can_follow live a = are_below a.seq live && can_put a live
 
@@ -153,7 +153,7 @@ attempt_step show = added_at can_follow (λ live a. with_attempt a live) (attemp
 unfoldable pub live_at : ShowLists → List Attempt → Reads (List Attempt)
 live_at show live bytes = byte_at bytes >>= λ n. fold_at (attempt_step show) n.0 live n.1
 
--- what stands behind the show, to the end: the last number, the attempt that ended last, and the live ones
+-- what stands after the show, to the end: the last number, the attempt that ended last, and the live ones
 unfoldable pub tail_of : ShowLists → List Attempt → List ℕ → Option (ℕ × (Option Ended × List Attempt))
 tail_of show live bytes =
     number_at w32 bytes >>= λ q. ended_at q.1 >>= λ e. live_at show live e.1
@@ -165,21 +165,21 @@ tail_of show live bytes =
 abbrev pub where_state : ShowState → Option ShowState
 where_state s = where_it (is_state s) s
 
--- what stands behind the number of the version
+-- what stands after the number of the version
 unfoldable pub standing_of : PartsForm → List ℕ → Option ShowState
 standing_of form bytes =
     show_at form empty_show bytes >>= λ show. tail_of show.0 [] show.1
     >>= λ t. where_state (record { show = show.0; live = t.1.1; last_seq = t.0; ended = t.1.0 })
 
--- the state whose text the bytes are
+-- the state whose encoding the bytes are
 unfoldable pub state_of : List ℕ → Option ShowState
 state_of [] = None
 state_of (b ∷ bytes) = form_of_version b >>= λ form. standing_of form bytes
 
--- the bytes are the text of the state with parts of this form, and it has one
+-- the bytes are the encoding of the state with parts of this form, and it has one
 abbrev pub is_text_in : PartsForm → List ℕ → ShowState → Bool
 is_text_in form bytes s = has_text form s && bytes_eq bytes (text_in form s)
 
--- the bytes are a text of the state
+-- the bytes are an encoding of the state
 abbrev pub is_state_text : List ℕ → ShowState → Bool
 is_state_text bytes s = is_text_in Flagged bytes s || is_text_in Plain bytes s

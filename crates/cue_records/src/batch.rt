@@ -46,15 +46,15 @@ impl Batch {
     }
 }
 
-/// How many bytes the text of the events has, or the most that 64 bits hold where it has more.
+/// How many bytes the encoding of the events has, or the most that 64 bits hold where it has more.
 pub fn batch_len(events: &[Event]) -> u64
     ensures { result ≡ min (length (batch_text events.now)) (2 ^ 64 - 1) }
 {
     length::events_len(events).saturating_add(2)
 }
 
-/// The text of a batch: 1 to 4,096 events, each within its ranges. Events that may happen to a state one after the
-/// other, as those of `judge` may, are within them. It takes memory once, as much as the text has bytes.
+/// The encoding of a batch: 1 to 4,096 events, each within its ranges. Events that may happen to a state one after the
+/// other, as those of `judge` may, are within them. It takes memory once, as much as the encoding has bytes.
 pub fn write_batch(alloc: Global, events: &[Event]) -> Result<Bytes, AllocError>
     requires { IsTrue (is_batch events.now) }
     ensures { IfOk result (λ bytes. bytes ≡ batch_text events.now) }
@@ -65,11 +65,11 @@ pub fn write_batch(alloc: Global, events: &[Event]) -> Result<Bytes, AllocError>
     Ok(Bytes::from_vec(out))
 }
 
-/// The batch whose text the bytes are, all of the bytes.
+/// The batch whose encoding the bytes are, all of the bytes.
 pub fn read_batch(alloc: Global, bytes: &[u8]) -> Result<Batch, ReadFault>
-    // What is read is a batch, and the bytes are its text.
+    // What is read is a batch, and the bytes are its encoding.
     ensures found { IfOk result (λ batch. IsTrue (is_batch batch) × (bytes.now ≡ batch_text batch)) }
-    // The text of a batch is never refused as malformed.
+    // The encoding of a batch is never refused as malformed.
     ensures only { IsErrOf result ReadFault.Malformed → IsNoBatch bytes.now }
     // What is read is what reading from front to back finds.
     ensures exact { Gives (λ batch. batch) result (batch_of bytes.now) }

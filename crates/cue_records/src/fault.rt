@@ -9,7 +9,7 @@ use thiserror::Error;
 /// Why bytes are not read as a batch.
 #[derive(Clone, Copy, Debug, PartialEq, Eq, Error)]
 pub enum ReadFault {
-    /// The bytes are the text of no batch.
+    /// The bytes are the encoding of no batch.
     #[error("the bytes are no batch of events")]
     Malformed,
     /// Out of memory. This says nothing of the bytes.
@@ -20,13 +20,13 @@ pub enum ReadFault {
 /// Why bytes are not read as a state.
 #[derive(Clone, Copy, Debug, PartialEq, Eq, Error)]
 pub enum StateFault {
-    /// The text is of another version of the format: its first byte is neither `VERSION` nor `OLD_VERSION`.
+    /// The encoding is of another version of the format: its first byte is neither `VERSION` nor `OLD_VERSION`.
     #[error("the text is of another version")]
     Version,
-    /// The bytes are the text of no state.
+    /// The bytes are the encoding of no state.
     #[error("the bytes are no state")]
     Malformed,
-    /// Out of memory. This says nothing of the bytes behind the first.
+    /// Out of memory. This says nothing of the bytes after the first.
     #[error("out of memory")]
     Memory,
 }

@@ -1,4 +1,4 @@
-//! The fields of a text: how each is read, written and measured.
+//! The fields of an encoding: how each is read, written and measured.
 
 mod length;
 mod reader;

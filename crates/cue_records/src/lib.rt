@@ -1,6 +1,7 @@
-//! The texts that a store keeps of a show: the bytes of states and of batches of events, and how they are read again.
+//! The encodings that a store keeps of a show: the bytes of states and of batches of events, and how they are read
+//! again.
 //!
-//! A batch has one text, and a state at most one in each version of the format. Each text is read as what it tells.
+//! A batch has one encoding, and a state at most one in each version of the format. Each is read as what it stands for.
 //! Nothing here knows a disk.
 #![tactic(auto)]
 

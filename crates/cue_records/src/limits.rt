@@ -23,8 +23,8 @@ const STACK_BYTES: usize = 2 + MAX_CUES * CUE_BYTES;
 
 const LIVE_BYTES: usize = 1 + MAX_LIVE * ATTEMPT_BYTES;
 
-/// The most bytes of the text of a state: version, devices, cues, place, last number, the attempt that ended last, and
-/// the live ones.
+/// The most bytes of the encoding of a state: version, devices, cues, place, last number, the attempt that ended last,
+/// and the live ones.
 pub const MAX_STATE_BYTES: usize = 1
     + TABLE_BYTES
     + STACK_BYTES

@@ -15,16 +15,16 @@ use cue_core::State;
 use cue_show::Bytes;
 use std::alloc::{AllocError, Global};
 
-/// The version of the format: the first byte of each text of a state that is written.
+/// The version of the format: the first byte of each encoding of a state that is written.
 pub const VERSION: u8 = 2;
 
-/// The version before it, whose texts are still read: each part is required.
+/// The version before it, whose encodings are still read: each part is required.
 pub const OLD_VERSION: u8 = 1;
 
-/// The text of a state. It takes memory once, for the longest text.
+/// The encoding of a state. It takes memory once, for the longest encoding.
 pub fn write_state(alloc: Global, state: &State) -> Result<Bytes, AllocError>
     ensures text { IfOk result (λ bytes. bytes ≡ state_text state.now) }
-    // So the text is read again as the state.
+    // So the encoding is read again as the state.
     ensures rules { IsTrue (is_state state.now) }
 {
     let show = state.show();
@@ -37,13 +37,13 @@ pub fn write_state(alloc: Global, state: &State) -> Result<Bytes, AllocError>
     Ok(Bytes::from_vec(out))
 }
 
-/// The state whose text the bytes are, all of the bytes, in this version or in the one before it.
+/// The state whose encoding the bytes are, all of the bytes, in this version or in the one before it.
 pub fn read_state(alloc: Global, bytes: &[u8]) -> Result<State, StateFault>
-    // The first byte alone tells the version, before anything else is looked at.
+    // The first byte alone says the version, before anything else is looked at.
     ensures version { IsErrOf result StateFault.Version ↔ IsTrue (is_other_version bytes.now) }
-    // What is read keeps the rules of a state, and the bytes are a text of it.
+    // What is read keeps the rules of a state, and the bytes are an encoding of it.
     ensures found { IfOk result (λ state. IsTrue (is_state state) × IsStateText bytes.now state) }
-    // No text of a state is refused as malformed.
+    // No encoding of a state is refused as malformed.
     ensures only { IsErrOf result StateFault.Malformed → IsNoState bytes.now }
     // What is read is what reading from front to back finds.
     ensures exact { GivesState result (state_of bytes.now) }

@@ -1,4 +1,4 @@
--- What a source and a wire in memory tell.
+-- What a source and a wire in memory show.
 use Rattle.std.specs.Prelude.{false, List, map, drop, if◌then◌else◌, Option, None, Some}
 use Rattle.cue_relay.specs.declared.mem_source.MemAnswer.{MemAnswer}
 use Rattle.cue_relay.specs.declared.mem_source.MemAnswer.TheVariants as mem
@@ -31,6 +31,6 @@ sent_view sent = handed sent.way sent.bytes.items false
 abbrev pub sents_view : List Sent → List Handed
 sents_view = map sent_view
 
--- all that was handed over; None where it tells nothing
+-- all that was handed over; None where it shows nothing
 abbrev pub told_by : MemWire → Option (List Handed)
 told_by wire = if wire.tells then Some (sents_view wire.sent.items) else None

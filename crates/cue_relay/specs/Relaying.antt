@@ -23,7 +23,7 @@ abbrev pub who_is_at : Address → Route → Side → Address
 who_is_at controller route Controller = controller
 who_is_at controller route Stage = route.address
 
--- through a route: only from who is at this side, by the socket across, to who is there
+-- through a route: only from whoever is at this side, by the socket across, to whoever is there
 abbrev pub way_by : Address → Route → Opening → Address → Option Way
 way_by controller route at from =
     if is_same from (who_is_at controller route at.side)

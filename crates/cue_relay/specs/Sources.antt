@@ -1,4 +1,4 @@
--- What a source gives, and what it tells.
+-- What a source gives, and what it shows of what is left.
 use Rattle.std.specs.Prelude.{◌≡◌, ◌≤◌, ℕ, List, [], ◌∷◌, take, Option, Some, None, Result, Ok, Err}
 use Rattle.cue_relay.specs.declared.route.Address.{Address}
 use Rattle.cue_relay.specs.declared.route.Opening.{Opening}
@@ -48,7 +48,7 @@ abbrev pub GaveInTurn : ℕ → List Answer → List Answer → List Answer → 
 GaveInTurn size old [] new = new ≡ old
 GaveInTurn size old (g ∷ gs) new = (g ≡ cut size (first_left old)) × GaveInTurn size (others_left old) gs new
 
--- the same of what is told; None: nothing is told, for good
+-- the same of what is shown; None: nothing is shown, for good
 abbrev pub GaveAll : ℕ → Option (List Answer) → List Answer → Option (List Answer) → Type 0
 GaveAll size old gs None = Unit {0}
 GaveAll size None gs (Some new) = ⊥

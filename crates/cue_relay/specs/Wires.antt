@@ -1,4 +1,4 @@
--- What a wire tells of what was handed to it.
+-- What a wire shows of what was handed to it.
 use Rattle.std.specs.Prelude.{◌≡◌, ℕ, Bool, List, ◌++◌, Option, None, Some}
 use Rattle.cue_relay.specs.declared.route.Way.{Way}
 
@@ -15,7 +15,7 @@ pub record Handed : Type 0 where
 abbrev pub handed : Way → List ℕ → Bool → Handed
 handed way bytes lost = record { sending = record { way = way; bytes = bytes }; lost = lost }
 
--- what is told grew by this; None: nothing is told, for good
+-- what is shown grew by this; None: nothing is shown, for good
 abbrev pub Grew : Option (List Handed) → List Handed → Option (List Handed) → Type 0
 Grew old more None = Unit {0}
 Grew None more (Some new) = ⊥

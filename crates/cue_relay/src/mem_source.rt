@@ -64,7 +64,7 @@ impl MemAnswer {
     }
 }
 
-/// A source that gives the answers of a list in turn, and then ends. It tells the answers that are left.
+/// A source that gives the answers of a list in turn, and then ends. It shows the answers that are left.
 #[derive(Drop)]
 pub struct MemSource {
     answers: Vec<MemAnswer>,

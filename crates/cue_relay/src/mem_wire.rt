@@ -1,4 +1,4 @@
-//! A wire in memory, for tests: it tells all that was handed to it, and loses what there is no memory for.
+//! A wire in memory, for tests: it shows all that was handed to it, and loses what there is no memory for.
 ghost use Rattle.std.specs.Prelude.{◌≡◌, [], ◌∷◌, None, Some, OnOk, MatchOption, false};
 ghost use Rattle.cue_relay.specs.Memory.{sents_view, told_by};
 ghost use Rattle.cue_relay.specs.Wires.{Grew, handed};
@@ -16,8 +16,8 @@ pub struct Sent {
     pub bytes: Vec<u8>,
 }
 
-/// A wire in memory. It tells all that was handed to it until it finds no memory for a datagram: that one is lost, and
-/// it tells nothing from then on.
+/// A wire in memory. It shows all that was handed to it until it finds no memory for a datagram: that one is lost, and
+/// it shows nothing from then on.
 #[derive(Drop)]
 pub struct MemWire {
     alloc: Global,
@@ -26,7 +26,7 @@ pub struct MemWire {
 }
 
 impl MemWire {
-    /// A wire that tells, to which nothing was handed. It takes its memory from this allocator.
+    /// A wire that shows what was handed to it: nothing yet. It takes its memory from this allocator.
     pub fn new(alloc: Global) -> MemWire
         ensures { told_by result ≡ Some [] }
     {
@@ -44,7 +44,7 @@ impl MemWire {
         if self.tells { Some(&self.sent) } else { None }
     }
 
-    // Keeps what was handed over, where the wire tells and there is memory for it.
+    // Keeps what was handed over, where the wire shows it and there is memory for it.
     fn keep(&mut self, way: Way, bytes: &[u8]) -> Result<(), AllocError>
         ensures { OnOk result (Grew (told_by self.old) (handed way bytes.now false ∷ []) (told_by self.new)) }
     {

@@ -1,4 +1,4 @@
-//! What a relay tells of itself, as a small text: the desk reads it to show when each device was heard.
+//! What a relay says of itself, as a small text: the desk reads it to show when each device was heard.
 use crate::hearing::Contact;
 use crate::relaying::Counts;
 use crate::route::{Address, Route};
@@ -11,7 +11,7 @@ use std::str::Lines;
 /// How old a status may be before the relay that wrote it counts as stopped, in milliseconds.
 pub const STALE: u64 = 5_000;
 
-/// What a relay tells of one device.
+/// What a relay says of one device.
 #[derive(Clone, Copy, Debug, PartialEq, Eq)]
 pub struct Seen {
     pub device: DeviceNo,
@@ -22,7 +22,7 @@ pub struct Seen {
     pub silent: bool,
 }
 
-/// What a relay tells of itself.
+/// What a relay says of itself.
 #[derive(Debug, Drop)]
 pub struct Status {
     /// When it was written, in milliseconds since 1970.
@@ -56,7 +56,7 @@ impl Status {
         })
     }
 
-    /// What it tells of the device.
+    /// What it says of the device.
     pub fn device(&self, device: DeviceNo) -> Option<&Seen> {
         self.devices.iter().find(|seen| seen.device == device)
     }
@@ -156,7 +156,7 @@ fn heard_in(word: &str, moment: Option<&str>) -> Option<Option<u64>> {
     }
 }
 
-// What a line tells of a device.
+// What a line says of a device.
 fn seen_in(line: &str) -> Option<Seen> {
     let (rest, silent) = match line.strip_suffix(" silent") {
         Some(rest) => (rest, true),

@@ -20,7 +20,7 @@ impl Error for WireFault {}
 
 /// Where datagrams are handed over, each by a socket of the relay.
 pub trait Wire {
-    /// All that was handed over, in order, each with whether it was lost; None for a wire that does not tell.
+    /// All that was handed over, in order, each with whether it was lost; None for a wire that does not show it.
     ghost told: { Self → Option (List Handed) };
 
     /// Hands a datagram over. One that cannot be sent at once is lost.

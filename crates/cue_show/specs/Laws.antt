@@ -16,13 +16,13 @@ abbrev pub CueNumbersAreRunsJoinedByPoints : Type 0
 CueNumbersAreRunsJoinedByPoints =
     (text : List ℕ) → IsTrue (is_cue_number text) ↔ ((length text ≤ MAX_CUE_BYTES) × IsRunsJoinedByPoints text)
 
--- the cue f stands directly behind the cue c
+-- the cue f stands directly after the cue c
 abbrev pub StandsBehind : Cues → List ℕ → List ℕ → Type 0
 StandsBehind cues c f =
     (before : Cues) × (after : Cues) × (parts : List Part) × (others : List Part)
     × (cues ≡ before ++ (c, parts) ∷ (f, others) ∷ after)
 
--- the cue that follows is the one directly behind
+-- the cue that follows is the one directly after it
 abbrev pub FollowingStandsBehind : Type 0
 FollowingStandsBehind =
     (s : ShowLists) (c f : List ℕ) → IsTrue (is_show s) → (following s c ≡ Some f) ↔ StandsBehind s.cues c f

@@ -57,7 +57,7 @@ abbrev pub first_cue : Cues → Option (List ℕ)
 first_cue [] = None
 first_cue (e ∷ es) = Some e.0
 
--- the number of the cue behind the cue c
+-- the number of the cue after the cue c
 abbrev pub cue_behind : List ℕ → Cues → Option (List ℕ)
 cue_behind c [] = None
 cue_behind c (e ∷ es) = if same_text c e.0 then first_cue es else cue_behind c es

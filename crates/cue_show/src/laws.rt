@@ -10,7 +10,7 @@ pub fn cue_numbers_are_runs_joined_by_points()
     ensures { CueNumbersAreRunsJoinedByPoints }
 {}
 
-/// The cue that follows is the one directly behind in the stack.
+/// The cue that follows is the one directly after it in the stack.
 pub fn following_stands_behind()
     ensures { FollowingStandsBehind }
 {}

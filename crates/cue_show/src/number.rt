@@ -16,7 +16,7 @@ use std::marker::Model;
 /// Numbers are compared byte for byte, so `1`, `01` and `1.0` are three cues.
 #[derive(Clone, Copy, Debug)]
 pub struct CueNo {
-    // The text, with zeros behind it.
+    // The text, with zeros after it.
     bytes: [u8; MAX_CUE_BYTES],
     len: u8,
 }

@@ -1,4 +1,4 @@
-//! The parts of a cue: what each of its devices is told to do.
+//! The parts of a cue: what each of its devices does in it.
 ghost use Rattle.std.specs.Prelude.{◌≡◌, ◌+◌, [], ◌∷◌, ◌++◌, IsTrue, IfOk, OnOk, OnErr, length};
 ghost use Rattle.std.specs.Cmp.{partial_equiv_from_equiv};
 ghost use Rattle.std.specs.List.{list_all};
@@ -12,7 +12,7 @@ use crate::limits::{MAX_DEVICES, MAX_PART_BYTES, MAX_PARTS};
 use std::alloc::{AllocError, Global};
 use std::marker::Model;
 
-/// What one device of a cue is told: the bytes go to it with the message that asks it to stand by.
+/// What one device does in a cue: the bytes go to it with the order to stand by.
 #[derive(Clone, Debug, Drop, PartialEq, Eq)]
 pub struct Part {
     pub device: DeviceNo,
@@ -163,7 +163,7 @@ impl Parts {
         self.has_distinct_devices() && self.each_is_fit()
     }
 
-    /// Puts a part behind the others. Where memory runs out nothing changes.
+    /// Puts a part after the others. Where memory runs out nothing changes.
     pub fn push(&mut self, part: Part) -> Result<(), AllocError>
         ensures ok { OnOk result (self.new ≡ self.old ++ part ∷ []) }
         ensures err { OnErr result (self.new ≡ self.old) }

@@ -86,7 +86,7 @@ pub record IsRequired (es : List Event) (q d : ℕ) : Type 0 where
   pub is_it : part.device ≡ d
   pub required : part.optional ≡ false
 
--- the device d has consented to q: its machine has told that it prepared for q, and it has answered that it stands by
+-- the device d has consented to q: its machine reported that it prepared for q, and it has answered that it stands by
 pub record HasConsented (from : Beginning) (past : List Happening) (d q : ℕ) : Type 0 where
   pub prepared : Contains (life_of d past) (tells (Prepared q))
   pub answered : HasStoodBy from past d q
@@ -98,7 +98,7 @@ pub record IsConsented (from : Beginning) (past : List Happening) (es : List Eve
 
 -- Only with consent: where only devices answer, a device is ordered to move for an attempt only after each required
 -- device of it, by the batches that the store keeps, has prepared for it and has said so. The list of what happened
--- may end with the order itself, with which nothing is told or answered: so consent came before it.
+-- may end with the order itself, with which nothing is reported or answered: so consent came before it.
 abbrev pub OnlyWithConsent : Type 0
 OnlyWithConsent = (from : Beginning) (past : List Happening) (x y : List ℕ) (d q : ℕ) → Happens from past
     → OnlyDevicesAnswer from past → (keeps : KeepsEachDecision from past x y) → WasToMove from past d q

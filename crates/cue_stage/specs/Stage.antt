@@ -24,8 +24,8 @@ pub record Beginning : Type 0 where
   pub over : ℕ → ℕ
 
 -- What happens on a stage. The store meets an incident: an input that anybody sends is taken, datagrams are handed to
--- the network, a stop comes anywhere, a recovery. Or something befalls the device d: it hears a command, its machine
--- tells something, it restarts.
+-- the network, a stop comes anywhere, a recovery. Or something befalls the device d: it hears an order, its machine
+-- reports something, it restarts.
 pub data Happening : Type 0 where
   meets : Incident → Happening
   befalls : (d : ℕ) → device.Happening → Happening
@@ -62,13 +62,13 @@ answers_by from past d = answers_of (rested d (from.over d)) (life_of d past)
 
 -- ---- what may happen
 
--- The network may deliver this command to the device d: a datagram that was handed to it is that command for d.
+-- The network may deliver this order to the device d: a datagram that was handed to it is that order to d.
 pub record MayBeDelivered (handed : List (ℕ × List ℕ)) (d : ℕ) (c : Command) : Type 0 where
   pub datagram : ℕ × List ℕ
   pub was_handed : Contains handed datagram
   pub is_command : IsFor d datagram.1 c
 
--- A device hears the commands that the network delivers. All else may befall it at any time, and a restart hands in
+-- A device hears the orders that the network delivers. All else may befall it at any time, and a restart hands in
 -- the number that it kept: one at least that of each order before.
 abbrev pub MayBefall : Beginning → List Happening → ℕ → device.Happening → Type 0
 MayBefall from past d (hears c) = IsTrue (is_device d) × MayBeDelivered (handed_by from past) d c

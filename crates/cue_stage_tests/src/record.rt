@@ -119,7 +119,7 @@ impl Record {
             .all(|part| self.is_decided(state, part.seq))
     }
 
-    // The second: where a device was ordered to move, none is told to give up; and a CANCEL rests on a Cancel.
+    // The second: where a device was ordered to move, none is ordered to give up; and a CANCEL rests on a Cancel.
     fn is_not_by_halves(&self) -> bool {
         let apart = self
             .moved

@@ -171,7 +171,7 @@ impl Stage {
         self.answer(device, told)
     }
 
-    /// A device starts anew, with the last number that it kept.
+    /// A device restarts, with the last number that it kept.
     pub(crate) fn restart(&mut self) {
         let place = self.chance.up_to(3) as usize;
         if let Some(device) = self.devices.get_mut(place) {

@@ -1,9 +1,9 @@
-//! Scripts: each line asks for something, and says behind ` = ` in words what becomes of it, as it is written out by
+//! Scripts: each line asks for something, and says after ` = ` in words what becomes of it, as it is written out by
 //! hand.
 //!
 //! A line is a command, which is judged and carried out (`standby 1 1000`: cue 1 at the moment 1000; `complete 3 1
-//! 9001`: device 3 in attempt 1, from that port); a command behind `judge`, which is only judged, or behind `fit`,
-//! whether its numbers and parts are ones that there are; an event behind `happen`, which happens where it may; a
+//! 9001`: device 3 in attempt 1, from that port); a command after `judge`, which is only judged, or after `fit`,
+//! whether its numbers and parts are ones that there are; an event after `happen`, which happens where it may; a
 //! `tick` of the clock at a moment; a recovery from `power` loss; or what of the state is asked for: `state`, `live`
 //! or `undecided`. A part is a device and its bytes: `3:up` a required one, `4?up` an optional one.
 
@@ -246,7 +246,7 @@ fn remade(state: &State, last_seq: u32, ended: Option<Ended>) -> Result<Option<S
     Ok(State::of(show, live, last_seq, ended))
 }
 
-// Runs each script from the empty state, behind the one that goes first.
+// Runs each script from the empty state, after the one that goes first.
 fn run_each(rt: &impl Abort, alloc: Global, first: &str, scripts: &[&str]) -> Result<(), Fail> {
     for script in scripts {
         run_new(rt, alloc, first, script)?;

@@ -1,7 +1,7 @@
 //! Datagrams, and what they ask for on a small show, as it is written out by hand.
 //!
 //! Each command is its name with its numbers, and a semicolon. A part is its device and its bytes; a question mark
-//! stands behind an optional device. `refused` and a code stand for a message that asks for no command.
+//! stands after an optional device. `refused` and a code stand for a message that asks for no command.
 
 use cue_core::{Command, Event, ReplyKind, State, judge};
 use cue_operator::{Refused, commands};
@@ -144,7 +144,7 @@ fn push_new_cue(out: &mut String, cue: CueNo, parts: &Parts) -> Result<(), Alloc
     out.push(';')
 }
 
-// A name, the device and a further number behind it.
+// A name, the device and a further number after it.
 fn push_numbers(
     out: &mut String,
     name: &str,

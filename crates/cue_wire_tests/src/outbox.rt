@@ -113,7 +113,7 @@ fn value_of(digit: u8) -> Option<u8> {
     }
 }
 
-// Puts the byte behind the others, once both halves of it are there; otherwise the half that is.
+// Puts the byte after the others, once both halves of it are there; otherwise the half that is.
 fn push_half(bytes: &mut Vec<u8>, front: Option<u8>, half: u8) -> Result<Option<u8>, AllocError> {
     match front {
         None => Ok(Some(half << 4)),
@@ -124,7 +124,7 @@ fn push_half(bytes: &mut Vec<u8>, front: Option<u8>, half: u8) -> Result<Option<
     }
 }
 
-// Puts the bytes of hexadecimal digits behind the others; spaces are for reading.
+// Puts the bytes of hexadecimal digits after the others; spaces are for reading.
 fn push_bytes(bytes: &mut Vec<u8>, digits: &str) -> Result<(), AllocError> {
     let mut front = None;
     for digit in digits.bytes() {
@@ -188,7 +188,7 @@ fn run_both(
     run(rt, alloc, state, steps)
 }
 
-// The commands that are pending.
+// The orders that are pending.
 fn expect_pending(
     rt: &impl Abort,
     alloc: Global,

@@ -1,6 +1,6 @@
 //! Worked datagrams: bytes written in hexadecimal digits, and what they say in a short notation.
-//! A message is its address and its arguments, each behind its type tag; `?` marks a discarded
-//! one; a bundle stands in brackets, behind its time tag in hexadecimal digits.
+//! A message is its address and its arguments, each after its type tag; `?` marks a discarded
+//! one; a bundle stands in brackets, after its time tag in hexadecimal digits.
 
 mod datagrams;
 mod faults;

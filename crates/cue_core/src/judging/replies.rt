@@ -1,4 +1,4 @@
-//! Replies of devices: what each makes of the stage of its attempt and of what the device has answered so far.
+//! Answers of devices: what each makes of the stage of its attempt and of what the device has answered so far.
 ghost use Rattle.std.specs.Prelude.{◌≡◌, [], ◌∷◌};
 ghost use Rattle.cue_exchange.specs.declared.attempt.Reason.TheVariants as reason;
 ghost use Rattle.cue_core.specs.declared.event.Event.TheVariants as event;
@@ -38,7 +38,7 @@ pub(crate) fn on_reply(
     }
 }
 
-// Whether the reply came from another port than the device's.
+// Whether the answer came from another port than the device's.
 fn is_from_another(state: &State, device: DeviceNo, from: u16) -> bool
     ensures { result ≡ is_from_another state.now device from }
 {
@@ -163,7 +163,7 @@ fn given_up(seq: u32, told: DeviceAnswer) -> (Verdict, Events)
     )
 }
 
-// The attempt has not come as far as the reply says.
+// The attempt has not come as far as the answer says.
 fn early() -> (Verdict, Events)
     ensures { result ≡ refused code.Early }
 {
@@ -177,7 +177,7 @@ fn decided() -> (Verdict, Events)
     refused(Code::Decided)
 }
 
-// The attempt has gone past what the reply says.
+// The attempt has gone past what the answer says.
 fn stale() -> (Verdict, Events)
     ensures { result ≡ refused code.Stale }
 {

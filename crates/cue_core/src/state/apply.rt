@@ -13,7 +13,7 @@ use cue_show::{CueNo, DeviceNo, Parts, Show};
 use std::alloc::AllocError;
 
 impl State {
-    /// Whether the event may happen in the state. For who reads events from outside.
+    /// Whether the event may happen in the state. For whoever reads events from outside.
     pub fn can_apply(&self, event: &Event) -> bool
         ensures { result ≡ acceptable self.now event.now }
     {

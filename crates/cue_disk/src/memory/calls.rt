@@ -24,7 +24,7 @@ use crate::plan::Fate;
 use std::alloc::AllocError;
 
 impl MemDisk {
-    // Counts a call, and tells what is planned for it.
+    // Counts a call, and says what is planned for it.
     fn begin(&mut self) -> Fate
         ensures fate { result ≡ fate_of (memory_plan self.old) 1 }
         ensures begun { IsBegun self.old self.new }

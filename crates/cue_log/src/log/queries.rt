@@ -1,4 +1,4 @@
-// What a log tells of itself. None of it makes a device call.
+// What a log says of itself. None of it makes a device call.
 use super::Log;
 use crate::area::{AREA_LIMIT, FRAME_LEN};
 use crate::group::RecordGroup;
@@ -11,7 +11,7 @@ impl<D: Disk> Log<D> {
     ghost use Rattle.cue_log.specs.Log.{ReadsAs};
     ghost use Rattle.cue_log.specs.Observed.{disk_of, generation_of, end_of, count_of, is_broken, area_of};
 
-    /// Whether the area's text would stay within `AREA_LIMIT` with this record.
+    /// Whether the area's encoding would stay within `AREA_LIMIT` with this record.
     pub fn has_room(&self, added: &Record) -> bool
         ensures { IsTrue result ↔ (end_of self.now + (FRAME_LEN + 1) + length added.now ≤ AREA_LIMIT) }
     {

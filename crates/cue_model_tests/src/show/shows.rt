@@ -148,7 +148,7 @@ fn a_place_at_a_removed_cue_goes_on(rt: HostRuntime) {
     );
 }
 
-// The place becomes the cue behind this one, or none.
+// The place becomes the cue after this one, or none.
 fn go_on(rt: &impl Abort, show: &mut Show, text: &[u8], expected: Option<CueNo>) {
     let next = show.following(cue(rt, text));
     show.set_place(next);
@@ -236,7 +236,7 @@ fn a_cue_has_parts_of_devices_of_the_table(rt: HostRuntime) {
     }
 }
 
-// Adds cue 3 once it has a required part behind its optional one, and not before.
+// Adds cue 3 once it has a required part after its optional one, and not before.
 fn add_cue_with_optional_part(rt: &impl Abort, alloc: Global, show: &mut Show) {
     let mut parts = Parts::new(alloc);
     push(rt, &mut parts, optional_part(rt, alloc, 4, &[7]));

@@ -73,7 +73,7 @@ pub fn packet<'a>(alloc: Global, bytes: &'a [u8], depth: u8) -> Result<Packet<'a
     bundle(alloc, bytes.split_at(8).1, depth - 1)
 }
 
-/// What stands behind a bundle's head, with bundles at most so deep inside.
+/// What stands after a bundle's head, with bundles at most so deep inside.
 #[cycle(nested)]
 #[inline(always)]
 fn bundle<'a>(alloc: Global, bytes: &'a [u8], depth: u8) -> Result<Packet<'a>, Fault>

@@ -1,4 +1,4 @@
-//! The atomic types, each written behind what stands already.
+//! The atomic types, each written after what stands already.
 
 ghost use Rattle.std.specs.Prelude.{◌≡◌, ◌<◌, ◌≤◌, ◌++◌, map, length, replicate, OnOk};
 ghost use Rattle.std.specs.List.{flat_map, AllByRecursion};

@@ -51,7 +51,7 @@ fn room_after_message(message: &Message<'_>, room: usize) -> Option<usize>
     room_after_args(args, left)
 }
 
-/// What is left of so many bytes behind the spelling of a packet, if it fits.
+/// What is left of so many bytes after the spelling of a packet, if it fits.
 #[cycle(room)]
 pub(crate) fn room_after(packet: &Packet<'_>, room: usize) -> Option<usize>
     ensures { result ≡ room_left room (length (text_of (view packet.now))) }

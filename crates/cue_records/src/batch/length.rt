@@ -7,7 +7,7 @@ use crate::fields::{cue_len, parts_len};
 use crate::parts_form::PartsForm;
 use cue_core::Event;
 
-/// How long the events are, one behind the other.
+/// How long the events are, one after the other.
 pub(crate) fn events_len(events: &[Event]) -> u64
     ensures { result ≡ min (length (flat_map event_text events.now)) u64.MAX }
 {

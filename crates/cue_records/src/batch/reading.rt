@@ -1,4 +1,4 @@
-//! Reading events one behind the other.
+//! Reading events one after the other.
 ghost use Rattle.std.specs.Prelude.{◌≡◌};
 ghost use Rattle.cue_records.specs.Reading.{Gives, list_at};
 ghost use Rattle.cue_records.specs.BatchReading.{kind_at, start_at, answer_at, cancel_at, mixed_cue_at, body_at};
@@ -67,7 +67,7 @@ impl<'a> Reader<'a> {
         Ok((cue, parts))
     }
 
-    // What stands behind a kind.
+    // What stands after a kind.
     #[tactic(auto, unfolding(crate::specs::BatchReading::body_at))]
     fn body(&mut self, alloc: Global, kind: Kind) -> Result<Event, ReadFault>
         ensures { Gives (λ x. (x, self.new.rest.now)) result (body_at kind self.old.rest.now) }

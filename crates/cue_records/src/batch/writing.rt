@@ -1,4 +1,4 @@
-//! Writing events, each behind what stands already.
+//! Writing events, each after what stands already.
 ghost use Rattle.std.specs.Prelude.{◌≡◌, ◌++◌, IsTrue, OnOk};
 ghost use Rattle.std.specs.List.{flat_map, list_all};
 ghost use Rattle.cue_records.specs.Batch.{is_event, event_text, body_text};
@@ -11,7 +11,7 @@ use cue_core::Event;
 use cue_show::CueNo;
 use std::alloc::AllocError;
 
-/// The events, one behind the other.
+/// The events, one after the other.
 pub(crate) fn put_events(out: &mut Vec<u8>, events: &[Event]) -> Result<(), AllocError>
     requires { IsTrue (list_all is_event events.now) }
     ensures { OnOk result (out.new.items ≡ out.old.items ++ flat_map event_text events.now) }
@@ -30,7 +30,7 @@ fn put_event(out: &mut Vec<u8>, event: &Event) -> Result<(), AllocError>
     put_body(out, event)
 }
 
-// What stands behind the number of an event's kind.
+// What stands after the number of an event's kind.
 fn put_body(out: &mut Vec<u8>, event: &Event) -> Result<(), AllocError>
     requires { IsTrue (is_event event.now) }
     ensures { OnOk result (out.new.items ≡ out.old.items ++ body_text event.now) }

@@ -1,4 +1,4 @@
-//! Reading fields one behind the other.
+//! Reading fields one after the other.
 ghost use Rattle.std.specs.Prelude.{◌≡◌, List, ℕ};
 ghost use Rattle.std.specs.Int.{w16, w32, w64};
 ghost use Rattle.cue_records.specs.Reading.{Gives, byte_at, bytes_at, number_at, text_at, device_at, port_at};

@@ -1,4 +1,4 @@
-//! Writing fields, each behind what stands already.
+//! Writing fields, each after what stands already.
 ghost use Rattle.std.specs.Prelude.{◌≡◌, ◌≤◌, ◌++◌, length, IsTrue, OnOk};
 ghost use Rattle.std.specs.List.{flat_map, list_all};
 ghost use Rattle.cue_show.specs.Parts.{is_part, are_parts};
@@ -75,7 +75,7 @@ fn put_part_list(out: &mut Vec<u8>, form: PartsForm, parts: &[Part]) -> Result<(
     Ok(())
 }
 
-// The parts of a cue, behind their count.
+// The parts of a cue, after their count.
 fn put_parts(out: &mut Vec<u8>, form: PartsForm, parts: &Parts) -> Result<(), AllocError>
     requires { IsTrue (are_parts parts.now) }
     ensures { OnOk result (out.new.items ≡ out.old.items ++ parts_text form parts.now) }

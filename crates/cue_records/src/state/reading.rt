@@ -1,4 +1,4 @@
-//! Reading the parts of a state one behind the other.
+//! Reading the parts of a state one after the other.
 ghost use Rattle.std.specs.Prelude.{◌≡◌};
 ghost use Rattle.cue_show.specs.Show.{is_place_of, with_place};
 ghost use Rattle.cue_exchange.specs.Steps.{are_below};
@@ -100,7 +100,7 @@ impl<'a> Reader<'a> {
         self.add_devices(show, count)
     }
 
-    // A count of cues, no more than a text with parts of this form has.
+    // A count of cues, no more than an encoding with parts of this form has.
     #[tactic(auto, unfolding(crate::specs::StateReading::cue_count_at))]
     fn cue_count(&mut self, form: PartsForm) -> Result<u16, ReadFault>
         ensures { Gives (λ x. (x, self.new.rest.now)) result (cue_count_at form self.old.rest.now) }
@@ -245,7 +245,7 @@ impl<'a> Reader<'a> {
         self.add_attempts(alloc, show, live, count)
     }
 
-    // What stands behind the show, to the end.
+    // What stands after the show, to the end.
     #[tactic(auto, unfolding(crate::specs::StateReading::tail_of))]
     fn tail(
         &mut self,
@@ -265,7 +265,7 @@ impl<'a> Reader<'a> {
     }
 }
 
-// The most cues of a text with parts of this form.
+// The most cues of an encoding with parts of this form.
 fn most_cues(form: PartsForm) -> usize
     ensures { result ≡ most_cues form }
 {
@@ -324,7 +324,7 @@ fn are_below(seq: u32, live: &[Attempt]) -> bool
     live.iter().all(|a| a.seq < seq)
 }
 
-/// The state that stands behind the number of the version, to the end.
+/// The state that stands after the number of the version, to the end.
 #[tactic(auto, unfolding(crate::specs::StateReading::standing_of))]
 pub(crate) fn standing_of(alloc: Global, form: PartsForm, bytes: &[u8]) -> Result<State, ReadFault>
     ensures { Gives (λ x. x) result (standing_of form bytes.now) }

@@ -1,4 +1,4 @@
-//! Writing the parts of a state, each behind what stands already.
+//! Writing the parts of a state, each after what stands already.
 ghost use Rattle.std.specs.Prelude.{◌≡◌, ◌≤◌, ◌++◌, length, OnOk};
 ghost use Rattle.std.specs.List.{flat_map};
 ghost use Rattle.cue_exchange.specs.declared.limits.TheConstants.{MAX_LIVE};
@@ -76,7 +76,7 @@ pub(crate) fn put_ended(out: &mut Vec<u8>, ended: Option<Ended>) -> Result<(), A
     }
 }
 
-/// The live attempts, behind their count.
+/// The live attempts, after their count.
 pub(crate) fn put_live(out: &mut Vec<u8>, live: &Live) -> Result<(), AllocError>
     ensures { OnOk result (out.new.items ≡ out.old.items ++ live_text live.now) }
 {

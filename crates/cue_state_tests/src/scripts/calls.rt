@@ -124,7 +124,7 @@ fn has(
     Ok(())
 }
 
-// How many events there are, whether there is none, and whether there is none behind them.
+// How many events there are, whether there is none, and whether there is none after them.
 fn count(events: &Events) -> (usize, bool, bool) {
     let len = events.len();
     (len, events.is_empty(), events.get(len).is_none())
@@ -138,7 +138,7 @@ fn to_go(event: Option<Event>) -> Option<u32> {
     }
 }
 
-// How many events are left each time, how they are told, and the number of the first of them.
+// How many events are left each time, how they are written, and the number of the first of them.
 const LEFT: [(usize, &str, Option<u32>); 3] = [
     (2, "made Go 1 Go 2", Some(1)),
     (1, "made Go 2", Some(2)),

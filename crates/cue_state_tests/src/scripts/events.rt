@@ -1,4 +1,4 @@
-//! The thirteen kinds of event: where each may happen, and what all of them leave.
+//! The kinds of event: where each may happen, and what all of them leave.
 
 use super::run_each;
 use std::test::Fail;

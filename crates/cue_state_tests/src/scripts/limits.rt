@@ -33,7 +33,7 @@ fn fill_the_stack(rt: &impl Abort, alloc: Global, state: &mut State) -> Result<(
     Ok(())
 }
 
-// A device that is not there, equal parts and other parts are told before there is no room.
+// A device that is not there, equal parts and other parts are reported before there is no room.
 const FULL_STACK: &str = "\
 add_cue 1025 3: = 7 Full
 add_cue 1025 4: = 9 UnknownDevice

@@ -21,7 +21,7 @@ remove_device 0 = 3 NoMethod
 state = devices 3:9001 111:65535 | cue 1 3: | place - | last 0 | ended -",
     // Cues are added once.
     // The same parts are known. Other bytes, another order, a part less, and other devices are not the same parts; a
-    // device that is not there is told first; other texts are other cues.
+    // device that is not there is reported first; other texts are other cues.
     "\
 add_device 3 9001 = made Device 3 9001
 add_device 4 9002 = made Device 4 9002

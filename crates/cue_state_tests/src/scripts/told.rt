@@ -82,7 +82,7 @@ fn push_event(text: &mut String, event: &Event) -> Result<(), AllocError> {
     }
 }
 
-// The name, and the number behind it.
+// The name, and the number after it.
 fn push_number(text: &mut String, name: &str, number: u64) -> Result<(), AllocError> {
     write!(text, "{name}{number}")
 }

@@ -93,7 +93,7 @@ fn texts_that_are_cut_or_go_on(rt: HostRuntime) -> Result<(), Fail> {
     Ok(())
 }
 
-// The fault is told in these words.
+// The fault is reported in these words.
 fn assert_told(
     rt: &impl Abort,
     alloc: Global,

@@ -157,13 +157,13 @@ const EVENTS: &str =
 const EXCUSING: &str =
     "0006 01032329 0104232a 0d0131020300020a0b040100 06000000010131 0000000000002af8 070000000103 0e0000000104";
 
-// The batch that the digits tell.
+// The batch that the digits stand for.
 fn batch_of(alloc: Global, digits: &str) -> Result<Batch, ReadFault> {
     let text = bytes(alloc, digits)?;
     read_batch(alloc, &text)
 }
 
-// Applies the events of the batch that the digits tell.
+// Applies the events of the batch that the digits stand for.
 fn apply_told(
     rt: &impl Abort,
     alloc: Global,

@@ -6,7 +6,7 @@ use cue_records::Batch;
 use cue_show::{CueNo, DeviceNo, Parts, Show};
 use std::alloc::{AllocError, Global};
 
-// The events, each behind a blank.
+// The events, each after a blank.
 pub(super) fn of_batch(alloc: Global, batch: &Batch) -> Result<String, AllocError> {
     let mut text = String::new(alloc);
     for event in batch.as_slice() {

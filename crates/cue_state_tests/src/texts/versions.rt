@@ -9,7 +9,7 @@ use std::alloc::{AllocError, Global};
 use std::process::Abort;
 use std::test::Fail;
 
-// The states of the first lines of the table, as version 1 tells them.
+// The states of the first lines of the table, as version 1 writes them.
 const OLD: &str = "\
 01 00 0000 00 00000000 0000000000 00
 01 01032329 0002 0131010300 0132010300 0131 00000000 0000000000 00
@@ -68,7 +68,7 @@ fn texts_of_no_state_in_their_version(rt: HostRuntime) -> Result<(), Fail> {
     Ok(())
 }
 
-// An area behind a turn-over: its head, a snapshot of 31 bytes, and one record.
+// An area after a turn-over: its head, a snapshot of 31 bytes, and one record.
 const AREA: &str =
     "01 0000000000000002 0000001f 02 01032329 0002 013101030000 013201030000 0131 00000000 0000000000 00 01 00000005 0001050132 00";
 

@@ -138,7 +138,7 @@ const MATCHED: [Row; 5] = [
     (b"/show/mixe\0\0,s\0\01\0\0\0", "refused 3"),
 ];
 
-// The type tags of so many parts behind those of the cue.
+// The type tags of so many parts after those of the cue.
 fn push_tags(bytes: &mut Vec<u8>, count: u8) -> Result<(), AllocError> {
     for _ in 0..count {
         bytes.extend_from_slice(b"iib")?;

@@ -1,4 +1,4 @@
-//! The commands to the devices that a batch of events asks anew.
+//! The orders to the devices that get new ones by a batch of events.
 use super::{SHOW, Step, Wanted, event, expect_all, run_both};
 use cue_core::{Event, State};
 use cue_exchange::Reason;
@@ -32,7 +32,7 @@ const ROWS: [(&[u32], &[Wanted]); 4] = [
     (&[0, 7], &[]),
 ];
 
-// A batch that asks 5, 9 and 12 anew, 12 twice.
+// A batch by which the devices of 5, 9 and 12 get new orders, those of 12 twice.
 const BATCH: &[Step] = &[
     Step::Cancel(9, Reason::Operator),
     Step::Place(b"2"),

@@ -1,4 +1,4 @@
-//! The commands that the devices are still to answer.
+//! The orders that the devices are still to answer.
 use super::{MIXED, SHOW, Step, Wanted, expect_pending, run_both};
 use cue_core::State;
 use cue_exchange::Reason;
@@ -109,7 +109,7 @@ const EXCUSED: [Row; 7] = [
         ],
         &[CANCEL_3],
     ),
-    // an optional device that was not excused is told as any other
+    // an optional device that was not excused is sent its order as any other
     (
         &[
             Step::Start(1, b"1"),
@@ -121,7 +121,7 @@ const EXCUSED: [Row; 7] = [
     ),
 ];
 
-// The steps, from the show on, and then the commands that are pending.
+// The steps, from the show on, and then the orders that are pending.
 fn run_to(
     rt: &impl Abort,
     alloc: Global,

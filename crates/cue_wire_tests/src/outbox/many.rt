@@ -1,4 +1,4 @@
-//! As many commands as attempts can have at once, save for what a table of 112 devices leaves over.
+//! As many orders as attempts can have at once, save for what a table of 112 devices leaves over.
 use super::{apply, cue, device, expect};
 use cue_core::{Event, State};
 use cue_exchange::Reason;
@@ -77,7 +77,7 @@ fn cancel(alloc: Global, seq: u16, number: u16) -> Result<String, AllocError> {
     format!(in alloc; "{CANCEL} {seq:08x} {number:08x}")
 }
 
-// The command to the device before its attempt is cancelled, and then.
+// The order to the device before its attempt is cancelled, and then.
 fn command(alloc: Global, number: u16, is_cancelled: bool) -> Result<String, AllocError> {
     let seq = number / 13 + 1;
     if is_cancelled {

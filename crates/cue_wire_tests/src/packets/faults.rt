@@ -50,7 +50,7 @@ const FAULTY: [Row; 28] = [
         "2362756e646c6500 0000000000000001 00000008 2f780000",
         "BadSize",
     ),
-    // behind the last argument
+    // after the last argument
     ("2f610000 2c000000 00000000", "Trailing"),
     ("2f610000 2c690000 00000001 00000002", "Trailing"),
     // the first message of a bundle is whole, the second is not
@@ -98,7 +98,7 @@ fn every_front_of_a_bundle(rt: HostRuntime) -> Result<(), Fail> {
     compare(&rt, rt.alloc(), &datagram, whole)
 }
 
-/// Bundles one in the other, the innermost behind the given number of others, and empty.
+/// Bundles one in the other: the innermost is empty, and stands in the given number of others.
 fn nested(alloc: Global, others: u32) -> Result<Vec<u8>, AllocError> {
     let head = bytes(alloc, "2362756e646c6500 0000000000000001")?;
     let mut datagram = Vec::new(alloc);

@@ -55,7 +55,7 @@ fn is_later(alloc: Global, tag: u64, now_ms: u64) -> bool {
 #[test]
 fn a_time_tag_is_later_than_now(rt: HostRuntime) {
     for (tag, now_ms, want) in [
-        // 1970, and the least part of a second behind it
+        // 1970, and the least part of a second after it
         (0x83aa_7e80_0000_0000, 0, false),
         (0x83aa_7e80_0000_0001, 0, true),
         // one second on, to the millisecond

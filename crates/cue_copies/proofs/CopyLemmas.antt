@@ -1,5 +1,6 @@
 -- What an answer over disks in memory says of the fault that it was made of.
-use Rattle.std.proofs.Common.{◌≡◌, ◌≤◌, ◌+◌, ◌-◌, ◌++◌, ◌∙◌, ℕ, List, length, take, drop, min, sym, refl, ap, subst, arith}
+use Rattle.std.proofs.Common.{◌≡◌, ◌≤◌, ◌+◌, ◌-◌, ◌++◌, ◌∙◌, ℕ, List, length, take, drop, min, sym, refl, ap, subst}
+use Rattle.std.proofs.Common.{arith}
 use Rattle.std.proofs.lemmas.List.{length-take, take-append-drop, take-take, drop-take, take_min}
 use Rattle.std.specs.Prelude.{Option, Some, None, IfSome, Err, IsErrOf}
 use Rattle.cue_keeper.specs.declared.fault.StoreFault.{StoreFault}
@@ -12,7 +13,8 @@ pub fault_of_same : {T E : Type 0} (one other : E) → IsErrOf {T = T} {E = E} (
 fault_of_same one other same = cc
 
 -- only another version is answered as such
-pub version_in_memory : (fault answer : StoreFault) → answer ≡ fault_in_memory fault → answer ≡ store.Version → fault ≡ store.Version
+pub version_in_memory : (fault answer : StoreFault) → answer ≡ fault_in_memory fault → answer ≡ store.Version
+    → fault ≡ store.Version
 version_in_memory store.NotEmpty answer is same = sym is ∙ same
 version_in_memory store.Unformed answer is same = sym is ∙ same
 version_in_memory store.Damaged answer is same = sym is ∙ same
@@ -26,7 +28,8 @@ version_in_memory store.Disk answer is same =
     cc
 
 -- only what stands for no state is answered as such
-pub malformed_in_memory : (fault answer : StoreFault) → answer ≡ fault_in_memory fault → answer ≡ store.Malformed → fault ≡ store.Malformed
+pub malformed_in_memory : (fault answer : StoreFault) → answer ≡ fault_in_memory fault → answer ≡ store.Malformed
+    → fault ≡ store.Malformed
 malformed_in_memory store.NotEmpty answer is same = sym is ∙ same
 malformed_in_memory store.Unformed answer is same = sym is ∙ same
 malformed_in_memory store.Damaged answer is same = sym is ∙ same
@@ -46,31 +49,38 @@ front_of bytes whole n is =
     is ∙ sym (take_min n whole) ∙ ap (λ (k : ℕ). take k whole) (sym long)
 
 -- a front of as many bytes as there are, up to a limit, is the front up to that limit
-pub front_whole : (bytes whole : List ℕ) (limit : ℕ) → IsFront bytes whole → length bytes ≡ min (length whole) limit → bytes ≡ take limit whole
+pub front_whole : (bytes whole : List ℕ) (limit : ℕ) → IsFront bytes whole → length bytes ≡ min (length whole) limit
+    → bytes ≡ take limit whole
 front_whole bytes whole limit front long =
     let other : length bytes ≡ min limit (length whole) = omega (arith, long) in
     front ∙ ap (λ (k : ℕ). take k whole) other ∙ take_min limit whole
 
 -- a front that is as long as it can be
-pub front_full : (bytes whole : List ℕ) (limit len : ℕ) → IsFront bytes whole → len ≡ min (length whole) limit → len ≤ length bytes → length bytes ≤ limit → bytes ≡ take limit whole
+pub front_full : (bytes whole : List ℕ) (limit len : ℕ) → IsFront bytes whole → len ≡ min (length whole) limit
+    → len ≤ length bytes → length bytes ≤ limit → bytes ≡ take limit whole
 front_full bytes whole limit len front is full short =
-    let within : length bytes ≡ min (length bytes) (length whole) = ap length front ∙ length-take (length bytes) whole in
+    let within : length bytes ≡ min (length bytes) (length whole) = ap length front
+        ∙ length-take (length bytes) whole in
     front_whole bytes whole limit front (omega (arith, is, within))
 
 take_both : (n more : ℕ) (bytes : List ℕ) → take (n + more) bytes ≡ take n bytes ++ take more (drop n bytes)
 take_both n more bytes =
-    sym (take-append-drop n (take (n + more) bytes)) ∙ (λ i. take-take n (n + more) bytes (omega arith) i ++ drop-take n more bytes i)
+    sym (take-append-drop n (take (n + more) bytes))
+        ∙ (λ i. take-take n (n + more) bytes (omega arith) i ++ drop-take n more bytes i)
 
 -- a front that was read on
-pub front_on : (bytes next whole : List ℕ) (limit len : ℕ) → IsFront bytes whole → length bytes ≤ len → len ≡ min (length whole) limit →
+pub front_on : (bytes next whole : List ℕ) (limit len : ℕ) → IsFront bytes whole → length bytes ≤ len
+    → len ≡ min (length whole) limit →
     next ≡ bytes ++ take (len - length bytes) (drop (length bytes) whole) → length next ≡ len → next ≡ take limit whole
 front_on bytes next whole limit len front longer is read long =
     let sum : length bytes + (len - length bytes) ≡ len = omega (arith, longer) in
     let more : next ≡ take len whole =
-    read ∙ ap (λ (l : List ℕ). l ++ take (len - length bytes) (drop (length bytes) whole)) front ∙ sym (take_both (length bytes) (len - length bytes) whole) ∙ ap (λ (n : ℕ). take n whole) sum in
+    read ∙ ap (λ (l : List ℕ). l ++ take (len - length bytes) (drop (length bytes) whole)) front
+        ∙ sym (take_both (length bytes) (len - length bytes) whole) ∙ ap (λ (n : ℕ). take n whole) sum in
     front_whole next whole limit (front_of next whole len more) (long ∙ is)
 
 -- what is said of the copies is said of those that were taken
-pub some_copies : (found : Option Copies) (copies : Copies) (F : Copies → Type 0) → IfSome found (λ taken. taken ≡ copies) → F copies → IfSome found F
+pub some_copies : (found : Option Copies) (copies : Copies) (F : Copies → Type 0)
+    → IfSome found (λ taken. taken ≡ copies) → F copies → IfSome found F
 some_copies None copies F same holds = tt
 some_copies (Some taken) copies F same holds = subst F (sym same) holds

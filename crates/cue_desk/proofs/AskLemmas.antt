@@ -1,5 +1,6 @@
 -- The method of what is asked reads from its arguments just that.
-use Rattle.std.proofs.Common.{◌≡◌, ◌∙◌, ℕ, ap, pos, Bool, true, false, ◌&&◌, List, [], ◌∷◌, length, nat_le, IsTrue, Some, refl}
+use Rattle.std.proofs.Common.{◌≡◌, ◌∙◌, ℕ, ap, pos, Bool, true, false, ◌&&◌, List, [], ◌∷◌, length, nat_le, IsTrue}
+use Rattle.std.proofs.Common.{Some, refl}
 use Rattle.std.specs.Prelude.{Result, Ok, Err, IfOk}
 use Rattle.std.specs.List.{list_all}
 use Rattle.std.proofs.lemmas.Bool.{and_parts}
@@ -41,7 +42,8 @@ parts-read (p ∷ ps) h =
 
 pub are_parts-each : (ps : List Part) → IsTrue (are_parts ps) → IsTrue (list_all is_part ps)
 are_parts-each ps h =
-    let some = and_parts (has_required_part ps) (nat_le (length ps) MAX_PARTS && (distinct (devices_in ps) && list_all is_part ps)) h in
+    let some = and_parts (has_required_part ps)
+        (nat_le (length ps) MAX_PARTS && (distinct (devices_in ps) && list_all is_part ps)) h in
     let few = and_parts (nat_le (length ps) MAX_PARTS) (distinct (devices_in ps) && list_all is_part ps) some.1 in
     (and_parts (distinct (devices_in ps)) (list_all is_part ps) few.1).1
 
@@ -59,11 +61,14 @@ asked-read (asked.Release device) h = refl
 asked-read (asked.RemoveDevice device) h = refl
 
 -- a message at that address with these arguments is the message that asks for it
-pub says : (a : Asked) (bytes address : List ℕ) (xs : List Argument) → address ≡ address_of (method_of a) → xs ≡ arguments_of a → datagram_at bytes ≡ Ok (message address xs) → datagram_at bytes ≡ Ok (message_of a)
-says a bytes address xs e f read = read ∙ (ap (λ x. Ok (message x xs)) e ∙ ap (λ ys. Ok (message (address_of (method_of a)) ys)) f)
+pub says : (a : Asked) (bytes address : List ℕ) (xs : List Argument) → address ≡ address_of (method_of a)
+    → xs ≡ arguments_of a → datagram_at bytes ≡ Ok (message address xs) → datagram_at bytes ≡ Ok (message_of a)
+says a bytes address xs e f read = read
+    ∙ (ap (λ x. Ok (message x xs)) e ∙ ap (λ ys. Ok (message (address_of (method_of a)) ys)) f)
 
 -- so it asks for it
-pub asks-for : (a : Asked) → IsTrue (is_askable a) → (bytes address : List ℕ) (xs : List Argument) → address ≡ address_of (method_of a) → xs ≡ arguments_of a
+pub asks-for : (a : Asked) → IsTrue (is_askable a) → (bytes address : List ℕ) (xs : List Argument)
+    → address ≡ address_of (method_of a) → xs ≡ arguments_of a
     → datagram_at bytes ≡ Ok (message address xs) → AsksFor bytes (command_of a)
 asks-for a h bytes address xs e f read = record {
   method = method_of a;

@@ -1,5 +1,6 @@
 -- Lines of the board begin with what they say, and a cue number is ASCII.
-use Rattle.std.proofs.Common.{◌≡◌, ◌∙◌, ℕ, ◌<◌, Bool, true, false, ◌&&◌, ◌==◌, if◌then◌else◌, List, [], ◌∷◌, length, map, nat_le, refl, subst, sym, arith}
+use Rattle.std.proofs.Common.{◌≡◌, ◌∙◌, ℕ, ◌<◌, Bool, true, false, ◌&&◌, ◌==◌, if◌then◌else◌, List, [], ◌∷◌, length}
+use Rattle.std.proofs.Common.{map, nat_le, refl, subst, sym, arith}
 use Rattle.std.specs.Prelude.{IsTrue, string_bytes}
 use Rattle.std.specs.Char.{is_ascii_digit}
 use Rattle.std.specs.List.{All, list_all}
@@ -49,5 +50,7 @@ cue-utf8 cue h =
 -- ---- lists of lines
 
 -- the lines begin with the fronts, where they say just these
-pub begins-all : (fronts texts : List (List ℕ)) (ls : List BoardLine) → map said_of ls ≡ fronts → texts ≡ map text_of ls → EachBegins fronts texts
-begins-all fronts texts ls e f = subst (λ fs. EachBegins fs texts) e (subst (λ ts. EachBegins (map said_of ls) ts) (sym f) (each-begins ls))
+pub begins-all : (fronts texts : List (List ℕ)) (ls : List BoardLine) → map said_of ls ≡ fronts → texts ≡ map text_of ls
+    → EachBegins fronts texts
+begins-all fronts texts ls e f =
+    subst (λ fs. EachBegins fs texts) e (subst (λ ts. EachBegins (map said_of ls) ts) (sym f) (each-begins ls))

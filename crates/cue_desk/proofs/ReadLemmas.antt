@@ -1,5 +1,7 @@
 -- A message of the desk is read as exactly the command that it asks for.
-use Rattle.std.proofs.Common.{◌≡◌, ◌∙◌, ℕ, ◌+◌, ◌%◌, ◌<◌, ◌≤◌, ◌^◌, ◌⊎◌, inl, inr, Bool, true, false, ◌&&◌, if◌then◌else◌, cond, List, [], ◌∷◌, ◌++◌, filter, length, IsTrue, Option, Some, None, is_some, refl, ap, subst, arith, nat_eq, nat_le}
+use Rattle.std.proofs.Common.{◌≡◌, ◌∙◌, ℕ, ◌+◌, ◌%◌, ◌<◌, ◌≤◌, ◌^◌, ◌⊎◌, inl, inr, Bool, true, false, ◌&&◌}
+use Rattle.std.proofs.Common.{if◌then◌else◌, cond, List, [], ◌∷◌, ◌++◌, filter, length, IsTrue, Option, Some, None}
+use Rattle.std.proofs.Common.{is_some, refl, ap, subst, arith, nat_eq, nat_le}
 use Rattle.std.specs.Prelude.{◌==◌, IfSome, Ok, codes}
 use Rattle.std.specs.Char.{is_ascii_digit}
 use Rattle.std.specs.Fmt.{decimal}
@@ -26,10 +28,11 @@ use Rattle.cue_operator.specs.declared.method.Method.{Method}
 use Rattle.cue_operator.specs.declared.method.Method.TheVariants as method
 use Rattle.cue_operator.specs.Arguments.{command_by}
 use Rattle.cue_operator.specs.Commands.{commands_of}
-use Rattle.cue_operator.specs.Methods.{address_of, cue_verb_text, fixed_methods, methods, methods_of_cue, methods_of_device}
-use Rattle.cue_operator.proofs.Finding.{one-method_at_each}
-use Rattle.cue_operator.proofs.Literals.{literal-matches-itself, literal-pattern}
-use Rattle.cue_operator.proofs.LookUps.{filter-same}
+use Rattle.cue_operator.specs.Methods.{address_of, cue_verb_text, fixed_methods, methods, methods_of_cue}
+use Rattle.cue_operator.specs.Methods.{methods_of_device}
+use Rattle.cue_operator.proofs.FindingLemmas.{one-method_at_each}
+use Rattle.cue_operator.proofs.LiteralLemmas.{literal-matches-itself, literal-pattern}
+use Rattle.cue_operator.proofs.LookUpLemmas.{filter-same}
 use Rattle.cue_desk.specs.declared.asking.Asked.{Asked}
 use Rattle.cue_desk.specs.declared.asking.Asked.TheVariants as asked
 use Rattle.cue_desk.specs.Asks.{arguments_of, command_of, is_askable, method_of}
@@ -57,7 +60,8 @@ some-left : (p : Method → Bool) (m : Method) (ms : List Method) → IsOf m ms 
 some-left p m [] h t = absurd h
 some-left p m (n ∷ ns) h t = at (p n) refl h (λ k. some-left p m ns k t)
   where
-    at : (b : Bool) → p n ≡ b → (m ≡ n) ⊎ IsOf m ns → (IsOf m ns → 1 ≤ length (filter p ns)) → 1 ≤ length (cond b (n ∷ filter p ns) (filter p ns))
+    at : (b : Bool) → p n ≡ b → (m ≡ n) ⊎ IsOf m ns → (IsOf m ns → 1 ≤ length (filter p ns))
+        → 1 ≤ length (cond b (n ∷ filter p ns) (filter p ns))
     at true e k more = omega arith
     at false e (inl same) more = let no : p n ≡ true = subst (λ x. p x ≡ true) same t in cc
     at false e (inr k) more = more k
@@ -67,11 +71,14 @@ nothing [] h = refl
 nothing (m ∷ ms) h = absurd (omega arith)
 
 -- where one at most passes the test, it is this one
-only-one : (p : Method → Bool) (m : Method) (ms : List Method) → IsOf m ms → p m ≡ true → length (filter p ms) ≤ 1 → filter p ms ≡ m ∷ []
+only-one : (p : Method → Bool) (m : Method) (ms : List Method) → IsOf m ms → p m ≡ true → length (filter p ms) ≤ 1
+    → filter p ms ≡ m ∷ []
 only-one p m [] h t few = absurd h
 only-one p m (n ∷ ns) h t few = at (p n) refl h few (λ k. only-one p m ns k t)
   where
-    at : (b : Bool) → p n ≡ b → (m ≡ n) ⊎ IsOf m ns → length (cond b (n ∷ filter p ns) (filter p ns)) ≤ 1 → (IsOf m ns → length (filter p ns) ≤ 1 → filter p ns ≡ m ∷ []) → cond b (n ∷ filter p ns) (filter p ns) ≡ m ∷ []
+    at : (b : Bool) → p n ≡ b → (m ≡ n) ⊎ IsOf m ns → length (cond b (n ∷ filter p ns) (filter p ns)) ≤ 1
+        → (IsOf m ns → length (filter p ns) ≤ 1 → filter p ns ≡ m ∷ [])
+        → cond b (n ∷ filter p ns) (filter p ns) ≡ m ∷ []
     at true e (inl same) few more = let none = nothing (filter p ns) (omega arith) in rw (none, same) refl
     at true e (inr k) few more = let some = some-left p m ns k t in absurd (omega arith)
     at false e (inl same) few more = let no : p n ≡ true = subst (λ x. p x ≡ true) same t in cc
@@ -86,41 +93,58 @@ cue-verb cue on_cue.Cancel = inr (inr (inl refl))
 cue-verb cue on_cue.Goto = inr (inr (inr (inl refl)))
 cue-verb cue on_cue.Remove = inr (inr (inr (inr (inl refl))))
 
-cue-method : (cue : List ℕ) (v : CueVerb) (es : Cues) → is_some (lookup (same_text cue) es) ≡ true → IsOf (method.OfCue cue v) (flat_map methods_of_cue (keys_of es))
+cue-method : (cue : List ℕ) (v : CueVerb) (es : Cues) → is_some (lookup (same_text cue) es) ≡ true
+    → IsOf (method.OfCue cue v) (flat_map methods_of_cue (keys_of es))
 cue-method cue v [] h = cc
 cue-method cue v (e ∷ es) h = at (same_text cue e.0) refl h (cue-method cue v es)
   where
-    at : (b : Bool) → same_text cue e.0 ≡ b → is_some (cond b (Some e.1) (lookup (same_text cue) es)) ≡ true → (is_some (lookup (same_text cue) es) ≡ true → IsOf (method.OfCue cue v) (flat_map methods_of_cue (keys_of es)))
+    at : (b : Bool) → same_text cue e.0 ≡ b → is_some (cond b (Some e.1) (lookup (same_text cue) es)) ≡ true
+        → (is_some (lookup (same_text cue) es) ≡ true
+        → IsOf (method.OfCue cue v) (flat_map methods_of_cue (keys_of es)))
         → IsOf (method.OfCue cue v) (methods_of_cue e.0 ++ flat_map methods_of_cue (keys_of es))
-    at true same k more = subst (λ (c : List ℕ). IsOf (method.OfCue cue v) (methods_of_cue c ++ flat_map methods_of_cue (keys_of es))) (same_text-true cue e.0 same) (of-front (method.OfCue cue v) (methods_of_cue cue) (flat_map methods_of_cue (keys_of es)) (cue-verb cue v))
-    at false other k more = of-back (method.OfCue cue v) (methods_of_cue e.0) (flat_map methods_of_cue (keys_of es)) (more k)
+    at true same k more = subst
+        (λ (c : List ℕ). IsOf (method.OfCue cue v) (methods_of_cue c ++ flat_map methods_of_cue (keys_of es)))
+        (same_text-true cue e.0 same)
+        (of-front (method.OfCue cue v) (methods_of_cue cue) (flat_map methods_of_cue (keys_of es)) (cue-verb cue v))
+    at false other k more = of-back (method.OfCue cue v) (methods_of_cue e.0) (flat_map methods_of_cue (keys_of es))
+        (more k)
 
-device-method : (m : ℕ → Method) → ((d : ℕ) → IsOf (m d) (methods_of_device d)) → (d : ℕ) (es : List (ℕ × ℕ)) → is_some (lookup (nat_eq d) es) ≡ true → IsOf (m d) (flat_map methods_of_device (keys_of es))
+device-method : (m : ℕ → Method) → ((d : ℕ) → IsOf (m d) (methods_of_device d)) → (d : ℕ) (es : List (ℕ × ℕ))
+    → is_some (lookup (nat_eq d) es) ≡ true → IsOf (m d) (flat_map methods_of_device (keys_of es))
 device-method m own d [] h = cc
 device-method m own d (e ∷ es) h = at (nat_eq d e.0) refl h (device-method m own d es)
   where
-    at : (b : Bool) → nat_eq d e.0 ≡ b → is_some (cond b (Some e.1) (lookup (nat_eq d) es)) ≡ true → (is_some (lookup (nat_eq d) es) ≡ true → IsOf (m d) (flat_map methods_of_device (keys_of es)))
+    at : (b : Bool) → nat_eq d e.0 ≡ b → is_some (cond b (Some e.1) (lookup (nat_eq d) es)) ≡ true
+        → (is_some (lookup (nat_eq d) es) ≡ true → IsOf (m d) (flat_map methods_of_device (keys_of es)))
         → IsOf (m d) (methods_of_device e.0 ++ flat_map methods_of_device (keys_of es))
-    at true same k more = subst (λ (n : ℕ). IsOf (m d) (methods_of_device n ++ flat_map methods_of_device (keys_of es))) (same_number d e.0 same) (of-front (m d) (methods_of_device d) (flat_map methods_of_device (keys_of es)) (own d))
+    at true same k more = subst (λ (n : ℕ). IsOf (m d) (methods_of_device n ++ flat_map methods_of_device (keys_of es)))
+        (same_number d e.0 same) (of-front (m d) (methods_of_device d) (flat_map methods_of_device (keys_of es))
+        (own d))
     at false other k more = of-back (m d) (methods_of_device e.0) (flat_map methods_of_device (keys_of es)) (more k)
 
 fixed-of : (s : ShowLists) (m : Method) → IsOf m fixed_methods → IsOf m (methods s)
 unfolding methods
-fixed-of s m h = of-front m fixed_methods (flat_map methods_of_cue (keys_of s.cues) ++ flat_map methods_of_device (keys_of s.devices)) h
+fixed-of s m h = of-front m fixed_methods (flat_map methods_of_cue (keys_of s.cues) ++ flat_map methods_of_device
+    (keys_of s.devices)) h
 
 cue-of : (s : ShowLists) (m : Method) → IsOf m (flat_map methods_of_cue (keys_of s.cues)) → IsOf m (methods s)
 unfolding methods
-cue-of s m h = of-back m fixed_methods (flat_map methods_of_cue (keys_of s.cues) ++ flat_map methods_of_device (keys_of s.devices)) (of-front m (flat_map methods_of_cue (keys_of s.cues)) (flat_map methods_of_device (keys_of s.devices)) h)
+cue-of s m h = of-back m fixed_methods (flat_map methods_of_cue (keys_of s.cues) ++ flat_map methods_of_device
+    (keys_of s.devices)) (of-front m (flat_map methods_of_cue (keys_of s.cues))
+    (flat_map methods_of_device (keys_of s.devices)) h)
 
 device-of : (s : ShowLists) (m : Method) → IsOf m (flat_map methods_of_device (keys_of s.devices)) → IsOf m (methods s)
 unfolding methods
-device-of s m h = of-back m fixed_methods (flat_map methods_of_cue (keys_of s.cues) ++ flat_map methods_of_device (keys_of s.devices)) (of-back m (flat_map methods_of_cue (keys_of s.cues)) (flat_map methods_of_device (keys_of s.devices)) h)
+device-of s m h = of-back m fixed_methods (flat_map methods_of_cue (keys_of s.cues) ++ flat_map methods_of_device
+    (keys_of s.devices)) (of-back m (flat_map methods_of_cue (keys_of s.cues))
+    (flat_map methods_of_device (keys_of s.devices)) h)
 
 -- ---- addresses without wildcards
 
 literal-append : (xs ys : List ℕ) → IsTrue (is_literal xs) → IsTrue (is_literal ys) → IsTrue (is_literal (xs ++ ys))
 literal-append [] ys h k = k
-literal-append (x ∷ xs) ys h k = let p = both (is_literal_byte x) (is_literal xs) h in join (is_literal_byte x) (is_literal (xs ++ ys)) p.0 (literal-append xs ys p.1 k)
+literal-append (x ∷ xs) ys h k = let p = both (is_literal_byte x) (is_literal xs) h in
+    join (is_literal_byte x) (is_literal (xs ++ ys)) p.0 (literal-append xs ys p.1 k)
 
 digit-literal : (b : ℕ) → is_ascii_digit b ≡ true → is_literal_byte b ≡ true
 digit-literal b h = grind (arith, nat_tests)
@@ -136,7 +160,8 @@ runs-literal a (b ∷ bs) h = by (is_ascii_digit b) refl h (runs-literal true bs
         → (if d then runs_from true bs else (b == 46 && (a && runs_from false bs))) ≡ true
         → (runs_from true bs ≡ true → IsTrue (is_literal bs)) → (runs_from false bs ≡ true → IsTrue (is_literal bs))
         → IsTrue (is_literal (b ∷ bs))
-    by true is_digit k then_true then_false = join (is_literal_byte b) (is_literal bs) (digit-literal b is_digit) (then_true k)
+    by true is_digit k then_true then_false = join (is_literal_byte b) (is_literal bs) (digit-literal b is_digit)
+        (then_true k)
     by false is_digit k then_true then_false =
         let p = both (b == 46) (a && runs_from false bs) k in
         join (is_literal_byte b) (is_literal bs) (point-literal b p.0) (then_false (both a (runs_from false bs) p.1).1)
@@ -151,26 +176,32 @@ small-literal n h = grind (arith, nat_tests)
 
 decimal-literal : (n : ℕ) → n < 2 ^ 64 → IsTrue (is_literal (decimal n))
 decimal-literal n h =
-    decimal_by_steps (λ m ds. IsTrue (is_literal ds)) (λ m small. join (is_literal_byte (48 + m)) true (small-literal m small) refl)
-    (λ m ds big k. literal-append ds ((48 + m % 10) ∷ []) k (join (is_literal_byte (48 + m % 10)) true (small-literal (m % 10) (omega arith)) refl)) n h
+    decimal_by_steps (λ m ds. IsTrue (is_literal ds))
+        (λ m small. join (is_literal_byte (48 + m)) true (small-literal m small) refl)
+    (λ m ds big k. literal-append ds ((48 + m % 10) ∷ []) k
+        (join (is_literal_byte (48 + m % 10)) true (small-literal (m % 10) (omega arith)) refl)) n h
 
 -- ---- one message
 
 -- a message at the address of a method of the show is what this method reads
-reads-one : (s : ShowLists) (m : Method) (xs : List Argument) → IsTrue (is_show s) → IsTrue (is_literal (address_of m)) → is_some (address_parts (address_of m)) ≡ true → IsOf m (methods s)
+reads-one : (s : ShowLists) (m : Method) (xs : List Argument) → IsTrue (is_show s) → IsTrue (is_literal (address_of m))
+    → is_some (address_parts (address_of m)) ≡ true → IsOf m (methods s)
     → commands_of s (address_of m) xs ≡ Ok (command_by xs m ∷ [])
 unfolding commands_of
 reads-one s m xs h l slash own =
     let a : List ℕ = address_of m in
     let p = literal-pattern a l slash in
-    let same = filter-same (λ x. matches p.0 (address_of x)) (λ x. same_text a (address_of x)) (λ x. literal-matches-itself a (address_of x) p.0 l p.1) (methods s) in
-    let one = only-one (λ x. same_text a (address_of x)) m (methods s) own (same_text-itself a) (one-method_at_each s a h) in
+    let same = filter-same (λ x. matches p.0 (address_of x)) (λ x. same_text a (address_of x))
+        (λ x. literal-matches-itself a (address_of x) p.0 l p.1) (methods s) in
+    let one = only-one (λ x. same_text a (address_of x)) m (methods s) own (same_text-itself a)
+        (one-method_at_each s a h) in
     rw (p.1, same, one) refl
 
 cue-number : (s : ShowLists) (cue : List ℕ) → IsTrue (is_show s) → IsTrue (has_cue s cue) → IsTrue (is_cue_number cue)
 cue-number s cue h there = at (parts_of s cue) there (is_cue_of-parts_of s cue h)
   where
-    at : (o : Option _) → IsTrue (is_some o) → IfSome o (λ parts. IsTrue (is_cue_of s (cue, parts))) → IsTrue (is_cue_number cue)
+    at : (o : Option _) → IsTrue (is_some o) → IfSome o (λ parts. IsTrue (is_cue_of s (cue, parts)))
+        → IsTrue (is_cue_number cue)
     at None k g = cc
     at (Some parts) k g = (both (is_cue_number cue) _ g).0
 
@@ -191,31 +222,44 @@ verb-literal on_cue.Cancel = refl
 verb-literal on_cue.Goto = refl
 verb-literal on_cue.Remove = refl
 
-under-literal : (front name verb : List ℕ) → IsTrue (is_literal front) → IsTrue (is_literal name) → IsTrue (is_literal (47 ∷ verb)) → IsTrue (is_literal (front ++ (name ++ 47 ∷ verb)))
+under-literal : (front name verb : List ℕ) → IsTrue (is_literal front) → IsTrue (is_literal name)
+    → IsTrue (is_literal (47 ∷ verb)) → IsTrue (is_literal (front ++ (name ++ 47 ∷ verb)))
 under-literal front name verb f n v = literal-append front (name ++ 47 ∷ verb) f (literal-append name (47 ∷ verb) n v)
 
 -- what is read is what the method makes of its own arguments
-as_asked : (s : ShowLists) (a : Asked) → IsTrue (is_askable a) → commands_of s (address_of (method_of a)) (arguments_of a) ≡ Ok (command_by (arguments_of a) (method_of a) ∷ []) → read_by s a ≡ Ok (command_of a ∷ [])
+as_asked : (s : ShowLists) (a : Asked) → IsTrue (is_askable a)
+    → commands_of s (address_of (method_of a)) (arguments_of a) ≡ Ok (command_by (arguments_of a) (method_of a) ∷ [])
+    → read_by s a ≡ Ok (command_of a ∷ [])
 as_asked s a k read = read ∙ ap (λ c. Ok (c ∷ [])) (asked-read a k)
 
 pub asked-is_read : AskedIsRead
-asked-is_read s asked.Status h k there = as_asked s asked.Status k (reads-one s method.Status [] h refl refl (fixed-of s method.Status (inl refl)))
+asked-is_read s asked.Status h k there =
+    as_asked s asked.Status k (reads-one s method.Status [] h refl refl (fixed-of s method.Status (inl refl)))
 asked-is_read s (asked.AddDevice device port) h k there =
     let a : Asked = asked.AddDevice device port in
-    as_asked s a k (reads-one s method.AddDevice (arguments_of a) h refl refl (fixed-of s method.AddDevice (inr (inl refl))))
+    as_asked s a k (reads-one s method.AddDevice (arguments_of a) h refl refl
+        (fixed-of s method.AddDevice (inr (inl refl))))
 asked-is_read s (asked.AddCue cue parts) h k there =
     let a : Asked = asked.AddCue cue parts in
-    as_asked s a k (reads-one s method.AddMixedCue (arguments_of a) h refl refl (fixed-of s method.AddMixedCue (inr (inr (inr (inl refl))))))
+    as_asked s a k (reads-one s method.AddMixedCue (arguments_of a) h refl refl
+        (fixed-of s method.AddMixedCue (inr (inr (inr (inl refl))))))
 asked-is_read s (asked.OfCue verb cue) h k there =
-    let literal = under-literal (codes "/cue/") cue (cue_verb_text verb) refl (cue-literal cue (cue-number s cue h there)) (verb-literal verb) in
-    as_asked s (asked.OfCue verb cue) k (reads-one s (method.OfCue cue verb) [] h literal refl (cue-of s (method.OfCue cue verb) (cue-method cue verb s.cues there)))
+    let literal = under-literal (codes "/cue/") cue (cue_verb_text verb) refl
+        (cue-literal cue (cue-number s cue h there)) (verb-literal verb) in
+    as_asked s (asked.OfCue verb cue) k
+        (reads-one s (method.OfCue cue verb) [] h literal refl
+        (cue-of s (method.OfCue cue verb) (cue-method cue verb s.cues there)))
 asked-is_read s (asked.Release device) h k there =
     let m : Method = method.OfDevice device on_device.Release in
-    let literal = under-literal (codes "/device/") (decimal device) (codes "release") refl (decimal-literal device (device-number s device h there)) refl in
-    let own = device-method (λ d. method.OfDevice d on_device.Release) (λ d. inr (inr (inr (inr (inl refl))))) device s.devices there in
+    let literal = under-literal (codes "/device/") (decimal device) (codes "release") refl
+        (decimal-literal device (device-number s device h there)) refl in
+    let own = device-method (λ d. method.OfDevice d on_device.Release) (λ d. inr (inr (inr (inr (inl refl))))) device
+        s.devices there in
     as_asked s (asked.Release device) k (reads-one s m [] h literal refl (device-of s m own))
 asked-is_read s (asked.RemoveDevice device) h k there =
     let m : Method = method.OfDevice device on_device.Remove in
-    let literal = under-literal (codes "/device/") (decimal device) (codes "remove") refl (decimal-literal device (device-number s device h there)) refl in
-    let own = device-method (λ d. method.OfDevice d on_device.Remove) (λ d. inr (inr (inr (inr (inr (inl refl)))))) device s.devices there in
+    let literal = under-literal (codes "/device/") (decimal device) (codes "remove") refl
+        (decimal-literal device (device-number s device h there)) refl in
+    let own = device-method (λ d. method.OfDevice d on_device.Remove) (λ d. inr (inr (inr (inr (inr (inl refl))))))
+        device s.devices there in
     as_asked s (asked.RemoveDevice device) k (reads-one s m [] h literal refl (device-of s m own))

@@ -1,5 +1,6 @@
 -- The table of a show says this very show.
-use Rattle.std.proofs.Common.{◌≡◌, ◌∙◌, ℕ, zero, suc, ◌<◌, Bool, true, false, ◌&&◌, List, [], ◌∷◌, map, codes, length, IsTrue, Option, Some, nat_le, refl, ap, arith}
+use Rattle.std.proofs.Common.{◌≡◌, ◌∙◌, ℕ, zero, suc, ◌<◌, Bool, true, false, ◌&&◌, List, [], ◌∷◌, map, codes, length}
+use Rattle.std.proofs.Common.{IsTrue, Option, Some, nat_le, refl, ap, arith}
 use Rattle.std.specs.Prelude.{Ok, option_and_then}
 use Rattle.std.specs.List.{list_all}
 use Rattle.std.specs.Map.{keys_of}
@@ -17,14 +18,16 @@ use Rattle.cue_show.specs.Number.{is_cue_number, same_text}
 use Rattle.cue_show.specs.Parts.{are_parts, is_part}
 use Rattle.cue_show.specs.Show.{Cues, ShowLists, are_known, is_cue_of, is_entry, is_show}
 use Rattle.cue_show.proofs.TestLemmas.{both}
-use Rattle.cue_operator.proofs.Finding.{stack_of, table_of}
+use Rattle.cue_operator.proofs.FindingLemmas.{stack_of, table_of}
 use Rattle.cue_desk.specs.Said.{ExportSaysTheShow, cue_said, device_said, each_said, file_said, list_or_none, part_said}
-use Rattle.cue_desk.specs.Written.{bare_cue, bare_device, cue_members, device_members, part_members, show_members, tables_of, with_tables}
+use Rattle.cue_desk.specs.Written.{bare_cue, bare_device, cue_members, device_members, part_members, show_members}
+use Rattle.cue_desk.specs.Written.{tables_of, with_tables}
 use Rattle.cue_desk.proofs.AskLemmas.{are_parts-each}
 use Rattle.cue_desk.proofs.DefinedLemmas.{export-is_read}
 
 -- each table says its own entry
-each-said : {A : Type 0} (said : Members → Option A) (members : A → Members) (ok : A → Bool) → ((x : A) → IsTrue (ok x) → said (members x) ≡ Some x) → (xs : List A) → IsTrue (list_all ok xs)
+each-said : {A : Type 0} (said : Members → Option A) (members : A → Members) (ok : A → Bool)
+    → ((x : A) → IsTrue (ok x) → said (members x) ≡ Some x) → (xs : List A) → IsTrue (list_all ok xs)
     → each_said said (tables_of (map members xs)) ≡ Some xs
 each-said said members ok each [] h = refl
 each-said said members ok each (x ∷ xs) h =
@@ -50,29 +53,37 @@ part-said p h =
     let bytes = (both (nat_le (length p.bytes) MAX_PART_BYTES) (are_bytes p.bytes) k.1).1 in
     at p.optional p.device p.bytes k.0 (decode_of-encode_lower p.bytes (bytes-small p.bytes bytes))
   where
-    at : (b : Bool) (d : ℕ) (bs : List ℕ) → is_device d ≡ true → decode_of (encode_lower bs) ≡ Ok bs → part_said (part_members (record { device = d; optional = b; bytes = bs })) ≡ Some (record { device = d; optional = b; bytes = bs })
+    at : (b : Bool) (d : ℕ) (bs : List ℕ) → is_device d ≡ true → decode_of (encode_lower bs) ≡ Ok bs
+        → part_said (part_members (record { device = d; optional = b; bytes = bs })) ≡ Some
+        (record { device = d; optional = b; bytes = bs })
     at true d bs fit back = rw (back, fit) refl
     at false d bs fit back = rw (back, fit) refl
 
-cue-said : (s : ShowLists) (c : List ℕ × List Part) → IsTrue (is_cue_of s c) → cue_said (cue_members (bare_cue c)) ≡ Some c
+cue-said : (s : ShowLists) (c : List ℕ × List Part) → IsTrue (is_cue_of s c)
+    → cue_said (cue_members (bare_cue c)) ≡ Some c
 cue-said s c h =
     let k = both (is_cue_number c.0) (are_parts c.1 && are_known s c.1) h in
     let parts = are_parts-each c.1 (both (are_parts c.1) (are_known s c.1) k.1).0 in
     rw (k.0, each-said part_said part_members is_part part-said c.1 parts) refl
 
-both-said : (ds : List (ℕ × ℕ)) (cs : Cues) (ms : Members) → list_or_none device_said (get_member (codes "device") ms) ≡ Some ds → list_or_none cue_said (get_member (codes "cue") ms) ≡ Some cs → file_said ms ≡ Some (ds, cs)
+both-said : (ds : List (ℕ × ℕ)) (cs : Cues) (ms : Members)
+    → list_or_none device_said (get_member (codes "device") ms) ≡ Some ds
+    → list_or_none cue_said (get_member (codes "cue") ms) ≡ Some cs → file_said ms ≡ Some (ds, cs)
 both-said ds cs ms e f = rw (e, f) refl
 
 -- the lists at their keys, where one of them may not be there
 devices-at : (ds : List (ℕ × ℕ)) (devices cues : List Members) → each_said device_said (tables_of devices) ≡ Some ds
-    → list_or_none device_said (get_member (codes "device") (with_tables (codes "cue") cues (with_tables (codes "device") devices no_members))) ≡ Some ds
+    → list_or_none device_said
+        (get_member (codes "device") (with_tables (codes "cue") cues (with_tables (codes "device") devices no_members)))
+        ≡ Some ds
 devices-at ds [] [] e = e
 devices-at ds (d ∷ devices) [] e = e
 devices-at ds [] (c ∷ cues) e = e
 devices-at ds (d ∷ devices) (c ∷ cues) e = e
 
 cues-at : (cs : Cues) (devices cues : List Members) → each_said cue_said (tables_of cues) ≡ Some cs
-    → list_or_none cue_said (get_member (codes "cue") (with_tables (codes "cue") cues (with_tables (codes "device") devices no_members))) ≡ Some cs
+    → list_or_none cue_said (get_member (codes "cue")
+        (with_tables (codes "cue") cues (with_tables (codes "device") devices no_members))) ≡ Some cs
 cues-at cs [] [] e = e
 cues-at cs (d ∷ devices) [] e = e
 cues-at cs [] (c ∷ cues) e = e
@@ -82,7 +93,8 @@ all-said : (ds : List (ℕ × ℕ)) (cs : Cues) (devices cues : List Members)
     → each_said device_said (tables_of devices) ≡ Some ds → each_said cue_said (tables_of cues) ≡ Some cs
     → file_said (with_tables (codes "cue") cues (with_tables (codes "device") devices no_members)) ≡ Some (ds, cs)
 all-said ds cs devices cues e f =
-    both-said ds cs (with_tables (codes "cue") cues (with_tables (codes "device") devices no_members)) (devices-at ds devices cues e) (cues-at cs devices cues f)
+    both-said ds cs (with_tables (codes "cue") cues (with_tables (codes "device") devices no_members))
+        (devices-at ds devices cues e) (cues-at cs devices cues f)
 
 bare-map : {A B C : Type 0} (f : B → C) (g : A → B) (xs : List A) → map f (map g xs) ≡ map (λ x. f (g x)) xs
 bare-map f g [] = refl
@@ -91,7 +103,8 @@ bare-map f g (x ∷ xs) = ap (λ ys. f (g x) ∷ ys) (bare-map f g xs)
 show-said : (s : ShowLists) → IsTrue (is_show s) → file_said (show_members s) ≡ Some (s.devices, s.cues)
 show-said s h =
     let table = both (distinct (keys_of s.devices)) (list_all is_entry s.devices) (both _ _ (table_of s h)).1 in
-    let stack = both (are_distinct same_text (keys_of s.cues)) (list_all (is_cue_of s) s.cues) (both _ _ (stack_of s h)).1 in
+    let stack = both (are_distinct same_text (keys_of s.cues)) (list_all (is_cue_of s) s.cues)
+        (both _ _ (stack_of s h)).1 in
     let devices = each-said device_said (λ d. device_members (bare_device d)) is_entry device-said s.devices table.1 in
     let cues = each-said cue_said (λ c. cue_members (bare_cue c)) (is_cue_of s) (cue-said s) s.cues stack.1 in
     all-said s.devices s.cues (map device_members (map bare_device s.devices)) (map cue_members (map bare_cue s.cues))

@@ -3,7 +3,9 @@ use Rattle.std.proofs.Common.{◌≡◌, ◌∙◌, ℕ, ◌+◌, ◌<◌, List,
 use Rattle.std.specs.List.{flat_map}
 use Rattle.std.proofs.lemmas.List.{drop_more}
 
-pub one-more : {A : Type 0} (text : A → List ℕ) (xs : List A) (i : ℕ) (x : A) (old new all : List ℕ) → i < length xs → x ≡ get_or xs i x → new ≡ old ++ text x → old ++ flat_map text (drop i xs) ≡ all → new ++ flat_map text (drop (i + 1) xs) ≡ all
+pub one-more : {A : Type 0} (text : A → List ℕ) (xs : List A) (i : ℕ) (x : A) (old new all : List ℕ) → i < length xs
+    → x ≡ get_or xs i x → new ≡ old ++ text x → old ++ flat_map text (drop i xs) ≡ all
+    → new ++ flat_map text (drop (i + 1) xs) ≡ all
 one-more text xs i x old new all within is grown before =
     let rest : List ℕ = flat_map text (drop (i + 1) xs) in
     ap (λ t. t ++ rest) grown

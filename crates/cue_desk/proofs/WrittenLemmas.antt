@@ -1,5 +1,7 @@
 -- The text of a show file is lines as TOML's own writer has them.
-use Rattle.std.proofs.Common.{◌≡◌, ℕ, ◌≤◌, max, pos, Bool, true, false, ◌&&◌, List, [], ◌∷◌, ◌++◌, length, map, codes, IsTrue, Option, Some, None, String, Global, string_bytes, nat_le, refl, ap, arith, append_assoc}
+use Rattle.std.proofs.Common.{◌≡◌, ℕ, ◌≤◌, max, pos, Bool, true, false, ◌&&◌, List, [], ◌∷◌, ◌++◌, length, map, codes}
+use Rattle.std.proofs.Common.{IsTrue, Option, Some, None, String, Global, string_bytes, nat_le, refl, ap, arith}
+use Rattle.std.proofs.Common.{append_assoc}
 use Rattle.std.specs.Prelude.{FitsSigned}
 use Rattle.std.specs.Int.{w64}
 use Rattle.std.specs.Fmt.{decimal}
@@ -7,7 +9,8 @@ use Rattle.std.specs.List.{flat_map, list_all}
 use Rattle.std.proofs.lemmas.Bool.Decides.{nat_tests}
 use Rattle.hex.specs.Hex.{encode_lower}
 use Rattle.toml_writer.specs.Text.{key_text, string_text}
-use Rattle.toml.specs.Data.{Data, integer, string, array, table, member, is_before, depth, items_depth, has_valid_dates, items_have_valid_dates}
+use Rattle.toml.specs.Data.{Data, integer, string, array, table, member, is_before, depth, items_depth, has_valid_dates}
+use Rattle.toml.specs.Data.{items_have_valid_dates}
 use Rattle.toml.specs.Tables.{Expression, key_value, array_table}
 use Rattle.toml.specs.Text.{IsItemsText, IsLinesText, IsMembersText, IsValueText, array_end}
 use Rattle.toml.proofs.Lines.{IsLinesText-append}
@@ -19,7 +22,9 @@ use Rattle.cue_show.proofs.TestLemmas.{both}
 use Rattle.cue_desk.specs.declared.show_file.CueEntry.{CueEntry}
 use Rattle.cue_desk.specs.declared.show_file.DeviceEntry.{DeviceEntry}
 use Rattle.cue_desk.specs.declared.show_file.ShowFile.{ShowFile}
-use Rattle.cue_desk.specs.Written.{cue_text, device_text, file_text, has_lines, has_numbers, is_port_number, optional_members, part_end, part_item, part_members, part_text, parts_line, parts_text, port_text, tables_of, text_line}
+use Rattle.cue_desk.specs.Written.{cue_text, device_text, file_text, has_lines, has_numbers, is_port_number}
+use Rattle.cue_desk.specs.Written.{optional_members, part_end, part_item, part_members, part_text, parts_line}
+use Rattle.cue_desk.specs.Written.{parts_text, port_text, tables_of, text_line}
 
 -- ---- the lines
 
@@ -35,7 +40,8 @@ text_lines k (Some t) = pair k (string (string_bytes t)) ∷ []
 
 abbrev pub device_lines : ℕ → ℕ → Option (String Global) → List Expression
 device_lines number port name =
-    list_header (codes "device") ∷ pair (codes "number") (integer (pos number)) ∷ pair (codes "port") (integer (pos port)) ∷ text_lines (codes "name") name
+    list_header (codes "device") ∷ pair (codes "number") (integer (pos number)) ∷ pair (codes "port")
+        (integer (pos port)) ∷ text_lines (codes "name") name
 
 abbrev pub parts_data : List Part → Data
 parts_data ps = array (tables_of (map part_members ps))
@@ -43,7 +49,8 @@ parts_data ps = array (tables_of (map part_members ps))
 abbrev pub cue_lines : List ℕ → Option (String Global) → Option (String Global) → List Part → List Expression
 cue_lines number name note parts =
     list_header (codes "cue") ∷ pair (codes "number") (string number)
-    ∷ (text_lines (codes "name") name ++ (text_lines (codes "note") note ++ pair (codes "parts") (parts_data parts) ∷ []))
+    ∷ (text_lines (codes "name") name ++ (text_lines (codes "note") note ++ pair (codes "parts") (parts_data parts) ∷
+        []))
 
 abbrev pub port_lines : Option ℕ → List Expression
 port_lines None = []
@@ -105,7 +112,8 @@ key-optional = refl
 abbrev pub AreLines : List Expression → List ℕ → Type 0
 AreLines es text = IsLinesText true true es text
 
-pair-line : (k v : List ℕ) (d : Data) → IsBareKey k → IsValueText true d v → AreLines (pair k d ∷ []) (k ++ (codes " = " ++ (v ++ codes "\n")))
+pair-line : (k v : List ℕ) (d : Data) → IsBareKey k → IsValueText true d v
+    → AreLines (pair k d ∷ []) (k ++ (codes " = " ++ (v ++ codes "\n")))
 pair-line k v d bare h =
     let line : List ℕ = k ++ (codes " = " ++ (v ++ codes "\n")) in
     (line, [], simp append_assoc refl, (v, rw bare refl, h), refl)
@@ -123,17 +131,20 @@ text-lines : (k : List ℕ) (o : Option (String Global)) → IsBareKey k → Are
 text-lines k None bare = refl
 text-lines k (Some t) bare = pair-line k (string_text (string_bytes t)) (string (string_bytes t)) bare refl
 
-each-lines : {A : Type 0} (lines : A → List Expression) (text : A → List ℕ) (ok : A → Bool) → ((x : A) → IsTrue (ok x) → AreLines (lines x) (text x)) → (xs : List A) → IsTrue (list_all ok xs)
+each-lines : {A : Type 0} (lines : A → List Expression) (text : A → List ℕ) (ok : A → Bool)
+    → ((x : A) → IsTrue (ok x) → AreLines (lines x) (text x)) → (xs : List A) → IsTrue (list_all ok xs)
     → AreLines (flat_map lines xs) (flat_map text xs)
 each-lines lines text ok each [] h = refl
 each-lines lines text ok each (x ∷ xs) h =
     let k = both (ok x) (list_all ok xs) h in
-    then-lines (lines x) (flat_map lines xs) (text x) (flat_map text xs) (each x k.0) (each-lines lines text ok each xs k.1)
+    then-lines (lines x) (flat_map lines xs) (text x) (flat_map text xs) (each x k.0)
+        (each-lines lines text ok each xs k.1)
 
 fits : (n : ℕ) → n ≤ MAX_PORT → FitsSigned w64 (pos n)
 fits n h = omega arith
 
-number-line : (k : List ℕ) (n : ℕ) → IsBareKey k → n ≤ MAX_PORT → AreLines (pair k (integer (pos n)) ∷ []) (k ++ (codes " = " ++ (decimal n ++ codes "\n")))
+number-line : (k : List ℕ) (n : ℕ) → IsBareKey k → n ≤ MAX_PORT
+    → AreLines (pair k (integer (pos n)) ∷ []) (k ++ (codes " = " ++ (decimal n ++ codes "\n")))
 number-line k n bare h = pair-line k (decimal n) (integer (pos n)) bare (refl, fits n h)
 
 -- ---- parts
@@ -145,8 +156,10 @@ optional-text false = refl
 part-text : (p : Part) → p.device ≤ MAX_PORT → IsValueText true (table (part_members p)) (part_text p)
 part-text p h =
     let hex : List ℕ = string_text (encode_lower p.bytes) ++ part_end p.optional in
-    let hex_text : IsMembersText true false (member (codes "hex") (string (encode_lower p.bytes)) (optional_members p.optional)) (codes ", hex = " ++ hex) =
-    (string_text (encode_lower p.bytes), part_end p.optional, rw key-hex refl, refl, optional-text p.optional, hex_before p.optional) in (
+    let hex_text : IsMembersText true false
+        (member (codes "hex") (string (encode_lower p.bytes)) (optional_members p.optional)) (codes ", hex = " ++ hex) =
+    (string_text (encode_lower p.bytes), part_end p.optional, rw key-hex refl, refl, optional-text p.optional,
+        hex_before p.optional) in (
       codes " device = " ++ (decimal p.device ++ (codes ", hex = " ++ hex)),
       refl,
       (decimal p.device, codes ", hex = " ++ hex, rw key-device refl, (refl, fits p.device h), hex_text, refl),
@@ -166,7 +179,8 @@ port-fits : (n : ℕ) → nat_le n MAX_PORT ≡ true → n ≤ MAX_PORT
 port-fits n h = grind (arith, nat_tests)
 
 -- two parts or more, a line each
-items-lines : (is_first : Bool) (ps : List Part) → IsTrue (parts_in_range ps) → IsItemsText true true is_first (tables_of (map part_members ps)) (flat_map (part_item true) ps ++ array_end true)
+items-lines : (is_first : Bool) (ps : List Part) → IsTrue (parts_in_range ps)
+    → IsItemsText true true is_first (tables_of (map part_members ps)) (flat_map (part_item true) ps ++ array_end true)
 items-lines is_first [] h = refl
 items-lines is_first (p ∷ ps) h =
     let k = both (is_device p.device) (parts_in_range ps) h in
@@ -177,7 +191,8 @@ parts-text : (ps : List Part) → IsTrue (parts_in_range ps) → IsValueText tru
 parts-text [] h = (codes "]", refl, refl)
 parts-text (p ∷ []) h =
     let k = both (is_device p.device) true h in
-    (part_text p ++ codes "]", simp append_assoc refl, (part_text p, codes "]", refl, part-text p (device-fits p.device k.0), refl))
+    (part_text p ++ codes "]", simp append_assoc refl, (part_text p, codes "]", refl, part-text p
+        (device-fits p.device k.0), refl))
 parts-text (p ∷ q ∷ ps) h =
     (flat_map (part_item true) (p ∷ q ∷ ps) ++ array_end true, more (length ps), items-lines true (p ∷ q ∷ ps) h)
   where
@@ -199,9 +214,13 @@ device-text e h =
     let number_text : List ℕ = codes "number = " ++ (decimal e.number ++ codes "\n") in
     let port_text : List ℕ = codes "port = " ++ (decimal e.port ++ codes "\n") in
     let name = text-lines (codes "name") e.name key-name in
-    let same : codes "\n[[device]]\n" ++ (number_text ++ (port_text ++ text_line (codes "name") e.name)) ≡ device_text e = simp append_assoc refl in
-    let all = then-lines (list_header (codes "device") ∷ []) (pair (codes "number") (integer (pos e.number)) ∷ pair (codes "port") (integer (pos e.port)) ∷ text_lines (codes "name") e.name) _ _ (header-line (codes "device") key-device)
-    (then-lines (pair (codes "number") (integer (pos e.number)) ∷ []) (pair (codes "port") (integer (pos e.port)) ∷ text_lines (codes "name") e.name) _ _ number
+    let same : codes "\n[[device]]\n" ++ (number_text ++ (port_text ++ text_line (codes "name") e.name)) ≡ device_text
+        e = simp append_assoc refl in
+    let all = then-lines (list_header (codes "device") ∷ [])
+        (pair (codes "number") (integer (pos e.number)) ∷ pair (codes "port") (integer (pos e.port)) ∷ text_lines
+        (codes "name") e.name) _ _ (header-line (codes "device") key-device)
+    (then-lines (pair (codes "number") (integer (pos e.number)) ∷ [])
+        (pair (codes "port") (integer (pos e.port)) ∷ text_lines (codes "name") e.name) _ _ number
     (then-lines (pair (codes "port") (integer (pos e.port)) ∷ []) (text_lines (codes "name") e.name) _ _ port name)) in
     rw same at all
 
@@ -213,10 +232,16 @@ cue-text e h =
     let name = text-lines (codes "name") e.name key-name in
     let note = text-lines (codes "note") e.note key-note in
     let after : List Expression = text_lines (codes "note") e.note ++ pair (codes "parts") (parts_data e.parts) ∷ [] in
-    let same : codes "\n[[cue]]\n" ++ (number_text ++ (text_line (codes "name") e.name ++ (text_line (codes "note") e.note ++ parts_line e.parts))) ≡ cue_text e = simp append_assoc refl in
-    let all = then-lines (list_header (codes "cue") ∷ []) (pair (codes "number") (string e.number) ∷ (text_lines (codes "name") e.name ++ after)) _ _ (header-line (codes "cue") key-cue)
+    let same : codes "\n[[cue]]\n"
+        ++ (number_text ++ (text_line (codes "name") e.name ++ (text_line (codes "note") e.note ++ parts_line e.parts)))
+        ≡ cue_text e = simp append_assoc refl in
+    let all = then-lines (list_header (codes "cue") ∷ [])
+        (pair (codes "number") (string e.number) ∷ (text_lines (codes "name") e.name ++ after)) _ _
+        (header-line (codes "cue") key-cue)
     (then-lines (pair (codes "number") (string e.number) ∷ []) (text_lines (codes "name") e.name ++ after) _ _ number
-    (then-lines (text_lines (codes "name") e.name) after _ _ name (then-lines (text_lines (codes "note") e.note) (pair (codes "parts") (parts_data e.parts) ∷ []) _ _ note parts))) in
+    (then-lines (text_lines (codes "name") e.name) after _ _ name
+        (then-lines (text_lines (codes "note") e.note) (pair (codes "parts") (parts_data e.parts) ∷ []) _ _ note
+        parts))) in
     rw same at all
 
 port-text : (o : Option ℕ) → IsTrue (is_port_number o) → AreLines (port_lines o) (port_text o)
@@ -225,9 +250,13 @@ port-text (Some port) h = number-line (codes "port") port key-port (port-fits po
 
 pub file-text : (f : ShowFile) → IsTrue (has_numbers f) → AreLines (file_lines f) (file_text f)
 file-text f h =
-    let k = both (is_port_number f.port) (list_all device_in_range f.devices.items && list_all (λ (e : CueEntry). parts_in_range e.parts) f.cues.items) h in
-    let m = both (list_all device_in_range f.devices.items) (list_all (λ (e : CueEntry). parts_in_range e.parts) f.cues.items) k.1 in
-    then-lines (port_lines f.port) (flat_map lines_of_device f.devices.items ++ flat_map lines_of_cue f.cues.items) (port_text f.port) _ (port-text f.port k.0)
+    let k = both (is_port_number f.port)
+        (list_all device_in_range f.devices.items && list_all (λ (e : CueEntry). parts_in_range e.parts) f.cues.items)
+        h in
+    let m = both (list_all device_in_range f.devices.items)
+        (list_all (λ (e : CueEntry). parts_in_range e.parts) f.cues.items) k.1 in
+    then-lines (port_lines f.port) (flat_map lines_of_device f.devices.items ++ flat_map lines_of_cue f.cues.items)
+        (port_text f.port) _ (port-text f.port k.0)
     (then-lines (flat_map lines_of_device f.devices.items) (flat_map lines_of_cue f.cues.items) _ _
     (each-lines lines_of_device device_text device_in_range device-text f.devices.items m.0)
     (each-lines lines_of_cue cue_text (λ (e : CueEntry). parts_in_range e.parts) cue-text f.cues.items m.1))
@@ -238,7 +267,10 @@ parts-depth : (ps : List Part) → items_depth (tables_of (map part_members ps))
 parts-depth [] = omega arith
 parts-depth (p ∷ ps) = let more = parts-depth ps in at p.optional more
   where
-    at : (b : Bool) → items_depth (tables_of (map part_members ps)) ≤ 1 → max (depth (table (member (codes "device") (integer (pos p.device)) (member (codes "hex") (string (encode_lower p.bytes)) (optional_members b))))) (items_depth (tables_of (map part_members ps))) ≤ 1
+    at : (b : Bool) → items_depth (tables_of (map part_members ps)) ≤ 1
+        → max (depth (table (member (codes "device") (integer (pos p.device))
+        (member (codes "hex") (string (encode_lower p.bytes)) (optional_members b)))))
+        (items_depth (tables_of (map part_members ps))) ≤ 1
     at true more = omega arith
     at false more = omega arith
 
@@ -247,7 +279,10 @@ parts-dates [] = refl
 parts-dates (p ∷ ps) = at p.optional (parts-dates ps)
   where
     at : (b : Bool) → items_have_valid_dates (tables_of (map part_members ps)) ≡ true
-        → (has_valid_dates (table (member (codes "device") (integer (pos p.device)) (member (codes "hex") (string (encode_lower p.bytes)) (optional_members b)))) && items_have_valid_dates (tables_of (map part_members ps))) ≡ true
+        → (has_valid_dates (table
+            (member (codes "device") (integer (pos p.device))
+            (member (codes "hex") (string (encode_lower p.bytes)) (optional_members b)))) && items_have_valid_dates
+            (tables_of (map part_members ps))) ≡ true
     at true more = more
     at false more = more
 
@@ -255,7 +290,8 @@ printed-append : (es fs : List Expression) → AllPrinted es → AllPrinted fs �
 printed-append [] fs a b = b
 printed-append (e ∷ es) fs a b = (a.0, printed-append es fs a.1 b)
 
-printed-each : {A : Type 0} (lines : A → List Expression) → ((x : A) → AllPrinted (lines x)) → (xs : List A) → AllPrinted (flat_map lines xs)
+printed-each : {A : Type 0} (lines : A → List Expression) → ((x : A) → AllPrinted (lines x)) → (xs : List A)
+    → AllPrinted (flat_map lines xs)
 printed-each lines each [] = tt
 printed-each lines each (x ∷ xs) = printed-append (lines x) (flat_map lines xs) (each x) (printed-each lines each xs)
 
@@ -264,13 +300,17 @@ printed-text k None = tt
 printed-text k (Some t) = ((refl, omega arith, refl), tt)
 
 printed-device : (e : DeviceEntry) → AllPrinted (lines_of_device e)
-printed-device e = (omega arith, ((refl, omega arith, refl), ((refl, omega arith, refl), printed-text (codes "name") e.name)))
+printed-device e = (omega arith,
+    ((refl, omega arith, refl), ((refl, omega arith, refl), printed-text (codes "name") e.name)))
 
 printed-cue : (e : CueEntry) → AllPrinted (lines_of_cue e)
 printed-cue e =
     let deep = parts-depth e.parts in
-    let parts : AllPrinted (pair (codes "parts") (parts_data e.parts) ∷ []) = ((refl, omega arith, parts-dates e.parts), tt) in
-    (omega arith, ((refl, omega arith, refl), printed-append (text_lines (codes "name") e.name) _ (printed-text (codes "name") e.name) (printed-append (text_lines (codes "note") e.note) _ (printed-text (codes "note") e.note) parts)))
+    let parts : AllPrinted (pair (codes "parts") (parts_data e.parts) ∷ []) =
+        ((refl, omega arith, parts-dates e.parts), tt) in
+    (omega arith, ((refl, omega arith, refl), printed-append (text_lines (codes "name") e.name) _
+        (printed-text (codes "name") e.name)
+        (printed-append (text_lines (codes "note") e.note) _ (printed-text (codes "note") e.note) parts)))
 
 printed-port : (o : Option ℕ) → AllPrinted (port_lines o)
 printed-port None = tt
@@ -279,4 +319,6 @@ printed-port (Some port) = ((refl, omega arith, refl), tt)
 pub printed-file : (f : ShowFile) → AllPrinted (file_lines f)
 printed-file f =
     printed-append (port_lines f.port) _ (printed-port f.port)
-    (printed-append (flat_map lines_of_device f.devices.items) _ (printed-each lines_of_device printed-device f.devices.items) (printed-each lines_of_cue printed-cue f.cues.items))
+    (printed-append (flat_map lines_of_device f.devices.items) _
+        (printed-each lines_of_device printed-device f.devices.items)
+        (printed-each lines_of_cue printed-cue f.cues.items))

@@ -56,7 +56,8 @@ pub record SaysNumber (d : ℕ) (rest : List ℕ) : Type 0 where
   pub number : IsNumber seq
   pub text : rest ≡ numbered seq d []
 
-pub says_standby : (d : ℕ) (datagram rest : List ℕ) (c : Command) → datagram ≡ STANDBY ++ rest → IsFor d datagram c → SaysStandby d rest
+pub says_standby : (d : ℕ) (datagram rest : List ℕ) (c : Command) → datagram ≡ STANDBY ++ rest → IsFor d datagram c
+    → SaysStandby d rest
 says_standby d datagram rest (Standby q t) e f = record {
   seq = q;
   task = t;
@@ -65,10 +66,13 @@ says_standby d datagram rest (Standby q t) e f = record {
   text = ap (λ (l : List ℕ). drop 24 l) (sym e ∙ f.text ∙ standby_is d q t);
 }
 says_standby d datagram rest (Go q) e f = absurd (no_standby_go rest (numbered q d []) (sym e ∙ f.text ∙ go_is d q))
-says_standby d datagram rest (Cancel q) e f = absurd (no_standby_cancel rest (numbered q d []) (sym e ∙ f.text ∙ cancel_is d q))
+says_standby d datagram rest (Cancel q) e f =
+    absurd (no_standby_cancel rest (numbered q d []) (sym e ∙ f.text ∙ cancel_is d q))
 
-pub says_go : (d : ℕ) (datagram rest : List ℕ) (c : Command) → datagram ≡ GO ++ rest → IsFor d datagram c → SaysNumber d rest
-says_go d datagram rest (Standby q t) e f = absurd (no_standby_go (numbered q d (task_text t)) rest (sym (standby_is d q t) ∙ sym f.text ∙ e))
+pub says_go : (d : ℕ) (datagram rest : List ℕ) (c : Command) → datagram ≡ GO ++ rest → IsFor d datagram c
+    → SaysNumber d rest
+says_go d datagram rest (Standby q t) e f =
+    absurd (no_standby_go (numbered q d (task_text t)) rest (sym (standby_is d q t) ∙ sym f.text ∙ e))
 says_go d datagram rest (Go q) e f = record {
   seq = q;
   number = f.is_command.numbered;
@@ -76,8 +80,10 @@ says_go d datagram rest (Go q) e f = record {
 }
 says_go d datagram rest (Cancel q) e f = absurd (no_go_cancel rest (numbered q d []) (sym e ∙ f.text ∙ cancel_is d q))
 
-pub says_cancel : (d : ℕ) (datagram rest : List ℕ) (c : Command) → datagram ≡ CANCEL ++ rest → IsFor d datagram c → SaysNumber d rest
-says_cancel d datagram rest (Standby q t) e f = absurd (no_standby_cancel (numbered q d (task_text t)) rest (sym (standby_is d q t) ∙ sym f.text ∙ e))
+pub says_cancel : (d : ℕ) (datagram rest : List ℕ) (c : Command) → datagram ≡ CANCEL ++ rest → IsFor d datagram c
+    → SaysNumber d rest
+says_cancel d datagram rest (Standby q t) e f =
+    absurd (no_standby_cancel (numbered q d (task_text t)) rest (sym (standby_is d q t) ∙ sym f.text ∙ e))
 says_cancel d datagram rest (Go q) e f = absurd (no_go_cancel (numbered q d []) rest (sym (go_is d q) ∙ sym f.text ∙ e))
 says_cancel d datagram rest (Cancel q) e f = record {
   seq = q;
@@ -86,7 +92,8 @@ says_cancel d datagram rest (Cancel q) e f = record {
 }
 
 -- a datagram that begins with none of the heads is no command
-pub says_nothing : (d : ℕ) (datagram : List ℕ) (c : Command) → ((rest : List ℕ) → datagram ≢ STANDBY ++ rest) → ((rest : List ℕ) → datagram ≢ GO ++ rest) → ((rest : List ℕ) → datagram ≢ CANCEL ++ rest) → IsFor d datagram c → ⊥
+pub says_nothing : (d : ℕ) (datagram : List ℕ) (c : Command) → ((rest : List ℕ) → datagram ≢ STANDBY ++ rest)
+    → ((rest : List ℕ) → datagram ≢ GO ++ rest) → ((rest : List ℕ) → datagram ≢ CANCEL ++ rest) → IsFor d datagram c → ⊥
 says_nothing d datagram (Standby q t) s g c f = s (numbered q d (task_text t)) (f.text ∙ standby_is d q t)
 says_nothing d datagram (Go q) s g c f = g (numbered q d []) (f.text ∙ go_is d q)
 says_nothing d datagram (Cancel q) s g c f = c (numbered q d []) (f.text ∙ cancel_is d q)
@@ -97,19 +104,22 @@ same_behind bytes x y p q d a b = ap (λ (l : List ℕ). drop 8 l) (sym a ∙ b)
 
 -- ---- what was found is a command
 
-pub found_standby : (d q : ℕ) (t : Task) (datagram rest behind : List ℕ) → datagram ≡ STANDBY ++ rest → rest ≡ numbered q d behind → behind ≡ task_text t → IsNumber q → IsTask t → IsFor d datagram (Standby q t)
+pub found_standby : (d q : ℕ) (t : Task) (datagram rest behind : List ℕ) → datagram ≡ STANDBY ++ rest
+    → rest ≡ numbered q d behind → behind ≡ task_text t → IsNumber q → IsTask t → IsFor d datagram (Standby q t)
 found_standby d q t datagram rest behind a b e number is_task = record {
   is_command = record { numbered = number; tasked = is_task };
   text = a ∙ ap (λ (x : List ℕ). STANDBY ++ x) (b ∙ ap (numbered q d) e) ∙ sym (standby_is d q t);
 }
 
-pub found_go : (d q : ℕ) (datagram rest : List ℕ) → datagram ≡ GO ++ rest → rest ≡ numbered q d [] → IsNumber q → IsFor d datagram (Go q)
+pub found_go : (d q : ℕ) (datagram rest : List ℕ) → datagram ≡ GO ++ rest → rest ≡ numbered q d [] → IsNumber q
+    → IsFor d datagram (Go q)
 found_go d q datagram rest a b number = record {
   is_command = record { numbered = number; tasked = tt };
   text = a ∙ ap (λ (x : List ℕ). GO ++ x) b ∙ sym (go_is d q);
 }
 
-pub found_cancel : (d q : ℕ) (datagram rest : List ℕ) → datagram ≡ CANCEL ++ rest → rest ≡ numbered q d [] → IsNumber q → IsFor d datagram (Cancel q)
+pub found_cancel : (d q : ℕ) (datagram rest : List ℕ) → datagram ≡ CANCEL ++ rest → rest ≡ numbered q d [] → IsNumber q
+    → IsFor d datagram (Cancel q)
 found_cancel d q datagram rest a b number = record {
   is_command = record { numbered = number; tasked = tt };
   text = a ∙ ap (λ (x : List ℕ). CANCEL ++ x) b ∙ sym (cancel_is d q);

@@ -1,5 +1,6 @@
 -- What is kept over all that happens to a device, and what each order rests on.
-use Rattle.std.proofs.Common.{◌≡◌, ℕ, ◌<◌, ◌≤◌, Bool, true, false, cond, eqb, ltb, List, [], ◌∷◌, Option, Some, None, refl, sym, ap, subst, ◌∙◌, arith, is_none}
+use Rattle.std.proofs.Common.{◌≡◌, ℕ, ◌<◌, ◌≤◌, Bool, true, false, cond, eqb, ltb, List, [], ◌∷◌, Option, Some, None}
+use Rattle.std.proofs.Common.{refl, sym, ap, subst, ◌∙◌, arith, is_none}
 use Rattle.std.specs.List.{AllByRecursion}
 use Rattle.std.proofs.lemmas.Bool.{eqb-true, ltb-true, eq-eqb}
 use Rattle.std.proofs.lemmas.Bool.Decides.{nat_tests}
@@ -21,9 +22,12 @@ use Rattle.cue_device.specs.declared.words.Order.{Order}
 use Rattle.cue_device.specs.declared.words.Order.TheVariants.{Prepare, Move, GiveUp}
 use Rattle.cue_device.specs.declared.words.Answer.{Answer}
 use Rattle.cue_device.specs.declared.words.Answer.TheVariants.{StandingBy, Complete, Cancelled, Abort}
-use Rattle.cue_device.specs.Hearing.{after_at, answer_at, again, begun, doing_after, ends, freed, heard_at, is_for, left_after, noted, ordered_for, place, place_known, rested, said, seq_of, taken, task_of, told_at, told_in, told_of}
+use Rattle.cue_device.specs.Hearing.{after_at, answer_at, again, begun, doing_after, ends, freed, heard_at, is_for}
+use Rattle.cue_device.specs.Hearing.{left_after, noted, ordered_for, place, place_known, rested, said, seq_of, taken}
+use Rattle.cue_device.specs.Hearing.{task_of, told_at, told_in, told_of}
 use Rattle.cue_device.specs.Table.{answer_over, anew, new_standby, other_standby, same_cancel, same_go, same_standby}
-use Rattle.cue_device.specs.Histories.{Happening, hears, tells, repeats, hears_reply, restarts, KeepsNumbers, answer_to, answers_of, device_after, latest, order_at, orders_of, unfinished}
+use Rattle.cue_device.specs.Histories.{Happening, hears, tells, repeats, hears_reply, restarts, KeepsNumbers, answer_to}
+use Rattle.cue_device.specs.Histories.{answers_of, device_after, latest, order_at, orders_of, unfinished}
 use Rattle.cue_device.specs.Laws.{has_given_up, has_moved, has_stood_by, is_give_up, is_move}
 
 -- ---- numbers of orders
@@ -114,7 +118,8 @@ pub record Goes (os : List Order) (xs : List Answer) (u : Option Order) (new : D
 
 -- ---- answers and tellings keep what is known
 
-more_answers : (p : Phase) (q : ℕ) (os : List Order) (x : Answer) (xs : List Answer) (u : Option Order) → StandsIn p q os xs u → StandsIn p q os (x ∷ xs) u
+more_answers : (p : Phase) (q : ℕ) (os : List Order) (x : Answer) (xs : List Answer) (u : Option Order)
+    → StandsIn p q os xs u → StandsIn p q os (x ∷ xs) u
 more_answers Preparing q os x xs u s = s
 more_answers Ready q os x xs u s = (s.0, rw s.1 (or-true _), s.2)
 more_answers Moving q os x xs u s = s
@@ -123,13 +128,16 @@ more_answers LettingGo q os x xs u s = s
 more_answers LetGo q os x xs u s = s
 more_answers Failed q os x xs u s = s
 
-answered_more : (a : Option Attempt) (q : ℕ) (os : List Order) (x : Option Answer) (xs : List Answer) (u : Option Order) → Stands a q os xs u → Stands a q os (latest x xs) u
+answered_more : (a : Option Attempt) (q : ℕ) (os : List Order) (x : Option Answer) (xs : List Answer) (u : Option Order)
+    → Stands a q os xs u → Stands a q os (latest x xs) u
 answered_more None q os x xs u s = tt
 answered_more (Some a) q os None xs u s = s
 answered_more (Some a) q os (Some x) xs u s = more_answers a.phase q os x xs u s
 
-pub answers_more : (d : Device) (os : List Order) (x : Option Answer) (xs : List Answer) (u : Option Order) → Fits d os xs u → Fits d os (latest x xs) u
-answers_more d os x xs u f = record { bounded = f.bounded; doing = f.doing; stands = answered_more d.attempt d.last os x xs u f.stands }
+pub answers_more : (d : Device) (os : List Order) (x : Option Answer) (xs : List Answer) (u : Option Order)
+    → Fits d os xs u → Fits d os (latest x xs) u
+answers_more d os x xs u f =
+    record { bounded = f.bounded; doing = f.doing; stands = answered_more d.attempt d.last os x xs u f.stands }
 
 chosen_prepares : (q : ℕ) (b : Bool) (o : Order) → o ≡ Prepare q → OnlyPrepares q (cond b None (Some o))
 chosen_prepares q true o h = tt
@@ -139,7 +147,8 @@ left_prepares : (t : Told) (q : ℕ) (u : Option Order) → OnlyPrepares q u →
 left_prepares t q None h = tt
 left_prepares t q (Some o) h = chosen_prepares q (ends o t) o h
 
-less_to_do : (t : Told) (p : Phase) (q : ℕ) (os : List Order) (xs : List Answer) (u : Option Order) → StandsIn p q os xs u → StandsIn p q os xs (left_after t u)
+less_to_do : (t : Told) (p : Phase) (q : ℕ) (os : List Order) (xs : List Answer) (u : Option Order)
+    → StandsIn p q os xs u → StandsIn p q os xs (left_after t u)
 less_to_do t Preparing q os xs u s = (s.0, left_prepares t q u s.1)
 less_to_do t Ready q os xs u s = (s.0, s.1, ap (left_after t) s.2)
 less_to_do t Moving q os xs u s = s
@@ -148,12 +157,16 @@ less_to_do t LettingGo q os xs u s = s
 less_to_do t LetGo q os xs u s = s
 less_to_do t Failed q os xs u s = s
 
-left_to_do : (t : Told) (a : Option Attempt) (q : ℕ) (os : List Order) (xs : List Answer) (u : Option Order) → Stands a q os xs u → Stands a q os xs (left_after t u)
+left_to_do : (t : Told) (a : Option Attempt) (q : ℕ) (os : List Order) (xs : List Answer) (u : Option Order)
+    → Stands a q os xs u → Stands a q os xs (left_after t u)
 left_to_do t None q os xs u s = tt
 left_to_do t (Some a) q os xs u s = less_to_do t a.phase q os xs u s
 
-freed_fits : (t : Told) (d : Device) (os : List Order) (xs : List Answer) (u : Option Order) → Fits d os xs u → Fits (freed t d) os xs (left_after t u)
-freed_fits t d os xs u f = record { bounded = f.bounded; doing = ap (left_after t) f.doing; stands = left_to_do t d.attempt d.last os xs u f.stands }
+freed_fits : (t : Told) (d : Device) (os : List Order) (xs : List Answer) (u : Option Order) → Fits d os xs u
+    → Fits (freed t d) os xs (left_after t u)
+freed_fits t d os xs u f =
+    record { bounded = f.bounded; doing = ap (left_after t) f.doing; stands =
+    left_to_do t d.attempt d.last os xs u f.stands }
 
 -- ---- one turn
 
@@ -162,14 +175,18 @@ abbrev Turns : Device → Option Task → List Order → List Answer → Option 
 Turns d task os xs u t = Goes os xs u (taken task t d) (said t)
 
 -- without an order
-keeps : (d : Device) (task : Option Task) (os : List Order) (xs : List Answer) (u : Option Order) (p : Phase) (x : Option Answer) → UpTo d.last os → d.doing ≡ u → StandsIn p d.last os (latest x xs) u
+keeps : (d : Device) (task : Option Task) (os : List Order) (xs : List Answer) (u : Option Order) (p : Phase)
+    (x : Option Answer) → UpTo d.last os → d.doing ≡ u → StandsIn p d.last os (latest x xs) u
     → Turns d task os xs u (record { phase = p; order = None; answer = x })
 keeps d task os xs u p x b e s = record { lawful = tt; fits = record { bounded = b; doing = e; stands = s } }
 
 -- with an order
-orders : (d : Device) (task : Option Task) (os : List Order) (xs : List Answer) (u : Option Order) (p : Phase) (o : Order) (x : Option Answer) → UpTo d.last os → ordered_for o ≤ d.last → Lawful o os xs u → StandsIn p d.last (o ∷ os) (latest x xs) (Some o)
+orders : (d : Device) (task : Option Task) (os : List Order) (xs : List Answer) (u : Option Order) (p : Phase)
+    (o : Order) (x : Option Answer) → UpTo d.last os → ordered_for o ≤ d.last → Lawful o os xs u
+    → StandsIn p d.last (o ∷ os) (latest x xs) (Some o)
     → Turns d task os xs u (record { phase = p; order = Some o; answer = x })
-orders d task os xs u p o x b le l s = record { lawful = l; fits = record { bounded = (le, b); doing = refl; stands = s } }
+orders d task os xs u p o x b le l s =
+    record { lawful = l; fits = record { bounded = (le, b); doing = refl; stands = s } }
 
 le_itself : (n : ℕ) → n ≤ n
 le_itself n = omega arith
@@ -177,64 +194,91 @@ le_itself n = omega arith
 free_prepares : (q : ℕ) (u : Option Order) → u ≡ None → OnlyPrepares q u
 free_prepares q u e = subst (OnlyPrepares q) (sym e) tt
 
-same_standby-goes : (d : Device) (task : Option Task) (os : List Order) (xs : List Answer) (u : Option Order) (p : Phase) → UpTo d.last os → d.doing ≡ u → StandsIn p d.last os xs u → Turns d task os xs u (same_standby d.last p)
+same_standby-goes : (d : Device) (task : Option Task) (os : List Order) (xs : List Answer) (u : Option Order)
+    (p : Phase) → UpTo d.last os → d.doing ≡ u → StandsIn p d.last os xs u
+    → Turns d task os xs u (same_standby d.last p)
 same_standby-goes d task os xs u Preparing b e s = keeps d task os xs u Preparing None b e s
-same_standby-goes d task os xs u Ready b e s = keeps d task os xs u Ready (Some (StandingBy d.last)) b e (more_answers Ready d.last os (StandingBy d.last) xs u s)
+same_standby-goes d task os xs u Ready b e s =
+    keeps d task os xs u Ready (Some (StandingBy d.last)) b e (more_answers Ready d.last os (StandingBy d.last) xs u s)
 same_standby-goes d task os xs u Moving b e s = keeps d task os xs u Moving None b e s
 same_standby-goes d task os xs u Done b e s = keeps d task os xs u Done (Some (Abort d.last)) b e s
 same_standby-goes d task os xs u LettingGo b e s = keeps d task os xs u LettingGo None b e s
 same_standby-goes d task os xs u LetGo b e s = keeps d task os xs u LetGo (Some (Abort d.last)) b e s
 same_standby-goes d task os xs u Failed b e s = keeps d task os xs u Failed (Some (Abort d.last)) b e tt
 
-other_standby-goes : (d : Device) (task : Option Task) (os : List Order) (xs : List Answer) (u : Option Order) (p : Phase) → UpTo d.last os → d.doing ≡ u → StandsIn p d.last os xs u → Turns d task os xs u (other_standby d.last p)
-other_standby-goes d task os xs u Preparing b e s = orders d task os xs u Failed (GiveUp d.last) (Some (Abort d.last)) b (le_itself d.last) (s.0.0, s.1, b) tt
-other_standby-goes d task os xs u Ready b e s = orders d task os xs u Failed (GiveUp d.last) (Some (Abort d.last)) b (le_itself d.last) (s.0.0, free_prepares d.last u s.2, b) tt
+other_standby-goes : (d : Device) (task : Option Task) (os : List Order) (xs : List Answer) (u : Option Order)
+    (p : Phase) → UpTo d.last os → d.doing ≡ u → StandsIn p d.last os xs u
+    → Turns d task os xs u (other_standby d.last p)
+other_standby-goes d task os xs u Preparing b e s = orders d task os xs u Failed (GiveUp d.last) (Some (Abort d.last)) b
+    (le_itself d.last) (s.0.0, s.1, b) tt
+other_standby-goes d task os xs u Ready b e s = orders d task os xs u Failed (GiveUp d.last) (Some (Abort d.last)) b
+    (le_itself d.last) (s.0.0, free_prepares d.last u s.2, b) tt
 other_standby-goes d task os xs u Moving b e s = keeps d task os xs u Failed (Some (Abort d.last)) b e tt
 other_standby-goes d task os xs u Done b e s = keeps d task os xs u Failed (Some (Abort d.last)) b e tt
 other_standby-goes d task os xs u LettingGo b e s = keeps d task os xs u Failed (Some (Abort d.last)) b e tt
 other_standby-goes d task os xs u LetGo b e s = keeps d task os xs u Failed (Some (Abort d.last)) b e tt
 other_standby-goes d task os xs u Failed b e s = keeps d task os xs u Failed (Some (Abort d.last)) b e tt
 
-same_go-goes : (d : Device) (task : Option Task) (os : List Order) (xs : List Answer) (u : Option Order) (p : Phase) → UpTo d.last os → d.doing ≡ u → StandsIn p d.last os xs u → Turns d task os xs u (same_go d.last p)
+same_go-goes : (d : Device) (task : Option Task) (os : List Order) (xs : List Answer) (u : Option Order) (p : Phase)
+    → UpTo d.last os → d.doing ≡ u → StandsIn p d.last os xs u → Turns d task os xs u (same_go d.last p)
 same_go-goes d task os xs u Preparing b e s = keeps d task os xs u Failed (Some (Abort d.last)) b e tt
-same_go-goes d task os xs u Ready b e s = orders d task os xs u Moving (Move d.last) None b (le_itself d.last) (s.0, s.1, s.2, b) s.0.1
+same_go-goes d task os xs u Ready b e s = orders d task os xs u Moving (Move d.last) None b (le_itself d.last)
+    (s.0, s.1, s.2, b) s.0.1
 same_go-goes d task os xs u Moving b e s = keeps d task os xs u Moving None b e s
 same_go-goes d task os xs u Done b e s = keeps d task os xs u Done (Some (Complete d.last)) b e s
 same_go-goes d task os xs u LettingGo b e s = keeps d task os xs u Failed (Some (Abort d.last)) b e tt
 same_go-goes d task os xs u LetGo b e s = keeps d task os xs u Failed (Some (Abort d.last)) b e tt
 same_go-goes d task os xs u Failed b e s = keeps d task os xs u Failed (Some (Abort d.last)) b e tt
 
-same_cancel-goes : (d : Device) (task : Option Task) (os : List Order) (xs : List Answer) (u : Option Order) (p : Phase) → UpTo d.last os → d.doing ≡ u → StandsIn p d.last os xs u → Turns d task os xs u (same_cancel d.last p)
-same_cancel-goes d task os xs u Preparing b e s = orders d task os xs u LettingGo (GiveUp d.last) None b (le_itself d.last) (s.0.0, s.1, b) s.0.0
-same_cancel-goes d task os xs u Ready b e s = orders d task os xs u LettingGo (GiveUp d.last) None b (le_itself d.last) (s.0.0, free_prepares d.last u s.2, b) s.0.0
+same_cancel-goes : (d : Device) (task : Option Task) (os : List Order) (xs : List Answer) (u : Option Order) (p : Phase)
+    → UpTo d.last os → d.doing ≡ u → StandsIn p d.last os xs u → Turns d task os xs u (same_cancel d.last p)
+same_cancel-goes d task os xs u Preparing b e s =
+    orders d task os xs u LettingGo (GiveUp d.last) None b (le_itself d.last) (s.0.0, s.1, b) s.0.0
+same_cancel-goes d task os xs u Ready b e s = orders d task os xs u LettingGo (GiveUp d.last) None b (le_itself d.last)
+    (s.0.0, free_prepares d.last u s.2, b) s.0.0
 same_cancel-goes d task os xs u Moving b e s = keeps d task os xs u Moving None b e s
 same_cancel-goes d task os xs u Done b e s = keeps d task os xs u Done None b e s
 same_cancel-goes d task os xs u LettingGo b e s = keeps d task os xs u LettingGo None b e s
 same_cancel-goes d task os xs u LetGo b e s = keeps d task os xs u LetGo (Some (Cancelled d.last)) b e s
 same_cancel-goes d task os xs u Failed b e s = keeps d task os xs u Failed (Some (Cancelled d.last)) b e tt
 
-standby_goes : (d : Device) (a : Attempt) (os : List Order) (xs : List Answer) (u : Option Order) (same : Bool) → UpTo d.last os → d.doing ≡ u → StandsIn a.phase d.last os xs u
+standby_goes : (d : Device) (a : Attempt) (os : List Order) (xs : List Answer) (u : Option Order) (same : Bool)
+    → UpTo d.last os → d.doing ≡ u → StandsIn a.phase d.last os xs u
     → Turns d a.task os xs u (cond same (same_standby d.last a.phase) (other_standby d.last a.phase))
 standby_goes d a os xs u true b e s = same_standby-goes d a.task os xs u a.phase b e s
 standby_goes d a os xs u false b e s = other_standby-goes d a.task os xs u a.phase b e s
 
-again_goes : (d : Device) (a : Attempt) (os : List Order) (xs : List Answer) (u : Option Order) (c : Command) → seq_of c ≡ d.last → UpTo d.last os → d.doing ≡ u → StandsIn a.phase d.last os xs u → Turns d a.task os xs u (again a c)
+again_goes : (d : Device) (a : Attempt) (os : List Order) (xs : List Answer) (u : Option Order) (c : Command)
+    → seq_of c ≡ d.last → UpTo d.last os → d.doing ≡ u → StandsIn a.phase d.last os xs u
+    → Turns d a.task os xs u (again a c)
 again_goes d a os xs u (Standby q t) at b e s =
-    subst (λ (n : ℕ). Turns d a.task os xs u (cond (is_for t a.task) (same_standby n a.phase) (other_standby n a.phase))) (sym at) (standby_goes d a os xs u (is_for t a.task) b e s)
-again_goes d a os xs u (Go q) at b e s = subst (λ (n : ℕ). Turns d a.task os xs u (same_go n a.phase)) (sym at) (same_go-goes d a.task os xs u a.phase b e s)
-again_goes d a os xs u (Cancel q) at b e s = subst (λ (n : ℕ). Turns d a.task os xs u (same_cancel n a.phase)) (sym at) (same_cancel-goes d a.task os xs u a.phase b e s)
+    subst (λ (n : ℕ). Turns d a.task os xs u
+        (cond (is_for t a.task) (same_standby n a.phase) (other_standby n a.phase))) (sym at)
+        (standby_goes d a os xs u (is_for t a.task) b e s)
+again_goes d a os xs u (Go q) at b e s = subst (λ (n : ℕ). Turns d a.task os xs u (same_go n a.phase)) (sym at)
+    (same_go-goes d a.task os xs u a.phase b e s)
+again_goes d a os xs u (Cancel q) at b e s = subst (λ (n : ℕ). Turns d a.task os xs u (same_cancel n a.phase)) (sym at)
+    (same_cancel-goes d a.task os xs u a.phase b e s)
 
-new_standby-goes : (d : Device) (q : ℕ) (task : Option Task) (os : List Order) (xs : List Answer) (u : Option Order) → d.last < q → UpTo d.last os → d.doing ≡ u
+new_standby-goes : (d : Device) (q : ℕ) (task : Option Task) (os : List Order) (xs : List Answer) (u : Option Order)
+    → d.last < q → UpTo d.last os → d.doing ≡ u
     → Turns (begun q d) task os xs u (new_standby q (is_none u))
 new_standby-goes d q task os xs None lt b e =
-    orders (begun q d) task os xs None Preparing (Prepare q) None (up_to-more d.last q os (omega arith) b) (le_itself q) (all_below d.last q os lt b, refl) ((not_moved d.last q os lt b, not_given_up d.last q os lt b), refl)
-new_standby-goes d q task os xs (Some o) lt b e = keeps (begun q d) task os xs (Some o) Failed (Some (Abort q)) (up_to-more d.last q os (omega arith) b) e tt
+    orders (begun q d) task os xs None Preparing (Prepare q) None (up_to-more d.last q os (omega arith) b) (le_itself q)
+        (all_below d.last q os lt b, refl) ((not_moved d.last q os lt b, not_given_up d.last q os lt b), refl)
+new_standby-goes d q task os xs (Some o) lt b e = keeps (begun q d) task os xs (Some o) Failed (Some (Abort q))
+    (up_to-more d.last q os (omega arith) b) e tt
 
-anew_goes : (d : Device) (os : List Order) (xs : List Answer) (u : Option Order) (c : Command) → d.last < seq_of c → UpTo d.last os → d.doing ≡ u → Turns (begun (seq_of c) d) (task_of c) os xs u (anew (is_none d.doing) c)
+anew_goes : (d : Device) (os : List Order) (xs : List Answer) (u : Option Order) (c : Command) → d.last < seq_of c
+    → UpTo d.last os → d.doing ≡ u → Turns (begun (seq_of c) d) (task_of c) os xs u (anew (is_none d.doing) c)
 anew_goes d os xs u (Standby q t) lt b e =
-    subst (λ (v : Option Order). Turns (begun q d) (Some t) os xs u (new_standby q (is_none v))) (sym e) (new_standby-goes d q (Some t) os xs u lt b e)
-anew_goes d os xs u (Go q) lt b e = keeps (begun q d) None os xs u Failed (Some (Abort q)) (up_to-more d.last q os (omega arith) b) e tt
-anew_goes d os xs u (Cancel q) lt b e = keeps (begun q d) None os xs u LetGo (Some (Cancelled q)) (up_to-more d.last q os (omega arith) b) e (not_moved d.last q os lt b)
+    subst (λ (v : Option Order). Turns (begun q d) (Some t) os xs u (new_standby q (is_none v))) (sym e)
+        (new_standby-goes d q (Some t) os xs u lt b e)
+anew_goes d os xs u (Go q) lt b e =
+    keeps (begun q d) None os xs u Failed (Some (Abort q)) (up_to-more d.last q os (omega arith) b) e tt
+anew_goes d os xs u (Cancel q) lt b e =
+    keeps (begun q d) None os xs u LetGo (Some (Cancelled q)) (up_to-more d.last q os (omega arith) b) e
+    (not_moved d.last q os lt b)
 
 -- ---- places
 
@@ -244,12 +288,14 @@ IsPlace d q Over = Unit {0}
 IsPlace d q (Same a) = (q ≡ d.last) × (d.attempt ≡ Some a)
 IsPlace d q New = d.last < q
 
-known_place : (d : Device) (q : ℕ) (b : Bool) (o : Option Attempt) → eqb q d.last ≡ b → d.attempt ≡ o → IsPlace d q (place_known b o)
+known_place : (d : Device) (q : ℕ) (b : Bool) (o : Option Attempt) → eqb q d.last ≡ b → d.attempt ≡ o
+    → IsPlace d q (place_known b o)
 known_place d q b None e f = tt
 known_place d q true (Some a) e f = (eqb-true q d.last e, f)
 known_place d q false (Some a) e f = tt
 
-any_place : (d : Device) (q : ℕ) (b : Bool) → ltb d.last q ≡ b → IsPlace d q (cond b New (place_known (eqb q d.last) d.attempt))
+any_place : (d : Device) (q : ℕ) (b : Bool) → ltb d.last q ≡ b
+    → IsPlace d q (cond b New (place_known (eqb q d.last) d.attempt))
 any_place d q true e = ltb-true d.last q e
 any_place d q false e = known_place d q (eqb q d.last) d.attempt refl refl
 
@@ -258,9 +304,12 @@ place_is d q = any_place d q (ltb d.last q) refl
 
 -- ---- what is heard
 
-heard_goes : (p : Place) (d : Device) (os : List Order) (xs : List Answer) (u : Option Order) (c : Command) → IsPlace d (seq_of c) p → Fits d os xs u → Goes os xs u (after_at p c d) (heard_at p c d)
+heard_goes : (p : Place) (d : Device) (os : List Order) (xs : List Answer) (u : Option Order) (c : Command)
+    → IsPlace d (seq_of c) p → Fits d os xs u → Goes os xs u (after_at p c d) (heard_at p c d)
 heard_goes Over d os xs u c is f = record { lawful = tt; fits = answers_more d os (Some (answer_over c)) xs u f }
-heard_goes (Same a) d os xs u c is f = again_goes d a os xs u c is.0 f.bounded f.doing (subst (λ (o : Option Attempt). Stands o d.last os xs u) is.1 f.stands)
+heard_goes (Same a) d os xs u c is f =
+    again_goes d a os xs u c is.0 f.bounded f.doing
+    (subst (λ (o : Option Attempt). Stands o d.last os xs u) is.1 f.stands)
 heard_goes New d os xs u c is f = anew_goes d os xs u c is f.bounded f.doing
 
 -- ---- what is told
@@ -271,20 +320,25 @@ no_more b o e = rw e refl
 
 prepared_left : (q : ℕ) (u : Option Order) → OnlyPrepares q u → left_after (Prepared q) u ≡ None
 prepared_left q None h = refl
-prepared_left q (Some o) h = no_more (ends o (Prepared q)) o (ap (λ (x : Order). ends x (Prepared q)) h ∙ eq-eqb q q refl)
+prepared_left q (Some o) h = no_more (ends o (Prepared q)) o (ap (λ (x : Order). ends x (Prepared q)) h
+    ∙ eq-eqb q q refl)
 
 -- the attempt is in this phase from now on
-enters : (t : Told) (d : Device) (task : Option Task) (os : List Order) (xs : List Answer) (u : Option Order) (p : Phase) (x : Answer) → UpTo d.last os → d.doing ≡ u → StandsIn p d.last os (x ∷ xs) (left_after t u)
+enters : (t : Told) (d : Device) (task : Option Task) (os : List Order) (xs : List Answer) (u : Option Order)
+    (p : Phase) (x : Answer) → UpTo d.last os → d.doing ≡ u → StandsIn p d.last os (x ∷ xs) (left_after t u)
     → Fits (noted t task (record { phase = p; order = None; answer = Some x }) (freed t d)) os (x ∷ xs) (left_after t u)
 enters t d task os xs u p x b e s = record { bounded = b; doing = ap (left_after t) e; stands = s }
 
 stood : (q p : ℕ) (xs : List Answer) → p ≡ q → has_stood_by q (StandingBy p ∷ xs) ≡ true
 stood q p xs e = rw (eq-eqb p q e) refl
 
-told_goes : (t : Told) (d : Device) (a : Attempt) (p : Phase) (os : List Order) (xs : List Answer) (u : Option Order) → told_of t ≡ d.last → Fits d os xs u → StandsIn p d.last os xs u
+told_goes : (t : Told) (d : Device) (a : Attempt) (p : Phase) (os : List Order) (xs : List Answer) (u : Option Order)
+    → told_of t ≡ d.last → Fits d os xs u → StandsIn p d.last os xs u
     → Fits (noted t a.task (told_in t p) (freed t d)) os (latest (told_in t p).answer xs) (left_after t u)
 told_goes (Prepared q) d a Preparing os xs u at f s =
-    enters (Prepared q) d a.task os xs u Ready (StandingBy q) f.bounded f.doing (s.0, stood d.last q xs at, subst (λ (n : ℕ). left_after (Prepared n) u ≡ None) (sym at) (prepared_left d.last u s.1))
+    enters (Prepared q) d a.task os xs u Ready (StandingBy q) f.bounded f.doing
+        (s.0, stood d.last q xs at, subst (λ (n : ℕ). left_after (Prepared n) u ≡ None) (sym at)
+        (prepared_left d.last u s.1))
 told_goes (Prepared q) d a Ready os xs u at f s = freed_fits (Prepared q) d os xs u f
 told_goes (Prepared q) d a Moving os xs u at f s = freed_fits (Prepared q) d os xs u f
 told_goes (Prepared q) d a Done os xs u at f s = freed_fits (Prepared q) d os xs u f
@@ -302,44 +356,57 @@ told_goes (GaveUp q) d a Preparing os xs u at f s = freed_fits (GaveUp q) d os x
 told_goes (GaveUp q) d a Ready os xs u at f s = freed_fits (GaveUp q) d os xs u f
 told_goes (GaveUp q) d a Moving os xs u at f s = freed_fits (GaveUp q) d os xs u f
 told_goes (GaveUp q) d a Done os xs u at f s = freed_fits (GaveUp q) d os xs u f
-told_goes (GaveUp q) d a LettingGo os xs u at f s = enters (GaveUp q) d a.task os xs u LetGo (Cancelled q) f.bounded f.doing s
+told_goes (GaveUp q) d a LettingGo os xs u at f s = enters (GaveUp q) d a.task os xs u LetGo (Cancelled q) f.bounded
+    f.doing s
 told_goes (GaveUp q) d a LetGo os xs u at f s = freed_fits (GaveUp q) d os xs u f
 told_goes (GaveUp q) d a Failed os xs u at f s = freed_fits (GaveUp q) d os xs u f
-told_goes (Cannot q) d a Preparing os xs u at f s = enters (Cannot q) d a.task os xs u Failed (Abort q) f.bounded f.doing tt
+told_goes (Cannot q) d a Preparing os xs u at f s = enters (Cannot q) d a.task os xs u Failed (Abort q) f.bounded
+    f.doing tt
 told_goes (Cannot q) d a Ready os xs u at f s = enters (Cannot q) d a.task os xs u Failed (Abort q) f.bounded f.doing tt
-told_goes (Cannot q) d a Moving os xs u at f s = enters (Cannot q) d a.task os xs u Failed (Abort q) f.bounded f.doing tt
+told_goes (Cannot q) d a Moving os xs u at f s = enters (Cannot q) d a.task os xs u Failed (Abort q) f.bounded f.doing
+    tt
 told_goes (Cannot q) d a Done os xs u at f s = freed_fits (Cannot q) d os xs u f
-told_goes (Cannot q) d a LettingGo os xs u at f s = enters (Cannot q) d a.task os xs u Failed (Abort q) f.bounded f.doing tt
+told_goes (Cannot q) d a LettingGo os xs u at f s = enters (Cannot q) d a.task os xs u Failed (Abort q) f.bounded
+    f.doing tt
 told_goes (Cannot q) d a LetGo os xs u at f s = freed_fits (Cannot q) d os xs u f
-told_goes (Cannot q) d a Failed os xs u at f s = enters (Cannot q) d a.task os xs u Failed (Abort q) f.bounded f.doing tt
+told_goes (Cannot q) d a Failed os xs u at f s = enters (Cannot q) d a.task os xs u Failed (Abort q) f.bounded f.doing
+    tt
 
-tells_fits : (p : Place) (t : Told) (d : Device) (os : List Order) (xs : List Answer) (u : Option Order) → IsPlace d (told_of t) p → Fits d os xs u → Fits (told_at p t d) os (latest (answer_at p t) xs) (left_after t u)
+tells_fits : (p : Place) (t : Told) (d : Device) (os : List Order) (xs : List Answer) (u : Option Order)
+    → IsPlace d (told_of t) p → Fits d os xs u → Fits (told_at p t d) os (latest (answer_at p t) xs) (left_after t u)
 tells_fits Over t d os xs u is f = freed_fits t d os xs u f
-tells_fits (Same a) t d os xs u is f = told_goes t d a a.phase os xs u is.0 f (subst (λ (o : Option Attempt). Stands o d.last os xs u) is.1 f.stands)
+tells_fits (Same a) t d os xs u is f =
+    told_goes t d a a.phase os xs u is.0 f (subst (λ (o : Option Attempt). Stands o d.last os xs u) is.1 f.stands)
 tells_fits New t d os xs u is f = freed_fits t d os xs u f
 
 -- ---- all that happens
 
 pub all_fits : (d : ℕ) (over : ℕ) (hs : List Happening) → KeepsNumbers (rested d over) hs
-    → Fits (device_after (rested d over) hs) (orders_of (rested d over) hs) (answers_of (rested d over) hs) (unfinished (rested d over) hs)
+    → Fits (device_after (rested d over) hs) (orders_of (rested d over) hs) (answers_of (rested d over) hs)
+        (unfinished (rested d over) hs)
 all_fits d over [] k = record { bounded = tt; doing = refl; stands = tt }
 all_fits d over (hears c ∷ hs) k =
     let now = device_after (rested d over) hs in
-    (heard_goes (place now (seq_of c)) now (orders_of (rested d over) hs) (answers_of (rested d over) hs) (unfinished (rested d over) hs) c (place_is now (seq_of c)) (all_fits d over hs k.1)).fits
+    (heard_goes (place now (seq_of c)) now (orders_of (rested d over) hs) (answers_of (rested d over) hs)
+        (unfinished (rested d over) hs) c (place_is now (seq_of c)) (all_fits d over hs k.1)).fits
 all_fits d over (tells t ∷ hs) k =
     let now = device_after (rested d over) hs in
-    tells_fits (place now (told_of t)) t now (orders_of (rested d over) hs) (answers_of (rested d over) hs) (unfinished (rested d over) hs) (place_is now (told_of t)) (all_fits d over hs k.1)
+    tells_fits (place now (told_of t)) t now (orders_of (rested d over) hs) (answers_of (rested d over) hs)
+        (unfinished (rested d over) hs) (place_is now (told_of t)) (all_fits d over hs k.1)
 all_fits d over (repeats ∷ hs) k =
     let now = device_after (rested d over) hs in
-    answers_more now (orders_of (rested d over) hs) (answer_to repeats now) (answers_of (rested d over) hs) (unfinished (rested d over) hs) (all_fits d over hs k.1)
-all_fits d over (hears_reply ∷ hs) k = let f = all_fits d over hs k.1 in record { bounded = f.bounded; doing = f.doing; stands = f.stands }
+    answers_more now (orders_of (rested d over) hs) (answer_to repeats now) (answers_of (rested d over) hs)
+        (unfinished (rested d over) hs) (all_fits d over hs k.1)
+all_fits d over (hears_reply ∷ hs) k = let f = all_fits d over hs k.1 in
+    record { bounded = f.bounded; doing = f.doing; stands = f.stands }
 all_fits d over (restarts n ∷ hs) k = record { bounded = k.0; doing = refl; stands = tt }
 
 nothing_ordered : {A : Type 0} (o : Order) → None ≡ Some o → A
 nothing_ordered o e = absurd cc
 
 -- each order is lawful
-pub all_lawful : (d over : ℕ) (h : Happening) (hs : List Happening) (o : Order) → KeepsNumbers (rested d over) hs → order_at h (device_after (rested d over) hs) ≡ Some o
+pub all_lawful : (d over : ℕ) (h : Happening) (hs : List Happening) (o : Order) → KeepsNumbers (rested d over) hs
+    → order_at h (device_after (rested d over) hs) ≡ Some o
     → Lawful o (orders_of (rested d over) hs) (answers_of (rested d over) hs) (unfinished (rested d over) hs)
 all_lawful d over (hears c) hs o k e =
     let now = device_after (rested d over) hs in

@@ -6,10 +6,12 @@ use Rattle.cue_show.specs.declared.limits.TheConstants.{MAX_PART_BYTES}
 use Rattle.cue_device.specs.Kept.{kept_in, with_zeros, AreKept}
 
 -- bytes written over zeros are kept, with zeros after them
-pub AreKept-copied : (bytes : List ℕ) → length bytes ≤ MAX_PART_BYTES → AreKept (bytes ++ drop (length bytes) (replicate MAX_PART_BYTES 0)) (length bytes)
+pub AreKept-copied : (bytes : List ℕ) → length bytes ≤ MAX_PART_BYTES
+    → AreKept (bytes ++ drop (length bytes) (replicate MAX_PART_BYTES 0)) (length bytes)
 AreKept-copied bytes short =
     let places : List ℕ = bytes ++ drop (length bytes) (replicate MAX_PART_BYTES 0) in
-    let back : kept_in places (length bytes) ≡ bytes = take-append_seam bytes (drop (length bytes) (replicate MAX_PART_BYTES 0)) in
+    let back : kept_in places (length bytes) ≡ bytes =
+        take-append_seam bytes (drop (length bytes) (replicate MAX_PART_BYTES 0)) in
     record {
       short = short;
       whole = ap length back;

@@ -21,7 +21,8 @@ may_come (Move q) os xs u l = free u (Move q) l.2
 may_come (GiveUp q) os xs u l = gives_way q u l.1
 
 -- its number is at least that of each before
-pub numbers_rise : (o : Order) (os : List Order) (xs : List Answer) (u : Option Order) → Lawful o os xs u → UpTo (ordered_for o) os
+pub numbers_rise : (o : Order) (os : List Order) (xs : List Answer) (u : Option Order) → Lawful o os xs u
+    → UpTo (ordered_for o) os
 numbers_rise (Prepare q) os xs u l = all_up_to q os l.0
 numbers_rise (Move q) os xs u l = l.3
 numbers_rise (GiveUp q) os xs u l = l.2

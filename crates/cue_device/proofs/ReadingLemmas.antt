@@ -1,5 +1,6 @@
 -- What stands at the front of a command's bytes is what was written there.
-use Rattle.std.proofs.Common.{◌≡◌, ℕ, ◌^◌, ◌<◌, ◌≤◌, Bool, true, false, ◌&&◌, ◌==◌, cond, List, [], ◌∷◌, ◌++◌, length, nat_le, IsTrue, Ok, refl, sym, ap, subst, ◌∙◌, arith}
+use Rattle.std.proofs.Common.{◌≡◌, ℕ, ◌^◌, ◌<◌, ◌≤◌, Bool, true, false, ◌&&◌, ◌==◌, cond, List, [], ◌∷◌, ◌++◌, length}
+use Rattle.std.proofs.Common.{nat_le, IsTrue, Ok, refl, sym, ap, subst, ◌∙◌, arith}
 use Rattle.std.specs.Char.{is_ascii_digit}
 use Rattle.std.specs.Int.{w32, to_be_bytes}
 use Rattle.std.specs.List.{list_all}
@@ -7,7 +8,8 @@ use Rattle.std.proofs.lemmas.Bool.{and_parts, eqb-true, leb-true}
 use Rattle.std.proofs.lemmas.Bool.Decides.{nat_tests}
 use Rattle.cue_osc.specs.Spelling.{IsText, osc_blob, osc_string}
 use Rattle.cue_osc.specs.Reading.{blob_at, number_at, string_at}
-use Rattle.cue_osc.proofs.Fields.{IsBytes, IsBytes-rest, ok_is, number_takes, wide32, string_takes, string_again, blob_takes, blob_again}
+use Rattle.cue_osc.proofs.FieldLemmas.{IsBytes, IsBytes-rest, ok_is, number_takes, wide32, string_takes, string_again}
+use Rattle.cue_osc.proofs.FieldLemmas.{blob_takes, blob_again}
 use Rattle.cue_show.specs.Number.{pieces, is_run, is_cue_number}
 use Rattle.cue_show.specs.declared.limits.TheConstants.{MAX_CUE_BYTES, MAX_PART_BYTES}
 use Rattle.cue_show.proofs.RunsLemmas.{runs_from, runs_from-start}
@@ -17,11 +19,13 @@ use Rattle.cue_device.specs.Datagrams.{IsTask}
 -- ---- numbers
 
 -- two numbers that are read stand there
-pub two_numbers : (bytes behind rest : List ℕ) (q d e : ℕ) → IsBytes bytes → number_at w32 bytes ≡ Ok (q, behind) → number_at w32 behind ≡ Ok (e, rest) → e ≡ d
+pub two_numbers : (bytes behind rest : List ℕ) (q d e : ℕ) → IsBytes bytes → number_at w32 bytes ≡ Ok (q, behind)
+    → number_at w32 behind ≡ Ok (e, rest) → e ≡ d
     → bytes ≡ to_be_bytes w32 q ++ (to_be_bytes w32 d ++ rest)
 two_numbers bytes behind rest q d e fits first second same =
     let a = number_takes w32 (2 ^ 32) wide32 bytes q behind fits first in
-    let b = number_takes w32 (2 ^ 32) wide32 behind e rest (IsBytes-rest bytes (to_be_bytes w32 q) behind a.0 fits) second in
+    let b = number_takes w32 (2 ^ 32) wide32 behind e rest (IsBytes-rest bytes (to_be_bytes w32 q) behind a.0 fits)
+        second in
     a.0 ∙ ap (λ (x : List ℕ). to_be_bytes w32 q ++ x) (b.0 ∙ ap (λ (n : ℕ). to_be_bytes w32 n ++ rest) same)
 
 -- ---- cue numbers are texts
@@ -49,7 +53,8 @@ number_text text h =
 
 -- and is short
 pub number_short : (text : List ℕ) → IsTrue (is_cue_number text) → length text ≤ 16
-number_short text h = leb-true (length text) MAX_CUE_BYTES (and_parts (nat_le (length text) MAX_CUE_BYTES) (list_all is_run (pieces text)) h).0
+number_short text h = leb-true (length text) MAX_CUE_BYTES
+    (and_parts (nat_le (length text) MAX_CUE_BYTES) (list_all is_run (pieces text)) h).0
 
 -- ---- tasks
 
@@ -58,7 +63,8 @@ abbrev pub task_text : Task → List ℕ
 task_text t = osc_string t.cue ++ (osc_blob t.bytes ++ [])
 
 -- its cue is read
-pub cue_read : (bytes : List ℕ) (t : Task) → IsTask t → bytes ≡ task_text t → string_at bytes ≡ Ok (t.cue, osc_blob t.bytes ++ [])
+pub cue_read : (bytes : List ℕ) (t : Task) → IsTask t → bytes ≡ task_text t
+    → string_at bytes ≡ Ok (t.cue, osc_blob t.bytes ++ [])
 cue_read bytes t h e = ap string_at e ∙ string_again t.cue (osc_blob t.bytes ++ []) (number_text t.cue h.cue)
 
 -- and its bytes
@@ -66,20 +72,24 @@ pub bytes_read : (t : Task) → IsTask t → blob_at (osc_blob t.bytes ++ []) �
 bytes_read t h = blob_again t.bytes [] (omega (arith, h.short))
 
 -- what was read of a task is its cue
-pub cue_is : (bytes cue rest : List ℕ) (t : Task) → IsTask t → bytes ≡ task_text t → string_at bytes ≡ Ok (cue, rest) → (cue ≡ t.cue) × (rest ≡ osc_blob t.bytes ++ [])
+pub cue_is : (bytes cue rest : List ℕ) (t : Task) → IsTask t → bytes ≡ task_text t → string_at bytes ≡ Ok (cue, rest)
+    → (cue ≡ t.cue) × (rest ≡ osc_blob t.bytes ++ [])
 cue_is bytes cue rest t h e read =
-    let same : (cue, rest) ≡ (t.cue, osc_blob t.bytes ++ []) = ok_is (cue, rest) (t.cue, osc_blob t.bytes ++ []) (sym read ∙ cue_read bytes t h e) in
+    let same : (cue, rest) ≡ (t.cue, osc_blob t.bytes ++ []) =
+        ok_is (cue, rest) (t.cue, osc_blob t.bytes ++ []) (sym read ∙ cue_read bytes t h e) in
     (ap (λ (x : List ℕ × List ℕ). x.0) same, ap (λ (x : List ℕ × List ℕ). x.1) same)
 
 -- and its bytes, and nothing after them
-pub bytes_are : (rest kept left : List ℕ) (t : Task) → IsTask t → rest ≡ osc_blob t.bytes ++ [] → blob_at rest ≡ Ok (kept, left) → (kept ≡ t.bytes) × (left ≡ [])
+pub bytes_are : (rest kept left : List ℕ) (t : Task) → IsTask t → rest ≡ osc_blob t.bytes ++ []
+    → blob_at rest ≡ Ok (kept, left) → (kept ≡ t.bytes) × (left ≡ [])
 bytes_are rest kept left t h e read =
     let back : blob_at rest ≡ Ok (t.bytes, []) = ap blob_at e ∙ bytes_read t h in
     let same : (kept, left) ≡ (t.bytes, []) = ok_is (kept, left) (t.bytes, []) (sym read ∙ back) in
     (ap (λ (x : List ℕ × List ℕ). x.0) same, ap (λ (x : List ℕ × List ℕ). x.1) same)
 
 -- both
-pub task_is : (bytes cue rest kept left : List ℕ) (t : Task) → IsTask t → bytes ≡ task_text t → string_at bytes ≡ Ok (cue, rest) → blob_at rest ≡ Ok (kept, left)
+pub task_is : (bytes cue rest kept left : List ℕ) (t : Task) → IsTask t → bytes ≡ task_text t
+    → string_at bytes ≡ Ok (cue, rest) → blob_at rest ≡ Ok (kept, left)
     → (cue ≡ t.cue) × (kept ≡ t.bytes) × (left ≡ [])
 task_is bytes cue rest kept left t h e first second =
     let a = cue_is bytes cue rest t h e first in
@@ -87,7 +97,8 @@ task_is bytes cue rest kept left t h e first second =
     (a.0, b.0, b.1)
 
 -- what is read is what was written
-pub task_takes : (bytes cue rest kept left : List ℕ) → IsBytes bytes → string_at bytes ≡ Ok (cue, rest) → blob_at rest ≡ Ok (kept, left) → left ≡ []
+pub task_takes : (bytes cue rest kept left : List ℕ) → IsBytes bytes → string_at bytes ≡ Ok (cue, rest)
+    → blob_at rest ≡ Ok (kept, left) → left ≡ []
     → bytes ≡ osc_string cue ++ (osc_blob kept ++ [])
 task_takes bytes cue rest kept left fits first second none =
     let a = string_takes bytes cue rest first in
@@ -112,10 +123,12 @@ empty_is [] h = refl
 empty_is (b ∷ bs) h = let n : length (b ∷ bs) ≡ 0 = eqb-true (length (b ∷ bs)) 0 (sym h) in absurd (omega (arith, n))
 
 -- what was found is a task, and stands there
-pub found_task : (bytes text kept cue part : List ℕ) → bytes ≡ osc_string text ++ (osc_blob kept ++ []) → (cue ≡ text) × IsTrue (is_cue_number text) → (part ≡ kept) × (length kept ≤ MAX_PART_BYTES)
+pub found_task : (bytes text kept cue part : List ℕ) → bytes ≡ osc_string text ++ (osc_blob kept ++ [])
+    → (cue ≡ text) × IsTrue (is_cue_number text) → (part ≡ kept) × (length kept ≤ MAX_PART_BYTES)
     → let t : Task = record { cue = cue; bytes = part } in (bytes ≡ task_text t) × IsTask t
 found_task bytes text kept cue part e number short = (
-  e ∙ ap (λ (x : List ℕ). osc_string x ++ (osc_blob kept ++ [])) (sym number.0) ∙ ap (λ (x : List ℕ). osc_string cue ++ (osc_blob x ++ [])) (sym short.0),
+  e ∙ ap (λ (x : List ℕ). osc_string x ++ (osc_blob kept ++ [])) (sym number.0)
+      ∙ ap (λ (x : List ℕ). osc_string cue ++ (osc_blob x ++ [])) (sym short.0),
   record {
     cue = subst (λ (x : List ℕ). IsTrue (is_cue_number x)) (sym number.0) number.1;
     short = subst (λ (x : List ℕ). length x ≤ MAX_PART_BYTES) (sym short.0) short.1;

@@ -1,7 +1,7 @@
-mod Clauses
-pub mod Crash
-mod History
-pub mod Moments
-mod Planned
-mod Reached
-mod Written
+mod ClauseLemmas
+pub mod CrashLemmas
+mod HistoryLemmas
+pub mod MomentLemmas
+mod PlannedLemmas
+mod ReachedLemmas
+mod WrittenLemmas

@@ -1,5 +1,6 @@
 -- What an attempt may count on, out of the laws on histories.
-use Rattle.std.proofs.Common.{◌≡◌, ℕ, ◌+◌, ◌<◌, Bool, true, false, not, ◌&&◌, ◌||◌, List, [], ◌∷◌, ◌++◌, nat_eq, refl, sym, ap, ◌∙◌, subst, arith, true≢false, IsTrue}
+use Rattle.std.proofs.Common.{◌≡◌, ℕ, ◌+◌, ◌<◌, Bool, true, false, not, ◌&&◌, ◌||◌, List, [], ◌∷◌, ◌++◌, nat_eq, refl}
+use Rattle.std.proofs.Common.{sym, ap, ◌∙◌, subst, arith, true≢false, IsTrue}
 use Rattle.std.proofs.lemmas.Bool.Decides.{nat_tests}
 use Rattle.std.specs.List.{list_any, list_all}
 use Rattle.cue_show.specs.declared.part.Part.{Part}
@@ -19,29 +20,34 @@ use Rattle.cue_core.proofs.history.SafetyLemmas.{never-asked-both}
 use Rattle.cue_outbox.specs.Sending.{Send, order, all_pending}
 use Rattle.cue_engine.specs.Given.{Given}
 use Rattle.cue_engine.specs.Runs.{Happening, run, joined, given_at, with_batch}
-use Rattle.cue_engine.specs.Attempts.{accepted, may_go_after, IsDecidedInOrder, DecidedInOrder, NumberNamesOne, is_command, was_sent, NeverSentBoth}
-use Rattle.cue_core.proofs.lists.AnyLemmas.{or_left, or_right, either, itself, same, any-append, any-mapped, all_implied}
-use Rattle.cue_engine.proofs.Histories.{inputs_make_histories, inputs_in_order}
+use Rattle.cue_engine.specs.Attempts.{accepted, may_go_after, IsDecidedInOrder, DecidedInOrder, NumberNamesOne}
+use Rattle.cue_engine.specs.Attempts.{is_command, was_sent, NeverSentBoth}
+use Rattle.cue_core.proofs.lists.AnyLemmas.{or_left, or_right, either, itself, same, any-append, any-mapped}
+use Rattle.cue_core.proofs.lists.AnyLemmas.{all_implied}
+use Rattle.cue_engine.proofs.HistoryLemmas.{inputs_make_histories, inputs_in_order}
 use Rattle.cue_core.proofs.rules.BatchLemmas.{state-onto, onto-append}
-use Rattle.cue_engine.proofs.Resting.{joined-with}
+use Rattle.cue_engine.proofs.RestingLemmas.{joined-with}
 use Rattle.cue_engine.proofs.SentLemmas.{Each, HoldsElsewhere, happening-each}
 
 -- ---- histories, from their front to their back
 
 history_before : (es past : List Event) → IsTrue (is_history (onto es past)) → IsTrue (is_history past)
 history_before [] past h = h
-history_before (e ∷ es) past h = (both (acceptable (state_of past) e) (is_history past) (history_before es (e ∷ past) h)).1
+history_before (e ∷ es) past h =
+    (both (acceptable (state_of past) e) (is_history past) (history_before es (e ∷ past) h)).1
 
 order_before : (es past : List Event) → IsTrue (is_in_order (onto es past)) → IsTrue (is_in_order past)
 order_before [] past h = h
 order_before (e ∷ es) past h = (both (keeps_order past e) (is_in_order past) (order_before es (e ∷ past) h)).1
 
 -- what stands in a history stands in the events or in what was before them
-any_onto : (p : Event → Bool) (es past : List Event) → list_any p (onto es past) ≡ true → (list_any p es || list_any p past) ≡ true
+any_onto : (p : Event → Bool) (es past : List Event) → list_any p (onto es past) ≡ true
+    → (list_any p es || list_any p past) ≡ true
 any_onto p [] past h = h
 any_onto p (e ∷ es) past h = by (p e) (any_onto p es (e ∷ past) h)
   where
-    by : (b : Bool) → (list_any p es || (b || list_any p past)) ≡ true → ((b || list_any p es) || list_any p past) ≡ true
+    by : (b : Bool) → (list_any p es || (b || list_any p past)) ≡ true
+        → ((b || list_any p es) || list_any p past) ≡ true
     by true k = refl
     by false k = k
 
@@ -50,7 +56,8 @@ any_left true h = refl
 any_left false h = h
 
 -- what stands in the events stands in their history
-pub any_in : (p : Event → Bool) (es past : List Event) → (list_any p es || list_any p past) ≡ true → list_any p (onto es past) ≡ true
+pub any_in : (p : Event → Bool) (es past : List Event) → (list_any p es || list_any p past) ≡ true
+    → list_any p (onto es past) ≡ true
 any_in p [] past h = h
 any_in p (e ∷ es) past h = any_in p es (e ∷ past) (by (p e) (list_any p es) h)
   where
@@ -72,7 +79,8 @@ split_at before later e = onto-append before (e ∷ later) []
 -- ---- Go
 
 -- behind a Go no Cancel comes
-no_cancel_later : (q : ℕ) (es past : List Event) → IsTrue (is_in_order (onto es past)) → list_any (is_go_of q) past ≡ true → list_any (is_cancel_of q) es ≡ true → true ≡ false
+no_cancel_later : (q : ℕ) (es past : List Event) → IsTrue (is_in_order (onto es past))
+    → list_any (is_go_of q) past ≡ true → list_any (is_cancel_of q) es ≡ true → true ≡ false
 no_cancel_later q [] past h gone c = sym c
 no_cancel_later q (e ∷ es) past h gone c =
     either_of (is_cancel_of q e) (list_any (is_cancel_of q) es) c
@@ -101,17 +109,22 @@ no_cancel_later q (e ∷ es) past h gone c =
     refused (event.Excuse p d) k kept = sym k
 
 -- who may go by the history may go after the events
-may_go : (q : ℕ) (before : List Event) (p : Part) → IsTrue (may_go_by (onto before []) q p) → IsTrue (may_go_after before q p)
+may_go : (q : ℕ) (before : List Event) (p : Part) → IsTrue (may_go_by (onto before []) q p)
+    → IsTrue (may_go_after before q p)
 may_go q before p h =
-    either (list_any (is_ready_of q p.device) (onto before [])) (p.optional && list_any (is_excuse_of q p.device) (onto before [])) (may_go_after before q p)
-    (λ k. or_left (list_any (is_ready_of q p.device) before) _ (any_left (list_any (is_ready_of q p.device) before) (any_onto (is_ready_of q p.device) before [] k)))
+    either (list_any (is_ready_of q p.device) (onto before []))
+        (p.optional && list_any (is_excuse_of q p.device) (onto before [])) (may_go_after before q p)
+    (λ k. or_left (list_any (is_ready_of q p.device) before) _
+        (any_left (list_any (is_ready_of q p.device) before) (any_onto (is_ready_of q p.device) before [] k)))
     (λ k.
     let l = both p.optional (list_any (is_excuse_of q p.device) (onto before [])) k in
     or_right (list_any (is_ready_of q p.device) before) _
-    (join p.optional (list_any (is_excuse_of q p.device) before) l.0 (any_left (list_any (is_excuse_of q p.device) before) (any_onto (is_excuse_of q p.device) before [] l.1))))
+    (join p.optional (list_any (is_excuse_of q p.device) before) l.0
+        (any_left (list_any (is_excuse_of q p.device) before) (any_onto (is_excuse_of q p.device) before [] l.1))))
     h
 
-pub decided_of : (q : ℕ) (before later : List Event) → IsTrue (is_in_order (onto later (event.Go q ∷ onto before []))) → IsDecidedInOrder q before later
+pub decided_of : (q : ℕ) (before later : List Event) → IsTrue (is_in_order (onto later (event.Go q ∷ onto before [])))
+    → IsDecidedInOrder q before later
 decided_of q before later h =
     let past : List Event = onto before [] in
     let go = (both (keeps_order past (event.Go q)) (is_in_order past) (order_before later (event.Go q ∷ past) h)).0 in
@@ -119,15 +132,20 @@ decided_of q before later h =
     let two = both (list_all (may_go_by past q) (parts_by past q)) (not (list_any (is_cancel_of q) past)) one.1 in
     record {
       started = any_left (list_any (is_start_of q) before) (any_onto (is_start_of q) before [] one.0);
-      all_ready = all_implied (may_go_by past q) (may_go_after before q) (λ p k. may_go q before p k) (parts_by past q) two.0;
-      not_cancelled = no_any (list_any (is_cancel_of q) before) (λ k. contrary (list_any (is_cancel_of q) past) (any_in (is_cancel_of q) before [] (or_left (list_any (is_cancel_of q) before) false k)) two.1);
-      stays = no_any (list_any (is_cancel_of q) later) (λ k. no_cancel_later q later (event.Go q ∷ past) h (or_left (nat_eq q q) _ (itself q)) k);
+      all_ready = all_implied (may_go_by past q) (may_go_after before q) (λ p k. may_go q before p k) (parts_by past q)
+          two.0;
+      not_cancelled = no_any (list_any (is_cancel_of q) before)
+          (λ k. contrary (list_any (is_cancel_of q) past)
+          (any_in (is_cancel_of q) before [] (or_left (list_any (is_cancel_of q) before) false k)) two.1);
+      stays = no_any (list_any (is_cancel_of q) later)
+          (λ k. no_cancel_later q later (event.Go q ∷ past) h (or_left (nat_eq q q) _ (itself q)) k);
     }
 
 pub decided_in_order : DecidedInOrder
 decided_in_order hs q before later e =
     let P : List Event → Type 0 = λ xs. IsTrue (is_in_order xs) in
-    decided_of q before later (subst P (ap (λ xs. onto xs []) e ∙ split_at before later (event.Go q)) (inputs_in_order hs))
+    decided_of q before later (subst P (ap (λ xs. onto xs []) e ∙ split_at before later (event.Go q))
+        (inputs_in_order hs))
 
 -- ---- Start
 
@@ -148,29 +166,34 @@ about_started q (event.Excuse p d) h = absurd (true≢false (sym h))
 
 any_about : (q : ℕ) (es : List Event) → list_any (is_start_of q) es ≡ true → list_any (is_about q) es ≡ true
 any_about q [] h = h
-any_about q (e ∷ es) h = either (is_start_of q e) _ _ (λ k. or_left (is_about q e) _ (about_started q e k)) (λ k. or_right (is_about q e) _ (any_about q es k)) h
+any_about q (e ∷ es) h = either (is_start_of q e) _ _ (λ k. or_left (is_about q e) _ (about_started q e k))
+    (λ k. or_right (is_about q e) _ (any_about q es k)) h
 
 above : (q last : ℕ) → nat_eq q (last + 1) ≡ true → last < q
 above q last h = grind (arith, nat_tests)
 
 -- a number that starts was not started before
-start_is_new : (past : List Event) (q : ℕ) (c : List ℕ) (t : ℕ) → IsTrue (is_history past) → IsTrue (acceptable (state_of past) (event.Start q c t)) → list_any (is_start_of q) past ≡ true → true ≡ false
+start_is_new : (past : List Event) (q : ℕ) (c : List ℕ) (t : ℕ) → IsTrue (is_history past)
+    → IsTrue (acceptable (state_of past) (event.Start q c t)) → list_any (is_start_of q) past ≡ true → true ≡ false
 start_is_new past q c t h ok k =
     let drawn = (both (nat_eq q ((state_of past).last_seq + 1)) _ ok).0 in
     sym (any_about q past k) ∙ (kept-history past h).unused q (above q (state_of past).last_seq drawn)
 
-no_start_later : (q : ℕ) (es past : List Event) → IsTrue (is_history (onto es past)) → list_any (is_start_of q) past ≡ true → list_any (is_start_of q) es ≡ true → true ≡ false
+no_start_later : (q : ℕ) (es past : List Event) → IsTrue (is_history (onto es past))
+    → list_any (is_start_of q) past ≡ true → list_any (is_start_of q) es ≡ true → true ≡ false
 no_start_later q [] past h there s = sym s
 no_start_later q (e ∷ es) past h there s =
     either_of (is_start_of q e) (list_any (is_start_of q) es) s
-    (λ k. let w = both (acceptable (state_of past) e) (is_history past) (history_before es (e ∷ past) h) in refused e k w.0 w.1)
+    (λ k. let w = both (acceptable (state_of past) e) (is_history past) (history_before es (e ∷ past) h) in
+        refused e k w.0 w.1)
     (λ k. no_start_later q es (e ∷ past) h (or_right (is_start_of q e) _ there) k)
   where
     either_of : (a b : Bool) → (a || b) ≡ true → (a ≡ true → true ≡ false) → (b ≡ true → true ≡ false) → true ≡ false
     either_of true b m f g = f refl
     either_of false b m f g = g m
 
-    refused : (x : Event) → is_start_of q x ≡ true → IsTrue (acceptable (state_of past) x) → IsTrue (is_history past) → true ≡ false
+    refused : (x : Event) → is_start_of q x ≡ true → IsTrue (acceptable (state_of past) x) → IsTrue (is_history past)
+        → true ≡ false
     refused (event.Start p x t) k ok past_ok =
         let P : ℕ → Type 0 = λ n. list_any (is_start_of n) past ≡ true in
         start_is_new past p x t past_ok ok (subst P (sym (same p q k)) there)
@@ -187,18 +210,25 @@ no_start_later q (e ∷ es) past h there s =
     refused (event.Failed p d) k ok past_ok = sym k
     refused (event.Excuse p d) k ok past_ok = sym k
 
-named_once : (q : ℕ) (c : List ℕ) (t : ℕ) (before later : List Event) → IsTrue (is_history (onto later (event.Start q c t ∷ onto before []))) → IsTrue (not (list_any (is_start_of q) before) && not (list_any (is_start_of q) later))
+named_once : (q : ℕ) (c : List ℕ) (t : ℕ) (before later : List Event)
+    → IsTrue (is_history (onto later (event.Start q c t ∷ onto before [])))
+    → IsTrue (not (list_any (is_start_of q) before) && not (list_any (is_start_of q) later))
 named_once q c t before later h =
     let past : List Event = onto before [] in
-    let w = both (acceptable (state_of past) (event.Start q c t)) (is_history past) (history_before later (event.Start q c t ∷ past) h) in
+    let w = both (acceptable (state_of past) (event.Start q c t)) (is_history past)
+        (history_before later (event.Start q c t ∷ past) h) in
     join (not (list_any (is_start_of q) before)) _
-    (no_any (list_any (is_start_of q) before) (λ k. start_is_new past q c t w.1 w.0 (any_in (is_start_of q) before [] (or_left (list_any (is_start_of q) before) false k))))
-    (no_any (list_any (is_start_of q) later) (λ k. no_start_later q later (event.Start q c t ∷ past) h (or_left (nat_eq q q) _ (itself q)) k))
+    (no_any (list_any (is_start_of q) before)
+        (λ k. start_is_new past q c t w.1 w.0
+        (any_in (is_start_of q) before [] (or_left (list_any (is_start_of q) before) false k))))
+    (no_any (list_any (is_start_of q) later)
+        (λ k. no_start_later q later (event.Start q c t ∷ past) h (or_left (nat_eq q q) _ (itself q)) k))
 
 pub number_names_one : NumberNamesOne
 number_names_one hs q c t before later e =
     let P : List Event → Type 0 = λ xs. IsTrue (is_history xs) in
-    named_once q c t before later (subst P (ap (λ xs. onto xs []) e ∙ split_at before later (event.Start q c t)) (inputs_make_histories hs))
+    named_once q c t before later (subst P (ap (λ xs. onto xs []) e ∙ split_at before later (event.Start q c t))
+        (inputs_make_histories hs))
 
 -- ---- never both
 
@@ -219,40 +249,59 @@ abbrev Says : (Order → Bool) → Bool → Send → Type 0
 Says test b m = is_command test m ≡ true → b ≡ true
 
 says_elsewhere : (test : Order → Bool) (b : Bool) → HoldsElsewhere (Says test b)
-says_elsewhere test b = record { answers = λ a m k r c h. absurd (true≢false (sym h)); statuses = λ l p v e o h. absurd (true≢false (sym h)) }
+says_elsewhere test b = record { answers = λ a m k r c h. absurd (true≢false (sym h)); statuses = λ l p v e o h.
+    absurd (true≢false (sym h)) }
 
-each_is_there : (test : Order → Bool) (b : Bool) (ms : List (ℕ × Send)) → (list_any (λ (m : ℕ × Send). is_command test m.1) ms ≡ true → b ≡ true) → Each (Says test b) ms
+each_is_there : (test : Order → Bool) (b : Bool) (ms : List (ℕ × Send))
+    → (list_any (λ (m : ℕ × Send). is_command test m.1) ms ≡ true → b ≡ true) → Each (Says test b) ms
 each_is_there test b [] f = tt
-each_is_there test b (m ∷ ms) f = (λ h. f (or_left (is_command test m.1) _ h), each_is_there test b ms (λ k. f (or_right (is_command test m.1) _ k)))
+each_is_there test b (m ∷ ms) f =
+    (λ h. f (or_left (is_command test m.1) _ h), each_is_there test b ms (λ k. f (or_right (is_command test m.1) _ k)))
 
-any_says : (test : Order → Bool) (b : Bool) (ms : List (ℕ × Send)) → Each (Says test b) ms → list_any (λ (m : ℕ × Send). is_command test m.1) ms ≡ true → b ≡ true
+any_says : (test : Order → Bool) (b : Bool) (ms : List (ℕ × Send)) → Each (Says test b) ms
+    → list_any (λ (m : ℕ × Send). is_command test m.1) ms ≡ true → b ≡ true
 any_says test b [] h k = absurd (true≢false (sym k))
 any_says test b (m ∷ ms) h k = either (is_command test m.1) _ _ h.0 (any_says test b ms h.1) k
 
-pending_asks : (test : Order → Bool) (s : ShowState) → list_any (λ (m : ℕ × Send). is_command test m.1) (all_pending s) ≡ true → asks test s ≡ true
-pending_asks test s h = any-mapped (λ (o : ℕ × Order). (o.0, order o.1)) (λ (m : ℕ × Send). is_command test m.1) (λ (o : ℕ × Order). test o.1) (λ o k. k) (pending s) h
+pending_asks : (test : Order → Bool) (s : ShowState)
+    → list_any (λ (m : ℕ × Send). is_command test m.1) (all_pending s) ≡ true → asks test s ≡ true
+pending_asks test s h = any-mapped (λ (o : ℕ × Order). (o.0, order o.1)) (λ (m : ℕ × Send). is_command test m.1)
+    (λ (o : ℕ × Order). test o.1) (λ o k. k) (pending s) h
 
 -- what is sent for an input is pending after its batch
-pub sent_asks : (test : Order → Bool) (s : ShowState) (x : Happening) → list_any (λ (m : ℕ × Send). is_command test m.1) (given_at s x).sends ≡ true → asks test (after_events s (given_at s x).batch) ≡ true
+pub sent_asks : (test : Order → Bool) (s : ShowState) (x : Happening)
+    → list_any (λ (m : ℕ × Send). is_command test m.1) (given_at s x).sends ≡ true
+    → asks test (after_events s (given_at s x).batch) ≡ true
 sent_asks test s x h =
     let t : ShowState = after_events s (given_at s x).batch in
-    any_says test (asks test t) (given_at s x).sends (happening-each (Says test (asks test t)) (says_elsewhere test (asks test t)) s x (each_is_there test (asks test t) (all_pending t) (pending_asks test t))) h
+    any_says test (asks test t) (given_at s x).sends
+        (happening-each (Says test (asks test t)) (says_elsewhere test (asks test t)) s x
+        (each_is_there test (asks test t) (all_pending t) (pending_asks test t))) h
 
-asked_before : (test : Order → Bool) (past : List Event) (hs : List Happening) → list_any (λ (m : ℕ × Send). is_command test m.1) (run (state_of past) hs).sends ≡ true → ever (asks test) (onto (joined (run (state_of past) hs).batches) past) ≡ true
+asked_before : (test : Order → Bool) (past : List Event) (hs : List Happening)
+    → list_any (λ (m : ℕ × Send). is_command test m.1) (run (state_of past) hs).sends ≡ true
+    → ever (asks test) (onto (joined (run (state_of past) hs).batches) past) ≡ true
 asked_before test past [] h = absurd (true≢false (sym h))
 asked_before test past (x ∷ hs) h =
     let g : Given = given_at (state_of past) x in
     let next : ShowState = after_events (state_of past) g.batch in
     let p : ℕ × Send → Bool = λ m. is_command test m.1 in
-    let P : ShowState → Type 0 = λ s. list_any p (run s hs).sends ≡ true → ever (asks test) (onto (joined (run s hs).batches) (onto g.batch past)) ≡ true in
+    let P : ShowState → Type 0 = λ s. list_any p (run s hs).sends ≡ true
+        → ever (asks test) (onto (joined (run s hs).batches) (onto g.batch past)) ≡ true in
     let rest : P next = subst P (state-onto past g.batch) (asked_before test (onto g.batch past) hs) in
     let Q : ShowState → Type 0 = λ s. asks test s ≡ true in
-    let first : list_any p g.sends ≡ true → ever (asks test) (onto (joined (run next hs).batches) (onto g.batch past)) ≡ true =
-    λ k. ever_onto (asks test) (joined (run next hs).batches) (onto g.batch past) (ever_now (asks test) (onto g.batch past) (subst Q (sym (state-onto past g.batch)) (sent_asks test (state_of past) x k))) in
+    let first : list_any p g.sends ≡ true → ever (asks test) (onto (joined (run next hs).batches) (onto g.batch past))
+        ≡ true =
+    λ k. ever_onto (asks test) (joined (run next hs).batches) (onto g.batch past)
+        (ever_now (asks test) (onto g.batch past)
+        (subst Q (sym (state-onto past g.batch)) (sent_asks test (state_of past) x k))) in
     let R : List Event → Type 0 = λ xs. ever (asks test) xs ≡ true in
-    let split : onto (joined (run next hs).batches) (onto g.batch past) ≡ onto (joined (with_batch g.batch (run next hs).batches)) past =
-    sym (onto-append g.batch (joined (run next hs).batches) past) ∙ ap (λ xs. onto xs past) (sym (joined-with g.batch (run next hs).batches)) in
-    subst R split (either (list_any p g.sends) (list_any p (run next hs).sends) _ first rest (sym (any-append p g.sends (run next hs).sends) ∙ h))
+    let split : onto (joined (run next hs).batches) (onto g.batch past) ≡ onto
+        (joined (with_batch g.batch (run next hs).batches)) past =
+    sym (onto-append g.batch (joined (run next hs).batches) past)
+        ∙ ap (λ xs. onto xs past) (sym (joined-with g.batch (run next hs).batches)) in
+    subst R split (either (list_any p g.sends) (list_any p (run next hs).sends) _ first rest
+        (sym (any-append p g.sends (run next hs).sends) ∙ h))
 
 not_both : (a b c d : Bool) → (a ≡ true → c ≡ true) → (b ≡ true → d ≡ true) → not (c && d) ≡ true → not (a && b) ≡ true
 not_both true true c d f g h = contrary (c && d) (join c d (f refl) (g refl)) h
@@ -262,5 +311,7 @@ not_both false b c d f g h = refl
 pub never_sent_both : NeverSentBoth
 never_sent_both hs q d =
     let h : List Event = onto (accepted hs) [] in
-    not_both (was_sent (is_go_to q d) hs) (was_sent (is_cancel_to q d) hs) (ever (asks (is_go_to q d)) h) (ever (asks (is_cancel_to q d)) h)
-    (asked_before (is_go_to q d) [] hs) (asked_before (is_cancel_to q d) [] hs) (never-asked-both h q d (inputs_make_histories hs))
+    not_both (was_sent (is_go_to q d) hs) (was_sent (is_cancel_to q d) hs) (ever (asks (is_go_to q d)) h)
+        (ever (asks (is_cancel_to q d)) h)
+    (asked_before (is_go_to q d) [] hs) (asked_before (is_cancel_to q d) [] hs)
+        (never-asked-both h q d (inputs_make_histories hs))

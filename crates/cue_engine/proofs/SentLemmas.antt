@@ -7,12 +7,14 @@ use Rattle.cue_core.specs.State.{ShowState}
 use Rattle.cue_core.specs.Steps.{after_events}
 use Rattle.cue_osc.specs.Content.{Content}
 use Rattle.cue_outbox.specs.Sending.{Send, answer, status, status_of, all_pending, datagrams}
-use Rattle.cue_outbox.proofs.Lists.{each_append, each_flat, each_map}
+use Rattle.cue_outbox.proofs.ListLemmas.{each_append, each_flat, each_map}
 use Rattle.cue_core.specs.declared.refusal.Refusal.{Refusal}
 use Rattle.cue_core.specs.declared.refusal.Refusal.TheVariants as refusal
-use Rattle.cue_engine.specs.Heard.{Heard, refused, carried, all_counts, hear_all, all_events, replies_to, replies_or_one, shown_by, sent_to}
+use Rattle.cue_engine.specs.Heard.{Heard, refused, carried, all_counts, hear_all, all_events, replies_to}
+use Rattle.cue_engine.specs.Heard.{replies_or_one, shown_by, sent_to}
 use Rattle.cue_core.specs.InTurn.{Step}
-use Rattle.cue_engine.specs.Given.{Input, datagram, tick, Given, given, given_by, given_heard, given_refused, are_too_many, messages_in}
+use Rattle.cue_engine.specs.Given.{Input, datagram, tick, Given, given, given_by, given_heard, given_refused}
+use Rattle.cue_engine.specs.Given.{are_too_many, messages_in}
 use Rattle.cue_core.specs.Batches.{closed}
 use Rattle.cue_outbox.specs.New.{newly_pending, is_new}
 use Rattle.cue_engine.specs.Runs.{Happening, took, given_at}
@@ -35,7 +37,8 @@ each : {A : Type 0} (xs : List A) → AllByRecursion (λ x. Unit {0}) xs
 each [] = tt
 each (x ∷ xs) = (tt, each xs)
 
-each_kept : {A : Type 0} (P : A → Type 0) (p : A → Bool) (xs : List A) → AllByRecursion P xs → AllByRecursion P (filter p xs)
+each_kept : {A : Type 0} (P : A → Type 0) (p : A → Bool) (xs : List A) → AllByRecursion P xs
+    → AllByRecursion P (filter p xs)
 each_kept P p [] h = tt
 each_kept P p (x ∷ xs) h = by (p x) h.0 (each_kept P p xs h.1)
   where
@@ -61,7 +64,9 @@ module _ (R : Send → Type 0) (els : HoldsElsewhere R) where
 
   reply-each : (h : Heard) → AllByRecursion R (replies_to h)
   reply-each (refused a c) = (els.answers _ _ _ _ _, tt)
-  reply-each (carried a xs) = (els.answers _ _ _ _ _, each_flat (λ x. Unit {0}) R (λ (x : Step). shown_by x.command x.before) (λ x u. shown-each x.command x.before) xs (each xs))
+  reply-each (carried a xs) =
+      (els.answers _ _ _ _ _, each_flat (λ x. Unit {0}) R (λ (x : Step). shown_by x.command x.before)
+      (λ x u. shown-each x.command x.before) xs (each xs))
 
   replies-each : (hs : List Heard) → AllByRecursion R (replies_or_one hs)
   replies-each [] = (els.answers _ _ _ _ _, tt)
@@ -82,14 +87,17 @@ module _ (R : Send → Type 0) (els : HoldsElsewhere R) where
   heard-each s from hs = by (are_too_many hs)
     where
       full : Given
-      full = record { batch = all_events hs; sends = sent_to from (replies_or_one hs) ++ newly_pending s (after_events s (all_events hs)); counts = all_counts hs }
+      full = record { batch = all_events hs; sends =
+          sent_to from (replies_or_one hs) ++ newly_pending s (after_events s (all_events hs)); counts = all_counts hs }
 
       by : (b : Bool) → HoldsOfSent R s (if b then given_refused from refusal.TooMany else full)
       by true = refused-each s from refusal.TooMany
-      by false = λ h. each_append (λ (m : ℕ × Send). R m.1) (sent_to from (replies_or_one hs)) (newly_pending s (after_events s (all_events hs)))
+      by false = λ h. each_append (λ (m : ℕ × Send). R m.1) (sent_to from (replies_or_one hs))
+          (newly_pending s (after_events s (all_events hs)))
           (sent-each from (replies_or_one hs) (replies-each hs)) (newly-each s (after_events s (all_events hs)) h)
 
-  datagram-each : (s : ShowState) (now from : ℕ) (r : Result (List Content) Refusal) → HoldsOfSent R s (given_by s now from r)
+  datagram-each : (s : ShowState) (now from : ℕ) (r : Result (List Content) Refusal)
+      → HoldsOfSent R s (given_by s now from r)
   datagram-each s now from (Err why) = refused-each s from why
   datagram-each s now from (Ok ms) = heard-each s from (hear_all s now from ms)
 

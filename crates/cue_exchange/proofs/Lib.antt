@@ -1,7 +1,7 @@
-pub mod Lists
-pub mod AnswerRules
-pub mod DeviceRules
-pub mod LiveRules
-pub mod LookUps
-pub mod PlaceRules
-pub mod HolderRules
+pub mod ListLemmas
+pub mod AnswerLemmas
+pub mod DeviceLemmas
+pub mod LiveLemmas
+pub mod LookUpLemmas
+pub mod PlaceLemmas
+pub mod HolderLemmas

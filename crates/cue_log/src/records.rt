@@ -36,7 +36,7 @@ impl Records {
     }
 
     /// The payloads, one after the other. It takes no memory.
-    #[tactic(auto, using(crate::proofs::RecordsRead::few_in))]
+    #[tactic(auto, using(crate::proofs::RecordsReadLemmas::few_in))]
     pub fn payloads(&self) -> Payloads<'_>
         ensures all { result ≡ self.now }
         ensures few { length self.now < 2 ^ 64 }

@@ -52,7 +52,7 @@ impl Queue {
     }
 
     /// Keeps the first `count` datagrams, and drops the others.
-    #[tactic(auto, using(crate::proofs::Fronts::view_of_front))]
+    #[tactic(auto, using(crate::proofs::FrontLemmas::view_of_front))]
     pub fn truncate(&mut self, count: usize)
         ensures { self.new ≡ take count self.old }
     {

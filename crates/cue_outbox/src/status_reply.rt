@@ -29,7 +29,7 @@ pub fn status(alloc: Global, to: u16, state: &State) -> Result<Out, AllocError>
     written(alloc, to, b"/status", args)
 }
 
-#[tactic(auto, using(crate::proofs::Facts::last_fits))]
+#[tactic(auto, using(crate::proofs::FactLemmas::last_fits))]
 fn last_number(state: &State) -> u32
     ensures value { result ≡ state.now.last_seq }
     ensures range { result ≤ MAX_NUMBER }
@@ -38,7 +38,7 @@ fn last_number(state: &State) -> u32
 }
 
 // The text of the place; empty where there is none.
-#[tactic(auto, using(crate::proofs::Facts::number_text, crate::proofs::Facts::number_short))]
+#[tactic(auto, using(crate::proofs::FactLemmas::number_text, crate::proofs::FactLemmas::number_short))]
 fn text_of(place: &Option<CueNo>) -> &[u8]
     ensures value { result.now ≡ unwrap_or place.now [] }
     ensures text { IsText result.now }
@@ -50,7 +50,7 @@ fn text_of(place: &Option<CueNo>) -> &[u8]
     }
 }
 
-#[tactic(auto, using(crate::proofs::Facts::live_fits))]
+#[tactic(auto, using(crate::proofs::FactLemmas::live_fits))]
 fn live_count(state: &State) -> u32
     ensures value { result ≡ length state.now.live }
     ensures range { result ≤ MAX_LIVE }
@@ -58,7 +58,7 @@ fn live_count(state: &State) -> u32
     state.live().len() as u32
 }
 
-#[tactic(auto, using(crate::proofs::Facts::ended_fits))]
+#[tactic(auto, using(crate::proofs::FactLemmas::ended_fits))]
 fn last_ended(state: &State) -> u32
     ensures value { result ≡ ended_number state.now.ended }
     ensures range { result ≤ MAX_NUMBER }

@@ -1,5 +1,7 @@
 -- Bytes cut at a separator: the function and what it means.
-use Rattle.std.proofs.Common.{◌≡◌, ◌≢◌, ℕ, zero, suc, ◌+◌, ◌-◌, ◌<◌, ◌≤◌, Bool, cond, not, ltb, ◌==◌, take, drop, get_or, add-one, position, List, [], ◌∷◌, ◌++◌, length, Option, Some, None, refl, sym, ap, subst, ◌∙◌, arith, inl, inr}
+use Rattle.std.proofs.Common.{◌≡◌, ◌≢◌, ℕ, zero, suc, ◌+◌, ◌-◌, ◌<◌, ◌≤◌, Bool, cond, not, ltb, ◌==◌, take, drop}
+use Rattle.std.proofs.Common.{get_or, add-one, position, List, [], ◌∷◌, ◌++◌, length, Option, Some, None, refl, sym, ap}
+use Rattle.std.proofs.Common.{subst, ◌∙◌, arith, inl, inr}
 use Rattle.std.specs.List.{prefix_len}
 use Rattle.std.specs.Option.{option_map}
 use Rattle.std.proofs.lemmas.Bool.{cases_eq, cases_Bool, eq-eqb, ne_eqb, eqb-true, eqb-false, not-true, ltb-false}
@@ -71,7 +73,9 @@ pub record Encloses (c : ℕ) (bs inside : List ℕ) : Type 0 where
   pub bytes_are : bs ≡ inside ++ c ∷ rest
   pub has_no : HasNo c inside
 
-Encloses-more : (c b : ℕ) (bs inside : List ℕ) (found : Option (List ℕ)) → b ≢ c → ((t : List ℕ) → found ≡ Some t → Encloses c bs t) → option_map (λ t. b ∷ t) found ≡ Some inside → Encloses c (b ∷ bs) inside
+Encloses-more : (c b : ℕ) (bs inside : List ℕ) (found : Option (List ℕ)) → b ≢ c
+    → ((t : List ℕ) → found ≡ Some t → Encloses c bs t) → option_map (λ t. b ∷ t) found ≡ Some inside
+    → Encloses c (b ∷ bs) inside
 Encloses-more c b bs inside None ne more h = cc
 Encloses-more c b bs inside (Some t) ne more h =
     let found = more t refl in
@@ -84,17 +88,20 @@ text_before-is c (b ∷ bs) inside h = elim (cases_eq b c) [
   | inl e ↦ (let k = rw (eq-eqb b c e) at h in
       let none : inside ≡ [] = cc in
       rw none (record { rest = bs; bytes_are = ap (λ x. x ∷ bs) e; has_no = tt }))
-  | inr ne ↦ Encloses-more c b bs inside (text_before c bs) ne (λ t k. text_before-is c bs t k) (rw (ne_eqb b c ne) at h)
+  | inr ne ↦ Encloses-more c b bs inside (text_before c bs) ne (λ t k. text_before-is c bs t k)
+      (rw (ne_eqb b c ne) at h)
 ]
 
 -- and what stands before the first closing byte is enclosed
-pub text_before-again : (c : ℕ) (inside rest : List ℕ) → HasNo c inside → text_before c (inside ++ c ∷ rest) ≡ Some inside
+pub text_before-again : (c : ℕ) (inside rest : List ℕ) → HasNo c inside
+    → text_before c (inside ++ c ∷ rest) ≡ Some inside
 text_before-again c [] rest h = rw (eq-eqb c c refl) refl
 text_before-again c (b ∷ inside) rest h = rw (ne_eqb b c h.0, text_before-again c inside rest h.1) refl
 
 -- ---- by the place of the first separator
 
-cut-at : (c : ℕ) (xs : List ℕ) (i : ℕ) → i < length xs → get_or xs i 0 ≡ c → ((k : ℕ) → k < i → get_or xs k 0 ≢ c) → (cut c xs ≡ take i xs ∷ cut c (drop (suc i) xs)) × (text_before c xs ≡ Some (take i xs))
+cut-at : (c : ℕ) (xs : List ℕ) (i : ℕ) → i < length xs → get_or xs i 0 ≡ c → ((k : ℕ) → k < i → get_or xs k 0 ≢ c)
+    → (cut c xs ≡ take i xs ∷ cut c (drop (suc i) xs)) × (text_before c xs ≡ Some (take i xs))
 cut-at c [] i l here below = absurd (omega arith)
 cut-at c (x ∷ xs) zero l here below = (cut-here c x xs here, rw (eq-eqb x c here) refl)
 cut-at c (x ∷ xs) (suc i) l here below =
@@ -102,7 +109,8 @@ cut-at c (x ∷ xs) (suc i) l here below =
     let more = cut-at c xs i (omega arith) here (λ k b. below (suc k) (omega arith)) in
     (cut-other c x xs ne ∙ ap (with_byte x) more.0, rw (ne_eqb x c ne, more.1) refl)
 
-cut-nowhere : (c : ℕ) (xs : List ℕ) → ((k : ℕ) → k < length xs → get_or xs k 0 ≢ c) → (cut c xs ≡ xs ∷ []) × (text_before c xs ≡ None)
+cut-nowhere : (c : ℕ) (xs : List ℕ) → ((k : ℕ) → k < length xs → get_or xs k 0 ≢ c)
+    → (cut c xs ≡ xs ∷ []) × (text_before c xs ≡ None)
 cut-nowhere c [] none = (refl, refl)
 cut-nowhere c (x ∷ xs) none =
     let ne : x ≢ c = none 0 (omega arith) in
@@ -112,18 +120,21 @@ cut-nowhere c (x ∷ xs) none =
 abbrev is : ℕ → ℕ → Bool
 is c b = b == c
 
-CutsFirst-found : (c : ℕ) (xs : List ℕ) (i : ℕ) → position (is c) xs ≡ Some i → CutsFirst c xs (take i xs) (Some (drop (i + 1) xs))
+CutsFirst-found : (c : ℕ) (xs : List ℕ) (i : ℕ) → position (is c) xs ≡ Some i
+    → CutsFirst c xs (take i xs) (Some (drop (i + 1) xs))
 CutsFirst-found c xs i h =
     let p = position-Some (is c) xs i 0 h in
     let both = cut-at c xs i p.0 (eqb-true _ c p.1) (λ k l. eqb-false _ c (p.2 k l)) in
     record {
       parts = rw add-one both.0;
       inside = both.1;
-      rest = (ap (λ n. drop (n + 1) xs) (sym (length-take-le i xs (omega (arith, p.0)))), omega (arith, length-take-le i xs (omega (arith, p.0)), length-drop (i + 1) xs, p.0));
+      rest = (ap (λ n. drop (n + 1) xs) (sym (length-take-le i xs (omega (arith, p.0)))), omega
+          (arith, length-take-le i xs (omega (arith, p.0)), length-drop (i + 1) xs, p.0));
     }
 
 -- the rest of a slice from n on, as a range gives it
-pub CutsFirst-range : (c : ℕ) (xs : List ℕ) (i : ℕ) → position (is c) xs ≡ Some i → CutsFirst c xs (take i xs) (Some (take (length xs - (i + 1)) (drop (i + 1) xs)))
+pub CutsFirst-range : (c : ℕ) (xs : List ℕ) (i : ℕ) → position (is c) xs ≡ Some i
+    → CutsFirst c xs (take i xs) (Some (take (length xs - (i + 1)) (drop (i + 1) xs)))
 CutsFirst-range c xs i h =
     subst (λ (r : List ℕ). CutsFirst c xs (take i xs) (Some r))
     (sym (take-length (drop (i + 1) xs)) ∙ ap (λ n. take n (drop (i + 1) xs)) (length-drop (i + 1) xs))
@@ -132,7 +143,8 @@ CutsFirst-range c xs i h =
 pub CutsFirst-none : (c : ℕ) (xs : List ℕ) → position (is c) xs ≡ None → CutsFirst c xs xs None
 CutsFirst-none c xs h =
     let past : length xs ≤ prefix_len (λ b. not (is c b)) xs = past_end _ _ h in
-    let both = cut-nowhere c xs (λ k l. eqb-false _ c (not-true _ (prefix_len_passes (λ b. not (is c b)) xs k 0 (omega arith)))) in
+    let both = cut-nowhere c xs
+        (λ k l. eqb-false _ c (not-true _ (prefix_len_passes (λ b. not (is c b)) xs k 0 (omega arith)))) in
     record { parts = both.0; inside = both.1; rest = tt }
   where
     past_end : (n m : ℕ) → cond (ltb n m) (Some n) None ≡ None → m ≤ n

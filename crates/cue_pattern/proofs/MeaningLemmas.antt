@@ -1,12 +1,14 @@
 -- Matching: the test and the meaning.
 use Rattle.std.proofs.Common.{◌≡◌, ℕ, Bool, true, List, [], ◌∷◌, ◌++◌, refl, sym, ap, ◌∙◌, inl, inr}
-use Rattle.std.proofs.lemmas.Bool.{cases_eq, eq-eqb, ne_eqb, eqb-true, and_parts, and_from, or_cases, or_left, or_right, leb-true, le-leb, not-true, not_from_false, false_from_ne_true, false≢true}
+use Rattle.std.proofs.lemmas.Bool.{cases_eq, eq-eqb, ne_eqb, eqb-true, and_parts, and_from, or_cases, or_left, or_right}
+use Rattle.std.proofs.lemmas.Bool.{leb-true, le-leb, not-true, not_from_false, false_from_ne_true, false≢true}
 use Rattle.cue_pattern.specs.declared.ranges.Range.{Range}
 use Rattle.cue_pattern.specs.declared.piece.Piece.{Piece}
 use Rattle.cue_pattern.specs.declared.piece.Piece.TheVariants.{One, Many, Listed, Unlisted, Among, Plain}
 use Rattle.cue_pattern.specs.Meaning.{IsIn, IsAmong, InPiece, InPart, InParts, Denotes}
 use Rattle.cue_pattern.specs.Reading.{cut}
-use Rattle.cue_pattern.specs.Matching.{is_in, takes, after_byte, after_any, after_text, after_texts, after_piece, part_matches, parts_match, matches}
+use Rattle.cue_pattern.specs.Matching.{is_in, takes, after_byte, after_any, after_text, after_texts, after_piece}
+use Rattle.cue_pattern.specs.Matching.{part_matches, parts_match, matches}
 use Rattle.cue_pattern.proofs.CutLemmas.{cut-is_cut, cut-from}
 
 -- ---- one byte
@@ -52,15 +54,18 @@ after_any-is rest [] h = record { front = []; tail = []; text_is = refl; in_piec
 after_any-is rest (b ∷ t) h = elim (or_cases _ _ h) [
   | inl here ↦ record { front = []; tail = b ∷ t; text_is = refl; in_piece = tt; passes = here }
   | inr later ↦ (let s = after_any-is rest t later in
-      record { front = b ∷ s.front; tail = s.tail; text_is = ap (λ x. b ∷ x) s.text_is; in_piece = tt; passes = s.passes })
+      record { front = b ∷ s.front; tail = s.tail; text_is = ap (λ x. b ∷ x) s.text_is; in_piece = tt; passes =
+          s.passes })
 ]
 
-after_any-again : (rest : List ℕ → Bool) (front tail : List ℕ) → rest tail ≡ true → after_any rest (front ++ tail) ≡ true
+after_any-again : (rest : List ℕ → Bool) (front tail : List ℕ) → rest tail ≡ true
+    → after_any rest (front ++ tail) ≡ true
 after_any-again rest [] [] h = h
 after_any-again rest [] (b ∷ t) h = or_left _ _ h
 after_any-again rest (b ∷ front) tail h = or_right _ _ (after_any-again rest front tail h)
 
-after_text-is : (u : List ℕ) (rest : List ℕ → Bool) (t : List ℕ) → after_text u rest t ≡ true → (tail : List ℕ) × (t ≡ u ++ tail) × (rest tail ≡ true)
+after_text-is : (u : List ℕ) (rest : List ℕ → Bool) (t : List ℕ) → after_text u rest t ≡ true
+    → (tail : List ℕ) × (t ≡ u ++ tail) × (rest tail ≡ true)
 after_text-is [] rest t h = (t, refl, h)
 after_text-is (c ∷ u) rest [] h = cc
 after_text-is (c ∷ u) rest (b ∷ t) h =
@@ -69,11 +74,13 @@ after_text-is (c ∷ u) rest (b ∷ t) h =
     let same : c ≡ b = eqb-true c b both.0 in
     (tail, (let e : b ∷ t ≡ c ∷ (u ++ tail) = cc in e), passes)
 
-after_text-again : (u : List ℕ) (rest : List ℕ → Bool) (tail : List ℕ) → rest tail ≡ true → after_text u rest (u ++ tail) ≡ true
+after_text-again : (u : List ℕ) (rest : List ℕ → Bool) (tail : List ℕ) → rest tail ≡ true
+    → after_text u rest (u ++ tail) ≡ true
 after_text-again [] rest tail h = h
 after_text-again (c ∷ u) rest tail h = and_from _ _ (eq-eqb c c refl) (after_text-again u rest tail h)
 
-after_texts-is : (ts : List (List ℕ)) (rest : List ℕ → Bool) (t : List ℕ) → after_texts ts rest t ≡ true → Splits (Among ts) rest t
+after_texts-is : (ts : List (List ℕ)) (rest : List ℕ → Bool) (t : List ℕ) → after_texts ts rest t ≡ true
+    → Splits (Among ts) rest t
 after_texts-is [] rest t h = cc
 after_texts-is (u ∷ us) rest t h = elim (or_cases _ _ h) [
   | inl here ↦ (let (tail, is, passes) = after_text-is u rest t here in
@@ -82,7 +89,8 @@ after_texts-is (u ∷ us) rest t h = elim (or_cases _ _ h) [
       record { front = s.front; tail = s.tail; text_is = s.text_is; in_piece = inr s.in_piece; passes = s.passes })
 ]
 
-after_texts-again : (ts : List (List ℕ)) (rest : List ℕ → Bool) (front tail : List ℕ) → IsAmong ts front → rest tail ≡ true → after_texts ts rest (front ++ tail) ≡ true
+after_texts-again : (ts : List (List ℕ)) (rest : List ℕ → Bool) (front tail : List ℕ) → IsAmong ts front
+    → rest tail ≡ true → after_texts ts rest (front ++ tail) ≡ true
 after_texts-again [] rest front tail h passes = absurd h
 after_texts-again (u ∷ us) rest front tail (inl is) passes = rw is (or_left _ _ (after_text-again u rest tail passes))
 after_texts-again (u ∷ us) rest front tail (inr h) passes = or_right _ _ (after_texts-again us rest front tail h passes)
@@ -95,10 +103,12 @@ after_piece-is (Unlisted rs) rest t h = after_byte-is (Unlisted rs) rest t h
 after_piece-is (Among ts) rest t h = after_texts-is ts rest t h
 after_piece-is (Plain c) rest t h = after_byte-is (Plain c) rest t h
 
-after_piece-again : (p : Piece) (rest : List ℕ → Bool) (front tail : List ℕ) → InPiece p front → rest tail ≡ true → after_piece p rest (front ++ tail) ≡ true
+after_piece-again : (p : Piece) (rest : List ℕ → Bool) (front tail : List ℕ) → InPiece p front → rest tail ≡ true
+    → after_piece p rest (front ++ tail) ≡ true
 after_piece-again One rest front tail (b, is) passes = rw is passes
 after_piece-again Many rest front tail h passes = after_any-again rest front tail passes
-after_piece-again (Listed rs) rest front tail (b, is, inside) passes = rw is (and_from _ _ (is_in-again rs b inside) passes)
+after_piece-again (Listed rs) rest front tail (b, is, inside) passes =
+    rw is (and_from _ _ (is_in-again rs b inside) passes)
 after_piece-again (Unlisted rs) rest front tail (b, is, outside) passes =
     rw is (and_from _ _ (not_from_false _ (false_from_ne_true _ (λ k. outside (is_in-is rs b k)))) passes)
 after_piece-again (Among ts) rest front tail h passes = after_texts-again ts rest front tail h passes
@@ -125,7 +135,8 @@ unfolding parts_match
 parts_match-is [] [] h = tt
 parts_match-is [] (t ∷ ts) h = cc
 parts_match-is (p ∷ ps) [] h = cc
-parts_match-is (p ∷ ps) (t ∷ ts) h = let both = and_parts _ _ h in (part_matches-is p t both.0, parts_match-is ps ts both.1)
+parts_match-is (p ∷ ps) (t ∷ ts) h = let both = and_parts _ _ h in
+    (part_matches-is p t both.0, parts_match-is ps ts both.1)
 
 parts_match-again : (ps : List (List Piece)) (ts : List (List ℕ)) → InParts ps ts → parts_match ps ts ≡ true
 unfolding parts_match
@@ -135,16 +146,19 @@ parts_match-again (p ∷ ps) [] h = absurd h
 parts_match-again (p ∷ ps) (t ∷ ts) h = and_from _ _ (part_matches-again p t h.0) (parts_match-again ps ts h.1)
 
 -- what the test accepts is denoted
-pub matches-is : (pattern : List (List Piece)) (address : List ℕ) → matches pattern address ≡ true → Denotes pattern address
+pub matches-is : (pattern : List (List Piece)) (address : List ℕ) → matches pattern address ≡ true
+    → Denotes pattern address
 unfolding matches
 matches-is pattern [] h = cc
 matches-is pattern (b ∷ bs) h = elim (cases_eq b 47) [
-  | inl same ↦ (cut 47 bs, (bs, ap (λ x. x ∷ bs) same, cut-is_cut 47 bs), parts_match-is pattern (cut 47 bs) (rw (eq-eqb b 47 same) at h))
+  | inl same ↦ (cut 47 bs, (bs, ap (λ x. x ∷ bs) same, cut-is_cut 47 bs), parts_match-is pattern (cut 47 bs)
+      (rw (eq-eqb b 47 same) at h))
   | inr ne ↦ (let k = rw (ne_eqb b 47 ne) at h in cc)
 ]
 
 -- what is denoted is accepted
-pub matches-again : (pattern : List (List Piece)) (address : List ℕ) → Denotes pattern address → matches pattern address ≡ true
+pub matches-again : (pattern : List (List Piece)) (address : List ℕ) → Denotes pattern address
+    → matches pattern address ≡ true
 unfolding matches
 matches-again pattern address h =
     let (rest, is, cuts) = h.1 in

@@ -7,7 +7,8 @@ use Rattle.cue_pattern.specs.declared.piece.Piece.{Piece}
 use Rattle.cue_pattern.specs.Grammar.{IsPart, ArePartsSpelled, IsPattern}
 use Rattle.cue_pattern.specs.Reading.{cut, piece_at, pieces_behind, pieces_of, pattern_at}
 use Rattle.cue_pattern.proofs.CutLemmas.{cut-is_cut, cut-from}
-use Rattle.cue_pattern.proofs.SpellingLemmas.{piece_at-fronts, piece_at-again, pieces_behind-cons, pieces_behind-none, pieces_behind-end}
+use Rattle.cue_pattern.proofs.SpellingLemmas.{piece_at-fronts, piece_at-again, pieces_behind-cons, pieces_behind-none}
+use Rattle.cue_pattern.proofs.SpellingLemmas.{pieces_behind-end}
 
 -- what was mapped, where something was
 record Mapped {A B : Type 0} (f : A → B) (o : Option A) (y : B) : Type 0 where
@@ -28,7 +29,8 @@ record Begins (b : ℕ) (bs : List ℕ) (ps : List Piece) : Type 0 where
   pub rest_is : pieces_behind 0 (drop own bs) ≡ Some more
   pub pieces_are : piece ∷ more ≡ ps
 
-begins : (b : ℕ) (bs : List ℕ) (ps : List Piece) (found : Option (Piece × ℕ)) → piece_at b bs ≡ found → pieces_behind 0 (b ∷ bs) ≡ Some ps → Begins b bs ps
+begins : (b : ℕ) (bs : List ℕ) (ps : List Piece) (found : Option (Piece × ℕ)) → piece_at b bs ≡ found
+    → pieces_behind 0 (b ∷ bs) ≡ Some ps → Begins b bs ps
 begins b bs ps None is h = let none = pieces_behind-none b bs is in cc
 begins b bs ps (Some (p, n)) is h =
     let m = mapped (λ qs. p ∷ qs) (pieces_behind 0 (drop n bs)) ps (sym (pieces_behind-cons b bs p n is) ∙ h) in
@@ -47,7 +49,8 @@ part-is (p ∷ ps) (b ∷ bs) h =
     let rest : a.more ≡ ps = (let e = a.pieces_are in cc) in
     let front : piece_at b bs ≡ Some (p, a.own) = piece-same _ p a.piece a.own a.piece_is same in
     let f = piece_at-fronts b bs p a.own front in
-    let more : pieces_behind 0 f.rest ≡ Some ps = ap (pieces_behind 0) (sym f.rest_is) ∙ (a.rest_is ∙ ap (λ (x : List Piece). Some x) rest) in
+    let more : pieces_behind 0 f.rest ≡ Some ps = ap (pieces_behind 0) (sym f.rest_is)
+        ∙ (a.rest_is ∙ ap (λ (x : List Piece). Some x) rest) in
     (b ∷ f.front, f.rest, ap (λ x. b ∷ x) f.bytes_are, f.spells, part-is ps f.rest more)
 
 part-again : (ps : List Piece) (t : List ℕ) → IsPart t ps → pieces_behind 0 t ≡ Some ps
@@ -58,19 +61,24 @@ part-again (p ∷ ps) t h =
     ∙ ap (λ (x : List ℕ). option_map (λ qs. p ∷ qs) (pieces_behind 0 x)) r.rest_is
     ∙ ap (option_map (λ qs. p ∷ qs)) (part-again ps h.1 h.4)
 
-pieces_of-part : (t : List ℕ) (ts : List (List ℕ)) (found : Option (List Piece)) (pattern : List (List Piece)) → pieces_behind 0 t ≡ found → ((qs : List (List Piece)) → pieces_of ts ≡ Some qs → ArePartsSpelled ts qs) → option_and_then (λ p. option_map (λ ps. p ∷ ps) (pieces_of ts)) found ≡ Some pattern → ArePartsSpelled (t ∷ ts) pattern
+pieces_of-part : (t : List ℕ) (ts : List (List ℕ)) (found : Option (List Piece)) (pattern : List (List Piece))
+    → pieces_behind 0 t ≡ found → ((qs : List (List Piece)) → pieces_of ts ≡ Some qs → ArePartsSpelled ts qs)
+    → option_and_then (λ p. option_map (λ ps. p ∷ ps) (pieces_of ts)) found ≡ Some pattern
+    → ArePartsSpelled (t ∷ ts) pattern
 pieces_of-part t ts None pattern is more h = cc
 pieces_of-part t ts (Some p) pattern is more h =
     let m = mapped (λ ps. p ∷ ps) (pieces_of ts) pattern h in
     subst (ArePartsSpelled (t ∷ ts)) m.gives (part-is p t is, more m.value m.was)
 
-pieces_of-is : (ts : List (List ℕ)) (pattern : List (List Piece)) → pieces_of ts ≡ Some pattern → ArePartsSpelled ts pattern
+pieces_of-is : (ts : List (List ℕ)) (pattern : List (List Piece)) → pieces_of ts ≡ Some pattern
+    → ArePartsSpelled ts pattern
 unfolding pieces_of
 pieces_of-is [] [] h = tt
 pieces_of-is [] (p ∷ ps) h = cc
 pieces_of-is (t ∷ ts) pattern h = pieces_of-part t ts (pieces_behind 0 t) pattern refl (λ qs k. pieces_of-is ts qs k) h
 
-pieces_of-again : (ts : List (List ℕ)) (pattern : List (List Piece)) → ArePartsSpelled ts pattern → pieces_of ts ≡ Some pattern
+pieces_of-again : (ts : List (List ℕ)) (pattern : List (List Piece)) → ArePartsSpelled ts pattern
+    → pieces_of ts ≡ Some pattern
 unfolding pieces_of
 pieces_of-again [] [] h = refl
 pieces_of-again [] (p ∷ ps) h = absurd h
@@ -78,16 +86,19 @@ pieces_of-again (t ∷ ts) [] h = absurd h
 pieces_of-again (t ∷ ts) (p ∷ ps) h = rw (part-again p t h.0, pieces_of-again ts ps h.1) refl
 
 -- what is read is what the bytes spell
-pub pattern_at-is : (bytes : List ℕ) (pattern : List (List Piece)) → pattern_at bytes ≡ Some pattern → IsPattern bytes pattern
+pub pattern_at-is : (bytes : List ℕ) (pattern : List (List Piece)) → pattern_at bytes ≡ Some pattern
+    → IsPattern bytes pattern
 unfolding pattern_at
 pattern_at-is [] pattern h = cc
 pattern_at-is (b ∷ bs) pattern h = elim (cases_eq b 47) [
-  | inl same ↦ (cut 47 bs, (bs, ap (λ x. x ∷ bs) same, cut-is_cut 47 bs), pieces_of-is (cut 47 bs) pattern (rw (eq-eqb b 47 same) at h))
+  | inl same ↦ (cut 47 bs, (bs, ap (λ x. x ∷ bs) same, cut-is_cut 47 bs), pieces_of-is (cut 47 bs) pattern
+      (rw (eq-eqb b 47 same) at h))
   | inr ne ↦ (let k = rw (ne_eqb b 47 ne) at h in cc)
 ]
 
 -- what the bytes spell is read
-pub pattern_at-again : (bytes : List ℕ) (pattern : List (List Piece)) → IsPattern bytes pattern → pattern_at bytes ≡ Some pattern
+pub pattern_at-again : (bytes : List ℕ) (pattern : List (List Piece)) → IsPattern bytes pattern
+    → pattern_at bytes ≡ Some pattern
 unfolding pattern_at
 pattern_at-again bytes pattern h =
     let (rest, is, cuts) = h.1 in

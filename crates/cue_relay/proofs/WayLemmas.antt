@@ -1,5 +1,6 @@
 -- What a way tells of the datagram that takes it.
-use Rattle.std.proofs.Common.{◌≡◌, ℕ, ◌+◌, ◌≤◌, ◌<◌, Bool, true, false, ◌&&◌, ◌==◌, nat_le, ◌⊎◌, inl, inr, List, [], ◌∷◌, ◌++◌, length, take, Option, Some, None, refl, sym, ap, ◌∙◌, subst, arith, cond}
+use Rattle.std.proofs.Common.{◌≡◌, ℕ, ◌+◌, ◌≤◌, ◌<◌, Bool, true, false, ◌&&◌, ◌==◌, nat_le, ◌⊎◌, inl, inr, List, []}
+use Rattle.std.proofs.Common.{◌∷◌, ◌++◌, length, take, Option, Some, None, refl, sym, ap, ◌∙◌, subst, arith, cond}
 use Rattle.std.specs.Prelude.{slice_get, Contains, option_and_then}
 use Rattle.std.proofs.lemmas.Bool.{and_parts, eqb-true, leb-true, lt-leb}
 use Rattle.std.proofs.lemmas.Bool.Decides.{leb_tells}
@@ -20,14 +21,17 @@ use Rattle.cue_relay.specs.Wires.{Sending}
 use Rattle.cue_relay.specs.Relayed.{sent_by, handed_on, all_handed_on}
 use Rattle.cue_relay.specs.Laws.{CameBy}
 
-too_long : (c : Address) (routes : List Route) (at : Opening) (from : Address) (len : ℕ) → MAX_LEN < len → way_of c routes at from len ≡ None
+too_long : (c : Address) (routes : List Route) (at : Opening) (from : Address) (len : ℕ) → MAX_LEN < len
+    → way_of c routes at from len ≡ None
 too_long c routes at from len h = rw (lt-leb len MAX_LEN h) refl
 
-cut_comes : (size : ℕ) → MAX_LEN < size → (r : Relay) (now : ℕ) (at : Opening) (from : Address) (bytes : List ℕ) → (length bytes ≤ size) ⊎ (size < length bytes)
+cut_comes : (size : ℕ) → MAX_LEN < size → (r : Relay) (now : ℕ) (at : Opening) (from : Address) (bytes : List ℕ)
+    → (length bytes ≤ size) ⊎ (size < length bytes)
     → handed_on r (comes now at from (take size bytes)) ≡ handed_on r (comes now at from bytes)
 cut_comes size h r now at from bytes (inl fits) = rw (take_all size bytes fits) refl
 cut_comes size h r now at from bytes (inr long) =
-    ap (sent_by (take size bytes)) (too_long r.controller r.routes.now at from (length (take size bytes)) (omega (arith, h, long, length-take size bytes)))
+    ap (sent_by (take size bytes)) (too_long r.controller r.routes.now at from (length (take size bytes))
+        (omega (arith, h, long, length-take size bytes)))
     ∙ sym (ap (sent_by bytes) (too_long r.controller r.routes.now at from (length bytes) (omega (arith, h, long))))
 
 le_or : (a b : ℕ) → (a ≤ b) ⊎ (b < a)
@@ -58,13 +62,18 @@ guarded : {A : Type 0} (b : Bool) (o : Option A) (x : A) → cond b o None ≡ S
 guarded true o x e = (refl, e)
 guarded false o x e = absurd (none-some x e)
 
-went : (c : Address) (routes : List Route) (at : Opening) (from : Address) (len : ℕ) (way : Way) → way_of c routes at from len ≡ Some way → Went c routes at from len way
+went : (c : Address) (routes : List Route) (at : Opening) (from : Address) (len : ℕ) (way : Way)
+    → way_of c routes at from len ≡ Some way → Went c routes at from len way
 went c routes at from len way e =
-    let short = guarded (nat_le len MAX_LEN) (option_and_then (λ route. way_by c route at from) (slice_get routes at.route)) way e in
+    let short = guarded (nat_le len MAX_LEN)
+        (option_and_then (λ route. way_by c route at from) (slice_get routes at.route)) way e in
     option_and_then_some (λ route. way_by c route at from) (slice_get routes at.route) way short.1
     (λ route found by.
-    let known = guarded (is_same from (who_is_at c route at.side)) (Some (record { out = record { route = at.route; side = across at.side }; to = who_is_at c route (across at.side) })) way by in
-    let same = same_Some (record { out = record { route = at.route; side = across at.side }; to = who_is_at c route (across at.side) }) way known.1 in
+    let known = guarded (is_same from (who_is_at c route at.side))
+        (Some (record { out = record { route = at.route; side = across at.side }; to =
+        who_is_at c route (across at.side) })) way by in
+    let same = same_Some (record { out = record { route = at.route; side = across at.side }; to = who_is_at c route
+        (across at.side) }) way known.1 in
     record {
       route = route;
       found = found;
@@ -89,7 +98,8 @@ in_one x y h = elim (Contains-push_cases [] x y h) [ inl k ↦ absurd (omega (ar
 none_in : {X : Type 0} {P : Type 0} (y : X) → Contains [] y → P
 none_in y h = absurd (omega (arith, h.1))
 
-sent_of : (r : Relay) (now : ℕ) (at : Opening) (from : Address) (bytes : List ℕ) (way : Option Way) (s : Sending) → Contains (sent_by bytes way) s
+sent_of : (r : Relay) (now : ℕ) (at : Opening) (from : Address) (bytes : List ℕ) (way : Option Way) (s : Sending)
+    → Contains (sent_by bytes way) s
     → (bytes ≡ s.bytes) × (way ≡ Some s.way)
 sent_of r now at from bytes None s h = none_in s h
 sent_of r now at from bytes (Some way) s h =
@@ -134,21 +144,26 @@ came_at_controller : (side : Side) → across side ≡ Stage → side ≡ Contro
 came_at_controller Controller e = refl
 came_at_controller Stage e = sym e
 
-same_opening : (at : Opening) (route : ℕ) (side : Side) → at.route ≡ route → at.side ≡ side → at ≡ record { route = route; side = side }
+same_opening : (at : Opening) (route : ℕ) (side : Side) → at.route ≡ route → at.side ≡ side
+    → at ≡ record { route = route; side = side }
 same_opening at route side e f = rw (sym e, sym f) refl
 
-came_by : (r : Relay) (given : List Answer) (s : Sending) (now : ℕ) (at at_then : Opening) (from from_then : Address) (route : Route)
-    → Contains given (comes now at from s.bytes) → slice_get r.routes.now at.route ≡ Some route → s.way.out.route ≡ at.route → length s.bytes ≤ MAX_LEN → at ≡ at_then → from ≡ from_then
+came_by : (r : Relay) (given : List Answer) (s : Sending) (now : ℕ) (at at_then : Opening) (from from_then : Address)
+    (route : Route)
+    → Contains given (comes now at from s.bytes) → slice_get r.routes.now at.route ≡ Some route
+        → s.way.out.route ≡ at.route → length s.bytes ≤ MAX_LEN → at ≡ at_then → from ≡ from_then
     → CameBy r given s at_then from_then route
 came_by r given s now at at_then from from_then route came found out fits e f = record {
   now = now;
-  came = subst (λ (x : Address). Contains given (comes now at_then x s.bytes)) f (subst (λ (x : Opening). Contains given (comes now x from s.bytes)) e came);
+  came = subst (λ (x : Address). Contains given (comes now at_then x s.bytes)) f
+      (subst (λ (x : Opening). Contains given (comes now x from s.bytes)) e came);
   found = subst (λ (x : Opening). slice_get r.routes.now x.route ≡ Some route) e found;
   same = sym (out ∙ ap (λ (x : Opening). x.route) e);
   fits = fits;
 }
 
-pub nothing-of-strangers : (r : Relay) (given : List Answer) (s : Sending) → Contains (all_handed_on r given) s → s.way.out.side ≡ Controller
+pub nothing-of-strangers : (r : Relay) (given : List Answer) (s : Sending) → Contains (all_handed_on r given) s
+    → s.way.out.side ≡ Controller
     → (route : Route) × CameBy r given s (record { route = s.way.out.route; side = Stage }) route.address route
 nothing-of-strangers r given s h e =
     let o = of_all r given s h in
@@ -157,11 +172,14 @@ nothing-of-strangers r given s h e =
     let at = same_opening o.at s.way.out.route Stage (sym w.out) side in
     let from : o.from ≡ w.route.address = w.sender ∙ ap (who_is_at r.controller w.route) side in (
       w.route,
-      came_by r given s o.now o.at (record { route = s.way.out.route; side = Stage }) o.from w.route.address w.route o.came w.found w.out w.fits at from,
+      came_by r given s o.now o.at (record { route = s.way.out.route; side = Stage }) o.from w.route.address w.route
+          o.came w.found w.out w.fits at from,
     )
 
-pub nothing-to-strangers : (r : Relay) (given : List Answer) (s : Sending) → Contains (all_handed_on r given) s → s.way.out.side ≡ Stage
-    → (route : Route) × (s.way.to ≡ route.address) × CameBy r given s (record { route = s.way.out.route; side = Controller }) r.controller route
+pub nothing-to-strangers : (r : Relay) (given : List Answer) (s : Sending) → Contains (all_handed_on r given) s
+    → s.way.out.side ≡ Stage
+    → (route : Route) × (s.way.to ≡ route.address)
+        × CameBy r given s (record { route = s.way.out.route; side = Controller }) r.controller route
 nothing-to-strangers r given s h e =
     let o = of_all r given s h in
     let w = went r.controller r.routes.now o.at o.from (length s.bytes) s.way o.way in
@@ -170,5 +188,6 @@ nothing-to-strangers r given s h e =
     let from : o.from ≡ r.controller = w.sender ∙ ap (who_is_at r.controller w.route) side in (
       w.route,
       w.to ∙ ap (λ (x : Side). who_is_at r.controller w.route (across x)) side,
-      came_by r given s o.now o.at (record { route = s.way.out.route; side = Controller }) o.from r.controller w.route o.came w.found w.out w.fits at from,
+      came_by r given s o.now o.at (record { route = s.way.out.route; side = Controller }) o.from r.controller w.route
+          o.came w.found w.out w.fits at from,
     )

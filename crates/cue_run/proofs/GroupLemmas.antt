@@ -1,5 +1,6 @@
 -- Several inputs that were taken together, in the words of a run.
-use Rattle.std.proofs.Common.{◌≡◌, ℕ, ◌+◌, ◌-◌, ◌^◌, List, [], ◌∷◌, ◌++◌, length, take, drop, min, Option, Some, None, refl, sym, ap, ◌∙◌, subst, arith, length-append, append_assoc, append-nil}
+use Rattle.std.proofs.Common.{◌≡◌, ℕ, ◌+◌, ◌-◌, ◌^◌, List, [], ◌∷◌, ◌++◌, length, take, drop, min, Option, Some, None}
+use Rattle.std.proofs.Common.{refl, sym, ap, ◌∙◌, subst, arith, length-append, append_assoc, append-nil}
 use Rattle.std.proofs.lemmas.List.{take-append-drop}
 use Rattle.cue_core.specs.State.{ShowState}
 use Rattle.cue_core.specs.Steps.{after_events}
@@ -8,7 +9,7 @@ use Rattle.cue_outbox.specs.Sending.{datagrams, Send}
 use Rattle.cue_engine.specs.Given.{Input, given}
 use Rattle.cue_engine.specs.Groups.{batches_given, sends_given}
 use Rattle.cue_engine.specs.Wires.{Handed, Grew, AllHanded}
-use Rattle.cue_engine.proofs.Groups.{is_a_run}
+use Rattle.cue_engine.proofs.GroupLemmas.{is_a_run}
 use Rattle.cue_run.specs.Sources.{Answer, comes, GaveAll}
 use Rattle.cue_run.specs.Running.{given_answers, story, HasRun}
 use Rattle.cue_run.specs.Grouping.{HandedCounted, CountedSoFar}
@@ -25,17 +26,22 @@ gave_none size None = tt
 gave_none size (Some answers) = refl
 
 -- inputs, and then others
-pub gave_join : (size : ℕ) (left mid left_then : Option (List Answer)) (is js : List (ℕ × Input)) → GaveAll size left (given_answers is) mid → GaveAll size mid (given_answers js) left_then → GaveAll size left (given_answers (is ++ js)) left_then
+pub gave_join : (size : ℕ) (left mid left_then : Option (List Answer)) (is js : List (ℕ × Input))
+    → GaveAll size left (given_answers is) mid → GaveAll size mid (given_answers js) left_then
+    → GaveAll size left (given_answers (is ++ js)) left_then
 gave_join size left mid left_then is js g h =
-    subst (λ (xs : List Answer). GaveAll size left xs left_then) (answers_join is js) (gave_all_more size left (given_answers is) mid (given_answers js) left_then g h)
+    subst (λ (xs : List Answer). GaveAll size left xs left_then) (answers_join is js)
+        (gave_all_more size left (given_answers is) mid (given_answers js) left_then g h)
 
 -- ---- stories
 
-story_join_state : (s : ShowState) (is js : List (ℕ × Input)) → (story s (is ++ js)).state ≡ (story (story s is).state js).state
+story_join_state : (s : ShowState) (is js : List (ℕ × Input))
+    → (story s (is ++ js)).state ≡ (story (story s is).state js).state
 story_join_state s [] js = refl
 story_join_state s (i ∷ is) js = story_join_state (after_events s (given s i.0 i.1).batch) is js
 
-story_join_sends : (s : ShowState) (is js : List (ℕ × Input)) → (story s (is ++ js)).sends ≡ (story s is).sends ++ (story (story s is).state js).sends
+story_join_sends : (s : ShowState) (is js : List (ℕ × Input))
+    → (story s (is ++ js)).sends ≡ (story s is).sends ++ (story (story s is).state js).sends
 story_join_sends s [] js = refl
 story_join_sends s (i ∷ is) js =
     let next : ShowState = after_events s (given s i.0 i.1).batch in
@@ -43,32 +49,40 @@ story_join_sends s (i ∷ is) js =
     ∙ sym (append_assoc (given s i.0 i.1).sends (story next is).sends (story (story next is).state js).sends)
 
 -- a run, and then another
-pub runs_join : (size : ℕ) (left mid left_then : Option (List Answer)) (s mid_s s_then : ShowState) (owed : List (ℕ × List ℕ)) (told mid_told told_then : Option (List Handed)) (turns unsent more mores all : ℕ)
+pub runs_join : (size : ℕ) (left mid left_then : Option (List Answer)) (s mid_s s_then : ShowState)
+    (owed : List (ℕ × List ℕ)) (told mid_told told_then : Option (List Handed)) (turns unsent more mores all : ℕ)
     → all ≡ min (unsent + mores) (2 ^ 64 - 1)
     → HasRun size left s owed told turns unsent mid mid_s mid_told
     → HasRun size mid mid_s [] mid_told more mores left_then s_then told_then
     → HasRun size left s owed told (turns + more) all left_then s_then told_then
-runs_join size left mid left_then s mid_s s_then owed told mid_told told_then turns unsent more mores all is h k = record {
+runs_join size left mid left_then s mid_s s_then owed told mid_told told_then turns unsent more mores all is h k =
+    record {
   inputs = h.inputs ++ k.inputs;
   gave = gave_join size left mid left_then h.inputs k.inputs h.gave k.gave;
   number = omega (arith, h.number, k.number, length-append h.inputs k.inputs);
-  state = k.state ∙ (ap (λ (x : ShowState). (story x k.inputs).state) h.state ∙ sym (story_join_state s h.inputs k.inputs));
+  state = k.state ∙ (ap (λ (x : ShowState). (story x k.inputs).state) h.state
+      ∙ sym (story_join_state s h.inputs k.inputs));
   refused = h.refused + k.refused;
-  handed = subst (λ (os : List (ℕ × List ℕ)). AllHanded told os (h.refused + k.refused) told_then) sends_are (all_handed_both told mid_told told_then (owed ++ datagrams (story s h.inputs).sends) (datagrams (story mid_s k.inputs).sends) h.refused k.refused h.handed k.handed);
+  handed = subst (λ (os : List (ℕ × List ℕ)). AllHanded told os (h.refused + k.refused) told_then) sends_are
+      (all_handed_both told mid_told told_then (owed ++ datagrams (story s h.inputs).sends)
+      (datagrams (story mid_s k.inputs).sends) h.refused k.refused h.handed k.handed);
   counted = omega (arith, is, h.counted, k.counted);
 }
   where
-    sends_are : (owed ++ datagrams (story s h.inputs).sends) ++ datagrams (story mid_s k.inputs).sends ≡ owed ++ datagrams (story s (h.inputs ++ k.inputs)).sends
+    sends_are : (owed ++ datagrams (story s h.inputs).sends) ++ datagrams (story mid_s k.inputs).sends ≡ owed
+        ++ datagrams (story s (h.inputs ++ k.inputs)).sends
     sends_are =
         append_assoc owed (datagrams (story s h.inputs).sends) (datagrams (story mid_s k.inputs).sends)
         ∙ ap (λ (os : List (ℕ × List ℕ)). owed ++ os)
         (datagrams_more (story s h.inputs).sends (story mid_s k.inputs).sends
         ∙ ap (λ (xs : List (ℕ × Send)). datagrams xs)
-        (ap (λ (x : ShowState). (story s h.inputs).sends ++ (story x k.inputs).sends) h.state ∙ sym (story_join_sends s h.inputs k.inputs)))
+        (ap (λ (x : ShowState). (story s h.inputs).sends ++ (story x k.inputs).sends) h.state
+            ∙ sym (story_join_sends s h.inputs k.inputs)))
 
 -- ---- one group as a run
 
-pub group_has_run : (size count unsent : ℕ) (s s_then : ShowState) (inputs : List (ℕ × Input)) (left mid : Option (List Answer)) (told told_then : Option (List Handed))
+pub group_has_run : (size count unsent : ℕ) (s s_then : ShowState) (inputs : List (ℕ × Input))
+    (left mid : Option (List Answer)) (told told_then : Option (List Handed))
     → count ≡ length inputs
     → GaveAll size left (given_answers inputs) mid
     → s_then ≡ folded_all s (batches_given s inputs)
@@ -82,7 +96,8 @@ group_has_run size count unsent s s_then inputs left mid told told_then number g
       number = sym number;
       state = same ∙ sym as_run.0;
       refused = handed.refused;
-      handed = subst (λ (sends : List (ℕ × Send)). AllHanded told (datagrams sends) handed.refused told_then) (sym as_run.2) handed.handed;
+      handed = subst (λ (sends : List (ℕ × Send)). AllHanded told (datagrams sends) handed.refused told_then)
+          (sym as_run.2) handed.handed;
       counted = handed.counted;
     }
 
@@ -95,7 +110,9 @@ handed_nothing told = record { flags = []; each = refl; count = refl; grew = non
     none (Some hs) = sym (append-nil hs)
 
 -- no input was taken
-pub none_has_run : (size turns unsent : ℕ) (left : Option (List Answer)) (s s_then : ShowState) (told told_then : Option (List Handed)) → turns ≡ 0 → unsent ≡ 0 → s_then ≡ s → told_then ≡ told → HasRun size left s [] told turns unsent left s_then told_then
+pub none_has_run : (size turns unsent : ℕ) (left : Option (List Answer)) (s s_then : ShowState)
+    (told told_then : Option (List Handed)) → turns ≡ 0 → unsent ≡ 0 → s_then ≡ s → told_then ≡ told
+    → HasRun size left s [] told turns unsent left s_then told_then
 none_has_run size turns unsent left s s_then told told_then no_turns all_sent same_s same_told = record {
   inputs = [];
   gave = gave_none size left;
@@ -111,7 +128,8 @@ none_has_run size turns unsent left s s_then told told_then no_turns all_sent sa
 -- some were handed over, and then others
 counted_both : (told mid told_then : Option (List Handed)) (os ps : List (ℕ × List ℕ)) (unsent refused all : ℕ)
     → all ≡ min (unsent + refused) (2 ^ 64 - 1)
-    → HandedCounted told os unsent mid → AllHanded mid ps refused told_then → HandedCounted told (os ++ ps) all told_then
+    → HandedCounted told os unsent mid → AllHanded mid ps refused told_then
+        → HandedCounted told (os ++ ps) all told_then
 counted_both told mid told_then os ps unsent refused all is h k = record {
   refused = h.refused + refused;
   handed = all_handed_both told mid told_then os ps h.refused refused h.handed k;
@@ -120,23 +138,31 @@ counted_both told mid told_then os ps unsent refused all is h k = record {
 
 -- none was handed over yet
 pub so_far_none : (told : Option (List Handed)) (owed : List (ℕ × List ℕ)) → CountedSoFar told owed owed 0 told
-so_far_none told owed = record { sent = []; together = refl; handed = record { refused = 0; handed = (handed_nothing told); counted = refl } }
+so_far_none told owed = record { sent = []; together = refl; handed =
+    record { refused = 0; handed = (handed_nothing told); counted = refl } }
 
 -- the first k of those that are left were handed over
-pub so_far_more : (told mid told_then seen : Option (List Handed)) (owed left rest : List (ℕ × List ℕ)) (k unsent refused all : ℕ)
+pub so_far_more : (told mid told_then seen : Option (List Handed)) (owed left rest : List (ℕ × List ℕ))
+    (k unsent refused all : ℕ)
     → all ≡ min (unsent + refused) (2 ^ 64 - 1)
     → rest ≡ drop k left
     → seen ≡ told_then
-    → CountedSoFar told owed left unsent mid → AllHanded mid (take k left) refused told_then → CountedSoFar told owed rest all seen
+    → CountedSoFar told owed left unsent mid → AllHanded mid (take k left) refused told_then
+        → CountedSoFar told owed rest all seen
 so_far_more told mid told_then seen owed left rest k unsent refused all is others same h more = record {
   sent = h.sent ++ take k left;
-  together = h.together ∙ (ap (λ (os : List (ℕ × List ℕ)). h.sent ++ os) (sym (take-append-drop k left)) ∙ (sym (append_assoc h.sent (take k left) (drop k left)) ∙ ap (λ (os : List (ℕ × List ℕ)). (h.sent ++ take k left) ++ os) (sym others)));
-  handed = subst (λ (x : Option (List Handed)). HandedCounted told (h.sent ++ take k left) all x) (sym same) (counted_both told mid told_then h.sent (take k left) unsent refused all is h.handed more);
+  together = h.together ∙ (ap (λ (os : List (ℕ × List ℕ)). h.sent ++ os) (sym (take-append-drop k left))
+      ∙ (sym (append_assoc h.sent (take k left) (drop k left))
+      ∙ ap (λ (os : List (ℕ × List ℕ)). (h.sent ++ take k left) ++ os) (sym others)));
+  handed = subst (λ (x : Option (List Handed)). HandedCounted told (h.sent ++ take k left) all x) (sym same)
+      (counted_both told mid told_then h.sent (take k left) unsent refused all is h.handed more);
 }
 
 -- all that were left were handed over
 pub so_far_all : (told mid told_then : Option (List Handed)) (owed left : List (ℕ × List ℕ)) (unsent refused all : ℕ)
     → all ≡ min (unsent + refused) (2 ^ 64 - 1)
-    → CountedSoFar told owed left unsent mid → AllHanded mid left refused told_then → HandedCounted told owed all told_then
+    → CountedSoFar told owed left unsent mid → AllHanded mid left refused told_then
+        → HandedCounted told owed all told_then
 so_far_all told mid told_then owed left unsent refused all is h more =
-    subst (λ (os : List (ℕ × List ℕ)). HandedCounted told os all told_then) (sym h.together) (counted_both told mid told_then h.sent left unsent refused all is h.handed more)
+    subst (λ (os : List (ℕ × List ℕ)). HandedCounted told os all told_then) (sym h.together)
+        (counted_both told mid told_then h.sent left unsent refused all is h.handed more)

@@ -1,7 +1,7 @@
 mod GroupLemmas
-mod GroupWork
+mod GroupWorkLemmas
 mod OfferLemmas
-mod Rounds
+mod RoundLemmas
 mod RunLemmas
 mod StandLemmas
 mod TryLemmas

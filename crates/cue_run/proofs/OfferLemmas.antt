@@ -1,5 +1,6 @@
 -- One input more is offered, and none.
-use Rattle.std.proofs.Common.{◌≡◌, ℕ, ◌+◌, List, [], ◌∷◌, ◌++◌, Option, None, refl, sym, ap, ◌∙◌, subst, arith, length-append, append_assoc, append-nil}
+use Rattle.std.proofs.Common.{◌≡◌, ℕ, ◌+◌, List, [], ◌∷◌, ◌++◌, Option, None, refl, sym, ap, ◌∙◌, subst, arith}
+use Rattle.std.proofs.Common.{length-append, append_assoc, append-nil}
 use Rattle.cue_disk.specs.declared.disk.Disk.{Ghosts}
 use Rattle.cue_keeper.specs.declared.keeper.Keeper.{Keeper}
 use Rattle.cue_keeper.specs.Observed as kept
@@ -17,13 +18,17 @@ use Rattle.cue_run.proofs.GroupLemmas.{gave_none, gave_join}
 
 module _ {D : Type 0} {disk : Ghosts D} where
   -- what was offered stays
-  pub stays_offered : (inputs : List (ℕ × Input)) (old new : Engine D disk) → StaysOffered old new → IsOffered inputs old → IsOffered inputs new
+  pub stays_offered : (inputs : List (ℕ × Input)) (old new : Engine D disk) → StaysOffered old new
+      → IsOffered inputs old → IsOffered inputs new
   stays_offered inputs old new stays is = record {
-    batches = stays.batches ∙ (is.batches ∙ ap (λ (k : Keeper D disk). batches_given (kept.state_of k) inputs) (sym stays.keeper));
-    sends = stays.sends ∙ (is.sends ∙ ap (λ (k : Keeper D disk). datagrams (sends_given (kept.state_of k) inputs)) (sym stays.keeper));
+    batches = stays.batches ∙ (is.batches
+        ∙ ap (λ (k : Keeper D disk). batches_given (kept.state_of k) inputs) (sym stays.keeper));
+    sends = stays.sends ∙ (is.sends ∙ ap (λ (k : Keeper D disk). datagrams (sends_given (kept.state_of k) inputs))
+        (sym stays.keeper));
   }
 
-  pub offers_none : (size count : ℕ) (engine : Engine D disk) (left : Option (List Answer)) → HasOffered size count count engine engine left left
+  pub offers_none : (size count : ℕ) (engine : Engine D disk) (left : Option (List Answer))
+      → HasOffered size count count engine engine left left
   offers_none size count engine left = record {
     inputs = [];
     number = omega arith;
@@ -33,7 +38,8 @@ module _ {D : Type 0} {disk : Ghosts D} where
     queue = refl;
   }
 
-  pub offers_one : (size count count_then : ℕ) (t : ℕ × Input) (old new : Engine D disk) (left left_then : Option (List Answer))
+  pub offers_one : (size count count_then : ℕ) (t : ℕ × Input) (old new : Engine D disk)
+      (left left_then : Option (List Answer))
       → count_then ≡ count + 1
       → GaveAll size left (comes t.0 t.1 ∷ []) left_then
       → WhateverWasOffered old (λ before. IsOffered (before ++ (t.0, t.1) ∷ []) new)
@@ -49,17 +55,22 @@ module _ {D : Type 0} {disk : Ghosts D} where
     queue = queue;
   }
 
-  pub offers_join : (size now_size a b c : ℕ) (x y z : Engine D disk) (left mid left_then : Option (List Answer)) → now_size ≡ size → HasOffered size a b x y left mid → HasOffered now_size b c y z mid left_then → HasOffered size a c x z left left_then
+  pub offers_join : (size now_size a b c : ℕ) (x y z : Engine D disk) (left mid left_then : Option (List Answer))
+      → now_size ≡ size → HasOffered size a b x y left mid → HasOffered now_size b c y z mid left_then
+      → HasOffered size a c x z left left_then
   offers_join size now_size a b c x y z left mid left_then same h k = record {
     inputs = h.inputs ++ k.inputs;
     number = omega (arith, h.number, k.number, length-append h.inputs k.inputs);
-    gave = gave_join size left mid left_then h.inputs k.inputs h.gave (subst (λ (n : ℕ). GaveAll n mid (given_answers k.inputs) left_then) same k.gave);
-    offered = λ before is. subst (λ (inputs : List (ℕ × Input)). IsOffered inputs z) (append_assoc before h.inputs k.inputs) (k.offered (before ++ h.inputs) (h.offered before is));
+    gave = gave_join size left mid left_then h.inputs k.inputs h.gave
+        (subst (λ (n : ℕ). GaveAll n mid (given_answers k.inputs) left_then) same k.gave);
+    offered = λ before is. subst (λ (inputs : List (ℕ × Input)). IsOffered inputs z)
+        (append_assoc before h.inputs k.inputs) (k.offered (before ++ h.inputs) (h.offered before is));
     keeper = k.keeper ∙ h.keeper;
     queue = k.queue ∙ h.queue;
   }
 
-  pub offers_stay : (size a b c : ℕ) (x y z : Engine D disk) (left mid : Option (List Answer)) → c ≡ b → StaysOffered y z → HasOffered size a b x y left mid → HasOffered size a c x z left mid
+  pub offers_stay : (size a b c : ℕ) (x y z : Engine D disk) (left mid : Option (List Answer)) → c ≡ b
+      → StaysOffered y z → HasOffered size a b x y left mid → HasOffered size a c x z left mid
   offers_stay size a b c x y z left mid same stays h = record {
     inputs = h.inputs;
     number = omega (arith, same, h.number);
@@ -70,20 +81,26 @@ module _ {D : Type 0} {disk : Ghosts D} where
   }
 
   -- no further one was offered
-  pub gathered : (size a b c : ℕ) (why : Option RunFault) (x y z : Engine D disk) (left mid left_then : Option (List Answer)) → c ≡ b → StaysOffered y z → HasOffered size a b x y left mid → CutShort size why (keeper_of y) mid left_then → Gathered size a c why x z left left_then
+  pub gathered : (size a b c : ℕ) (why : Option RunFault) (x y z : Engine D disk)
+      (left mid left_then : Option (List Answer)) → c ≡ b → StaysOffered y z → HasOffered size a b x y left mid
+      → CutShort size why (keeper_of y) mid left_then → Gathered size a c why x z left left_then
   gathered size a b c why x y z left mid left_then same stays h cut = record {
     mid = mid;
     offered = offers_stay size a b c x y z left mid same stays h;
     cut = subst (λ (k : Keeper D disk). CutShort size why k mid left_then) h.keeper cut;
   }
 
-  pub gathered_all : (size a b : ℕ) (x y : Engine D disk) (left mid : Option (List Answer)) → HasOffered size a b x y left mid → Gathered size a b None x y left mid
+  pub gathered_all : (size a b : ℕ) (x y : Engine D disk) (left mid : Option (List Answer))
+      → HasOffered size a b x y left mid → Gathered size a b None x y left mid
   gathered_all size a b x y left mid h = record { mid = mid; offered = h; cut = refl }
 
   -- the first of a group, and those after it
-  pub gathered_after : (size now_size a b c : ℕ) (why : Option RunFault) (x y z : Engine D disk) (left mid left_then : Option (List Answer)) → now_size ≡ size → HasOffered size a b x y left mid → Gathered now_size b c why y z mid left_then → Gathered size a c why x z left left_then
+  pub gathered_after : (size now_size a b c : ℕ) (why : Option RunFault) (x y z : Engine D disk)
+      (left mid left_then : Option (List Answer)) → now_size ≡ size → HasOffered size a b x y left mid
+      → Gathered now_size b c why y z mid left_then → Gathered size a c why x z left left_then
   gathered_after size now_size a b c why x y z left mid left_then same h more = record {
     mid = more.mid;
     offered = offers_join size now_size a b c x y z left mid more.mid same h more.offered;
-    cut = subst (λ (n : ℕ). CutShort n why (keeper_of x) more.mid left_then) same (subst (λ (k : Keeper D disk). CutShort now_size why k more.mid left_then) h.keeper more.cut);
+    cut = subst (λ (n : ℕ). CutShort n why (keeper_of x) more.mid left_then) same
+        (subst (λ (k : Keeper D disk). CutShort now_size why k more.mid left_then) h.keeper more.cut);
   }

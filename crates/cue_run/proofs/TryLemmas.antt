@@ -16,7 +16,8 @@ passed_none most None = tt
 passed_none most (Some old) = let all : most - 0 ≡ most = omega arith in rw all refl
 
 -- one more is passed over
-pub passed_more : (most done : ℕ) (old mid new : Option (List Try)) → done < most → Passed most done old mid → Tried mid passes new → Passed most (done + 1) old new
+pub passed_more : (most done : ℕ) (old mid new : Option (List Try)) → done < most → Passed most done old mid
+    → Tried mid passes new → Passed most (done + 1) old new
 passed_more most done old mid None low before now = tt
 passed_more most done old None (Some new) low before now = absurd now
 passed_more most done None (Some mid) (Some new) low before now = absurd before
@@ -26,7 +27,8 @@ passed_more most done (Some old) (Some (t ∷ mid)) (Some new) low before now =
     before ∙ rw (left, sym now.0, now.1) refl
 
 -- a turn
-pub gave_turn : (most done : ℕ) (old mid new : Option (List Try)) (turn : Turn) → done < most → Passed most done old mid → Tried mid (brings turn) new → GaveFirst most old (Ok turn) new
+pub gave_turn : (most done : ℕ) (old mid new : Option (List Try)) (turn : Turn) → done < most → Passed most done old mid
+    → Tried mid (brings turn) new → GaveFirst most old (Ok turn) new
 gave_turn most done old mid None turn low before now = tt
 gave_turn most done old None (Some new) turn low before now = absurd now
 gave_turn most done None (Some mid) (Some new) turn low before now = absurd before
@@ -36,7 +38,8 @@ gave_turn most done (Some old) (Some (t ∷ mid)) (Some new) turn low before now
     sym (before ∙ rw (left, sym now.0) refl)
 
 -- a try that fails
-pub gave_fault : (most done : ℕ) (old mid new : Option (List Try)) (fault : SourceFault) → done < most → Passed most done old mid → Tried mid breaks new → GaveFirst most old (Err fault) new
+pub gave_fault : (most done : ℕ) (old mid new : Option (List Try)) (fault : SourceFault) → done < most
+    → Passed most done old mid → Tried mid breaks new → GaveFirst most old (Err fault) new
 gave_fault most done old mid None fault low before now = tt
 gave_fault most done old None (Some new) fault low before now = absurd now
 gave_fault most done None (Some mid) (Some new) fault low before now = absurd before
@@ -48,7 +51,8 @@ gave_fault most done (Some old) (Some (t ∷ mid)) (Some new) fault low before n
     sym (before ∙ rw (left, sym now.0) refl)
 
 -- none is left
-pub gave_none : (most : ℕ) (old new : Option (List Try)) (fault : SourceFault) → Passed most most old new → GaveFirst most old (Err fault) new
+pub gave_none : (most : ℕ) (old new : Option (List Try)) (fault : SourceFault) → Passed most most old new
+    → GaveFirst most old (Err fault) new
 gave_none most old None fault before = tt
 gave_none most None (Some new) fault before = absurd before
 gave_none most (Some old) (Some new) fault before =

@@ -1,5 +1,6 @@
 -- Tests over lists and over the entries of a map: what an entry more, or one less, changes.
-use Rattle.std.proofs.Common.{◌≡◌, ◌≤◌, ◌⊎◌, inl, inr, Bool, true, false, not, cond, ◌&&◌, ◌||◌, List, [], ◌∷◌, ◌++◌, length, Some, is_some, IfSome, refl, sym, ap, ◌∙◌, true≢false, arith}
+use Rattle.std.proofs.Common.{◌≡◌, ◌≤◌, ◌⊎◌, inl, inr, Bool, true, false, not, cond, ◌&&◌, ◌||◌, List, [], ◌∷◌, ◌++◌}
+use Rattle.std.proofs.Common.{length, Some, is_some, IfSome, refl, sym, ap, ◌∙◌, true≢false, arith}
 use Rattle.std.specs.Cmp.{IsEquivalence}
 use Rattle.std.specs.List.{list_any, list_all, AllByRecursion, IsDistinct}
 use Rattle.std.specs.Map.{lookup, remove_entry, keys_of}
@@ -22,22 +23,27 @@ module _ {X : Type 0} where
       and_from (q x) (list_all q xs) (step x here.0 apart.0) (list_all-from p none q step xs here.1 apart.1)
 
   -- what follows from passing a test
-  pub list_all-weaken : (p q : X → Bool) → ((x : X) → p x ≡ true → q x ≡ true) → (xs : List X) → list_all p xs ≡ true → list_all q xs ≡ true
+  pub list_all-weaken : (p q : X → Bool) → ((x : X) → p x ≡ true → q x ≡ true) → (xs : List X) → list_all p xs ≡ true
+      → list_all q xs ≡ true
   list_all-weaken p q step [] all = refl
   list_all-weaken p q step (x ∷ xs) all =
       let here = and_parts (p x) (list_all p xs) all in
       and_from (q x) (list_all q xs) (step x here.0) (list_all-weaken p q step xs here.1)
 
   -- one more at the end
-  pub list_all-push : (p : X → Bool) (xs : List X) (x : X) → list_all p xs ≡ true → p x ≡ true → list_all p (xs ++ x ∷ []) ≡ true
-  list_all-push p xs x all here = list_all-append p xs (x ∷ []) ∙ and_from (list_all p xs) (p x && true) all (and_from (p x) true here refl)
+  pub list_all-push : (p : X → Bool) (xs : List X) (x : X) → list_all p xs ≡ true → p x ≡ true
+      → list_all p (xs ++ x ∷ []) ≡ true
+  list_all-push p xs x all here = list_all-append p xs (x ∷ [])
+      ∙ and_from (list_all p xs) (p x && true) all (and_from (p x) true here refl)
 
-  pub list_any-push : (p : X → Bool) (xs : List X) (x : X) → list_any p xs ≡ false → p x ≡ false → list_any p (xs ++ x ∷ []) ≡ false
+  pub list_any-push : (p : X → Bool) (xs : List X) (x : X) → list_any p xs ≡ false → p x ≡ false
+      → list_any p (xs ++ x ∷ []) ≡ false
   list_any-push p xs x none here = list_any-append p xs (x ∷ []) ∙ (λ i. none i || (here i || false))
 
   module _ (same : X → X → Bool) where
     -- an element that is not there yet may go last
-    pub are_distinct-push : (xs : List X) (x : X) → are_distinct same xs ≡ true → list_any (same x) xs ≡ false → are_distinct same (xs ++ x ∷ []) ≡ true
+    pub are_distinct-push : (xs : List X) (x : X) → are_distinct same xs ≡ true → list_any (same x) xs ≡ false
+        → are_distinct same (xs ++ x ∷ []) ≡ true
     are_distinct-push [] x all none = refl
     are_distinct-push (y ∷ ys) x all none =
         let here = and_parts (not (list_any (λ z. same z y) ys)) (are_distinct same ys) all in
@@ -47,24 +53,33 @@ module _ {X : Type 0} where
         (are_distinct-push ys x here.1 apart.1)
 
     -- a list in which an element stands again later
-    pub are_distinct-twice : IsEquivalence same → (xs : List X) (y : X) (ys : List X) → list_any (λ e. same e y) xs ≡ true → are_distinct same (xs ++ y ∷ ys) ≡ false
+    pub are_distinct-twice : IsEquivalence same → (xs : List X) (y : X) (ys : List X)
+        → list_any (λ e. same e y) xs ≡ true → are_distinct same (xs ++ y ∷ ys) ≡ false
     are_distinct-twice laws [] y ys among = absurd (true≢false (sym among))
-    are_distinct-twice laws (x ∷ xs) y ys among = by (or_cases (same x y) (list_any (λ e. same e y) xs) among) (are_distinct-twice laws xs y ys)
+    are_distinct-twice laws (x ∷ xs) y ys among = by (or_cases (same x y) (list_any (λ e. same e y) xs) among)
+        (are_distinct-twice laws xs y ys)
       where
-        by : (same x y ≡ true) ⊎ (list_any (λ e. same e y) xs ≡ true) → (list_any (λ e. same e y) xs ≡ true → are_distinct same (xs ++ y ∷ ys) ≡ false)
+        by : (same x y ≡ true) ⊎ (list_any (λ e. same e y) xs ≡ true)
+            → (list_any (λ e. same e y) xs ≡ true → are_distinct same (xs ++ y ∷ ys) ≡ false)
             → are_distinct same (x ∷ (xs ++ y ∷ ys)) ≡ false
         by (inl here) later =
             let again : list_any (λ e. same e x) (xs ++ y ∷ ys) ≡ true =
-            list_any-append (λ e. same e x) xs (y ∷ ys) ∙ or_right (list_any (λ e. same e x) xs) (same y x || list_any (λ e. same e x) ys) (or_left (same y x) (list_any (λ e. same e x) ys) (laws.symm y x ∙ here)) in
+            list_any-append (λ e. same e x) xs (y ∷ ys)
+                ∙ or_right (list_any (λ e. same e x) xs) (same y x || list_any (λ e. same e x) ys)
+                (or_left (same y x) (list_any (λ e. same e x) ys) (laws.symm y x ∙ here)) in
             rw again
-        by (inr among) later = and_right (not (list_any (λ e. same e x) (xs ++ y ∷ ys))) (are_distinct same (xs ++ y ∷ ys)) (later among)
+        by (inr among) later = and_right (not (list_any (λ e. same e x) (xs ++ y ∷ ys)))
+            (are_distinct same (xs ++ y ∷ ys)) (later among)
 
-    apart : IsEquivalence same → (x : X) (xs : List X) → list_any (λ y. same y x) xs ≡ false → AllByRecursion (λ y. same x y ≡ false) xs
+    apart : IsEquivalence same → (x : X) (xs : List X) → list_any (λ y. same y x) xs ≡ false
+        → AllByRecursion (λ y. same x y ≡ false) xs
     apart laws x [] none = tt
-    apart laws x (y ∷ ys) none = let here = neither (same y x) (list_any (λ z. same z x) ys) none in (laws.symm x y ∙ here.0, apart laws x ys here.1)
+    apart laws x (y ∷ ys) none = let here = neither (same y x) (list_any (λ z. same z x) ys) none in
+        (laws.symm x y ∙ here.0, apart laws x ys here.1)
 
     -- as std says it
-    pub IsDistinct-from_are_distinct : IsEquivalence same → (xs : List X) → are_distinct same xs ≡ true → IsDistinct same xs
+    pub IsDistinct-from_are_distinct : IsEquivalence same → (xs : List X) → are_distinct same xs ≡ true
+        → IsDistinct same xs
     unfolding IsDistinct
     IsDistinct-from_are_distinct laws [] all = tt
     IsDistinct-from_are_distinct laws (x ∷ xs) all =
@@ -73,7 +88,8 @@ module _ {X : Type 0} where
 
 module _ {K V : Type 0} where
   -- an entry that is there is there with one more
-  pub is_some-lookup-push : (test : K → Bool) (es : List (K × V)) (e : K × V) → is_some (lookup test es) ≡ true → is_some (lookup test (es ++ e ∷ [])) ≡ true
+  pub is_some-lookup-push : (test : K → Bool) (es : List (K × V)) (e : K × V) → is_some (lookup test es) ≡ true
+      → is_some (lookup test (es ++ e ∷ [])) ≡ true
   is_some-lookup-push test es e there =
       is_some-lookup test (es ++ e ∷ [])
       ∙ ap (list_any test) (map-append (λ (x : K × V). x.0) es (e ∷ []))
@@ -81,39 +97,52 @@ module _ {K V : Type 0} where
       ∙ or_left (list_any test (keys_of es)) (test e.0 || false) (sym (is_some-lookup test es) ∙ there)
 
   -- a look-up for another key than the one at the end
-  pub lookup-push_other : (test : K → Bool) (es : List (K × V)) (e : K × V) → test e.0 ≡ false → lookup test (es ++ e ∷ []) ≡ lookup test es
+  pub lookup-push_other : (test : K → Bool) (es : List (K × V)) (e : K × V) → test e.0 ≡ false
+      → lookup test (es ++ e ∷ []) ≡ lookup test es
   lookup-push_other test [] e other = rw other
-  lookup-push_other test (f ∷ fs) e other = ap (λ rest. cond (test f.0) (Some f.1) rest) (lookup-push_other test fs e other)
+  lookup-push_other test (f ∷ fs) e other =
+      ap (λ rest. cond (test f.0) (Some f.1) rest) (lookup-push_other test fs e other)
 
   -- and for that one
-  pub lookup-push_same : (test : K → Bool) (es : List (K × V)) (e : K × V) → test e.0 ≡ true → is_some (lookup test es) ≡ false → lookup test (es ++ e ∷ []) ≡ Some e.1
+  pub lookup-push_same : (test : K → Bool) (es : List (K × V)) (e : K × V) → test e.0 ≡ true
+      → is_some (lookup test es) ≡ false → lookup test (es ++ e ∷ []) ≡ Some e.1
   lookup-push_same test [] e same absent = rw same
   lookup-push_same test (f ∷ fs) e same absent = by (test f.0) refl absent (lookup-push_same test fs e same)
     where
       by : (b : Bool) → test f.0 ≡ b → is_some (cond (test f.0) (Some f.1) (lookup test fs)) ≡ false
-          → (is_some (lookup test fs) ≡ false → lookup test (fs ++ e ∷ []) ≡ Some e.1) → cond (test f.0) (Some f.1) (lookup test (fs ++ e ∷ [])) ≡ Some e.1
-      by true h missing later = absurd (true≢false (sym (ap (λ c. is_some (cond c (Some f.1) (lookup test fs))) h) ∙ missing))
+          → (is_some (lookup test fs) ≡ false → lookup test (fs ++ e ∷ []) ≡ Some e.1)
+              → cond (test f.0) (Some f.1) (lookup test (fs ++ e ∷ [])) ≡ Some e.1
+      by true h missing later =
+          absurd (true≢false (sym (ap (λ c. is_some (cond c (Some f.1) (lookup test fs))) h) ∙ missing))
       by false h missing later = rw h (later (sym (ap (λ c. is_some (cond c (Some f.1) (lookup test fs))) h) ∙ missing))
 
   -- what is found passes what each entry passes, and stands under a key that passes
-  pub lookup-passes : (test : K → Bool) (p : K × V → Bool) (Q : V → Type 0) → ((e : K × V) → test e.0 ≡ true → p e ≡ true → Q e.1) → (es : List (K × V)) → list_all p es ≡ true
+  pub lookup-passes : (test : K → Bool) (p : K × V → Bool) (Q : V → Type 0)
+      → ((e : K × V) → test e.0 ≡ true → p e ≡ true → Q e.1) → (es : List (K × V)) → list_all p es ≡ true
       → IfSome (lookup test es) Q
   lookup-passes test p Q step [] all = tt
-  lookup-passes test p Q step (e ∷ es) all = let here = and_parts (p e) (list_all p es) all in by (test e.0) refl here.0 (lookup-passes test p Q step es here.1)
+  lookup-passes test p Q step (e ∷ es) all = let here = and_parts (p e) (list_all p es) all in
+      by (test e.0) refl here.0 (lookup-passes test p Q step es here.1)
     where
-      by : (b : Bool) → test e.0 ≡ b → p e ≡ true → IfSome (lookup test es) Q → IfSome (cond (test e.0) (Some e.1) (lookup test es)) Q
+      by : (b : Bool) → test e.0 ≡ b → p e ≡ true → IfSome (lookup test es) Q
+          → IfSome (cond (test e.0) (Some e.1) (lookup test es)) Q
       by true h passes later = rw h (step e h passes)
       by false h passes later = rw h later
 
   -- a new key goes last
-  pub insert_entry-absent : (same : K → K → Bool) (es : List (K × V)) (k : K) (v : V) → is_some (lookup (same k) es) ≡ false → insert_entry same es k v ≡ es ++ (k, v) ∷ []
+  pub insert_entry-absent : (same : K → K → Bool) (es : List (K × V)) (k : K) (v : V)
+      → is_some (lookup (same k) es) ≡ false → insert_entry same es k v ≡ es ++ (k, v) ∷ []
   insert_entry-absent same [] k v absent = refl
   insert_entry-absent same (e ∷ es) k v absent = by (same k e.0) refl absent (insert_entry-absent same es k v)
     where
       by : (b : Bool) → same k e.0 ≡ b → is_some (cond (same k e.0) (Some e.1) (lookup (same k) es)) ≡ false
-          → (is_some (lookup (same k) es) ≡ false → insert_entry same es k v ≡ es ++ (k, v) ∷ []) → insert_entry same (e ∷ es) k v ≡ (e ∷ es) ++ (k, v) ∷ []
-      by true h missing later = absurd (true≢false (sym (ap (λ c. is_some (cond c (Some e.1) (lookup (same k) es))) h) ∙ missing))
-      by false h missing later = rw h (ap (λ fs. e ∷ fs) (later (sym (ap (λ c. is_some (cond c (Some e.1) (lookup (same k) es))) h) ∙ missing)))
+          → (is_some (lookup (same k) es) ≡ false → insert_entry same es k v ≡ es ++ (k, v) ∷ [])
+              → insert_entry same (e ∷ es) k v ≡ (e ∷ es) ++ (k, v) ∷ []
+      by true h missing later =
+          absurd (true≢false (sym (ap (λ c. is_some (cond c (Some e.1) (lookup (same k) es))) h) ∙ missing))
+      by false h missing later =
+          rw h (ap (λ fs. e ∷ fs) (later (sym (ap (λ c. is_some (cond c (Some e.1) (lookup (same k) es))) h)
+          ∙ missing)))
 
   module _ (test : K → Bool) where
     -- an entry less
@@ -121,36 +150,48 @@ module _ {K V : Type 0} where
     length-remove_entry-le [] = omega arith
     length-remove_entry-le (e ∷ es) = by (test e.0) refl (length-remove_entry-le es)
       where
-        by : (b : Bool) → test e.0 ≡ b → length (remove_entry test es) ≤ length es → length (remove_entry test (e ∷ es)) ≤ length (e ∷ es)
+        by : (b : Bool) → test e.0 ≡ b → length (remove_entry test es) ≤ length es
+            → length (remove_entry test (e ∷ es)) ≤ length (e ∷ es)
         by true h shorter = rw h (omega arith)
         by false h shorter = rw h (omega arith)
 
-    pub list_all-remove_entry : (p : K × V → Bool) (es : List (K × V)) → list_all p es ≡ true → list_all p (remove_entry test es) ≡ true
+    pub list_all-remove_entry : (p : K × V → Bool) (es : List (K × V)) → list_all p es ≡ true
+        → list_all p (remove_entry test es) ≡ true
     list_all-remove_entry p [] all = refl
-    list_all-remove_entry p (e ∷ es) all = let here = and_parts (p e) (list_all p es) all in by (test e.0) refl here.0 here.1 (list_all-remove_entry p es here.1)
+    list_all-remove_entry p (e ∷ es) all = let here = and_parts (p e) (list_all p es) all in
+        by (test e.0) refl here.0 here.1 (list_all-remove_entry p es here.1)
       where
-        by : (b : Bool) → test e.0 ≡ b → p e ≡ true → list_all p es ≡ true → list_all p (remove_entry test es) ≡ true → list_all p (remove_entry test (e ∷ es)) ≡ true
+        by : (b : Bool) → test e.0 ≡ b → p e ≡ true → list_all p es ≡ true → list_all p (remove_entry test es) ≡ true
+            → list_all p (remove_entry test (e ∷ es)) ≡ true
         by true h first rest kept = rw h rest
         by false h first rest kept = rw h (and_from (p e) (list_all p (remove_entry test es)) first kept)
 
-    pub list_any-remove_entry : (p : K → Bool) (es : List (K × V)) → list_any p (keys_of es) ≡ false → list_any p (keys_of (remove_entry test es)) ≡ false
+    pub list_any-remove_entry : (p : K → Bool) (es : List (K × V)) → list_any p (keys_of es) ≡ false
+        → list_any p (keys_of (remove_entry test es)) ≡ false
     list_any-remove_entry p [] none = refl
-    list_any-remove_entry p (e ∷ es) none = let apart = neither (p e.0) (list_any p (keys_of es)) none in by (test e.0) refl apart.0 apart.1 (list_any-remove_entry p es apart.1)
+    list_any-remove_entry p (e ∷ es) none = let apart = neither (p e.0) (list_any p (keys_of es)) none in
+        by (test e.0) refl apart.0 apart.1 (list_any-remove_entry p es apart.1)
       where
-        by : (b : Bool) → test e.0 ≡ b → p e.0 ≡ false → list_any p (keys_of es) ≡ false → list_any p (keys_of (remove_entry test es)) ≡ false
+        by : (b : Bool) → test e.0 ≡ b → p e.0 ≡ false → list_any p (keys_of es) ≡ false
+            → list_any p (keys_of (remove_entry test es)) ≡ false
             → list_any p (keys_of (remove_entry test (e ∷ es))) ≡ false
         by true h first rest kept = rw h rest
         by false h first rest kept = rw h (λ i. first i || kept i)
 
-    pub are_distinct-remove_entry : (same : K → K → Bool) (es : List (K × V)) → are_distinct same (keys_of es) ≡ true → are_distinct same (keys_of (remove_entry test es)) ≡ true
+    pub are_distinct-remove_entry : (same : K → K → Bool) (es : List (K × V)) → are_distinct same (keys_of es) ≡ true
+        → are_distinct same (keys_of (remove_entry test es)) ≡ true
     are_distinct-remove_entry same [] all = refl
     are_distinct-remove_entry same (e ∷ es) all =
         let here = and_parts (not (list_any (λ k. same k e.0) (keys_of es))) (are_distinct same (keys_of es)) all in
-        by (test e.0) refl (not-true (list_any (λ k. same k e.0) (keys_of es)) here.0) here.1 (are_distinct-remove_entry same es here.1)
+        by (test e.0) refl (not-true (list_any (λ k. same k e.0) (keys_of es)) here.0) here.1
+            (are_distinct-remove_entry same es here.1)
       where
-        by : (b : Bool) → test e.0 ≡ b → list_any (λ k. same k e.0) (keys_of es) ≡ false → are_distinct same (keys_of es) ≡ true
-            → are_distinct same (keys_of (remove_entry test es)) ≡ true → are_distinct same (keys_of (remove_entry test (e ∷ es))) ≡ true
+        by : (b : Bool) → test e.0 ≡ b → list_any (λ k. same k e.0) (keys_of es) ≡ false
+            → are_distinct same (keys_of es) ≡ true
+            → are_distinct same (keys_of (remove_entry test es)) ≡ true
+                → are_distinct same (keys_of (remove_entry test (e ∷ es))) ≡ true
         by true h first rest kept = rw h rest
         by false h first rest kept =
-            rw h (and_from (not (list_any (λ k. same k e.0) (keys_of (remove_entry test es)))) (are_distinct same (keys_of (remove_entry test es)))
+            rw h (and_from (not (list_any (λ k. same k e.0) (keys_of (remove_entry test es))))
+                (are_distinct same (keys_of (remove_entry test es)))
             (ap not (list_any-remove_entry (λ k. same k e.0) es first)) kept)

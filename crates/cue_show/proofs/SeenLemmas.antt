@@ -1,5 +1,7 @@
 -- Which devices stood in the parts so far, as a mark for each number.
-use Rattle.std.proofs.Common.{◌≡◌, ℕ, ◌<◌, ◌≤◌, ◌+◌, zero, suc, Bool, true, false, ◌||◌, ◌⊎◌, inl, inr, List, [], ◌∷◌, ◌++◌, length, get_or, set, take, drop, replicate, nat_eq, refl, sym, ap, subst, ◌∙◌, arith, get_or-set_same, get_or-set_other, length-set, drop-cons}
+use Rattle.std.proofs.Common.{◌≡◌, ℕ, ◌<◌, ◌≤◌, ◌+◌, zero, suc, Bool, true, false, ◌||◌, ◌⊎◌, inl, inr, List, [], ◌∷◌}
+use Rattle.std.proofs.Common.{◌++◌, length, get_or, set, take, drop, replicate, nat_eq, refl, sym, ap, subst, ◌∙◌}
+use Rattle.std.proofs.Common.{arith, get_or-set_same, get_or-set_other, length-set, drop-cons}
 use Rattle.std.specs.Cmp.{nat_eq_equiv}
 use Rattle.std.specs.List.{list_any}
 use Rattle.std.proofs.lemmas.Bool.{eq-eqb, ne_eqb, cases_eq}
@@ -34,17 +36,20 @@ or_false false = refl
 
 -- a number is among a list with one more where it is among the list, or is that one
 is_among-push : (d e : ℕ) (ds : List ℕ) → is_among e (ds ++ d ∷ []) ≡ (is_among e ds || nat_eq d e)
-is_among-push d e ds = list_any-append (λ x. nat_eq x e) ds (d ∷ []) ∙ ap (λ b. is_among e ds || b) (or_false (nat_eq d e))
+is_among-push d e ds = list_any-append (λ x. nat_eq x e) ds (d ∷ [])
+    ∙ ap (λ b. is_among e ds || b) (or_false (nat_eq d e))
 
 -- a new number is marked
-pub IsSeen-push : (seen : List Bool) (ds : List ℕ) (d : ℕ) → IsSeen seen ds → d < MAX_DEVICES → get_or seen d false ≡ false → IsSeen (set seen d true) (ds ++ d ∷ [])
+pub IsSeen-push : (seen : List Bool) (ds : List ℕ) (d : ℕ) → IsSeen seen ds → d < MAX_DEVICES
+    → get_or seen d false ≡ false → IsSeen (set seen d true) (ds ++ d ∷ [])
 IsSeen-push seen ds d s within new = record {
   room = length-set seen d true ∙ s.room;
   marks = λ e below. by e below (cases_eq e d) ∙ sym (is_among-push d e ds);
   distinct = are_distinct-push nat_eq ds d s.distinct (is_among-swapped d ds ∙ sym (s.marks d within) ∙ new);
 }
   where
-    by : (e : ℕ) → e < MAX_DEVICES → (e ≡ d) ⊎ (e ≡ d → ⊥) → get_or (set seen d true) e false ≡ (is_among e ds || nat_eq d e)
+    by : (e : ℕ) → e < MAX_DEVICES → (e ≡ d) ⊎ (e ≡ d → ⊥)
+        → get_or (set seen d true) e false ≡ (is_among e ds || nat_eq d e)
     by e below (inl same) =
         ap (λ k. get_or (set seen d true) k false) same
         ∙ get_or-set_same seen d true false (omega (arith, s.room))
@@ -55,26 +60,34 @@ IsSeen-push seen ds d s within new = record {
         ∙ sym (ap (λ b. is_among e ds || b) (ne_eqb d e (λ same. other (sym same))) ∙ or_false (is_among e ds))
 
 -- the parts up to the next one
-pub devices_in-next : (parts : List Part) (i : ℕ) (p : Part) → i < length parts → p ≡ get_or parts i p → devices_in (take (i + 1) parts) ≡ devices_in (take i parts) ++ p.device ∷ []
+pub devices_in-next : (parts : List Part) (i : ℕ) (p : Part) → i < length parts → p ≡ get_or parts i p
+    → devices_in (take (i + 1) parts) ≡ devices_in (take i parts) ++ p.device ∷ []
 devices_in-next parts i p within here =
     ap devices_in (take_more parts i p within)
     ∙ map-append (λ (q : Part). q.device) (take i parts) (get_or parts i p ∷ [])
     ∙ ap (λ (q : Part). devices_in (take i parts) ++ q.device ∷ []) (sym here)
 
 -- the next part goes on with the marks
-pub IsSeen-next : (seen : List Bool) (parts : List Part) (i : ℕ) (p : Part) (d : ℕ) → IsSeen seen (devices_in (take i parts)) → i < length parts → p ≡ get_or parts i p
-    → d ≡ p.device → d ≤ MAX_DEVICE_NUMBER → get_or seen d false ≡ false → IsSeen (set seen d true) (devices_in (take (i + 1) parts))
+pub IsSeen-next : (seen : List Bool) (parts : List Part) (i : ℕ) (p : Part) (d : ℕ)
+    → IsSeen seen (devices_in (take i parts)) → i < length parts → p ≡ get_or parts i p
+    → d ≡ p.device → d ≤ MAX_DEVICE_NUMBER → get_or seen d false ≡ false
+        → IsSeen (set seen d true) (devices_in (take (i + 1) parts))
 IsSeen-next seen parts i p d s within here number in_range new =
     let next = devices_in-next parts i p within here ∙ ap (λ e. devices_in (take i parts) ++ e ∷ []) (sym number) in
     subst (IsSeen (set seen d true)) (sym next) (IsSeen-push seen (devices_in (take i parts)) d s (omega arith) new)
 
 -- a device that is marked stands twice
-pub distinct-marked : (seen : List Bool) (parts : List Part) (i : ℕ) (p : Part) (d : ℕ) → IsSeen seen (devices_in (take i parts)) → i < length parts → p ≡ get_or parts i p
+pub distinct-marked : (seen : List Bool) (parts : List Part) (i : ℕ) (p : Part) (d : ℕ)
+    → IsSeen seen (devices_in (take i parts)) → i < length parts → p ≡ get_or parts i p
     → d ≡ p.device → d ≤ MAX_DEVICE_NUMBER → get_or seen d false ≡ true → distinct (devices_in parts) ≡ false
 distinct-marked seen parts i p d s within here number in_range marked =
     let halves : parts ≡ take i parts ++ p ∷ drop (suc i) parts =
-    sym (take-append-drop i parts) ∙ ap (λ rest. take i parts ++ rest) (drop-cons parts i p within ∙ ap (λ q. q ∷ drop (suc i) parts) (sym here)) in
-    let among : is_among p.device (devices_in (take i parts)) ≡ true = ap (λ e. is_among e (devices_in (take i parts))) (sym number) ∙ sym (s.marks d (omega arith)) ∙ marked in
+    sym (take-append-drop i parts)
+        ∙ ap (λ rest. take i parts ++ rest) (drop-cons parts i p within
+        ∙ ap (λ q. q ∷ drop (suc i) parts) (sym here)) in
+    let among : is_among p.device (devices_in (take i parts)) ≡ true =
+        ap (λ e. is_among e (devices_in (take i parts))) (sym number) ∙ sym (s.marks d (omega arith)) ∙ marked in
     ap (λ ps. distinct (devices_in ps)) halves
     ∙ ap distinct (map-append (λ (q : Part). q.device) (take i parts) (p ∷ drop (suc i) parts))
-    ∙ are_distinct-twice nat_eq nat_eq_equiv (devices_in (take i parts)) p.device (devices_in (drop (suc i) parts)) among
+    ∙ are_distinct-twice nat_eq nat_eq_equiv (devices_in (take i parts)) p.device (devices_in (drop (suc i) parts))
+        among

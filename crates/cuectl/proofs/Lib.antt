@@ -1,5 +1,5 @@
-mod ClapRows
-mod ClapWalk
+mod ClapRowLemmas
+mod ClapWalkLemmas
 mod CommandLemmas
 mod LineLemmas
 mod PerformLemmas

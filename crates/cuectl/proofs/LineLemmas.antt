@@ -1,5 +1,6 @@
 -- Reading what clap matched.
-use Rattle.std.proofs.Common.{◌≡◌, ℕ, ◌<◌, ◌^◌, List, Option, Some, None, Result, Ok, Err, ◌∙◌, sym, refl, ap, subst, ◌⊎◌, inl, inr, OnOk, codes}
+use Rattle.std.proofs.Common.{◌≡◌, ℕ, ◌<◌, ◌^◌, List, Option, Some, None, Result, Ok, Err, ◌∙◌, sym, refl, ap, subst}
+use Rattle.std.proofs.Common.{◌⊎◌, inl, inr, OnOk, codes}
 use Rattle.std.specs.Str.Parse.{ParsesUnsigned}
 use Rattle.clap.specs.Words.{ReadsOne, one_text, rows_of, Row, Text, Kinds, IsAmong}
 use Rattle.clap.specs.declared.parser.matches.Found.{Found}
@@ -12,7 +13,8 @@ use Rattle.cuectl.specs.Lines.{IsNumberIn, IsFaultOf, IsHelp, IsRefused, AsksFor
 use Rattle.cuectl.specs.Unread.{LacksDir, LacksPort, LacksTurns, IsNoLine}
 
 -- what a getter read is the number that stands there, and it fits
-pub number_in : {E : Type 0} (gives : List ℕ → Result ℕ E → Type 0) (k : ℕ) (f : Found) (id : Text) (r : Option ℕ) (n : ℕ)
+pub number_in : {E : Type 0} (gives : List ℕ → Result ℕ E → Type 0) (k : ℕ) (f : Found) (id : Text) (r : Option ℕ)
+    (n : ℕ)
     → ((t : List ℕ) (x : Result ℕ E) → gives t x → ParsesUnsigned k 10 t x)
     → (one_text f id ≡ None → r ≡ None)
     → ((t : List ℕ) → one_text f id ≡ Some t → ReadsOne gives t r)
@@ -33,7 +35,8 @@ number_in {E} gives k f id r n parses none value is = go (one_text f id) refl
         )
 
 -- the number that stands there is what a getter reads, where it fits
-pub number_read : {E : Type 0} (gives : List ℕ → Result ℕ E → Type 0) (k : ℕ) (f : Found) (id : Text) (r : Option ℕ) (n : ℕ)
+pub number_read : {E : Type 0} (gives : List ℕ → Result ℕ E → Type 0) (k : ℕ) (f : Found) (id : Text) (r : Option ℕ)
+    (n : ℕ)
     → ((t : List ℕ) (x : Result ℕ E) → gives t x → ParsesUnsigned k 10 t x)
     → ((t : List ℕ) → one_text f id ≡ Some t → ReadsOne gives t r)
     → IsNumberIn id (rows_of f) n → n < 2 ^ k → r ≡ Some n
@@ -49,7 +52,8 @@ on_ok (Ok v) p = p
 on_ok (Err e) p = tt
 
 -- the text is given only where the help or the version is asked for
-pub asks : (kinds : Kinds) (kind : ErrorKind) (fault : LineFault) → IsFaultOf kind fault → (kind ≡ OutOfMemory) ⊎ IsAmong kind kinds → IsHelp fault → AsksForText kinds
+pub asks : (kinds : Kinds) (kind : ErrorKind) (fault : LineFault) → IsFaultOf kind fault
+    → (kind ≡ OutOfMemory) ⊎ IsAmong kind kinds → IsHelp fault → AsksForText kinds
 asks kinds kind (Help text) (inl is) (inl no_memory) h =
     let bad : DisplayHelp ≡ OutOfMemory = sym is ∙ no_memory in
     cc
@@ -62,7 +66,8 @@ asks kinds kind Usage is has h = absurd h
 asks kinds kind Memory is has h = absurd h
 
 -- the words are refused where clap stops for another reason than the help and the version
-pub refused : (kinds : Kinds) (kind : ErrorKind) (fault : LineFault) → IsFaultOf kind fault → (kind ≡ OutOfMemory) ⊎ IsAmong kind kinds → fault ≡ Usage → IsRefused kinds
+pub refused : (kinds : Kinds) (kind : ErrorKind) (fault : LineFault) → IsFaultOf kind fault
+    → (kind ≡ OutOfMemory) ⊎ IsAmong kind kinds → fault ≡ Usage → IsRefused kinds
 refused kinds kind (Help text) is has e = cc
 refused kinds kind Usage is (inl no_memory) e = absurd (is.1 no_memory)
 refused kinds kind Usage is (inr among) e = record { kind = kind; among = among; other = is.0 }

@@ -1,5 +1,6 @@
 -- How a command line ends, from how it was read.
-use Rattle.std.proofs.Common.{◌≡◌, ◌≢◌, ◌≤◌, ◌⊎◌, inl, inr, ℕ, List, [], Option, Some, None, sym, ◌∙◌, subst, refl, lit≤}
+use Rattle.std.proofs.Common.{◌≡◌, ◌≢◌, ◌≤◌, ◌⊎◌, inl, inr, ℕ, List, [], Option, Some, None, sym, ◌∙◌, subst, refl}
+use Rattle.std.proofs.Common.{lit≤}
 use Rattle.std.specs.Prelude.{codes, IfSome, OnOk, Result, Ok, Err}
 use Rattle.std.specs.Io.KnownBytes.{Appends}
 use Rattle.clap.specs.Words.{Row, Text, fault_of, subcommand_of}
@@ -37,11 +38,13 @@ is_script (Some found) (Show dir) is named =
 is_script (Some found) Script is named = refl
 
 -- where the line is a script, it ends so
-pub ends_so : (line : Line) (status : ℕ) (text old new : Option (List ℕ)) → line ≡ Script → EndsSo line status text old new → EndsSo Script status text old new
+pub ends_so : (line : Line) (status : ℕ) (text old new : Option (List ℕ)) → line ≡ Script
+    → EndsSo line status text old new → EndsSo Script status text old new
 ends_so line status text old new is ends = subst (λ (l : Line). EndsSo l status text old new) is ends
 
 -- what is said of a command is said of the line that is this command
-pub ends_as : (command line : Line) (status : ℕ) (text old new : Option (List ℕ)) → line ≡ command → EndsSo command status text old new → EndsSo line status text old new
+pub ends_as : (command line : Line) (status : ℕ) (text old new : Option (List ℕ)) → line ≡ command
+    → EndsSo command status text old new → EndsSo line status text old new
 ends_as command line status text old new is = subst (λ (l : Line). EndsSo l status text old new) (sym is)
 
 no_text : AsksForText [] → ⊥
@@ -57,15 +60,19 @@ no_other (Some found) named (inr (inr zero)) =
     cc
 
 -- words that clap takes, and that name a script, are refused for want of memory alone
-pub only_memory : (words : List Text) (fault : LineFault) → fault_of cuectl_app words ≡ [] → NamesScript (subcommand_of cuectl_app words)
+pub only_memory : (words : List Text) (fault : LineFault) → fault_of cuectl_app words ≡ []
+    → NamesScript (subcommand_of cuectl_app words)
     → (IsHelp fault → AsksForText (fault_of cuectl_app words)) → (fault ≡ Usage → IsNoCommand words) → fault ≡ Memory
 only_memory words (Help text) taken named help usage = absurd (no_text (subst AsksForText taken (help tt)))
 only_memory words Usage taken named help usage =
-    absurd (no_other (subcommand_of cuectl_app words) named (subst (λ kinds. IsRefused kinds ⊎ (subcommand_of cuectl_app words ≡ None) ⊎ HasPortZero (subcommand_of cuectl_app words)) taken (usage refl)))
+    absurd (no_other (subcommand_of cuectl_app words) named
+        (subst (λ kinds. IsRefused kinds ⊎ (subcommand_of cuectl_app words ≡ None)
+        ⊎ HasPortZero (subcommand_of cuectl_app words)) taken (usage refl)))
 only_memory words Memory taken named help usage = refl
 
 -- a state that was printed is told
-pub state_told : {T E : Type 0} (result : Result T E) (s : ShowState) (old new : Option (List ℕ)) → OnOk result (Appends old new (show_text s)) → OnOk result (IsStateTold old new)
+pub state_told : {T E : Type 0} (result : Result T E) (s : ShowState) (old new : Option (List ℕ))
+    → OnOk result (Appends old new (show_text s)) → OnOk result (IsStateTold old new)
 state_told (Ok done) s old new told = record { state = s; printed = told }
 state_told (Err fault) s old new told = tt
 
@@ -86,12 +93,15 @@ never_zero program.Io zero = cc
 never_zero program.Net zero = cc
 
 -- what holds of the output where a command was carried out holds where its status is 0
-pub told_at_zero : {T : Type 0} (done : Result T ProgramFault) (status : ℕ) (mid new : Option (List ℕ)) (P : Option (List ℕ) → Type 0) → status ≡ done_status done → OnOk done (P mid) → OnOk done (new ≡ mid) → status ≡ 0 → P new
+pub told_at_zero : {T : Type 0} (done : Result T ProgramFault) (status : ℕ) (mid new : Option (List ℕ))
+    (P : Option (List ℕ) → Type 0) → status ≡ done_status done → OnOk done (P mid) → OnOk done (new ≡ mid) → status ≡ 0
+    → P new
 told_at_zero (Ok done) status mid new P is told kept zero = subst P (sym kept) told
 told_at_zero (Err fault) status mid new P is told kept zero = absurd (never_zero fault (sym is ∙ zero))
 
 -- a script that ends so was run, whatever its text is
-pub has_stopped : (known : Option (List ℕ)) (failure : StreamFailure) (first : ShowState) (status : ℕ) (old new : Option (List ℕ)) → status ≡ status_of (Stopped failure)
+pub has_stopped : (known : Option (List ℕ)) (failure : StreamFailure) (first : ShowState) (status : ℕ)
+    (old new : Option (List ℕ)) → status ≡ status_of (Stopped failure)
     → IfSome known (λ text. HasRun first text status old new)
 has_stopped None failure first status old new ends = tt
 has_stopped (Some text) failure first status old new ends = record { ending = Stopped failure; is = ends; wrote = tt }
@@ -115,7 +125,8 @@ small_fault program.Io = (lit≤ tt, λ is. cc)
 small_fault program.Net = (lit≤ tt, λ is. cc)
 
 -- the status of a command is at most 3, and never 2
-pub small_done : {T : Type 0} (done : Result T ProgramFault) (status : ℕ) → status ≡ done_status done → (status ≤ 3) × (status ≢ 2)
+pub small_done : {T : Type 0} (done : Result T ProgramFault) (status : ℕ) → status ≡ done_status done
+    → (status ≤ 3) × (status ≢ 2)
 small_done {T} done status is =
     let P : ℕ → Type 0 = λ n. (n ≤ 3) × (n ≢ 2) in
     subst P (sym is) (go done)

@@ -11,7 +11,9 @@ use Rattle.cue_exchange.specs.declared.attempt.Reason.{Reason}
 use Rattle.cue_exchange.specs.declared.attempt.Stage.TheVariants.{Preparing, Decided, Cancelling}
 use Rattle.cue_exchange.specs.declared.attempt.DeviceAnswer.{DeviceAnswer}
 use Rattle.cue_exchange.specs.declared.attempt.Attempt.{Attempt}
-use Rattle.cue_exchange.specs.Answers.{is_ready, is_excused, is_waiting, is_preparing, is_decided, is_cancelling, is_concluding, is_known_in, is_required, stands, waits, some_waits, entering, enters, entered, answer_passes, answers_with, first_answer, devices_of}
+use Rattle.cue_exchange.specs.Answers.{is_ready, is_excused, is_waiting, is_preparing, is_decided, is_cancelling}
+use Rattle.cue_exchange.specs.Answers.{is_concluding, is_known_in, is_required, stands, waits, some_waits, entering}
+use Rattle.cue_exchange.specs.Answers.{enters, entered, answer_passes, answers_with, first_answer, devices_of}
 use Rattle.cue_exchange.specs.Live.{devices_in}
 use Rattle.cue_exchange.specs.Steps.{answers_as, moves_to, new_attempt}
 use Rattle.cue_core.specs.declared.event.Event.{Event}
@@ -19,7 +21,8 @@ use Rattle.cue_core.specs.declared.event.Event.TheVariants as event
 use Rattle.cue_core.specs.Events.{is_start_of, is_ready_of, is_excuse_of, is_go_of, is_cancel_of, is_end_of, is_about}
 use Rattle.cue_core.specs.State.{is_of_part, are_of_parts}
 use Rattle.cue_core.specs.History.{parts_by, devices_by, stood_by, was_excused}
-use Rattle.cue_core.proofs.lists.ConditionLemmas.{all_of, both, join, all_zip, all_from, all_mapped, agrees, same_self, same_number, number_sym, same-agrees, none_passes}
+use Rattle.cue_core.proofs.lists.ConditionLemmas.{all_of, both, join, all_zip, all_from, all_mapped, agrees, same_self}
+use Rattle.cue_core.proofs.lists.ConditionLemmas.{same_number, number_sym, same-agrees, none_passes}
 use Rattle.cue_core.proofs.rules.RuleLemmas.{are_of_parts-with_answer, are_of_parts-entered, are_of_parts-first_answers}
 
 -- the device is done with: it has answered for the last time, or was excused
@@ -54,13 +57,15 @@ pub record Tells (h : List Event) (q : ℕ) (a : Attempt) : Type 0 where
 
 -- ---- the devices are those of the parts
 
-pub devices-parts : (parts : List Part) (xs : List DeviceAnswer) → IsTrue (are_of_parts parts xs) → devices_of xs ≡ devices_in parts
+pub devices-parts : (parts : List Part) (xs : List DeviceAnswer) → IsTrue (are_of_parts parts xs)
+    → devices_of xs ≡ devices_in parts
 devices-parts [] [] k = refl
 devices-parts [] (x ∷ xs) k = cc
 devices-parts (p ∷ ps) [] k = cc
 devices-parts (p ∷ ps) (x ∷ xs) k =
     let m = both (is_of_part p x) (are_of_parts ps xs) k in
-    rw (same_number p.device x.device (both (nat_eq p.device x.device) (beq p.optional x.optional) m.0).0, devices-parts ps xs m.1) refl
+    rw (same_number p.device x.device (both (nat_eq p.device x.device) (beq p.optional x.optional) m.0).0, devices-parts
+        ps xs m.1) refl
 
 pub devices_told : (h : List Event) (q : ℕ) (a : Attempt) → Tells h q a → devices_of a.answers ≡ devices_by h q
 devices_told h q a t = devices-parts (parts_by h q) a.answers t.parts
@@ -85,30 +90,50 @@ and_false false c e = refl
 and_false true c e = cc
 
 pub quiet : (q : ℕ) (e : Event) → is_about q e ≡ false → IsQuiet q e
-quiet q (event.Device d port) h = record { start = refl; go = refl; cancel = refl; ready = λ d. refl; excuse = λ d. refl; end = λ d. refl }
-quiet q (event.NoDevice d) h = record { start = refl; go = refl; cancel = refl; ready = λ d. refl; excuse = λ d. refl; end = λ d. refl }
-quiet q (event.Cue c parts) h = record { start = refl; go = refl; cancel = refl; ready = λ d. refl; excuse = λ d. refl; end = λ d. refl }
-quiet q (event.NoCue c) h = record { start = refl; go = refl; cancel = refl; ready = λ d. refl; excuse = λ d. refl; end = λ d. refl }
-quiet q (event.Place c) h = record { start = refl; go = refl; cancel = refl; ready = λ d. refl; excuse = λ d. refl; end = λ d. refl }
-quiet q (event.Start p c t) h = record { start = h; go = refl; cancel = refl; ready = λ d. refl; excuse = λ d. refl; end = λ d. refl }
-quiet q (event.Ready p e) h = record { start = refl; go = refl; cancel = refl; ready = λ d. and_false (nat_eq p q) (nat_eq e d) h; excuse = λ d. refl; end = λ d. refl }
-quiet q (event.Go p) h = record { start = refl; go = h; cancel = refl; ready = λ d. refl; excuse = λ d. refl; end = λ d. refl }
-quiet q (event.Done p e) h = record { start = refl; go = refl; cancel = refl; ready = λ d. refl; excuse = λ d. refl; end = λ d. and_false (nat_eq p q) (nat_eq e d) h }
-quiet q (event.Cancel p r) h = record { start = refl; go = refl; cancel = h; ready = λ d. refl; excuse = λ d. refl; end = λ d. refl }
-quiet q (event.LetGo p e) h = record { start = refl; go = refl; cancel = refl; ready = λ d. refl; excuse = λ d. refl; end = λ d. and_false (nat_eq p q) (nat_eq e d) h }
-quiet q (event.Failed p e) h = record { start = refl; go = refl; cancel = refl; ready = λ d. refl; excuse = λ d. refl; end = λ d. and_false (nat_eq p q) (nat_eq e d) h }
-quiet q (event.Excuse p e) h = record { start = refl; go = refl; cancel = refl; ready = λ d. refl; excuse = λ d. and_false (nat_eq p q) (nat_eq e d) h; end = λ d. and_false (nat_eq p q) (nat_eq e d) h }
+quiet q (event.Device d port) h =
+    record { start = refl; go = refl; cancel = refl; ready = λ d. refl; excuse = λ d. refl; end = λ d. refl }
+quiet q (event.NoDevice d) h =
+    record { start = refl; go = refl; cancel = refl; ready = λ d. refl; excuse = λ d. refl; end = λ d. refl }
+quiet q (event.Cue c parts) h =
+    record { start = refl; go = refl; cancel = refl; ready = λ d. refl; excuse = λ d. refl; end = λ d. refl }
+quiet q (event.NoCue c) h =
+    record { start = refl; go = refl; cancel = refl; ready = λ d. refl; excuse = λ d. refl; end = λ d. refl }
+quiet q (event.Place c) h =
+    record { start = refl; go = refl; cancel = refl; ready = λ d. refl; excuse = λ d. refl; end = λ d. refl }
+quiet q (event.Start p c t) h =
+    record { start = h; go = refl; cancel = refl; ready = λ d. refl; excuse = λ d. refl; end = λ d. refl }
+quiet q (event.Ready p e) h =
+    record { start = refl; go = refl; cancel = refl; ready = λ d. and_false (nat_eq p q) (nat_eq e d) h; excuse =
+    λ d. refl; end = λ d. refl }
+quiet q (event.Go p) h =
+    record { start = refl; go = h; cancel = refl; ready = λ d. refl; excuse = λ d. refl; end = λ d. refl }
+quiet q (event.Done p e) h =
+    record { start = refl; go = refl; cancel = refl; ready = λ d. refl; excuse = λ d. refl; end =
+    λ d. and_false (nat_eq p q) (nat_eq e d) h }
+quiet q (event.Cancel p r) h =
+    record { start = refl; go = refl; cancel = h; ready = λ d. refl; excuse = λ d. refl; end = λ d. refl }
+quiet q (event.LetGo p e) h =
+    record { start = refl; go = refl; cancel = refl; ready = λ d. refl; excuse = λ d. refl; end =
+    λ d. and_false (nat_eq p q) (nat_eq e d) h }
+quiet q (event.Failed p e) h =
+    record { start = refl; go = refl; cancel = refl; ready = λ d. refl; excuse = λ d. refl; end =
+    λ d. and_false (nat_eq p q) (nat_eq e d) h }
+quiet q (event.Excuse p e) h =
+    record { start = refl; go = refl; cancel = refl; ready = λ d. refl; excuse =
+    λ d. and_false (nat_eq p q) (nat_eq e d) h; end = λ d. and_false (nat_eq p q) (nat_eq e d) h }
 
 pub parts_by-on : (q : ℕ) (e : Event) (h : List Event) → is_start_of q e ≡ false → parts_by (e ∷ h) q ≡ parts_by h q
 parts_by-on q e h n = rw n refl
 
-pub devices_by-on : (q : ℕ) (e : Event) (h : List Event) → is_start_of q e ≡ false → devices_by (e ∷ h) q ≡ devices_by h q
+pub devices_by-on : (q : ℕ) (e : Event) (h : List Event) → is_start_of q e ≡ false
+    → devices_by (e ∷ h) q ≡ devices_by h q
 devices_by-on q e h n = rw n refl
 
 agrees_on : (b old new : Bool) → new ≡ old → IsTrue (agrees b old) → IsTrue (agrees b new)
 agrees_on b old new e h = rw e h
 
-still_by : (r x stood excused : Bool) → r ≡ false → x ≡ false → ((r || stood) && not (x || excused)) ≡ (stood && not excused)
+still_by : (r x stood excused : Bool) → r ≡ false → x ≡ false
+    → ((r || stood) && not (x || excused)) ≡ (stood && not excused)
 still_by r x stood excused e f = rw (e, f) refl
 
 pub tells-on : (q : ℕ) (e : Event) (h : List Event) (a : Attempt) → IsQuiet q e → Tells h q a → Tells (e ∷ h) q a
@@ -117,16 +142,25 @@ tells-on q e h a n t = record {
   parts = rw (parts_by-on q e h n.start) t.parts;
   decided = t.decided ∙ sym (or_skip (is_go_of q e) (list_any (is_go_of q) h) n.go);
   cancelled = t.cancelled ∙ sym (or_skip (is_cancel_of q e) (list_any (is_cancel_of q) h) n.cancel);
-  ready = λ p. all_from (ready_by h q) (ready_by (e ∷ h) q) a.answers (λ x k. agrees_on (is_ready x.answer) (stood_by h q x.device && not (was_excused h q x.device)) (stood_by (e ∷ h) q x.device && not (was_excused (e ∷ h) q x.device)) (still_by (is_ready_of q x.device e) (is_excuse_of q x.device e) (stood_by h q x.device) (was_excused h q x.device) (n.ready x.device) (n.excuse x.device)) k) (t.ready p);
-  excused = λ p. all_from (excused_by h q) (excused_by (e ∷ h) q) a.answers (λ x k. agrees_on (is_excused x.answer) (was_excused h q x.device) (was_excused (e ∷ h) q x.device) (or_skip (is_excuse_of q x.device e) (was_excused h q x.device) (n.excuse x.device)) k) (t.excused p);
-  ended = all_from (last_by h q) (last_by (e ∷ h) q) a.answers (λ x k. agrees_on (is_last x.answer) (list_any (is_end_of q x.device) h) (list_any (is_end_of q x.device) (e ∷ h)) (or_skip (is_end_of q x.device e) (list_any (is_end_of q x.device) h) (n.end x.device)) k) t.ended;
+  ready = λ p. all_from (ready_by h q) (ready_by (e ∷ h) q) a.answers
+      (λ x k. agrees_on (is_ready x.answer) (stood_by h q x.device && not (was_excused h q x.device))
+      (stood_by (e ∷ h) q x.device && not (was_excused (e ∷ h) q x.device))
+      (still_by (is_ready_of q x.device e) (is_excuse_of q x.device e) (stood_by h q x.device)
+      (was_excused h q x.device) (n.ready x.device) (n.excuse x.device)) k) (t.ready p);
+  excused = λ p. all_from (excused_by h q) (excused_by (e ∷ h) q) a.answers
+      (λ x k. agrees_on (is_excused x.answer) (was_excused h q x.device) (was_excused (e ∷ h) q x.device)
+      (or_skip (is_excuse_of q x.device e) (was_excused h q x.device) (n.excuse x.device)) k) (t.excused p);
+  ended = all_from (last_by h q) (last_by (e ∷ h) q) a.answers
+      (λ x k. agrees_on (is_last x.answer) (list_any (is_end_of q x.device) h) (list_any (is_end_of q x.device) (e ∷ h))
+      (or_skip (is_end_of q x.device e) (list_any (is_end_of q x.device) h) (n.end x.device)) k) t.ended;
 }
 
 -- ---- the start
 
 pub tells-start : (q : ℕ) (c : List ℕ) (t : ℕ) (parts : List Part) (h : List Event)
     → list_any (is_go_of q) h ≡ false → list_any (is_cancel_of q) h ≡ false
-    → ((d : ℕ) → stood_by h q d ≡ false) → ((d : ℕ) → was_excused h q d ≡ false) → ((d : ℕ) → list_any (is_end_of q d) h ≡ false)
+    → ((d : ℕ) → stood_by h q d ≡ false) → ((d : ℕ) → was_excused h q d ≡ false)
+        → ((d : ℕ) → list_any (is_end_of q d) h ≡ false)
     → parts_by (event.Start q c t ∷ h) q ≡ parts
     → Tells (event.Start q c t ∷ h) q (new_attempt q c t parts)
 tells-start q c t parts h go cancel ready excused end same = record {
@@ -134,21 +168,29 @@ tells-start q c t parts h go cancel ready excused end same = record {
   parts = rw same (are_of_parts-first_answers parts);
   decided = sym go;
   cancelled = sym cancel;
-  ready = λ p. rw (all_mapped (ready_by (event.Start q c t ∷ h) q) first_answer parts) (all_of (λ x. ready_by (event.Start q c t ∷ h) q (first_answer x)) parts (λ x. rw (ready x.device) refl));
-  excused = λ p. rw (all_mapped (excused_by (event.Start q c t ∷ h) q) first_answer parts) (all_of (λ x. excused_by (event.Start q c t ∷ h) q (first_answer x)) parts (λ x. rw (excused x.device) refl));
-  ended = rw (all_mapped (last_by (event.Start q c t ∷ h) q) first_answer parts) (all_of (λ x. last_by (event.Start q c t ∷ h) q (first_answer x)) parts (λ x. rw (end x.device) refl));
+  ready = λ p. rw (all_mapped (ready_by (event.Start q c t ∷ h) q) first_answer parts)
+      (all_of (λ x. ready_by (event.Start q c t ∷ h) q (first_answer x)) parts (λ x. rw (ready x.device) refl));
+  excused = λ p. rw (all_mapped (excused_by (event.Start q c t ∷ h) q) first_answer parts)
+      (all_of (λ x. excused_by (event.Start q c t ∷ h) q (first_answer x)) parts (λ x. rw (excused x.device) refl));
+  ended = rw (all_mapped (last_by (event.Start q c t ∷ h) q) first_answer parts)
+      (all_of (λ x. last_by (event.Start q c t ∷ h) q (first_answer x)) parts (λ x. rw (end x.device) refl));
 }
 
 -- ---- an answer
 
 -- what the history says of each device that passes a test, it does not say of one that waits and so does not pass
-pub waiting_not : (test : Answer → Bool) → test Waiting ≡ false → (R : ℕ → Bool) (d : ℕ) (xs : List DeviceAnswer) → IsTrue (list_all (λ x. agrees (test x.answer) (R x.device)) xs) → IsTrue (answer_passes is_waiting d xs) → R d ≡ false
+pub waiting_not : (test : Answer → Bool) → test Waiting ≡ false → (R : ℕ → Bool) (d : ℕ) (xs : List DeviceAnswer)
+    → IsTrue (list_all (λ x. agrees (test x.answer) (R x.device)) xs) → IsTrue (answer_passes is_waiting d xs)
+    → R d ≡ false
 waiting_not test none R d [] k w = cc
 waiting_not test none R d (x ∷ xs) k w =
     let p = both (agrees (test x.answer) (R x.device)) (list_all (λ x. agrees (test x.answer) (R x.device)) xs) k in
-    at (nat_eq x.device d) refl x.answer (same-agrees (test x.answer) (R x.device) p.0) (waiting_not test none R d xs p.1) w
+    at (nat_eq x.device d) refl x.answer (same-agrees (test x.answer) (R x.device) p.0)
+        (waiting_not test none R d xs p.1) w
   where
-    at : (b : Bool) → nat_eq x.device d ≡ b → (answer : Answer) → test answer ≡ R x.device → (IsTrue (answer_passes is_waiting d xs) → R d ≡ false) → IsTrue ((b && is_waiting answer) || answer_passes is_waiting d xs) → R d ≡ false
+    at : (b : Bool) → nat_eq x.device d ≡ b → (answer : Answer) → test answer ≡ R x.device
+        → (IsTrue (answer_passes is_waiting d xs) → R d ≡ false)
+        → IsTrue ((b && is_waiting answer) || answer_passes is_waiting d xs) → R d ≡ false
     at true e Waiting r f w = let same = same_number x.device d e in rw same at (sym r ∙ none)
     at true e Ready r f w = f w
     at true e Done r f w = f w
@@ -161,43 +203,55 @@ at_device : (R : ℕ → Bool) (d n : ℕ) → R d ≡ false → nat_eq n d ≡ 
 at_device R d n h e = let same = same_number n d e in rw same h
 
 -- what a device has answered, and what the history says of it, as the device d answers that it stands by
-ready_told : (q d n : ℕ) (b : Bool) (answer : Answer) (stood excused : Bool) → nat_eq n d ≡ b → (nat_eq n d ≡ true → excused ≡ false) → IsTrue (agrees (is_ready answer) (stood && not excused))
+ready_told : (q d n : ℕ) (b : Bool) (answer : Answer) (stood excused : Bool) → nat_eq n d ≡ b
+    → (nat_eq n d ≡ true → excused ≡ false) → IsTrue (agrees (is_ready answer) (stood && not excused))
     → IsTrue (agrees (is_ready (if b then Ready else answer)) (((nat_eq q q && nat_eq d n) || stood) && not excused))
 ready_told q d n true answer stood excused e f k = rw (f e, same_self q, number_sym d n, e) refl
 ready_told q d n false answer stood excused e f k = rw (same_self q, number_sym d n, e) k
 
 -- an answer that does not pass, of a device of which the history says nothing
-none_told : (test : Answer → Bool) (d n : ℕ) (b : Bool) (given answer : Answer) (past : Bool) → nat_eq n d ≡ b → test given ≡ false → (nat_eq n d ≡ true → past ≡ false) → IsTrue (agrees (test answer) past)
+none_told : (test : Answer → Bool) (d n : ℕ) (b : Bool) (given answer : Answer) (past : Bool) → nat_eq n d ≡ b
+    → test given ≡ false → (nat_eq n d ≡ true → past ≡ false) → IsTrue (agrees (test answer) past)
     → IsTrue (agrees (test (if b then given else answer)) past)
 none_told test d n true given answer past e g f k = rw (g, f e) refl
 none_told test d n false given answer past e g f k = k
 
-pub tells-ready : (q d : ℕ) (h : List Event) (a : Attempt) → IsTrue (answer_passes is_waiting d a.answers) → Tells h q a → Tells (event.Ready q d ∷ h) q (answers_as d Ready a)
+pub tells-ready : (q d : ℕ) (h : List Event) (a : Attempt) → IsTrue (answer_passes is_waiting d a.answers) → Tells h q a
+    → Tells (event.Ready q d ∷ h) q (answers_as d Ready a)
 tells-ready q d h a w t = record {
   begun = t.begun;
   parts = rw (are_of_parts-with_answer (parts_by h q) d Ready a.answers) t.parts;
   decided = t.decided;
   cancelled = t.cancelled;
   ready = λ p. rw (all_mapped (ready_by (event.Ready q d ∷ h) q) (answers_with d Ready) a.answers)
-      (all_from (ready_by h q) (λ x. ready_by (event.Ready q d ∷ h) q (answers_with d Ready x)) a.answers (λ x k. ready_told q d x.device (nat_eq x.device d) x.answer (stood_by h q x.device) (was_excused h q x.device) refl (at_device (was_excused h q) d x.device (not_excused p)) k) (t.ready p));
+      (all_from (ready_by h q) (λ x. ready_by (event.Ready q d ∷ h) q (answers_with d Ready x)) a.answers
+          (λ x k. ready_told q d x.device (nat_eq x.device d) x.answer (stood_by h q x.device)
+          (was_excused h q x.device) refl (at_device (was_excused h q) d x.device (not_excused p)) k) (t.ready p));
   excused = λ p. rw (all_mapped (excused_by (event.Ready q d ∷ h) q) (answers_with d Ready) a.answers)
-      (all_from (excused_by h q) (λ x. excused_by (event.Ready q d ∷ h) q (answers_with d Ready x)) a.answers (λ x k. none_told is_excused d x.device (nat_eq x.device d) Ready x.answer (was_excused h q x.device) refl refl (at_device (was_excused h q) d x.device (not_excused p)) k) (t.excused p));
+      (all_from (excused_by h q) (λ x. excused_by (event.Ready q d ∷ h) q (answers_with d Ready x)) a.answers
+          (λ x k. none_told is_excused d x.device (nat_eq x.device d) Ready x.answer (was_excused h q x.device) refl
+          refl (at_device (was_excused h q) d x.device (not_excused p)) k) (t.excused p));
   ended = rw (all_mapped (last_by (event.Ready q d ∷ h) q) (answers_with d Ready) a.answers)
-      (all_from (last_by h q) (λ x. last_by (event.Ready q d ∷ h) q (answers_with d Ready x)) a.answers (λ x k. none_told is_last d x.device (nat_eq x.device d) Ready x.answer (list_any (is_end_of q x.device) h) refl refl (at_device (λ n. list_any (is_end_of q n) h) d x.device (waiting_not is_last refl (λ n. list_any (is_end_of q n) h) d a.answers t.ended w)) k) t.ended);
+      (all_from (last_by h q) (λ x. last_by (event.Ready q d ∷ h) q (answers_with d Ready x)) a.answers
+          (λ x k. none_told is_last d x.device (nat_eq x.device d) Ready x.answer (list_any (is_end_of q x.device) h)
+          refl refl (at_device (λ n. list_any (is_end_of q n) h) d x.device
+          (waiting_not is_last refl (λ n. list_any (is_end_of q n) h) d a.answers t.ended w)) k) t.ended);
 }
   where
     not_excused : IsTrue (is_preparing a.stage) → was_excused h q d ≡ false
     not_excused p = waiting_not is_excused refl (was_excused h q) d a.answers (t.excused p) w
 
 -- as the device d is excused, it stands by no more
-gone_told : (q d n : ℕ) (b : Bool) (answer : Answer) (stood excused : Bool) → nat_eq n d ≡ b → IsTrue (agrees (is_ready answer) (stood && not excused))
+gone_told : (q d n : ℕ) (b : Bool) (answer : Answer) (stood excused : Bool) → nat_eq n d ≡ b
+    → IsTrue (agrees (is_ready answer) (stood && not excused))
     → IsTrue (agrees (is_ready (if b then Excused else answer)) (stood && not ((nat_eq q q && nat_eq d n) || excused)))
 gone_told q d n true answer true excused e k = rw (same_self q, number_sym d n, e) refl
 gone_told q d n true answer false excused e k = refl
 gone_told q d n false answer stood excused e k = rw (same_self q, number_sym d n, e) k
 
 -- an answer that passes, of the device of which the event says so
-now_told : (test : Answer → Bool) (b : Bool) (given answer : Answer) (now past : Bool) → now ≡ b → IsTrue (test given) → IsTrue (agrees (test answer) past)
+now_told : (test : Answer → Bool) (b : Bool) (given answer : Answer) (now past : Bool) → now ≡ b → IsTrue (test given)
+    → IsTrue (agrees (test answer) past)
     → IsTrue (agrees (test (if b then given else answer)) (now || past))
 now_told test true given answer now past e l k = rw (e, l) refl
 now_told test false given answer now past e l k = rw e k
@@ -205,24 +259,32 @@ now_told test false given answer now past e l k = rw e k
 pub of_device : (q d n : ℕ) → (nat_eq q q && nat_eq d n) ≡ nat_eq n d
 of_device q d n = rw (same_self q) (number_sym d n)
 
-pub tells-excuse : (q d : ℕ) (h : List Event) (a : Attempt) → Tells h q a → Tells (event.Excuse q d ∷ h) q (answers_as d Excused a)
+pub tells-excuse : (q d : ℕ) (h : List Event) (a : Attempt) → Tells h q a
+    → Tells (event.Excuse q d ∷ h) q (answers_as d Excused a)
 tells-excuse q d h a t = record {
   begun = t.begun;
   parts = rw (are_of_parts-with_answer (parts_by h q) d Excused a.answers) t.parts;
   decided = t.decided;
   cancelled = t.cancelled;
   ready = λ p. rw (all_mapped (ready_by (event.Excuse q d ∷ h) q) (answers_with d Excused) a.answers)
-      (all_from (ready_by h q) (λ x. ready_by (event.Excuse q d ∷ h) q (answers_with d Excused x)) a.answers (λ x k. gone_told q d x.device (nat_eq x.device d) x.answer (stood_by h q x.device) (was_excused h q x.device) refl k) (t.ready p));
+      (all_from (ready_by h q) (λ x. ready_by (event.Excuse q d ∷ h) q (answers_with d Excused x)) a.answers
+          (λ x k. gone_told q d x.device (nat_eq x.device d) x.answer (stood_by h q x.device) (was_excused h q x.device)
+          refl k) (t.ready p));
   excused = λ p. rw (all_mapped (excused_by (event.Excuse q d ∷ h) q) (answers_with d Excused) a.answers)
-      (all_from (excused_by h q) (λ x. excused_by (event.Excuse q d ∷ h) q (answers_with d Excused x)) a.answers (λ x k. now_told is_excused (nat_eq x.device d) Excused x.answer (nat_eq q q && nat_eq d x.device) (was_excused h q x.device) (of_device q d x.device) refl k) (t.excused p));
+      (all_from (excused_by h q) (λ x. excused_by (event.Excuse q d ∷ h) q (answers_with d Excused x)) a.answers
+          (λ x k. now_told is_excused (nat_eq x.device d) Excused x.answer (nat_eq q q && nat_eq d x.device)
+          (was_excused h q x.device) (of_device q d x.device) refl k) (t.excused p));
   ended = rw (all_mapped (last_by (event.Excuse q d ∷ h) q) (answers_with d Excused) a.answers)
-      (all_from (last_by h q) (λ x. last_by (event.Excuse q d ∷ h) q (answers_with d Excused x)) a.answers (λ x k. now_told is_last (nat_eq x.device d) Excused x.answer (nat_eq q q && nat_eq d x.device) (list_any (is_end_of q x.device) h) (of_device q d x.device) refl k) t.ended);
+      (all_from (last_by h q) (λ x. last_by (event.Excuse q d ∷ h) q (answers_with d Excused x)) a.answers
+          (λ x k. now_told is_last (nat_eq x.device d) Excused x.answer (nat_eq q q && nat_eq d x.device)
+          (list_any (is_end_of q x.device) h) (of_device q d x.device) refl k) t.ended);
 }
 
 -- ---- a new stage
 
 -- a device is done with after its attempt is decided or cancelled exactly where it was before
-entering_keeps : (old new : Stage) (answer : Answer) → IsTrue (is_preparing old) → IsTrue (is_concluding new) → IsTrue (is_known_in old answer) → is_last (entering new answer) ≡ is_last answer
+entering_keeps : (old new : Stage) (answer : Answer) → IsTrue (is_preparing old) → IsTrue (is_concluding new)
+    → IsTrue (is_known_in old answer) → is_last (entering new answer) ≡ is_last answer
 entering_keeps Preparing Preparing answer p n k = cc
 entering_keeps Preparing Decided Waiting p n k = refl
 entering_keeps Preparing Decided Ready p n k = refl
@@ -245,16 +307,22 @@ knows stage x k = (both (is_known_in stage x.answer) (not (is_required x && is_e
 moved_told : (old new : Bool) (past : Bool) → new ≡ old → IsTrue (agrees old past) → IsTrue (agrees new past)
 moved_told old new past e k = rw e k
 
-ended_on : (q : ℕ) (stage : Stage) (h : List Event) (a : Attempt) → IsTrue (is_preparing a.stage) → IsTrue (is_concluding stage) → IsTrue (list_all (stands a.stage) a.answers) → IsTrue (list_all (last_by h q) a.answers) → IsTrue (list_all (last_by h q) (entered stage a.answers))
+ended_on : (q : ℕ) (stage : Stage) (h : List Event) (a : Attempt) → IsTrue (is_preparing a.stage)
+    → IsTrue (is_concluding stage) → IsTrue (list_all (stands a.stage) a.answers)
+    → IsTrue (list_all (last_by h q) a.answers) → IsTrue (list_all (last_by h q) (entered stage a.answers))
 ended_on q stage h a p c s t = rw (all_mapped (last_by h q) (enters stage) a.answers)
-    (all_zip (stands a.stage) (last_by h q) (λ x. last_by h q (enters stage x)) a.answers (λ x k l. moved_told (is_last x.answer) (is_last (entering stage x.answer)) (list_any (is_end_of q x.device) h) (entering_keeps a.stage stage x.answer p c (knows a.stage x k)) l) s t)
+    (all_zip (stands a.stage) (last_by h q) (λ x. last_by h q (enters stage x)) a.answers
+        (λ x k l. moved_told (is_last x.answer) (is_last (entering stage x.answer)) (list_any (is_end_of q x.device) h)
+        (entering_keeps a.stage stage x.answer p c (knows a.stage x k)) l) s t)
 
-pub not_decided : (stage : Stage) → IsTrue (is_preparing stage) → (is_decided stage ≡ false) × (is_cancelling stage ≡ false)
+pub not_decided : (stage : Stage) → IsTrue (is_preparing stage) → (is_decided stage ≡ false)
+    × (is_cancelling stage ≡ false)
 not_decided Preparing p = (refl, refl)
 not_decided Decided p = cc
 not_decided (Cancelling r) p = cc
 
-pub tells-go : (q : ℕ) (h : List Event) (a : Attempt) → IsTrue (is_preparing a.stage) → IsTrue (list_all (stands a.stage) a.answers) → Tells h q a → Tells (event.Go q ∷ h) q (moves_to Decided a)
+pub tells-go : (q : ℕ) (h : List Event) (a : Attempt) → IsTrue (is_preparing a.stage)
+    → IsTrue (list_all (stands a.stage) a.answers) → Tells h q a → Tells (event.Go q ∷ h) q (moves_to Decided a)
 tells-go q h a p s t = record {
   begun = t.begun;
   parts = rw (are_of_parts-entered (parts_by h q) Decided a.answers) t.parts;
@@ -265,7 +333,9 @@ tells-go q h a p s t = record {
   ended = ended_on q Decided h a p refl s t.ended;
 }
 
-pub tells-cancel : (q : ℕ) (r : Reason) (h : List Event) (a : Attempt) → IsTrue (is_preparing a.stage) → IsTrue (list_all (stands a.stage) a.answers) → Tells h q a → Tells (event.Cancel q r ∷ h) q (moves_to (Cancelling r) a)
+pub tells-cancel : (q : ℕ) (r : Reason) (h : List Event) (a : Attempt) → IsTrue (is_preparing a.stage)
+    → IsTrue (list_all (stands a.stage) a.answers) → Tells h q a
+    → Tells (event.Cancel q r ∷ h) q (moves_to (Cancelling r) a)
 tells-cancel q r h a p s t = record {
   begun = t.begun;
   parts = rw (are_of_parts-entered (parts_by h q) (Cancelling r) a.answers) t.parts;
@@ -285,7 +355,8 @@ pub record IsLastAnswer (q d : ℕ) (e : Event) : Type 0 where
   pub cancel : is_cancel_of q e ≡ false
   pub end : (n : ℕ) → is_end_of q n e ≡ nat_eq n d
 
-pub tells-end : (q d : ℕ) (given : Answer) (e : Event) (h : List Event) (a : Attempt) → is_preparing a.stage ≡ false → IsTrue (is_last given) → IsLastAnswer q d e → Tells h q a → Tells (e ∷ h) q (answers_as d given a)
+pub tells-end : (q d : ℕ) (given : Answer) (e : Event) (h : List Event) (a : Attempt) → is_preparing a.stage ≡ false
+    → IsTrue (is_last given) → IsLastAnswer q d e → Tells h q a → Tells (e ∷ h) q (answers_as d given a)
 tells-end q d given e h a p l n t = record {
   begun = rw n.start t.begun;
   parts = rw (parts_by-on q e h n.start, are_of_parts-with_answer (parts_by h q) d given a.answers) t.parts;
@@ -294,11 +365,14 @@ tells-end q d given e h a p l n t = record {
   ready = λ k. cc;
   excused = λ k. cc;
   ended = rw (all_mapped (last_by (e ∷ h) q) (answers_with d given) a.answers)
-      (all_from (last_by h q) (λ x. last_by (e ∷ h) q (answers_with d given x)) a.answers (λ x k. now_told is_last (nat_eq x.device d) given x.answer (is_end_of q x.device e) (list_any (is_end_of q x.device) h) (n.end x.device) l k) t.ended);
+      (all_from (last_by h q) (λ x. last_by (e ∷ h) q (answers_with d given x)) a.answers
+          (λ x k. now_told is_last (nat_eq x.device d) given x.answer (is_end_of q x.device e)
+          (list_any (is_end_of q x.device) h) (n.end x.device) l k) t.ended);
 }
 
 -- in a stage that is not Preparing a device that is not Waiting is done with
-last_one : (stage : Stage) (answer : Answer) → is_preparing stage ≡ false → IsTrue (is_known_in stage answer) → IsTrue (not (is_waiting answer)) → is_last answer ≡ true
+last_one : (stage : Stage) (answer : Answer) → is_preparing stage ≡ false → IsTrue (is_known_in stage answer)
+    → IsTrue (not (is_waiting answer)) → is_last answer ≡ true
 last_one Preparing answer p k w = cc
 last_one stage Waiting p k w = cc
 last_one Decided Ready p k w = cc
@@ -312,10 +386,15 @@ told_last : (b past : Bool) → b ≡ true → IsTrue (agrees b past) → IsTrue
 told_last b past e k = rw e at k
 
 -- where no device is Waiting any more, each is done with
-pub gone_by : (q : ℕ) (h : List Event) (a : Attempt) → is_preparing a.stage ≡ false → IsTrue (list_all (stands a.stage) a.answers) → some_waits a.answers ≡ false → Tells h q a → IsTrue (list_all (λ d. list_any (is_end_of q d) h) (devices_by h q))
+pub gone_by : (q : ℕ) (h : List Event) (a : Attempt) → is_preparing a.stage ≡ false
+    → IsTrue (list_all (stands a.stage) a.answers) → some_waits a.answers ≡ false → Tells h q a
+    → IsTrue (list_all (λ d. list_any (is_end_of q d) h) (devices_by h q))
 gone_by q h a p s w t =
     rw (← devices_told h q a t) (rw (all_mapped (λ d. list_any (is_end_of q d) h) (λ x. x.device) a.answers)
     (all_zip (last_by h q) (λ x. stands a.stage x && not (waits x)) (λ x. list_any (is_end_of q x.device) h) a.answers
-    (λ x l k. told_last (is_last x.answer) (list_any (is_end_of q x.device) h) (let k2 = both (stands a.stage x) (not (waits x)) k in last_one a.stage x.answer p (knows a.stage x k2.0) k2.1) l)
+    (λ x l k. told_last (is_last x.answer) (list_any (is_end_of q x.device) h)
+        (let k2 = both (stands a.stage x) (not (waits x)) k in last_one a.stage x.answer p (knows a.stage x k2.0) k2.1)
+        l)
     t.ended
-    (all_zip (stands a.stage) (λ x. not (waits x)) (λ x. stands a.stage x && not (waits x)) a.answers (λ x k l. join (stands a.stage x) (not (waits x)) k l) s (none_passes waits a.answers w))))
+    (all_zip (stands a.stage) (λ x. not (waits x)) (λ x. stands a.stage x && not (waits x)) a.answers
+        (λ x k l. join (stands a.stage x) (not (waits x)) k l) s (none_passes waits a.answers w))))

@@ -1,5 +1,6 @@
 -- Cancels of the Preparing attempts.
-use Rattle.std.proofs.Common.{◌≡◌, ℕ, Bool, true, false, not, ◌&&◌, ◌||◌, List, [], ◌∷◌, map, filter, cond, nat_eq, if◌then◌else◌, refl, ap, true≢false}
+use Rattle.std.proofs.Common.{◌≡◌, ℕ, Bool, true, false, not, ◌&&◌, ◌||◌, List, [], ◌∷◌, map, filter, cond, nat_eq}
+use Rattle.std.proofs.Common.{if◌then◌else◌, refl, ap, true≢false}
 use Rattle.std.specs.List.{list_all, list_any}
 use Rattle.cue_exchange.specs.declared.attempt.Reason.{Reason}
 use Rattle.cue_exchange.specs.declared.attempt.Reason.TheVariants.{Power}
@@ -27,29 +28,46 @@ named todo q = list_any (λ b. nat_eq b.seq q) todo
 abbrev is_left : List Attempt → Attempt → Bool
 is_left todo a = not (is_preparing a.stage) || named todo a.seq
 
-left-moved : (r : Reason) (b : Attempt) (todo : List Attempt) (a : Attempt) → is_left (b ∷ todo) a ≡ true → is_left todo (changed b.seq (moves_to (Cancelling r)) a) ≡ true
+left-moved : (r : Reason) (b : Attempt) (todo : List Attempt) (a : Attempt) → is_left (b ∷ todo) a ≡ true
+    → is_left todo (changed b.seq (moves_to (Cancelling r)) a) ≡ true
 left-moved r b todo a h = by (nat_eq a.seq b.seq) refl
   where
     by : (t : Bool) → nat_eq a.seq b.seq ≡ t → is_left todo (if t then moves_to (Cancelling r) a else a) ≡ true
     by true e = refl
-    by false e = given (is_preparing a.stage) _ (λ p. either (nat_eq b.seq a.seq) _ _ (λ m. let k : nat_eq a.seq b.seq ≡ true = rw (same b.seq a.seq m) (itself a.seq) in absurd (true≢false (cc))) (λ m. m) (gives (is_preparing a.stage) _ h p))
+    by false e = given (is_preparing a.stage) _
+        (λ p. either (nat_eq b.seq a.seq) _ _
+        (λ m. let k : nat_eq a.seq b.seq ≡ true = rw (same b.seq a.seq m) (itself a.seq) in absurd (true≢false (cc)))
+        (λ m. m) (gives (is_preparing a.stage) _ h p))
 
-all-cancelled : (r : Reason) (todo : List Attempt) (s : ShowState) → list_all (is_left todo) s.live ≡ true → list_all (λ a. not (is_preparing a.stage)) (after_events s (map (cancel r) todo)).live ≡ true
-all-cancelled r [] s h = all_implied (is_left []) (λ a. not (is_preparing a.stage)) (λ a k. by (is_preparing a.stage) k) s.live h
+all-cancelled : (r : Reason) (todo : List Attempt) (s : ShowState) → list_all (is_left todo) s.live ≡ true
+    → list_all (λ a. not (is_preparing a.stage)) (after_events s (map (cancel r) todo)).live ≡ true
+all-cancelled r [] s h = all_implied (is_left []) (λ a. not (is_preparing a.stage)) (λ a k. by (is_preparing a.stage) k)
+    s.live h
   where
     by : (b : Bool) → (not b || false) ≡ true → not b ≡ true
     by true k = k
     by false k = refl
 all-cancelled r (b ∷ todo) s h =
-    all-cancelled r todo (after s (Cancel b.seq r)) (all_mapped (is_left (b ∷ todo)) (is_left todo) (changed b.seq (moves_to (Cancelling r))) (left-moved r b todo) s.live h)
+    all-cancelled r todo (after s (Cancel b.seq r))
+        (all_mapped (is_left (b ∷ todo)) (is_left todo) (changed b.seq (moves_to (Cancelling r))) (left-moved r b todo)
+        s.live h)
 
 first-left : (live : List Attempt) → list_all (is_left (filter (λ a. is_preparing a.stage) live)) live ≡ true
 first-left [] = refl
 first-left (a ∷ rest) = by (is_preparing a.stage) refl (first-left rest)
   where
-    by : (b : Bool) → is_preparing a.stage ≡ b → list_all (is_left (filter (λ a. is_preparing a.stage) rest)) rest ≡ true → ((not b || named (cond b (a ∷ filter (λ a. is_preparing a.stage) rest) (filter (λ a. is_preparing a.stage) rest)) a.seq) && list_all (is_left (cond b (a ∷ filter (λ a. is_preparing a.stage) rest) (filter (λ a. is_preparing a.stage) rest))) rest) ≡ true
-    by true e r = join (nat_eq a.seq a.seq || named (filter (λ a. is_preparing a.stage) rest) a.seq) _ (or_left (nat_eq a.seq a.seq) _ (itself a.seq))
-        (all_implied (is_left (filter (λ a. is_preparing a.stage) rest)) (is_left (a ∷ filter (λ a. is_preparing a.stage) rest)) (λ x k. given (is_preparing x.stage) _ (λ p. or_right (nat_eq a.seq x.seq) _ (gives (is_preparing x.stage) _ k p))) rest r)
+    by : (b : Bool) → is_preparing a.stage ≡ b
+        → list_all (is_left (filter (λ a. is_preparing a.stage) rest)) rest ≡ true
+        → ((not b || named (cond b (a ∷ filter (λ a. is_preparing a.stage) rest)
+        (filter (λ a. is_preparing a.stage) rest)) a.seq) && list_all
+        (is_left (cond b (a ∷ filter (λ a. is_preparing a.stage) rest) (filter (λ a. is_preparing a.stage) rest))) rest)
+        ≡ true
+    by true e r = join (nat_eq a.seq a.seq || named (filter (λ a. is_preparing a.stage) rest) a.seq) _
+        (or_left (nat_eq a.seq a.seq) _ (itself a.seq))
+        (all_implied (is_left (filter (λ a. is_preparing a.stage) rest))
+            (is_left (a ∷ filter (λ a. is_preparing a.stage) rest))
+            (λ x k. given (is_preparing x.stage) _
+            (λ p. or_right (nat_eq a.seq x.seq) _ (gives (is_preparing x.stage) _ k p))) rest r)
     by false e r = r
 
 none-preparing : (s : ShowState) → list_all (λ a. not (is_preparing a.stage)) (closed s).live ≡ true
@@ -64,8 +82,11 @@ pub closed-stays : ClosedStays
 closed-stays s = none-left (closed s) (none-preparing s)
 
 -- what passes a test holds by its number
-pub each-holds : (test : Attempt → Bool) (live : List Attempt) → list_all (λ a. not (test a) || holds a.seq test live) live ≡ true
+pub each-holds : (test : Attempt → Bool) (live : List Attempt)
+    → list_all (λ a. not (test a) || holds a.seq test live) live ≡ true
 each-holds test [] = refl
 each-holds test (a ∷ rest) =
-    join (not (test a) || holds a.seq test (a ∷ rest)) _ (given (test a) _ (λ t. or_left _ _ (join (nat_eq a.seq a.seq) _ (itself a.seq) t)))
-    (all_implied (λ x. not (test x) || holds x.seq test rest) (λ x. not (test x) || holds x.seq test (a ∷ rest)) (λ x k. given (test x) _ (λ t. or_right _ _ (gives (test x) _ k t))) rest (each-holds test rest))
+    join (not (test a) || holds a.seq test (a ∷ rest)) _
+        (given (test a) _ (λ t. or_left _ _ (join (nat_eq a.seq a.seq) _ (itself a.seq) t)))
+    (all_implied (λ x. not (test x) || holds x.seq test rest) (λ x. not (test x) || holds x.seq test (a ∷ rest))
+        (λ x k. given (test x) _ (λ t. or_right _ _ (gives (test x) _ k t))) rest (each-holds test rest))

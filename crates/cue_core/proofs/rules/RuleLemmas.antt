@@ -1,5 +1,6 @@
 -- Each event keeps the rules of a state.
-use Rattle.std.proofs.Common.{◌≡◌, ℕ, ◌+◌, ◌≤◌, List, [], ◌∷◌, ◌++◌, refl, sym, ◌∙◌, ap, subst, Bool, true, false, not, cond, ◌&&◌, nat_eq, nat_le, nat_lt, arith, Option, None, Some}
+use Rattle.std.proofs.Common.{◌≡◌, ℕ, ◌+◌, ◌≤◌, List, [], ◌∷◌, ◌++◌, refl, sym, ◌∙◌, ap, subst, Bool, true, false, not}
+use Rattle.std.proofs.Common.{cond, ◌&&◌, nat_eq, nat_le, nat_lt, arith, Option, None, Some}
 use Rattle.std.specs.Prelude.{IsTrue, is_some, map, if◌then◌else◌, option_and_then, unwrap_or}
 use Rattle.std.specs.List.{list_all}
 use Rattle.std.specs.Map.{lookup}
@@ -9,8 +10,11 @@ use Rattle.std.proofs.lemmas.Bool.Decides.{nat_tests}
 use Rattle.std.proofs.lemmas.List.Folds.{find-append}
 use Rattle.cue_show.specs.declared.part.Part.{Part}
 use Rattle.cue_show.specs.Number.{same_text}
-use Rattle.cue_show.specs.Show.{ShowLists, parts_of, has_cue, following, is_place_of, is_show, with_device, without_device, with_cue, without_cue, with_place}
-use Rattle.cue_show.proofs.ShowLemmas.{is_show-with_device, is_show-without_device, is_show-with_cue, is_show-without_cue, is_show-with_place, is_place_of-following, parts_of-without_cue}
+use Rattle.cue_show.specs.Show.{ShowLists, parts_of, has_cue, following, is_place_of, is_show, with_device}
+use Rattle.cue_show.specs.Show.{without_device, with_cue, without_cue, with_place}
+use Rattle.cue_show.proofs.ShowLemmas.{is_show-with_device, is_show-without_device, is_show-with_cue}
+use Rattle.cue_show.proofs.ShowLemmas.{is_show-without_cue, is_show-with_place, is_place_of-following}
+use Rattle.cue_show.proofs.ShowLemmas.{parts_of-without_cue}
 use Rattle.cue_show.proofs.TextLemmas.{same_text-swapped}
 use Rattle.cue_exchange.specs.declared.attempt.Answer.{Answer}
 use Rattle.cue_exchange.specs.declared.attempt.Answer.TheVariants as answer
@@ -19,19 +23,27 @@ use Rattle.cue_exchange.specs.declared.attempt.Stage.TheVariants.{Decided, Cance
 use Rattle.cue_exchange.specs.declared.attempt.Attempt.{Attempt}
 use Rattle.cue_exchange.specs.declared.attempt.DeviceAnswer.{DeviceAnswer}
 use Rattle.cue_exchange.specs.declared.limits.TheConstants.{MAX_NUMBER}
-use Rattle.cue_exchange.specs.Answers.{stands, devices_of, first_answers, entered, with_answer, some_waits, is_decided, is_cancelling, is_concluding}
-use Rattle.cue_exchange.specs.Live.{disjoint, attempt_of, attempt_of_cue, has_number, are_live, is_attempt, is_number, is_moment, have_sound_devices, goes_before}
+use Rattle.cue_exchange.specs.Answers.{stands, devices_of, first_answers, entered, with_answer, some_waits, is_decided}
+use Rattle.cue_exchange.specs.Answers.{is_cancelling, is_concluding}
+use Rattle.cue_exchange.specs.Live.{disjoint, attempt_of, attempt_of_cue, has_number, are_live, is_attempt, is_number}
+use Rattle.cue_exchange.specs.Live.{is_moment, have_sound_devices, goes_before}
 use Rattle.cue_exchange.specs.Live.{has_cue as is_of_cue}
-use Rattle.cue_exchange.specs.Steps.{holds, waits_in, changed, answers_as, moves_to, new_attempt, started, answered, goes_on, without_ended, ended_in, can_start}
-use Rattle.cue_exchange.proofs.LiveRules.{are_live-ready, are_live-go, are_live-cancel, are_live-done, are_live-let_go, are_live-failed, are_live-excused, are_live-started, order_of, attempts_of, can_start_parts, is_sound-of_attempt}
-use Rattle.cue_exchange.proofs.Lists.{all_push, all_filter}
+use Rattle.cue_exchange.specs.Steps.{holds, waits_in, changed, answers_as, moves_to, new_attempt, started, answered}
+use Rattle.cue_exchange.specs.Steps.{goes_on, without_ended, ended_in, can_start}
+use Rattle.cue_exchange.proofs.LiveLemmas.{are_live-ready, are_live-go, are_live-cancel, are_live-done, are_live-let_go}
+use Rattle.cue_exchange.proofs.LiveLemmas.{are_live-failed, are_live-excused, are_live-started, order_of, attempts_of}
+use Rattle.cue_exchange.proofs.LiveLemmas.{can_start_parts, is_sound-of_attempt}
+use Rattle.cue_exchange.proofs.ListLemmas.{all_push, all_filter}
 use Rattle.cue_core.specs.declared.event.Ended.{Ended}
 use Rattle.cue_core.specs.declared.event.Event.{Event}
 use Rattle.cue_core.specs.declared.event.Event.TheVariants as event
-use Rattle.cue_core.specs.State.{ShowState, cue_parts, is_of_part, are_of_parts, is_at_cue, is_ended, are_tied, is_state}
+use Rattle.cue_core.specs.State.{ShowState, cue_parts, is_of_part, are_of_parts, is_at_cue, is_ended, are_tied}
+use Rattle.cue_core.specs.State.{is_state}
 use Rattle.cue_core.specs.Steps.{acceptable, after, can_begin, place_after, ended_as, after_last_answer}
 use Rattle.cue_core.proofs.lists.ConditionLemmas.{both, join, all_zip, all_from, all_mapped, same_number, pairwise_from}
-use Rattle.cue_core.proofs.live.FindingLemmas.{rising, rising-changed, attempt_of-changed, attempt_of-without_ended, if_open, found-closed, found, found-changed, found_none_kept, found_has, found_passes, passes_none}
+use Rattle.cue_core.proofs.live.FindingLemmas.{rising, rising-changed, attempt_of-changed, attempt_of-without_ended}
+use Rattle.cue_core.proofs.live.FindingLemmas.{if_open, found-closed, found, found-changed, found_none_kept, found_has}
+use Rattle.cue_core.proofs.live.FindingLemmas.{found_passes, passes_none}
 
 pub record Rules (s : ShowState) : Type 0 where
   pub show : IsTrue (is_show s.show)
@@ -45,8 +57,11 @@ pub rules_of : (s : ShowState) → IsTrue (is_state s) → Rules s
 rules_of s h =
     let p = both (is_show s.show) (are_live s.live && are_tied s) h in
     let q = both (are_live s.live) (are_tied s) p.1 in
-    let u = both (list_all (is_at_cue s.show) s.live) (list_all (λ a. nat_le a.seq s.last_seq) s.live && (nat_le s.last_seq MAX_NUMBER && is_ended s.live s.last_seq s.ended)) q.1 in
-    let w = both (list_all (λ a. nat_le a.seq s.last_seq) s.live) (nat_le s.last_seq MAX_NUMBER && is_ended s.live s.last_seq s.ended) u.1 in
+    let u = both (list_all (is_at_cue s.show) s.live)
+        (list_all (λ a. nat_le a.seq s.last_seq) s.live &&
+        (nat_le s.last_seq MAX_NUMBER && is_ended s.live s.last_seq s.ended)) q.1 in
+    let w = both (list_all (λ a. nat_le a.seq s.last_seq) s.live)
+        (nat_le s.last_seq MAX_NUMBER && is_ended s.live s.last_seq s.ended) u.1 in
     let x = both (nat_le s.last_seq MAX_NUMBER) (is_ended s.live s.last_seq s.ended) w.1 in
     record { show = p.0; live = q.0; at = u.0; within = w.0; last = x.0; ended = x.1 }
 
@@ -54,20 +69,27 @@ pub is_state-from : (s : ShowState) → Rules s → IsTrue (is_state s)
 is_state-from s r =
     join (is_show s.show) (are_live s.live && are_tied s) r.show
     (join (are_live s.live) (are_tied s) r.live
-    (join (list_all (is_at_cue s.show) s.live) (list_all (λ a. nat_le a.seq s.last_seq) s.live && (nat_le s.last_seq MAX_NUMBER && is_ended s.live s.last_seq s.ended)) r.at
-    (join (list_all (λ a. nat_le a.seq s.last_seq) s.live) (nat_le s.last_seq MAX_NUMBER && is_ended s.live s.last_seq s.ended) r.within
+    (join (list_all (is_at_cue s.show) s.live)
+        (list_all (λ a. nat_le a.seq s.last_seq) s.live &&
+        (nat_le s.last_seq MAX_NUMBER && is_ended s.live s.last_seq s.ended)) r.at
+    (join (list_all (λ a. nat_le a.seq s.last_seq) s.live)
+        (nat_le s.last_seq MAX_NUMBER && is_ended s.live s.last_seq s.ended) r.within
     (join (nat_le s.last_seq MAX_NUMBER) (is_ended s.live s.last_seq s.ended) r.last r.ended))))
 
 -- ---- the cue of each attempt
 
-at_from : (show new : ShowLists) (a : Attempt) → parts_of new a.cue ≡ parts_of show a.cue → IsTrue (is_at_cue show a) → IsTrue (is_at_cue new a)
+at_from : (show new : ShowLists) (a : Attempt) → parts_of new a.cue ≡ parts_of show a.cue → IsTrue (is_at_cue show a)
+    → IsTrue (is_at_cue new a)
 at_from show new a e h = rw e h
 
-looked_up-push : (c : List ℕ) (x : List ℕ × List Part) (es : List (List ℕ × List Part)) (p : List Part) → lookup (same_text c) es ≡ Some p → lookup (same_text c) (es ++ x ∷ []) ≡ Some p
+looked_up-push : (c : List ℕ) (x : List ℕ × List Part) (es : List (List ℕ × List Part)) (p : List Part)
+    → lookup (same_text c) es ≡ Some p → lookup (same_text c) (es ++ x ∷ []) ≡ Some p
 looked_up-push c x [] p h = cc
 looked_up-push c x (e ∷ es) p h = at (same_text c e.0) h (looked_up-push c x es p)
   where
-    at : (b : Bool) → cond b (Some e.1) (lookup (same_text c) es) ≡ Some p → (lookup (same_text c) es ≡ Some p → lookup (same_text c) (es ++ x ∷ []) ≡ Some p) → cond b (Some e.1) (lookup (same_text c) (es ++ x ∷ [])) ≡ Some p
+    at : (b : Bool) → cond b (Some e.1) (lookup (same_text c) es) ≡ Some p
+        → (lookup (same_text c) es ≡ Some p → lookup (same_text c) (es ++ x ∷ []) ≡ Some p)
+        → cond b (Some e.1) (lookup (same_text c) (es ++ x ∷ [])) ≡ Some p
     at true h f = h
     at false h f = f h
 
@@ -78,13 +100,16 @@ parts_at : (a : Attempt) (o : Option (List Part)) → IsTrue (is_at a o) → (p 
 parts_at a None h = cc
 parts_at a (Some p) h = (p, refl)
 
-at-with_cue : (show : ShowLists) (c : List ℕ) (parts : List Part) (a : Attempt) → IsTrue (is_at_cue show a) → IsTrue (is_at_cue (with_cue show c parts) a)
+at-with_cue : (show : ShowLists) (c : List ℕ) (parts : List Part) (a : Attempt) → IsTrue (is_at_cue show a)
+    → IsTrue (is_at_cue (with_cue show c parts) a)
 at-with_cue show c parts a h =
     let p = parts_at a (parts_of show a.cue) h in
     at_from show (with_cue show c parts) a (looked_up-push a.cue (c, parts) show.cues p.0 p.1 ∙ sym p.1) h
 
-at-without_cue : (show : ShowLists) (c : List ℕ) (a : Attempt) → IsTrue (is_show show) → IsTrue (not (same_text a.cue c)) → IsTrue (is_at_cue show a) → IsTrue (is_at_cue (without_cue show c) a)
-at-without_cue show c a rules other h = at_from show (without_cue show c) a (parts_of-without_cue show c a.cue rules ∙ by (same_text c a.cue) (by_other (same_text a.cue c) (same_text c a.cue) (same_text-swapped a.cue c) other)) h
+at-without_cue : (show : ShowLists) (c : List ℕ) (a : Attempt) → IsTrue (is_show show)
+    → IsTrue (not (same_text a.cue c)) → IsTrue (is_at_cue show a) → IsTrue (is_at_cue (without_cue show c) a)
+at-without_cue show c a rules other h = at_from show (without_cue show c) a (parts_of-without_cue show c a.cue rules
+    ∙ by (same_text c a.cue) (by_other (same_text a.cue c) (same_text c a.cue) (same_text-swapped a.cue c) other)) h
   where
     by_other : (b d : Bool) → b ≡ d → IsTrue (not b) → d ≡ false
     by_other true d e n = cc
@@ -95,13 +120,16 @@ at-without_cue show c a rules other h = at_from show (without_cue show c) a (par
     by false e = refl
 
 -- the devices of the answers are those of the parts, whatever they have answered
-pub are_of_parts-with_answer : (parts : List Part) (d : ℕ) (given : Answer) (xs : List DeviceAnswer) → are_of_parts parts (with_answer d given xs) ≡ are_of_parts parts xs
+pub are_of_parts-with_answer : (parts : List Part) (d : ℕ) (given : Answer) (xs : List DeviceAnswer)
+    → are_of_parts parts (with_answer d given xs) ≡ are_of_parts parts xs
 are_of_parts-with_answer [] d given [] = refl
 are_of_parts-with_answer [] d given (x ∷ xs) = refl
 are_of_parts-with_answer (p ∷ ps) d given [] = refl
-are_of_parts-with_answer (p ∷ ps) d given (x ∷ xs) = ap (λ b. is_of_part p x && b) (are_of_parts-with_answer ps d given xs)
+are_of_parts-with_answer (p ∷ ps) d given (x ∷ xs) =
+    ap (λ b. is_of_part p x && b) (are_of_parts-with_answer ps d given xs)
 
-pub are_of_parts-entered : (parts : List Part) (stage : Stage) (xs : List DeviceAnswer) → are_of_parts parts (entered stage xs) ≡ are_of_parts parts xs
+pub are_of_parts-entered : (parts : List Part) (stage : Stage) (xs : List DeviceAnswer)
+    → are_of_parts parts (entered stage xs) ≡ are_of_parts parts xs
 are_of_parts-entered [] stage [] = refl
 are_of_parts-entered [] stage (x ∷ xs) = refl
 are_of_parts-entered (p ∷ ps) stage [] = refl
@@ -109,7 +137,8 @@ are_of_parts-entered (p ∷ ps) stage (x ∷ xs) = ap (λ b. is_of_part p x && b
 
 pub are_of_parts-first_answers : (parts : List Part) → IsTrue (are_of_parts parts (first_answers parts))
 are_of_parts-first_answers [] = refl
-are_of_parts-first_answers (p ∷ ps) = rw (nat_eq_equiv.refl p.device, bool_eq_equiv.refl p.optional) (are_of_parts-first_answers ps)
+are_of_parts-first_answers (p ∷ ps) = rw (nat_eq_equiv.refl p.device, bool_eq_equiv.refl p.optional)
+    (are_of_parts-first_answers ps)
 
 -- a change that keeps cue and devices keeps each attempt at its cue
 pub record KeepsCue (f : Attempt → Attempt) : Type 0 where
@@ -118,13 +147,18 @@ pub record KeepsCue (f : Attempt → Attempt) : Type 0 where
   pub devices : (parts : List Part) (a : Attempt) → are_of_parts parts (f a).answers ≡ are_of_parts parts a.answers
 
 cue-answers_as : (d : ℕ) (given : Answer) → KeepsCue (answers_as d given)
-cue-answers_as d given = record { cue = λ a. refl; seq = λ a. refl; devices = λ parts a. are_of_parts-with_answer parts d given a.answers }
+cue-answers_as d given =
+    record { cue = λ a. refl; seq = λ a. refl; devices = λ parts a. are_of_parts-with_answer parts d given a.answers }
 
 cue-moves_to : (stage : Stage) → KeepsCue (moves_to stage)
-cue-moves_to stage = record { cue = λ a. refl; seq = λ a. refl; devices = λ parts a. are_of_parts-entered parts stage a.answers }
+cue-moves_to stage = record { cue = λ a. refl; seq = λ a. refl; devices = λ parts a. are_of_parts-entered parts stage
+    a.answers }
 
-at-changed : (show : ShowLists) (q : ℕ) (f : Attempt → Attempt) → KeepsCue f → (live : List Attempt) → IsTrue (list_all (is_at_cue show) live) → IsTrue (list_all (is_at_cue show) (map (changed q f) live))
-at-changed show q f k live h = rw (all_mapped (is_at_cue show) (changed q f) live) (all_from (is_at_cue show) (λ a. is_at_cue show (changed q f a)) live (λ a l. by a (nat_eq a.seq q) l) h)
+at-changed : (show : ShowLists) (q : ℕ) (f : Attempt → Attempt) → KeepsCue f → (live : List Attempt)
+    → IsTrue (list_all (is_at_cue show) live) → IsTrue (list_all (is_at_cue show) (map (changed q f) live))
+at-changed show q f k live h =
+    rw (all_mapped (is_at_cue show) (changed q f) live)
+    (all_from (is_at_cue show) (λ a. is_at_cue show (changed q f a)) live (λ a l. by a (nat_eq a.seq q) l) h)
   where
     passes : (a : Attempt) (o : Option (List Part)) → IsTrue (is_at a o) → IsTrue (is_at (f a) o)
     passes a None l = l
@@ -134,8 +168,11 @@ at-changed show q f k live h = rw (all_mapped (is_at_cue show) (changed q f) liv
     by a true l = rw (k.cue a) (passes a (parts_of show a.cue) l)
     by a false l = l
 
-within-changed : (last q : ℕ) (f : Attempt → Attempt) → KeepsCue f → (live : List Attempt) → IsTrue (list_all (λ a. nat_le a.seq last) live) → IsTrue (list_all (λ a. nat_le a.seq last) (map (changed q f) live))
-within-changed last q f k live h = rw (all_mapped (λ a. nat_le a.seq last) (changed q f) live) (all_from (λ a. nat_le a.seq last) (λ a. nat_le (changed q f a).seq last) live (λ a l. by a (nat_eq a.seq q) l) h)
+within-changed : (last q : ℕ) (f : Attempt → Attempt) → KeepsCue f → (live : List Attempt)
+    → IsTrue (list_all (λ a. nat_le a.seq last) live)
+    → IsTrue (list_all (λ a. nat_le a.seq last) (map (changed q f) live))
+within-changed last q f k live h = rw (all_mapped (λ a. nat_le a.seq last) (changed q f) live)
+    (all_from (λ a. nat_le a.seq last) (λ a. nat_le (changed q f a).seq last) live (λ a l. by a (nat_eq a.seq q) l) h)
   where
     by : (a : Attempt) (b : Bool) → IsTrue (nat_le a.seq last) → IsTrue (nat_le (if b then f a else a).seq last)
     by a true l = rw (k.seq a) l
@@ -144,13 +181,16 @@ within-changed last q f k live h = rw (all_mapped (λ a. nat_le a.seq last) (cha
 -- ---- the attempt that ended last
 
 -- it stays one where no attempt of its number becomes live, and the last number does not fall
-ended-from : (live new : List Attempt) (last next : ℕ) → last ≤ next → (o : Option Ended) → ((q : ℕ) → q ≤ last → attempt_of live q ≡ None → attempt_of new q ≡ None) → IsTrue (is_ended live last o) → IsTrue (is_ended new next o)
+ended-from : (live new : List Attempt) (last next : ℕ) → last ≤ next → (o : Option Ended)
+    → ((q : ℕ) → q ≤ last → attempt_of live q ≡ None → attempt_of new q ≡ None) → IsTrue (is_ended live last o)
+    → IsTrue (is_ended new next o)
 ended-from live new last next grew None stays h = refl
 ended-from live new last next grew (Some e) stays h =
     let p = both (is_number e.seq) (nat_le e.seq last && not (is_some (attempt_of live e.seq))) h in
     let q = both (nat_le e.seq last) (not (is_some (attempt_of live e.seq))) p.1 in
     join (is_number e.seq) (nat_le e.seq next && not (is_some (attempt_of new e.seq))) p.0
-    (join (nat_le e.seq next) (not (is_some (attempt_of new e.seq))) (later e.seq q.0) (rw (stays e.seq (below e.seq q.0) (none (attempt_of live e.seq) q.1)) refl))
+    (join (nat_le e.seq next) (not (is_some (attempt_of new e.seq))) (later e.seq q.0)
+        (rw (stays e.seq (below e.seq q.0) (none (attempt_of live e.seq) q.1)) refl))
   where
     later : (n : ℕ) → IsTrue (nat_le n last) → IsTrue (nat_le n next)
     later n k = Prim.grind (arith, nat_tests, k, grew)
@@ -162,40 +202,55 @@ ended-from live new last next grew (Some e) stays h =
     none None k = refl
     none (Some a) k = cc
 
-none-changed : (p q : ℕ) (f : Attempt → Attempt) → KeepsCue f → (live : List Attempt) → attempt_of live q ≡ None → attempt_of (map (changed p f) live) q ≡ None
+none-changed : (p q : ℕ) (f : Attempt → Attempt) → KeepsCue f → (live : List Attempt) → attempt_of live q ≡ None
+    → attempt_of (map (changed p f) live) q ≡ None
 none-changed p q f k live n = attempt_of-changed p q f k.seq live ∙ ap (λ o. option_map (changed p f) o) n
 
-ended-changed : (s : ShowState) (p : ℕ) (f : Attempt → Attempt) → KeepsCue f → IsTrue (is_ended s.live s.last_seq s.ended) → IsTrue (is_ended (map (changed p f) s.live) s.last_seq s.ended)
-ended-changed s p f k h = ended-from s.live (map (changed p f) s.live) s.last_seq s.last_seq (omega arith) s.ended (λ q l n. none-changed p q f k s.live n) h
+ended-changed : (s : ShowState) (p : ℕ) (f : Attempt → Attempt) → KeepsCue f
+    → IsTrue (is_ended s.live s.last_seq s.ended) → IsTrue (is_ended (map (changed p f) s.live) s.last_seq s.ended)
+ended-changed s p f k h = ended-from s.live (map (changed p f) s.live) s.last_seq s.last_seq (omega arith) s.ended
+    (λ q l n. none-changed p q f k s.live n) h
 
 rises_of : (live : List Attempt) → IsTrue (are_live live) → IsTrue (rising live)
-rises_of live h = pairwise_from goes_before (λ a b. nat_lt a.seq b.seq) live (λ a b k. (both (nat_lt a.seq b.seq) (disjoint (devices_of a.answers) (devices_of b.answers)) k).0) (order_of live h)
+rises_of live h = pairwise_from goes_before (λ a b. nat_lt a.seq b.seq) live
+    (λ a b k. (both (nat_lt a.seq b.seq) (disjoint (devices_of a.answers) (devices_of b.answers)) k).0)
+    (order_of live h)
 
 -- ---- each event
 
-rules-show : (s : ShowState) (show : ShowLists) → Rules s → IsTrue (is_show show) → ((a : Attempt) → IsTrue (is_at_cue s.show a) → IsTrue (is_at_cue show a)) → Rules (record { show = show; live = s.live; last_seq = s.last_seq; ended = s.ended })
-rules-show s show r h f = record { show = h; live = r.live; at = all_from (is_at_cue s.show) (is_at_cue show) s.live f r.at; within = r.within; last = r.last; ended = r.ended }
+rules-show : (s : ShowState) (show : ShowLists) → Rules s → IsTrue (is_show show)
+    → ((a : Attempt) → IsTrue (is_at_cue s.show a) → IsTrue (is_at_cue show a))
+    → Rules (record { show = show; live = s.live; last_seq = s.last_seq; ended = s.ended })
+rules-show s show r h f =
+    record { show = h; live = r.live; at = all_from (is_at_cue s.show) (is_at_cue show) s.live f r.at; within =
+    r.within; last = r.last; ended = r.ended }
 
 -- no live attempt is at the cue
-free_of : (s : ShowState) (c : List ℕ) → IsTrue (not (is_some (attempt_of_cue s.live c))) → IsTrue (list_all (λ a. not (same_text a.cue c)) s.live)
+free_of : (s : ShowState) (c : List ℕ) → IsTrue (not (is_some (attempt_of_cue s.live c)))
+    → IsTrue (list_all (λ a. not (same_text a.cue c)) s.live)
 free_of s c h = passes_none (is_of_cue c) s.live (none (attempt_of_cue s.live c) h)
   where
     none : (o : Option Attempt) → IsTrue (not (is_some o)) → o ≡ None
     none None k = refl
     none (Some a) k = cc
 
-rules-no_cue : (s : ShowState) (c : List ℕ) → Rules s → IsTrue (acceptable s (event.NoCue c)) → Rules (after s (event.NoCue c))
+rules-no_cue : (s : ShowState) (c : List ℕ) → Rules s → IsTrue (acceptable s (event.NoCue c))
+    → Rules (after s (event.NoCue c))
 rules-no_cue s c r g = record {
   show = is_show-without_cue s.show c r.show;
   live = r.live;
-  at = all_zip (is_at_cue s.show) (λ a. not (same_text a.cue c)) (is_at_cue (without_cue s.show c)) s.live (λ a h k. at-without_cue s.show c a r.show k h) r.at (free_of s c (both (has_cue s.show c) (not (is_some (attempt_of_cue s.live c))) g).1);
+  at = all_zip (is_at_cue s.show) (λ a. not (same_text a.cue c)) (is_at_cue (without_cue s.show c)) s.live
+      (λ a h k. at-without_cue s.show c a r.show k h) r.at
+      (free_of s c (both (has_cue s.show c) (not (is_some (attempt_of_cue s.live c))) g).1);
   within = r.within;
   last = r.last;
   ended = r.ended;
 }
 
 -- a change of the attempts that keeps each at its cue
-rules-changed : (s : ShowState) (q : ℕ) (f : Attempt → Attempt) → KeepsCue f → Rules s → IsTrue (are_live (map (changed q f) s.live)) → Rules (record { show = s.show; live = map (changed q f) s.live; last_seq = s.last_seq; ended = s.ended })
+rules-changed : (s : ShowState) (q : ℕ) (f : Attempt → Attempt) → KeepsCue f → Rules s
+    → IsTrue (are_live (map (changed q f) s.live))
+    → Rules (record { show = s.show; live = map (changed q f) s.live; last_seq = s.last_seq; ended = s.ended })
 rules-changed s q f k r h = record {
   show = r.show;
   live = h;
@@ -206,7 +261,8 @@ rules-changed s q f k r h = record {
 }
 
 -- what follows the cue of an attempt is a place
-pub is_place_of-after : (show : ShowLists) (live : List Attempt) (q : ℕ) → IsTrue (is_place_of show (place_after show live q))
+pub is_place_of-after : (show : ShowLists) (live : List Attempt) (q : ℕ)
+    → IsTrue (is_place_of show (place_after show live q))
 is_place_of-after show live q = by (attempt_of live q)
   where
     by : (o : Option Attempt) → IsTrue (is_place_of show (option_and_then (λ a. following show a.cue) o))
@@ -231,32 +287,41 @@ pub record Begins (s : ShowState) (q : ℕ) (c : List ℕ) (t : ℕ) : Type 0 wh
   pub start : IsTrue (can_start q t (cue_parts s.show c) s.live)
   pub number : IsTrue (is_number q)
 
-pub begins : (s : ShowState) (q : ℕ) (c : List ℕ) (t : ℕ) → IsTrue (can_begin s.show s.live s.last_seq q c t) → Begins s q c t
+pub begins : (s : ShowState) (q : ℕ) (c : List ℕ) (t : ℕ) → IsTrue (can_begin s.show s.live s.last_seq q c t)
+    → Begins s q c t
 begins s q c t g =
     let p = both (nat_eq q (s.last_seq + 1)) (has_cue s.show c && can_start q t (cue_parts s.show c) s.live) g in
     let u = both (has_cue s.show c) (can_start q t (cue_parts s.show c) s.live) p.1 in
-    record { next = same_number q (s.last_seq + 1) p.0; cue = u.0; start = u.1; number = (can_start_parts q t (cue_parts s.show c) s.live u.1).number }
+    record { next = same_number q (s.last_seq + 1) p.0; cue = u.0; start = u.1; number =
+        (can_start_parts q t (cue_parts s.show c) s.live u.1).number }
 
-at-new : (show : ShowLists) (q : ℕ) (c : List ℕ) (t : ℕ) → IsTrue (has_cue show c) → IsTrue (is_at_cue show (new_attempt q c t (cue_parts show c)))
+at-new : (show : ShowLists) (q : ℕ) (c : List ℕ) (t : ℕ) → IsTrue (has_cue show c)
+    → IsTrue (is_at_cue show (new_attempt q c t (cue_parts show c)))
 at-new show q c t h = by (parts_of show c) h
   where
     by : (o : Option (List Part)) → IsTrue (is_some o) → IsTrue (is_at (new_attempt q c t (unwrap_or o [])) o)
     by None k = cc
     by (Some p) k = are_of_parts-first_answers p
 
-none-started : (q : ℕ) (a : Attempt) (live : List Attempt) → attempt_of live q ≡ None → nat_eq a.seq q ≡ false → attempt_of (live ++ a ∷ []) q ≡ None
+none-started : (q : ℕ) (a : Attempt) (live : List Attempt) → attempt_of live q ≡ None → nat_eq a.seq q ≡ false
+    → attempt_of (live ++ a ∷ []) q ≡ None
 none-started q a live n e = find-append (has_number q) live (a ∷ []) ∙ rw (n, e) refl
 
-rules-start : (s : ShowState) (q : ℕ) (c : List ℕ) (t : ℕ) → Rules s → IsTrue (acceptable s (event.Start q c t)) → Rules (after s (event.Start q c t))
+rules-start : (s : ShowState) (q : ℕ) (c : List ℕ) (t : ℕ) → Rules s → IsTrue (acceptable s (event.Start q c t))
+    → Rules (after s (event.Start q c t))
 rules-start s q c t r g =
     let b = begins s q c t g in
     record {
       show = r.show;
       live = are_live-started q c t (cue_parts s.show c) s.live r.live b.start;
       at = all_push (is_at_cue s.show) s.live (new_attempt q c t (cue_parts s.show c)) r.at (at-new s.show q c t b.cue);
-      within = all_push (λ a. nat_le a.seq q) s.live (new_attempt q c t (cue_parts s.show c)) (all_from (λ a. nat_le a.seq s.last_seq) (λ a. nat_le a.seq q) s.live (λ a k. later a.seq b.next k) r.within) (itself q);
+      within = all_push (λ a. nat_le a.seq q) s.live (new_attempt q c t (cue_parts s.show c))
+          (all_from (λ a. nat_le a.seq s.last_seq) (λ a. nat_le a.seq q) s.live (λ a k. later a.seq b.next k) r.within)
+          (itself q);
       last = (both (nat_le 1 q) (nat_le q MAX_NUMBER) b.number).1;
-      ended = ended-from s.live (started q c t (cue_parts s.show c) s.live) s.last_seq q (let n = b.next in omega arith) s.ended (λ p l n. none-started p (new_attempt q c t (cue_parts s.show c)) s.live n (other p b.next l)) r.ended;
+      ended = ended-from s.live (started q c t (cue_parts s.show c) s.live) s.last_seq q (let n = b.next in omega arith)
+          s.ended (λ p l n. none-started p (new_attempt q c t (cue_parts s.show c)) s.live n (other p b.next l))
+          r.ended;
     }
   where
     later : (n : ℕ) → q ≡ s.last_seq + 1 → IsTrue (nat_le n s.last_seq) → IsTrue (nat_le n q)
@@ -271,26 +336,37 @@ rules-start s q c t r g =
 -- ---- a last answer
 
 -- after a last answer q is either live with a device that is to answer, or has ended
-after_last_answer-ended : (s : ShowState) (q : ℕ) (live : List Attempt) (a : Attempt) → IsTrue (rising live) → attempt_of live q ≡ Some a → IsTrue (is_number q) → IsTrue (nat_le q s.last_seq) → IsTrue (is_ended live s.last_seq s.ended)
+after_last_answer-ended : (s : ShowState) (q : ℕ) (live : List Attempt) (a : Attempt) → IsTrue (rising live)
+    → attempt_of live q ≡ Some a → IsTrue (is_number q) → IsTrue (nat_le q s.last_seq)
+    → IsTrue (is_ended live s.last_seq s.ended)
     → IsTrue (is_ended (without_ended q live) s.last_seq (ended_as q (ended_in q live) s.ended))
 after_last_answer-ended s q live a rises e number most h = by (some_waits a.answers) refl
   where
     gone : some_waits a.answers ≡ false → attempt_of (without_ended q live) q ≡ None
     gone w = attempt_of-without_ended q live rises ∙ (ap (λ o. option_and_then if_open o) e ∙ rw w refl)
 
-    by : (w : Bool) → some_waits a.answers ≡ w → IsTrue (is_ended (without_ended q live) s.last_seq (ended_as q (ended_in q live) s.ended))
-    by true w = rw (found-closed q live rises, e, w) (ended-from live (without_ended q live) s.last_seq s.last_seq (omega arith) s.ended (λ p l n. found_none_kept (has_number p) (goes_on q) live n) h)
-    by false w = rw (found-closed q live rises, e, w) (join (is_number q) (nat_le q s.last_seq && not (is_some (attempt_of (without_ended q live) q))) number (join (nat_le q s.last_seq) (not (is_some (attempt_of (without_ended q live) q))) most (rw (gone w) refl)))
+    by : (w : Bool) → some_waits a.answers ≡ w
+        → IsTrue (is_ended (without_ended q live) s.last_seq (ended_as q (ended_in q live) s.ended))
+    by true w = rw (found-closed q live rises, e, w)
+        (ended-from live (without_ended q live) s.last_seq s.last_seq (omega arith) s.ended
+        (λ p l n. found_none_kept (has_number p) (goes_on q) live n) h)
+    by false w = rw (found-closed q live rises, e, w)
+        (join (is_number q) (nat_le q s.last_seq && not (is_some (attempt_of (without_ended q live) q))) number
+        (join (nat_le q s.last_seq) (not (is_some (attempt_of (without_ended q live) q))) most (rw (gone w) refl)))
 
-rules-after_last_answer : (s : ShowState) (q d : ℕ) (given : Answer) (test : Attempt → Bool) → Rules s → IsTrue (holds q test s.live) → IsTrue (are_live (without_ended q (answered q d given s.live))) → Rules (after_last_answer s q (answered q d given s.live))
+rules-after_last_answer : (s : ShowState) (q d : ℕ) (given : Answer) (test : Attempt → Bool) → Rules s
+    → IsTrue (holds q test s.live) → IsTrue (are_live (without_ended q (answered q d given s.live)))
+    → Rules (after_last_answer s q (answered q d given s.live))
 rules-after_last_answer s q d given test r g h =
     let f = found q test s.live (rises_of s.live r.live) g in
     let same = same_number f.0.seq q (found_passes (has_number q) s.live f.0 f.1) in
     record {
       show = r.show;
       live = h;
-      at = all_filter (is_at_cue s.show) (goes_on q) (answered q d given s.live) (at-changed s.show q (answers_as d given) (cue-answers_as d given) s.live r.at);
-      within = all_filter (λ a. nat_le a.seq s.last_seq) (goes_on q) (answered q d given s.live) (within-changed s.last_seq q (answers_as d given) (cue-answers_as d given) s.live r.within);
+      at = all_filter (is_at_cue s.show) (goes_on q) (answered q d given s.live)
+          (at-changed s.show q (answers_as d given) (cue-answers_as d given) s.live r.at);
+      within = all_filter (λ a. nat_le a.seq s.last_seq) (goes_on q) (answered q d given s.live)
+          (within-changed s.last_seq q (answers_as d given) (cue-answers_as d given) s.live r.within);
       last = r.last;
       ended = after_last_answer-ended s q (answered q d given s.live) (answers_as d given f.0)
           (rising-changed q (answers_as d given) (cue-answers_as d given).seq s.live (rises_of s.live r.live))
@@ -301,30 +377,49 @@ rules-after_last_answer s q d given test r g h =
     }
   where
     number_of : (a : Attempt) → IsTrue (is_attempt a) → IsTrue (is_number a.seq)
-    number_of a k = (both (is_number a.seq) (is_moment a.deadline && (have_sound_devices a.answers && list_all (stands a.stage) a.answers)) (is_sound-of_attempt a k)).0
+    number_of a k = (both (is_number a.seq)
+        (is_moment a.deadline && (have_sound_devices a.answers && list_all (stands a.stage) a.answers))
+        (is_sound-of_attempt a k)).0
 
 rules-after : (s : ShowState) (e : Event) → Rules s → IsTrue (acceptable s e) → Rules (after s e)
-rules-after s (event.Device d port) r g = rules-show s (with_device s.show d port) r (is_show-with_device s.show d port r.show g) (λ a h. h)
-rules-after s (event.NoDevice d) r g = rules-show s (without_device s.show d) r (is_show-without_device s.show d r.show g) (λ a h. h)
-rules-after s (event.Cue c parts) r g = rules-show s (with_cue s.show c parts) r (is_show-with_cue s.show c parts r.show g) (λ a h. at-with_cue s.show c parts a h)
+rules-after s (event.Device d port) r g =
+    rules-show s (with_device s.show d port) r (is_show-with_device s.show d port r.show g) (λ a h. h)
+rules-after s (event.NoDevice d) r g =
+    rules-show s (without_device s.show d) r (is_show-without_device s.show d r.show g) (λ a h. h)
+rules-after s (event.Cue c parts) r g =
+    rules-show s (with_cue s.show c parts) r (is_show-with_cue s.show c parts r.show g)
+    (λ a h. at-with_cue s.show c parts a h)
 rules-after s (event.NoCue c) r g = rules-no_cue s c r g
-rules-after s (event.Place c) r g = rules-show s (with_place s.show (Some c)) r (is_show-with_place s.show (Some c) r.show g) (λ a h. h)
+rules-after s (event.Place c) r g =
+    rules-show s (with_place s.show (Some c)) r (is_show-with_place s.show (Some c) r.show g) (λ a h. h)
 rules-after s (event.Start q c t) r g = rules-start s q c t r g
-rules-after s (event.Ready q d) r g = rules-changed s q (answers_as d answer.Ready) (cue-answers_as d answer.Ready) r (are_live-ready q d s.live r.live g)
+rules-after s (event.Ready q d) r g = rules-changed s q (answers_as d answer.Ready) (cue-answers_as d answer.Ready) r
+    (are_live-ready q d s.live r.live g)
 rules-after s (event.Go q) r g = rules-go s q r g
-rules-after s (event.Done q d) r g = rules-after_last_answer s q d answer.Done (waits_in is_decided d) r g (are_live-done q d s.live r.live g)
-rules-after s (event.Cancel q reason) r g = rules-changed s q (moves_to (Cancelling reason)) (cue-moves_to (Cancelling reason)) r (are_live-cancel q reason s.live r.live g)
-rules-after s (event.LetGo q d) r g = rules-after_last_answer s q d answer.LetGo (waits_in is_cancelling d) r g (are_live-let_go q d s.live r.live g)
-rules-after s (event.Failed q d) r g = rules-after_last_answer s q d answer.Failed (waits_in is_concluding d) r g (are_live-failed q d s.live r.live g)
-rules-after s (event.Excuse q d) r g = rules-changed s q (answers_as d answer.Excused) (cue-answers_as d answer.Excused) r (are_live-excused q d s.live r.live g)
+rules-after s (event.Done q d) r g = rules-after_last_answer s q d answer.Done (waits_in is_decided d) r g
+    (are_live-done q d s.live r.live g)
+rules-after s (event.Cancel q reason) r g =
+    rules-changed s q (moves_to (Cancelling reason)) (cue-moves_to (Cancelling reason)) r
+    (are_live-cancel q reason s.live r.live g)
+rules-after s (event.LetGo q d) r g = rules-after_last_answer s q d answer.LetGo (waits_in is_cancelling d) r g
+    (are_live-let_go q d s.live r.live g)
+rules-after s (event.Failed q d) r g = rules-after_last_answer s q d answer.Failed (waits_in is_concluding d) r g
+    (are_live-failed q d s.live r.live g)
+rules-after s (event.Excuse q d) r g = rules-changed s q (answers_as d answer.Excused) (cue-answers_as d answer.Excused)
+    r (are_live-excused q d s.live r.live g)
 
-pub is_state-after : (s : ShowState) (e : Event) → IsTrue (is_state s) → IsTrue (acceptable s e) → IsTrue (is_state (after s e))
+pub is_state-after : (s : ShowState) (e : Event) → IsTrue (is_state s) → IsTrue (acceptable s e)
+    → IsTrue (is_state (after s e))
 is_state-after s e h g = is_state-from (after s e) (rules-after s e (rules_of s h) g)
 
 -- the fields of a state after the event keep the rules
-pub kept : (s old : ShowState) (e : Event) → s ≡ old → IsTrue (is_state s) → IsTrue (acceptable old e) → IsTrue (is_state (after s e))
-kept s old e v i g = let P : ShowState → Type 0 = λ t. IsTrue (acceptable t e) in is_state-after s e i (subst P (sym v) g)
+pub kept : (s old : ShowState) (e : Event) → s ≡ old → IsTrue (is_state s) → IsTrue (acceptable old e)
+    → IsTrue (is_state (after s e))
+kept s old e v i g = let P : ShowState → Type 0 = λ t. IsTrue (acceptable t e) in
+    is_state-after s e i (subst P (sym v) g)
 
 -- and so do fields that are those of the state after the event
-pub kept_as : (s old new : ShowState) (e : Event) → new ≡ after s e → s ≡ old → IsTrue (is_state s) → IsTrue (acceptable old e) → IsTrue (is_state new)
-kept_as s old new e n v i g = let P : ShowState → Type 0 = λ t. IsTrue (is_state t) in subst P (sym n) (kept s old e v i g)
+pub kept_as : (s old new : ShowState) (e : Event) → new ≡ after s e → s ≡ old → IsTrue (is_state s)
+    → IsTrue (acceptable old e) → IsTrue (is_state new)
+kept_as s old new e n v i g = let P : ShowState → Type 0 = λ t. IsTrue (is_state t) in
+    subst P (sym n) (kept s old e v i g)

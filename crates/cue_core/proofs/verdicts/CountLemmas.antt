@@ -1,5 +1,6 @@
 -- A command that is made has one or two events, and no other has any.
-use Rattle.std.proofs.Common.{◌≡◌, ◌≢◌, ◌↔◌, ℕ, ◌≤◌, Bool, true, false, [], ◌∷◌, length, Option, None, Some, if◌then◌else◌, refl, arith}
+use Rattle.std.proofs.Common.{◌≡◌, ◌≢◌, ◌↔◌, ℕ, ◌≤◌, Bool, true, false, [], ◌∷◌, length, Option, None, Some}
+use Rattle.std.proofs.Common.{if◌then◌else◌, refl, arith}
 use Rattle.std.specs.Option.{option_map_or}
 use Rattle.cue_exchange.specs.declared.attempt.Answer.{Answer}
 use Rattle.cue_exchange.specs.declared.attempt.Answer.TheVariants as answer
@@ -18,7 +19,8 @@ use Rattle.cue_core.specs.declared.command.ReplyKind.{ReplyKind}
 use Rattle.cue_core.specs.declared.command.ReplyKind.TheVariants as reply
 use Rattle.cue_core.specs.declared.command.Verdict.TheVariants.{Made, Known, No}
 use Rattle.cue_core.specs.State.{ShowState}
-use Rattle.cue_core.specs.Judge.{Judgement, judgement_of, made, abort_early, abort_late, release_early, on_reply_in, on_reply_to, on_release_in, on_release_of}
+use Rattle.cue_core.specs.Judge.{Judgement, judgement_of, made, abort_early, abort_late, release_early, on_reply_in}
+use Rattle.cue_core.specs.Judge.{on_reply_to, on_release_in, on_release_of}
 
 pub record HasItsEvents (j : Judgement) : Type 0 where
   pub few : length j.1 ≤ 2
@@ -28,7 +30,8 @@ if-has : (b : Bool) (x y : Judgement) → HasItsEvents x → HasItsEvents y → 
 if-has true x y h k = h
 if-has false x y h k = k
 
-or-has : {A : Type 0} (f : A → Judgement) (o : Option A) (d : Judgement) → ((x : A) → HasItsEvents (f x)) → HasItsEvents d → HasItsEvents (option_map_or f o d)
+or-has : {A : Type 0} (f : A → Judgement) (o : Option A) (d : Judgement) → ((x : A) → HasItsEvents (f x))
+    → HasItsEvents d → HasItsEvents (option_map_or f o d)
 or-has f None d h k = k
 or-has f (Some x) d h k = h x
 
@@ -44,7 +47,8 @@ one = record { few = omega arith; made = (λ h k. cc, λ h. refl) }
 two : {e f : Event} → HasItsEvents (Made, e ∷ f ∷ [])
 two = record { few = omega arith; made = (λ h k. cc, λ h. refl) }
 
-standing_by-has : (q : ℕ) (d : DeviceAnswer) (g : Stage) (x : Answer) → HasItsEvents (on_reply_in reply.StandingBy q d g x)
+standing_by-has : (q : ℕ) (d : DeviceAnswer) (g : Stage) (x : Answer)
+    → HasItsEvents (on_reply_in reply.StandingBy q d g x)
 standing_by-has q d Preparing answer.Waiting = one
 standing_by-has q d Preparing answer.Ready = none-known
 standing_by-has q d Preparing answer.Done = none-known
@@ -105,10 +109,12 @@ cancelled-has q d (Cancelling r) answer.Failed = none-refused
 cancelled-has q d (Cancelling r) answer.Excused = none-refused
 
 abort_early-has : (q : ℕ) (d : DeviceAnswer) → HasItsEvents (abort_early q d)
-abort_early-has q d = if-has d.optional (made (event.Excuse q d.device ∷ [])) (made (event.Cancel q Abort ∷ event.Failed q d.device ∷ [])) one two
+abort_early-has q d = if-has d.optional (made (event.Excuse q d.device ∷ []))
+    (made (event.Cancel q Abort ∷ event.Failed q d.device ∷ [])) one two
 
 abort_late-has : (q : ℕ) (d : DeviceAnswer) → HasItsEvents (abort_late q d)
-abort_late-has q d = if-has d.optional (made (event.LetGo q d.device ∷ [])) (made (event.Failed q d.device ∷ [])) one one
+abort_late-has q d = if-has d.optional (made (event.LetGo q d.device ∷ [])) (made (event.Failed q d.device ∷ [])) one
+    one
 
 abort-has : (q : ℕ) (d : DeviceAnswer) (g : Stage) (x : Answer) → HasItsEvents (on_reply_in reply.Abort q d g x)
 abort-has q d Preparing answer.Waiting = abort_early-has q d
@@ -131,7 +137,8 @@ abort-has q d (Cancelling r) answer.Failed = none-known
 abort-has q d (Cancelling r) answer.Excused = none-refused
 
 release_early-has : (q : ℕ) (d : DeviceAnswer) → HasItsEvents (release_early q d)
-release_early-has q d = if-has d.optional (made (event.Excuse q d.device ∷ [])) (made (event.Cancel q Release ∷ event.LetGo q d.device ∷ [])) one two
+release_early-has q d = if-has d.optional (made (event.Excuse q d.device ∷ []))
+    (made (event.Cancel q Release ∷ event.LetGo q d.device ∷ [])) one two
 
 release_in-has : (q : ℕ) (d : DeviceAnswer) (g : Stage) (x : Answer) → HasItsEvents (on_release_in q d g x)
 release_in-has q d Preparing answer.Waiting = release_early-has q d
@@ -153,17 +160,20 @@ release_in-has q d (Cancelling r) answer.LetGo = none-known
 release_in-has q d (Cancelling r) answer.Failed = none-known
 release_in-has q d (Cancelling r) answer.Excused = none-known
 
-reply-has : (kind : ReplyKind) (q : ℕ) (d : DeviceAnswer) (g : Stage) (x : Answer) → HasItsEvents (on_reply_in kind q d g x)
+reply-has : (kind : ReplyKind) (q : ℕ) (d : DeviceAnswer) (g : Stage) (x : Answer)
+    → HasItsEvents (on_reply_in kind q d g x)
 reply-has reply.StandingBy q d g x = standing_by-has q d g x
 reply-has reply.Complete q d g x = complete-has q d g x
 reply-has reply.Cancelled q d g x = cancelled-has q d g x
 reply-has reply.Abort q d g x = abort-has q d g x
 
 reply_to-has : (kind : ReplyKind) (d : ℕ) (a : Attempt) → HasItsEvents (on_reply_to kind d a)
-reply_to-has kind d a = or-has (λ x. on_reply_in kind a.seq x a.stage x.answer) (device_answer a.answers d) _ (λ x. reply-has kind a.seq x a.stage x.answer) none-refused
+reply_to-has kind d a = or-has (λ x. on_reply_in kind a.seq x a.stage x.answer) (device_answer a.answers d) _
+    (λ x. reply-has kind a.seq x a.stage x.answer) none-refused
 
 release_of-has : (d : ℕ) (a : Attempt) → HasItsEvents (on_release_of d a)
-release_of-has d a = or-has (λ x. on_release_in a.seq x a.stage x.answer) (device_answer a.answers d) _ (λ x. release_in-has a.seq x a.stage x.answer) none-refused
+release_of-has d a = or-has (λ x. on_release_in a.seq x a.stage x.answer) (device_answer a.answers d) _
+    (λ x. release_in-has a.seq x a.stage x.answer) none-refused
 
 -- each verdict has its events
 pub judgement_of-has : (s : ShowState) (now from : ℕ) (c : Command) → HasItsEvents (judgement_of s now from c)
@@ -175,7 +185,9 @@ judgement_of-has s now from (command.Go c) = search (if-has, or-has, none-known,
 judgement_of-has s now from (command.Cancel c) = search (if-has, or-has, none-known, none-refused, one, two)
 judgement_of-has s now from (command.Goto c) = search (if-has, or-has, none-known, none-refused, one, two)
 judgement_of-has s now from (command.RemoveCue c) = search (if-has, or-has, none-known, none-refused, one, two)
-judgement_of-has s now from (command.Reply k d q) = search (if-has, or-has, none-known, none-refused, reply_to-has) depth 12
-judgement_of-has s now from (command.Release d) = search (if-has, or-has, none-known, none-refused, release_of-has) depth 12
+judgement_of-has s now from (command.Reply k d q) = search (if-has, or-has, none-known, none-refused, reply_to-has)
+    depth 12
+judgement_of-has s now from (command.Release d) = search (if-has, or-has, none-known, none-refused, release_of-has)
+    depth 12
 judgement_of-has s now from (command.RemoveDevice d) = search (if-has, or-has, none-known, none-refused, one, two)
 judgement_of-has s now from (command.Bad c) = none-refused

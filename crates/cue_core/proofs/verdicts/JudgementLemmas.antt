@@ -1,5 +1,6 @@
 -- What judging makes is acceptable in turn.
-use Rattle.std.proofs.Common.{◌≡◌, ℕ, List, [], ◌∷◌, refl, sym, true≢false, ◌∙◌, ap, subst, Bool, true, false, not, ◌&&◌, ◌||◌, nat_eq, nat_lt, Option, None, Some, Result, Ok, Err}
+use Rattle.std.proofs.Common.{◌≡◌, ℕ, List, [], ◌∷◌, refl, sym, true≢false, ◌∙◌, ap, subst, Bool, true, false, not}
+use Rattle.std.proofs.Common.{◌&&◌, ◌||◌, nat_eq, nat_lt, Option, None, Some, Result, Ok, Err}
 use Rattle.std.specs.Prelude.{IsTrue, IfOk, map, find, if◌then◌else◌}
 use Rattle.std.specs.Option.{option_map, option_map_or}
 use Rattle.cue_show.specs.Show.{has_device, has_cue}
@@ -11,11 +12,14 @@ use Rattle.cue_exchange.specs.declared.attempt.Stage.{Stage}
 use Rattle.cue_exchange.specs.declared.attempt.Stage.TheVariants.{Preparing, Decided, Cancelling}
 use Rattle.cue_exchange.specs.declared.attempt.DeviceAnswer.{DeviceAnswer}
 use Rattle.cue_exchange.specs.declared.attempt.Attempt.{Attempt}
-use Rattle.cue_exchange.specs.Answers.{is_waiting, is_preparing, is_decided, is_cancelling, is_concluding, is_ready, is_excused, is_excusable, is_known_in, can_be_excused, is_required, stands, entering, entered, answer_of, device_answer, answer_passes}
-use Rattle.cue_exchange.specs.Live.{attempt_of, attempt_of_cue, attempt_of_device, has_number, has_device as is_of_device, has_cue as is_of_cue, is_attempt}
+use Rattle.cue_exchange.specs.Answers.{is_waiting, is_preparing, is_decided, is_cancelling, is_concluding, is_ready}
+use Rattle.cue_exchange.specs.Answers.{is_excused, is_excusable, is_known_in, can_be_excused, is_required, stands}
+use Rattle.cue_exchange.specs.Answers.{entering, entered, answer_of, device_answer, answer_passes}
+use Rattle.cue_exchange.specs.Live.{attempt_of, attempt_of_cue, attempt_of_device, has_number}
+use Rattle.cue_exchange.specs.Live.{has_device as is_of_device, has_cue as is_of_cue, is_attempt}
 use Rattle.cue_exchange.specs.Steps.{holds, waits_in, changed, moves_to, moved, can_go_now}
-use Rattle.cue_exchange.proofs.AnswerRules.{is_waiting-entering}
-use Rattle.cue_exchange.proofs.LiveRules.{attempts_of, is_sound-of_attempt, sound_of}
+use Rattle.cue_exchange.proofs.AnswerLemmas.{is_waiting-entering}
+use Rattle.cue_exchange.proofs.LiveLemmas.{attempts_of, is_sound-of_attempt, sound_of}
 use Rattle.cue_core.specs.declared.event.Event.{Event}
 use Rattle.cue_core.specs.declared.event.Event.TheVariants as event
 use Rattle.cue_core.specs.declared.command.ReplyKind.{ReplyKind}
@@ -25,17 +29,21 @@ use Rattle.cue_core.specs.declared.command.Command.{Command}
 use Rattle.cue_core.specs.declared.command.Command.TheVariants as command
 use Rattle.cue_core.specs.State.{ShowState, is_state}
 use Rattle.cue_core.specs.Steps.{acceptable, after, are_acceptable}
-use Rattle.cue_core.specs.Judge.{made, known, refused, judgement_of, is_fit, on_go, on_go_of, on_cancel, on_cancel_of, on_release, on_release_of, on_release_in, release_early, abort_early, abort_late, on_reply, on_reply_to, on_reply_in, is_from_another}
+use Rattle.cue_core.specs.Judge.{made, known, refused, judgement_of, is_fit, on_go, on_go_of, on_cancel, on_cancel_of}
+use Rattle.cue_core.specs.Judge.{on_release, on_release_of, on_release_in, release_early, abort_early, abort_late}
+use Rattle.cue_core.specs.Judge.{on_reply, on_reply_to, on_reply_in, is_from_another}
 use Rattle.cue_core.proofs.lists.ConditionLemmas.{both, join, same_number, same_self}
 use Rattle.cue_core.proofs.live.FindingLemmas.{found_has, found_passes}
 use Rattle.cue_core.proofs.rules.RuleLemmas.{Rules, rules_of}
-use Rattle.cue_core.proofs.verdicts.ShowJudgementLemmas.{one, two, add_device_fits, remove_device_fits, add_cue_fits, goto_fits, remove_cue_fits, standby_fits}
+use Rattle.cue_core.proofs.verdicts.ShowJudgementLemmas.{one, two, add_device_fits, remove_device_fits, add_cue_fits}
+use Rattle.cue_core.proofs.verdicts.ShowJudgementLemmas.{goto_fits, remove_cue_fits, standby_fits}
 use Rattle.cue_show.proofs.TestLemmas.{or_left, or_right}
 
 -- ---- a live attempt
 
 -- a test on the attempt that was found holds of its number
-found_holds : (t test : Attempt → Bool) (live : List Attempt) (a : Attempt) → find t live ≡ Some a → IsTrue (test a) → IsTrue (holds a.seq test live)
+found_holds : (t test : Attempt → Bool) (live : List Attempt) (a : Attempt) → find t live ≡ Some a → IsTrue (test a)
+    → IsTrue (holds a.seq test live)
 found_holds t test [] a e k = cc
 found_holds t test (x ∷ live) a e k = at (t x) e (found_holds t test live a)
   where
@@ -43,7 +51,9 @@ found_holds t test (x ∷ live) a e k = at (t x) e (found_holds t test live a)
     later true c h = refl
     later false c h = h
 
-    at : (b : Bool) → (if b then Some x else find t live) ≡ Some a → (find t live ≡ Some a → IsTrue (test a) → IsTrue (holds a.seq test live)) → IsTrue ((nat_eq x.seq a.seq && test x) || holds a.seq test live)
+    at : (b : Bool) → (if b then Some x else find t live) ≡ Some a
+        → (find t live ≡ Some a → IsTrue (test a) → IsTrue (holds a.seq test live))
+        → IsTrue ((nat_eq x.seq a.seq && test x) || holds a.seq test live)
     at true e f = let same : x ≡ a = cc in rw (same, same_self a.seq, k) refl
     at false e f = later (nat_eq x.seq a.seq && test x) (holds a.seq test live) (f e k)
 
@@ -55,22 +65,32 @@ changed_itself f a = at (nat_eq a.seq a.seq) (same_self a.seq)
     at false e = cc
 
 -- and of the attempt as it is changed
-found_holds_changed : (t test : Attempt → Bool) (f : Attempt → Attempt) → ((b : Attempt) → (f b).seq ≡ b.seq) → (live : List Attempt) (a : Attempt) → find t live ≡ Some a → IsTrue (test (f a)) → IsTrue (holds a.seq test (map (changed a.seq f) live))
+found_holds_changed : (t test : Attempt → Bool) (f : Attempt → Attempt) → ((b : Attempt) → (f b).seq ≡ b.seq)
+    → (live : List Attempt) (a : Attempt) → find t live ≡ Some a → IsTrue (test (f a))
+    → IsTrue (holds a.seq test (map (changed a.seq f) live))
 found_holds_changed t test f keeps [] a e k = cc
 found_holds_changed t test f keeps (x ∷ live) a e k = at (t x) e (found_holds_changed t test f keeps live a)
   where
     here : (y : Attempt) → y ≡ f a → IsTrue (nat_eq y.seq a.seq && test y)
     here y same = rw same (join (nat_eq (f a).seq a.seq) (test (f a)) (rw (keeps a) (same_self a.seq)) k)
 
-    at : (b : Bool) → (if b then Some x else find t live) ≡ Some a → (find t live ≡ Some a → IsTrue (test (f a)) → IsTrue (holds a.seq test (map (changed a.seq f) live)))
-        → IsTrue ((nat_eq (changed a.seq f x).seq a.seq && test (changed a.seq f x)) || holds a.seq test (map (changed a.seq f) live))
-    at true e g = let same : x ≡ a = cc in or_left (nat_eq (changed a.seq f x).seq a.seq && test (changed a.seq f x)) (holds a.seq test (map (changed a.seq f) live)) (here (changed a.seq f x) (ap (changed a.seq f) same ∙ changed_itself f a))
-    at false e g = or_right (nat_eq (changed a.seq f x).seq a.seq && test (changed a.seq f x)) (holds a.seq test (map (changed a.seq f) live)) (g e k)
+    at : (b : Bool) → (if b then Some x else find t live) ≡ Some a
+        → (find t live ≡ Some a → IsTrue (test (f a)) → IsTrue (holds a.seq test (map (changed a.seq f) live)))
+        → IsTrue ((nat_eq (changed a.seq f x).seq a.seq && test (changed a.seq f x)) || holds a.seq test
+            (map (changed a.seq f) live))
+    at true e g = let same : x ≡ a = cc in or_left (nat_eq (changed a.seq f x).seq a.seq && test (changed a.seq f x))
+        (holds a.seq test (map (changed a.seq f) live))
+        (here (changed a.seq f x) (ap (changed a.seq f) same ∙ changed_itself f a))
+    at false e g = or_right (nat_eq (changed a.seq f x).seq a.seq && test (changed a.seq f x))
+        (holds a.seq test (map (changed a.seq f) live)) (g e k)
 
-go_of_fits : (s : ShowState) (t : Attempt → Bool) (a : Attempt) → find t s.live ≡ Some a → IsTrue (are_acceptable s (on_go_of a).1)
+go_of_fits : (s : ShowState) (t : Attempt → Bool) (a : Attempt) → find t s.live ≡ Some a
+    → IsTrue (are_acceptable s (on_go_of a).1)
 go_of_fits s t a e = by (is_decided a.stage) (can_go_now a) refl
   where
-    by : (b g : Bool) → can_go_now a ≡ g → IsTrue (are_acceptable s (if b then known else if g then made (event.Go a.seq ∷ []) else refused code.NotReady).1)
+    by : (b g : Bool) → can_go_now a ≡ g
+        → IsTrue (are_acceptable s (if b then known else if g then made (event.Go a.seq ∷ []) else refused
+        code.NotReady).1)
     by true g k = refl
     by false true k = one s (event.Go a.seq) (found_holds t can_go_now s.live a e k)
     by false false k = refl
@@ -78,7 +98,9 @@ go_of_fits s t a e = by (is_decided a.stage) (can_go_now a) refl
 go_fits : (s : ShowState) (c : List ℕ) → IsTrue (are_acceptable s (on_go s c).1)
 go_fits s c = by (has_cue s.show c) (attempt_of_cue s.live c) refl
   where
-    by : (b : Bool) (o : Option Attempt) → attempt_of_cue s.live c ≡ o → IsTrue (are_acceptable s (if not b then refused code.NoMethod else option_map_or on_go_of o (refused code.NotLive)).1)
+    by : (b : Bool) (o : Option Attempt) → attempt_of_cue s.live c ≡ o
+        → IsTrue (are_acceptable s (if not b then refused code.NoMethod else option_map_or on_go_of o
+        (refused code.NotLive)).1)
     by false o e = refl
     by true None e = refl
     by true (Some a) e = go_of_fits s (is_of_cue c) a e
@@ -88,59 +110,77 @@ undecided Preparing a b = refl
 undecided Decided a b = cc
 undecided (Cancelling r) a b = cc
 
-cancel_of_fits : (s : ShowState) (t : Attempt → Bool) (a : Attempt) → find t s.live ≡ Some a → IsTrue (are_acceptable s (on_cancel_of a).1)
+cancel_of_fits : (s : ShowState) (t : Attempt → Bool) (a : Attempt) → find t s.live ≡ Some a
+    → IsTrue (are_acceptable s (on_cancel_of a).1)
 cancel_of_fits s t a e = by (is_decided a.stage) (is_cancelling a.stage) refl refl
   where
-    by : (b g : Bool) → is_decided a.stage ≡ b → is_cancelling a.stage ≡ g → IsTrue (are_acceptable s (if b then refused code.Decided else if g then known else made (event.Cancel a.seq Operator ∷ [])).1)
+    by : (b g : Bool) → is_decided a.stage ≡ b → is_cancelling a.stage ≡ g
+        → IsTrue (are_acceptable s
+        (if b then refused code.Decided else if g then known else made (event.Cancel a.seq Operator ∷ [])).1)
     by true g k l = refl
     by false true k l = refl
-    by false false k l = one s (event.Cancel a.seq Operator) (found_holds t (λ b. is_preparing b.stage) s.live a e (undecided a.stage k l))
+    by false false k l = one s (event.Cancel a.seq Operator)
+        (found_holds t (λ b. is_preparing b.stage) s.live a e (undecided a.stage k l))
 
 cancel_fits : (s : ShowState) (c : List ℕ) → IsTrue (are_acceptable s (on_cancel s c).1)
 cancel_fits s c = by (has_cue s.show c) (attempt_of_cue s.live c) refl
   where
-    by : (b : Bool) (o : Option Attempt) → attempt_of_cue s.live c ≡ o → IsTrue (are_acceptable s (if not b then refused code.NoMethod else option_map_or on_cancel_of o (refused code.NotLive)).1)
+    by : (b : Bool) (o : Option Attempt) → attempt_of_cue s.live c ≡ o
+        → IsTrue (are_acceptable s (if not b then refused code.NoMethod else option_map_or on_cancel_of o
+        (refused code.NotLive)).1)
     by false o e = refl
     by true None e = refl
     by true (Some a) e = cancel_of_fits s (is_of_cue c) a e
 
 -- a device of an attempt that is cancelled is asked anew, where it was not excused
-asked_anew : (stage : Stage) (d : ℕ) (x : Answer) (ys : List DeviceAnswer) → answer_of ys d ≡ Some x → IsTrue (not (is_excused x)) → IsTrue (answer_passes is_waiting d (entered stage ys))
+asked_anew : (stage : Stage) (d : ℕ) (x : Answer) (ys : List DeviceAnswer) → answer_of ys d ≡ Some x
+    → IsTrue (not (is_excused x)) → IsTrue (answer_passes is_waiting d (entered stage ys))
 asked_anew stage d x [] e n = absurd cc
 asked_anew stage d x (y ∷ ys) e n = at (nat_eq y.device d) e (λ f. asked_anew stage d x ys f n)
   where
     at : (b : Bool) → option_map (λ z. z.answer) (if b then Some y else find (λ z. nat_eq z.device d) ys) ≡ Some x
-        → (answer_of ys d ≡ Some x → IsTrue (answer_passes is_waiting d (entered stage ys))) → IsTrue ((b && is_waiting (entering stage y.answer)) || answer_passes is_waiting d (entered stage ys))
+        → (answer_of ys d ≡ Some x → IsTrue (answer_passes is_waiting d (entered stage ys)))
+            → IsTrue ((b && is_waiting (entering stage y.answer)) || answer_passes is_waiting d (entered stage ys))
     at true e f = let same : y.answer ≡ x = cc in rw (same, is_waiting-entering stage x n) refl
     at false e f = f e
 
 -- Cancel, and then an answer to it
-cancelled_then : (s : ShowState) (t : Attempt → Bool) (a : Attempt) (r : Reason) (d : ℕ) (x : Answer) (stage : Stage → Bool) → find t s.live ≡ Some a → IsTrue (is_preparing a.stage) → answer_of a.answers d ≡ Some x → IsTrue (not (is_excused x))
+cancelled_then : (s : ShowState) (t : Attempt → Bool) (a : Attempt) (r : Reason) (d : ℕ) (x : Answer) (stage : Stage
+    → Bool) → find t s.live ≡ Some a → IsTrue (is_preparing a.stage) → answer_of a.answers d ≡ Some x
+    → IsTrue (not (is_excused x))
     → IsTrue (stage (Cancelling r))
-    → IsTrue (acceptable s (event.Cancel a.seq r)) × IsTrue (holds a.seq (waits_in stage d) (moved a.seq (Cancelling r) s.live))
+    → IsTrue (acceptable s (event.Cancel a.seq r))
+        × IsTrue (holds a.seq (waits_in stage d) (moved a.seq (Cancelling r) s.live))
 cancelled_then s t a r d x stage e p m n k = (
   found_holds t (λ b. is_preparing b.stage) s.live a e p,
-  found_holds_changed t (waits_in stage d) (moves_to (Cancelling r)) (λ b. refl) s.live a e (join (stage (Cancelling r)) (answer_passes is_waiting d (entered (Cancelling r) a.answers)) k (asked_anew (Cancelling r) d x a.answers m n)),
+  found_holds_changed t (waits_in stage d) (moves_to (Cancelling r)) (λ b. refl) s.live a e
+      (join (stage (Cancelling r)) (answer_passes is_waiting d (entered (Cancelling r) a.answers)) k
+      (asked_anew (Cancelling r) d x a.answers m n)),
 )
 
 -- ---- replies and release
 
 -- the device is one of the attempt, and its answer passes the tests that it passes
-answer_told : (d : ℕ) (xs : List DeviceAnswer) (x : Answer) → answer_of xs d ≡ Some x → (test : Answer → Bool) → IsTrue (test x) → IsTrue (answer_passes test d xs)
+answer_told : (d : ℕ) (xs : List DeviceAnswer) (x : Answer) → answer_of xs d ≡ Some x → (test : Answer → Bool)
+    → IsTrue (test x) → IsTrue (answer_passes test d xs)
 answer_told d [] x e test k = absurd cc
 answer_told d (y ∷ ys) x e test k = at (nat_eq y.device d) e (λ f. answer_told d ys x f test k)
   where
     at : (b : Bool) → option_map (λ z. z.answer) (if b then Some y else find (λ z. nat_eq z.device d) ys) ≡ Some x
-        → (answer_of ys d ≡ Some x → IsTrue (answer_passes test d ys)) → IsTrue ((b && test y.answer) || answer_passes test d ys)
+        → (answer_of ys d ≡ Some x → IsTrue (answer_passes test d ys))
+            → IsTrue ((b && test y.answer) || answer_passes test d ys)
     at true e f = let same : y.answer ≡ x = cc in rw (same, k) refl
     at false e f = f e
 
 -- a device that is found may be excused, where its record says so
-found_excusable : (d : ℕ) (xs : List DeviceAnswer) (w : DeviceAnswer) → device_answer xs d ≡ Some w → IsTrue (can_be_excused w) → IsTrue (is_excusable d xs)
+found_excusable : (d : ℕ) (xs : List DeviceAnswer) (w : DeviceAnswer) → device_answer xs d ≡ Some w
+    → IsTrue (can_be_excused w) → IsTrue (is_excusable d xs)
 found_excusable d [] w e k = absurd cc
 found_excusable d (y ∷ ys) w e k = at (nat_eq y.device d) e (λ f. found_excusable d ys w f k)
   where
-    at : (b : Bool) → (if b then Some y else device_answer ys d) ≡ Some w → (device_answer ys d ≡ Some w → IsTrue (is_excusable d ys)) → IsTrue ((b && can_be_excused y) || is_excusable d ys)
+    at : (b : Bool) → (if b then Some y else device_answer ys d) ≡ Some w
+        → (device_answer ys d ≡ Some w → IsTrue (is_excusable d ys))
+        → IsTrue ((b && can_be_excused y) || is_excusable d ys)
     at true e f = let same : y ≡ w = cc in rw (same, k) refl
     at false e f = f e
 
@@ -152,65 +192,92 @@ record Told (a : Attempt) (w : DeviceAnswer) (x : Answer) : Type 0 where
 
 -- what is said of an attempt that was found, and of a device of it with its answer
 module _ (s : ShowState) (t : Attempt → Bool) (a : Attempt) (w : DeviceAnswer) (e : find t s.live ≡ Some a) where
-  waits_fits : (stage : Stage) (test : Stage → Bool) (x : Answer) → a.stage ≡ stage → Told a w x → IsTrue (test stage) → IsTrue (is_waiting x) → IsTrue (holds a.seq (waits_in test w.device) s.live)
-  waits_fits stage test x f g h k = found_holds t (waits_in test w.device) s.live a e (join (test a.stage) (answer_passes is_waiting w.device a.answers) (rw f h) (answer_told w.device a.answers x g.answer is_waiting k))
+  waits_fits : (stage : Stage) (test : Stage → Bool) (x : Answer) → a.stage ≡ stage → Told a w x → IsTrue (test stage)
+      → IsTrue (is_waiting x) → IsTrue (holds a.seq (waits_in test w.device) s.live)
+  waits_fits stage test x f g h k =
+      found_holds t (waits_in test w.device) s.live a e
+      (join (test a.stage) (answer_passes is_waiting w.device a.answers) (rw f h)
+      (answer_told w.device a.answers x g.answer is_waiting k))
 
   -- Cancel, and then an answer of the device to it
-  cancel_fits_then : (r : Reason) (x : Answer) (last : Event) (stage : Stage → Bool) → a.stage ≡ Preparing → Told a w x → IsTrue (not (is_excused x)) → IsTrue (stage (Cancelling r))
-      → (IsTrue (holds a.seq (waits_in stage w.device) (moved a.seq (Cancelling r) s.live)) → IsTrue (acceptable (after s (event.Cancel a.seq r)) last)) → IsTrue (are_acceptable s (event.Cancel a.seq r ∷ last ∷ []))
-  cancel_fits_then r x last stage f g n k fits = let h = cancelled_then s t a r w.device x stage e (rw f refl) g.answer n k in two s (event.Cancel a.seq r) last h.0 (fits h.1)
+  cancel_fits_then : (r : Reason) (x : Answer) (last : Event) (stage : Stage → Bool) → a.stage ≡ Preparing → Told a w x
+      → IsTrue (not (is_excused x)) → IsTrue (stage (Cancelling r))
+      → (IsTrue (holds a.seq (waits_in stage w.device) (moved a.seq (Cancelling r) s.live))
+          → IsTrue (acceptable (after s (event.Cancel a.seq r)) last))
+          → IsTrue (are_acceptable s (event.Cancel a.seq r ∷ last ∷ []))
+  cancel_fits_then r x last stage f g n k fits = let h = cancelled_then s t a r w.device x stage e (rw f refl) g.answer
+      n k in two s (event.Cancel a.seq r) last h.0 (fits h.1)
 
   -- an optional device of a Preparing attempt, that waits or stands by, is excused
-  excuse_fits : (x : Answer) → a.stage ≡ Preparing → Told a w x → IsTrue (is_waiting x || is_ready x) → w.optional ≡ true → IsTrue (are_acceptable s (event.Excuse a.seq w.device ∷ []))
+  excuse_fits : (x : Answer) → a.stage ≡ Preparing → Told a w x → IsTrue (is_waiting x || is_ready x)
+      → w.optional ≡ true → IsTrue (are_acceptable s (event.Excuse a.seq w.device ∷ []))
   excuse_fits x f g k o =
       one s (event.Excuse a.seq w.device)
       (found_holds t (λ b. is_preparing b.stage && is_excusable w.device b.answers) s.live a e
       (join (is_preparing a.stage) (is_excusable w.device a.answers) (rw f refl)
       (found_excusable w.device a.answers w g.device (rw (o, g.same) k))))
 
-  release_early_fits : (x : Answer) → a.stage ≡ Preparing → Told a w x → IsTrue (is_waiting x || is_ready x) → IsTrue (not (is_excused x)) → IsTrue (are_acceptable s (release_early a.seq w).1)
+  release_early_fits : (x : Answer) → a.stage ≡ Preparing → Told a w x → IsTrue (is_waiting x || is_ready x)
+      → IsTrue (not (is_excused x)) → IsTrue (are_acceptable s (release_early a.seq w).1)
   release_early_fits x f g k n = by w.optional refl
     where
-      by : (b : Bool) → w.optional ≡ b → IsTrue (are_acceptable s (if b then made (event.Excuse a.seq w.device ∷ []) else made (event.Cancel a.seq Release ∷ event.LetGo a.seq w.device ∷ [])).1)
+      by : (b : Bool) → w.optional ≡ b
+          → IsTrue (are_acceptable s
+          (if b then made (event.Excuse a.seq w.device ∷ []) else made
+          (event.Cancel a.seq Release ∷ event.LetGo a.seq w.device ∷ [])).1)
       by true o = excuse_fits x f g k o
       by false o = cancel_fits_then Release x (event.LetGo a.seq w.device) is_cancelling f g n refl (λ h. h)
 
-  abort_early_fits : (x : Answer) → a.stage ≡ Preparing → Told a w x → IsTrue (is_waiting x || is_ready x) → IsTrue (not (is_excused x)) → IsTrue (are_acceptable s (abort_early a.seq w).1)
+  abort_early_fits : (x : Answer) → a.stage ≡ Preparing → Told a w x → IsTrue (is_waiting x || is_ready x)
+      → IsTrue (not (is_excused x)) → IsTrue (are_acceptable s (abort_early a.seq w).1)
   abort_early_fits x f g k n = by w.optional refl
     where
-      by : (b : Bool) → w.optional ≡ b → IsTrue (are_acceptable s (if b then made (event.Excuse a.seq w.device ∷ []) else made (event.Cancel a.seq Abort ∷ event.Failed a.seq w.device ∷ [])).1)
+      by : (b : Bool) → w.optional ≡ b
+          → IsTrue (are_acceptable s
+          (if b then made (event.Excuse a.seq w.device ∷ []) else made
+          (event.Cancel a.seq Abort ∷ event.Failed a.seq w.device ∷ [])).1)
       by true o = excuse_fits x f g k o
       by false o = cancel_fits_then Abort x (event.Failed a.seq w.device) is_concluding f g n refl (λ h. h)
 
-  abort_late_fits : (r : Reason) → a.stage ≡ Cancelling r → Told a w answer.Waiting → IsTrue (are_acceptable s (abort_late a.seq w).1)
+  abort_late_fits : (r : Reason) → a.stage ≡ Cancelling r → Told a w answer.Waiting
+      → IsTrue (are_acceptable s (abort_late a.seq w).1)
   abort_late_fits r f g = by w.optional
     where
-      by : (b : Bool) → IsTrue (are_acceptable s (if b then made (event.LetGo a.seq w.device ∷ []) else made (event.Failed a.seq w.device ∷ [])).1)
-      by true = one s (event.LetGo a.seq w.device) (waits_fits (Cancelling r) is_cancelling answer.Waiting f g refl refl)
-      by false = one s (event.Failed a.seq w.device) (waits_fits (Cancelling r) is_concluding answer.Waiting f g refl refl)
+      by : (b : Bool) → IsTrue
+          (are_acceptable s (if b then made (event.LetGo a.seq w.device ∷ []) else made
+          (event.Failed a.seq w.device ∷ [])).1)
+      by true = one s (event.LetGo a.seq w.device)
+          (waits_fits (Cancelling r) is_cancelling answer.Waiting f g refl refl)
+      by false = one s (event.Failed a.seq w.device)
+          (waits_fits (Cancelling r) is_concluding answer.Waiting f g refl refl)
 
-  release_in_fits : (stage : Stage) (x : Answer) → a.stage ≡ stage → Told a w x → IsTrue (is_known_in stage x) → IsTrue (are_acceptable s (on_release_in a.seq w stage x).1)
+  release_in_fits : (stage : Stage) (x : Answer) → a.stage ≡ stage → Told a w x → IsTrue (is_known_in stage x)
+      → IsTrue (are_acceptable s (on_release_in a.seq w stage x).1)
   release_in_fits Preparing answer.Waiting f g k = release_early_fits answer.Waiting f g refl refl
   release_in_fits Preparing answer.Ready f g k = release_early_fits answer.Ready f g refl refl
   release_in_fits Preparing answer.Done f g k = absurd (true≢false (sym k))
   release_in_fits Preparing answer.LetGo f g k = absurd (true≢false (sym k))
   release_in_fits Preparing answer.Failed f g k = absurd (true≢false (sym k))
   release_in_fits Preparing answer.Excused f g k = refl
-  release_in_fits Decided answer.Waiting f g k = one s (event.Failed a.seq w.device) (waits_fits Decided is_concluding answer.Waiting f g refl refl)
+  release_in_fits Decided answer.Waiting f g k =
+      one s (event.Failed a.seq w.device) (waits_fits Decided is_concluding answer.Waiting f g refl refl)
   release_in_fits Decided answer.Ready f g k = refl
   release_in_fits Decided answer.Done f g k = refl
   release_in_fits Decided answer.LetGo f g k = refl
   release_in_fits Decided answer.Failed f g k = refl
   release_in_fits Decided answer.Excused f g k = refl
-  release_in_fits (Cancelling r) answer.Waiting f g k = one s (event.LetGo a.seq w.device) (waits_fits (Cancelling r) is_cancelling answer.Waiting f g refl refl)
+  release_in_fits (Cancelling r) answer.Waiting f g k =
+      one s (event.LetGo a.seq w.device) (waits_fits (Cancelling r) is_cancelling answer.Waiting f g refl refl)
   release_in_fits (Cancelling r) answer.Ready f g k = refl
   release_in_fits (Cancelling r) answer.Done f g k = refl
   release_in_fits (Cancelling r) answer.LetGo f g k = refl
   release_in_fits (Cancelling r) answer.Failed f g k = refl
   release_in_fits (Cancelling r) answer.Excused f g k = refl
 
-  reply_in_fits : (kind : ReplyKind) (stage : Stage) (x : Answer) → a.stage ≡ stage → Told a w x → IsTrue (is_known_in stage x) → IsTrue (are_acceptable s (on_reply_in kind a.seq w stage x).1)
-  reply_in_fits reply.StandingBy Preparing answer.Waiting f g k = one s (event.Ready a.seq w.device) (waits_fits Preparing is_preparing answer.Waiting f g refl refl)
+  reply_in_fits : (kind : ReplyKind) (stage : Stage) (x : Answer) → a.stage ≡ stage → Told a w x
+      → IsTrue (is_known_in stage x) → IsTrue (are_acceptable s (on_reply_in kind a.seq w stage x).1)
+  reply_in_fits reply.StandingBy Preparing answer.Waiting f g k =
+      one s (event.Ready a.seq w.device) (waits_fits Preparing is_preparing answer.Waiting f g refl refl)
   reply_in_fits reply.StandingBy Preparing answer.Ready f g k = refl
   reply_in_fits reply.StandingBy Preparing answer.Done f g k = refl
   reply_in_fits reply.StandingBy Preparing answer.LetGo f g k = refl
@@ -234,7 +301,8 @@ module _ (s : ShowState) (t : Attempt → Bool) (a : Attempt) (w : DeviceAnswer)
   reply_in_fits reply.Complete Preparing answer.LetGo f g k = refl
   reply_in_fits reply.Complete Preparing answer.Failed f g k = refl
   reply_in_fits reply.Complete Preparing answer.Excused f g k = refl
-  reply_in_fits reply.Complete Decided answer.Waiting f g k = one s (event.Done a.seq w.device) (waits_fits Decided is_decided answer.Waiting f g refl refl)
+  reply_in_fits reply.Complete Decided answer.Waiting f g k =
+      one s (event.Done a.seq w.device) (waits_fits Decided is_decided answer.Waiting f g refl refl)
   reply_in_fits reply.Complete Decided answer.Ready f g k = refl
   reply_in_fits reply.Complete Decided answer.Done f g k = refl
   reply_in_fits reply.Complete Decided answer.LetGo f g k = refl
@@ -258,7 +326,8 @@ module _ (s : ShowState) (t : Attempt → Bool) (a : Attempt) (w : DeviceAnswer)
   reply_in_fits reply.Cancelled Decided answer.LetGo f g k = refl
   reply_in_fits reply.Cancelled Decided answer.Failed f g k = refl
   reply_in_fits reply.Cancelled Decided answer.Excused f g k = refl
-  reply_in_fits reply.Cancelled (Cancelling r) answer.Waiting f g k = one s (event.LetGo a.seq w.device) (waits_fits (Cancelling r) is_cancelling answer.Waiting f g refl refl)
+  reply_in_fits reply.Cancelled (Cancelling r) answer.Waiting f g k =
+      one s (event.LetGo a.seq w.device) (waits_fits (Cancelling r) is_cancelling answer.Waiting f g refl refl)
   reply_in_fits reply.Cancelled (Cancelling r) answer.Ready f g k = refl
   reply_in_fits reply.Cancelled (Cancelling r) answer.Done f g k = refl
   reply_in_fits reply.Cancelled (Cancelling r) answer.LetGo f g k = refl
@@ -270,7 +339,8 @@ module _ (s : ShowState) (t : Attempt → Bool) (a : Attempt) (w : DeviceAnswer)
   reply_in_fits reply.Abort Preparing answer.LetGo f g k = absurd (true≢false (sym k))
   reply_in_fits reply.Abort Preparing answer.Failed f g k = absurd (true≢false (sym k))
   reply_in_fits reply.Abort Preparing answer.Excused f g k = refl
-  reply_in_fits reply.Abort Decided answer.Waiting f g k = one s (event.Failed a.seq w.device) (waits_fits Decided is_concluding answer.Waiting f g refl refl)
+  reply_in_fits reply.Abort Decided answer.Waiting f g k =
+      one s (event.Failed a.seq w.device) (waits_fits Decided is_concluding answer.Waiting f g refl refl)
   reply_in_fits reply.Abort Decided answer.Ready f g k = refl
   reply_in_fits reply.Abort Decided answer.Done f g k = refl
   reply_in_fits reply.Abort Decided answer.LetGo f g k = refl
@@ -288,45 +358,61 @@ found_told : (d : ℕ) (a : Attempt) (w : DeviceAnswer) → device_answer a.answ
 found_told d a w g =
     let same : w.device ≡ d = same_number w.device d (found_passes (λ x. nat_eq x.device d) a.answers w g) in
     record {
-      answer = subst (λ n. answer_of a.answers n ≡ Some w.answer) (sym same) (ap (λ (o : Option DeviceAnswer). option_map (λ x. x.answer) o) g);
+      answer = subst (λ n. answer_of a.answers n ≡ Some w.answer) (sym same)
+          (ap (λ (o : Option DeviceAnswer). option_map (λ x. x.answer) o) g);
       device = subst (λ n. device_answer a.answers n ≡ Some w) (sym same) g;
       same = refl;
     }
 
 -- and its stage knows the answer
-found_known : (d : ℕ) (s : ShowState) (t : Attempt → Bool) (a : Attempt) (w : DeviceAnswer) → Rules s → find t s.live ≡ Some a → device_answer a.answers d ≡ Some w → IsTrue (is_known_in a.stage w.answer)
+found_known : (d : ℕ) (s : ShowState) (t : Attempt → Bool) (a : Attempt) (w : DeviceAnswer) → Rules s
+    → find t s.live ≡ Some a → device_answer a.answers d ≡ Some w → IsTrue (is_known_in a.stage w.answer)
 found_known d s t a w r e g =
     let attempt = found_has is_attempt t s.live a (attempts_of s.live r.live) e in
     let stand = (sound_of a (is_sound-of_attempt a attempt)).stand in
-    (both (is_known_in a.stage w.answer) (not (is_required w && is_excused w.answer)) (found_has (stands a.stage) (λ x. nat_eq x.device d) a.answers w stand g)).0
+    (both (is_known_in a.stage w.answer) (not (is_required w && is_excused w.answer))
+        (found_has (stands a.stage) (λ x. nat_eq x.device d) a.answers w stand g)).0
 
-release_of_fits : (s : ShowState) (d : ℕ) (a : Attempt) → Rules s → attempt_of_device s.live d ≡ Some a → IsTrue (are_acceptable s (on_release_of d a).1)
+release_of_fits : (s : ShowState) (d : ℕ) (a : Attempt) → Rules s → attempt_of_device s.live d ≡ Some a
+    → IsTrue (are_acceptable s (on_release_of d a).1)
 release_of_fits s d a r e = by (device_answer a.answers d) refl
   where
-    by : (o : Option DeviceAnswer) → device_answer a.answers d ≡ o → IsTrue (are_acceptable s (option_map_or (λ x. on_release_in a.seq x a.stage x.answer) o (refused code.NotLive)).1)
+    by : (o : Option DeviceAnswer) → device_answer a.answers d ≡ o
+        → IsTrue (are_acceptable s
+        (option_map_or (λ x. on_release_in a.seq x a.stage x.answer) o (refused code.NotLive)).1)
     by None g = refl
-    by (Some w) g = release_in_fits s (is_of_device d) a w e a.stage w.answer refl (found_told d a w g) (found_known d s (is_of_device d) a w r e g)
+    by (Some w) g = release_in_fits s (is_of_device d) a w e a.stage w.answer refl (found_told d a w g)
+        (found_known d s (is_of_device d) a w r e g)
 
-reply_to_fits : (s : ShowState) (q d : ℕ) (a : Attempt) → Rules s → attempt_of s.live q ≡ Some a → (kind : ReplyKind) → IsTrue (are_acceptable s (on_reply_to kind d a).1)
+reply_to_fits : (s : ShowState) (q d : ℕ) (a : Attempt) → Rules s → attempt_of s.live q ≡ Some a → (kind : ReplyKind)
+    → IsTrue (are_acceptable s (on_reply_to kind d a).1)
 reply_to_fits s q d a r e kind = by (device_answer a.answers d) refl
   where
-    by : (o : Option DeviceAnswer) → device_answer a.answers d ≡ o → IsTrue (are_acceptable s (option_map_or (λ x. on_reply_in kind a.seq x a.stage x.answer) o (refused code.NotPart)).1)
+    by : (o : Option DeviceAnswer) → device_answer a.answers d ≡ o
+        → IsTrue (are_acceptable s
+        (option_map_or (λ x. on_reply_in kind a.seq x a.stage x.answer) o (refused code.NotPart)).1)
     by None g = refl
-    by (Some w) g = reply_in_fits s (has_number q) a w e kind a.stage w.answer refl (found_told d a w g) (found_known d s (has_number q) a w r e g)
+    by (Some w) g = reply_in_fits s (has_number q) a w e kind a.stage w.answer refl (found_told d a w g)
+        (found_known d s (has_number q) a w r e g)
 
 release_fits : (s : ShowState) (d : ℕ) → Rules s → IsTrue (are_acceptable s (on_release s d).1)
 release_fits s d r = by (has_device s.show d) (attempt_of_device s.live d) refl
   where
-    by : (b : Bool) (o : Option Attempt) → attempt_of_device s.live d ≡ o → IsTrue (are_acceptable s (if not b then refused code.NoMethod else option_map_or (on_release_of d) o (refused code.NotLive)).1)
+    by : (b : Bool) (o : Option Attempt) → attempt_of_device s.live d ≡ o
+        → IsTrue (are_acceptable s (if not b then refused code.NoMethod else option_map_or (on_release_of d) o
+        (refused code.NotLive)).1)
     by false o e = refl
     by true None e = refl
     by true (Some a) e = release_of_fits s d a r e
 
-reply_fits : (s : ShowState) (from : ℕ) (kind : ReplyKind) (d q : ℕ) → Rules s → IsTrue (are_acceptable s (on_reply s from kind d q).1)
-reply_fits s from kind d q r = by (has_device s.show d) (is_from_another s d from) (nat_lt s.last_seq q) (attempt_of s.live q) refl
+reply_fits : (s : ShowState) (from : ℕ) (kind : ReplyKind) (d q : ℕ) → Rules s
+    → IsTrue (are_acceptable s (on_reply s from kind d q).1)
+reply_fits s from kind d q r = by (has_device s.show d) (is_from_another s d from) (nat_lt s.last_seq q)
+    (attempt_of s.live q) refl
   where
     by : (b p l : Bool) (o : Option Attempt) → attempt_of s.live q ≡ o
-        → IsTrue (are_acceptable s (if not b then refused code.NoMethod else if p then refused code.WrongPort else if l then refused code.Early else option_map_or (on_reply_to kind d) o (refused code.Stale)).1)
+        → IsTrue (are_acceptable s (if not b then refused code.NoMethod else if p then refused code.WrongPort else if l
+            then refused code.Early else option_map_or (on_reply_to kind d) o (refused code.Stale)).1)
     by false p l o e = refl
     by true true l o e = refl
     by true false true o e = refl
@@ -335,7 +421,8 @@ reply_fits s from kind d q r = by (has_device s.show d) (is_from_another s d fro
 
 -- ---- all commands
 
-pub judgement_of-acceptable : (s : ShowState) (now from : ℕ) (c : Command) → IsTrue (is_state s) → IsTrue (is_fit c) → IsTrue (are_acceptable s (judgement_of s now from c).1)
+pub judgement_of-acceptable : (s : ShowState) (now from : ℕ) (c : Command) → IsTrue (is_state s) → IsTrue (is_fit c)
+    → IsTrue (are_acceptable s (judgement_of s now from c).1)
 judgement_of-acceptable s now from command.Status h fit = refl
 judgement_of-acceptable s now from (command.AddDevice d port) h fit = add_device_fits s d port fit
 judgement_of-acceptable s now from (command.AddCue c parts) h fit = add_cue_fits s c parts fit

@@ -1,5 +1,6 @@
 -- A reply leaves all else as it was.
-use Rattle.std.proofs.Common.{◌≡◌, ◌≢◌, ℕ, List, [], ◌∷◌, refl, sym, ◌∙◌, Bool, true, false, not, ◌&&◌, nat_eq, nat_lt, Option, None, Some}
+use Rattle.std.proofs.Common.{◌≡◌, ◌≢◌, ℕ, List, [], ◌∷◌, refl, sym, ◌∙◌, Bool, true, false, not, ◌&&◌, nat_eq, nat_lt}
+use Rattle.std.proofs.Common.{Option, None, Some}
 use Rattle.std.specs.Prelude.{IsTrue, if◌then◌else◌}
 use Rattle.std.specs.List.{list_all}
 use Rattle.std.specs.Option.{option_map_or}
@@ -56,21 +57,35 @@ leaves_one s q (event.Cue c parts) h = absurd (cc)
 leaves_one s q (event.NoCue c) h = absurd (cc)
 leaves_one s q (event.Place c) h = absurd (cc)
 leaves_one s q (event.Start n c t) h = absurd (cc)
-leaves_one s q (event.Ready n d) h = record { show = refl; last = refl; others = λ p k. attempt_of-after_other s p (event.Ready n d) (other_number n q p h k) }
+leaves_one s q (event.Ready n d) h =
+    record { show = refl; last = refl; others =
+    λ p k. attempt_of-after_other s p (event.Ready n d) (other_number n q p h k) }
 leaves_one s q (event.Go n) h = absurd (cc)
-leaves_one s q (event.Done n d) h = record { show = refl; last = refl; others = λ p k. attempt_of-after_other s p (event.Done n d) (other_number n q p h k) }
-leaves_one s q (event.Cancel n r) h = record { show = refl; last = refl; others = λ p k. attempt_of-after_other s p (event.Cancel n r) (other_number n q p h k) }
-leaves_one s q (event.LetGo n d) h = record { show = refl; last = refl; others = λ p k. attempt_of-after_other s p (event.LetGo n d) (other_number n q p h k) }
-leaves_one s q (event.Failed n d) h = record { show = refl; last = refl; others = λ p k. attempt_of-after_other s p (event.Failed n d) (other_number n q p h k) }
-leaves_one s q (event.Excuse n d) h = record { show = refl; last = refl; others = λ p k. attempt_of-after_other s p (event.Excuse n d) (other_number n q p h k) }
+leaves_one s q (event.Done n d) h =
+    record { show = refl; last = refl; others =
+    λ p k. attempt_of-after_other s p (event.Done n d) (other_number n q p h k) }
+leaves_one s q (event.Cancel n r) h =
+    record { show = refl; last = refl; others =
+    λ p k. attempt_of-after_other s p (event.Cancel n r) (other_number n q p h k) }
+leaves_one s q (event.LetGo n d) h =
+    record { show = refl; last = refl; others =
+    λ p k. attempt_of-after_other s p (event.LetGo n d) (other_number n q p h k) }
+leaves_one s q (event.Failed n d) h =
+    record { show = refl; last = refl; others =
+    λ p k. attempt_of-after_other s p (event.Failed n d) (other_number n q p h k) }
+leaves_one s q (event.Excuse n d) h =
+    record { show = refl; last = refl; others =
+    λ p k. attempt_of-after_other s p (event.Excuse n d) (other_number n q p h k) }
 
-leaves_all : (q : ℕ) (es : List Event) (s : ShowState) → IsTrue (list_all (of_reply q) es) → LeavesOthers q s (after_events s es)
+leaves_all : (q : ℕ) (es : List Event) (s : ShowState) → IsTrue (list_all (of_reply q) es)
+    → LeavesOthers q s (after_events s es)
 leaves_all q [] s h = record { show = refl; last = refl; others = λ p k. refl }
 leaves_all q (e ∷ es) s h =
     let p = both (of_reply q e) (list_all (of_reply q) es) h in
     let first = leaves_one s q e p.0 in
     let rest = leaves_all q es (after s e) p.1 in
-    record { show = rest.show ∙ first.show; last = rest.last ∙ first.last; others = λ n k. rest.others n k ∙ first.others n k }
+    record { show = rest.show ∙ first.show; last = rest.last ∙ first.last; others = λ n k. rest.others n k
+        ∙ first.others n k }
 
 itself : (q : ℕ) → IsTrue (nat_eq q q && true)
 itself q = join (nat_eq q q) true (same_self q) refl
@@ -78,16 +93,21 @@ itself q = join (nat_eq q q) true (same_self q) refl
 itself_twice : (q : ℕ) → IsTrue (nat_eq q q && (nat_eq q q && true))
 itself_twice q = join (nat_eq q q) (nat_eq q q && true) (same_self q) (itself q)
 
-early_of : (q : ℕ) (d : DeviceAnswer) (b : Bool) → IsTrue (list_all (of_reply q) (if b then made (event.Excuse q d.device ∷ []) else made (event.Cancel q Abort ∷ event.Failed q d.device ∷ [])).1)
+early_of : (q : ℕ) (d : DeviceAnswer) (b : Bool)
+    → IsTrue (list_all (of_reply q)
+    (if b then made (event.Excuse q d.device ∷ []) else made (event.Cancel q Abort ∷ event.Failed q d.device ∷ [])).1)
 early_of q d true = itself q
 early_of q d false = itself_twice q
 
-late_of : (q : ℕ) (d : DeviceAnswer) (b : Bool) → IsTrue (list_all (of_reply q) (if b then made (event.LetGo q d.device ∷ []) else made (event.Failed q d.device ∷ [])).1)
+late_of : (q : ℕ) (d : DeviceAnswer) (b : Bool)
+    → IsTrue (list_all (of_reply q)
+    (if b then made (event.LetGo q d.device ∷ []) else made (event.Failed q d.device ∷ [])).1)
 late_of q d true = itself q
 late_of q d false = itself q
 
 -- each cell of the table makes events of the attempt alone
-cell_of : (kind : ReplyKind) (q : ℕ) (d : DeviceAnswer) (stage : Stage) (x : Answer) → IsTrue (list_all (of_reply q) (on_reply_in kind q d stage x).1)
+cell_of : (kind : ReplyKind) (q : ℕ) (d : DeviceAnswer) (stage : Stage) (x : Answer)
+    → IsTrue (list_all (of_reply q) (on_reply_in kind q d stage x).1)
 cell_of reply.StandingBy q d Preparing answer.Waiting = itself q
 cell_of reply.StandingBy q d Preparing answer.Ready = refl
 cell_of reply.StandingBy q d Preparing answer.Done = refl
@@ -161,23 +181,32 @@ cell_of reply.Abort q d (Cancelling r) answer.LetGo = refl
 cell_of reply.Abort q d (Cancelling r) answer.Failed = refl
 cell_of reply.Abort q d (Cancelling r) answer.Excused = refl
 
-to_attempt : (kind : ReplyKind) (d q : ℕ) (a : Attempt) → a.seq ≡ q → IsTrue (list_all (of_reply q) (on_reply_to kind d a).1)
+to_attempt : (kind : ReplyKind) (d q : ℕ) (a : Attempt) → a.seq ≡ q
+    → IsTrue (list_all (of_reply q) (on_reply_to kind d a).1)
 to_attempt kind d q a e = rw (← e) (at (device_answer a.answers d))
   where
-    at : (o : Option DeviceAnswer) → IsTrue (list_all (of_reply a.seq) (option_map_or (λ x. on_reply_in kind a.seq x a.stage x.answer) o (refused code.NotPart)).1)
+    at : (o : Option DeviceAnswer)
+        → IsTrue (list_all (of_reply a.seq)
+        (option_map_or (λ x. on_reply_in kind a.seq x a.stage x.answer) o (refused code.NotPart)).1)
     at None = refl
     at (Some x) = cell_of kind a.seq x a.stage x.answer
 
-of_attempt : (s : ShowState) (r : Said) → IsTrue (list_all (of_reply r.number) (on_reply s r.from r.kind r.device r.number).1)
-of_attempt s r = at (has_device s.show r.device) (is_from_another s r.device r.from) (nat_lt s.last_seq r.number) (attempt_of s.live r.number) refl
+of_attempt : (s : ShowState) (r : Said)
+    → IsTrue (list_all (of_reply r.number) (on_reply s r.from r.kind r.device r.number).1)
+of_attempt s r = at (has_device s.show r.device) (is_from_another s r.device r.from) (nat_lt s.last_seq r.number)
+    (attempt_of s.live r.number) refl
   where
     at : (b p l : Bool) (o : Option Attempt) → attempt_of s.live r.number ≡ o
-        → IsTrue (list_all (of_reply r.number) (if not b then refused code.NoMethod else if p then refused code.WrongPort else if l then refused code.Early else option_map_or (on_reply_to r.kind r.device) o (refused code.Stale)).1)
+        → IsTrue (list_all (of_reply r.number)
+            (if not b then refused code.NoMethod else if p then refused code.WrongPort else if l then refused code.Early
+            else option_map_or (on_reply_to r.kind r.device) o (refused code.Stale)).1)
     at false p l o e = refl
     at true true l o e = refl
     at true false true o e = refl
     at true false false None e = refl
-    at true false false (Some a) e = to_attempt r.kind r.device r.number a (same_number a.seq r.number (found_passes (has_number r.number) s.live a e))
+    at true false false (Some a) e =
+        to_attempt r.kind r.device r.number a
+        (same_number a.seq r.number (found_passes (has_number r.number) s.live a e))
 
 pub replies-leave-others : RepliesLeaveOthers
 replies-leave-others s r h = leaves_all r.number (on_reply s r.from r.kind r.device r.number).1 s (of_attempt s r)

@@ -18,7 +18,8 @@ steps-acceptable s now from (c ∷ cs) h f =
     let w = both (is_fit c) (list_all is_fit cs) f in
     let made : List Event = (judgement_of s now from c).1 in
     let ok = judgement_of-acceptable s now from c h w.0 in
-    acceptable-append s made (events_of (steps (after_events s made) now from cs)) ok (steps-acceptable (after_events s made) now from cs (is_state-after_events s made h ok) w.1)
+    acceptable-append s made (events_of (steps (after_events s made) now from cs)) ok
+        (steps-acceptable (after_events s made) now from cs (is_state-after_events s made h ok) w.1)
 
 pub steps-go-on : StepsGoOn
 steps-go-on s now from [] others = refl
@@ -26,7 +27,8 @@ steps-go-on s now from (c ∷ cs) others =
     let made : List Event = (judgement_of s now from c).1 in
     ap (λ xs. step_of s now from c ∷ xs)
     (steps-go-on (after_events s made) now from cs others
-    ∙ ap (λ t. steps (after_events s made) now from cs ++ steps t now from others) (sym (after_events-append s made (events_of (steps (after_events s made) now from cs)))))
+    ∙ ap (λ t. steps (after_events s made) now from cs ++ steps t now from others)
+        (sym (after_events-append s made (events_of (steps (after_events s made) now from cs)))))
 
 pub steps-make-histories : StepsMakeHistories
 steps-make-histories before now from [] = refl

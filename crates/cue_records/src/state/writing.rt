@@ -84,7 +84,7 @@ pub(crate) fn put_live(out: &mut Vec<u8>, live: &Live) -> Result<(), AllocError>
     put_attempts(out, live.as_slice())
 }
 
-#[tactic(auto, using(crate::proofs::Ranges::live_short))]
+#[tactic(auto, using(crate::proofs::RangeLemmas::live_short))]
 fn live_count(live: &Live) -> u8
     ensures { result ≡ length live.now }
 {

@@ -7,4 +7,5 @@ use Rattle.cue_copies.proofs.copying.bytes_of.Goals as goal
 pub read_grown-requires-in-loop-clause-front : goal.read_grown-requires-in-loop-clause-front
 read_grown-requires-in-loop-clause-front g c = λ honest.
     let then = c.loop.invariant.honest.0 honest in
-    front_of c.loop.bytes.items (g.D.Disk.held c.loop.disk).bytes AREA_LIMIT (c.loop.invariant.copy then ∙ ap copy_of (sym (c.loop.invariant.kept then)))
+    front_of c.loop.bytes.items (g.D.Disk.held c.loop.disk).bytes AREA_LIMIT (c.loop.invariant.copy then
+        ∙ ap copy_of (sym (c.loop.invariant.kept then)))

@@ -5,4 +5,5 @@ use Rattle.cue_device.specs.Histories.{answers_of, orders_of, unfinished}
 use Rattle.cue_device.proofs.laws.numbers_rise.Goals as goal
 
 pub returns : goal.returns
-returns c = λ d over h hs o k e. numbers_rise o (orders_of (rested d over) hs) (answers_of (rested d over) hs) (unfinished (rested d over) hs) (all_lawful d over h hs o k e)
+returns c = λ d over h hs o k e. numbers_rise o (orders_of (rested d over) hs) (answers_of (rested d over) hs)
+    (unfinished (rested d over) hs) (all_lawful d over h hs o k e)

@@ -1,4 +1,4 @@
-use Rattle.cue_disk.proofs.Crash.{image_stable}
+use Rattle.cue_disk.proofs.CrashLemmas.{image_stable}
 use Rattle.cue_disk.proofs.laws.stable_leaves_what_is_read.Goals as goal
 
 pub returns : goal.returns

@@ -1,4 +1,4 @@
-use Rattle.cue_disk.proofs.Crash.{stop_within_a_write}
+use Rattle.cue_disk.proofs.CrashLemmas.{stop_within_a_write}
 use Rattle.cue_disk.proofs.laws.stop_within_a_write.Goals as goal
 
 pub returns : goal.returns

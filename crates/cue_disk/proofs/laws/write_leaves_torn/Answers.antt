@@ -1,4 +1,4 @@
-use Rattle.cue_disk.proofs.Crash.{image_torn}
+use Rattle.cue_disk.proofs.CrashLemmas.{image_torn}
 use Rattle.cue_disk.proofs.laws.write_leaves_torn.Goals as goal
 
 pub returns : goal.returns

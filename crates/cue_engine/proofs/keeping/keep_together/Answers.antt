@@ -1,8 +1,8 @@
 use Rattle.std.proofs.Common.{refl, sym, ◌∙◌, ap}
 use Rattle.cue_keeper.specs.declared.fault.Fault.TheVariants as fault
 use Rattle.cue_keeper.specs.Observed.{state_of, pair_of}
-use Rattle.cue_keeper.proofs.CommittedTogether.{memory_together, refuses_together}
-use Rattle.cue_engine.proofs.Assembled.{in_step_all}
+use Rattle.cue_keeper.proofs.CommittedTogetherLemmas.{memory_together, refuses_together}
+use Rattle.cue_engine.proofs.AssembledLemmas.{in_step_all}
 use Rattle.cue_engine.proofs.keeping.keep_together.Goals as goal
 
 -- no call was made
@@ -11,7 +11,8 @@ returns-in_err-push_all-clause-accepts g c =
     let old = c.args.keeper.now in
     let bs = c.args.offered.group in
     refuses_together bs c.from_residual.result fault.Memory old old c.from_residual.ensures.1 refl
-    (memory_together (state_of old) bs (pair_of old) g.met.D.Disk.held_now (λ h k. c.is_broken-broken.ensures.stands h k c.requires.works) c.requires.works)
+    (memory_together (state_of old) bs (pair_of old) g.met.D.Disk.held_now
+        (λ h k. c.is_broken-broken.ensures.stands h k c.requires.works) c.requires.works)
 
 pub returns-in-Ok-clause-accepts : goal.returns-in-Ok-clause-accepts
 returns-in-Ok-clause-accepts g c = c.in-Ok.ensures.accepts

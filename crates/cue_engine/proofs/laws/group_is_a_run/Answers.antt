@@ -1,4 +1,4 @@
-use Rattle.cue_engine.proofs.Groups.{is_a_run}
+use Rattle.cue_engine.proofs.GroupLemmas.{is_a_run}
 use Rattle.cue_engine.proofs.laws.group_is_a_run.Goals as goal
 
 pub returns : goal.returns

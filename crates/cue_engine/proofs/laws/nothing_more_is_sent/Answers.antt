@@ -1,4 +1,4 @@
-use Rattle.cue_engine.proofs.NothingMore.{nothing_more_is_sent as law}
+use Rattle.cue_engine.proofs.NothingMoreLemmas.{nothing_more_is_sent as law}
 use Rattle.cue_engine.proofs.laws.nothing_more_is_sent.Goals as goal
 
 pub returns : goal.returns

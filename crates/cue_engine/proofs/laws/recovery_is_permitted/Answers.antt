@@ -1,4 +1,4 @@
-use Rattle.cue_engine.proofs.Permitted.{recovery as law}
+use Rattle.cue_engine.proofs.PermittedLemmas.{recovery as law}
 use Rattle.cue_engine.proofs.laws.recovery_is_permitted.Goals as goal
 
 pub returns : goal.returns

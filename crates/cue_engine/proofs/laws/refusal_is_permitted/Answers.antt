@@ -1,4 +1,4 @@
-use Rattle.cue_engine.proofs.Permitted.{refusal as law}
+use Rattle.cue_engine.proofs.PermittedLemmas.{refusal as law}
 use Rattle.cue_engine.proofs.laws.refusal_is_permitted.Goals as goal
 
 pub returns : goal.returns

@@ -1,4 +1,4 @@
-use Rattle.cue_engine.proofs.Permitted.{stop_in_form as law}
+use Rattle.cue_engine.proofs.PermittedLemmas.{stop_in_form as law}
 use Rattle.cue_engine.proofs.laws.stop_in_form_is_permitted.Goals as goal
 
 pub returns : goal.returns

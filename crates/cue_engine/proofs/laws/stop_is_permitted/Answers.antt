@@ -1,4 +1,4 @@
-use Rattle.cue_engine.proofs.Permitted.{stop as law}
+use Rattle.cue_engine.proofs.PermittedLemmas.{stop as law}
 use Rattle.cue_engine.proofs.laws.stop_is_permitted.Goals as goal
 
 pub returns : goal.returns

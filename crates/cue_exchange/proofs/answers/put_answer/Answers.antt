@@ -6,5 +6,6 @@ use Rattle.cue_exchange.proofs.answers.put_answer.Goals as goal
 pub loop-item-preserved : goal.loop-item-preserved
 loop-item-preserved c =
     rw (c.answer_for.ensures, ← c.item-item.is)
-    (map_over_more (answers_with c.args.device c.args.answer) c.deref_mut-item-items.result.now c.loop-item.item-items c.loop-item.item-index c.item-item.result
+    (map_over_more (answers_with c.args.device c.args.answer) c.deref_mut-item-items.result.now c.loop-item.item-items
+        c.loop-item.item-index c.item-item.result
     (omega arith) c.loop-item.invariant c.item-item.is)

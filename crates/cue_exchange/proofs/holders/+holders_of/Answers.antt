@@ -1,4 +1,4 @@
-use Rattle.cue_exchange.proofs.HolderRules.{holders-none}
+use Rattle.cue_exchange.proofs.HolderLemmas.{holders-none}
 use Rattle.cue_exchange.proofs.holders.+holders_of.Goals as goal
 
 pub returns-in-empty : goal.returns-in-empty

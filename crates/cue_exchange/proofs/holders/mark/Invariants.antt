@@ -5,4 +5,6 @@ use Rattle.cue_exchange.proofs.holders.mark.Given as goal
 
 -- the devices so far are in the attempt, and each other one is where it was
 abbrev pub invariant-loop-item : goal.invariant-loop-item
-invariant-loop-item l = (d : ℕ) → d ≤ MAX_DEVICE_NUMBER → slice_index l.holders d ≡ (if is_one_of d (take l.item-index l.items) then l.seq else slice_index l.initial.holders d)
+invariant-loop-item l = (d : ℕ) → d ≤ MAX_DEVICE_NUMBER
+    → slice_index l.holders d ≡ (if is_one_of d (take l.item-index l.items) then l.seq else slice_index
+    l.initial.holders d)

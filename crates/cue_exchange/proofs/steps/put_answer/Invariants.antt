@@ -4,4 +4,5 @@ use Rattle.cue_exchange.proofs.steps.put_answer.Given as goal
 
 abbrev pub invariant-loop-attempt : goal.invariant-loop-attempt
 invariant-loop-attempt l =
-    l.attempt-items ≡ map (changed l.seq (answers_as l.device l.answer)) (take l.attempt-index l.initial.attempt-items) ++ drop l.attempt-index l.initial.attempt-items
+    l.attempt-items ≡ map (changed l.seq (answers_as l.device l.answer)) (take l.attempt-index l.initial.attempt-items)
+        ++ drop l.attempt-index l.initial.attempt-items

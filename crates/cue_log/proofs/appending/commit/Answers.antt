@@ -1,7 +1,7 @@
 use Rattle.std.proofs.Common.{◌≤◌, ◌∙◌, ℕ, subst}
 use Rattle.cue_disk.specs.Disk.{MoreFailures, CountsFailure}
 use Rattle.cue_log.specs.Reading.{payloads_in}
-use Rattle.cue_log.proofs.Appended.{body_leaves, sync_leaves, gate_leaves, done, failed}
+use Rattle.cue_log.proofs.AppendedLemmas.{body_leaves, sync_leaves, gate_leaves, done, failed}
 use Rattle.cue_log.proofs.appending.commit.Goals as goal
 
 pub returns-in_err-write_at : goal.returns-in_err-write_at
@@ -11,8 +11,10 @@ returns-in_err-write_at g c =
     let text = c.args.text.now in
     let old = c.args.disk.now in
     record {
-      writes = failed d (payloads_in text) c.from_residual.result c.args.end old c.write_at.new.self c.from_residual.ensures.0
-          (λ honest. body_leaves d text c.args.end r.framed r.some r.room old (r.settled honest) (g.met.D.Disk.held_now old honest)
+      writes = failed d (payloads_in text) c.from_residual.result c.args.end old c.write_at.new.self
+          c.from_residual.ensures.0
+          (λ honest. body_leaves d text c.args.end r.framed r.some r.room old (r.settled honest)
+              (g.met.D.Disk.held_now old honest)
           c.write_at.new.self (c.write_at.ensures.crash honest) (c.write_at.ensures.time honest))
           c.in_err-write_at.ensures.count c.write_at.ensures.honest;
     }
@@ -25,14 +27,17 @@ returns-in_err-sync g c =
     let old = c.args.disk.now in
     let new = c.sync.new.self in
     record {
-      writes = failed d (payloads_in text) c.from_residual-in_err-sync.result c.args.end old new c.from_residual-in_err-sync.ensures.0
+      writes = failed d (payloads_in text) c.from_residual-in_err-sync.result c.args.end old new
+          c.from_residual-in_err-sync.ensures.0
           (λ honest.
           let honest1 = c.write_at.ensures.honest.1 honest in
           sync_leaves d text c.args.end r.framed r.some r.room old (r.settled honest) (g.met.D.Disk.held_now old honest)
           c.write_at.new.self (c.write_at.ensures.crash honest) (c.write_at.ensures.time honest)
           new (c.sync.ensures.crash honest1) (c.sync.ensures.time honest1))
-          (subst (λ (n : ℕ). MoreFailures n (d.failures new) × (n ≤ d.failures new)) c.in_ok-write_at.ensures.count c.in_err-sync.ensures.count)
-          (λ honest. c.write_at.ensures.honest.0 (c.sync.ensures.honest.0 honest), λ honest. c.sync.ensures.honest.1 (c.write_at.ensures.honest.1 honest));
+          (subst (λ (n : ℕ). MoreFailures n (d.failures new) × (n ≤ d.failures new)) c.in_ok-write_at.ensures.count
+              c.in_err-sync.ensures.count)
+          (λ honest. c.write_at.ensures.honest.0 (c.sync.ensures.honest.0 honest), λ honest. c.sync.ensures.honest.1
+              (c.write_at.ensures.honest.1 honest));
     }
 
 pub returns-in_err-write_at-2 : goal.returns-in_err-write_at-2
@@ -43,16 +48,21 @@ returns-in_err-write_at-2 g c =
     let old = c.args.disk.now in
     let new = c.write_at-2.new.self in
     record {
-      writes = failed d (payloads_in text) c.from_residual-in_err-write_at-2.result c.args.end old new c.from_residual-in_err-write_at-2.ensures.0
+      writes = failed d (payloads_in text) c.from_residual-in_err-write_at-2.result c.args.end old new
+          c.from_residual-in_err-write_at-2.ensures.0
           (λ honest.
           let honest1 = c.write_at.ensures.honest.1 honest in
           let honest2 = c.sync.ensures.honest.1 honest1 in
           gate_leaves d text c.args.end r.framed r.some r.room old (r.settled honest) (g.met.D.Disk.held_now old honest)
           c.write_at.new.self (c.write_at.ensures.crash honest) (c.write_at.ensures.time honest)
           c.sync.new.self (c.sync.ensures.crash honest1) (c.sync.ensures.time honest1)
-          new (c.in_ok-write_at.ensures.written honest) (c.sync.ensures.bytes honest1) (c.in_ok-sync.ensures.stable honest1) (c.write_at-2.ensures.crash honest2) (c.write_at-2.ensures.time honest2))
-          (subst (λ (n : ℕ). MoreFailures n (d.failures new) × (n ≤ d.failures new)) (c.in_ok-sync.ensures.count ∙ c.in_ok-write_at.ensures.count) c.in_err-write_at-2.ensures.count)
-          (λ honest. c.write_at.ensures.honest.0 (c.sync.ensures.honest.0 (c.write_at-2.ensures.honest.0 honest)), λ honest. c.write_at-2.ensures.honest.1 (c.sync.ensures.honest.1 (c.write_at.ensures.honest.1 honest)));
+          new (c.in_ok-write_at.ensures.written honest) (c.sync.ensures.bytes honest1)
+              (c.in_ok-sync.ensures.stable honest1) (c.write_at-2.ensures.crash honest2)
+              (c.write_at-2.ensures.time honest2))
+          (subst (λ (n : ℕ). MoreFailures n (d.failures new) × (n ≤ d.failures new)) (c.in_ok-sync.ensures.count
+              ∙ c.in_ok-write_at.ensures.count) c.in_err-write_at-2.ensures.count)
+          (λ honest. c.write_at.ensures.honest.0 (c.sync.ensures.honest.0 (c.write_at-2.ensures.honest.0 honest)),
+              λ honest. c.write_at-2.ensures.honest.1 (c.sync.ensures.honest.1 (c.write_at.ensures.honest.1 honest)));
     }
 
 pub returns : goal.returns
@@ -69,9 +79,11 @@ returns g c =
     done d text c.args.end r.framed r.some r.room old (r.settled honest) (g.met.D.Disk.held_now old honest)
     c.write_at.new.self (c.write_at.ensures.crash honest) (c.write_at.ensures.time honest)
     c.sync.new.self (c.sync.ensures.crash honest1) (c.sync.ensures.time honest1)
-    c.write_at-2.new.self (c.in_ok-write_at.ensures.written honest) (c.sync.ensures.bytes honest1) (c.in_ok-sync.ensures.stable honest1) (c.write_at-2.ensures.crash honest2) (c.write_at-2.ensures.time honest2)
+    c.write_at-2.new.self (c.in_ok-write_at.ensures.written honest) (c.sync.ensures.bytes honest1)
+        (c.in_ok-sync.ensures.stable honest1) (c.write_at-2.ensures.crash honest2) (c.write_at-2.ensures.time honest2)
     new (c.sync-2.ensures.crash honest3) (c.sync-2.ensures.time honest3)
-    (c.in_ok-write_at-2.ensures.written honest2) (c.sync-2.ensures.bytes honest3) c.sync-2.result (c.sync-2.ensures.stable honest3) in
+    (c.in_ok-write_at-2.ensures.written honest2) (c.sync-2.ensures.bytes honest3) c.sync-2.result
+        (c.sync-2.ensures.stable honest3) in
     record {
       writes = record {
         any_moment = λ honest. (all honest).any_moment;
@@ -79,10 +91,13 @@ returns g c =
         settled = λ honest. (all honest).settled;
         bytes = λ honest. (all honest).bytes;
         count =
-            subst (λ (n : ℕ). CountsFailure c.sync-2.result n (d.failures new)) (c.in_ok-write_at-2.ensures.count ∙ c.in_ok-sync.ensures.count ∙ c.in_ok-write_at.ensures.count) c.sync-2.ensures.count;
+            subst (λ (n : ℕ). CountsFailure c.sync-2.result n (d.failures new)) (c.in_ok-write_at-2.ensures.count
+                ∙ c.in_ok-sync.ensures.count ∙ c.in_ok-write_at.ensures.count) c.sync-2.ensures.count;
         honest = (
-          λ honest. c.write_at.ensures.honest.0 (c.sync.ensures.honest.0 (c.write_at-2.ensures.honest.0 (c.sync-2.ensures.honest.0 honest))),
-          λ honest. c.sync-2.ensures.honest.1 (c.write_at-2.ensures.honest.1 (c.sync.ensures.honest.1 (c.write_at.ensures.honest.1 honest))),
+          λ honest. c.write_at.ensures.honest.0
+              (c.sync.ensures.honest.0 (c.write_at-2.ensures.honest.0 (c.sync-2.ensures.honest.0 honest))),
+          λ honest. c.sync-2.ensures.honest.1
+              (c.write_at-2.ensures.honest.1 (c.sync.ensures.honest.1 (c.write_at.ensures.honest.1 honest))),
         );
       };
     }

@@ -1,8 +1,8 @@
 use Rattle.std.proofs.Common.{List, ℕ, sym, subst, length}
 use Rattle.cue_log.specs.Area.{IsArea}
 use Rattle.cue_log.specs.Parts.{parts_area}
-use Rattle.cue_log.proofs.Texts.{longer_reads}
-use Rattle.cue_log.proofs.Sound.{front_missing}
+use Rattle.cue_log.proofs.TextLemmas.{longer_reads}
+use Rattle.cue_log.proofs.SoundLemmas.{front_missing}
 use Rattle.cue_log.proofs.fetching.read_area.Goals as goal
 
 pub returns-in-Some-clause-stood : goal.returns-in-Some-clause-stood
@@ -18,4 +18,5 @@ returns-in-Some-clause-few g c = rw c.in-Some.is at c.in_ok-parts.ensures.few
 pub returns-clause-damaged : goal.returns-clause-damaged
 returns-clause-damaged g c = λ honest damaged.
     let none = rw (c.in-None.is, c.deref.ensures.value) at c.in_ok-parts.ensures.area in
-    front_missing c.in_ok-text.text.items (g.D.Disk.held c.args.disk.now).bytes (c.in_ok-text.ensures.front honest) (sym none)
+    front_missing c.in_ok-text.text.items (g.D.Disk.held c.args.disk.now).bytes (c.in_ok-text.ensures.front honest)
+        (sym none)

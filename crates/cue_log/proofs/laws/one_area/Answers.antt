@@ -1,4 +1,4 @@
-use Rattle.cue_log.proofs.Complete.{unique}
+use Rattle.cue_log.proofs.CompleteLemmas.{unique}
 use Rattle.cue_log.proofs.laws.one_area.Goals as goal
 
 pub returns : goal.returns

@@ -1,4 +1,4 @@
-use Rattle.cue_log.proofs.Complete.{complete}
+use Rattle.cue_log.proofs.CompleteLemmas.{complete}
 use Rattle.cue_log.proofs.laws.reader_finds_each.Goals as goal
 
 pub returns : goal.returns

@@ -1,4 +1,4 @@
-use Rattle.cue_osc.proofs.Addresses.{packet_addresses}
+use Rattle.cue_osc.proofs.AddressLemmas.{packet_addresses}
 use Rattle.cue_osc.proofs.laws.messages_have_addresses.Goals as goal
 
 pub returns : goal.returns

@@ -1,6 +1,6 @@
 use Rattle.std.proofs.Common.{sym, ◌∙◌}
-use Rattle.cue_osc.proofs.Fields.{ok_is}
-use Rattle.cue_osc.proofs.Packets.{datagram_again}
+use Rattle.cue_osc.proofs.FieldLemmas.{ok_is}
+use Rattle.cue_osc.proofs.PacketLemmas.{datagram_again}
 use Rattle.cue_osc.proofs.laws.one_packet.Goals as goal
 
 pub returns : goal.returns

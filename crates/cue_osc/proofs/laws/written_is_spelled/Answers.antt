@@ -1,4 +1,4 @@
-use Rattle.cue_osc.proofs.Written.{text_spells}
+use Rattle.cue_osc.proofs.WrittenLemmas.{text_spells}
 use Rattle.cue_osc.proofs.laws.written_is_spelled.Goals as goal
 
 pub returns : goal.returns

@@ -2,9 +2,9 @@ use Rattle.std.proofs.Common.{◌≡◌, length, sym, subst}
 use Rattle.cue_osc.specs.Content.{view}
 use Rattle.cue_osc.specs.Spelling.{Spells}
 use Rattle.cue_osc.specs.Writing.{text_of}
-use Rattle.cue_osc.proofs.Packets.{datagram_again}
-use Rattle.cue_osc.proofs.Room.{room-some}
-use Rattle.cue_osc.proofs.Written.{text_spells}
+use Rattle.cue_osc.proofs.PacketLemmas.{datagram_again}
+use Rattle.cue_osc.proofs.RoomLemmas.{room-some}
+use Rattle.cue_osc.proofs.WrittenLemmas.{text_spells}
 use Rattle.cue_osc.proofs.writing.write.Goals as goal
 use Rattle.cue_osc.specs.declared.limits.TheConstants.{MAX_LEN}
 

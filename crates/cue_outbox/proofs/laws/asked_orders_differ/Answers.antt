@@ -1,4 +1,4 @@
-use Rattle.cue_outbox.proofs.Newly.{asked-orders-differ}
+use Rattle.cue_outbox.proofs.NewlyPendingLemmas.{asked-orders-differ}
 use Rattle.cue_outbox.proofs.laws.asked_orders_differ.Goals as goal
 
 pub returns : goal.returns

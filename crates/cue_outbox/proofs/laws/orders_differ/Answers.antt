@@ -1,4 +1,4 @@
-use Rattle.cue_outbox.proofs.Apart.{orders-differ}
+use Rattle.cue_outbox.proofs.ApartLemmas.{orders-differ}
 use Rattle.cue_outbox.proofs.laws.orders_differ.Goals as goal
 
 pub returns : goal.returns

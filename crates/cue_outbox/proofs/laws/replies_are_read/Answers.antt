@@ -1,4 +1,4 @@
-use Rattle.cue_outbox.proofs.ReadBack.{replies-are-read}
+use Rattle.cue_outbox.proofs.ReadBackLemmas.{replies-are-read}
 use Rattle.cue_outbox.proofs.laws.replies_are_read.Goals as goal
 
 pub returns : goal.returns

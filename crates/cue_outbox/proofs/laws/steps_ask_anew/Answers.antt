@@ -1,4 +1,4 @@
-use Rattle.cue_outbox.proofs.Newly.{steps-ask-anew}
+use Rattle.cue_outbox.proofs.NewlyPendingLemmas.{steps-ask-anew}
 use Rattle.cue_outbox.proofs.laws.steps_ask_anew.Goals as goal
 
 pub returns : goal.returns

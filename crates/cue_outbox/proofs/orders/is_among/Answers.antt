@@ -1,6 +1,6 @@
 use Rattle.std.proofs.Common.{◌≡◌, ◌∙◌, rules}
 use Rattle.std.specs.Prelude.{is_ok}
-use Rattle.cue_outbox.proofs.Numbers.{found-among}
+use Rattle.cue_outbox.proofs.NumberLemmas.{found-among}
 use Rattle.cue_outbox.proofs.orders.is_among.Goals as goal
 
 pub returns : goal.returns

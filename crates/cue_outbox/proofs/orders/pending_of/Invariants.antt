@@ -7,4 +7,5 @@ use Rattle.cue_outbox.proofs.orders.pending_of.Given as goal
 
 -- what was found, and the orders of the attempts that are left, are all
 abbrev pub invariant-loop-attempt : goal.invariant-loop-attempt
-invariant-loop-attempt l = outs_view l.asked.items ++ datagrams_of l.state l.numbers (drop l.attempt-index l.state.live) ≡ datagrams (pending_of l.numbers l.state)
+invariant-loop-attempt l = outs_view l.asked.items ++ datagrams_of l.state l.numbers (drop l.attempt-index l.state.live)
+    ≡ datagrams (pending_of l.numbers l.state)

@@ -1,10 +1,12 @@
 use Rattle.std.proofs.Common.{arith}
-use Rattle.cue_records.proofs.Taking.{bytes_from}
-use Rattle.cue_records.proofs.BatchLaws.{is_found, is_only}
+use Rattle.cue_records.proofs.TakingLemmas.{bytes_from}
+use Rattle.cue_records.proofs.BatchLemmas.{is_found, is_only}
 use Rattle.cue_records.proofs.batch.read_batch.Goals as goal
 
 pub returns-clause-found : goal.returns-clause-found
-returns-clause-found c = is_found c.args.bytes.now c.batch_of.result (bytes_from c.args.bytes.now (λ i. omega (arith, c.type_inv.bytes i))) c.batch_of.ensures
+returns-clause-found c =
+    is_found c.args.bytes.now c.batch_of.result (bytes_from c.args.bytes.now (λ i. omega (arith, c.type_inv.bytes i)))
+    c.batch_of.ensures
 
 pub returns-clause-only : goal.returns-clause-only
 returns-clause-only c = is_only c.args.bytes.now c.batch_of.result c.batch_of.ensures

@@ -1,4 +1,4 @@
-use Rattle.cue_records.proofs.Longest.{state_short}
+use Rattle.cue_records.proofs.LongestLemmas.{state_short}
 use Rattle.cue_records.proofs.laws.state_texts_are_bounded.Goals as goal
 
 pub returns : goal.returns

@@ -1,4 +1,4 @@
-use Rattle.cue_records.proofs.StateLaws.{texts_differ}
+use Rattle.cue_records.proofs.StateLemmas.{texts_differ}
 use Rattle.cue_records.proofs.laws.state_texts_differ.Goals as goal
 
 pub returns : goal.returns

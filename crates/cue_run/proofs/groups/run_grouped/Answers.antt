@@ -15,7 +15,8 @@ returns-in-Err g c =
     let works = begins (keeper_of old) (keeper_of new) same c.state-state.ensures.stands in record {
       ran = record {
         mid = left;
-        taken = begun BUFFER left (state_of old) (state_of new) (queue_of old) (g.W.Wire.told c.args.wire.now) (g.W.Wire.told c.hand_out-unsent.new.wire) c.hand_out-unsent.result
+        taken = begun BUFFER left (state_of old) (state_of new) (queue_of old) (g.W.Wire.told c.args.wire.now)
+            (g.W.Wire.told c.hand_out-unsent.new.wire) c.hand_out-unsent.result
             (omega (arith, c.hand_out-unsent.type_inv)) state c.hand_out-unsent.ensures.handed;
         why = inl (inl (refl, refl, refl, same));
         at_most = omega arith;

@@ -6,9 +6,9 @@ use Rattle.cue_keeper.specs.declared.fault.Fault.TheVariants.{Disk}
 use Rattle.cue_run.specs.declared.turns.RunFault.TheVariants as fault
 use Rattle.cue_run.specs.declared.groups.offering.Stop.TheVariants as stop
 use Rattle.cue_run.specs.Grouping.{HasRound}
-use Rattle.cue_run.proofs.GroupWork.{works_join}
+use Rattle.cue_run.proofs.GroupWorkLemmas.{works_join}
 use Rattle.cue_run.proofs.RunLemmas.{begun, still}
-use Rattle.cue_run.proofs.Rounds.{round_more, round_last}
+use Rattle.cue_run.proofs.RoundLemmas.{round_more, round_last}
 use Rattle.cue_run.proofs.WorkLemmas.{begins}
 use Rattle.cue_run.proofs.groups.run_rounds.Goals as goal
 
@@ -21,17 +21,20 @@ loop-taken-init g c =
     let handed = c.hand_out-unsent in
     let same : keeper_of new ≡ keeper_of old = handed.ensures.keeper ∙ c.withdraw.ensures.keeper in
     let state : state_of new ≡ state_of old = ap kept.state_of same in (
-      still (length c.args.buffer.now) left left (state_of old) (state_of new) (state_of new) (queue_of old) (told c.args.wire.now)
+      still (length c.args.buffer.now) left left (state_of old) (state_of new) (state_of new) (queue_of old)
+          (told c.args.wire.now)
           (told handed.new.wire) (told c.look.new.wire) 0 handed.result
           (begun (length c.args.buffer.now) left (state_of old) (state_of new) (queue_of old) (told c.args.wire.now)
           (told handed.new.wire) handed.result (omega (arith, handed.type_inv)) state
-          (subst (λ (owed : List (ℕ × List ℕ)). AllHanded (told c.args.wire.now) owed handed.result (told handed.new.wire)) c.withdraw.ensures.queue handed.ensures.handed))
+          (subst (λ (owed : List (ℕ × List ℕ)). AllHanded (told c.args.wire.now) owed handed.result
+              (told handed.new.wire)) c.withdraw.ensures.queue handed.ensures.handed))
           refl c.look.ensures.told,
       refl,
       refl,
       omega arith,
       handed.ensures.emptied,
-      record { batches = handed.ensures.offered.0 ∙ c.withdraw.ensures.dropped.batches; sends = handed.ensures.offered.1 ∙ c.withdraw.ensures.dropped.sends },
+      record { batches = handed.ensures.offered.0 ∙ c.withdraw.ensures.dropped.batches; sends = handed.ensures.offered.1
+          ∙ c.withdraw.ensures.dropped.sends },
       begins (keeper_of old) (keeper_of new) same (rw same at c.state.ensures.stands),
       λ _. refl,
     )
@@ -46,15 +49,19 @@ loop-taken-preserved g c =
     let r = c.take_round-round in
     let size = length c.args.buffer.now in
     let room = c.min-room.result in
-    let one = subst (λ (n : ℕ). HasRound n room r.result l.engine r.new.engine (left l.source) (left r.new.source) (told l.wire) (told r.new.wire)) now.1 r.ensures.round in (
-      round_more size room l.taken l.unsent c.saturating_add-unsent.result r.result old l.engine r.new.engine (left c.args.source.now) (left l.source) (left r.new.source) (told c.args.wire.now) (told l.wire) (told r.new.wire)
+    let one = subst (λ (n : ℕ). HasRound n room r.result l.engine r.new.engine (left l.source) (left r.new.source)
+        (told l.wire) (told r.new.wire)) now.1 r.ensures.round in (
+      round_more size room l.taken l.unsent c.saturating_add-unsent.result r.result old l.engine r.new.engine
+          (left c.args.source.now) (left l.source) (left r.new.source) (told c.args.wire.now) (told l.wire)
+          (told r.new.wire)
           c.saturating_add-unsent.ensures c.in_default.is now.0 one,
       r.auto.buffer ∙ now.1,
       r.ensures.capacity ∙ now.2,
       omega (arith, one.at_most, c.min-room.ensures, c.loop-taken-test.true),
       r.ensures.emptied,
       r.ensures.dropped,
-      works_join (keeper_of old) (keeper_of l.engine) (keeper_of r.new.engine) now.6 (one.works (c.in_default.not-Some (stop.Fault (fault.Engine Disk)))),
+      works_join (keeper_of old) (keeper_of l.engine) (keeper_of r.new.engine) now.6
+          (one.works (c.in_default.not-Some (stop.Fault (fault.Engine Disk)))),
       λ broken. omega (arith, now.7 broken, one.none_taken (now.6.broken ∙ broken)),
     )
 
@@ -68,9 +75,13 @@ returns-in-Some g c =
     let r = c.take_round-round in
     let size = length c.args.buffer.now in
     let room = c.min-room.result in
-    let one = subst (λ (n : ℕ). HasRound n room r.result l.engine r.new.engine (left l.source) (left r.new.source) (told l.wire) (told r.new.wire)) now.1 r.ensures.round in
-    round_last size room c.args.turns l.taken l.unsent c.saturating_add-unsent.result r.result c.in-Some.stop c.fault_of.result old l.engine r.new.engine (left c.args.source.now) (left l.source) (left r.new.source) (told c.args.wire.now) (told l.wire) (told r.new.wire)
-    c.saturating_add-unsent.ensures c.in-Some.is c.fault_of.ensures (omega (arith, c.min-room.ensures, c.loop-taken-test.true)) r.ensures.emptied now.6 now.7 now.0 one
+    let one = subst (λ (n : ℕ). HasRound n room r.result l.engine r.new.engine (left l.source) (left r.new.source)
+        (told l.wire) (told r.new.wire)) now.1 r.ensures.round in
+    round_last size room c.args.turns l.taken l.unsent c.saturating_add-unsent.result r.result c.in-Some.stop
+        c.fault_of.result old l.engine r.new.engine (left c.args.source.now) (left l.source) (left r.new.source)
+        (told c.args.wire.now) (told l.wire) (told r.new.wire)
+    c.saturating_add-unsent.ensures c.in-Some.is c.fault_of.ensures
+        (omega (arith, c.min-room.ensures, c.loop-taken-test.true)) r.ensures.emptied now.6 now.7 now.0 one
 
 pub returns : goal.returns
 returns g c =

@@ -11,7 +11,9 @@ returns-in-Ok g c =
     let size : length c.deref_mut.result.now ≡ BUFFER = c.deref_mut.ensures.len ∙ c.in-Ok.ensures.len in
     let left = g.S.Source.left in
     let told = g.W.Wire.told in record {
-      ran = subst (λ (n : ℕ). Ran n c.args.turns c.run_turns.result c.args.engine.now c.run_turns.new.engine (left c.args.source.now) (left c.run_turns.new.source) (told c.args.wire.now) (told c.run_turns.new.wire)) size c.run_turns.ensures;
+      ran = subst (λ (n : ℕ). Ran n c.args.turns c.run_turns.result c.args.engine.now c.run_turns.new.engine
+          (left c.args.source.now) (left c.run_turns.new.source) (told c.args.wire.now) (told c.run_turns.new.wire))
+          size c.run_turns.ensures;
     }
 
 pub returns-in-Err : goal.returns-in-Err
@@ -24,7 +26,8 @@ returns-in-Err g c =
     let works = begins (keeper_of old) (keeper_of new) same c.state-state.ensures.stands in record {
       ran = record {
         mid = left;
-        taken = begun BUFFER left (state_of old) (state_of new) (queue_of old) (g.W.Wire.told c.args.wire.now) (g.W.Wire.told c.hand_out-unsent.new.wire) c.hand_out-unsent.result
+        taken = begun BUFFER left (state_of old) (state_of new) (queue_of old) (g.W.Wire.told c.args.wire.now)
+            (g.W.Wire.told c.hand_out-unsent.new.wire) c.hand_out-unsent.result
             (omega (arith, c.hand_out-unsent.type_inv)) state c.hand_out-unsent.ensures.handed;
         why = inl (refl, refl, refl, same);
         at_most = omega arith;

@@ -1,4 +1,5 @@
 use Rattle.cue_script.proofs.play.crashed.Goals as goal
 
 pub returns : goal.returns
-returns c = c.close-first.ensures.stands tt tt c.requires.works _ _ c.in_ok-left.ensures.image c.in_ok-other.ensures.image
+returns c = c.close-first.ensures.stands tt tt c.requires.works _ _ c.in_ok-left.ensures.image
+    c.in_ok-other.ensures.image

@@ -1,4 +1,4 @@
-use Rattle.cue_snap.proofs.Reader.{any_pair}
+use Rattle.cue_snap.proofs.ReaderLemmas.{any_pair}
 use Rattle.cue_snap.proofs.laws.any_pair_answers.Goals as goal
 
 pub returns : goal.returns

@@ -1,4 +1,4 @@
-use Rattle.cue_stage.proofs.Decisions.{moves_rest_on_decisions}
+use Rattle.cue_stage.proofs.DecisionLemmas.{moves_rest_on_decisions}
 use Rattle.cue_stage.proofs.laws.moves_rest_on_decisions.Goals as goal
 
 pub returns : goal.returns

@@ -1,6 +1,7 @@
 use Rattle.std.proofs.Common.{◌≡◌, ◌∙◌, [], ap, sym, subst, refl, true, ◌⊎◌, inl, inr, Some, rules}
 use Rattle.std.specs.Prelude.{map, string_bytes}
-use Rattle.clap.specs.Words.{App, IsAmong, app_of, fault_of, kind_of, is_simple_and_free, subcommand_of, rows_of, found_of}
+use Rattle.clap.specs.Words.{App, IsAmong, app_of, fault_of, kind_of, is_simple_and_free, subcommand_of, rows_of}
+use Rattle.clap.specs.Words.{found_of}
 use Rattle.clap.specs.declared.error.kind.ErrorKind.TheVariants.{OutOfMemory}
 use Rattle.clap.proofs.OnLiterals.{clap_on_literals}
 use Rattle.cuectl.specs.Lines.{HasPortZero, cuectl_app}
@@ -23,16 +24,20 @@ pub returns-clause-help : goal.returns-clause-help
 returns-clause-help c =
     let is : app_of c.in_ok-command.command ≡ cuectl_app = c.in_ok-command.ensures in
     let has = c.in-Err.ensures.kinds (ap is_simple_and_free is ∙ is_plain) in
-    asks (fault_of cuectl_app (map string_bytes c.args.words.now)) (kind_of c.in-Err.error) c.fault_of.result c.fault_of.ensures
-    (subst (λ (a : App). (kind_of c.in-Err.error ≡ OutOfMemory) ⊎ IsAmong (kind_of c.in-Err.error) (fault_of a (map string_bytes c.args.words.now))) is has)
+    asks (fault_of cuectl_app (map string_bytes c.args.words.now)) (kind_of c.in-Err.error) c.fault_of.result
+        c.fault_of.ensures
+    (subst (λ (a : App). (kind_of c.in-Err.error ≡ OutOfMemory)
+        ⊎ IsAmong (kind_of c.in-Err.error) (fault_of a (map string_bytes c.args.words.now))) is has)
 
 pub returns-clause-usage : goal.returns-clause-usage
 returns-clause-usage c = λ h.
     let is : app_of c.in_ok-command.command ≡ cuectl_app = c.in_ok-command.ensures in
     let has = c.in-Err.ensures.kinds (ap is_simple_and_free is ∙ is_plain) in
     let usage : c.fault_of.result ≡ Usage = cc in
-    inl (refused (fault_of cuectl_app (map string_bytes c.args.words.now)) (kind_of c.in-Err.error) c.fault_of.result c.fault_of.ensures
-    (subst (λ (a : App). (kind_of c.in-Err.error ≡ OutOfMemory) ⊎ IsAmong (kind_of c.in-Err.error) (fault_of a (map string_bytes c.args.words.now))) is has) usage)
+    inl (refused (fault_of cuectl_app (map string_bytes c.args.words.now)) (kind_of c.in-Err.error) c.fault_of.result
+        c.fault_of.ensures
+    (subst (λ (a : App). (kind_of c.in-Err.error ≡ OutOfMemory)
+        ⊎ IsAmong (kind_of c.in-Err.error) (fault_of a (map string_bytes c.args.words.now))) is has) usage)
 
 pub returns-in-Some-clause-usage : goal.returns-in-Some-clause-usage
 returns-in-Some-clause-usage c = λ h.
@@ -40,5 +45,8 @@ returns-in-Some-clause-usage c = λ h.
     let none = c.in-Ok.ensures.kinds (ap is_simple_and_free is ∙ is_plain) in
     let words = map string_bytes c.args.words.now in
     let taken : fault_of cuectl_app words ≡ [] = ap (λ (a : App). fault_of a words) (sym is) ∙ none in
-    let matched : subcommand_of cuectl_app words ≡ Some (c.in-Some.name.now, rows_of (found_of c.in-Some.found.now)) = search rules in
-    inr (inr (subst HasPortZero (sym matched) (but_port_zero words (c.in-Some.name.now, rows_of (found_of c.in-Some.found.now)) taken matched (c.line_in.ensures.usage h))))
+    let matched : subcommand_of cuectl_app words ≡ Some (c.in-Some.name.now, rows_of (found_of c.in-Some.found.now)) =
+        search rules in
+    inr (inr (subst HasPortZero (sym matched)
+        (but_port_zero words (c.in-Some.name.now, rows_of (found_of c.in-Some.found.now)) taken matched
+        (c.line_in.ensures.usage h))))

@@ -5,4 +5,5 @@ use Rattle.cuectl.proofs.show_text.print_attempts.Given as goal
 
 -- what was printed, and the attempts that are left, are all
 abbrev pub invariant-loop-attempt : goal.invariant-loop-attempt
-invariant-loop-attempt l = l.text.items ++ flat_map attempt_line (drop l.attempt-index l.attempts) ≡ l.fn.text.items ++ flat_map attempt_line l.attempts
+invariant-loop-attempt l = l.text.items ++ flat_map attempt_line (drop l.attempt-index l.attempts) ≡ l.fn.text.items
+    ++ flat_map attempt_line l.attempts

@@ -5,4 +5,5 @@ use Rattle.cuectl.proofs.show_text.print_cues.Given as goal
 
 -- what was printed, and the cues that are left, are all
 abbrev pub invariant-loop-cue : goal.invariant-loop-cue
-invariant-loop-cue l = l.text.items ++ flat_map cue_line l.cue-iterator ≡ l.fn.text.items ++ flat_map cue_line l.show.cues
+invariant-loop-cue l = l.text.items ++ flat_map cue_line l.cue-iterator ≡ l.fn.text.items ++ flat_map cue_line
+    l.show.cues

@@ -5,4 +5,5 @@ use Rattle.cuectl.proofs.show_text.print_devices.Given as goal
 
 -- what was printed, and the devices that are left, are all
 abbrev pub invariant-loop-device : goal.invariant-loop-device
-invariant-loop-device l = l.text.items ++ flat_map device_line l.device-iterator ≡ l.fn.text.items ++ flat_map device_line l.show.devices
+invariant-loop-device l = l.text.items ++ flat_map device_line l.device-iterator ≡ l.fn.text.items ++ flat_map
+    device_line l.show.devices

@@ -4,4 +4,6 @@ use Rattle.cue_desk.proofs.show_file.checking.check_devices.Given as goal
 
 -- what was taken so far, and then what is left, is all
 abbrev pub invariant-loop-entry : goal.invariant-loop-entry
-invariant-loop-entry l = after_devices l.initial.show l.entries ≡ option_and_then (λ t. after_devices t (drop l.entry-index l.entries)) (if_all l.all l.show)
+invariant-loop-entry l =
+    after_devices l.initial.show l.entries ≡ option_and_then (λ t. after_devices t (drop l.entry-index l.entries))
+    (if_all l.all l.show)

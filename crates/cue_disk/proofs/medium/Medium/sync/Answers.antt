@@ -1,5 +1,5 @@
 use Rattle.std.proofs.Common.{refl}
-use Rattle.cue_disk.proofs.History.{pushed}
+use Rattle.cue_disk.proofs.HistoryLemmas.{pushed}
 use Rattle.cue_disk.proofs.medium.Medium.sync.Goals as goal
 
 pub returns-clause-time : goal.returns-clause-time

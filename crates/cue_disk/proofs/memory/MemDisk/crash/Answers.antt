@@ -1,5 +1,5 @@
 use Rattle.cue_disk.specs.Memory.{memory_held}
-use Rattle.cue_disk.proofs.Reached.{reaches_all}
+use Rattle.cue_disk.proofs.ReachedLemmas.{reaches_all}
 use Rattle.cue_disk.proofs.memory.MemDisk.crash.Goals as goal
 
 pub returns-in_err-bytes-clause-every : goal.returns-in_err-bytes-clause-every

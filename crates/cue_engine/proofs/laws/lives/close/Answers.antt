@@ -1,10 +1,11 @@
 use Rattle.cue_engine.specs.Words.{state_of, queue_of}
-use Rattle.cue_engine.proofs.Lives.{rests_closed}
+use Rattle.cue_engine.proofs.LifeLemmas.{rests_closed}
 use Rattle.cue_engine.proofs.laws.lives.close.Goals as goal
 
 pub returns : goal.returns
 returns g c = record {
   stopped = λ first second works s store is.
       let d = g.D.Disk in
-      rests_closed d.held c.close.result.0 c.close.result.1 s store is (state_of c.args.engine) (queue_of c.args.engine) (c.close.ensures.stands first second works);
+      rests_closed d.held c.close.result.0 c.close.result.1 s store is (state_of c.args.engine) (queue_of c.args.engine)
+          (c.close.ensures.stands first second works);
 }

@@ -1,6 +1,6 @@
 use Rattle.std.proofs.Common.{List, ℕ, ◌+◌, ◌∙◌, ap, length}
 use Rattle.cue_log.specs.Area.{room_of}
-use Rattle.cue_log.proofs.Groups.{length-framed_group}
+use Rattle.cue_log.proofs.GroupLemmas.{length-framed_group}
 use Rattle.cue_log.proofs.group.RecordGroup.text.Goals as goal
 
 pub returns-clause-len : goal.returns-clause-len

@@ -1,4 +1,4 @@
-use Rattle.cue_log.proofs.Settled.{settled_reads}
+use Rattle.cue_log.proofs.SettledLemmas.{settled_reads}
 use Rattle.cue_log.proofs.log.Log.retire.Goals as goal
 
 pub returns-clause-reads : goal.returns-clause-reads

@@ -1,6 +1,6 @@
 use Rattle.std.proofs.Common.{◌≡◌, drop}
 use Rattle.cue_osc.specs.Writing.{room_left}
-use Rattle.cue_osc.proofs.Room.{args_len}
+use Rattle.cue_osc.proofs.RoomLemmas.{args_len}
 use Rattle.cue_osc.proofs.writing.length.room_after_args.Given as goal
 
 abbrev pub invariant-loop-arg : goal.invariant-loop-arg

@@ -9,6 +9,8 @@ use Rattle.cue_pattern.proofs.pattern.Pattern.match_parts.Given as goal
 
 abbrev pub invariant-loop-part : goal.invariant-loop-part
 invariant-loop-part l = record {
-  same : parts_match (drop l.part-index l.self) (cut_left 47 (option_copied l.left)) ≡ parts_match l.self (cut 47 l.fn.rest);
-  short : IsTrue (list_all is_short (cut 47 l.fn.rest)) → IsTrue (list_all is_short (cut_left 47 (option_copied l.left)));
+  same : parts_match (drop l.part-index l.self) (cut_left 47 (option_copied l.left)) ≡ parts_match l.self
+      (cut 47 l.fn.rest);
+  short : IsTrue (list_all is_short (cut 47 l.fn.rest))
+      → IsTrue (list_all is_short (cut_left 47 (option_copied l.left)));
 }

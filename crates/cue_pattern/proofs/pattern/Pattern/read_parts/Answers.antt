@@ -6,7 +6,8 @@ use Rattle.cue_pattern.specs.declared.fault.Fault.TheVariants.{BadPattern}
 use Rattle.cue_pattern.specs.declared.piece.Piece.{Piece}
 use Rattle.cue_pattern.specs.Reading.{cut, pieces_of}
 use Rattle.cue_pattern.specs.Steps.{cut_left, with_front}
-use Rattle.cue_pattern.proofs.PartsLemmas.{pattern_at-no_slash, pattern_at-behind, parts-unread_yet, parts-bad, parts-fronted, parts-fronted_all}
+use Rattle.cue_pattern.proofs.PartsLemmas.{pattern_at-no_slash, pattern_at-behind, parts-unread_yet, parts-bad}
+use Rattle.cue_pattern.proofs.PartsLemmas.{parts-fronted, parts-fronted_all}
 use Rattle.cue_pattern.proofs.pattern.Pattern.read_parts.Goals as goal
 
 pub returns-in_default-clause-bad : goal.returns-in_default-clause-bad
@@ -26,7 +27,8 @@ returns-in_err-read-clause-bad c = λ h.
     let fault : c.in_err-read.field-0.0 ≡ BadPattern = cc in
     let none = c.in_err-read.ensures.bad (ap (λ (f : Fault). Err f) fault) in
     sym c.loop-left.invariant
-    ∙ (ap (λ (o : Option (Bor (List ℕ))). with_front front (pieces_of (cut_left 47 (option_copied o)))) c.in-Some-left.is
+    ∙ (ap (λ (o : Option (Bor (List ℕ))). with_front front (pieces_of (cut_left 47 (option_copied o))))
+        c.in-Some-left.is
     ∙ ap (with_front front) (parts-bad _ _ _ c.cut_first.ensures none))
 
 pub loop-left-preserved : goal.loop-left-preserved
@@ -35,12 +37,14 @@ loop-left-preserved c =
     let items : c.push.new.self.items ≡ front ++ c.in_ok-read.field-0 ∷ [] = c.in_ok-push.ensures.items in
     ap (λ (ps : List (List Piece)). with_front ps (pieces_of (cut_left 47 (option_copied c.cut_first.result.1)))) items
     ∙ (parts-fronted front c.in_ok-read.field-0 _ _ _ c.cut_first.ensures c.in_ok-read.ensures.found
-    ∙ (ap (λ (o : Option (Bor (List ℕ))). with_front front (pieces_of (cut_left 47 (option_copied o)))) (sym c.in-Some-left.is)
+    ∙ (ap (λ (o : Option (Bor (List ℕ))). with_front front (pieces_of (cut_left 47 (option_copied o))))
+        (sym c.in-Some-left.is)
     ∙ c.loop-left.invariant))
 
 pub returns-clause-found : goal.returns-clause-found
 returns-clause-found c =
     let front = c.loop-left.parts.items in
     sym c.loop-left.invariant
-    ∙ (ap (λ (o : Option (Bor (List ℕ))). with_front front (pieces_of (cut_left 47 (option_copied o)))) c.in_default-left.is
+    ∙ (ap (λ (o : Option (Bor (List ℕ))). with_front front (pieces_of (cut_left 47 (option_copied o))))
+        c.in_default-left.is
     ∙ parts-fronted_all front)

@@ -7,6 +7,7 @@ use Rattle.cue_records.proofs.fields.writing.put_part_list.Given as goal
 -- what was written, and the parts that are left, are all
 abbrev pub invariant-loop-part : goal.invariant-loop-part
 invariant-loop-part l = record {
-  written : l.out.items ++ flat_map (part_text l.form) (drop l.part-index l.parts) ≡ l.fn.out.items ++ flat_map (part_text l.form) l.parts;
+  written : l.out.items ++ flat_map (part_text l.form) (drop l.part-index l.parts) ≡ l.fn.out.items ++ flat_map
+      (part_text l.form) l.parts;
   fit : IsTrue (list_all is_part (drop l.part-index l.parts));
 }

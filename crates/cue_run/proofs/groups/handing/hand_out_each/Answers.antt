@@ -11,7 +11,9 @@ loop-place-preserved g c =
     let told = g.W.Wire.told in
     let l = c.loop-place in
     let h = c.hand_out_first-refused in (
-      so_far_more (told c.args.wire.now) (told l.wire) (told h.new.wire) (told c.look.new.wire) (queue_of c.args.engine.now) (queue_of l.engine) (queue_of h.new.self) c.saturating_sub.result l.unsent h.result c.saturating_add-unsent.result
+      so_far_more (told c.args.wire.now) (told l.wire) (told h.new.wire) (told c.look.new.wire)
+          (queue_of c.args.engine.now) (queue_of l.engine) (queue_of h.new.self) c.saturating_sub.result l.unsent
+          h.result c.saturating_add-unsent.result
           c.saturating_add-unsent.ensures h.ensures.left c.look.ensures.told l.invariant.0 h.ensures.handed,
       h.ensures.keeper ∙ l.invariant.1,
       h.ensures.offered.0 ∙ l.invariant.2,
@@ -22,4 +24,6 @@ pub returns-clause-handed : goal.returns-clause-handed
 returns-clause-handed g c =
     let told = g.W.Wire.told in
     let l = c.loop-place in
-    so_far_all (told c.args.wire.now) (told l.wire) (told c.hand_out.new.wire) (queue_of c.args.engine.now) (queue_of l.engine) l.unsent c.hand_out.result c.saturating_add.result c.saturating_add.ensures l.invariant.0 c.hand_out.ensures.handed
+    so_far_all (told c.args.wire.now) (told l.wire) (told c.hand_out.new.wire) (queue_of c.args.engine.now)
+        (queue_of l.engine) l.unsent c.hand_out.result c.saturating_add.result c.saturating_add.ensures l.invariant.0
+        c.hand_out.ensures.handed

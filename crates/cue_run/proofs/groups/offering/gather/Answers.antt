@@ -3,14 +3,17 @@ use Rattle.cue_run.proofs.OfferLemmas.{offers_none, offers_join, gathered_all}
 use Rattle.cue_run.proofs.groups.offering.gather.Goals as goal
 
 pub loop-count-init : goal.loop-count-init
-loop-count-init g c = (offers_none (length c.args.buffer.now) (vec_len c.args.ends.now) c.args.engine.now (g.S.Source.left c.args.source.now), c.requires.one, refl, refl)
+loop-count-init g c = (offers_none (length c.args.buffer.now) (vec_len c.args.ends.now) c.args.engine.now
+    (g.S.Source.left c.args.source.now), c.requires.one, refl, refl)
 
 pub loop-count-preserved : goal.loop-count-preserved
 loop-count-preserved g c =
     let left = g.S.Source.left in
     let l = c.loop-count in
     let next = rw c.in-Ok-true.field-0-test at c.in-Ok-true.ensures.offered in (
-      offers_join (length c.args.buffer.now) (length l.buffer) (vec_len c.args.ends.now) (vec_len l.ends) (vec_len c.offer_waiting.new.ends) c.args.engine.now l.engine c.offer_waiting.new.engine (left c.args.source.now) (left l.source) (left c.offer_waiting.new.source)
+      offers_join (length c.args.buffer.now) (length l.buffer) (vec_len c.args.ends.now) (vec_len l.ends)
+          (vec_len c.offer_waiting.new.ends) c.args.engine.now l.engine c.offer_waiting.new.engine
+          (left c.args.source.now) (left l.source) (left c.offer_waiting.new.source)
           l.invariant.3 l.invariant.0 next.0,
       omega (arith, next.1, l.invariant.1),
       c.offer_waiting.ensures.capacity ∙ l.invariant.2,
@@ -21,4 +24,5 @@ pub returns-then-not-has_room-clause-gathered : goal.returns-then-not-has_room-c
 returns-then-not-has_room-clause-gathered g c =
     let left = g.S.Source.left in
     let l = c.loop-count in
-    gathered_all (length c.args.buffer.now) (vec_len c.args.ends.now) (vec_len l.ends) c.args.engine.now l.engine (left c.args.source.now) (left l.source) l.invariant.0
+    gathered_all (length c.args.buffer.now) (vec_len c.args.ends.now) (vec_len l.ends) c.args.engine.now l.engine
+        (left c.args.source.now) (left l.source) l.invariant.0

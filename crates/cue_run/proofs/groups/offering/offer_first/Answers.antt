@@ -8,7 +8,9 @@ returns-in-Ok-clause-offered g c =
     let left = g.S.Source.left in
     let came = rw c.in-Ok-Tick.field-0-is at c.in-Ok-Tick.ensures.gave in
     let said = c.in-Ok.ensures in (
-      offers_one (length c.args.buffer.now) (vec_len c.args.ends.now) (vec_len c.offer_one.new.ends) (c.in-Ok-Tick.now, tick) c.args.engine.now c.offer_one.new.engine (left c.args.source.now) (left c.next.new.self)
+      offers_one (length c.args.buffer.now) (vec_len c.args.ends.now) (vec_len c.offer_one.new.ends)
+          (c.in-Ok-Tick.now, tick) c.args.engine.now c.offer_one.new.engine (left c.args.source.now)
+          (left c.next.new.self)
           said.number came said.offered said.keeper said.queue,
       said.number,
     )
@@ -25,7 +27,9 @@ returns-in-Ok-offer_one-clause-offered g c =
     let some = c.in-Ok-Datagram in
     let came = rw some.field-0-is at some.ensures.gave in
     let said = c.in-Ok-offer_one.ensures in (
-      offers_one (length c.args.buffer.now) (vec_len c.args.ends.now) (vec_len c.offer_one-in-Ok-Datagram.new.ends) (some.now, datagram some.from (take some.n c.next.new.buffer)) c.args.engine.now c.offer_one-in-Ok-Datagram.new.engine (left c.args.source.now) (left c.next.new.self)
+      offers_one (length c.args.buffer.now) (vec_len c.args.ends.now) (vec_len c.offer_one-in-Ok-Datagram.new.ends)
+          (some.now, datagram some.from (take some.n c.next.new.buffer)) c.args.engine.now
+          c.offer_one-in-Ok-Datagram.new.engine (left c.args.source.now) (left c.next.new.self)
           said.number came said.offered said.keeper said.queue,
       said.number,
     )

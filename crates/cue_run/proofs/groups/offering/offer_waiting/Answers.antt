@@ -9,7 +9,9 @@ returns-in-Ok-clause-offered g c =
     let some = c.in-Ok-Some.field-0-0 in
     let came = rw c.in-Ok-Some.field-0-is at c.in-Ok-Some.ensures.waited in
     let said = c.in-Ok.ensures in (
-      offers_one (length c.args.buffer.now) (vec_len c.args.ends.now) (vec_len c.offer_one.new.ends) (some.now, datagram some.from (take some.n c.waiting.new.buffer)) c.args.engine.now c.offer_one.new.engine (left c.args.source.now) (left c.waiting.new.self)
+      offers_one (length c.args.buffer.now) (vec_len c.args.ends.now) (vec_len c.offer_one.new.ends)
+          (some.now, datagram some.from (take some.n c.waiting.new.buffer)) c.args.engine.now c.offer_one.new.engine
+          (left c.args.source.now) (left c.waiting.new.self)
           said.number came said.offered said.keeper said.queue,
       said.number,
     )

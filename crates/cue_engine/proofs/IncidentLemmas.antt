@@ -1,0 +1,388 @@
+-- What one incident makes of a store.
+--
+-- What the disks are read as is chosen from the last incident back to the first: what a stop leaves is then one pair of
+-- byte lists, and the batch of a call that was cut off is there or not.
+use Rattle.std.proofs.Common.{◌≡◌, ◌⊎◌, inl, inr, ℕ, zero, suc, Bool, true, List, [], ◌∷◌, ◌++◌, take, refl, sym, ap}
+use Rattle.std.proofs.Common.{◌∙◌, subst, append-nil, IsTrue}
+use Rattle.std.specs.List.{AllByRecursion, list_all}
+use Rattle.cue_disk.specs.Disk.{Contents}
+use Rattle.cue_snap.specs.Pair.{NeitherHas, IsUnformedOr}
+use Rattle.cue_core.specs.declared.event.Event.{Event}
+use Rattle.cue_core.specs.State.{ShowState, empty_state, is_state}
+use Rattle.cue_core.specs.Steps.{after_events, are_acceptable}
+use Rattle.cue_core.proofs.lists.ConditionLemmas.{both, join}
+use Rattle.cue_core.proofs.rules.ApplyLemmas.{after_events-append}
+use Rattle.cue_keeper.specs.Stands.{Stands, StandsEither, first_area}
+use Rattle.cue_keeper.proofs.StandingLemmas.{one_state, fresh_stands}
+use Rattle.cue_records.specs.State.{state_text}
+use Rattle.cue_keeper.proofs.RefusedLemmas.{is_opened}
+use Rattle.cue_outbox.specs.Sending.{Send, all_pending}
+use Rattle.cue_engine.specs.Given.{Input, given, given_recovery}
+use Rattle.cue_engine.specs.Groups.{batches_given}
+use Rattle.cue_core.specs.Batches.{closed}
+use Rattle.cue_engine.specs.Recovery.{ClosedFrom, IsLeftOrStands}
+use Rattle.cue_engine.specs.Runs.{took, with_batch, joined, rests}
+use Rattle.cue_engine.specs.Runs as runs
+use Rattle.cue_engine.specs.Incidents.{Incident, formed, stopped_in_form, taken, handed_out, stopped, stopped_in_take}
+use Rattle.cue_engine.specs.Incidents.{stopped_in_commit, recovered, stopped_in_recovery, refused, Store, running}
+use Rattle.cue_engine.specs.Incidents.{at_rest, unformed, begun, LeavesOnly, AreLeft, PermitsRunning, PermitsAtRest}
+use Rattle.cue_engine.specs.Incidents.{PermitsUnformed, Permits, left_by}
+use Rattle.cue_engine.specs.Headline.{owed_by, handed_in, batch_of, is_cut_off}
+use Rattle.cue_core.proofs.lists.AnyLemmas.{all-append, all_implied}
+use Rattle.cue_engine.proofs.RestingLemmas.{more, earlier, input_rests, all_pending_rest}
+use Rattle.cue_engine.proofs.HistoryLemmas.{input-ok, happening-ok}
+use Rattle.cue_engine.proofs.GroupLemmas.{after_joined, inputs-ok}
+use Rattle.cue_core.proofs.rules.BatchLemmas.{is_state-after_events}
+use Rattle.cue_engine.proofs.SentLemmas.{Each}
+use Rattle.cue_engine.proofs.BytesLemmas.{IsReadable, pending_readable, given_readable}
+use Rattle.cue_outbox.proofs.ListLemmas.{each_append}
+
+-- nothing was formed: whatever a crash leaves has no area, or stands for the first state
+abbrev pub LeavesFirst : Contents → Contents → Type 0
+LeavesFirst one other = LeavesOnly one other (λ x y. NeitherHas x y ⊎ Stands x y empty_state)
+
+-- as `HasState`, with all that a crash may leave of a store that was not formed
+abbrev pub HasOn : Store → List ℕ → List ℕ → ShowState → Type 0
+HasOn (running t owed) x y s = t ≡ s
+HasOn (at_rest one other) x y s = Stands x y s
+HasOn (unformed one other) x y s = (s ≡ empty_state) × LeavesFirst one other
+
+-- what the store has after these events, and that what is owed rests on them and can be read again
+pub record IsOn (s : ShowState) (es : List Event) (store : Store) (x y : List ℕ) : Type 0 where
+  pub has : HasOn store x y (after_events s es)
+  pub owed : list_all (rests s es) (owed_by store) ≡ true
+  pub readable : Each IsReadable (owed_by store)
+  pub rules : IsTrue (is_state (after_events s es))
+
+-- ---- what rests
+
+pub all_more : (s : ShowState) (es fs : List Event) (xs : List (ℕ × Send)) → list_all (rests s es) xs ≡ true
+    → list_all (rests s (es ++ fs)) xs ≡ true
+all_more s es fs xs h = all_implied (rests s es) (rests s (es ++ fs)) (λ m k. more s es fs m.1 k) xs h
+
+all_earlier : (s : ShowState) (es fs : List Event) (xs : List (ℕ × Send))
+    → list_all (rests (after_events s es) fs) xs ≡ true → list_all (rests s (es ++ fs)) xs ≡ true
+all_earlier s es fs xs h = all_implied (rests (after_events s es) fs) (rests s (es ++ fs))
+    (λ m k. earlier s es fs m.1 k) xs h
+
+all_taken : (p : ℕ × Send → Bool) (n : ℕ) (xs : List (ℕ × Send)) → list_all p xs ≡ true → list_all p (take n xs) ≡ true
+all_taken p zero xs h = refl
+all_taken p (suc n) [] h = refl
+all_taken p (suc n) (x ∷ xs) h = let w = both (p x) (list_all p xs) h in
+    join (p x) (list_all p (take n xs)) w.0 (all_taken p n xs w.1)
+
+-- what is handed over was owed
+pub handed_rests : (s : ShowState) (es : List Event) (store : Store) (i : Incident)
+    → list_all (rests s es) (owed_by store) ≡ true → list_all (rests s es) (handed_in store i) ≡ true
+handed_rests s es store formed h = refl
+handed_rests s es store (stopped_in_form one other) h = refl
+handed_rests s es store (taken now input) h = refl
+handed_rests s es store handed_out h = h
+handed_rests s es store (stopped n one other) h = all_taken (rests s es) n (owed_by store) h
+handed_rests s es store (stopped_in_take now input n one other) h = all_taken (rests s es) n (owed_by store) h
+handed_rests s es store (stopped_in_commit inputs n one other) h = all_taken (rests s es) n (owed_by store) h
+handed_rests s es store (recovered t) h = refl
+handed_rests s es store (stopped_in_recovery one other) h = refl
+handed_rests s es store (refused one other) h = refl
+
+each_taken : {A : Type 0} (P : A → Type 0) (n : ℕ) (xs : List A) → AllByRecursion P xs → AllByRecursion P (take n xs)
+each_taken P zero xs h = tt
+each_taken P (suc n) [] h = tt
+each_taken P (suc n) (x ∷ xs) h = (h.0, each_taken P n xs h.1)
+
+pub handed_readable : (store : Store) (i : Incident) → Each IsReadable (owed_by store)
+    → Each IsReadable (handed_in store i)
+handed_readable store formed h = tt
+handed_readable store (stopped_in_form one other) h = tt
+handed_readable store (taken now input) h = tt
+handed_readable store handed_out h = h
+handed_readable store (stopped n one other) h = each_taken (λ (m : ℕ × Send). IsReadable m.1) n (owed_by store) h
+handed_readable store (stopped_in_take now input n one other) h =
+    each_taken (λ (m : ℕ × Send). IsReadable m.1) n (owed_by store) h
+handed_readable store (stopped_in_commit inputs n one other) h =
+    each_taken (λ (m : ℕ × Send). IsReadable m.1) n (owed_by store) h
+handed_readable store (recovered t) h = tt
+handed_readable store (stopped_in_recovery one other) h = tt
+handed_readable store (refused one other) h = tt
+
+-- the rules of a state hold after an acceptable batch
+rules_after : (s : ShowState) (es batch : List Event) → IsTrue (is_state (after_events s es))
+    → IsTrue (are_acceptable (after_events s es) batch) → IsTrue (is_state (after_events s (es ++ batch)))
+rules_after s es batch h ok = let P : ShowState → Type 0 = λ t. IsTrue (is_state t) in
+    subst P (sym (after_events-append s es batch)) (is_state-after_events (after_events s es) batch h ok)
+
+-- ---- one incident
+
+-- the batch is kept whole, or, where its call was cut off, not at all
+abbrev pub Goes : ShowState → List Event → Store → Incident → List ℕ → List ℕ → Type 0
+Goes s es store i x y = IsOn s (es ++ batch_of (after_events s es) i) (left_by store i) x y
+    ⊎ ((is_cut_off i ≡ true) × IsOn s es (left_by store i) x y)
+
+-- what was chosen is among what the disks may read as; before a store is formed there is nothing to choose
+abbrev pub MayOn : Store → List ℕ → List ℕ → Type 0
+MayOn (running s owed) x y = Unit {0}
+MayOn (at_rest one other) x y = AreLeft one other x y
+MayOn (unformed one other) x y = Unit {0}
+
+-- what the store before the incident is read as, where the store after it is read as x and y
+pub record Chosen (store : Store) (i : Incident) (x y : List ℕ) : Type 0 where
+  pub first : List ℕ
+  pub second : List ℕ
+  pub may : MayOn store first second
+  pub goes : (s : ShowState) (es : List Event) → IsOn s es store first second → Goes s es store i x y
+
+-- nothing is added
+pub as_before : (s : ShowState) (es : List Event) (store : Store) (x y : List ℕ) → IsOn s es store x y
+    → IsOn s (es ++ []) store x y
+as_before s es store x y on = let P : List Event → Type 0 = λ fs. IsOn s fs store x y in
+    subst P (sym (append-nil es)) on
+
+pub resting_at : (s : ShowState) (es : List Event) (one other : Contents) (x y : List ℕ)
+    → IsTrue (is_state (after_events s es)) → Stands x y (after_events s es) → IsOn s es (at_rest one other) x y
+resting_at s es one other x y rules h = record { has = h; owed = refl; readable = tt; rules = rules }
+
+-- a stop leaves the state from before or the one after the batch
+resting_either : (s : ShowState) (es batch : List Event) (one other : Contents) (x y : List ℕ)
+    → IsTrue (is_state (after_events s es)) → IsTrue (are_acceptable (after_events s es) batch)
+    → StandsEither (after_events s es) (after_events (after_events s es) batch) x y
+    → IsOn s (es ++ batch) (at_rest one other) x y ⊎ IsOn s es (at_rest one other) x y
+resting_either s es batch one other x y rules ok (inl h) = inr (resting_at s es one other x y rules h)
+resting_either s es batch one other x y rules ok (inr h) =
+    let P : ShowState → Type 0 = λ t. Stands x y t in
+    inl (resting_at s (es ++ batch) one other x y (rules_after s es batch rules ok)
+        (subst P (sym (after_events-append s es batch)) h))
+
+with_cut : {A B : Type 0} → A ⊎ B → A ⊎ ((true ≡ true) × B)
+with_cut (inl a) = inl a
+with_cut (inr b) = inr (refl, b)
+
+-- ---- while an engine runs
+
+goes_taken : (s : ShowState) (es : List Event) (owed : List (ℕ × Send)) (now : ℕ) (input : Input) (x y : List ℕ)
+    → IsOn s es (running (after_events s es) owed) [] []
+    → Goes s es (running (after_events s es) owed) (taken now input) x y
+goes_taken s es owed now input x y on =
+    let batch : List Event = (given (after_events s es) now input).batch in
+    let sends : List (ℕ × Send) = (given (after_events s es) now input).sends in
+    inl (record {
+      has = sym (after_events-append s es batch);
+      owed = all-append (rests s (es ++ batch)) owed sends (all_more s es batch owed on.owed)
+          (all_earlier s es batch sends (input_rests (after_events s es) now input));
+      readable = each_append (λ (m : ℕ × Send). IsReadable m.1) owed sends on.readable
+          (given_readable (after_events s es) (took now input) on.rules);
+      rules = rules_after s es batch on.rules (input-ok (after_events s es) now input on.rules);
+    })
+
+goes_running : (s : ShowState) (es : List Event) (owed : List (ℕ × Send)) (i : Incident) (x y : List ℕ)
+    → IsOn s es (running (after_events s es) owed) [] [] → PermitsRunning (after_events s es) i
+    → MayOn (left_by (running (after_events s es) owed) i) x y
+    → Goes s es (running (after_events s es) owed) i x y
+goes_running s es owed formed x y on ok may = absurd ok
+goes_running s es owed (stopped_in_form one other) x y on ok may = absurd ok
+goes_running s es owed (taken now input) x y on ok may = goes_taken s es owed now input x y on
+goes_running s es owed handed_out x y on ok may =
+    inl (as_before s es (running (after_events s es) []) x y
+    (record { has = refl; owed = refl; readable = tt; rules = on.rules }))
+goes_running s es owed (stopped n one other) x y on ok may =
+    inl (as_before s es (at_rest one other) x y (resting_at s es one other x y on.rules (ok x y may.0 may.1)))
+goes_running s es owed (stopped_in_take now input n one other) x y on ok may =
+    with_cut (resting_either s es (given (after_events s es) now input).batch one other x y on.rules
+        (input-ok (after_events s es) now input on.rules) (ok x y may.0 may.1))
+goes_running s es owed (stopped_in_commit inputs n one other) x y on ok may =
+    let before : ShowState = after_events s es in
+    let P : ShowState → Type 0 = λ t. StandsEither before t x y in
+    with_cut (resting_either s es (joined (batches_given before inputs)) one other x y on.rules
+        (inputs-ok before inputs on.rules) (subst P (sym (after_joined before (batches_given before inputs)))
+        (ok x y may.0 may.1)))
+goes_running s es owed (recovered t) x y on ok may = absurd ok
+goes_running s es owed (stopped_in_recovery one other) x y on ok may = absurd ok
+goes_running s es owed (refused one other) x y on ok may = absurd ok
+
+-- an engine runs with the state that the store has
+goes_on : (s : ShowState) (es : List Event) (t : ShowState) (owed : List (ℕ × Send)) (i : Incident) (x y : List ℕ)
+    → t ≡ after_events s es → IsOn s es (running (after_events s es) owed) [] []
+    → PermitsRunning t i → MayOn (left_by (running t owed) i) x y → Goes s es (running t owed) i x y
+goes_on s es t owed i x y same on ok may =
+    let P : ShowState → Type 0 = λ u. PermitsRunning u i → MayOn (left_by (running u owed) i) x y
+        → Goes s es (running u owed) i x y in
+    subst P (sym same) (goes_running s es owed i x y on) ok may
+
+chosen_running : (t : ShowState) (owed : List (ℕ × Send)) (i : Incident) (x y : List ℕ) → PermitsRunning t i
+    → MayOn (left_by (running t owed) i) x y → Chosen (running t owed) i x y
+chosen_running t owed i x y ok may = record {
+  first = [];
+  second = [];
+  may = tt;
+  goes = λ s es on. goes_on s es t owed i x y on.has
+      (record { has = refl; owed = on.owed; readable = on.readable; rules = on.rules }) ok may;
+}
+
+-- ---- while none runs
+
+-- recovery closes the state, and owes what is pending in it
+begins_again : (s : ShowState) (es : List Event) (t : ShowState) (x y : List ℕ) → IsTrue (is_state (after_events s es))
+    → t ≡ closed (after_events s es) → IsOn s (es ++ (given_recovery (after_events s es)).batch) (begun t) x y
+unfolding closed
+begins_again s es t x y rules same =
+    let batch : List Event = (given_recovery (after_events s es)).batch in
+    let ok = happening-ok (after_events s es) runs.recovered rules in
+    let P : ShowState → Type 0 = λ u. IsOn s (es ++ batch) (begun u) x y in
+    subst P (sym same) (record {
+      has = sym (after_events-append s es batch);
+      owed = all_earlier s es batch (all_pending (closed (after_events s es)))
+          (all_pending_rest (after_events s es) batch);
+      readable = pending_readable (closed (after_events s es))
+          (is_state-after_events (after_events s es) batch rules ok);
+      rules = rules_after s es batch rules ok;
+    })
+
+recovers : (s : ShowState) (es : List Event) (t : ShowState) (x y first second : List ℕ)
+    → IsTrue (is_state (after_events s es)) → ClosedFrom first second t → Stands first second (after_events s es)
+    → IsOn s (es ++ (given_recovery (after_events s es)).batch) (begun t) x y
+recovers s es t x y first second rules from stood =
+    begins_again s es t x y rules (from.is
+    ∙ ap closed (one_state first second from.before (after_events s es) from.stood stood))
+
+-- what stands for a state, closed or not
+stands_closing : (s : ShowState) (es : List Event) (one other : Contents) (x y : List ℕ)
+    → IsTrue (is_state (after_events s es)) → StandsEither (after_events s es) (closed (after_events s es)) x y
+    → IsOn s (es ++ (given_recovery (after_events s es)).batch) (at_rest one other) x y
+        ⊎ IsOn s es (at_rest one other) x y
+unfolding closed
+stands_closing s es one other x y rules h = resting_either s es (given_recovery (after_events s es)).batch one other x y
+    rules (happening-ok (after_events s es) runs.recovered rules) h
+
+chosen_stopped : (then_one then_other one other : Contents) (x y : List ℕ) → IsLeftOrStands then_one then_other x y
+    → Chosen (at_rest then_one then_other) (stopped_in_recovery one other) x y
+chosen_stopped then_one then_other one other x y (inl left) = record {
+  first = x;
+  second = y;
+  may = left;
+  goes = λ s es on. inr (refl, resting_at s es one other x y on.rules on.has);
+}
+chosen_stopped then_one then_other one other x y (inr since) = record {
+  first = since.first;
+  second = since.second;
+  may = (since.left_first, since.left_second);
+  goes = λ s es on.
+      let P : ShowState → Type 0 = λ t. StandsEither t (closed t) x y in
+      with_cut (stands_closing s es one other x y on.rules
+          (subst P (one_state since.first since.second since.before (after_events s es) since.stood on.has)
+          since.stands));
+}
+
+chosen_at_rest : (then_one then_other : Contents) (i : Incident) (x y : List ℕ) → PermitsAtRest then_one then_other i
+    → MayOn (left_by (at_rest then_one then_other) i) x y → Chosen (at_rest then_one then_other) i x y
+chosen_at_rest then_one then_other formed x y ok may = absurd ok
+chosen_at_rest then_one then_other (stopped_in_form one other) x y ok may = absurd ok
+chosen_at_rest then_one then_other (taken now input) x y ok may = absurd ok
+chosen_at_rest then_one then_other handed_out x y ok may = absurd ok
+chosen_at_rest then_one then_other (stopped n one other) x y ok may = absurd ok
+chosen_at_rest then_one then_other (stopped_in_take now input n one other) x y ok may = absurd ok
+chosen_at_rest then_one then_other (stopped_in_commit inputs n one other) x y ok may = absurd ok
+chosen_at_rest then_one then_other (recovered t) x y ok may = record {
+  first = ok.first;
+  second = ok.second;
+  may = ok.left;
+  goes = λ s es on. inl (recovers s es t x y ok.first ok.second on.rules ok.closed on.has);
+}
+chosen_at_rest then_one then_other (stopped_in_recovery one other) x y ok may =
+    chosen_stopped then_one then_other one other x y (ok x y may.0 may.1)
+chosen_at_rest then_one then_other (refused one other) x y ok may = record {
+  first = x;
+  second = y;
+  may = ok x y may.0 may.1;
+  goes = λ s es on. inl (as_before s es (at_rest one other) x y (resting_at s es one other x y on.rules on.has));
+}
+
+-- ---- while none has come to be
+
+-- what stands has an area
+stands_first : (x y : List ℕ) (t : ShowState) → NeitherHas x y ⊎ Stands x y empty_state → Stands x y t → t ≡ empty_state
+stands_first x y t (inl none) h = absurd ((is_opened x y t h).0 none)
+stands_first x y t (inr stands) h = one_state x y t empty_state h stands
+
+closed_first : closed empty_state ≡ empty_state
+unfolding closed
+closed_first = refl
+
+either_first : (t : ShowState) (x y : List ℕ) → t ≡ empty_state → StandsEither t (closed t) x y → Stands x y empty_state
+either_first t x y same (inl h) = let P : ShowState → Type 0 = λ u. Stands x y u in subst P same h
+either_first t x y same (inr h) = let P : ShowState → Type 0 = λ u. Stands x y u in
+    subst P (ap closed same ∙ closed_first) h
+
+still_first : (then_one then_other : Contents) → LeavesFirst then_one then_other → (x y : List ℕ)
+    → IsUnformedOr first_area then_one then_other x y → NeitherHas x y ⊎ Stands x y empty_state
+still_first then_one then_other first x y (inl left) = first x y left.0 left.1
+still_first then_one then_other first x y (inr (inl none)) = inl none
+still_first then_one then_other first x y (inr (inr reads)) =
+    inr (record { area = first_area; reads = reads; stands =
+    fresh_stands 1 empty_state (state_text empty_state) refl refl })
+
+recovers_first : (then_one then_other : Contents) → LeavesFirst then_one then_other → (x y : List ℕ)
+    → IsLeftOrStands then_one then_other x y → NeitherHas x y ⊎ Stands x y empty_state
+recovers_first then_one then_other first x y (inl left) = first x y left.0 left.1
+recovers_first then_one then_other first x y (inr since) =
+    inr (either_first since.before x y
+        (stands_first since.first since.second since.before
+        (first since.first since.second since.left_first since.left_second) since.stood) since.stands)
+
+pub unformed_at : (s : ShowState) (es : List Event) (one other : Contents) (x y : List ℕ)
+    → IsTrue (is_state (after_events s es)) → after_events s es ≡ empty_state → LeavesFirst one other
+    → IsOn s es (unformed one other) x y
+unformed_at s es one other x y rules same first =
+    record { has = (same, first); owed = refl; readable = tt; rules = rules }
+
+-- an engine over the state owes what is pending in it
+begins_on : (s : ShowState) (es : List Event) (t : ShowState) (x y : List ℕ) → IsTrue (is_state (after_events s es))
+    → after_events s es ≡ t → IsOn s (es ++ []) (begun t) x y
+begins_on s es t x y rules same =
+    let P : ShowState → Type 0 = λ u. IsOn s (es ++ []) (begun u) x y in
+    subst P same (record {
+      has = sym (after_events-append s es []);
+      owed = all_earlier s es [] (all_pending (after_events s es)) (all_pending_rest (after_events s es) []);
+      readable = pending_readable (after_events s es) rules;
+      rules = rules_after s es [] rules refl;
+    })
+
+goes_unformed : (s : ShowState) (es : List Event) (then_one then_other : Contents) (i : Incident) (x y : List ℕ)
+    → IsTrue (is_state (after_events s es)) → after_events s es ≡ empty_state → LeavesFirst then_one then_other
+    → PermitsUnformed then_one then_other i
+    → Goes s es (unformed then_one then_other) i x y
+goes_unformed s es then_one then_other formed x y rules same first ok = inl (begins_on s es empty_state x y rules same)
+goes_unformed s es then_one then_other (stopped_in_form one other) x y rules same first ok =
+    inl (as_before s es (unformed one other) x y
+        (unformed_at s es one other x y rules same
+        (λ u v left_u left_v. still_first then_one then_other first u v (ok u v left_u left_v))))
+goes_unformed s es then_one then_other (taken now input) x y rules same first ok = absurd ok
+goes_unformed s es then_one then_other handed_out x y rules same first ok = absurd ok
+goes_unformed s es then_one then_other (stopped n one other) x y rules same first ok = absurd ok
+goes_unformed s es then_one then_other (stopped_in_take now input n one other) x y rules same first ok = absurd ok
+goes_unformed s es then_one then_other (stopped_in_commit inputs n one other) x y rules same first ok = absurd ok
+goes_unformed s es then_one then_other (recovered t) x y rules same first ok =
+    let stood : ok.closed.before ≡ empty_state =
+        stands_first ok.first ok.second ok.closed.before (first ok.first ok.second ok.left.0 ok.left.1)
+        ok.closed.stood in
+    inl (begins_again s es t x y rules (ok.closed.is ∙ ap closed (stood ∙ sym same)))
+goes_unformed s es then_one then_other (stopped_in_recovery one other) x y rules same first ok =
+    inr (refl, unformed_at s es one other x y rules same
+        (λ u v left_u left_v. recovers_first then_one then_other first u v (ok u v left_u left_v)))
+goes_unformed s es then_one then_other (refused one other) x y rules same first ok =
+    inl (as_before s es (unformed one other) x y
+        (unformed_at s es one other x y rules same (λ u v left_u left_v. let left = ok u v left_u left_v in first u v
+        left.0 left.1)))
+
+chosen_unformed : (then_one then_other : Contents) (i : Incident) (x y : List ℕ) → PermitsUnformed then_one then_other i
+    → Chosen (unformed then_one then_other) i x y
+chosen_unformed then_one then_other i x y ok = record {
+  first = [];
+  second = [];
+  may = tt;
+  goes = λ s es on. goes_unformed s es then_one then_other i x y on.rules on.has.0 on.has.1 ok;
+}
+
+pub chosen : (store : Store) (i : Incident) (x y : List ℕ) → Permits store i → MayOn (left_by store i) x y
+    → Chosen store i x y
+chosen (running t owed) i x y ok may = chosen_running t owed i x y ok may
+chosen (at_rest one other) i x y ok may = chosen_at_rest one other i x y ok may
+chosen (unformed one other) i x y ok may = chosen_unformed one other i x y ok

@@ -1,0 +1,160 @@
+-- Batches that are accepted together: their records, one more of them, and what they come to.
+use Rattle.std.proofs.Common.{◌≡◌, ℕ, ◌+◌, ◌≤◌, true, List, [], ◌∷◌, ◌++◌, length, map, sum_by, nat_le, IsTrue, refl}
+use Rattle.std.proofs.Common.{sym, ◌∙◌, ap, subst, arith, Vec, Global}
+use Rattle.std.proofs.lemmas.Bool.Decides.{nat_tests}
+use Rattle.std.proofs.lemmas.List.{map-append}
+use Rattle.std.proofs.lemmas.List.Sums.{sum_by_push}
+use Rattle.cue_log.specs.declared.area.TheConstants.{PAYLOAD_LIMIT}
+use Rattle.cue_log.specs.Area.{Area, with_payloads}
+use Rattle.cue_core.specs.declared.event.Event.{Event}
+use Rattle.cue_core.specs.State.{ShowState}
+use Rattle.cue_core.specs.Steps.{are_acceptable, after_events}
+use Rattle.cue_core.proofs.lists.ConditionLemmas.{both, join}
+use Rattle.cue_records.specs.Batch.{is_batch, batch_text}
+use Rattle.cue_keeper.specs.Groups.{with_events, records_of, are_all_acceptable, is_record, are_records, batches_view}
+use Rattle.cue_keeper.specs.Groups.{IsGroup}
+use Rattle.cue_keeper.specs.Stands.{are_in_turn, folded_all, StandsFor}
+use Rattle.cue_keeper.proofs.StandingLemmas.{in_turn, into_turn}
+
+-- ---- one batch more
+
+with_more : (batches : List (List Event)) (batch : List Event) → 1 ≤ length batch
+    → with_events (batches ++ batch ∷ []) ≡ with_events batches ++ batch ∷ []
+with_more [] [] some = absurd (omega (arith, some))
+with_more [] (e ∷ es) some = refl
+with_more ([] ∷ batches) batch some = with_more batches batch some
+with_more ((f ∷ fs) ∷ batches) batch some =
+    ap (λ (rest : List (List Event)). (f ∷ fs) ∷ rest) (with_more batches batch some)
+
+with_none : (batches : List (List Event)) (batch : List Event) → length batch ≡ 0
+    → with_events (batches ++ batch ∷ []) ≡ with_events batches
+with_none [] [] none = refl
+with_none [] (e ∷ es) none = absurd (omega (arith, none))
+with_none ([] ∷ batches) batch none = with_none batches batch none
+with_none ((f ∷ fs) ∷ batches) batch none =
+    ap (λ (rest : List (List Event)). (f ∷ fs) ∷ rest) (with_none batches batch none)
+
+each_more : (batches : List (List Event)) (batch : List Event) → are_records batches ≡ true
+    → (1 ≤ length batch → IsTrue (is_record batch)) → are_records (batches ++ batch ∷ []) ≡ true
+each_more [] [] each one = refl
+each_more [] (e ∷ es) each one = join (is_record (e ∷ es)) true (one (omega arith)) refl
+each_more ([] ∷ batches) batch each one = each_more batches batch each one
+each_more ((f ∷ fs) ∷ batches) batch each one =
+    let k = both (is_record (f ∷ fs)) (are_records batches) each in
+    join (is_record (f ∷ fs)) (are_records (batches ++ batch ∷ [])) k.0 (each_more batches batch k.1 one)
+
+fits : (batch : List Event) → IsTrue (is_batch batch) → length (batch_text batch) ≤ PAYLOAD_LIMIT
+    → IsTrue (is_record batch)
+fits batch is short =
+    let few : nat_le (length (batch_text batch)) PAYLOAD_LIMIT ≡ true = grind (arith, nat_tests) in
+    join (is_batch batch) (nat_le (length (batch_text batch)) PAYLOAD_LIMIT) is few
+
+-- a batch with an event is framed
+pub grown : (batches : List (List Event)) (batch : List Event) (records new_records : List (List ℕ))
+    (bytes new_bytes : ℕ) → IsGroup batches records bytes → IsTrue (is_batch batch)
+    → length (batch_text batch) ≤ PAYLOAD_LIMIT → 1 ≤ length batch
+    → new_records ≡ records ++ batch_text batch ∷ [] → new_bytes ≡ bytes + length (batch_text batch)
+        → IsGroup (batches ++ batch ∷ []) new_records new_bytes
+grown batches batch records new_records bytes new_bytes group is short some framed long = record {
+  each = each_more batches batch group.each (λ _. fits batch is short);
+  framed = framed ∙ ap (λ (rs : List (List ℕ)). rs ++ batch_text batch ∷ []) group.framed
+      ∙ sym (ap (map batch_text) (with_more batches batch some)
+          ∙ map-append batch_text (with_events batches) (batch ∷ []));
+  long = long ∙ ap (λ (n : ℕ). n + length (batch_text batch)) group.long
+      ∙ sym (ap (sum_by length) framed ∙ sum_by_push length records (batch_text batch));
+}
+
+-- one without an event is not
+pub not_grown : (batches : List (List Event)) (batch : List Event) (records : List (List ℕ)) (bytes : ℕ)
+    → IsGroup batches records bytes → length batch ≡ 0 → IsGroup (batches ++ batch ∷ []) records bytes
+not_grown batches batch records bytes group none = record {
+  each = each_more batches batch group.each (λ some. absurd (omega (arith, none, some)));
+  framed = group.framed ∙ sym (ap (map batch_text) (with_none batches batch none));
+  long = group.long;
+}
+
+-- as the code keeps them
+pub view_more : (batches : List (Vec Event Global)) (batch : Vec Event Global)
+    → batches_view (batches ++ batch ∷ []) ≡ batches_view batches ++ batch.items ∷ []
+view_more batches batch = map-append (λ (b : Vec Event Global). b.items) batches (batch ∷ [])
+
+-- the one batch that is a record
+pub only_record : (batches : List (List Event)) (batch : List Event) → are_records batches ≡ true
+    → with_events batches ≡ batch ∷ [] → IsTrue (is_record batch)
+only_record [] batch each only = absurd (cc only)
+only_record ([] ∷ batches) batch each only = only_record batches batch each only
+only_record ((f ∷ fs) ∷ batches) batch each only =
+    let k = both (is_record (f ∷ fs)) (are_records batches) each in
+    let same : f ∷ fs ≡ batch = cc (only) in
+    subst (λ (b : List Event). IsTrue (is_record b)) same k.0
+
+-- ---- what they come to
+
+-- those with an event come in turn
+pub in_turn_together : (s : ShowState) (batches : List (List Event)) → are_records batches ≡ true
+    → IsTrue (are_all_acceptable s batches) → IsTrue (are_in_turn s (with_events batches))
+in_turn_together s [] each may = refl
+in_turn_together s ([] ∷ batches) each may = in_turn_together s batches each may
+in_turn_together s ((e ∷ es) ∷ batches) each may =
+    let k = both (is_record (e ∷ es)) (are_records batches) each in
+    let l = both (are_acceptable s (e ∷ es)) (are_all_acceptable (after_events s (e ∷ es)) batches) may in
+    let one = both (is_batch (e ∷ es)) (nat_le (length (batch_text (e ∷ es))) PAYLOAD_LIMIT) k.0 in
+    into_turn s (e ∷ es) (with_events batches)
+        (record { is_one = one.0; acceptable = l.0; rest = in_turn_together (after_events s (e ∷ es)) batches k.1 l.1 })
+
+-- and change what all of them change
+pub folded_together : (s : ShowState) (batches : List (List Event))
+    → folded_all s (with_events batches) ≡ folded_all s batches
+folded_together s [] = refl
+folded_together s ([] ∷ batches) = folded_together s batches
+folded_together s ((e ∷ es) ∷ batches) = folded_together (after_events s (e ∷ es)) batches
+
+-- of one
+pub folded_only : (s : ShowState) (batches : List (List Event)) (batch : List Event) → with_events batches ≡ batch ∷ []
+    → folded_all s batches ≡ after_events s batch
+folded_only s batches batch only = sym (folded_together s batches) ∙ ap (folded_all s) only
+
+pub acceptable_only : (s : ShowState) (batches : List (List Event)) (batch : List Event) → are_records batches ≡ true
+    → IsTrue (are_all_acceptable s batches) → with_events batches ≡ batch ∷ [] → IsTrue (are_acceptable s batch)
+acceptable_only s batches batch each may only =
+    (in_turn s batch [] (subst (λ (bs : List (List Event)). IsTrue (are_in_turn s bs)) only
+        (in_turn_together s batches each may))).acceptable
+
+-- of none
+pub folded_none : (s : ShowState) (batches : List (List Event)) → with_events batches ≡ [] → s ≡ folded_all s batches
+folded_none s batches none = sym (ap (folded_all s) none) ∙ folded_together s batches
+
+-- batches that follow others
+in_turn_all : (s : ShowState) (first then : List (List Event)) → IsTrue (are_in_turn s first)
+    → IsTrue (are_in_turn (folded_all s first) then) → IsTrue (are_in_turn s (first ++ then))
+in_turn_all s [] then h k = k
+in_turn_all s (batch ∷ first) then h k =
+    let t = in_turn s batch first h in
+    into_turn s batch (first ++ then)
+        (record { is_one = t.is_one; acceptable = t.acceptable; rest =
+        in_turn_all (after_events s batch) first then t.rest k })
+
+pub folded_append : (s : ShowState) (first then : List (List Event))
+    → folded_all s (first ++ then) ≡ folded_all (folded_all s first) then
+folded_append s [] then = refl
+folded_append s (batch ∷ first) then = folded_append (after_events s batch) first then
+
+pub area_all : (area : Area) (s : ShowState) (batches : List (List Event)) (payloads : List (List ℕ)) → StandsFor area s
+    → are_records batches ≡ true → IsTrue (are_all_acceptable s batches) → payloads ≡ records_of batches
+    → StandsFor (with_payloads area payloads) (folded_all s batches)
+area_all area s batches payloads stands each may texts =
+    let then : List (List Event) = with_events batches in
+    let turn : IsTrue (are_in_turn s then) = in_turn_together s batches each may in
+    record {
+      base = stands.base;
+      batches = stands.batches ++ then;
+      is_base = stands.is_base;
+      in_turn = in_turn_all stands.base stands.batches then stands.in_turn
+          (subst (λ (t : ShowState). IsTrue (are_in_turn t then)) stands.is turn);
+      base_text = stands.base_text;
+      texts = ap (λ (ps : List (List ℕ)). ps ++ payloads) stands.texts
+          ∙ ap (λ (ps : List (List ℕ)). map batch_text stands.batches ++ ps) texts
+          ∙ sym (map-append batch_text stands.batches then);
+      is = sym (folded_together s batches) ∙ ap (λ (t : ShowState). folded_all t then) stands.is
+          ∙ sym (folded_append stands.base stands.batches then);
+    }

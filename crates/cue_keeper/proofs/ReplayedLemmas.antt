@@ -1,0 +1,103 @@
+-- What reading finds, payload after payload, as a loop takes them.
+use Rattle.std.proofs.Common.{◌≡◌, ℕ, false, List, [], ◌∷◌, Option, None, Some, Result, Ok, Err, IsTrue, OnOk, IsErrOf}
+use Rattle.std.proofs.Common.{refl, sym, ◌∙◌, ap}
+use Rattle.cue_core.specs.declared.event.Event.{Event}
+use Rattle.cue_core.specs.State.{ShowState, is_state}
+use Rattle.cue_core.specs.Steps.{are_acceptable, after_events}
+use Rattle.cue_records.specs.Batch.{is_batch, batch_text, IsNoBatch}
+use Rattle.cue_records.specs.Reading.{◌>>=◌, where_it}
+use Rattle.cue_records.specs.State.{IsStateText, IsNoState}
+use Rattle.cue_log.specs.Area.{Area}
+use Rattle.cue_keeper.specs.Stands.{StandsFor}
+use Rattle.cue_keeper.specs.Reading.{batch_in, base_in, state_behind, state_after, state_read, state_in}
+use Rattle.cue_keeper.proofs.StandingLemmas.{taken, found, where_true, batch_again, base_again, batch_takes, base_takes}
+
+pub on_ok : {T E A B : Type 0} (r : Result T E) → (A → B) → OnOk r A → OnOk r B
+on_ok (Ok x) from has = from has
+on_ok (Err e) from has = has
+
+-- the fault of a result
+pub same_error : {T E : Type 0} {e f : E} → IsErrOf {T = T} (Err e) f → e ≡ f
+same_error is = cc
+
+-- one fault, of two calls that answer different values
+pub same_fault : {S T E : Type 0} (e f : E) → IsErrOf {T = S} (Err e) f → IsErrOf {T = T} (Err e) f
+same_fault e f is = let same : e ≡ f = cc in ap Err same
+
+-- ---- one payload
+
+-- the batch whose text it is
+pub is_in : (payload : List ℕ) (batch : List Event) → IsTrue (is_batch batch) × (payload ≡ batch_text batch)
+    → batch_in payload ≡ Some batch
+is_in payload batch is = ap batch_in is.1 ∙ batch_again batch is.0
+
+pub behind_one : (s t : ShowState) (payload : List ℕ) (batch : List Event) → IsTrue (is_batch batch)
+    × (payload ≡ batch_text batch) → IsTrue (are_acceptable s batch) × (t ≡ after_events s batch)
+    → state_behind s payload ≡ Some t
+behind_one s t payload batch is may =
+    rw (is_in payload batch is) (where_true (are_acceptable s batch) (after_events s batch) may.0 ∙ ap Some (sym may.1))
+
+pub behind_refused : (s : ShowState) (payload : List ℕ) (batch : List Event) → IsTrue (is_batch batch)
+    × (payload ≡ batch_text batch) → are_acceptable s batch ≡ false → state_behind s payload ≡ None
+behind_refused s payload batch is may = rw (is_in payload batch is, may) refl
+
+pub behind_no_batch : (s : ShowState) (payload : List ℕ) → IsNoBatch payload → state_behind s payload ≡ None
+behind_no_batch s payload none = by (batch_in payload) refl
+  where
+    by : (o : Option (List Event)) → batch_in payload ≡ o
+        → (o >>= λ batch. where_it (are_acceptable s batch) (after_events s batch)) ≡ None
+    by None e = refl
+    by (Some batch) e =
+        let is = batch_takes payload batch e in
+        absurd (none batch is.0 is.1)
+
+-- ---- all payloads
+
+pub after_next : (s t : ShowState) (payload : List ℕ) (payloads others : List (List ℕ)) → payloads ≡ payload ∷ others
+    → state_behind s payload ≡ Some t → state_after s payloads ≡ state_after t others
+unfolding state_after
+after_next s t payload payloads others is one = ap (state_after s) is ∙ rw one refl
+
+pub after_refused : (s : ShowState) (payload : List ℕ) (payloads others : List (List ℕ)) → payloads ≡ payload ∷ others
+    → state_behind s payload ≡ None → state_after s payloads ≡ None
+unfolding state_after
+after_refused s payload payloads others is none = ap (state_after s) is ∙ rw none refl
+
+pub after_all : (s : ShowState) (payloads : List (List ℕ)) → payloads ≡ [] → state_after s payloads ≡ Some s
+unfolding state_after
+after_all s payloads is = ap (state_after s) is
+
+-- ---- a snapshot and payloads
+
+pub read_on : (snapshot : List ℕ) (payloads : List (List ℕ)) (base : ShowState)
+    → IsTrue (is_state base) × IsStateText snapshot base → state_read snapshot payloads ≡ state_after base payloads
+unfolding state_read
+read_on snapshot payloads base is =
+    let found : base_in snapshot ≡ Some base = base_again snapshot base is.0 is.1 in
+    rw found refl
+
+pub read_none : (snapshot : List ℕ) (payloads : List (List ℕ)) → IsNoState snapshot
+    → state_read snapshot payloads ≡ None
+unfolding state_read
+read_none snapshot payloads none = by (base_in snapshot) refl
+  where
+    by : (o : Option ShowState) → base_in snapshot ≡ o → (o >>= λ base. state_after base payloads) ≡ None
+    by None e = refl
+    by (Some base) e =
+        let is = base_takes snapshot base e in
+        absurd (none base is.0 is.1)
+
+-- what was read is what the area stands for
+pub read_stands : (area : Area) (snapshot : List ℕ) (payloads : List (List ℕ)) (s : ShowState)
+    → snapshot ≡ area.snapshot → payloads ≡ area.payloads → state_read snapshot payloads ≡ Some s → StandsFor area s
+read_stands area snapshot payloads s one other read = taken area s (ap (λ x. state_read x area.payloads) (sym one)
+    ∙ ap (state_read snapshot) (sym other) ∙ read)
+
+-- and where nothing was read it stands for none
+pub none_stands : (area : Area) (snapshot : List ℕ) (payloads : List (List ℕ)) → snapshot ≡ area.snapshot
+    → payloads ≡ area.payloads → state_read snapshot payloads ≡ None → (s : ShowState) → StandsFor area s → ⊥
+none_stands area snapshot payloads one other read s stands =
+    let none : state_in area ≡ None = ap (λ x. state_read x area.payloads) (sym one)
+        ∙ ap (state_read snapshot) (sym other) ∙ read in
+    let some : state_in area ≡ Some s = found area s stands in
+    absurd cc

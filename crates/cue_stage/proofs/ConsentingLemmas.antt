@@ -1,0 +1,212 @@
+-- A device moves only with the consent of each required device, where only devices answer.
+use Rattle.std.proofs.Common.{◌≡◌, ◌⊎◌, inl, inr, ℕ, ◌+◌, ◌<◌, Bool, true, false, cond, ◌&&◌, ◌||◌, List, [], ◌∷◌, ◌++◌}
+use Rattle.std.proofs.Common.{nat_eq, refl, sym, ap, ◌∙◌, subst, true≢false, arith, IsTrue}
+use Rattle.std.specs.List.{AllByRecursion, Contains, list_all, list_any}
+use Rattle.std.proofs.lemmas.Bool.Decides.{nat_tests}
+use Rattle.cue_show.specs.declared.part.Part.{Part}
+use Rattle.cue_core.specs.declared.event.Event.{Event}
+use Rattle.cue_core.specs.declared.event.Event.TheVariants as event
+use Rattle.cue_core.specs.Events.{is_about, is_ready_of, is_start_of}
+use Rattle.cue_core.specs.Happenings.{onto}
+use Rattle.cue_core.specs.History.{is_history, parts_by, state_of}
+use Rattle.cue_core.specs.State.{ShowState, empty_state}
+use Rattle.cue_core.specs.Steps.{acceptable}
+use Rattle.cue_core.proofs.history.AttemptLemmas.{parts_by-on, quiet}
+use Rattle.cue_core.proofs.history.HappeningLemmas.{history-onto}
+use Rattle.cue_core.proofs.lists.AnyLemmas.{any-append, or_left, or_right}
+use Rattle.cue_core.proofs.lists.ConditionLemmas.{both, neither}
+use Rattle.cue_core.proofs.rules.SoundLemmas.{kept-history}
+use Rattle.cue_core.proofs.rules.BatchLemmas.{onto-append}
+use Rattle.cue_engine.specs.Attempts.{IsDecidedInOrder, may_go_after}
+use Rattle.cue_engine.specs.Incidents.{Incident, formed, stopped_in_form, taken, handed_out, stopped, stopped_in_take}
+use Rattle.cue_engine.specs.Incidents.{stopped_in_commit, recovered, stopped_in_recovery, refused}
+use Rattle.cue_engine.specs.Runs.{joined}
+use Rattle.cue_engine.proofs.AttemptLemmas.{any_in}
+use Rattle.cue_device.specs.Hearing.{rested}
+use Rattle.cue_device.specs.Histories.{answers_of}
+use Rattle.cue_device.specs.Laws.{has_stood_by}
+use Rattle.cue_stage.specs.Stage.{Beginning, Happening, meets, befalls, incidents, life_of}
+use Rattle.cue_stage.specs.Consent.{HasStoodBy, IsRequired, OnlyDevicesAnswer, OnlyWithConsent}
+use Rattle.cue_stage.proofs.DeliveredLemmas.{each_has}
+use Rattle.cue_stage.proofs.KeptLemmas.{Around, around, decided_kept, kept_ok}
+use Rattle.cue_stage.proofs.LifeLemmas.{keeps_numbers}
+use Rattle.cue_stage.proofs.PreparedLemmas.{said_told, said_still}
+use Rattle.cue_stage.proofs.SayingLemmas.{SaidIn, SaysAt, kept_says}
+
+-- ---- what an input says has been answered
+
+answered_still : (from : Beginning) (h : Happening) (past : List Happening) (d q : ℕ) → HasStoodBy from past d q
+    → HasStoodBy from (h ∷ past) d q
+answered_still from (meets i) past d q said = said
+answered_still from (befalls e what) past d q said = by (nat_eq e d)
+  where
+    by : (b : Bool) → has_stood_by q
+        (answers_of (rested d (from.over d)) (cond b (what ∷ life_of d past) (life_of d past))) ≡ true
+    by true = said_still d (from.over d) q what (life_of d past) said
+    by false = said
+
+said_before_or_at : (q d : ℕ) (is : List Incident) (i : Incident) → SaidIn q d (is ++ i ∷ [])
+    → SaidIn q d is ⊎ SaysAt q d i
+said_before_or_at q d [] i (inl now) = inr now
+said_before_or_at q d [] i (inr later) = absurd later
+said_before_or_at q d (j ∷ is) i (inl first) = inl (inl first)
+said_before_or_at q d (j ∷ is) i (inr later) = by (said_before_or_at q d is i later)
+  where
+    by : SaidIn q d is ⊎ SaysAt q d i → SaidIn q d (j ∷ is) ⊎ SaysAt q d i
+    by (inl before) = inl (inr before)
+    by (inr now) = inr now
+
+true_now : (from : Beginning) (past : List Happening) (d q : ℕ) (i : Incident) → OnlyDevicesAnswer from (meets i ∷ past)
+    → SaysAt q d i → HasStoodBy from past d q
+true_now from past d q formed only says = absurd says
+true_now from past d q (stopped_in_form one other) only says = absurd says
+true_now from past d q (taken now input) only says = only.0 d q says
+true_now from past d q handed_out only says = absurd says
+true_now from past d q (stopped n one other) only says = absurd says
+true_now from past d q (stopped_in_take now input n one other) only says = only.0 d q says
+true_now from past d q (stopped_in_commit inputs n one other) only says = only.0 says.input says.there d q says.says
+true_now from past d q (recovered t) only says = absurd says
+true_now from past d q (stopped_in_recovery one other) only says = absurd says
+true_now from past d q (refused one other) only says = absurd says
+
+said_is_answered : (from : Beginning) (past : List Happening) (d q : ℕ) → OnlyDevicesAnswer from past
+    → SaidIn q d (incidents past) → HasStoodBy from past d q
+said_is_answered from [] d q only said = absurd said
+said_is_answered from (meets i ∷ past) d q only said =
+    by (λ k. said_is_answered from past d q only.1 k) (said_before_or_at q d (incidents past) i said)
+  where
+    by : (SaidIn q d (incidents past) → HasStoodBy from past d q) → SaidIn q d (incidents past) ⊎ SaysAt q d i
+        → HasStoodBy from past d q
+    by f (inl before) = f before
+    by f (inr now) = true_now from past d q i only now
+said_is_answered from (befalls e what ∷ past) d q only said =
+    answered_still from (befalls e what) past d q (said_is_answered from past d q only.1 said)
+
+-- ---- the parts of an attempt are those of its Start, whatever comes later
+
+parts_stay : (q : ℕ) (es past : List Event) → list_any (is_start_of q) es ≡ false
+    → parts_by (onto es past) q ≡ parts_by past q
+parts_stay q [] past none = refl
+parts_stay q (e ∷ es) past none = by (is_start_of q e) refl (λ k. parts_stay q es (e ∷ past) k) none
+  where
+    by : (b : Bool) → is_start_of q e ≡ b
+        → (list_any (is_start_of q) es ≡ false → parts_by (onto es (e ∷ past)) q ≡ parts_by (e ∷ past) q)
+        → (b || list_any (is_start_of q) es) ≡ false → parts_by (onto es (e ∷ past)) q ≡ parts_by past q
+    by true is f k = absurd (true≢false k)
+    by false is f k = f k ∙ parts_by-on q e past is
+
+history_before : (es past : List Event) → IsTrue (is_history (onto es past)) → IsTrue (is_history past)
+history_before [] past h = h
+history_before (e ∷ es) past h =
+    (both (acceptable (state_of past) e) (is_history past) (history_before es (e ∷ past) h)).1
+
+-- a number that is drawn is above the last one
+start_is_above : (q : ℕ) (s : ShowState) (e : Event) → is_start_of q e ≡ true → acceptable s e ≡ true → s.last_seq < q
+start_is_above q s (event.Device e p) is ok = absurd (true≢false (sym is))
+start_is_above q s (event.NoDevice e) is ok = absurd (true≢false (sym is))
+start_is_above q s (event.Cue x ps) is ok = absurd (true≢false (sym is))
+start_is_above q s (event.NoCue x) is ok = absurd (true≢false (sym is))
+start_is_above q s (event.Place x) is ok = absurd (true≢false (sym is))
+start_is_above q s (event.Start p x t) is ok = let drawn = (both (nat_eq p (s.last_seq + 1)) _ ok).0 in
+    grind (arith, nat_tests)
+start_is_above q s (event.Ready p e) is ok = absurd (true≢false (sym is))
+start_is_above q s (event.Go p) is ok = absurd (true≢false (sym is))
+start_is_above q s (event.Done p e) is ok = absurd (true≢false (sym is))
+start_is_above q s (event.Cancel p r) is ok = absurd (true≢false (sym is))
+start_is_above q s (event.LetGo p e) is ok = absurd (true≢false (sym is))
+start_is_above q s (event.Failed p e) is ok = absurd (true≢false (sym is))
+start_is_above q s (event.Excuse p e) is ok = absurd (true≢false (sym is))
+
+none_started : (q : ℕ) (es : List Event) → list_any (is_about q) es ≡ false → list_any (is_start_of q) es ≡ false
+none_started q [] h = refl
+none_started q (e ∷ es) h = let w = neither (is_about q e) (list_any (is_about q) es) h in
+    rw (quiet q e w.0).start (none_started q es w.1)
+
+-- an attempt that has started does not start again
+no_start : (q : ℕ) (es past : List Event) → IsTrue (is_history (onto es past)) → list_any (is_start_of q) past ≡ true
+    → list_any (is_start_of q) es ≡ false
+no_start q [] past h started = refl
+no_start q (e ∷ es) past h started =
+    by (is_start_of q e) refl (λ k. no_start q es (e ∷ past) h (or_right (is_start_of q e) _ started))
+  where
+    new : is_start_of q e ≡ true → ⊥
+    new is =
+        let w = both (acceptable (state_of past) e) (is_history past) (history_before es (e ∷ past) h) in
+        let above : (state_of past).last_seq < q = start_is_above q (state_of past) e is w.0 in
+        true≢false (sym started ∙ none_started q past ((kept-history past w.1).unused q above))
+
+    by : (b : Bool) → is_start_of q e ≡ b → (Unit {0} → list_any (is_start_of q) es ≡ false)
+        → (b || list_any (is_start_of q) es) ≡ false
+    by true is f = absurd (new is)
+    by false is f = f tt
+
+-- ---- consent
+
+all_of : {X : Type 0} (p : X → Bool) (xs : List X) → list_all p xs ≡ true → AllByRecursion (λ x. p x ≡ true) xs
+all_of p [] h = tt
+all_of p (x ∷ xs) h = let w = both (p x) (list_all p xs) h in (w.0, all_of p xs w.1)
+
+-- a required one was ready
+required_ready : (ready optional excused : Bool) → (ready || (optional && excused)) ≡ true → optional ≡ false
+    → ready ≡ true
+required_ready true optional excused h e = refl
+required_ready false false excused h e = absurd (true≢false (sym h))
+required_ready false true excused h e = absurd (true≢false e)
+
+-- the parts of q by the kept events are those by the events before its Go
+parts_before : (q : ℕ) (before later : List Event) → IsTrue (is_history (onto (before ++ event.Go q ∷ later) []))
+    → list_any (is_start_of q) before ≡ true
+    → parts_by (onto (before ++ event.Go q ∷ later) []) q ≡ parts_by (onto before []) q
+parts_before q before later h started =
+    let past : List Event = onto before [] in
+    let split : onto (before ++ event.Go q ∷ later) [] ≡ onto (event.Go q ∷ later) past =
+        onto-append before (event.Go q ∷ later) [] in
+    let begun : list_any (is_start_of q) past ≡ true =
+        any_in (is_start_of q) before [] (or_left (list_any (is_start_of q) before) false started) in
+    let none = no_start q (event.Go q ∷ later) past (subst (λ (es : List Event). IsTrue (is_history es)) split h)
+        begun in
+    ap (λ (es : List Event). parts_by es q) split ∙ parts_stay q (event.Go q ∷ later) past none
+
+-- each required device of what was decided was ready before
+was_ready : (q e : ℕ) (es before later : List Event) → es ≡ before ++ event.Go q ∷ later
+    → IsTrue (is_history (onto es [])) → IsDecidedInOrder q before later → IsRequired es q e
+    → list_any (is_ready_of q e) es ≡ true
+was_ready q e es before later split h decided r =
+    let same : parts_by (onto es []) q ≡ parts_by (onto before []) q =
+    ap (λ (xs : List Event). parts_by (onto xs []) q) split
+        ∙ parts_before q before later (subst (λ (xs : List Event). IsTrue (is_history (onto xs []))) split h)
+        decided.started in
+    let here : Contains (parts_by (onto before []) q) r.part =
+        subst (λ (ps : List Part). Contains ps r.part) same r.of_cue in
+    let may : may_go_after before q r.part ≡ true =
+        each_has (λ (p : Part). may_go_after before q p ≡ true) (parts_by (onto before []) q) r.part
+        (all_of (may_go_after before q) (parts_by (onto before []) q) decided.all_ready) here in
+    let ready = required_ready (list_any (is_ready_of q r.part.device) before) r.part.optional _ may r.required in
+    let there = or_left (list_any (is_ready_of q r.part.device) before)
+        (list_any (is_ready_of q r.part.device) (event.Go q ∷ later)) ready in
+    subst (λ (d : ℕ). list_any (is_ready_of q d) es ≡ true) r.is_it
+    (ap (list_any (is_ready_of q r.part.device)) split
+        ∙ (any-append (is_ready_of q r.part.device) before (event.Go q ∷ later) ∙ there))
+
+started_in : (q : ℕ) (before later es : List Event) → es ≡ before ++ event.Go q ∷ later
+    → list_any (is_start_of q) before ≡ true → list_any (is_start_of q) es ≡ true
+started_in q before later es split h = ap (list_any (is_start_of q)) split
+    ∙ (any-append (is_start_of q) before (event.Go q ∷ later) ∙ or_left (list_any (is_start_of q) before) _ h)
+
+pub only_with_consent : OnlyWithConsent
+only_with_consent from past x y d q h only keeps moved =
+    let es : List Event = joined keeps.kept in
+    let history : IsTrue (is_history (onto es [])) =
+        history-onto es [] refl (kept_ok empty_state (incidents past) keeps.kept refl keeps.prefix) in
+    let a : Around q es = around q es (keeps.decided d q moved) in
+    let decided : IsDecidedInOrder q a.before a.later = decided_kept q (incidents past) keeps.kept keeps.prefix a in
+    record {
+      started = started_in q a.before a.later es a.split decided.started;
+      each = λ e r.
+          let ready = was_ready q e es a.before a.later a.split history decided r in
+          let answered : HasStoodBy from past e q =
+              said_is_answered from past e q only (kept_says q e empty_state (incidents past) keeps.kept keeps.prefix
+              ready) in
+          record { prepared = said_told e (from.over e) q (life_of e past) (keeps_numbers from past e h) answered;
+              answered = answered };
+    }

@@ -1,0 +1,87 @@
+-- What is handed over rests on the batches that are kept.
+use Rattle.std.proofs.Common.{ℕ, ◌^◌, ◌<◌, ◌≤◌, List, [], ◌∷◌, refl, ap, ◌∙◌, IsTrue, arith}
+use Rattle.std.specs.Prelude.{codes}
+use Rattle.std.specs.List.{AllByRecursion, list_any}
+use Rattle.std.proofs.lemmas.Bool.{leb-true}
+use Rattle.cue_show.specs.declared.limits.TheConstants.{MAX_DEVICE_NUMBER}
+use Rattle.cue_show.specs.DeviceNumber.{is_device}
+use Rattle.cue_core.specs.declared.event.Event.{Event}
+use Rattle.cue_core.specs.Events.{is_cancel_of, is_go_of}
+use Rattle.cue_core.specs.State.{empty_state}
+use Rattle.cue_core.specs.Pending.{cancel, go_2pc}
+use Rattle.cue_outbox.specs.Sending.{number, order_content}
+use Rattle.cue_osc.specs.Reading.{datagram_at}
+use Rattle.cue_outbox.proofs.ReadBackLemmas.{read_back, cancel_writable, go_2pc_writable}
+use Rattle.cue_engine.specs.Headline.{CameTo}
+use Rattle.cue_engine.specs.InBytes.{AreReadAs, BytesRest}
+use Rattle.cue_engine.specs.Runs.{joined}
+use Rattle.cue_engine.proofs.PromisedLemmas.{whatever_happens}
+use Rattle.cue_device.specs.declared.asked.Command.TheVariants.{Go, Cancel}
+use Rattle.cue_device.specs.declared.reading.TheConstants.{MAX_NUMBER}
+use Rattle.cue_device.specs.Datagrams.{IsFor, command_text}
+use Rattle.cue_stage.specs.Stage.{Beginning, Happening, handed_by, incidents}
+use Rattle.cue_stage.specs.Laws.{KeepsEachDecision, MovesRestOnDecisions, NotByHalves}
+use Rattle.cue_stage.proofs.LifeLemmas.{begins, store_happens}
+use Rattle.cue_stage.proofs.DeliveredLemmas.{WasTold, each_has, was_told, was_told_to_go}
+use Rattle.cue_stage.proofs.KeptLemmas.{never_both}
+
+device_fits : (d : ℕ) → IsTrue (is_device d) → d < 2 ^ 31
+device_fits d h = let le : d ≤ MAX_DEVICE_NUMBER = leb-true d MAX_DEVICE_NUMBER h in omega arith
+
+-- the bytes that a device takes for a GO_2PC are read as one
+read_as_go : (d q : ℕ) (bytes : List ℕ) → IsTrue (is_device d) → IsFor d bytes (Go q)
+    → AreReadAs bytes (codes "/msc/go_2pc") q
+unfolding command_text order_content
+read_as_go d q bytes is_number f =
+    let most : q ≤ MAX_NUMBER = f.is_command.numbered.1 in
+    let below : q < 2 ^ 31 = omega arith in
+    (number d ∷ [], ap datagram_at f.text
+        ∙ read_back (order_content (go_2pc q d)) (go_2pc_writable q d below (device_fits d is_number)))
+
+read_as_cancel : (d q : ℕ) (bytes : List ℕ) → IsTrue (is_device d) → IsFor d bytes (Cancel q)
+    → AreReadAs bytes (codes "/msc/cancel") q
+unfolding command_text order_content
+read_as_cancel d q bytes is_number f =
+    let most : q ≤ MAX_NUMBER = f.is_command.numbered.1 in
+    let below : q < 2 ^ 31 = omega arith in
+    (number d ∷ [], ap datagram_at f.text
+        ∙ read_back (order_content (cancel q d)) (cancel_writable q d below (device_fits d is_number)))
+
+-- all that was handed over rests on the events
+abbrev Rest : Beginning → List Happening → List Event → Type 0
+Rest from past es = AllByRecursion (λ m. BytesRest empty_state es m.1) (handed_by from past)
+
+go_rests : (from : Beginning) (past : List Happening) (es : List Event) (d q : ℕ) → Rest from past es
+    → WasTold from past d (Go q) → IsTrue (list_any (is_go_of q) es)
+go_rests from past es d q rest told =
+    let m = told.delivered in
+    let bytes : BytesRest empty_state es m.datagram.1 = each_has (λ (m : ℕ × List ℕ). BytesRest empty_state es m.1)
+        (handed_by from past) m.datagram rest m.was_handed in
+    bytes.go_2pc q (read_as_go d q m.datagram.1 told.number m.is_command)
+
+cancel_rests : (from : Beginning) (past : List Happening) (es : List Event) (d q : ℕ) → Rest from past es
+    → WasTold from past d (Cancel q) → IsTrue (list_any (is_cancel_of q) es)
+cancel_rests from past es d q rest told =
+    let m = told.delivered in
+    let bytes : BytesRest empty_state es m.datagram.1 = each_has (λ (m : ℕ × List ℕ). BytesRest empty_state es m.1)
+        (handed_by from past) m.datagram rest m.was_handed in
+    bytes.cancelled q (read_as_cancel d q m.datagram.1 told.number m.is_command)
+
+pub moves_rest_on_decisions : MovesRestOnDecisions
+moves_rest_on_decisions from past x y h may =
+    let came : CameTo empty_state from.store (incidents past) x y =
+        whatever_happens empty_state from.store (incidents past) x y refl (begins from past h)
+        (store_happens from past h) may in
+    record {
+      kept = came.kept;
+      prefix = came.prefix;
+      has = came.has;
+      decided = λ d q m. go_rests from past (joined came.kept) d q came.in_bytes (was_told_to_go from past d q h m);
+      cancelled = λ d q m. cancel_rests from past (joined came.kept) d q came.in_bytes
+          (was_told from past d (Cancel q) h m);
+    }
+
+pub not_by_halves : NotByHalves
+not_by_halves from past x y d e q h may moved given_up =
+    let came : KeepsEachDecision from past x y = moves_rest_on_decisions from past x y h may in
+    never_both q (incidents past) came.kept came.prefix (came.decided d q moved) (came.cancelled e q given_up)

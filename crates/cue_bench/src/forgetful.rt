@@ -1,7 +1,7 @@
 //! A disk in memory that keeps its bytes and no history, so that a long run takes no more memory than a short one.
 ghost use Rattle.std.specs.Prelude.{[], ◌≤◌};
 ghost use Rattle.cue_disk.specs.Disk.{MoreFailures};
-ghost use Rattle.cue_disk.specs.Effect.{settled};
+ghost use Rattle.cue_disk.specs.Effect.{settled_contents};
 
 use cue_disk::{Disk, DiskFault};
 use std::alloc::Global;
@@ -38,11 +38,11 @@ fn index_of(at: u64) -> usize {
 }
 
 impl Disk for ForgetfulDisk {
-    ghost held = { λ _. settled [] };
+    ghost held = { λ _. settled_contents [] };
 
     ghost moment = { λ _. 0 };
 
-    ghost held_at = { λ _ _. settled [] };
+    ghost held_at = { λ _ _. settled_contents [] };
 
     ghost failures = { λ disk. disk.failures };
 

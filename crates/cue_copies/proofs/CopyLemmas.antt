@@ -60,13 +60,13 @@ pub front_full : (bytes whole : List ℕ) (limit len : ℕ) → IsFront bytes wh
     → len ≤ length bytes → length bytes ≤ limit → bytes ≡ take limit whole
 front_full bytes whole limit len front is full short =
     let within : length bytes ≡ min (length bytes) (length whole) = ap length front
-        ∙ length-take (length bytes) whole in
+    ∙ length-take (length bytes) whole in
     front_whole bytes whole limit front (omega (arith, is, within))
 
 take_both : (n more : ℕ) (bytes : List ℕ) → take (n + more) bytes ≡ take n bytes ++ take more (drop n bytes)
 take_both n more bytes =
     sym (take-append-drop n (take (n + more) bytes))
-        ∙ (λ i. take-take n (n + more) bytes (omega arith) i ++ drop-take n more bytes i)
+    ∙ (λ i. take-take n (n + more) bytes (omega arith) i ++ drop-take n more bytes i)
 
 -- a front that was read on
 pub front_on : (bytes next whole : List ℕ) (limit len : ℕ) → IsFront bytes whole → length bytes ≤ len
@@ -76,7 +76,7 @@ front_on bytes next whole limit len front longer is read long =
     let sum : length bytes + (len - length bytes) ≡ len = omega (arith, longer) in
     let more : next ≡ take len whole =
     read ∙ ap (λ (l : List ℕ). l ++ take (len - length bytes) (drop (length bytes) whole)) front
-        ∙ sym (take_both (length bytes) (len - length bytes) whole) ∙ ap (λ (n : ℕ). take n whole) sum in
+    ∙ sym (take_both (length bytes) (len - length bytes) whole) ∙ ap (λ (n : ℕ). take n whole) sum in
     front_whole next whole limit (front_of next whole len more) (long ∙ is)
 
 -- what is said of the copies is said of those that were taken

@@ -20,12 +20,12 @@ abbrev pub is_decided_in : ShowState → ℕ → Bool
 is_decided_in s q = holds q (λ a. is_decided a.stage) s.live
 
 -- the state with its undecided attempts cancelled
-unfoldable pub closed : ShowState → ShowState
-closed s = after_events s (events_at s recovered)
+unfoldable pub closed_state : ShowState → ShowState
+closed_state s = after_events s (events_at s recovered)
 
 -- Closing twice is closing once.
 abbrev pub ClosedStays : Type 0
-ClosedStays = (s : ShowState) → closed (closed s) ≡ closed s
+ClosedStays = (s : ShowState) → closed_state (closed_state s) ≡ closed_state s
 
 -- The state that a history leads to is that of its events in turn.
 abbrev pub HistoriesFold : Type 0

@@ -55,16 +55,16 @@ abbrev pub Judgement : Type 0
 Judgement = Verdict × List Event
 
 -- the command is carried out by these events
-abbrev pub made : List Event → Judgement
-made es = (Made, es)
+abbrev pub made_by : List Event → Judgement
+made_by es = (Made, es)
 
 -- the command says what is so already
-abbrev pub known : Judgement
-known = (Known, [])
+abbrev pub known_already : Judgement
+known_already = (Known, [])
 
 -- the command is refused with a code
-abbrev pub refused : Code → Judgement
-refused c = (No c, [])
+abbrev pub refused_with : Code → Judgement
+refused_with c = (No c, [])
 
 -- the first line whose test holds, and else the last word
 abbrev pub first_line : List (Bool × Judgement) → Judgement → Judgement
@@ -75,41 +75,42 @@ first_line (l ∷ ls) last = if l.0 then l.1 else first_line ls last
 
 abbrev pub on_add_device : ShowState → ℕ → ℕ → Judgement
 on_add_device s d port =
-    option_map_or (λ p. if nat_eq p port then known else refused code.Duplicate)
-    (port_of s.show d) (made (event.Device d port ∷ []))
+    option_map_or (λ p. if nat_eq p port then known_already else refused_with code.Duplicate)
+    (port_of s.show d) (made_by (event.Device d port ∷ []))
 
 abbrev pub on_remove_device : ShowState → ℕ → Judgement
 on_remove_device s d =
     first_line (
-    (not (has_device s.show d), refused code.NoMethod)
-    ∷ (is_used s.show d, refused code.InUse)
+    (not (has_device s.show d), refused_with code.NoMethod)
+    ∷ (is_used s.show d, refused_with code.InUse)
     ∷ [])
-    (made (event.NoDevice d ∷ []))
+    (made_by (event.NoDevice d ∷ []))
 
 -- a cue that is in the stack is known where its parts are the same
 abbrev pub on_new_cue : ShowState → List ℕ → List Part → Judgement
 on_new_cue s c parts =
-    option_map_or (λ old. if same_parts old parts then known else refused code.Duplicate) (parts_of s.show c)
-    (if is_full s.show then refused code.Full else made (event.Cue c parts ∷ []))
+    option_map_or (λ old. if same_parts old parts then known_already else refused_with code.Duplicate)
+    (parts_of s.show c)
+    (if is_full s.show then refused_with code.Full else made_by (event.Cue c parts ∷ []))
 
 abbrev pub on_add_cue : ShowState → List ℕ → List Part → Judgement
-on_add_cue s c parts = if not (are_known s.show parts) then refused code.UnknownDevice else on_new_cue s c parts
+on_add_cue s c parts = if not (are_known s.show parts) then refused_with code.UnknownDevice else on_new_cue s c parts
 
 abbrev pub on_goto : ShowState → List ℕ → Judgement
 on_goto s c =
     first_line (
-    (not (has_cue s.show c), refused code.NoMethod)
-    ∷ (is_place c s.show.place, known)
+    (not (has_cue s.show c), refused_with code.NoMethod)
+    ∷ (is_place c s.show.place, known_already)
     ∷ [])
-    (made (event.Place c ∷ []))
+    (made_by (event.Place c ∷ []))
 
 abbrev pub on_remove_cue : ShowState → List ℕ → Judgement
 on_remove_cue s c =
     first_line (
-    (not (has_cue s.show c), refused code.NoMethod)
-    ∷ (is_some (attempt_of_cue s.live c), refused code.Busy)
+    (not (has_cue s.show c), refused_with code.NoMethod)
+    ∷ (is_some (attempt_of_cue s.live c), refused_with code.Busy)
     ∷ [])
-    (made (event.NoCue c ∷ []))
+    (made_by (event.NoCue c ∷ []))
 
 -- ---- an attempt at a cue
 
@@ -121,49 +122,49 @@ prepares s c = option_map_or (λ a. is_preparing a.stage) (attempt_of_cue s.live
 abbrev pub on_standby_of : ShowState → ℕ → List ℕ → List Part → Judgement
 on_standby_of s now c parts =
     first_line (
-    (prepares s c, known)
-    ∷ (not (are_free (devices_in parts) s.live), refused code.Busy)
-    ∷ (not (has_room s.live), refused code.Full)
-    ∷ (nat_le MAX_NUMBER s.last_seq, refused code.Exhausted)
-    ∷ (not (is_moment (now + STANDBY_MS)), refused code.Clock)
+    (prepares s c, known_already)
+    ∷ (not (are_free (devices_in parts) s.live), refused_with code.Busy)
+    ∷ (not (has_room s.live), refused_with code.Full)
+    ∷ (nat_le MAX_NUMBER s.last_seq, refused_with code.Exhausted)
+    ∷ (not (is_moment (now + STANDBY_MS)), refused_with code.Clock)
     ∷ [])
-    (made (event.Start (s.last_seq + 1) c (now + STANDBY_MS) ∷ []))
+    (made_by (event.Start (s.last_seq + 1) c (now + STANDBY_MS) ∷ []))
 
 abbrev pub on_standby : ShowState → ℕ → List ℕ → Judgement
-on_standby s now c = option_map_or (on_standby_of s now c) (parts_of s.show c) (refused code.NoMethod)
+on_standby s now c = option_map_or (on_standby_of s now c) (parts_of s.show c) (refused_with code.NoMethod)
 
 abbrev pub on_go_of : Attempt → Judgement
 on_go_of a =
     first_line (
-    (is_decided a.stage, known)
-    ∷ (can_go_now a, made (event.Go a.seq ∷ []))
+    (is_decided a.stage, known_already)
+    ∷ (can_go_now a, made_by (event.Go a.seq ∷ []))
     ∷ [])
-    (refused code.NotReady)
+    (refused_with code.NotReady)
 
 abbrev pub on_go : ShowState → List ℕ → Judgement
 on_go s c =
-    if not (has_cue s.show c) then refused code.NoMethod
-    else option_map_or on_go_of (attempt_of_cue s.live c) (refused code.NotLive)
+    if not (has_cue s.show c) then refused_with code.NoMethod
+    else option_map_or on_go_of (attempt_of_cue s.live c) (refused_with code.NotLive)
 
 abbrev pub on_cancel_of : Attempt → Judgement
 on_cancel_of a =
     first_line (
-    (is_decided a.stage, refused code.Decided)
-    ∷ (is_cancelling a.stage, known)
+    (is_decided a.stage, refused_with code.Decided)
+    ∷ (is_cancelling a.stage, known_already)
     ∷ [])
-    (made (event.Cancel a.seq Operator ∷ []))
+    (made_by (event.Cancel a.seq Operator ∷ []))
 
 abbrev pub on_cancel : ShowState → List ℕ → Judgement
 on_cancel s c =
-    if not (has_cue s.show c) then refused code.NoMethod
-    else option_map_or on_cancel_of (attempt_of_cue s.live c) (refused code.NotLive)
+    if not (has_cue s.show c) then refused_with code.NoMethod
+    else option_map_or on_cancel_of (attempt_of_cue s.live c) (refused_with code.NotLive)
 
 -- the operator waits no longer for a device of a Preparing attempt: an optional one is excused, and for a required
 -- one the preparation is given up
 abbrev pub release_early : ℕ → DeviceAnswer → Judgement
 release_early q x =
-    if x.optional then made (event.Excuse q x.device ∷ [])
-    else made (event.Cancel q Release ∷ event.LetGo q x.device ∷ [])
+    if x.optional then made_by (event.Excuse q x.device ∷ [])
+    else made_by (event.Cancel q Release ∷ event.LetGo q x.device ∷ [])
 
 -- the operator waits no longer for the device: the attempt, the device as it is recorded, the stage, and the answer
 -- of the record
@@ -173,103 +174,103 @@ on_release_in q x Preparing answer.Ready = release_early q x
 on_release_in q x Preparing answer.Done = release_early q x
 on_release_in q x Preparing answer.LetGo = release_early q x
 on_release_in q x Preparing answer.Failed = release_early q x
-on_release_in q x Preparing answer.Excused = known
-on_release_in q x Decided answer.Waiting = made (event.Failed q x.device ∷ [])
-on_release_in q x Decided answer.Ready = known
-on_release_in q x Decided answer.Done = known
-on_release_in q x Decided answer.LetGo = known
-on_release_in q x Decided answer.Failed = known
-on_release_in q x Decided answer.Excused = known
-on_release_in q x (Cancelling r) answer.Waiting = made (event.LetGo q x.device ∷ [])
-on_release_in q x (Cancelling r) answer.Ready = known
-on_release_in q x (Cancelling r) answer.Done = known
-on_release_in q x (Cancelling r) answer.LetGo = known
-on_release_in q x (Cancelling r) answer.Failed = known
-on_release_in q x (Cancelling r) answer.Excused = known
+on_release_in q x Preparing answer.Excused = known_already
+on_release_in q x Decided answer.Waiting = made_by (event.Failed q x.device ∷ [])
+on_release_in q x Decided answer.Ready = known_already
+on_release_in q x Decided answer.Done = known_already
+on_release_in q x Decided answer.LetGo = known_already
+on_release_in q x Decided answer.Failed = known_already
+on_release_in q x Decided answer.Excused = known_already
+on_release_in q x (Cancelling r) answer.Waiting = made_by (event.LetGo q x.device ∷ [])
+on_release_in q x (Cancelling r) answer.Ready = known_already
+on_release_in q x (Cancelling r) answer.Done = known_already
+on_release_in q x (Cancelling r) answer.LetGo = known_already
+on_release_in q x (Cancelling r) answer.Failed = known_already
+on_release_in q x (Cancelling r) answer.Excused = known_already
 
 -- a device of a live attempt is let go of
 abbrev pub on_release_of : ℕ → Attempt → Judgement
 on_release_of d a =
-    option_map_or (λ x. on_release_in a.seq x a.stage x.answer) (device_answer a.answers d) (refused code.NotLive)
+    option_map_or (λ x. on_release_in a.seq x a.stage x.answer) (device_answer a.answers d) (refused_with code.NotLive)
 
 abbrev pub on_release : ShowState → ℕ → Judgement
 on_release s d =
-    if not (has_device s.show d) then refused code.NoMethod
-    else option_map_or (on_release_of d) (attempt_of_device s.live d) (refused code.NotLive)
+    if not (has_device s.show d) then refused_with code.NoMethod
+    else option_map_or (on_release_of d) (attempt_of_device s.live d) (refused_with code.NotLive)
 
 -- ---- the table of answers: the attempt, the device as it is recorded, the stage, and the answer of the record
 
 abbrev pub on_standing_by : ℕ → DeviceAnswer → Stage → Answer → Judgement
-on_standing_by q x Preparing answer.Waiting = made (event.Ready q x.device ∷ [])
-on_standing_by q x Preparing answer.Ready = known
-on_standing_by q x Preparing answer.Done = known
-on_standing_by q x Preparing answer.LetGo = known
-on_standing_by q x Preparing answer.Failed = known
-on_standing_by q x Preparing answer.Excused = refused code.Stale
-on_standing_by q x Decided answer.Waiting = known
-on_standing_by q x Decided answer.Ready = known
-on_standing_by q x Decided answer.Done = known
-on_standing_by q x Decided answer.LetGo = known
-on_standing_by q x Decided answer.Failed = refused code.Stale
-on_standing_by q x Decided answer.Excused = refused code.Stale
-on_standing_by q x (Cancelling r) answer.Waiting = refused code.Stale
-on_standing_by q x (Cancelling r) answer.Ready = refused code.Stale
-on_standing_by q x (Cancelling r) answer.Done = refused code.Stale
-on_standing_by q x (Cancelling r) answer.LetGo = refused code.Stale
-on_standing_by q x (Cancelling r) answer.Failed = refused code.Stale
-on_standing_by q x (Cancelling r) answer.Excused = refused code.Stale
+on_standing_by q x Preparing answer.Waiting = made_by (event.Ready q x.device ∷ [])
+on_standing_by q x Preparing answer.Ready = known_already
+on_standing_by q x Preparing answer.Done = known_already
+on_standing_by q x Preparing answer.LetGo = known_already
+on_standing_by q x Preparing answer.Failed = known_already
+on_standing_by q x Preparing answer.Excused = refused_with code.Stale
+on_standing_by q x Decided answer.Waiting = known_already
+on_standing_by q x Decided answer.Ready = known_already
+on_standing_by q x Decided answer.Done = known_already
+on_standing_by q x Decided answer.LetGo = known_already
+on_standing_by q x Decided answer.Failed = refused_with code.Stale
+on_standing_by q x Decided answer.Excused = refused_with code.Stale
+on_standing_by q x (Cancelling r) answer.Waiting = refused_with code.Stale
+on_standing_by q x (Cancelling r) answer.Ready = refused_with code.Stale
+on_standing_by q x (Cancelling r) answer.Done = refused_with code.Stale
+on_standing_by q x (Cancelling r) answer.LetGo = refused_with code.Stale
+on_standing_by q x (Cancelling r) answer.Failed = refused_with code.Stale
+on_standing_by q x (Cancelling r) answer.Excused = refused_with code.Stale
 
 abbrev pub on_complete : ℕ → DeviceAnswer → Stage → Answer → Judgement
-on_complete q x Preparing answer.Waiting = refused code.Early
-on_complete q x Preparing answer.Ready = refused code.Early
-on_complete q x Preparing answer.Done = refused code.Early
-on_complete q x Preparing answer.LetGo = refused code.Early
-on_complete q x Preparing answer.Failed = refused code.Early
-on_complete q x Preparing answer.Excused = refused code.Early
-on_complete q x Decided answer.Waiting = made (event.Done q x.device ∷ [])
-on_complete q x Decided answer.Ready = refused code.Stale
-on_complete q x Decided answer.Done = known
-on_complete q x Decided answer.LetGo = refused code.Stale
-on_complete q x Decided answer.Failed = refused code.Stale
-on_complete q x Decided answer.Excused = refused code.Stale
-on_complete q x (Cancelling r) answer.Waiting = refused code.Stale
-on_complete q x (Cancelling r) answer.Ready = refused code.Stale
-on_complete q x (Cancelling r) answer.Done = refused code.Stale
-on_complete q x (Cancelling r) answer.LetGo = refused code.Stale
-on_complete q x (Cancelling r) answer.Failed = refused code.Stale
-on_complete q x (Cancelling r) answer.Excused = refused code.Stale
+on_complete q x Preparing answer.Waiting = refused_with code.Early
+on_complete q x Preparing answer.Ready = refused_with code.Early
+on_complete q x Preparing answer.Done = refused_with code.Early
+on_complete q x Preparing answer.LetGo = refused_with code.Early
+on_complete q x Preparing answer.Failed = refused_with code.Early
+on_complete q x Preparing answer.Excused = refused_with code.Early
+on_complete q x Decided answer.Waiting = made_by (event.Done q x.device ∷ [])
+on_complete q x Decided answer.Ready = refused_with code.Stale
+on_complete q x Decided answer.Done = known_already
+on_complete q x Decided answer.LetGo = refused_with code.Stale
+on_complete q x Decided answer.Failed = refused_with code.Stale
+on_complete q x Decided answer.Excused = refused_with code.Stale
+on_complete q x (Cancelling r) answer.Waiting = refused_with code.Stale
+on_complete q x (Cancelling r) answer.Ready = refused_with code.Stale
+on_complete q x (Cancelling r) answer.Done = refused_with code.Stale
+on_complete q x (Cancelling r) answer.LetGo = refused_with code.Stale
+on_complete q x (Cancelling r) answer.Failed = refused_with code.Stale
+on_complete q x (Cancelling r) answer.Excused = refused_with code.Stale
 
 abbrev pub on_cancelled : ℕ → DeviceAnswer → Stage → Answer → Judgement
-on_cancelled q x Preparing answer.Waiting = refused code.Early
-on_cancelled q x Preparing answer.Ready = refused code.Early
-on_cancelled q x Preparing answer.Done = refused code.Early
-on_cancelled q x Preparing answer.LetGo = refused code.Early
-on_cancelled q x Preparing answer.Failed = refused code.Early
-on_cancelled q x Preparing answer.Excused = refused code.Early
-on_cancelled q x Decided answer.Waiting = refused code.Decided
-on_cancelled q x Decided answer.Ready = refused code.Decided
-on_cancelled q x Decided answer.Done = refused code.Decided
-on_cancelled q x Decided answer.LetGo = refused code.Decided
-on_cancelled q x Decided answer.Failed = refused code.Decided
-on_cancelled q x Decided answer.Excused = refused code.Decided
-on_cancelled q x (Cancelling r) answer.Waiting = made (event.LetGo q x.device ∷ [])
-on_cancelled q x (Cancelling r) answer.Ready = refused code.Stale
-on_cancelled q x (Cancelling r) answer.Done = refused code.Stale
-on_cancelled q x (Cancelling r) answer.LetGo = known
-on_cancelled q x (Cancelling r) answer.Failed = refused code.Stale
-on_cancelled q x (Cancelling r) answer.Excused = refused code.Stale
+on_cancelled q x Preparing answer.Waiting = refused_with code.Early
+on_cancelled q x Preparing answer.Ready = refused_with code.Early
+on_cancelled q x Preparing answer.Done = refused_with code.Early
+on_cancelled q x Preparing answer.LetGo = refused_with code.Early
+on_cancelled q x Preparing answer.Failed = refused_with code.Early
+on_cancelled q x Preparing answer.Excused = refused_with code.Early
+on_cancelled q x Decided answer.Waiting = refused_with code.Decided
+on_cancelled q x Decided answer.Ready = refused_with code.Decided
+on_cancelled q x Decided answer.Done = refused_with code.Decided
+on_cancelled q x Decided answer.LetGo = refused_with code.Decided
+on_cancelled q x Decided answer.Failed = refused_with code.Decided
+on_cancelled q x Decided answer.Excused = refused_with code.Decided
+on_cancelled q x (Cancelling r) answer.Waiting = made_by (event.LetGo q x.device ∷ [])
+on_cancelled q x (Cancelling r) answer.Ready = refused_with code.Stale
+on_cancelled q x (Cancelling r) answer.Done = refused_with code.Stale
+on_cancelled q x (Cancelling r) answer.LetGo = known_already
+on_cancelled q x (Cancelling r) answer.Failed = refused_with code.Stale
+on_cancelled q x (Cancelling r) answer.Excused = refused_with code.Stale
 
 -- a device of a Preparing attempt cannot go on: an optional one is excused, and for a required one the preparation is
 -- given up
 abbrev pub abort_early : ℕ → DeviceAnswer → Judgement
 abort_early q x =
-    if x.optional then made (event.Excuse q x.device ∷ [])
-    else made (event.Cancel q Abort ∷ event.Failed q x.device ∷ [])
+    if x.optional then made_by (event.Excuse q x.device ∷ [])
+    else made_by (event.Cancel q Abort ∷ event.Failed q x.device ∷ [])
 
 -- a device of a Cancelling attempt cannot go on: of an optional one nothing more is asked, and a required one has
 -- failed
 abbrev pub abort_late : ℕ → DeviceAnswer → Judgement
-abort_late q x = if x.optional then made (event.LetGo q x.device ∷ []) else made (event.Failed q x.device ∷ [])
+abort_late q x = if x.optional then made_by (event.LetGo q x.device ∷ []) else made_by (event.Failed q x.device ∷ [])
 
 abbrev pub on_abort : ℕ → DeviceAnswer → Stage → Answer → Judgement
 on_abort q x Preparing answer.Waiting = abort_early q x
@@ -277,19 +278,19 @@ on_abort q x Preparing answer.Ready = abort_early q x
 on_abort q x Preparing answer.Done = abort_early q x
 on_abort q x Preparing answer.LetGo = abort_early q x
 on_abort q x Preparing answer.Failed = abort_early q x
-on_abort q x Preparing answer.Excused = known
-on_abort q x Decided answer.Waiting = made (event.Failed q x.device ∷ [])
-on_abort q x Decided answer.Ready = refused code.Stale
-on_abort q x Decided answer.Done = refused code.Stale
-on_abort q x Decided answer.LetGo = refused code.Stale
-on_abort q x Decided answer.Failed = known
-on_abort q x Decided answer.Excused = known
+on_abort q x Preparing answer.Excused = known_already
+on_abort q x Decided answer.Waiting = made_by (event.Failed q x.device ∷ [])
+on_abort q x Decided answer.Ready = refused_with code.Stale
+on_abort q x Decided answer.Done = refused_with code.Stale
+on_abort q x Decided answer.LetGo = refused_with code.Stale
+on_abort q x Decided answer.Failed = known_already
+on_abort q x Decided answer.Excused = known_already
 on_abort q x (Cancelling r) answer.Waiting = abort_late q x
-on_abort q x (Cancelling r) answer.Ready = refused code.Stale
-on_abort q x (Cancelling r) answer.Done = refused code.Stale
-on_abort q x (Cancelling r) answer.LetGo = refused code.Stale
-on_abort q x (Cancelling r) answer.Failed = known
-on_abort q x (Cancelling r) answer.Excused = refused code.Stale
+on_abort q x (Cancelling r) answer.Ready = refused_with code.Stale
+on_abort q x (Cancelling r) answer.Done = refused_with code.Stale
+on_abort q x (Cancelling r) answer.LetGo = refused_with code.Stale
+on_abort q x (Cancelling r) answer.Failed = known_already
+on_abort q x (Cancelling r) answer.Excused = refused_with code.Stale
 
 abbrev pub on_reply_in : ReplyKind → ℕ → DeviceAnswer → Stage → Answer → Judgement
 on_reply_in reply.StandingBy = on_standing_by
@@ -300,7 +301,8 @@ on_reply_in reply.Abort = on_abort
 -- an answer to a live attempt
 abbrev pub on_reply_to : ReplyKind → ℕ → Attempt → Judgement
 on_reply_to kind d a =
-    option_map_or (λ x. on_reply_in kind a.seq x a.stage x.answer) (device_answer a.answers d) (refused code.NotPart)
+    option_map_or (λ x. on_reply_in kind a.seq x a.stage x.answer) (device_answer a.answers d)
+    (refused_with code.NotPart)
 
 -- an answer that came from the port of another
 abbrev pub is_from_another : ShowState → ℕ → ℕ → Bool
@@ -309,17 +311,17 @@ is_from_another s d from = option_map_or (λ port. not (nat_eq port from)) (port
 abbrev pub on_reply : ShowState → ℕ → ReplyKind → ℕ → ℕ → Judgement
 on_reply s from kind d q =
     first_line (
-    (not (has_device s.show d), refused code.NoMethod)
-    ∷ (is_from_another s d from, refused code.WrongPort)
-    ∷ (nat_lt s.last_seq q, refused code.Early)
+    (not (has_device s.show d), refused_with code.NoMethod)
+    ∷ (is_from_another s d from, refused_with code.WrongPort)
+    ∷ (nat_lt s.last_seq q, refused_with code.Early)
     ∷ [])
-    (option_map_or (on_reply_to kind d) (attempt_of s.live q) (refused code.Stale))
+    (option_map_or (on_reply_to kind d) (attempt_of s.live q) (refused_with code.Stale))
 
 -- ---- all commands
 
 -- what becomes of the command in the state, at the moment now, from a port
 abbrev pub judgement_of : ShowState → ℕ → ℕ → Command → Judgement
-judgement_of s now from command.Status = known
+judgement_of s now from command.Status = known_already
 judgement_of s now from (command.AddDevice d port) = on_add_device s d port
 judgement_of s now from (command.AddCue c parts) = on_add_cue s c parts
 judgement_of s now from (command.Standby c) = on_standby s now c
@@ -330,4 +332,4 @@ judgement_of s now from (command.RemoveCue c) = on_remove_cue s c
 judgement_of s now from (command.Reply kind d q) = on_reply s from kind d q
 judgement_of s now from (command.Release d) = on_release s d
 judgement_of s now from (command.RemoveDevice d) = on_remove_device s d
-judgement_of s now from (command.Bad c) = refused c
+judgement_of s now from (command.Bad c) = refused_with c

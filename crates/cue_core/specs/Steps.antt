@@ -9,7 +9,7 @@ use Rattle.cue_exchange.specs.declared.attempt.Outcome.{Outcome}
 use Rattle.cue_exchange.specs.declared.attempt.Attempt.{Attempt}
 use Rattle.cue_exchange.specs.Live.{attempt_of, attempt_of_cue}
 use Rattle.cue_exchange.specs.Steps.{can_start, can_ready, can_go, can_cancel, can_done, can_let_go, can_fail}
-use Rattle.cue_exchange.specs.Steps.{can_excuse, started, answered, moved, without_ended, ended_in}
+use Rattle.cue_exchange.specs.Steps.{can_excuse, after_start, after_answer, after_move, without_ended, ended_in}
 use Rattle.cue_core.specs.declared.event.Ended.{Ended}
 use Rattle.cue_core.specs.declared.event.Event.{Event}
 use Rattle.cue_core.specs.declared.event.Event.TheVariants.{Device, NoDevice, Cue, NoCue, Place, Start, Ready, Go, Done}
@@ -63,20 +63,20 @@ after s (Cue c parts) = with_show s (with_cue s.show c parts)
 after s (NoCue c) = with_show s (without_cue s.show c)
 after s (Place c) = with_show s (with_place s.show (Some c))
 after s (Start q c t) =
-    record { show = s.show; live = started q c t (cue_parts s.show c) s.live; last_seq = q; ended = s.ended }
-after s (Ready q d) = with_live s (answered q d answer.Ready s.live)
+    record { show = s.show; live = after_start q c t (cue_parts s.show c) s.live; last_seq = q; ended = s.ended }
+after s (Ready q d) = with_live s (after_answer q d answer.Ready s.live)
 after s (Go q) =
     record {
       show = with_place s.show (place_after s.show s.live q);
-      live = moved q Decided s.live;
+      live = after_move q Decided s.live;
       last_seq = s.last_seq;
       ended = s.ended;
     }
-after s (Done q d) = after_last_answer s q (answered q d answer.Done s.live)
-after s (Cancel q r) = with_live s (moved q (Cancelling r) s.live)
-after s (LetGo q d) = after_last_answer s q (answered q d answer.LetGo s.live)
-after s (Failed q d) = after_last_answer s q (answered q d answer.Failed s.live)
-after s (Excuse q d) = with_live s (answered q d answer.Excused s.live)
+after s (Done q d) = after_last_answer s q (after_answer q d answer.Done s.live)
+after s (Cancel q r) = with_live s (after_move q (Cancelling r) s.live)
+after s (LetGo q d) = after_last_answer s q (after_answer q d answer.LetGo s.live)
+after s (Failed q d) = after_last_answer s q (after_answer q d answer.Failed s.live)
+after s (Excuse q d) = with_live s (after_answer q d answer.Excused s.live)
 
 -- each event is acceptable, in turn
 abbrev pub are_acceptable : ShowState → List Event → Bool

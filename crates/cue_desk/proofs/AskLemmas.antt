@@ -43,7 +43,7 @@ parts-read (p ∷ ps) h =
 pub are_parts-each : (ps : List Part) → IsTrue (are_parts ps) → IsTrue (list_all is_part ps)
 are_parts-each ps h =
     let some = and_parts (has_required_part ps)
-        (nat_le (length ps) MAX_PARTS && (distinct (devices_in ps) && list_all is_part ps)) h in
+    (nat_le (length ps) MAX_PARTS && (distinct (devices_in ps) && list_all is_part ps)) h in
     let few = and_parts (nat_le (length ps) MAX_PARTS) (distinct (devices_in ps) && list_all is_part ps) some.1 in
     (and_parts (distinct (devices_in ps)) (list_all is_part ps) few.1).1
 

@@ -104,7 +104,7 @@ Begins {A} key lines nodes others = (e : A) (section : List (List ℕ))
 abbrev GoesOn : {A : Type 0} → List ℕ → (A → List Expression) → (A → Nodes) → Nodes → Type 0
 GoesOn {A} key lines nodes others = (e : A) (done : Items) (last : Nodes) (section : List (List ℕ))
     → run (listed key done last others, section) (lines e) ≡ Some
-        (listed key (push_item done (table (close last))) (nodes e) others, key ∷ [])
+    (listed key (push_item done (table (close last))) (nodes e) others, key ∷ [])
 
 -- the lines end with this list put first, of these elements in all
 abbrev Ends : List ℕ → Document → List Expression → Nodes → Items → Type 0
@@ -115,26 +115,30 @@ goes-on : {A : Type 0} (key : List ℕ) (lines : A → List Expression) (nodes :
     (others : Nodes) → GoesOn key lines nodes others → ((e : A) → close (nodes e) ≡ members e)
     → (es : List A) (done : Items) (last : Nodes) (section : List (List ℕ))
     → Ends key (listed key done last others, section) (flat_map lines es) others
-        (item_join (push_item done (table (close last))) (tables_of (map members es)))
+    (item_join (push_item done (table (close last))) (tables_of (map members es)))
 goes-on key lines nodes members others step closed [] done last section =
     (done, last, section, refl, sym (item_join-none (push_item done (table (close last)))))
 goes-on key lines nodes members others step closed (e ∷ es) done last section =
     let next : Items = push_item done (table (close last)) in
     let (d, l, at_end, ran, is) = goes-on key lines nodes members others step closed es next (nodes e) (key ∷ []) in
     let joined = ap (λ ms. item_join (push_item next (table ms)) (tables_of (map members es))) (closed e)
-        ∙ item_join-push next (table (members e)) (tables_of (map members es)) in
-    (d, l, at_end, then-run (listed key done last others, section) (listed key next (nodes e) others, key ∷ [])
-        (lines e) (flat_map lines es) (step e done last section) ∙ ran, is ∙ joined)
+    ∙ item_join-push next (table (members e)) (tables_of (map members es)) in (
+      d,
+      l,
+      at_end,
+      then-run (listed key done last others, section) (listed key next (nodes e) others, key ∷ [])
+          (lines e) (flat_map lines es) (step e done last section) ∙ ran,
+      is ∙ joined,
+    )
 
 -- a list with an entry or more
 all-listed : {A : Type 0} (key : List ℕ) (lines : A → List Expression) (nodes : A → Nodes) (members : A → Members)
     (others : Nodes) → Begins key lines nodes others → GoesOn key lines nodes others
     → ((e : A) → close (nodes e) ≡ members e)
     → (e : A) (es : List A) (section : List (List ℕ))
-        → Ends key (others, section) (flat_map lines (e ∷ es)) others (tables_of (map members (e ∷ es)))
+    → Ends key (others, section) (flat_map lines (e ∷ es)) others (tables_of (map members (e ∷ es)))
 all-listed key lines nodes members others start step closed e es section =
-    let (d, l, at_end, ran, is) = goes-on key lines nodes members others step closed es no_items (nodes e) (key ∷ []) in
-        (
+    let (d, l, at_end, ran, is) = goes-on key lines nodes members others step closed es no_items (nodes e) (key ∷ []) in (
       d,
       l,
       at_end,
@@ -155,10 +159,13 @@ unfolding along_header along_dots at_key define
 device-begins others h e section = at e.name
   where
     at : (o : Option (String Global)) → run (others, section) (device_lines e.number e.port o)
-        ≡ Some (listed (codes "device") no_items
-            (with_node (codes "name") o
-            (node (codes "number") (value (integer (pos e.number)))
-            (node (codes "port") (value (integer (pos e.port))) no_nodes))) others, codes "device" ∷ [])
+        ≡ Some (
+          listed (codes "device") no_items
+              (with_node (codes "name") o
+              (node (codes "number") (value (integer (pos e.number)))
+              (node (codes "port") (value (integer (pos e.port))) no_nodes))) others,
+          codes "device" ∷ [],
+        )
     at None = rw (h.0, h.1) refl
     at (Some t) = rw (h.0, h.1) refl
 
@@ -168,10 +175,13 @@ device-goes-on others e done last section = at e.name
   where
     at : (o : Option (String Global))
         → run (listed (codes "device") done last others, section) (device_lines e.number e.port o)
-        ≡ Some (listed (codes "device") (push_item done (table (close last)))
-            (with_node (codes "name") o
-            (node (codes "number") (value (integer (pos e.number)))
-            (node (codes "port") (value (integer (pos e.port))) no_nodes))) others, codes "device" ∷ [])
+        ≡ Some (
+          listed (codes "device") (push_item done (table (close last)))
+              (with_node (codes "name") o
+              (node (codes "number") (value (integer (pos e.number)))
+              (node (codes "port") (value (integer (pos e.port))) no_nodes))) others,
+          codes "device" ∷ [],
+        )
     at None = refl
     at (Some t) = refl
 
@@ -182,11 +192,14 @@ unfolding along_header along_dots at_key define
 cue-begins others h e section = at e.name e.note
   where
     at : (o p : Option (String Global)) → run (others, section) (cue_lines e.number o p e.parts)
-        ≡ Some (listed (codes "cue") no_items
-            (with_node (codes "name") o
-            (with_node (codes "note") p
-            (node (codes "number") (value (string e.number))
-            (node (codes "parts") (value (parts_data e.parts)) no_nodes)))) others, codes "cue" ∷ [])
+        ≡ Some (
+          listed (codes "cue") no_items
+              (with_node (codes "name") o
+              (with_node (codes "note") p
+              (node (codes "number") (value (string e.number))
+              (node (codes "parts") (value (parts_data e.parts)) no_nodes)))) others,
+          codes "cue" ∷ [],
+        )
     at None None = rw (h.0, h.1) refl
     at None (Some u) = rw (h.0, h.1) refl
     at (Some t) None = rw (h.0, h.1) refl
@@ -198,11 +211,14 @@ cue-goes-on others e done last section = at e.name e.note
   where
     at : (o p : Option (String Global))
         → run (listed (codes "cue") done last others, section) (cue_lines e.number o p e.parts)
-        ≡ Some (listed (codes "cue") (push_item done (table (close last)))
-            (with_node (codes "name") o
-            (with_node (codes "note") p
-            (node (codes "number") (value (string e.number))
-            (node (codes "parts") (value (parts_data e.parts)) no_nodes)))) others, codes "cue" ∷ [])
+        ≡ Some (
+          listed (codes "cue") (push_item done (table (close last)))
+              (with_node (codes "name") o
+              (with_node (codes "note") p
+              (node (codes "number") (value (string e.number))
+              (node (codes "parts") (value (parts_data e.parts)) no_nodes)))) others,
+          codes "cue" ∷ [],
+        )
     at None None = refl
     at None (Some u) = refl
     at (Some t) None = refl
@@ -243,9 +259,13 @@ cues-lead : (others : Nodes) (wanted : Members) → close others ≡ wanted → 
 cues-lead others wanted is before [] section = (others, section, refl, is)
 cues-lead others wanted is before (c ∷ cs) section =
     let (d, l, at_end, ran, all) = all-listed (codes "cue") lines_of_cue cue_nodes cue_members others
-        (cue-begins others before) (cue-goes-on others) close-cue c cs section in
-    (listed (codes "cue") d l others, at_end, ran, ap (λ ds. member (codes "cue") (array ds) (close others)) all
-        ∙ ap (member (codes "cue") (array (tables_of (map cue_members (c ∷ cs))))) is)
+    (cue-begins others before) (cue-goes-on others) close-cue c cs section in (
+      listed (codes "cue") d l others,
+      at_end,
+      ran,
+      ap (λ ds. member (codes "cue") (array ds) (close others)) all
+          ∙ ap (member (codes "cue") (array (tables_of (map cue_members (c ∷ cs))))) is,
+    )
 
 cue-before-devices : (o : Option ℕ) (done : Items) (last : Nodes)
     → IsBefore (codes "cue") (listed (codes "device") done last (port_nodes o))
@@ -255,28 +275,36 @@ cue-before-devices (Some port) done last = (refl, λ x. refl)
 -- the devices, and the cues after them
 entries-lead : (o : Option ℕ) (ds : List DeviceEntry) (cs : List CueEntry)
     → Leads (port_nodes o, []) (flat_map lines_of_device ds ++ flat_map lines_of_cue cs)
-        (with_tables (codes "cue") (map cue_members cs)
-        (with_tables (codes "device") (map device_members ds) (with_port o no_members)))
+    (with_tables (codes "cue") (map cue_members cs)
+    (with_tables (codes "device") (map device_members ds) (with_port o no_members)))
 entries-lead o [] cs = cues-lead (port_nodes o) (with_port o no_members) (close-port o) (cue-before-port o) cs []
 entries-lead o (e ∷ ds) cs =
     let others : Nodes = port_nodes o in
     let (d, l, at_end, ran, all) = all-listed (codes "device") lines_of_device device_nodes device_members others
-        (device-begins others (device-before o)) (device-goes-on others) close-device e ds [] in
+    (device-begins others (device-before o)) (device-goes-on others) close-device e ds [] in
     let root : Nodes = listed (codes "device") d l others in
     let stands = ap (λ is. member (codes "device") (array is) (close others)) all
-        ∙ ap (member (codes "device") (array (tables_of (map device_members (e ∷ ds))))) (close-port o) in
+    ∙ ap (member (codes "device") (array (tables_of (map device_members (e ∷ ds))))) (close-port o) in
     let (top, last_header, more, closed) =
-        cues-lead root (with_tables (codes "device") (map device_members (e ∷ ds)) (with_port o no_members)) stands
-        (cue-before-devices o d l) cs at_end in
-    (top, last_header, then-run (others, []) (root, at_end) (flat_map lines_of_device (e ∷ ds))
-        (flat_map lines_of_cue cs) ran ∙ more, closed)
+    cues-lead root (with_tables (codes "device") (map device_members (e ∷ ds)) (with_port o no_members)) stands
+    (cue-before-devices o d l) cs at_end in (
+      top,
+      last_header,
+      then-run (others, []) (root, at_end) (flat_map lines_of_device (e ∷ ds))
+          (flat_map lines_of_cue cs) ran ∙ more,
+      closed,
+    )
 
 file-leads : (f : ShowFile) → Leads (no_nodes, []) (file_lines f) (file_members f)
 file-leads f =
-    let (root, section, ran, closed) = entries-lead f.port f.devices.items f.cues.items in
-    (root, section, then-run (no_nodes, []) (port_nodes f.port, []) (port_lines f.port)
-        (flat_map lines_of_device f.devices.items ++ flat_map lines_of_cue f.cues.items) (port-run f.port)
-        ∙ ran, closed)
+    let (root, section, ran, closed) = entries-lead f.port f.devices.items f.cues.items in (
+      root,
+      section,
+      then-run (no_nodes, []) (port_nodes f.port, []) (port_lines f.port)
+          (flat_map lines_of_device f.devices.items ++ flat_map lines_of_cue f.cues.items) (port-run f.port)
+          ∙ ran,
+      closed,
+    )
 
 -- ---- the text
 
@@ -296,7 +324,7 @@ written-is_read f h =
     let text : List ℕ = file_text f in
     let (root, section, ran, closed) = file-leads f in
     let read = read_lines true true (file_lines f) text text (no_nodes, []) (suc (length text)) (file-text f h)
-        (printed-file f) refl (omega arith) in
+    (printed-file f) refl (omega arith) in
     let skipped = no-skip text (not-bom f.port f.devices.items f.cues.items) in
     document_some text (root, section) (rw skipped (read ∙ ran)) ∙ ap (λ ms. Some ms) closed
 
@@ -309,8 +337,8 @@ devices-in_range (d ∷ ds) h =
     let k = both (is_entry d) (list_all is_entry ds) h in
     let m = both (is_device d.0) (is_port d.1) k.0 in
     join (is_device d.0 && nat_le d.1 MAX_PORT) _
-        (join (is_device d.0) (nat_le d.1 MAX_PORT) m.0 (both (nat_le 1 d.1) (nat_le d.1 MAX_PORT) m.1).1)
-        (devices-in_range ds k.1)
+    (join (is_device d.0) (nat_le d.1 MAX_PORT) m.0 (both (nat_le 1 d.1) (nat_le d.1 MAX_PORT) m.1).1)
+    (devices-in_range ds k.1)
 
 parts-in_range : (ps : List Part) → IsTrue (list_all is_part ps)
     → IsTrue (list_all (λ (p : Part). is_device p.device) ps)
@@ -326,20 +354,20 @@ cues-in_range s (c ∷ cs) h =
     let k = both (is_cue_of s c) (list_all (is_cue_of s) cs) h in
     let m = both (is_cue_number c.0) (are_parts c.1 && are_known s c.1) k.0 in
     join (list_all (λ (p : Part). is_device p.device) c.1) _
-        (parts-in_range c.1 (are_parts-each c.1 (both (are_parts c.1) (are_known s c.1) m.1).0))
-        (cues-in_range s cs k.1)
+    (parts-in_range c.1 (are_parts-each c.1 (both (are_parts c.1) (are_known s c.1) m.1).0))
+    (cues-in_range s cs k.1)
 
 pub export-is_read : ExportIsRead
 export-is_read s f h is =
     let table = both (distinct (keys_of s.devices)) (list_all is_entry s.devices) (both _ _ (table_of s h)).1 in
     let stack = both (are_distinct same_text (keys_of s.cues)) (list_all (is_cue_of s) s.cues)
-        (both _ _ (stack_of s h)).1 in
+    (both _ _ (stack_of s h)).1 in
     let devices = subst (λ (es : List DeviceEntry).
-        IsTrue (list_all (λ (e : DeviceEntry). is_device e.number && nat_le e.port MAX_PORT) es)) (sym is.devices)
-        (devices-in_range s.devices table.1) in
+    IsTrue (list_all (λ (e : DeviceEntry). is_device e.number && nat_le e.port MAX_PORT) es)) (sym is.devices)
+    (devices-in_range s.devices table.1) in
     let cues = subst (λ (es : List CueEntry).
-        IsTrue (list_all (λ (e : CueEntry). list_all (λ (p : Part). is_device p.device) e.parts) es)) (sym is.cues)
-        (cues-in_range s s.cues stack.1) in
+    IsTrue (list_all (λ (e : CueEntry). list_all (λ (p : Part). is_device p.device) e.parts) es)) (sym is.cues)
+    (cues-in_range s s.cues stack.1) in
     let port = subst (λ (o : Option ℕ). IsTrue (is_port_number o)) (sym is.port) refl in
     let numbers = join (is_port_number f.port) _ port (join _ _ devices cues) in
     written-is_read f numbers

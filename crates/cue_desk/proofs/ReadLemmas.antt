@@ -177,9 +177,9 @@ small-literal n h = grind (arith, nat_tests)
 decimal-literal : (n : ℕ) → n < 2 ^ 64 → IsTrue (is_literal (decimal n))
 decimal-literal n h =
     decimal_by_steps (λ m ds. IsTrue (is_literal ds))
-        (λ m small. join (is_literal_byte (48 + m)) true (small-literal m small) refl)
+    (λ m small. join (is_literal_byte (48 + m)) true (small-literal m small) refl)
     (λ m ds big k. literal-append ds ((48 + m % 10) ∷ []) k
-        (join (is_literal_byte (48 + m % 10)) true (small-literal (m % 10) (omega arith)) refl)) n h
+    (join (is_literal_byte (48 + m % 10)) true (small-literal (m % 10) (omega arith)) refl)) n h
 
 -- ---- one message
 
@@ -192,9 +192,9 @@ reads-one s m xs h l slash own =
     let a : List ℕ = address_of m in
     let p = literal-pattern a l slash in
     let same = filter-same (λ x. matches p.0 (address_of x)) (λ x. same_text a (address_of x))
-        (λ x. literal-matches-itself a (address_of x) p.0 l p.1) (methods s) in
+    (λ x. literal-matches-itself a (address_of x) p.0 l p.1) (methods s) in
     let one = only-one (λ x. same_text a (address_of x)) m (methods s) own (same_text-itself a)
-        (one-method_at_each s a h) in
+    (one-method_at_each s a h) in
     rw (p.1, same, one) refl
 
 cue-number : (s : ShowLists) (cue : List ℕ) → IsTrue (is_show s) → IsTrue (has_cue s cue) → IsTrue (is_cue_number cue)
@@ -238,28 +238,28 @@ asked-is_read s asked.Status h k there =
 asked-is_read s (asked.AddDevice device port) h k there =
     let a : Asked = asked.AddDevice device port in
     as_asked s a k (reads-one s method.AddDevice (arguments_of a) h refl refl
-        (fixed-of s method.AddDevice (inr (inl refl))))
+    (fixed-of s method.AddDevice (inr (inl refl))))
 asked-is_read s (asked.AddCue cue parts) h k there =
     let a : Asked = asked.AddCue cue parts in
     as_asked s a k (reads-one s method.AddMixedCue (arguments_of a) h refl refl
-        (fixed-of s method.AddMixedCue (inr (inr (inr (inl refl))))))
+    (fixed-of s method.AddMixedCue (inr (inr (inr (inl refl))))))
 asked-is_read s (asked.OfCue verb cue) h k there =
     let literal = under-literal (codes "/cue/") cue (cue_verb_text verb) refl
-        (cue-literal cue (cue-number s cue h there)) (verb-literal verb) in
+    (cue-literal cue (cue-number s cue h there)) (verb-literal verb) in
     as_asked s (asked.OfCue verb cue) k
-        (reads-one s (method.OfCue cue verb) [] h literal refl
-        (cue-of s (method.OfCue cue verb) (cue-method cue verb s.cues there)))
+    (reads-one s (method.OfCue cue verb) [] h literal refl
+    (cue-of s (method.OfCue cue verb) (cue-method cue verb s.cues there)))
 asked-is_read s (asked.Release device) h k there =
     let m : Method = method.OfDevice device on_device.Release in
     let literal = under-literal (codes "/device/") (decimal device) (codes "release") refl
-        (decimal-literal device (device-number s device h there)) refl in
+    (decimal-literal device (device-number s device h there)) refl in
     let own = device-method (λ d. method.OfDevice d on_device.Release) (λ d. inr (inr (inr (inr (inl refl))))) device
-        s.devices there in
+    s.devices there in
     as_asked s (asked.Release device) k (reads-one s m [] h literal refl (device-of s m own))
 asked-is_read s (asked.RemoveDevice device) h k there =
     let m : Method = method.OfDevice device on_device.Remove in
     let literal = under-literal (codes "/device/") (decimal device) (codes "remove") refl
-        (decimal-literal device (device-number s device h there)) refl in
+    (decimal-literal device (device-number s device h there)) refl in
     let own = device-method (λ d. method.OfDevice d on_device.Remove) (λ d. inr (inr (inr (inr (inr (inl refl))))))
-        device s.devices there in
+    device s.devices there in
     as_asked s (asked.RemoveDevice device) k (reads-one s m [] h literal refl (device-of s m own))

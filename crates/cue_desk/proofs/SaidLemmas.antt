@@ -74,8 +74,8 @@ both-said ds cs ms e f = rw (e, f) refl
 -- the lists at their keys, where one of them may not be there
 devices-at : (ds : List (ℕ × ℕ)) (devices cues : List Members) → each_said device_said (tables_of devices) ≡ Some ds
     → list_or_none device_said
-        (get_member (codes "device") (with_tables (codes "cue") cues (with_tables (codes "device") devices no_members)))
-        ≡ Some ds
+    (get_member (codes "device") (with_tables (codes "cue") cues (with_tables (codes "device") devices no_members)))
+    ≡ Some ds
 devices-at ds [] [] e = e
 devices-at ds (d ∷ devices) [] e = e
 devices-at ds [] (c ∷ cues) e = e
@@ -83,7 +83,7 @@ devices-at ds (d ∷ devices) (c ∷ cues) e = e
 
 cues-at : (cs : Cues) (devices cues : List Members) → each_said cue_said (tables_of cues) ≡ Some cs
     → list_or_none cue_said (get_member (codes "cue")
-        (with_tables (codes "cue") cues (with_tables (codes "device") devices no_members))) ≡ Some cs
+    (with_tables (codes "cue") cues (with_tables (codes "device") devices no_members))) ≡ Some cs
 cues-at cs [] [] e = e
 cues-at cs (d ∷ devices) [] e = e
 cues-at cs [] (c ∷ cues) e = e
@@ -94,7 +94,7 @@ all-said : (ds : List (ℕ × ℕ)) (cs : Cues) (devices cues : List Members)
     → file_said (with_tables (codes "cue") cues (with_tables (codes "device") devices no_members)) ≡ Some (ds, cs)
 all-said ds cs devices cues e f =
     both-said ds cs (with_tables (codes "cue") cues (with_tables (codes "device") devices no_members))
-        (devices-at ds devices cues e) (cues-at cs devices cues f)
+    (devices-at ds devices cues e) (cues-at cs devices cues f)
 
 bare-map : {A B C : Type 0} (f : B → C) (g : A → B) (xs : List A) → map f (map g xs) ≡ map (λ x. f (g x)) xs
 bare-map f g [] = refl
@@ -104,7 +104,7 @@ show-said : (s : ShowLists) → IsTrue (is_show s) → file_said (show_members s
 show-said s h =
     let table = both (distinct (keys_of s.devices)) (list_all is_entry s.devices) (both _ _ (table_of s h)).1 in
     let stack = both (are_distinct same_text (keys_of s.cues)) (list_all (is_cue_of s) s.cues)
-        (both _ _ (stack_of s h)).1 in
+    (both _ _ (stack_of s h)).1 in
     let devices = each-said device_said (λ d. device_members (bare_device d)) is_entry device-said s.devices table.1 in
     let cues = each-said cue_said (λ c. cue_members (bare_cue c)) (is_cue_of s) (cue-said s) s.cues stack.1 in
     all-said s.devices s.cues (map device_members (map bare_device s.devices)) (map cue_members (map bare_cue s.cues))

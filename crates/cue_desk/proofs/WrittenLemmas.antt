@@ -41,7 +41,7 @@ text_lines k (Some t) = pair k (string (string_bytes t)) ∷ []
 abbrev pub device_lines : ℕ → ℕ → Option (String Global) → List Expression
 device_lines number port name =
     list_header (codes "device") ∷ pair (codes "number") (integer (pos number)) ∷ pair (codes "port")
-        (integer (pos port)) ∷ text_lines (codes "name") name
+    (integer (pos port)) ∷ text_lines (codes "name") name
 
 abbrev pub parts_data : List Part → Data
 parts_data ps = array (tables_of (map part_members ps))
@@ -50,7 +50,7 @@ abbrev pub cue_lines : List ℕ → Option (String Global) → Option (String Gl
 cue_lines number name note parts =
     list_header (codes "cue") ∷ pair (codes "number") (string number)
     ∷ (text_lines (codes "name") name ++ (text_lines (codes "note") note ++ pair (codes "parts") (parts_data parts) ∷
-        []))
+    []))
 
 abbrev pub port_lines : Option ℕ → List Expression
 port_lines None = []
@@ -138,7 +138,7 @@ each-lines lines text ok each [] h = refl
 each-lines lines text ok each (x ∷ xs) h =
     let k = both (ok x) (list_all ok xs) h in
     then-lines (lines x) (flat_map lines xs) (text x) (flat_map text xs) (each x k.0)
-        (each-lines lines text ok each xs k.1)
+    (each-lines lines text ok each xs k.1)
 
 fits : (n : ℕ) → n ≤ MAX_PORT → FitsSigned w64 (pos n)
 fits n h = omega arith
@@ -157,9 +157,14 @@ part-text : (p : Part) → p.device ≤ MAX_PORT → IsValueText true (table (pa
 part-text p h =
     let hex : List ℕ = string_text (encode_lower p.bytes) ++ part_end p.optional in
     let hex_text : IsMembersText true false
-        (member (codes "hex") (string (encode_lower p.bytes)) (optional_members p.optional)) (codes ", hex = " ++ hex) =
-    (string_text (encode_lower p.bytes), part_end p.optional, rw key-hex refl, refl, optional-text p.optional,
-        hex_before p.optional) in (
+    (member (codes "hex") (string (encode_lower p.bytes)) (optional_members p.optional)) (codes ", hex = " ++ hex) = (
+      string_text (encode_lower p.bytes),
+      part_end p.optional,
+      rw key-hex refl,
+      refl,
+      optional-text p.optional,
+      hex_before p.optional,
+    ) in (
       codes " device = " ++ (decimal p.device ++ (codes ", hex = " ++ hex)),
       refl,
       (decimal p.device, codes ", hex = " ++ hex, rw key-device refl, (refl, fits p.device h), hex_text, refl),
@@ -190,9 +195,18 @@ items-lines is_first (p ∷ ps) h =
 parts-text : (ps : List Part) → IsTrue (parts_in_range ps) → IsValueText true (parts_data ps) (parts_text ps)
 parts-text [] h = (codes "]", refl, refl)
 parts-text (p ∷ []) h =
-    let k = both (is_device p.device) true h in
-    (part_text p ++ codes "]", simp append_assoc refl, (part_text p, codes "]", refl, part-text p
-        (device-fits p.device k.0), refl))
+    let k = both (is_device p.device) true h in (
+      part_text p ++ codes "]",
+      simp append_assoc refl,
+      (
+        part_text p,
+        codes "]",
+        refl,
+        part-text p
+            (device-fits p.device k.0),
+        refl,
+      ),
+    )
 parts-text (p ∷ q ∷ ps) h =
     (flat_map (part_item true) (p ∷ q ∷ ps) ++ array_end true, more (length ps), items-lines true (p ∷ q ∷ ps) h)
   where
@@ -215,12 +229,12 @@ device-text e h =
     let port_text : List ℕ = codes "port = " ++ (decimal e.port ++ codes "\n") in
     let name = text-lines (codes "name") e.name key-name in
     let same : codes "\n[[device]]\n" ++ (number_text ++ (port_text ++ text_line (codes "name") e.name)) ≡ device_text
-        e = simp append_assoc refl in
+    e = simp append_assoc refl in
     let all = then-lines (list_header (codes "device") ∷ [])
-        (pair (codes "number") (integer (pos e.number)) ∷ pair (codes "port") (integer (pos e.port)) ∷ text_lines
-        (codes "name") e.name) _ _ (header-line (codes "device") key-device)
+    (pair (codes "number") (integer (pos e.number)) ∷ pair (codes "port") (integer (pos e.port)) ∷ text_lines
+    (codes "name") e.name) _ _ (header-line (codes "device") key-device)
     (then-lines (pair (codes "number") (integer (pos e.number)) ∷ [])
-        (pair (codes "port") (integer (pos e.port)) ∷ text_lines (codes "name") e.name) _ _ number
+    (pair (codes "port") (integer (pos e.port)) ∷ text_lines (codes "name") e.name) _ _ number
     (then-lines (pair (codes "port") (integer (pos e.port)) ∷ []) (text_lines (codes "name") e.name) _ _ port name)) in
     rw same at all
 
@@ -233,15 +247,15 @@ cue-text e h =
     let note = text-lines (codes "note") e.note key-note in
     let after : List Expression = text_lines (codes "note") e.note ++ pair (codes "parts") (parts_data e.parts) ∷ [] in
     let same : codes "\n[[cue]]\n"
-        ++ (number_text ++ (text_line (codes "name") e.name ++ (text_line (codes "note") e.note ++ parts_line e.parts)))
-        ≡ cue_text e = simp append_assoc refl in
+    ++ (number_text ++ (text_line (codes "name") e.name ++ (text_line (codes "note") e.note ++ parts_line e.parts)))
+    ≡ cue_text e = simp append_assoc refl in
     let all = then-lines (list_header (codes "cue") ∷ [])
-        (pair (codes "number") (string e.number) ∷ (text_lines (codes "name") e.name ++ after)) _ _
-        (header-line (codes "cue") key-cue)
+    (pair (codes "number") (string e.number) ∷ (text_lines (codes "name") e.name ++ after)) _ _
+    (header-line (codes "cue") key-cue)
     (then-lines (pair (codes "number") (string e.number) ∷ []) (text_lines (codes "name") e.name ++ after) _ _ number
     (then-lines (text_lines (codes "name") e.name) after _ _ name
-        (then-lines (text_lines (codes "note") e.note) (pair (codes "parts") (parts_data e.parts) ∷ []) _ _ note
-        parts))) in
+    (then-lines (text_lines (codes "note") e.note) (pair (codes "parts") (parts_data e.parts) ∷ []) _ _ note
+    parts))) in
     rw same at all
 
 port-text : (o : Option ℕ) → IsTrue (is_port_number o) → AreLines (port_lines o) (port_text o)
@@ -251,12 +265,12 @@ port-text (Some port) h = number-line (codes "port") port key-port (port-fits po
 pub file-text : (f : ShowFile) → IsTrue (has_numbers f) → AreLines (file_lines f) (file_text f)
 file-text f h =
     let k = both (is_port_number f.port)
-        (list_all device_in_range f.devices.items && list_all (λ (e : CueEntry). parts_in_range e.parts) f.cues.items)
-        h in
+    (list_all device_in_range f.devices.items && list_all (λ (e : CueEntry). parts_in_range e.parts) f.cues.items)
+    h in
     let m = both (list_all device_in_range f.devices.items)
-        (list_all (λ (e : CueEntry). parts_in_range e.parts) f.cues.items) k.1 in
+    (list_all (λ (e : CueEntry). parts_in_range e.parts) f.cues.items) k.1 in
     then-lines (port_lines f.port) (flat_map lines_of_device f.devices.items ++ flat_map lines_of_cue f.cues.items)
-        (port_text f.port) _ (port-text f.port k.0)
+    (port_text f.port) _ (port-text f.port k.0)
     (then-lines (flat_map lines_of_device f.devices.items) (flat_map lines_of_cue f.cues.items) _ _
     (each-lines lines_of_device device_text device_in_range device-text f.devices.items m.0)
     (each-lines lines_of_cue cue_text (λ (e : CueEntry). parts_in_range e.parts) cue-text f.cues.items m.1))
@@ -280,9 +294,9 @@ parts-dates (p ∷ ps) = at p.optional (parts-dates ps)
   where
     at : (b : Bool) → items_have_valid_dates (tables_of (map part_members ps)) ≡ true
         → (has_valid_dates (table
-            (member (codes "device") (integer (pos p.device))
-            (member (codes "hex") (string (encode_lower p.bytes)) (optional_members b)))) && items_have_valid_dates
-            (tables_of (map part_members ps))) ≡ true
+        (member (codes "device") (integer (pos p.device))
+        (member (codes "hex") (string (encode_lower p.bytes)) (optional_members b)))) && items_have_valid_dates
+        (tables_of (map part_members ps))) ≡ true
     at true more = more
     at false more = more
 
@@ -300,17 +314,24 @@ printed-text k None = tt
 printed-text k (Some t) = ((refl, omega arith, refl), tt)
 
 printed-device : (e : DeviceEntry) → AllPrinted (lines_of_device e)
-printed-device e = (omega arith,
-    ((refl, omega arith, refl), ((refl, omega arith, refl), printed-text (codes "name") e.name)))
+printed-device e = (
+  omega arith,
+  ((refl, omega arith, refl), ((refl, omega arith, refl), printed-text (codes "name") e.name)),
+)
 
 printed-cue : (e : CueEntry) → AllPrinted (lines_of_cue e)
 printed-cue e =
     let deep = parts-depth e.parts in
     let parts : AllPrinted (pair (codes "parts") (parts_data e.parts) ∷ []) =
-        ((refl, omega arith, parts-dates e.parts), tt) in
-    (omega arith, ((refl, omega arith, refl), printed-append (text_lines (codes "name") e.name) _
-        (printed-text (codes "name") e.name)
-        (printed-append (text_lines (codes "note") e.note) _ (printed-text (codes "note") e.note) parts)))
+    ((refl, omega arith, parts-dates e.parts), tt) in (
+      omega arith,
+      (
+        (refl, omega arith, refl),
+        printed-append (text_lines (codes "name") e.name) _
+            (printed-text (codes "name") e.name)
+            (printed-append (text_lines (codes "note") e.note) _ (printed-text (codes "note") e.note) parts),
+      ),
+    )
 
 printed-port : (o : Option ℕ) → AllPrinted (port_lines o)
 printed-port None = tt
@@ -320,5 +341,5 @@ pub printed-file : (f : ShowFile) → AllPrinted (file_lines f)
 printed-file f =
     printed-append (port_lines f.port) _ (printed-port f.port)
     (printed-append (flat_map lines_of_device f.devices.items) _
-        (printed-each lines_of_device printed-device f.devices.items)
-        (printed-each lines_of_cue printed-cue f.cues.items))
+    (printed-each lines_of_device printed-device f.devices.items)
+    (printed-each lines_of_cue printed-cue f.cues.items))

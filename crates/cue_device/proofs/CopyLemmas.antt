@@ -8,13 +8,13 @@ use Rattle.cue_device.specs.declared.hearing.Place.TheVariants.{Same}
 use Rattle.cue_device.specs.declared.phase.Attempt.{Attempt}
 use Rattle.cue_device.specs.declared.phase.Phase.{Phase}
 use Rattle.cue_device.specs.declared.phase.Phase.TheVariants.{Failed}
-use Rattle.cue_device.specs.Hearing.{again, heard, heard_at, is_for, place, seq_of}
+use Rattle.cue_device.specs.Hearing.{again, what_comes_of, heard_at, is_for, place, seq_of}
 use Rattle.cue_device.specs.Table.{same_standby, other_standby, same_go, same_cancel}
 use Rattle.cue_device.specs.Copies.{ReadyAnswers, DoneAnswers, LetGoAnswers, FailedAnswers}
 
 -- at the attempt's place the row of its own number answers
 at_place : (d : Device) (a : Attempt) (c : Command) → place d (seq_of c) ≡ Same a
-    → (heard c d).answer ≡ (again a c).answer
+    → (what_comes_of c d).answer ≡ (again a c).answer
 at_place d a c e = ap (λ (p : Place). (heard_at p c d).answer) e
 
 pub ready_answers : ReadyAnswers
@@ -37,7 +37,7 @@ either_row false q = refl
 failed_row : (a : Attempt) (c : Command) → a.phase ≡ Failed → is_some (again a c).answer ≡ true
 failed_row a (Standby q t) p =
     ap (λ (x : Phase). is_some (if is_for t a.task then same_standby q x else other_standby q x).answer) p
-        ∙ either_row (is_for t a.task) q
+    ∙ either_row (is_for t a.task) q
 failed_row a (Go q) p = ap (λ (x : Phase). is_some (same_go q x).answer) p
 failed_row a (Cancel q) p = ap (λ (x : Phase). is_some (same_cancel q x).answer) p
 

@@ -22,12 +22,14 @@ use Rattle.cue_device.specs.declared.words.Order.{Order}
 use Rattle.cue_device.specs.declared.words.Order.TheVariants.{Prepare, Move, GiveUp}
 use Rattle.cue_device.specs.declared.words.Answer.{Answer}
 use Rattle.cue_device.specs.declared.words.Answer.TheVariants.{StandingBy, Complete, Cancelled, Abort}
-use Rattle.cue_device.specs.Hearing.{after_at, answer_at, again, begun, doing_after, ends, freed, heard_at, is_for}
-use Rattle.cue_device.specs.Hearing.{left_after, noted, ordered_for, place, place_known, rested, said, seq_of, taken}
+use Rattle.cue_device.specs.Hearing.{after_at, answer_at, again, begun, doing_after, ends, after_report, heard_at}
+use Rattle.cue_device.specs.Hearing.{is_for}
+use Rattle.cue_device.specs.Hearing.{left_after, attempt_with_report, ordered_for, place, place_known, device_at_rest}
+use Rattle.cue_device.specs.Hearing.{said_by, seq_of, after_turn}
 use Rattle.cue_device.specs.Hearing.{task_of, told_at, told_in, told_of}
 use Rattle.cue_device.specs.Table.{answer_over, anew, new_standby, other_standby, same_cancel, same_go, same_standby}
 use Rattle.cue_device.specs.Histories.{Happening, hears, tells, repeats, hears_reply, restarts, KeepsNumbers, answer_to}
-use Rattle.cue_device.specs.Histories.{answers_of, device_after, latest, order_at, orders_of, unfinished}
+use Rattle.cue_device.specs.Histories.{answers_of, device_after, latest, order_at, orders_of, unfinished_order}
 use Rattle.cue_device.specs.Laws.{has_given_up, has_moved, has_stood_by, is_give_up, is_move}
 
 -- ---- numbers of orders
@@ -163,16 +165,20 @@ left_to_do t None q os xs u s = tt
 left_to_do t (Some a) q os xs u s = less_to_do t a.phase q os xs u s
 
 freed_fits : (t : Told) (d : Device) (os : List Order) (xs : List Answer) (u : Option Order) → Fits d os xs u
-    → Fits (freed t d) os xs (left_after t u)
+    → Fits (after_report t d) os xs (left_after t u)
 freed_fits t d os xs u f =
-    record { bounded = f.bounded; doing = ap (left_after t) f.doing; stands =
-    left_to_do t d.attempt d.last os xs u f.stands }
+    record {
+      bounded = f.bounded;
+      doing = ap (left_after t) f.doing;
+      stands =
+          left_to_do t d.attempt d.last os xs u f.stands;
+    }
 
 -- ---- one turn
 
 -- the attempt of the last number takes a turn
 abbrev Turns : Device → Option Task → List Order → List Answer → Option Order → Turn → Type 0
-Turns d task os xs u t = Goes os xs u (taken task t d) (said t)
+Turns d task os xs u t = Goes os xs u (after_turn task t d) (said_by t)
 
 -- without an order
 keeps : (d : Device) (task : Option Task) (os : List Order) (xs : List Answer) (u : Option Order) (p : Phase)
@@ -253,8 +259,8 @@ again_goes : (d : Device) (a : Attempt) (os : List Order) (xs : List Answer) (u 
     → Turns d a.task os xs u (again a c)
 again_goes d a os xs u (Standby q t) at b e s =
     subst (λ (n : ℕ). Turns d a.task os xs u
-        (cond (is_for t a.task) (same_standby n a.phase) (other_standby n a.phase))) (sym at)
-        (standby_goes d a os xs u (is_for t a.task) b e s)
+    (cond (is_for t a.task) (same_standby n a.phase) (other_standby n a.phase))) (sym at)
+    (standby_goes d a os xs u (is_for t a.task) b e s)
 again_goes d a os xs u (Go q) at b e s = subst (λ (n : ℕ). Turns d a.task os xs u (same_go n a.phase)) (sym at)
     (same_go-goes d a.task os xs u a.phase b e s)
 again_goes d a os xs u (Cancel q) at b e s = subst (λ (n : ℕ). Turns d a.task os xs u (same_cancel n a.phase)) (sym at)
@@ -265,7 +271,7 @@ new_standby-goes : (d : Device) (q : ℕ) (task : Option Task) (os : List Order)
     → Turns (begun q d) task os xs u (new_standby q (is_none u))
 new_standby-goes d q task os xs None lt b e =
     orders (begun q d) task os xs None Preparing (Prepare q) None (up_to-more d.last q os (omega arith) b) (le_itself q)
-        (all_below d.last q os lt b, refl) ((not_moved d.last q os lt b, not_given_up d.last q os lt b), refl)
+    (all_below d.last q os lt b, refl) ((not_moved d.last q os lt b, not_given_up d.last q os lt b), refl)
 new_standby-goes d q task os xs (Some o) lt b e = keeps (begun q d) task os xs (Some o) Failed (Some (Abort q))
     (up_to-more d.last q os (omega arith) b) e tt
 
@@ -273,7 +279,7 @@ anew_goes : (d : Device) (os : List Order) (xs : List Answer) (u : Option Order)
     → UpTo d.last os → d.doing ≡ u → Turns (begun (seq_of c) d) (task_of c) os xs u (anew (is_none d.doing) c)
 anew_goes d os xs u (Standby q t) lt b e =
     subst (λ (v : Option Order). Turns (begun q d) (Some t) os xs u (new_standby q (is_none v))) (sym e)
-        (new_standby-goes d q (Some t) os xs u lt b e)
+    (new_standby-goes d q (Some t) os xs u lt b e)
 anew_goes d os xs u (Go q) lt b e =
     keeps (begun q d) None os xs u Failed (Some (Abort q)) (up_to-more d.last q os (omega arith) b) e tt
 anew_goes d os xs u (Cancel q) lt b e =
@@ -326,7 +332,8 @@ prepared_left q (Some o) h = no_more (ends o (Prepared q)) o (ap (λ (x : Order)
 -- the attempt is in this phase from now on
 enters : (t : Told) (d : Device) (task : Option Task) (os : List Order) (xs : List Answer) (u : Option Order)
     (p : Phase) (x : Answer) → UpTo d.last os → d.doing ≡ u → StandsIn p d.last os (x ∷ xs) (left_after t u)
-    → Fits (noted t task (record { phase = p; order = None; answer = Some x }) (freed t d)) os (x ∷ xs) (left_after t u)
+    → Fits (attempt_with_report t task (record { phase = p; order = None; answer = Some x }) (after_report t d)) os
+    (x ∷ xs) (left_after t u)
 enters t d task os xs u p x b e s = record { bounded = b; doing = ap (left_after t) e; stands = s }
 
 stood : (q p : ℕ) (xs : List Answer) → p ≡ q → has_stood_by q (StandingBy p ∷ xs) ≡ true
@@ -334,11 +341,15 @@ stood q p xs e = rw (eq-eqb p q e) refl
 
 told_goes : (t : Told) (d : Device) (a : Attempt) (p : Phase) (os : List Order) (xs : List Answer) (u : Option Order)
     → told_of t ≡ d.last → Fits d os xs u → StandsIn p d.last os xs u
-    → Fits (noted t a.task (told_in t p) (freed t d)) os (latest (told_in t p).answer xs) (left_after t u)
+    → Fits (attempt_with_report t a.task (told_in t p) (after_report t d)) os (latest (told_in t p).answer xs)
+    (left_after t u)
 told_goes (Prepared q) d a Preparing os xs u at f s =
-    enters (Prepared q) d a.task os xs u Ready (StandingBy q) f.bounded f.doing
-        (s.0, stood d.last q xs at, subst (λ (n : ℕ). left_after (Prepared n) u ≡ None) (sym at)
-        (prepared_left d.last u s.1))
+    enters (Prepared q) d a.task os xs u Ready (StandingBy q) f.bounded f.doing (
+      s.0,
+      stood d.last q xs at,
+      subst (λ (n : ℕ). left_after (Prepared n) u ≡ None) (sym at)
+          (prepared_left d.last u s.1),
+    )
 told_goes (Prepared q) d a Ready os xs u at f s = freed_fits (Prepared q) d os xs u f
 told_goes (Prepared q) d a Moving os xs u at f s = freed_fits (Prepared q) d os xs u f
 told_goes (Prepared q) d a Done os xs u at f s = freed_fits (Prepared q) d os xs u f
@@ -381,22 +392,26 @@ tells_fits New t d os xs u is f = freed_fits t d os xs u f
 
 -- ---- all that happens
 
-pub all_fits : (d : ℕ) (over : ℕ) (hs : List Happening) → KeepsNumbers (rested d over) hs
-    → Fits (device_after (rested d over) hs) (orders_of (rested d over) hs) (answers_of (rested d over) hs)
-        (unfinished (rested d over) hs)
+pub all_fits : (d : ℕ) (over : ℕ) (hs : List Happening) → KeepsNumbers (device_at_rest d over) hs
+    → Fits (device_after (device_at_rest d over) hs) (orders_of (device_at_rest d over) hs)
+    (answers_of (device_at_rest d over) hs)
+    (unfinished_order (device_at_rest d over) hs)
 all_fits d over [] k = record { bounded = tt; doing = refl; stands = tt }
 all_fits d over (hears c ∷ hs) k =
-    let now = device_after (rested d over) hs in
-    (heard_goes (place now (seq_of c)) now (orders_of (rested d over) hs) (answers_of (rested d over) hs)
-        (unfinished (rested d over) hs) c (place_is now (seq_of c)) (all_fits d over hs k.1)).fits
+    let now = device_after (device_at_rest d over) hs in
+    (heard_goes (place now (seq_of c)) now (orders_of (device_at_rest d over) hs)
+    (answers_of (device_at_rest d over) hs)
+    (unfinished_order (device_at_rest d over) hs) c (place_is now (seq_of c)) (all_fits d over hs k.1)).fits
 all_fits d over (tells t ∷ hs) k =
-    let now = device_after (rested d over) hs in
-    tells_fits (place now (told_of t)) t now (orders_of (rested d over) hs) (answers_of (rested d over) hs)
-        (unfinished (rested d over) hs) (place_is now (told_of t)) (all_fits d over hs k.1)
+    let now = device_after (device_at_rest d over) hs in
+    tells_fits (place now (told_of t)) t now (orders_of (device_at_rest d over) hs)
+    (answers_of (device_at_rest d over) hs)
+    (unfinished_order (device_at_rest d over) hs) (place_is now (told_of t)) (all_fits d over hs k.1)
 all_fits d over (repeats ∷ hs) k =
-    let now = device_after (rested d over) hs in
-    answers_more now (orders_of (rested d over) hs) (answer_to repeats now) (answers_of (rested d over) hs)
-        (unfinished (rested d over) hs) (all_fits d over hs k.1)
+    let now = device_after (device_at_rest d over) hs in
+    answers_more now (orders_of (device_at_rest d over) hs) (answer_to repeats now)
+    (answers_of (device_at_rest d over) hs)
+    (unfinished_order (device_at_rest d over) hs) (all_fits d over hs k.1)
 all_fits d over (hears_reply ∷ hs) k = let f = all_fits d over hs k.1 in
     record { bounded = f.bounded; doing = f.doing; stands = f.stands }
 all_fits d over (restarts n ∷ hs) k = record { bounded = k.0; doing = refl; stands = tt }
@@ -405,14 +420,16 @@ nothing_ordered : {A : Type 0} (o : Order) → None ≡ Some o → A
 nothing_ordered o e = absurd cc
 
 -- each order is lawful
-pub all_lawful : (d over : ℕ) (h : Happening) (hs : List Happening) (o : Order) → KeepsNumbers (rested d over) hs
-    → order_at h (device_after (rested d over) hs) ≡ Some o
-    → Lawful o (orders_of (rested d over) hs) (answers_of (rested d over) hs) (unfinished (rested d over) hs)
+pub all_lawful : (d over : ℕ) (h : Happening) (hs : List Happening) (o : Order)
+    → KeepsNumbers (device_at_rest d over) hs
+    → order_at h (device_after (device_at_rest d over) hs) ≡ Some o
+    → Lawful o (orders_of (device_at_rest d over) hs) (answers_of (device_at_rest d over) hs)
+    (unfinished_order (device_at_rest d over) hs)
 all_lawful d over (hears c) hs o k e =
-    let now = device_after (rested d over) hs in
-    let os = orders_of (rested d over) hs in
-    let xs = answers_of (rested d over) hs in
-    let u = unfinished (rested d over) hs in
+    let now = device_after (device_at_rest d over) hs in
+    let os = orders_of (device_at_rest d over) hs in
+    let xs = answers_of (device_at_rest d over) hs in
+    let u = unfinished_order (device_at_rest d over) hs in
     let g = heard_goes (place now (seq_of c)) now os xs u c (place_is now (seq_of c)) (all_fits d over hs k) in
     subst (λ (x : Option Order). LawfulIf x os xs u) e g.lawful
 all_lawful d over (tells t) hs o k e = nothing_ordered o e

@@ -11,7 +11,7 @@ pub AreKept-copied : (bytes : List ℕ) → length bytes ≤ MAX_PART_BYTES
 AreKept-copied bytes short =
     let places : List ℕ = bytes ++ drop (length bytes) (replicate MAX_PART_BYTES 0) in
     let back : kept_in places (length bytes) ≡ bytes =
-        take-append_seam bytes (drop (length bytes) (replicate MAX_PART_BYTES 0)) in
+    take-append_seam bytes (drop (length bytes) (replicate MAX_PART_BYTES 0)) in
     record {
       short = short;
       whole = ap length back;

@@ -25,7 +25,7 @@ pub two_numbers : (bytes behind rest : List ℕ) (q d e : ℕ) → IsBytes bytes
 two_numbers bytes behind rest q d e fits first second same =
     let a = number_takes w32 (2 ^ 32) wide32 bytes q behind fits first in
     let b = number_takes w32 (2 ^ 32) wide32 behind e rest (IsBytes-rest bytes (to_be_bytes w32 q) behind a.0 fits)
-        second in
+    second in
     a.0 ∙ ap (λ (x : List ℕ). to_be_bytes w32 q ++ x) (b.0 ∙ ap (λ (n : ℕ). to_be_bytes w32 n ++ rest) same)
 
 -- ---- cue numbers are texts
@@ -76,7 +76,7 @@ pub cue_is : (bytes cue rest : List ℕ) (t : Task) → IsTask t → bytes ≡ t
     → (cue ≡ t.cue) × (rest ≡ osc_blob t.bytes ++ [])
 cue_is bytes cue rest t h e read =
     let same : (cue, rest) ≡ (t.cue, osc_blob t.bytes ++ []) =
-        ok_is (cue, rest) (t.cue, osc_blob t.bytes ++ []) (sym read ∙ cue_read bytes t h e) in
+    ok_is (cue, rest) (t.cue, osc_blob t.bytes ++ []) (sym read ∙ cue_read bytes t h e) in
     (ap (λ (x : List ℕ × List ℕ). x.0) same, ap (λ (x : List ℕ × List ℕ). x.1) same)
 
 -- and its bytes, and nothing after them

@@ -8,24 +8,24 @@ use Rattle.cue_device.specs.declared.hearing.Place.TheVariants.{Same}
 use Rattle.cue_device.specs.declared.phase.Attempt.{Attempt}
 use Rattle.cue_device.specs.declared.phase.Phase.TheVariants.{Ready, Done, LetGo, Failed}
 use Rattle.cue_device.specs.declared.words.Answer.TheVariants.{StandingBy, Complete, Cancelled}
-use Rattle.cue_device.specs.Hearing.{heard, is_for, place, seq_of}
+use Rattle.cue_device.specs.Hearing.{what_comes_of, is_for, place, seq_of}
 
 -- It is ready: each copy of the standby is answered that it stands by.
 abbrev pub ReadyAnswers : Type 0
 ReadyAnswers = (d : Device) (a : Attempt) (q : ℕ) (t : Task) → place d q ≡ Same a → a.phase ≡ Ready
-    → is_for t a.task ≡ true → (heard (Standby q t) d).answer ≡ Some (StandingBy q)
+    → is_for t a.task ≡ true → (what_comes_of (Standby q t) d).answer ≡ Some (StandingBy q)
 
 -- It has carried the cue out: each copy of the go is answered that it is complete.
 abbrev pub DoneAnswers : Type 0
 DoneAnswers = (d : Device) (a : Attempt) (q : ℕ) → place d q ≡ Same a → a.phase ≡ Done
-    → (heard (Go q) d).answer ≡ Some (Complete q)
+    → (what_comes_of (Go q) d).answer ≡ Some (Complete q)
 
 -- It has let go: each copy of the cancel is answered that it is cancelled.
 abbrev pub LetGoAnswers : Type 0
 LetGoAnswers = (d : Device) (a : Attempt) (q : ℕ) → place d q ≡ Same a → a.phase ≡ LetGo
-    → (heard (Cancel q) d).answer ≡ Some (Cancelled q)
+    → (what_comes_of (Cancel q) d).answer ≡ Some (Cancelled q)
 
 -- It has failed: each order of the controller for the attempt has an answer.
 abbrev pub FailedAnswers : Type 0
 FailedAnswers = (d : Device) (a : Attempt) (c : Command) → place d (seq_of c) ≡ Same a → a.phase ≡ Failed
-    → is_some (heard c d).answer ≡ true
+    → is_some (what_comes_of c d).answer ≡ true

@@ -16,7 +16,7 @@ use Rattle.cue_device.specs.declared.words.Answer.{Answer}
 use Rattle.cue_device.specs.declared.words.Answer.TheVariants.{StandingBy, Complete, Cancelled, Abort}
 use Rattle.cue_device.specs.declared.words.Order.{Order}
 use Rattle.cue_device.specs.declared.hearing.Device.{Device}
-use Rattle.cue_device.specs.Hearing.{seq_of, task_of, answered_for, after_command, after_reply, heard}
+use Rattle.cue_device.specs.Hearing.{seq_of, task_of, answered_for, after_command, after_reply, what_comes_of}
 
 -- a number as an argument
 abbrev pub number : ℕ → Argument
@@ -108,8 +108,8 @@ pub record HearsCommand (datagram : List ℕ) (old new : Device) (order : Option
   pub command : Command
   pub is_for : IsFor old.number datagram command
   pub state : new ≡ after_command command old
-  pub ordered : order ≡ (heard command old).order
-  pub answered : sent ≡ answered_text old.number (heard command old).answer
+  pub ordered : order ≡ (what_comes_of command old).order
+  pub answered : sent ≡ answered_text old.number (what_comes_of command old).answer
 
 -- it is a reply to an abort of the device: the device hears it
 pub record HearsReply (datagram : List ℕ) (old new : Device) (order : Option Order) (sent : List ℕ) : Type 0 where

@@ -25,8 +25,8 @@ use Rattle.cue_device.specs.Table.{moved_in, gave_up_in, cannot_in}
 -- ---- what a device is
 
 -- a device whose machine is at rest; the numbers up to over are over
-abbrev pub rested : ℕ → ℕ → Device
-rested number over = record { number = number; last = over; attempt = None; doing = None; unheard = false }
+abbrev pub device_at_rest : ℕ → ℕ → Device
+device_at_rest number over = record { number = number; last = over; attempt = None; doing = None; unheard = false }
 
 -- a device with these parts
 abbrev pub with_parts : ℕ → ℕ → Option Attempt → Option Order → Bool → Device
@@ -106,8 +106,8 @@ doing_after None doing = doing
 doing_after (Some order) doing = Some order
 
 -- the device has taken a turn in the attempt of its last number
-abbrev pub taken : Option Task → Turn → Device → Device
-taken task turn d = record d {
+abbrev pub after_turn : Option Task → Turn → Device → Device
+after_turn task turn d = record d {
   attempt = Some (record { phase = turn.phase; task = task });
   doing = doing_after turn.order d.doing;
 }
@@ -119,26 +119,26 @@ begun q d = record d { last = q; unheard = false }
 -- the device after an order of the controller, by the place of its number
 abbrev pub after_at : Place → Command → Device → Device
 after_at Over c d = d
-after_at (Same a) c d = taken a.task (again a c) d
-after_at New c d = taken (task_of c) (anew (is_none d.doing) c) (begun (seq_of c) d)
+after_at (Same a) c d = after_turn a.task (again a c) d
+after_at New c d = after_turn (task_of c) (anew (is_none d.doing) c) (begun (seq_of c) d)
 
 -- what is ordered and answered
-abbrev pub said : Turn → Heard
-said turn = record { order = turn.order; answer = turn.answer }
+abbrev pub said_by : Turn → Heard
+said_by turn = record { order = turn.order; answer = turn.answer }
 
 -- what is ordered and answered, by the place of the number
 abbrev pub heard_at : Place → Command → Device → Heard
 heard_at Over c d = record { order = None; answer = Some (answer_over c) }
-heard_at (Same a) c d = said (again a c)
-heard_at New c d = said (anew (is_none d.doing) c)
+heard_at (Same a) c d = said_by (again a c)
+heard_at New c d = said_by (anew (is_none d.doing) c)
 
 -- the device after an order of the controller
 abbrev pub after_command : Command → Device → Device
 after_command c d = after_at (place d (seq_of c)) c d
 
 -- what comes of an order of the controller
-abbrev pub heard : Command → Device → Heard
-heard c d = heard_at (place d (seq_of c)) c d
+abbrev pub what_comes_of : Command → Device → Heard
+what_comes_of c d = heard_at (place d (seq_of c)) c d
 
 -- ---- what its machine reports
 
@@ -187,8 +187,8 @@ left_after told None = None
 left_after told (Some order) = if ends order told then None else Some order
 
 -- the device, once its machine reported the end of what it does
-abbrev pub freed : Told → Device → Device
-freed told d = record d { doing = left_after told d.doing }
+abbrev pub after_report : Told → Device → Device
+after_report told d = record d { doing = left_after told d.doing }
 
 -- an abort that nobody asked for waits for its reply
 abbrev pub unheard_after : Told → Bool → Bool
@@ -198,15 +198,15 @@ unheard_after (GaveUp q) unheard = unheard
 unheard_after (Cannot q) unheard = true
 
 -- the attempt with what was reported of it: where nothing is answered, nothing changes
-abbrev pub noted : Told → Option Task → Turn → Device → Device
-noted told task turn d = if is_some turn.answer then record (taken task turn d)
+abbrev pub attempt_with_report : Told → Option Task → Turn → Device → Device
+attempt_with_report told task turn d = if is_some turn.answer then record (after_turn task turn d)
     { unheard = unheard_after told d.unheard } else d
 
 -- the device after its machine reported something, by the place of the number
 abbrev pub told_at : Place → Told → Device → Device
-told_at Over told d = freed told d
-told_at (Same a) told d = noted told a.task (told_in told a.phase) (freed told d)
-told_at New told d = freed told d
+told_at Over told d = after_report told d
+told_at (Same a) told d = attempt_with_report told a.task (told_in told a.phase) (after_report told d)
+told_at New told d = after_report told d
 
 -- what is answered, by the place of the number
 abbrev pub answer_at : Place → Told → Option Answer

@@ -7,7 +7,7 @@ use Rattle.cue_device.specs.declared.hearing.Told.{Told}
 use Rattle.cue_device.specs.declared.words.Order.{Order}
 use Rattle.cue_device.specs.declared.words.Answer.{Answer}
 use Rattle.cue_device.specs.Hearing.{after_command, after_reply, after_told, answer_ticked, answer_told, doing_after}
-use Rattle.cue_device.specs.Hearing.{heard, left_after, ordered_for, rested}
+use Rattle.cue_device.specs.Hearing.{what_comes_of, left_after, ordered_for, device_at_rest}
 
 -- what happens to a device: it hears an order of the controller, its machine reports something, it repeats an
 -- abort, it hears a reply to that, or it restarts, its machine at rest, and is handed in this number
@@ -24,11 +24,11 @@ after (hears c) d = after_command c d
 after (tells t) d = after_told t d
 after repeats d = d
 after hears_reply d = after_reply d
-after (restarts n) d = rested d.number n
+after (restarts n) d = device_at_rest d.number n
 
 -- what it orders then
 abbrev pub order_at : Happening → Device → Option Order
-order_at (hears c) d = (heard c d).order
+order_at (hears c) d = (what_comes_of c d).order
 order_at (tells t) d = None
 order_at repeats d = None
 order_at hears_reply d = None
@@ -36,7 +36,7 @@ order_at (restarts n) d = None
 
 -- what it answers then
 abbrev pub answer_to : Happening → Device → Option Answer
-answer_to (hears c) d = (heard c d).answer
+answer_to (hears c) d = (what_comes_of c d).answer
 answer_to (tells t) d = answer_told t d
 answer_to repeats d = answer_ticked d
 answer_to hears_reply d = None
@@ -71,9 +71,9 @@ left_then hears_reply u = u
 left_then (restarts n) u = None
 
 -- the order whose end the machine has not reported
-abbrev pub unfinished : Device → List Happening → Option Order
-unfinished d [] = None
-unfinished d (h ∷ hs) = doing_after (order_at h (device_after d hs)) (left_then h (unfinished d hs))
+abbrev pub unfinished_order : Device → List Happening → Option Order
+unfinished_order d [] = None
+unfinished_order d (h ∷ hs) = doing_after (order_at h (device_after d hs)) (left_then h (unfinished_order d hs))
 
 -- the number that is handed in at a restart is at least that of each order before
 abbrev pub KeepsNumber : Happening → List Order → Type 0

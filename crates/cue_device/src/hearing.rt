@@ -3,8 +3,10 @@ ghost use Rattle.std.specs.Prelude.{◌≡◌, Some, is_none};
 ghost use Rattle.std.specs.Option.{option_map};
 ghost use Rattle.cue_device.specs.declared.hearing.Told.TheVariants.{Prepared, Moved, GaveUp, Cannot};
 ghost use Rattle.cue_device.specs.Hearing.{after_command, after_reply, after_told, again, answer_ticked, answer_told};
-ghost use Rattle.cue_device.specs.Hearing.{begun, doing_after, ends, freed, heard, is_for, left_after, noted, place};
-ghost use Rattle.cue_device.specs.Hearing.{rested, said, phase_now, seq_of, task_now, taken, task_of, told_in, told_of};
+ghost use Rattle.cue_device.specs.Hearing.{begun, doing_after, ends, after_report, what_comes_of, is_for, left_after};
+ghost use Rattle.cue_device.specs.Hearing.{attempt_with_report, place};
+ghost use Rattle.cue_device.specs.Hearing.{device_at_rest, said_by, phase_now, seq_of, task_now, after_turn, task_of};
+ghost use Rattle.cue_device.specs.Hearing.{told_in, told_of};
 ghost use Rattle.cue_device.specs.Hearing.{unheard_after, with_parts};
 
 use crate::asked::{Command, Task};
@@ -65,7 +67,7 @@ impl Device {
     /// A device of this number whose machine is at rest and holds nothing. The attempts up to the number `over` are
     /// over: 0 for a new store. A maker who keeps `last` over a restart hands it in here.
     pub fn new(number: DeviceNo, over: u32) -> Device
-        ensures { result ≡ rested number over }
+        ensures { result ≡ device_at_rest number over }
     {
         Device {
             number,
@@ -144,7 +146,7 @@ impl Device {
     /// orders nothing.
     pub fn hear(&mut self, command: &Command) -> Heard
         ensures state { self.new ≡ after_command command.now self.old }
-        ensures said { result ≡ heard command.now self.old }
+        ensures said { result ≡ what_comes_of command.now self.old }
     {
         match self.place(command.seq()) {
             Place::Over => Heard {
@@ -245,8 +247,8 @@ impl Device {
 
     // The attempt of the last number takes the turn.
     fn take(&mut self, turn: Turn, task: Option<Task>) -> Heard
-        ensures state { self.new ≡ taken task turn self.old }
-        ensures said { result ≡ said turn }
+        ensures state { self.new ≡ after_turn task turn self.old }
+        ensures said { result ≡ said_by turn }
     {
         let Turn {
             phase,
@@ -278,7 +280,7 @@ impl Device {
 
     // The attempt goes on as the machine reported, where that is something new.
     fn note(&mut self, told: Told, turn: Turn, task: Option<Task>)
-        ensures { self.new ≡ noted told task turn self.old }
+        ensures { self.new ≡ attempt_with_report told task turn self.old }
     {
         if turn.answer.is_some() {
             let _ = self.take(turn, task);

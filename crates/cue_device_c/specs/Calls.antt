@@ -6,25 +6,25 @@ use Rattle.cue_device.specs.declared.words.Order.{Order}
 use Rattle.cue_device.specs.Datagrams.{answered_text, HearsDatagram}
 use Rattle.cue_device.specs.Hearing.{after_told, answer_told, answer_ticked}
 use Rattle.cue_device_c.specs.Codes.{order_code}
-use Rattle.cue_device_c.specs.State.{device_of, kept}
+use Rattle.cue_device_c.specs.State.{device_of, numbers_of}
 use Rattle.cue_device_c.specs.declared.codes.TheConstants.{BAD_CALL}
 use Rattle.cue_device_c.specs.declared.state.CueDevice.{CueDevice}
 use Rattle.cue_device_c.specs.declared.answer.CueAnswer.{CueAnswer}
 
 -- the bytes that are to be sent
-abbrev pub sent : CueAnswer → List ℕ
-sent answer = take answer.length answer.bytes
+abbrev pub sent_bytes : CueAnswer → List ℕ
+sent_bytes answer = take answer.length answer.bytes
 
 -- it was no call: nothing changes, and nothing is sent
 pub record IsNoCall (old new : CueDevice) (answer : CueAnswer) (given : ℕ) : Type 0 where
   pub state : new ≡ old
-  pub silent : sent answer ≡ []
+  pub silent : sent_bytes answer ≡ []
   pub result : given ≡ BAD_CALL
 
 -- the machine of the device d reports
 pub record DeviceTells (told : Told) (d : Device) (new : CueDevice) (answer : CueAnswer) (given : ℕ) : Type 0 where
-  pub state : new ≡ kept (after_told told d)
-  pub answered : sent answer ≡ answered_text d.number (answer_told told d)
+  pub state : new ≡ numbers_of (after_told told d)
+  pub answered : sent_bytes answer ≡ answered_text d.number (answer_told told d)
   pub result : given ≡ 0
 
 -- it reports where the numbers stand for a device
@@ -41,8 +41,8 @@ pub record DeviceHears (datagram : List ℕ) (d : Device) (new : CueDevice) (ans
     (given : ℕ) : Type 0 where
   pub after : Device
   pub order : Option Order
-  pub heard : HearsDatagram datagram d after order (sent answer)
-  pub state : new ≡ kept after
+  pub heard : HearsDatagram datagram d after order (sent_bytes answer)
+  pub state : new ≡ numbers_of after
   pub result : given ≡ order_code order
 
 -- it hears where the numbers stand for a device
@@ -56,7 +56,7 @@ Hears datagram old new answer given = HearsOf (device_of old) datagram old new a
 
 -- time has passed for the device d: what is sent again
 pub record DeviceTicks (d : Device) (answer : CueAnswer) (given : ℕ) : Type 0 where
-  pub answered : sent answer ≡ answered_text d.number (answer_ticked d)
+  pub answered : sent_bytes answer ≡ answered_text d.number (answer_ticked d)
   pub result : given ≡ 0
 
 -- time has passed where the numbers stand for a device

@@ -74,8 +74,8 @@ abbrev pub bit : Bool → ℕ
 bit b = if b then 1 else 0
 
 -- the numbers that stand for a device
-abbrev pub kept : Device → CueDevice
-kept d = record {
+abbrev pub numbers_of : Device → CueDevice
+numbers_of d = record {
   number = d.number;
   last = d.last;
   phase = phase_code (phase_now d.attempt);

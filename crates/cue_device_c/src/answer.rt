@@ -1,7 +1,7 @@
 //! What is to be sent, as C has it.
 ghost use Rattle.std.specs.Prelude.{◌≡◌, []};
 ghost use Rattle.cue_device.specs.Datagrams.{answered_text};
-ghost use Rattle.cue_device_c.specs.Calls.{sent};
+ghost use Rattle.cue_device_c.specs.Calls.{sent_bytes};
 
 use cue_device::{Answer, Device, MAX_ANSWER};
 
@@ -16,7 +16,7 @@ pub struct CueAnswer {
 impl CueAnswer {
     // There is nothing to send.
     pub(crate) fn none() -> CueAnswer
-        ensures { sent result ≡ [] }
+        ensures { sent_bytes result ≡ [] }
     {
         CueAnswer {
             length: 0,
@@ -26,7 +26,7 @@ impl CueAnswer {
 
     // The datagram of the device's answer; nothing to send where there is none.
     pub(crate) fn of(device: &Device, answer: Option<Answer>) -> CueAnswer
-        ensures { sent result ≡ answered_text device.now.number answer }
+        ensures { sent_bytes result ≡ answered_text device.now.number answer }
     {
         let mut bytes = [0; MAX_ANSWER];
         let length = device.write_answer(answer, &mut bytes);

@@ -2,9 +2,9 @@
 ghost use Rattle.std.specs.Prelude.{◌≡◌, ◌≤◌, ◌<◌};
 ghost use Rattle.cue_show.specs.declared.limits.TheConstants.{MAX_DEVICE_NUMBER};
 ghost use Rattle.cue_device.specs.declared.hearing.Told.TheVariants.{Prepared, Moved, GaveUp, Cannot};
-ghost use Rattle.cue_device.specs.Hearing.{rested};
+ghost use Rattle.cue_device.specs.Hearing.{device_at_rest};
 ghost use Rattle.cue_device_c.specs.Calls.{Hears, Tells, Ticks};
-ghost use Rattle.cue_device_c.specs.State.{kept};
+ghost use Rattle.cue_device_c.specs.State.{numbers_of};
 ghost use Rattle.cue_device_c.specs.declared.codes.TheConstants.{BAD_CALL};
 ghost use Rattle.cue_device_c.specs.declared.exports.TheConstants.{MAX_NUMBER};
 
@@ -21,7 +21,7 @@ pub const MAX_NUMBER: u32 = 2147483647;
 #[unsafe(no_mangle)]
 pub extern "C" fn cue_device_new(device: &mut CueDevice, number: u32, over: u32) -> u32
     ensures made { number ≤ MAX_DEVICE_NUMBER → over ≤ MAX_NUMBER
-        → (device.new ≡ kept (rested number over)) × (result ≡ 0) }
+        → (device.new ≡ numbers_of (device_at_rest number over)) × (result ≡ 0) }
     ensures no_number { MAX_DEVICE_NUMBER < number → (device.new ≡ device.old) × (result ≡ BAD_CALL) }
     ensures not_over { MAX_NUMBER < over → (device.new ≡ device.old) × (result ≡ BAD_CALL) }
 {

@@ -2,7 +2,7 @@
 ghost use Rattle.std.specs.Prelude.{◌≡◌, IsTrue};
 ghost use Rattle.cue_show.specs.DeviceNumber.{device_of_byte};
 ghost use Rattle.cue_device_c.specs.State.{bytes_length, bytes_places, cue_length, cue_places, device_of, fits};
-ghost use Rattle.cue_device_c.specs.State.{fits_cue, kept, task_in};
+ghost use Rattle.cue_device_c.specs.State.{fits_cue, numbers_of, task_in};
 
 use crate::codes::{order_code, order_number, order_of, phase_code, phase_of};
 use cue_device::{Attempt, Device, PartBytes, Task};
@@ -45,7 +45,7 @@ impl CueDevice {
 
     // The numbers that stand for the device.
     pub(crate) fn of(device: &Device) -> CueDevice
-        ensures { result ≡ kept device.now }
+        ensures { result ≡ numbers_of device.now }
     {
         let task = device.task();
         let (cue_length, cue) = cue_of(&task);

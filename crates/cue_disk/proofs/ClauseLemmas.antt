@@ -4,7 +4,7 @@ use Rattle.std.proofs.Common.{length, take, Result, Ok, Err, is_ok, not, OnOk, r
 use Rattle.std.proofs.lemmas.List.{length-take}
 use Rattle.std.proofs.lemmas.Bool.{or_right, and_from, and_left, and_right, le-leb, lt-leb, lt-ltb, le-ltb}
 use Rattle.cue_disk.specs.Disk.{Contents, IsImage, IsStable, Writes, AllTouched}
-use Rattle.cue_disk.specs.Effect.{after_write, written_as, synced_as, settled}
+use Rattle.cue_disk.specs.Effect.{after_write, written_as, synced_as, settled_contents}
 use Rattle.cue_disk.specs.Plan.{goes_through}
 use Rattle.cue_disk.specs.declared.plan.Fate.{Fate}
 use Rattle.cue_disk.specs.declared.plan.Fate.TheVariants.{Succeeds, Fails, Stopped}
@@ -60,7 +60,7 @@ written_as_touched (Ok x) Fails lacked at bytes now goes = absurd (cc)
 written_as_touched (Ok x) Stopped lacked at bytes now goes = absurd (cc)
 
 -- what is settled is stable
-settled_stable : (bytes : List ℕ) → IsStable (settled bytes)
+settled_stable : (bytes : List ℕ) → IsStable (settled_contents bytes)
 settled_stable bytes = record { length = refl; none_touched = λ i within. lt-leb (length bytes) i within }
 
 -- A sync that went through has made all stable.
@@ -73,7 +73,8 @@ synced_as_stable (Ok x) Fails lacked now goes = absurd (cc)
 synced_as_stable (Ok x) Stopped lacked now goes = absurd (cc)
 
 -- what a crash leaves after a sync is one of the images from before it
-settled_images : (now : Contents) → now.synced ≤ length now.bytes → (image : List ℕ) → IsImage (settled now.bytes) image
+settled_images : (now : Contents) → now.synced ≤ length now.bytes → (image : List ℕ)
+    → IsImage (settled_contents now.bytes) image
     → IsImage now image
 settled_images now within image left = record {
   no_shorter = omega (arith, left.no_shorter);

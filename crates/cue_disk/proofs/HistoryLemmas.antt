@@ -4,8 +4,8 @@ use Rattle.std.proofs.Common.{refl, ◌∙◌, ap, subst, ⊎_elim, arith}
 use Rattle.std.proofs.lemmas.List.{drop_all, drop-append-le, take_all, take-append-le, length_push, length-take}
 use Rattle.std.proofs.lemmas.List.{length-drop, get_or-take, get_or-drop, ext_get_or}
 use Rattle.std.proofs.lemmas.Bool.{cases_lt}
-use Rattle.cue_disk.specs.Disk.{Elapses, overwritten}
-use Rattle.cue_disk.specs.Medium.{State, contents, undone, rewound, restored, UndoesWrites}
+use Rattle.cue_disk.specs.Disk.{Elapses, overwritten_bytes}
+use Rattle.cue_disk.specs.Medium.{State, contents, undone, rewound, restored_bytes, UndoesWrites}
 use Rattle.cue_disk.specs.declared.medium.Change.{Change}
 use Rattle.cue_disk.specs.declared.medium.Change.TheVariants.{Wrote}
 use Rattle.std.specs.declared.vec.Vec.{Vec}
@@ -22,7 +22,7 @@ rewound_push now (first ∷ changes) change = ap (undone first) (rewound_push no
 pub pushed : (old new : State) (before after : List Change) (change : Change) → after ≡ before ++ change ∷ []
     → undone change new ≡ old
     → Elapses (length before) (length after) (λ k. contents (rewound old (drop k before)) (take k before))
-        (λ k. contents (rewound new (drop k after)) (take k after)) (contents new after)
+    (λ k. contents (rewound new (drop k after)) (take k after)) (contents new after)
 pushed old new before after change push back =
     let long : length after ≡ length before + 1 = ap length push ∙ length_push before change in
     record {
@@ -41,10 +41,11 @@ pushed old new before after change push back =
 
 -- What was kept of a written range, put back, makes the bytes as they were.
 pub restored_overwritten : (old new kept : List ℕ) (at n : ℕ) → at ≤ length old → length new ≤ n
-    → kept ≡ take (min n (length old - at)) (drop at old) → restored (overwritten old at new) at kept (length old) ≡ old
+    → kept ≡ take (min n (length old - at)) (drop at old)
+    → restored_bytes (overwritten_bytes old at new) at kept (length old) ≡ old
 restored_overwritten old new kept at n room fits keeps =
-    let mid = overwritten old at new in
-    let back = overwritten mid at kept in
+    let mid = overwritten_bytes old at new in
+    let back = overwritten_bytes mid at kept in
     let mid_long : length mid ≡ max (length old) (at + length new) = length-overwritten old new at room in
     let room_mid : at ≤ length mid = omega arith in
     let long : length kept ≡ min n (length old - at) =
@@ -76,8 +77,8 @@ pub kept_undoes : (state : State) (at asked count len : ℕ) (bytes : Vec ℕ Gl
     → len ≡ length state.bytes → count ≡ min asked (length state.bytes - at)
     → bytes.items ≡ take count (drop at state.bytes) → UndoesWrites (Wrote at asked bytes len) at asked state
 kept_undoes state at asked count len bytes room is_len is_count is_bytes stored few =
-    let back : restored (overwritten state.bytes at stored) at bytes.items len ≡ state.bytes =
-    ap (λ (n : ℕ). restored (overwritten state.bytes at stored) at bytes.items n) is_len
+    let back : restored_bytes (overwritten_bytes state.bytes at stored) at bytes.items len ≡ state.bytes =
+    ap (λ (n : ℕ). restored_bytes (overwritten_bytes state.bytes at stored) at bytes.items n) is_len
     ∙ restored_overwritten state.bytes stored bytes.items at asked room few (is_bytes
-        ∙ ap (λ (n : ℕ). take n (drop at state.bytes)) is_count) in
+    ∙ ap (λ (n : ℕ). take n (drop at state.bytes)) is_count) in
     λ j. record state { bytes = back j }

@@ -31,7 +31,7 @@ module _ {D : Type 0} (moment : D → ℕ) (held_at : D → ℕ → Contents) wh
         ⊎_elim
         (λ (after : moment mid < k). here image (subst (λ (c : Contents). IsImage c image) (time.rest k after to) left))
         (λ (before : k ≤ moment mid). so_far.each k from before image
-            (subst (λ (c : Contents). IsImage c image) (time.same k before) left))
+        (subst (λ (c : Contents). IsImage c image) (time.same k before) left))
         (cases_lt (moment mid) k);
   }
 
@@ -45,7 +45,7 @@ module _ {D : Type 0} (moment : D → ℕ) (held_at : D → ℕ → Contents) wh
         ⊎_elim
         (λ (after : moment mid < k). second.each k (omega arith) to image left)
         (λ (before : k ≤ moment mid). first.each k from before image
-            (subst (λ (c : Contents). IsImage c image) (second.same k before) left))
+        (subst (λ (c : Contents). IsImage c image) (second.same k before) left))
         (cases_lt (moment mid) k);
   }
 

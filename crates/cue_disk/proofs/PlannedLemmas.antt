@@ -12,7 +12,7 @@ same_call k n some =
     ⊎_elim
     (λ (same : n + 1 ≡ k). eq-eqb n (k - 1) (omega arith) ∙ sym (eq-eqb (n + 1) k same))
     (λ (other : n + 1 ≡ k → ⊥). ne_eqb n (k - 1) (λ (e : n ≡ k - 1). other (omega arith))
-        ∙ sym (ne_eqb (n + 1) k other))
+    ∙ sym (ne_eqb (n + 1) k other))
     (cases_eq (n + 1) k)
 
 later_call : (k n : ℕ) → 0 < n → nat_lt (k - 1) n ≡ nat_lt k (n + 1)
@@ -30,9 +30,9 @@ with_on : (stop : Option ℕ) (fail n : ℕ) → 0 < n
 with_on None fail n some = fails_on fail n some
 with_on (Some k) fail n some =
     ap (λ (b : Bool). if b then Stopped else (if n == k - 1 then Fails else fails_at (fail - 1) n))
-        (later_call k n some)
+    (later_call k n some)
     ∙ ap (λ (b : Bool). if nat_lt k (n + 1) then Stopped else (if b then Fails else fails_at (fail - 1) n))
-        (same_call k n some)
+    (same_call k n some)
     ∙ ap (λ (f : Fate). if nat_lt k (n + 1) then Stopped else (if n + 1 == k then Fails else f)) (fails_on fail n some)
 
 pub plan_goes_on : PlanGoesOn

@@ -34,7 +34,7 @@ module _ (now : Contents) (image : List ℕ) where
       ⊎_elim
       (λ (may : may_change now n ≡ true). omega (arith, changeable_few n, cond-true {A = ℕ} (may_change now n) 1 0 may))
       (λ (fixed : may_change now n ≡ false).
-          omega (arith, changeable_few n, cond-false {A = ℕ} (may_change now n) 1 0 fixed))
+      omega (arith, changeable_few n, cond-false {A = ℕ} (may_change now n) 1 0 fixed))
       (cases_Bool (may_change now n))
 
   -- more of them, the further on the place lies
@@ -47,7 +47,7 @@ module _ (now : Contents) (image : List ℕ) where
       let same : i ≡ n = omega arith in
       let more : changeable_before now n + cond (may_change now n) 1 0 ≡ changeable_before now n + 1 =
       ap (λ (k : ℕ). changeable_before now n + k) (cond-true (may_change now n) 1 0 (ap (may_change now) (sym same)
-          ∙ may)) in
+      ∙ may)) in
       omega (arith, more, ap (changeable_before now) same))
       (cases_lt i n)
 
@@ -60,25 +60,25 @@ module _ (now : Contents) (image : List ℕ) where
       (λ (less : i < n).
       let there = junk_at n i d less may in
       let short : changeable_before now i < length (junk_before n) =
-          omega (arith, before_less n i less may, length-junk_before n) in
+      omega (arith, before_less n i less may, length-junk_before n) in
       ⊎_elim
       (λ (may_n : may_change now n ≡ true).
       ap (λ (l : List ℕ). get_or l (changeable_before now i) d)
-          (cond-true (may_change now n) (junk_before n ++ get_or image n 0 ∷ []) (junk_before n) may_n)
+      (cond-true (may_change now n) (junk_before n ++ get_or image n 0 ∷ []) (junk_before n) may_n)
       ∙ get_or_append_left (junk_before n) (get_or image n 0 ∷ []) d (changeable_before now i) short
       ∙ there)
       (λ (fixed : may_change now n ≡ false).
       ap (λ (l : List ℕ). get_or l (changeable_before now i) d)
-          (cond-false (may_change now n) (junk_before n ++ get_or image n 0 ∷ []) (junk_before n) fixed)
+      (cond-false (may_change now n) (junk_before n ++ get_or image n 0 ∷ []) (junk_before n) fixed)
       ∙ there)
       (cases_Bool (may_change now n)))
       (λ (high : n ≤ i).
       let same : n ≡ i = omega arith in
       let may_n : may_change now n ≡ true = ap (may_change now) same ∙ may in
       ap (λ (l : List ℕ). get_or l (changeable_before now i) d)
-          (cond-true (may_change now n) (junk_before n ++ get_or image n 0 ∷ []) (junk_before n) may_n)
+      (cond-true (may_change now n) (junk_before n ++ get_or image n 0 ∷ []) (junk_before n) may_n)
       ∙ get_or_push (junk_before n) (get_or image n 0) d (changeable_before now i) (length-junk_before n
-          ∙ ap (changeable_before now) same)
+      ∙ ap (changeable_before now) same)
       ∙ ap (λ (k : ℕ). get_or image k 0) same)
       (cases_lt i n)
 
@@ -89,23 +89,26 @@ module _ (now : Contents) (image : List ℕ) where
       ⊎_elim
       (λ (may : may_change now n ≡ true).
       subst (λ (l : List ℕ). get_or l i 0 < 256)
-          (sym (cond-true (may_change now n) (junk_before n ++ get_or image n 0 ∷ []) (junk_before n) may))
+      (sym (cond-true (may_change now n) (junk_before n ++ get_or image n 0 ∷ []) (junk_before n) may))
       (⊎_elim
       (λ (low : i < length (junk_before n)).
-          omega (arith, junk_bytes bytes n i, get_or_append_left (junk_before n) (get_or image n 0 ∷ []) 0 i low))
+      omega (arith, junk_bytes bytes n i, get_or_append_left (junk_before n) (get_or image n 0 ∷ []) 0 i low))
       (λ (high : length (junk_before n) ≤ i).
       ⊎_elim
       (λ (last : i ≡ length (junk_before n)).
-          omega (arith, bytes n, get_or_push (junk_before n) (get_or image n 0) 0 i (sym last)))
+      omega (arith, bytes n, get_or_push (junk_before n) (get_or image n 0) 0 i (sym last)))
       (λ (other : i ≡ length (junk_before n) → ⊥).
-          omega (arith, get_or_past (junk_before n ++ get_or image n 0 ∷ []) i 0
-          (omega (arith, other, length_push (junk_before n) (get_or image n 0)))))
+      omega (
+        arith,
+        get_or_past (junk_before n ++ get_or image n 0 ∷ []) i 0
+            (omega (arith, other, length_push (junk_before n) (get_or image n 0))),
+      ))
       (cases_eq i (length (junk_before n))))
       (cases_lt i (length (junk_before n)))))
       (λ (fixed : may_change now n ≡ false).
       subst (λ (l : List ℕ). get_or l i 0 < 256)
-          (sym (cond-false (may_change now n) (junk_before n ++ get_or image n 0 ∷ []) (junk_before n) fixed))
-          (junk_bytes bytes n i))
+      (sym (cond-false (may_change now n) (junk_before n ++ get_or image n 0 ∷ []) (junk_before n) fixed))
+      (junk_bytes bytes n i))
       (cases_Bool (may_change now n))
 
   made : IsImage now image → IsCrashed now (length image - now.synced) (junk_before (length image)) image
@@ -115,15 +118,15 @@ module _ (now : Contents) (image : List ℕ) where
         ⊎_elim
         (λ (may : may_change now i ≡ true).
         sym (cond-true (may_change now i)
-            (get_or (junk_before (length image)) (changeable_before now i) (get_or now.bytes i 0))
-            (get_or now.bytes i 0) may
+        (get_or (junk_before (length image)) (changeable_before now i) (get_or now.bytes i 0))
+        (get_or now.bytes i 0) may
         ∙ junk_at (length image) i (get_or now.bytes i 0) within may))
         (λ (fixed : may_change now i ≡ false).
         let parts = or_parts (now.touched i) (nat_le now.synced i) fixed in
         left.untouched i (leb-false now.synced i parts.1) parts.0
         ∙ sym (cond-false (may_change now i)
-            (get_or (junk_before (length image)) (changeable_before now i) (get_or now.bytes i 0))
-            (get_or now.bytes i 0) fixed))
+        (get_or (junk_before (length image)) (changeable_before now i) (get_or now.bytes i 0))
+        (get_or now.bytes i 0) fixed))
         (cases_Bool (may_change now i));
   }
 

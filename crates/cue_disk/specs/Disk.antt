@@ -39,8 +39,8 @@ pub record IsStable (now : Contents) : Type 0 where
   pub none_touched : (i : ℕ) → i < now.synced → now.touched i ≡ false
 
 -- the old bytes with these in their place from an offset on, and longer where these reach past the end
-abbrev pub overwritten : List ℕ → ℕ → List ℕ → List ℕ
-overwritten old at bytes = take at old ++ bytes ++ drop (at + length bytes) old
+abbrev pub overwritten_bytes : List ℕ → ℕ → List ℕ → List ℕ
+overwritten_bytes old at bytes = take at old ++ bytes ++ drop (at + length bytes) old
 
 -- any bytes in the n from `at` on, the same elsewhere, and no shorter
 pub record Torn (at n : ℕ) (old new : List ℕ) : Type 0 where
@@ -92,7 +92,7 @@ StopWithinAWrite =
     → at ≤ length old.bytes
     → Writes at (length bytes) old part
     → Writes at (length bytes) old whole
-    → whole.bytes ≡ overwritten old.bytes at bytes
+    → whole.bytes ≡ overwritten_bytes old.bytes at bytes
     → AllTouched at (length bytes) whole
     → (image : List ℕ) → IsImage part image → IsImage whole image
 

@@ -1,17 +1,17 @@
 -- What a write and a sync leave of what a memory disk holds, as they were planned to end.
 use Rattle.std.specs.Prelude.{◌+◌, ◌/◌, ℕ, nat_le, nat_lt, Bool, true, false, ◌&&◌, ◌||◌, List, [], length, take}
-use Rattle.cue_disk.specs.Disk.{Contents, overwritten}
+use Rattle.cue_disk.specs.Disk.{Contents, overwritten_bytes}
 use Rattle.cue_disk.specs.declared.plan.Fate.{Fate}
 use Rattle.cue_disk.specs.declared.plan.Fate.TheVariants.{Succeeds, Fails, Stopped}
 
 -- These bytes, all of them stable: what lies past them counts as touched.
-abbrev pub settled : List ℕ → Contents
-settled bytes = record { bytes = bytes; synced = length bytes; touched = λ i. nat_le (length bytes) i }
+abbrev pub settled_contents : List ℕ → Contents
+settled_contents bytes = record { bytes = bytes; synced = length bytes; touched = λ i. nat_le (length bytes) i }
 
 -- A write of so many bytes at this offset touches all of them, and stores those that it got to.
 abbrev pub after_write : Contents → ℕ → ℕ → List ℕ → Contents
 after_write now at asked stored = record {
-  bytes = overwritten now.bytes at stored;
+  bytes = overwritten_bytes now.bytes at stored;
   synced = now.synced;
   touched = λ i. now.touched i || (nat_le at i && nat_lt i (at + asked));
 }
@@ -30,5 +30,5 @@ written_as fate false at bytes now = after_write now at (length bytes) (part_sto
 
 -- What a sync leaves: one that fails makes nothing stable.
 abbrev pub synced_as : Fate → Bool → Contents → Contents
-synced_as Succeeds false now = settled now.bytes
+synced_as Succeeds false now = settled_contents now.bytes
 synced_as fate lacked now = now

@@ -2,7 +2,7 @@
 use Rattle.std.specs.Prelude.{◌≡◌, ◌≤◌, ◌+◌, ℕ, nat_le, nat_lt, Bool, false, ◌&&◌, ◌||◌, List, [], ◌∷◌, length, take}
 use Rattle.std.specs.Prelude.{drop}
 use Rattle.std.specs.List.{list_any}
-use Rattle.cue_disk.specs.Disk.{Contents, overwritten}
+use Rattle.cue_disk.specs.Disk.{Contents, overwritten_bytes}
 use Rattle.cue_disk.specs.declared.medium.Medium.{Medium}
 use Rattle.cue_disk.specs.declared.medium.Change.{Change}
 use Rattle.cue_disk.specs.declared.medium.Change.TheVariants.{Wrote, Synced}
@@ -32,12 +32,12 @@ contents state past = record {
 }
 
 -- A list of an earlier length, with what stood there from an offset on.
-abbrev pub restored : List ℕ → ℕ → List ℕ → ℕ → List ℕ
-restored now at old len = take len (overwritten now at old)
+abbrev pub restored_bytes : List ℕ → ℕ → List ℕ → ℕ → List ℕ
+restored_bytes now at old len = take len (overwritten_bytes now at old)
 
 -- as it was before this change
 abbrev pub undone : Change → State → State
-undone (Wrote at asked bytes len) now = record now { bytes = restored now.bytes at bytes.items len }
+undone (Wrote at asked bytes len) now = record now { bytes = restored_bytes now.bytes at bytes.items len }
 undone (Synced synced synced_at) now = record now { synced = synced; synced_at = synced_at }
 
 -- as it was before all of these changes
@@ -69,7 +69,7 @@ medium_held_at medium k = contents (rewound (state_of medium) (drop k medium.pas
 abbrev pub UndoesWrites : Change → ℕ → ℕ → State → Type 0
 UndoesWrites change at asked state =
     (stored : List ℕ) → length stored ≤ asked → undone change
-    (record state { bytes = overwritten state.bytes at stored }) ≡ state
+    (record state { bytes = overwritten_bytes state.bytes at stored }) ≡ state
 
 -- This change touches so many bytes from there on.
 abbrev pub Touches : Change → ℕ → ℕ → Type 0

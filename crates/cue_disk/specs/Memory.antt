@@ -1,7 +1,7 @@
 -- What callers see of a memory disk.
 use Rattle.std.specs.Prelude.{◌≡◌, ◌&&◌, ℕ, Bool, not, List, Result, is_ok}
 use Rattle.cue_disk.specs.Disk.{Contents, one_more}
-use Rattle.cue_disk.specs.Effect.{settled}
+use Rattle.cue_disk.specs.Effect.{settled_contents}
 use Rattle.cue_disk.specs.Medium.{medium_held, medium_moment, medium_held_at}
 use Rattle.cue_disk.specs.Plan.{no_plan, fate_of, goes_through, after_one}
 use Rattle.cue_disk.specs.declared.plan.Plan.{Plan}
@@ -41,7 +41,7 @@ lacked_memory disk = disk.lacked_memory
 
 -- A disk with these bytes, all of them stable, on which no call was made or planned to fail.
 pub record IsNew (bytes : List ℕ) (disk : MemDisk) : Type 0 where
-  pub held : memory_held disk ≡ settled bytes
+  pub held : memory_held disk ≡ settled_contents bytes
   pub moment : memory_moment disk ≡ 0
   pub calls : memory_calls disk ≡ 0
   pub failures : memory_failures disk ≡ 0

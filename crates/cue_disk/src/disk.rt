@@ -6,7 +6,7 @@ ghost use Rattle.cue_disk.specs.Disk.{
   IsStable,
   Writes,
   AllTouched,
-  overwritten,
+  overwritten_bytes,
   Elapses,
   CountsFailure,
 };
@@ -62,7 +62,7 @@ pub trait Disk {
     fn write_at(&mut self, at: u64, bytes: &[u8]) -> Result<(), DiskFault>
         requires { is_honest self.old → at ≤ length (held self.old).bytes }
         ensures written { is_honest self.old
-            → OnOk result ((held self.new).bytes ≡ overwritten (held self.old).bytes at bytes.now) }
+            → OnOk result ((held self.new).bytes ≡ overwritten_bytes (held self.old).bytes at bytes.now) }
         ensures touched { is_honest self.old → OnOk result (AllTouched at (length bytes.now) (held self.new)) }
         ensures crash { is_honest self.old → Writes at (length bytes.now) (held self.old) (held self.new) }
         ensures time { is_honest self.old → Elapses (moment self.old) (moment self.new)

@@ -1,6 +1,6 @@
 // A disk over a file of the system.
 ghost use Rattle.std.specs.Prelude.{◌≡◌, ◌≤◌, [], IfOk};
-ghost use Rattle.cue_disk.specs.Effect.{settled};
+ghost use Rattle.cue_disk.specs.Effect.{settled_contents};
 ghost use Rattle.cue_disk.specs.Disk.{CountsFailure, MoreFailures};
 ghost use Rattle.cue_disk.specs.File.{file_failures, opening_fault};
 
@@ -134,11 +134,11 @@ fn outside() -> io::Error {
 }
 
 impl Disk for FileDisk {
-    ghost held = { λ _. settled [] };
+    ghost held = { λ _. settled_contents [] };
 
     ghost moment = { λ _. 0 };
 
-    ghost held_at = { λ _ _. settled [] };
+    ghost held_at = { λ _ _. settled_contents [] };
 
     ghost failures = { λ disk. file_failures disk };
 

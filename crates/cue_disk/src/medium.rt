@@ -1,7 +1,7 @@
 // What a memory disk holds. Each write goes into place. What it replaced is kept, so that every earlier moment is
 // known, and what was written since the last sync.
 ghost use Rattle.std.specs.Prelude.{◌≡◌, ◌≤◌, ◌+◌, ◌-◌, length, vec_len, vec_capacity};
-ghost use Rattle.cue_disk.specs.Disk.{overwritten};
+ghost use Rattle.cue_disk.specs.Disk.{overwritten_bytes};
 
 mod crash;
 
@@ -57,13 +57,13 @@ pub struct Medium {
 impl Medium {
     ghost use Rattle.std.specs.Prelude.{take, drop, is_err, IfOk, OnOk, OnErr};
     ghost use Rattle.cue_disk.specs.Disk.{Elapses};
-    ghost use Rattle.cue_disk.specs.Effect.{settled, after_write, written_as, synced_as};
+    ghost use Rattle.cue_disk.specs.Effect.{settled_contents, after_write, written_as, synced_as};
     ghost use Rattle.cue_disk.specs.Medium.{medium_held, medium_moment, medium_held_at, state_of, UndoesWrites};
     ghost use Rattle.cue_disk.specs.Medium.{Touches, IsUnchanged};
 
     /// One with these bytes, all of them on the disk.
     pub(crate) fn of(alloc: Global, bytes: Vec<u8>) -> Medium
-        ensures held { medium_held result ≡ settled bytes.items }
+        ensures held { medium_held result ≡ settled_contents bytes.items }
         ensures moment { medium_moment result ≡ 0 }
     {
         Medium {
@@ -127,7 +127,7 @@ impl Medium {
 
     /// Makes all of the bytes stable.
     pub(crate) fn sync(&mut self) -> Result<(), AllocError>
-        ensures settled { OnOk result (medium_held self.new ≡ settled (medium_held self.old).bytes) }
+        ensures settled { OnOk result (medium_held self.new ≡ settled_contents (medium_held self.old).bytes) }
         ensures unchanged { OnErr result (IsUnchanged self.old self.new) }
         ensures time { Elapses (medium_moment self.old) (medium_moment self.new)
             (medium_held_at self.old) (medium_held_at self.new) (medium_held self.new) }
@@ -172,7 +172,7 @@ impl Medium {
 fn overwrite(bytes: &mut Vec<u8>, at: usize, stored: &[u8])
     requires within { at ≤ vec_len bytes.old }
     requires room { vec_len bytes.old + (length stored.now - (vec_len bytes.old - at)) ≤ vec_capacity bytes.old }
-    ensures { bytes.new.items ≡ overwritten bytes.old.items at stored.now }
+    ensures { bytes.new.items ≡ overwritten_bytes bytes.old.items at stored.now }
 {
     let inside = usize::min(stored.len(), bytes.len() - at);
     bytes[at..at + inside].copy_from_slice(&stored[..inside]);

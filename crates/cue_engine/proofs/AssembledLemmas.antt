@@ -44,7 +44,7 @@ pub takes : {D : Type 0} {disk : Ghosts D} (old new : Engine D disk) (what : Giv
     (r : Result Taken Fault)
     → Gives what heard
     → MatchResult r (λ counts. (counts ≡ heard.counts) × (queue_of new ≡ queue_of old ++ outs_view heard.sends.items)
-        × (last_batches_of new ≡ heard.batch.items ∷ [])) (λ _. queue_of new ≡ queue_of old)
+    × (last_batches_of new ≡ heard.batch.items ∷ [])) (λ _. queue_of new ≡ queue_of old)
     → Accepts heard.batch.items (result_err r) (keeper_of old) (keeper_of new)
     → IfOk r (λ counts. Takes what counts old new)
 takes old new what heard (Ok counts) gives owes accepts = record {
@@ -59,7 +59,7 @@ takes old new what heard (Err fault) gives owes accepts = tt
 pub same : {D : Type 0} {disk : Ghosts D} (old new : Keeper D disk) (owed owes : List (ℕ × List ℕ)) (heard : Heard)
     (last : List (List Event)) (r : Result Taken Fault)
     → MatchResult r (λ counts. (counts ≡ heard.counts) × (owes ≡ owed ++ outs_view heard.sends.items)
-        × (last ≡ heard.batch.items ∷ [])) (λ _. owes ≡ owed)
+    × (last ≡ heard.batch.items ∷ [])) (λ _. owes ≡ owed)
     → Accepts heard.batch.items (result_err r) old new
     → OnErr r ((kept.state_of new ≡ kept.state_of old) × (owes ≡ owed))
 same old new owed owes heard last (Ok counts) said accepts = tt
@@ -71,7 +71,7 @@ pub ahead_next : {E : Type 0} (r : Result Taken E) (kept : ShowState) (old_draft
     → MatchResult r (λ _. new_draft.state ≡ after_events old_draft.state batch) (λ _. new_draft.state ≡ old_draft.state)
     → OnOk r (IsTrue (are_acceptable old_draft.state batch)) → OnOk r (new.group ≡ old.group ++ batch ∷ [])
     → OnErr r ((new.group ≡ old.group) × (outs_view new.sends.items ≡ outs_view old.sends.items))
-        → IsAhead kept new_draft new
+    → IsAhead kept new_draft new
 ahead_next (Ok counts) kept old_draft new_draft old new batch ahead marked state may group same = record {
   marked = marked;
   drafted = state ∙ ap (λ (t : ShowState). after_events t batch) ahead.drafted ∙ sym (folded_more kept old.group batch)

@@ -19,8 +19,8 @@ use Rattle.cue_core.proofs.rules.SoundLemmas.{kept-history}
 use Rattle.cue_core.proofs.history.SafetyLemmas.{never-asked-both}
 use Rattle.cue_outbox.specs.Sending.{Send, order, all_pending}
 use Rattle.cue_engine.specs.Given.{Given}
-use Rattle.cue_engine.specs.Runs.{Happening, run, joined, given_at, with_batch}
-use Rattle.cue_engine.specs.Attempts.{accepted, may_go_after, IsDecidedInOrder, DecidedInOrder, NumberNamesOne}
+use Rattle.cue_engine.specs.Runs.{Happening, run, joined_list, given_at, with_batch}
+use Rattle.cue_engine.specs.Attempts.{accepted_events, may_go_after, IsDecidedInOrder, DecidedInOrder, NumberNamesOne}
 use Rattle.cue_engine.specs.Attempts.{is_command, was_sent, NeverSentBoth}
 use Rattle.cue_core.proofs.lists.AnyLemmas.{or_left, or_right, either, itself, same, any-append, any-mapped}
 use Rattle.cue_core.proofs.lists.AnyLemmas.{all_implied}
@@ -113,14 +113,14 @@ may_go : (q : ℕ) (before : List Event) (p : Part) → IsTrue (may_go_by (onto 
     → IsTrue (may_go_after before q p)
 may_go q before p h =
     either (list_any (is_ready_of q p.device) (onto before []))
-        (p.optional && list_any (is_excuse_of q p.device) (onto before [])) (may_go_after before q p)
+    (p.optional && list_any (is_excuse_of q p.device) (onto before [])) (may_go_after before q p)
     (λ k. or_left (list_any (is_ready_of q p.device) before) _
-        (any_left (list_any (is_ready_of q p.device) before) (any_onto (is_ready_of q p.device) before [] k)))
+    (any_left (list_any (is_ready_of q p.device) before) (any_onto (is_ready_of q p.device) before [] k)))
     (λ k.
     let l = both p.optional (list_any (is_excuse_of q p.device) (onto before [])) k in
     or_right (list_any (is_ready_of q p.device) before) _
     (join p.optional (list_any (is_excuse_of q p.device) before) l.0
-        (any_left (list_any (is_excuse_of q p.device) before) (any_onto (is_excuse_of q p.device) before [] l.1))))
+    (any_left (list_any (is_excuse_of q p.device) before) (any_onto (is_excuse_of q p.device) before [] l.1))))
     h
 
 pub decided_of : (q : ℕ) (before later : List Event) → IsTrue (is_in_order (onto later (event.Go q ∷ onto before [])))
@@ -145,7 +145,7 @@ pub decided_in_order : DecidedInOrder
 decided_in_order hs q before later e =
     let P : List Event → Type 0 = λ xs. IsTrue (is_in_order xs) in
     decided_of q before later (subst P (ap (λ xs. onto xs []) e ∙ split_at before later (event.Go q))
-        (inputs_in_order hs))
+    (inputs_in_order hs))
 
 -- ---- Start
 
@@ -185,7 +185,7 @@ no_start_later q [] past h there s = sym s
 no_start_later q (e ∷ es) past h there s =
     either_of (is_start_of q e) (list_any (is_start_of q) es) s
     (λ k. let w = both (acceptable (state_of past) e) (is_history past) (history_before es (e ∷ past) h) in
-        refused e k w.0 w.1)
+    refused e k w.0 w.1)
     (λ k. no_start_later q es (e ∷ past) h (or_right (is_start_of q e) _ there) k)
   where
     either_of : (a b : Bool) → (a || b) ≡ true → (a ≡ true → true ≡ false) → (b ≡ true → true ≡ false) → true ≡ false
@@ -216,19 +216,19 @@ named_once : (q : ℕ) (c : List ℕ) (t : ℕ) (before later : List Event)
 named_once q c t before later h =
     let past : List Event = onto before [] in
     let w = both (acceptable (state_of past) (event.Start q c t)) (is_history past)
-        (history_before later (event.Start q c t ∷ past) h) in
+    (history_before later (event.Start q c t ∷ past) h) in
     join (not (list_any (is_start_of q) before)) _
     (no_any (list_any (is_start_of q) before)
-        (λ k. start_is_new past q c t w.1 w.0
-        (any_in (is_start_of q) before [] (or_left (list_any (is_start_of q) before) false k))))
+    (λ k. start_is_new past q c t w.1 w.0
+    (any_in (is_start_of q) before [] (or_left (list_any (is_start_of q) before) false k))))
     (no_any (list_any (is_start_of q) later)
-        (λ k. no_start_later q later (event.Start q c t ∷ past) h (or_left (nat_eq q q) _ (itself q)) k))
+    (λ k. no_start_later q later (event.Start q c t ∷ past) h (or_left (nat_eq q q) _ (itself q)) k))
 
 pub number_names_one : NumberNamesOne
 number_names_one hs q c t before later e =
     let P : List Event → Type 0 = λ xs. IsTrue (is_history xs) in
     named_once q c t before later (subst P (ap (λ xs. onto xs []) e ∙ split_at before later (event.Start q c t))
-        (inputs_make_histories hs))
+    (inputs_make_histories hs))
 
 -- ---- never both
 
@@ -249,8 +249,11 @@ abbrev Says : (Order → Bool) → Bool → Send → Type 0
 Says test b m = is_command test m ≡ true → b ≡ true
 
 says_elsewhere : (test : Order → Bool) (b : Bool) → HoldsElsewhere (Says test b)
-says_elsewhere test b = record { answers = λ a m k r c h. absurd (true≢false (sym h)); statuses = λ l p v e o h.
-    absurd (true≢false (sym h)) }
+says_elsewhere test b = record {
+  answers = λ a m k r c h. absurd (true≢false (sym h));
+  statuses = λ l p v e o h.
+      absurd (true≢false (sym h));
+}
 
 each_is_there : (test : Order → Bool) (b : Bool) (ms : List (ℕ × Send))
     → (list_any (λ (m : ℕ × Send). is_command test m.1) ms ≡ true → b ≡ true) → Each (Says test b) ms
@@ -275,33 +278,34 @@ pub sent_asks : (test : Order → Bool) (s : ShowState) (x : Happening)
 sent_asks test s x h =
     let t : ShowState = after_events s (given_at s x).batch in
     any_says test (asks test t) (given_at s x).sends
-        (happening-each (Says test (asks test t)) (says_elsewhere test (asks test t)) s x
-        (each_is_there test (asks test t) (all_pending t) (pending_asks test t))) h
+    (happening-each (Says test (asks test t)) (says_elsewhere test (asks test t)) s x
+    (each_is_there test (asks test t) (all_pending t) (pending_asks test t))) h
 
 asked_before : (test : Order → Bool) (past : List Event) (hs : List Happening)
     → list_any (λ (m : ℕ × Send). is_command test m.1) (run (state_of past) hs).sends ≡ true
-    → ever (asks test) (onto (joined (run (state_of past) hs).batches) past) ≡ true
+    → ever (asks test) (onto (joined_list (run (state_of past) hs).batches) past) ≡ true
 asked_before test past [] h = absurd (true≢false (sym h))
 asked_before test past (x ∷ hs) h =
     let g : Given = given_at (state_of past) x in
     let next : ShowState = after_events (state_of past) g.batch in
     let p : ℕ × Send → Bool = λ m. is_command test m.1 in
     let P : ShowState → Type 0 = λ s. list_any p (run s hs).sends ≡ true
-        → ever (asks test) (onto (joined (run s hs).batches) (onto g.batch past)) ≡ true in
+    → ever (asks test) (onto (joined_list (run s hs).batches) (onto g.batch past)) ≡ true in
     let rest : P next = subst P (state-onto past g.batch) (asked_before test (onto g.batch past) hs) in
     let Q : ShowState → Type 0 = λ s. asks test s ≡ true in
-    let first : list_any p g.sends ≡ true → ever (asks test) (onto (joined (run next hs).batches) (onto g.batch past))
-        ≡ true =
-    λ k. ever_onto (asks test) (joined (run next hs).batches) (onto g.batch past)
-        (ever_now (asks test) (onto g.batch past)
-        (subst Q (sym (state-onto past g.batch)) (sent_asks test (state_of past) x k))) in
+    let first : list_any p g.sends ≡ true
+    → ever (asks test) (onto (joined_list (run next hs).batches) (onto g.batch past))
+    ≡ true =
+    λ k. ever_onto (asks test) (joined_list (run next hs).batches) (onto g.batch past)
+    (ever_now (asks test) (onto g.batch past)
+    (subst Q (sym (state-onto past g.batch)) (sent_asks test (state_of past) x k))) in
     let R : List Event → Type 0 = λ xs. ever (asks test) xs ≡ true in
-    let split : onto (joined (run next hs).batches) (onto g.batch past) ≡ onto
-        (joined (with_batch g.batch (run next hs).batches)) past =
-    sym (onto-append g.batch (joined (run next hs).batches) past)
-        ∙ ap (λ xs. onto xs past) (sym (joined-with g.batch (run next hs).batches)) in
+    let split : onto (joined_list (run next hs).batches) (onto g.batch past) ≡ onto
+    (joined_list (with_batch g.batch (run next hs).batches)) past =
+    sym (onto-append g.batch (joined_list (run next hs).batches) past)
+    ∙ ap (λ xs. onto xs past) (sym (joined-with g.batch (run next hs).batches)) in
     subst R split (either (list_any p g.sends) (list_any p (run next hs).sends) _ first rest
-        (sym (any-append p g.sends (run next hs).sends) ∙ h))
+    (sym (any-append p g.sends (run next hs).sends) ∙ h))
 
 not_both : (a b c d : Bool) → (a ≡ true → c ≡ true) → (b ≡ true → d ≡ true) → not (c && d) ≡ true → not (a && b) ≡ true
 not_both true true c d f g h = contrary (c && d) (join c d (f refl) (g refl)) h
@@ -310,8 +314,8 @@ not_both false b c d f g h = refl
 
 pub never_sent_both : NeverSentBoth
 never_sent_both hs q d =
-    let h : List Event = onto (accepted hs) [] in
+    let h : List Event = onto (accepted_events hs) [] in
     not_both (was_sent (is_go_to q d) hs) (was_sent (is_cancel_to q d) hs) (ever (asks (is_go_to q d)) h)
-        (ever (asks (is_cancel_to q d)) h)
+    (ever (asks (is_cancel_to q d)) h)
     (asked_before (is_go_to q d) [] hs) (asked_before (is_cancel_to q d) [] hs)
-        (never-asked-both h q d (inputs_make_histories hs))
+    (never-asked-both h q d (inputs_make_histories hs))

@@ -11,7 +11,7 @@ use Rattle.cue_core.specs.declared.refusal.Refusal.{Refusal}
 use Rattle.cue_engine.specs.declared.heard.Heard.{Heard}
 use Rattle.cue_engine.specs.Heard.{hear_all, all_events, all_commands}
 use Rattle.cue_engine.specs.Heard as heard
-use Rattle.cue_engine.specs.Given.{Given, given, given_heard, given_by, are_too_many, messages_in, datagram}
+use Rattle.cue_engine.specs.Given.{Given, given_of, given_heard, given_by, are_too_many, messages_in, datagram}
 use Rattle.cue_engine.specs.Hearing.{Gives}
 use Rattle.cue_engine.specs.Takes.{FitsRecord}
 use Rattle.cue_engine.proofs.GivenLemmas.{given_by_test}
@@ -38,15 +38,15 @@ heard_by s from hs few true e = subst (λ (g : Given). FitsRecord g.batch) (sym 
     none_fits
 heard_by s from hs few false e =
     let commands : all_commands hs ≤ MAX_COMMANDS =
-        at_most MAX_COMMANDS (all_commands hs)
-        (first_false (nat_lt MAX_COMMANDS (all_commands hs)) (nat_lt MAX_PAYLOAD (length (batch_text (all_events hs))))
-        e) in
+    at_most MAX_COMMANDS (all_commands hs)
+    (first_false (nat_lt MAX_COMMANDS (all_commands hs)) (nat_lt MAX_PAYLOAD (length (batch_text (all_events hs))))
+    e) in
     let text : length (batch_text (all_events hs)) ≤ MAX_PAYLOAD =
-        at_most MAX_PAYLOAD (length (batch_text (all_events hs)))
-        (second_false (nat_lt MAX_COMMANDS (all_commands hs)) (nat_lt MAX_PAYLOAD (length (batch_text (all_events hs))))
-        e) in
+    at_most MAX_PAYLOAD (length (batch_text (all_events hs)))
+    (second_false (nat_lt MAX_COMMANDS (all_commands hs)) (nat_lt MAX_PAYLOAD (length (batch_text (all_events hs))))
+    e) in
     subst (λ (g : Given). FitsRecord g.batch) (sym (given_by_test s from hs false e))
-        (record { most = omega (arith, few, commands); short = text })
+    (record { most = omega (arith, few, commands); short = text })
 
 given_fits_by : (s : ShowState) (now from : ℕ) (r : Result (List Content) Refusal)
     → FitsRecord (given_by s now from r).batch
@@ -54,11 +54,11 @@ given_fits_by s now from (Err why) = none_fits
 given_fits_by s now from (Ok ms) = let hs : List heard.Heard = hear_all s now from ms in
     heard_by s from hs (few-in_all s now from ms) (are_too_many hs) refl
 
-given_fits : (s : ShowState) (now from : ℕ) (bytes : List ℕ) → FitsRecord (given s now (datagram from bytes)).batch
-unfolding given
+given_fits : (s : ShowState) (now from : ℕ) (bytes : List ℕ) → FitsRecord (given_of s now (datagram from bytes)).batch
+unfolding given_of
 given_fits s now from bytes = given_fits_by s now from (messages_in now bytes)
 
 pub heard_fits : {E : Type 0} (s : ShowState) (now from : ℕ) (bytes : List ℕ) (r : Result Heard E)
-    → IfOk r (Gives (given s now (datagram from bytes))) → IfOk r (λ (h : Heard). FitsRecord h.batch.items)
+    → IfOk r (Gives (given_of s now (datagram from bytes))) → IfOk r (λ (h : Heard). FitsRecord h.batch.items)
 heard_fits s now from bytes (Ok h) g = subst FitsRecord (sym g.batch) (given_fits s now from bytes)
 heard_fits s now from bytes (Err e) g = g

@@ -24,7 +24,8 @@ use Rattle.cue_outbox.specs.Sending.{datagrams, all_pending}
 use Rattle.cue_outbox.proofs.ListLemmas.{each_append, each_map, each_passes}
 use Rattle.cue_outbox.proofs.ReadBackLemmas.{IsWritable, read_back}
 use Rattle.cue_outbox.proofs.WritableLemmas.{all_writable}
-use Rattle.cue_engine.specs.Runs.{Happening, run, joined, given_at, is_cancelling_in, order_rests, send_rests, rests}
+use Rattle.cue_engine.specs.Runs.{Happening, run, joined_list, given_at, is_cancelling_in, order_rests, send_rests}
+use Rattle.cue_engine.specs.Runs.{rests}
 use Rattle.cue_core.specs.Batches.{is_live_in, is_decided_in}
 use Rattle.cue_engine.specs.InBytes.{AreReadAs, BytesRest, BytesOfEachRest}
 use Rattle.cue_core.proofs.lists.AnyLemmas.{itself}
@@ -60,10 +61,10 @@ tagged_has : (a bytes : List ℕ) → HasAddress a (tagged_at a bytes)
 unfolding tagged_at
 tagged_has a bytes =
     has_then a (string_at bytes)
-        (λ found. cond (list_all is_known_tag (drop 1 found.0))
-        (all_args_at (drop 1 found.0) found.1 >>= λ xs. Ok (message a xs)) (Ok (discarded a)))
+    (λ found. cond (list_all is_known_tag (drop 1 found.0))
+    (all_args_at (drop 1 found.0) found.1 >>= λ xs. Ok (message a xs)) (Ok (discarded a)))
     (λ found. has_if (list_all is_known_tag (drop 1 found.0)) a
-        (all_args_at (drop 1 found.0) found.1 >>= λ xs. Ok (message a xs)) (Ok (discarded a))
+    (all_args_at (drop 1 found.0) found.1 >>= λ xs. Ok (message a xs)) (Ok (discarded a))
     (has_then a (all_args_at (drop 1 found.0) found.1) (λ xs. Ok (message a xs)) (λ xs. refl)) refl)
 
 behind_has : (a rest : List ℕ) → HasAddress a (behind_address a rest)
@@ -84,9 +85,9 @@ datagram_has a rest is_text starts =
     let bytes : List ℕ = osc_string a ++ rest in
     let P : Result Content Fault → Type 0 = λ r. HasAddress a r in
     has_if (nat_lt 4096 (length bytes)) a (Err TooLong)
-        (cond (not (length bytes % 4 == 0)) (Err NotMultiple) (packet_at 8 bytes)) tt
+    (cond (not (length bytes % 4 == 0)) (Err NotMultiple) (packet_at 8 bytes)) tt
     (has_if (not (length bytes % 4 == 0)) a (Err NotMultiple) (packet_at 8 bytes) tt
-        (subst P (sym (message_start 8 bytes starts)) (message_has a rest is_text)))
+    (subst P (sym (message_start 8 bytes starts)) (message_has a rest is_text)))
 
 -- ---- addresses differ in their sixth character
 
@@ -210,7 +211,7 @@ run_readable s [] h = tt
 run_readable s (x ∷ hs) h =
     let next : ShowState = after_events s (given_at s x).batch in
     each_append (λ (m : ℕ × Send). IsReadable m.1) (given_at s x).sends (run next hs).sends (given_readable s x h)
-        (run_readable next hs (is_state-after_events s (given_at s x).batch h (happening-ok s x h)))
+    (run_readable next hs (is_state-after_events s (given_at s x).batch h (happening-ok s x h)))
 
 says : (s : ShowState) (es : List Event) (m : Send) → IsReadable m → send_rests s es m ≡ true
     → BytesRest s es (text_of (send_content m))
@@ -230,5 +231,5 @@ all_say s es (m ∷ ms) w h = let k = each_passes (rests s es) (m ∷ ms) h in
     tail false b k = absurd (true≢false (sym k))
 
 pub bytes_of_each_rest : BytesOfEachRest
-bytes_of_each_rest s hs h = all_say s (joined (run s hs).batches) (run s hs).sends (run_readable s hs h)
+bytes_of_each_rest s hs h = all_say s (joined_list (run s hs).batches) (run s hs).sends (run_readable s hs h)
     (each_rests s hs)

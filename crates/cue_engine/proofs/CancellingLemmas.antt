@@ -7,7 +7,7 @@ use Rattle.cue_exchange.specs.declared.attempt.Reason.{Reason}
 use Rattle.cue_exchange.specs.declared.attempt.Stage.TheVariants.{Decided, Cancelling}
 use Rattle.cue_exchange.specs.declared.attempt.Attempt.{Attempt}
 use Rattle.cue_exchange.specs.Answers.{is_cancelling}
-use Rattle.cue_exchange.specs.Steps.{changed, answers_as, moves_to, moved, answered, holds, goes_on}
+use Rattle.cue_exchange.specs.Steps.{with_change, answers_as, moves_to, after_move, after_answer, holds, goes_on}
 use Rattle.cue_core.specs.declared.event.Event.{Event}
 use Rattle.cue_core.specs.declared.event.Event.TheVariants as event
 use Rattle.cue_core.specs.Events.{is_cancel_of}
@@ -20,12 +20,12 @@ use Rattle.cue_engine.specs.Runs.{is_cancelling_in}
 -- a change that cancels nothing
 cancelling-changed : (p q : ℕ) (f : Attempt → Attempt) → ((a : Attempt) → (f a).seq ≡ a.seq)
     → ((a : Attempt) → is_cancelling (f a).stage ≡ true → is_cancelling a.stage ≡ true) → (live : List Attempt)
-    → holds q (λ a. is_cancelling a.stage) (map (changed p f) live) ≡ true
-        → holds q (λ a. is_cancelling a.stage) live ≡ true
-cancelling-changed p q f keeps back live h = any-mapped (changed p f) (λ a. nat_eq a.seq q && is_cancelling a.stage)
+    → holds q (λ a. is_cancelling a.stage) (map (with_change p f) live) ≡ true
+    → holds q (λ a. is_cancelling a.stage) live ≡ true
+cancelling-changed p q f keeps back live h = any-mapped (with_change p f) (λ a. nat_eq a.seq q && is_cancelling a.stage)
     (λ a. nat_eq a.seq q && is_cancelling a.stage) one live h
   where
-    one : (a : Attempt) → (nat_eq (changed p f a).seq q && is_cancelling (changed p f a).stage) ≡ true
+    one : (a : Attempt) → (nat_eq (with_change p f a).seq q && is_cancelling (with_change p f a).stage) ≡ true
         → (nat_eq a.seq q && is_cancelling a.stage) ≡ true
     one a k = by (nat_eq a.seq p) k
       where
@@ -36,14 +36,14 @@ cancelling-changed p q f keeps back live h = any-mapped (changed p f) (λ a. nat
 
 -- Cancel cancels its own attempt alone
 cancelling-moved : (p q : ℕ) (r : Reason) (live : List Attempt)
-    → holds q (λ a. is_cancelling a.stage) (moved p (Cancelling r) live) ≡ true
+    → holds q (λ a. is_cancelling a.stage) (after_move p (Cancelling r) live) ≡ true
     → (holds q (λ a. is_cancelling a.stage) live || nat_eq p q) ≡ true
 cancelling-moved p q r [] h = absurd (true≢false (sym h))
 cancelling-moved p q r (a ∷ rest) h =
-    either (nat_eq (changed p (moves_to (Cancelling r)) a).seq q && is_cancelling
-        (changed p (moves_to (Cancelling r)) a).stage) _ _
+    either (nat_eq (with_change p (moves_to (Cancelling r)) a).seq q && is_cancelling
+    (with_change p (moves_to (Cancelling r)) a).stage) _ _
     (λ k. by (nat_eq a.seq p) refl k)
-        (λ k. late (nat_eq a.seq q && is_cancelling a.stage) (cancelling-moved p q r rest k)) h
+    (λ k. late (nat_eq a.seq q && is_cancelling a.stage) (cancelling-moved p q r rest k)) h
   where
     late : (b : Bool) → (holds q (λ a. is_cancelling a.stage) rest || nat_eq p q) ≡ true
         → ((b || holds q (λ a. is_cancelling a.stage) rest) || nat_eq p q) ≡ true
@@ -57,7 +57,7 @@ cancelling-moved p q r (a ∷ rest) h =
         → (nat_eq (if b then moves_to (Cancelling r) a else a).seq q && is_cancelling
         (if b then moves_to (Cancelling r) a else a).stage) ≡ true
         → (((nat_eq a.seq q && is_cancelling a.stage) || holds q (λ a. is_cancelling a.stage) rest) || nat_eq p q)
-            ≡ true
+        ≡ true
     by true e m = or_right ((nat_eq a.seq q && is_cancelling a.stage) || holds q (λ a. is_cancelling a.stage) rest) _
         (rw (same a.seq p e) at (both (nat_eq a.seq q) _ m).0)
     by false e m = first (nat_eq a.seq q && is_cancelling a.stage) _ _ m
@@ -83,14 +83,14 @@ cancelling-back s (event.Go p) q h =
     (cancelling-changed p q (moves_to Decided) (λ a. refl) (λ a k. absurd (true≢false (sym k))) s.live h)
 cancelling-back s (event.Done p d) q h =
     or_left (is_cancelling_in s q) _ (cancelling-changed p q (answers_as d answers.Done) (λ a. refl) (λ a k. k) s.live
-    (any-kept (λ a. nat_eq a.seq q && is_cancelling a.stage) (goes_on p) (answered p d answers.Done s.live) h))
+    (any-kept (λ a. nat_eq a.seq q && is_cancelling a.stage) (goes_on p) (after_answer p d answers.Done s.live) h))
 cancelling-back s (event.Cancel p r) q h = cancelling-moved p q r s.live h
 cancelling-back s (event.LetGo p d) q h =
     or_left (is_cancelling_in s q) _ (cancelling-changed p q (answers_as d answers.LetGo) (λ a. refl) (λ a k. k) s.live
-    (any-kept (λ a. nat_eq a.seq q && is_cancelling a.stage) (goes_on p) (answered p d answers.LetGo s.live) h))
+    (any-kept (λ a. nat_eq a.seq q && is_cancelling a.stage) (goes_on p) (after_answer p d answers.LetGo s.live) h))
 cancelling-back s (event.Failed p d) q h =
     or_left (is_cancelling_in s q) _ (cancelling-changed p q (answers_as d answers.Failed) (λ a. refl) (λ a k. k) s.live
-    (any-kept (λ a. nat_eq a.seq q && is_cancelling a.stage) (goes_on p) (answered p d answers.Failed s.live) h))
+    (any-kept (λ a. nat_eq a.seq q && is_cancelling a.stage) (goes_on p) (after_answer p d answers.Failed s.live) h))
 cancelling-back s (event.Excuse p d) q h =
     or_left (is_cancelling_in s q) _ (cancelling-changed p q (answers_as d answers.Excused) (λ a. refl) (λ a k. k)
     s.live h)

@@ -12,7 +12,7 @@ use Rattle.cue_keeper.specs.Stands.{StandsEither, folded_all}
 use Rattle.cue_outbox.specs.Sending.{datagram, datagrams}
 use Rattle.cue_engine.specs.declared.engine.Engine.{Engine}
 use Rattle.cue_engine.specs.declared.taken.Taken.{Taken}
-use Rattle.cue_engine.specs.Given.{Input, given}
+use Rattle.cue_engine.specs.Given.{Input, given_of}
 use Rattle.cue_engine.specs.Groups.{batches_given, sends_given}
 use Rattle.cue_engine.specs.Taking.{Offers, IsOffered, TakesTogether}
 use Rattle.cue_engine.specs.Words.{state_of, queue_of, offered_of, latest_of}
@@ -35,18 +35,18 @@ module _ {D : Type 0} {disk : Ghosts D} where
   pub leaves_taken : (moment : D → ℕ) (held_at : D → ℕ → Contents) (a b new_a new_b : D) (inputs : List (ℕ × Input))
       (old : Engine D disk) → IsOffered inputs old
       → LeavesPairsAtEachMoment moment held_at a b new_a new_b
-          (StandsEither (state_of old) (folded_all (state_of old) (offered_of old)))
+      (StandsEither (state_of old) (folded_all (state_of old) (offered_of old)))
       → LeavesPairsAtEachMoment moment held_at a b new_a new_b
-          (StandsEither (state_of old) (folded_all (state_of old) (batches_given (state_of old) inputs)))
+      (StandsEither (state_of old) (folded_all (state_of old) (batches_given (state_of old) inputs)))
   leaves_taken moment held_at a b new_a new_b inputs old offered leaves =
       let P : List (List Event)
-          → Type 0 = λ bs. LeavesPairsAtEachMoment moment held_at a b new_a new_b
-          (StandsEither (state_of old) (folded_all (state_of old) bs)) in
+      → Type 0 = λ bs. LeavesPairsAtEachMoment moment held_at a b new_a new_b
+      (StandsEither (state_of old) (folded_all (state_of old) bs)) in
       subst P offered.batches leaves
 
   -- an input that is offered is the next of them
   pub offered_next : (inputs : List (ℕ × Input)) (now : ℕ) (input : Input) (counts : Taken) (old new : Engine D disk)
-      → state_of new ≡ state_of old → IsOffered inputs old → Offers (given (latest_of old) now input) counts old new
+      → state_of new ≡ state_of old → IsOffered inputs old → Offers (given_of (latest_of old) now input) counts old new
       → IsOffered (inputs ++ (now, input) ∷ []) new
   offered_next inputs now input counts old new same offered offers =
       let s : ShowState = state_of old in
@@ -54,16 +54,16 @@ module _ {D : Type 0} {disk : Ghosts D} where
       let P : ShowState → Type 0 = λ t. offered_of new ≡ batches_given t (inputs ++ (now, input) ∷ []) in
       record {
         batches = subst P (sym same)
-            (offers.batches ∙ ap (λ (bs : List (List Event)). bs ++ (given (latest_of old) now input).batch ∷ [])
-                offered.batches
-            ∙ ap (λ (t : ShowState). batches_given s inputs ++ (given t now input).batch ∷ []) latest
-                ∙ sym (batches_more s inputs now input));
+            (offers.batches ∙ ap (λ (bs : List (List Event)). bs ++ (given_of (latest_of old) now input).batch ∷ [])
+            offered.batches
+            ∙ ap (λ (t : ShowState). batches_given s inputs ++ (given_of t now input).batch ∷ []) latest
+            ∙ sym (batches_more s inputs now input));
         sends =
-            offers.sends ∙ ap (λ (ms : List (ℕ × List ℕ)). ms ++ datagrams (given (latest_of old) now input).sends)
-                offered.sends
-            ∙ ap (λ (t : ShowState). datagrams (sends_given s inputs) ++ datagrams (given t now input).sends) latest
+            offers.sends ∙ ap (λ (ms : List (ℕ × List ℕ)). ms ++ datagrams (given_of (latest_of old) now input).sends)
+            offered.sends
+            ∙ ap (λ (t : ShowState). datagrams (sends_given s inputs) ++ datagrams (given_of t now input).sends) latest
             ∙ sym (ap datagrams (sends_more s inputs now input)
-                ∙ map-append datagram (sends_given s inputs)
-                (given (folded_all s (batches_given s inputs)) now input).sends)
+            ∙ map-append datagram (sends_given s inputs)
+            (given_of (folded_all s (batches_given s inputs)) now input).sends)
             ∙ ap (λ (t : ShowState). datagrams (sends_given t (inputs ++ (now, input) ∷ []))) (sym same);
       }

@@ -23,8 +23,13 @@ steps-few : (s : ShowState) (now from : ℕ) (cs : List Command)
 steps-few s now from [] = omega arith
 steps-few s now from (c ∷ cs) =
     let j = judgement_of s now from c in
-    omega (arith, (judgement_of-has s now from c).few, length-append j.1
-        (events_of (steps (after_events s j.1) now from cs)), steps-few (after_events s j.1) now from cs)
+    omega (
+      arith,
+      (judgement_of-has s now from c).few,
+      length-append j.1
+          (events_of (steps (after_events s j.1) now from cs)),
+      steps-few (after_events s j.1) now from cs,
+    )
 
 carried-few : (s : ShowState) (now from : ℕ) (a : List ℕ) (r : Result (List Command) Code)
     → length (heard_events (carried_out s now from a r)) ≤ 2 * commands_in (carried_out s now from a r)
@@ -42,5 +47,9 @@ pub few-in_all : FewInAll
 few-in_all s now from [] = omega arith
 few-in_all s now from (m ∷ ms) =
     let first : List Event = heard_events (hear s now from m) in
-    omega (arith, hear-few s now from m, length-append first (all_events (hear_all (after_events s first) now from ms)),
-        few-in_all (after_events s first) now from ms)
+    omega (
+      arith,
+      hear-few s now from m,
+      length-append first (all_events (hear_all (after_events s first) now from ms)),
+      few-in_all (after_events s first) now from ms,
+    )

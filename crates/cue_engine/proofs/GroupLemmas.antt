@@ -14,9 +14,9 @@ use Rattle.cue_keeper.specs.Groups.{with_events, are_all_acceptable, batches_vie
 use Rattle.cue_keeper.specs.Stands.{folded_all}
 use Rattle.cue_keeper.proofs.GroupLemmas.{folded_append}
 use Rattle.cue_outbox.specs.Sending.{Send}
-use Rattle.cue_engine.specs.Given.{Input, given}
+use Rattle.cue_engine.specs.Given.{Input, given_of}
 use Rattle.cue_engine.specs.Groups.{batches_given, sends_given, all_took, last_of, GroupIsARun}
-use Rattle.cue_engine.specs.Runs.{with_batch, joined, run}
+use Rattle.cue_engine.specs.Runs.{with_batch, joined_list, run}
 use Rattle.cue_engine.proofs.HistoryLemmas.{input-ok}
 
 -- ---- one batch more
@@ -28,7 +28,7 @@ acceptable_more s [] batch h k = join (are_acceptable s batch) true k refl
 acceptable_more s (first ∷ batches) batch h k =
     let w = both (are_acceptable s first) (are_all_acceptable (after_events s first) batches) h in
     join (are_acceptable s first) (are_all_acceptable (after_events s first) (batches ++ batch ∷ [])) w.0
-        (acceptable_more (after_events s first) batches batch w.1 k)
+    (acceptable_more (after_events s first) batches batch w.1 k)
 
 pub acceptable_one : (s : ShowState) (batch : List Event) → IsTrue (are_acceptable s batch)
     → IsTrue (are_all_acceptable s (batch ∷ []))
@@ -61,20 +61,20 @@ last_kept batches last is =
 
 pub batches_more : (s : ShowState) (inputs : List (ℕ × Input)) (now : ℕ) (input : Input)
     → batches_given s (inputs ++ (now, input) ∷ []) ≡ batches_given s inputs
-    ++ (given (folded_all s (batches_given s inputs)) now input).batch ∷ []
+    ++ (given_of (folded_all s (batches_given s inputs)) now input).batch ∷ []
 batches_more s [] now input = refl
-batches_more s (i ∷ is) now input = ap (λ (rest : List (List Event)). (given s i.0 i.1).batch ∷ rest)
-    (batches_more (after_events s (given s i.0 i.1).batch) is now input)
+batches_more s (i ∷ is) now input = ap (λ (rest : List (List Event)). (given_of s i.0 i.1).batch ∷ rest)
+    (batches_more (after_events s (given_of s i.0 i.1).batch) is now input)
 
 pub sends_more : (s : ShowState) (inputs : List (ℕ × Input)) (now : ℕ) (input : Input)
     → sends_given s (inputs ++ (now, input) ∷ []) ≡ sends_given s inputs
-    ++ (given (folded_all s (batches_given s inputs)) now input).sends
-sends_more s [] now input = append-nil (given s now input).sends
+    ++ (given_of (folded_all s (batches_given s inputs)) now input).sends
+sends_more s [] now input = append-nil (given_of s now input).sends
 sends_more s (i ∷ is) now input =
-    let next : ShowState = after_events s (given s i.0 i.1).batch in
-    ap (λ (rest : List (ℕ × Send)). (given s i.0 i.1).sends ++ rest) (sends_more next is now input)
-    ∙ sym (append_assoc (given s i.0 i.1).sends (sends_given next is)
-        (given (folded_all next (batches_given next is)) now input).sends)
+    let next : ShowState = after_events s (given_of s i.0 i.1).batch in
+    ap (λ (rest : List (ℕ × Send)). (given_of s i.0 i.1).sends ++ rest) (sends_more next is now input)
+    ∙ sym (append_assoc (given_of s i.0 i.1).sends (sends_given next is)
+    (given_of (folded_all next (batches_given next is)) now input).sends)
 
 -- ---- as a run
 
@@ -86,26 +86,26 @@ with_first (e ∷ es) batches = refl
 pub is_a_run : GroupIsARun
 is_a_run s [] = (refl, refl, refl)
 is_a_run s (i ∷ is) =
-    let next : ShowState = after_events s (given s i.0 i.1).batch in
+    let next : ShowState = after_events s (given_of s i.0 i.1).batch in
     let rest = is_a_run next is in (
       rest.0,
-      ap (with_batch (given s i.0 i.1).batch) rest.1 ∙ with_first (given s i.0 i.1).batch (batches_given next is),
-      ap (λ (more : List (ℕ × Send)). (given s i.0 i.1).sends ++ more) rest.2,
+      ap (with_batch (given_of s i.0 i.1).batch) rest.1 ∙ with_first (given_of s i.0 i.1).batch (batches_given next is),
+      ap (λ (more : List (ℕ × Send)). (given_of s i.0 i.1).sends ++ more) rest.2,
     )
 
 -- ---- all events of them
 
 pub after_joined : (s : ShowState) (batches : List (List Event))
-    → after_events s (joined batches) ≡ folded_all s batches
+    → after_events s (joined_list batches) ≡ folded_all s batches
 after_joined s [] = refl
-after_joined s (batch ∷ batches) = after_events-append s batch (joined batches)
+after_joined s (batch ∷ batches) = after_events-append s batch (joined_list batches)
     ∙ after_joined (after_events s batch) batches
 
 pub inputs-ok : (s : ShowState) (inputs : List (ℕ × Input)) → IsTrue (is_state s)
-    → are_acceptable s (joined (batches_given s inputs)) ≡ true
+    → are_acceptable s (joined_list (batches_given s inputs)) ≡ true
 inputs-ok s [] h = refl
 inputs-ok s (i ∷ is) h =
-    let batch : List Event = (given s i.0 i.1).batch in
+    let batch : List Event = (given_of s i.0 i.1).batch in
     let ok = input-ok s i.0 i.1 h in
-    acceptable-append s batch (joined (batches_given (after_events s batch) is)) ok
-        (inputs-ok (after_events s batch) is (is_state-after_events s batch h ok))
+    acceptable-append s batch (joined_list (batches_given (after_events s batch) is)) ok
+    (inputs-ok (after_events s batch) is (is_state-after_events s batch h ok))

@@ -20,10 +20,10 @@ use Rattle.cue_core.specs.declared.refusal.Refusal.{Refusal}
 use Rattle.cue_core.specs.declared.refusal.Refusal.TheVariants as refusal
 use Rattle.cue_engine.specs.Heard.{Heard, carried_out, hear, heard_events, hear_all, all_events, all_counts}
 use Rattle.cue_engine.specs.Heard.{replies_or_one, sent_to}
-use Rattle.cue_engine.specs.Given.{Input, datagram, tick, Given, given, given_by, given_heard, given_refused}
+use Rattle.cue_engine.specs.Given.{Input, datagram, tick, Given, given_of, given_by, given_heard, given_refused}
 use Rattle.cue_engine.specs.Given.{are_too_many, messages_in}
 use Rattle.cue_outbox.specs.New.{newly_pending}
-use Rattle.cue_engine.specs.Runs.{Happening, took, given_at, run, joined, InputsMakeHistories, InputsInOrder}
+use Rattle.cue_engine.specs.Runs.{Happening, took, given_at, run, joined_list, InputsMakeHistories, InputsInOrder}
 use Rattle.cue_engine.specs.Runs as runs
 use Rattle.cue_operator.proofs.FittingLemmas.{are_fit, commands-fit}
 use Rattle.cue_core.proofs.history.HappeningLemmas.{cancels-acceptable, history-onto}
@@ -52,7 +52,7 @@ hear_all-ok s now from (m ∷ ms) h =
     let first = heard_events (hear s now from m) in
     let ok = hear-ok s now from m h in
     acceptable-append s first (all_events (hear_all (after_events s first) now from ms)) ok
-        (hear_all-ok (after_events s first) now from ms (is_state-after_events s first h ok))
+    (hear_all-ok (after_events s first) now from ms (is_state-after_events s first h ok))
 
 heard-ok : (s : ShowState) (from : ℕ) (hs : List Heard) → are_acceptable s (all_events hs) ≡ true
     → are_acceptable s (given_heard s from hs).batch ≡ true
@@ -60,8 +60,12 @@ unfolding given_heard
 heard-ok s from hs h = by (are_too_many hs)
   where
     full : Given
-    full = record { batch = all_events hs; sends =
-        sent_to from (replies_or_one hs) ++ newly_pending s (after_events s (all_events hs)); counts = all_counts hs }
+    full = record {
+      batch = all_events hs;
+      sends =
+          sent_to from (replies_or_one hs) ++ newly_pending s (after_events s (all_events hs));
+      counts = all_counts hs;
+    }
 
     by : (b : Bool) → are_acceptable s (if b then given_refused from refusal.TooMany else full).batch ≡ true
     by true = refl
@@ -81,8 +85,8 @@ recovery-ok s h = cancels-acceptable is_undecided Power s (λ a k. k) (sound_of 
 
 -- the batch of each input is acceptable in turn
 pub input-ok : (s : ShowState) (now : ℕ) (i : Input) → IsTrue (is_state s)
-    → IsTrue (are_acceptable s (given s now i).batch)
-unfolding given
+    → IsTrue (are_acceptable s (given_of s now i).batch)
+unfolding given_of
 input-ok s now (datagram from bytes) h = datagram-ok s now from (messages_in now bytes) h
 input-ok s now tick h = tick-ok s now h
 
@@ -93,21 +97,21 @@ happening-ok s runs.recovered h = recovery-ok s h
 -- ---- whole runs
 
 run-history : (past : List Event) (hs : List Happening) → IsTrue (is_history past)
-    → IsTrue (is_history (onto (joined (run (state_of past) hs).batches) past))
+    → IsTrue (is_history (onto (joined_list (run (state_of past) hs).batches) past))
 run-history past [] h = h
 run-history past (x ∷ hs) h =
     let es : List Event = (given_at (state_of past) x).batch in
     let now_past = history-onto es past h (happening-ok (state_of past) x (is_state-history past h)) in
     let rest = run-history (onto es past) hs now_past in
-    let P : ShowState → Type 0 = λ s. IsTrue (is_history (onto (joined (run s hs).batches) (onto es past))) in
+    let P : ShowState → Type 0 = λ s. IsTrue (is_history (onto (joined_list (run s hs).batches) (onto es past))) in
     let Q : List Event → Type 0 = λ xs. IsTrue (is_history xs) in
     let R : List Event → Type 0 = λ xs. IsTrue (is_history (onto xs past)) in
     subst R (sym (joined-with es (run (after_events (state_of past) es) hs).batches))
-    (subst Q (sym (onto-append es (joined (run (after_events (state_of past) es) hs).batches) past))
-        (subst P (state-onto past es) rest))
+    (subst Q (sym (onto-append es (joined_list (run (after_events (state_of past) es) hs).batches) past))
+    (subst P (state-onto past es) rest))
 
 pub inputs_make_histories : InputsMakeHistories
 inputs_make_histories hs = run-history [] hs refl
 
 pub inputs_in_order : InputsInOrder
-inputs_in_order hs = go-after-ready (onto (joined (run empty_state hs).batches) []) (inputs_make_histories hs)
+inputs_in_order hs = go-after-ready (onto (joined_list (run empty_state hs).batches) []) (inputs_make_histories hs)

@@ -17,11 +17,11 @@ use Rattle.cue_keeper.proofs.StandingLemmas.{one_state, fresh_stands}
 use Rattle.cue_records.specs.State.{state_text}
 use Rattle.cue_keeper.proofs.RefusedLemmas.{is_opened}
 use Rattle.cue_outbox.specs.Sending.{Send, all_pending}
-use Rattle.cue_engine.specs.Given.{Input, given, given_recovery}
+use Rattle.cue_engine.specs.Given.{Input, given_of, given_recovery}
 use Rattle.cue_engine.specs.Groups.{batches_given}
-use Rattle.cue_core.specs.Batches.{closed}
+use Rattle.cue_core.specs.Batches.{closed_state}
 use Rattle.cue_engine.specs.Recovery.{ClosedFrom, IsLeftOrStands}
-use Rattle.cue_engine.specs.Runs.{took, with_batch, joined, rests}
+use Rattle.cue_engine.specs.Runs.{took, with_batch, joined_list, rests}
 use Rattle.cue_engine.specs.Runs as runs
 use Rattle.cue_engine.specs.Incidents.{Incident, formed, stopped_in_form, taken, handed_out, stopped, stopped_in_take}
 use Rattle.cue_engine.specs.Incidents.{stopped_in_commit, recovered, stopped_in_recovery, refused, Store, running}
@@ -150,7 +150,7 @@ resting_either s es batch one other x y rules ok (inl h) = inr (resting_at s es 
 resting_either s es batch one other x y rules ok (inr h) =
     let P : ShowState → Type 0 = λ t. Stands x y t in
     inl (resting_at s (es ++ batch) one other x y (rules_after s es batch rules ok)
-        (subst P (sym (after_events-append s es batch)) h))
+    (subst P (sym (after_events-append s es batch)) h))
 
 with_cut : {A B : Type 0} → A ⊎ B → A ⊎ ((true ≡ true) × B)
 with_cut (inl a) = inl a
@@ -162,8 +162,8 @@ goes_taken : (s : ShowState) (es : List Event) (owed : List (ℕ × Send)) (now 
     → IsOn s es (running (after_events s es) owed) [] []
     → Goes s es (running (after_events s es) owed) (taken now input) x y
 goes_taken s es owed now input x y on =
-    let batch : List Event = (given (after_events s es) now input).batch in
-    let sends : List (ℕ × Send) = (given (after_events s es) now input).sends in
+    let batch : List Event = (given_of (after_events s es) now input).batch in
+    let sends : List (ℕ × Send) = (given_of (after_events s es) now input).sends in
     inl (record {
       has = sym (after_events-append s es batch);
       owed = all-append (rests s (es ++ batch)) owed sends (all_more s es batch owed on.owed)
@@ -186,14 +186,14 @@ goes_running s es owed handed_out x y on ok may =
 goes_running s es owed (stopped n one other) x y on ok may =
     inl (as_before s es (at_rest one other) x y (resting_at s es one other x y on.rules (ok x y may.0 may.1)))
 goes_running s es owed (stopped_in_take now input n one other) x y on ok may =
-    with_cut (resting_either s es (given (after_events s es) now input).batch one other x y on.rules
-        (input-ok (after_events s es) now input on.rules) (ok x y may.0 may.1))
+    with_cut (resting_either s es (given_of (after_events s es) now input).batch one other x y on.rules
+    (input-ok (after_events s es) now input on.rules) (ok x y may.0 may.1))
 goes_running s es owed (stopped_in_commit inputs n one other) x y on ok may =
     let before : ShowState = after_events s es in
     let P : ShowState → Type 0 = λ t. StandsEither before t x y in
-    with_cut (resting_either s es (joined (batches_given before inputs)) one other x y on.rules
-        (inputs-ok before inputs on.rules) (subst P (sym (after_joined before (batches_given before inputs)))
-        (ok x y may.0 may.1)))
+    with_cut (resting_either s es (joined_list (batches_given before inputs)) one other x y on.rules
+    (inputs-ok before inputs on.rules) (subst P (sym (after_joined before (batches_given before inputs)))
+    (ok x y may.0 may.1)))
 goes_running s es owed (recovered t) x y on ok may = absurd ok
 goes_running s es owed (stopped_in_recovery one other) x y on ok may = absurd ok
 goes_running s es owed (refused one other) x y on ok may = absurd ok
@@ -204,7 +204,7 @@ goes_on : (s : ShowState) (es : List Event) (t : ShowState) (owed : List (ℕ ×
     → PermitsRunning t i → MayOn (left_by (running t owed) i) x y → Goes s es (running t owed) i x y
 goes_on s es t owed i x y same on ok may =
     let P : ShowState → Type 0 = λ u. PermitsRunning u i → MayOn (left_by (running u owed) i) x y
-        → Goes s es (running u owed) i x y in
+    → Goes s es (running u owed) i x y in
     subst P (sym same) (goes_running s es owed i x y on) ok may
 
 chosen_running : (t : ShowState) (owed : List (ℕ × Send)) (i : Incident) (x y : List ℕ) → PermitsRunning t i
@@ -221,17 +221,17 @@ chosen_running t owed i x y ok may = record {
 
 -- recovery closes the state, and owes what is pending in it
 begins_again : (s : ShowState) (es : List Event) (t : ShowState) (x y : List ℕ) → IsTrue (is_state (after_events s es))
-    → t ≡ closed (after_events s es) → IsOn s (es ++ (given_recovery (after_events s es)).batch) (begun t) x y
-unfolding closed
+    → t ≡ closed_state (after_events s es) → IsOn s (es ++ (given_recovery (after_events s es)).batch) (begun t) x y
+unfolding closed_state
 begins_again s es t x y rules same =
     let batch : List Event = (given_recovery (after_events s es)).batch in
     let ok = happening-ok (after_events s es) runs.recovered rules in
     let P : ShowState → Type 0 = λ u. IsOn s (es ++ batch) (begun u) x y in
     subst P (sym same) (record {
       has = sym (after_events-append s es batch);
-      owed = all_earlier s es batch (all_pending (closed (after_events s es)))
+      owed = all_earlier s es batch (all_pending (closed_state (after_events s es)))
           (all_pending_rest (after_events s es) batch);
-      readable = pending_readable (closed (after_events s es))
+      readable = pending_readable (closed_state (after_events s es))
           (is_state-after_events (after_events s es) batch rules ok);
       rules = rules_after s es batch rules ok;
     })
@@ -241,14 +241,14 @@ recovers : (s : ShowState) (es : List Event) (t : ShowState) (x y first second :
     → IsOn s (es ++ (given_recovery (after_events s es)).batch) (begun t) x y
 recovers s es t x y first second rules from stood =
     begins_again s es t x y rules (from.is
-    ∙ ap closed (one_state first second from.before (after_events s es) from.stood stood))
+    ∙ ap closed_state (one_state first second from.before (after_events s es) from.stood stood))
 
 -- what stands for a state, closed or not
 stands_closing : (s : ShowState) (es : List Event) (one other : Contents) (x y : List ℕ)
-    → IsTrue (is_state (after_events s es)) → StandsEither (after_events s es) (closed (after_events s es)) x y
+    → IsTrue (is_state (after_events s es)) → StandsEither (after_events s es) (closed_state (after_events s es)) x y
     → IsOn s (es ++ (given_recovery (after_events s es)).batch) (at_rest one other) x y
-        ⊎ IsOn s es (at_rest one other) x y
-unfolding closed
+    ⊎ IsOn s es (at_rest one other) x y
+unfolding closed_state
 stands_closing s es one other x y rules h = resting_either s es (given_recovery (after_events s es)).batch one other x y
     rules (happening-ok (after_events s es) runs.recovered rules) h
 
@@ -265,10 +265,10 @@ chosen_stopped then_one then_other one other x y (inr since) = record {
   second = since.second;
   may = (since.left_first, since.left_second);
   goes = λ s es on.
-      let P : ShowState → Type 0 = λ t. StandsEither t (closed t) x y in
+      let P : ShowState → Type 0 = λ t. StandsEither t (closed_state t) x y in
       with_cut (stands_closing s es one other x y on.rules
-          (subst P (one_state since.first since.second since.before (after_events s es) since.stood on.has)
-          since.stands));
+      (subst P (one_state since.first since.second since.before (after_events s es) since.stood on.has)
+      since.stands));
 }
 
 chosen_at_rest : (then_one then_other : Contents) (i : Incident) (x y : List ℕ) → PermitsAtRest then_one then_other i
@@ -302,30 +302,35 @@ stands_first : (x y : List ℕ) (t : ShowState) → NeitherHas x y ⊎ Stands x 
 stands_first x y t (inl none) h = absurd ((is_opened x y t h).0 none)
 stands_first x y t (inr stands) h = one_state x y t empty_state h stands
 
-closed_first : closed empty_state ≡ empty_state
-unfolding closed
+closed_first : closed_state empty_state ≡ empty_state
+unfolding closed_state
 closed_first = refl
 
-either_first : (t : ShowState) (x y : List ℕ) → t ≡ empty_state → StandsEither t (closed t) x y → Stands x y empty_state
+either_first : (t : ShowState) (x y : List ℕ) → t ≡ empty_state → StandsEither t (closed_state t) x y
+    → Stands x y empty_state
 either_first t x y same (inl h) = let P : ShowState → Type 0 = λ u. Stands x y u in subst P same h
 either_first t x y same (inr h) = let P : ShowState → Type 0 = λ u. Stands x y u in
-    subst P (ap closed same ∙ closed_first) h
+    subst P (ap closed_state same ∙ closed_first) h
 
 still_first : (then_one then_other : Contents) → LeavesFirst then_one then_other → (x y : List ℕ)
     → IsUnformedOr first_area then_one then_other x y → NeitherHas x y ⊎ Stands x y empty_state
 still_first then_one then_other first x y (inl left) = first x y left.0 left.1
 still_first then_one then_other first x y (inr (inl none)) = inl none
 still_first then_one then_other first x y (inr (inr reads)) =
-    inr (record { area = first_area; reads = reads; stands =
-    fresh_stands 1 empty_state (state_text empty_state) refl refl })
+    inr (record {
+      area = first_area;
+      reads = reads;
+      stands =
+          fresh_stands 1 empty_state (state_text empty_state) refl refl;
+    })
 
 recovers_first : (then_one then_other : Contents) → LeavesFirst then_one then_other → (x y : List ℕ)
     → IsLeftOrStands then_one then_other x y → NeitherHas x y ⊎ Stands x y empty_state
 recovers_first then_one then_other first x y (inl left) = first x y left.0 left.1
 recovers_first then_one then_other first x y (inr since) =
     inr (either_first since.before x y
-        (stands_first since.first since.second since.before
-        (first since.first since.second since.left_first since.left_second) since.stood) since.stands)
+    (stands_first since.first since.second since.before
+    (first since.first since.second since.left_first since.left_second) since.stood) since.stands)
 
 pub unformed_at : (s : ShowState) (es : List Event) (one other : Contents) (x y : List ℕ)
     → IsTrue (is_state (after_events s es)) → after_events s es ≡ empty_state → LeavesFirst one other
@@ -352,8 +357,8 @@ goes_unformed : (s : ShowState) (es : List Event) (then_one then_other : Content
 goes_unformed s es then_one then_other formed x y rules same first ok = inl (begins_on s es empty_state x y rules same)
 goes_unformed s es then_one then_other (stopped_in_form one other) x y rules same first ok =
     inl (as_before s es (unformed one other) x y
-        (unformed_at s es one other x y rules same
-        (λ u v left_u left_v. still_first then_one then_other first u v (ok u v left_u left_v))))
+    (unformed_at s es one other x y rules same
+    (λ u v left_u left_v. still_first then_one then_other first u v (ok u v left_u left_v))))
 goes_unformed s es then_one then_other (taken now input) x y rules same first ok = absurd ok
 goes_unformed s es then_one then_other handed_out x y rules same first ok = absurd ok
 goes_unformed s es then_one then_other (stopped n one other) x y rules same first ok = absurd ok
@@ -361,16 +366,19 @@ goes_unformed s es then_one then_other (stopped_in_take now input n one other) x
 goes_unformed s es then_one then_other (stopped_in_commit inputs n one other) x y rules same first ok = absurd ok
 goes_unformed s es then_one then_other (recovered t) x y rules same first ok =
     let stood : ok.closed.before ≡ empty_state =
-        stands_first ok.first ok.second ok.closed.before (first ok.first ok.second ok.left.0 ok.left.1)
-        ok.closed.stood in
-    inl (begins_again s es t x y rules (ok.closed.is ∙ ap closed (stood ∙ sym same)))
+    stands_first ok.first ok.second ok.closed.before (first ok.first ok.second ok.left.0 ok.left.1)
+    ok.closed.stood in
+    inl (begins_again s es t x y rules (ok.closed.is ∙ ap closed_state (stood ∙ sym same)))
 goes_unformed s es then_one then_other (stopped_in_recovery one other) x y rules same first ok =
-    inr (refl, unformed_at s es one other x y rules same
-        (λ u v left_u left_v. recovers_first then_one then_other first u v (ok u v left_u left_v)))
+    inr (
+      refl,
+      unformed_at s es one other x y rules same
+          (λ u v left_u left_v. recovers_first then_one then_other first u v (ok u v left_u left_v)),
+    )
 goes_unformed s es then_one then_other (refused one other) x y rules same first ok =
     inl (as_before s es (unformed one other) x y
-        (unformed_at s es one other x y rules same (λ u v left_u left_v. let left = ok u v left_u left_v in first u v
-        left.0 left.1)))
+    (unformed_at s es one other x y rules same (λ u v left_u left_v. let left = ok u v left_u left_v in first u v
+    left.0 left.1)))
 
 chosen_unformed : (then_one then_other : Contents) (i : Incident) (x y : List ℕ) → PermitsUnformed then_one then_other i
     → Chosen (unformed then_one then_other) i x y

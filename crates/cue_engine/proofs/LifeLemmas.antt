@@ -11,10 +11,10 @@ use Rattle.cue_core.specs.Steps.{after_events}
 use Rattle.cue_keeper.specs.Pairs.{LeavesPairsAtEachMoment}
 use Rattle.cue_keeper.specs.Stands.{Stands, StandsEither, StandsAs, first_area, folded_all}
 use Rattle.cue_outbox.specs.Sending.{Send, all_pending, datagram, datagrams}
-use Rattle.cue_engine.specs.Given.{Input, given}
+use Rattle.cue_engine.specs.Given.{Input, given_of}
 use Rattle.cue_engine.specs.Groups.{batches_given, sends_given}
 use Rattle.cue_engine.specs.Recovery.{ClosedFrom, IsLeftOrStands, RefusedBut}
-use Rattle.cue_engine.specs.Runs.{joined}
+use Rattle.cue_engine.specs.Runs.{joined_list}
 use Rattle.cue_engine.specs.Incidents.{Incident, formed, stopped_in_form, taken, handed_out, stopped, stopped_in_take}
 use Rattle.cue_engine.specs.Incidents.{stopped_in_commit, recovered, stopped_in_recovery, refused, Store, running}
 use Rattle.cue_engine.specs.Incidents.{at_rest, unformed, Permits, left_by, Happens, left_by_all}
@@ -43,26 +43,30 @@ life_more : (s : ShowState) (store : Store) (is : List Incident) (i : Incident) 
     → left_by_all store is ≡ now → Permits now i → IsLife s store (is ++ i ∷ [])
 life_more s store is i now life same ok =
     let P : Store → Type 0 = λ u. Permits u i in
-    record { rules = life.rules; begins = life.begins; happens =
-        happens_more store is i life.happens (subst P (sym same) ok) }
+    record {
+      rules = life.rules;
+      begins = life.begins;
+      happens =
+          happens_more store is i life.happens (subst P (sym same) ok);
+    }
 
 -- ---- take
 
 pub lives_taken : {T E : Type 0} (s : ShowState) (store : Store) (is : List Incident) (now : ℕ) (input : Input)
     (old new : ShowState) (old_queue new_queue : List (ℕ × List ℕ)) (r : Result T E)
-    → OnOk r (new ≡ after_events old (given old now input).batch)
-        → OnOk r (new_queue ≡ old_queue ++ datagrams (given old now input).sends)
+    → OnOk r (new ≡ after_events old (given_of old now input).batch)
+    → OnOk r (new_queue ≡ old_queue ++ datagrams (given_of old now input).sends)
     → RunsWith s store is old old_queue → OnOk r (RunsWith s store (is ++ taken now input ∷ []) new new_queue)
 lives_taken s store is now input old new old_queue new_queue (Ok t) state queue runs =
-    let owed : List (ℕ × Send) = runs.owed ++ (given old now input).sends in
+    let owed : List (ℕ × Send) = runs.owed ++ (given_of old now input).sends in
     let P : ShowState → Type 0 = λ u. left_by_all store (is ++ taken now input ∷ []) ≡ running u owed in
     record {
       life = life_more s store is (taken now input) (running old runs.owed) runs.life runs.runs tt;
       owed = owed;
       runs = subst P (sym state) (left_more store is (taken now input)
           ∙ ap (λ (u : Store). left_by u (taken now input)) runs.runs);
-      owes = queue ∙ ap (λ (q : List (ℕ × List ℕ)). q ++ datagrams (given old now input).sends) runs.owes
-          ∙ sym (map-append datagram runs.owed (given old now input).sends);
+      owes = queue ∙ ap (λ (q : List (ℕ × List ℕ)). q ++ datagrams (given_of old now input).sends) runs.owes
+          ∙ sym (map-append datagram runs.owed (given_of old now input).sends);
     }
 lives_taken s store is now input old new old_queue new_queue (Err e) state queue runs = tt
 
@@ -91,7 +95,7 @@ from_answer (Err e) h f = tt
 pub promised_in_take : {D : Type 0} (moment : D → ℕ) (held_at : D → ℕ → Contents) (a b new_a new_b : D) (s : ShowState)
     (store : Store) (is : List Incident) (now : ℕ) (input : Input) (old : ShowState) (old_queue : List (ℕ × List ℕ))
     → LeavesPairsAtEachMoment moment held_at a b new_a new_b
-        (StandsEither old (after_events old (given old now input).batch))
+    (StandsEither old (after_events old (given_of old now input).batch))
     → RunsWith s store is old old_queue → IsPromisedAtEachMoment moment held_at a b new_a new_b s store is now input
 promised_in_take moment held_at a b new_a new_b s store is now input old old_queue leaves runs =
     λ n i j x y at_i at_j left_x left_y.
@@ -99,10 +103,10 @@ promised_in_take moment held_at a b new_a new_b s store is now input old old_que
     let other : Contents = held_at new_b j in
     let stop : Incident = stopped_in_take now input n one other in
     let ok : Permits (running old runs.owed) stop = stop_in_take moment held_at old runs.owed now input n a b new_a
-        new_b i j one other leaves at_i at_j (λ image left. left) (λ image left. left) in
+    new_b i j one other leaves at_i at_j (λ image left. left) (λ image left. left) in
     let life = life_more s store is stop (running old runs.owed) runs.life runs.runs ok in
     recovery_gives_a_prefix s store (is ++ stop ∷ []) one other x y life.rules life.begins life.happens
-        (left_more store is stop) (left_x, left_y)
+    (left_more store is stop) (left_x, left_y)
 
 -- ---- commit
 
@@ -122,21 +126,21 @@ left_taken : (t : ShowState) (owed : List (ℕ × Send)) (inputs : List (ℕ × 
     (owed ++ sends_given t inputs)
 left_taken t owed [] = ap (running t) (sym (append-nil owed))
 left_taken t owed (i ∷ is) =
-    let next : ShowState = after_events t (given t i.0 i.1).batch in
-    left_taken next (owed ++ (given t i.0 i.1).sends) is
-        ∙ ap (running (folded_all next (batches_given next is)))
-        (append_assoc owed (given t i.0 i.1).sends (sends_given next is))
+    let next : ShowState = after_events t (given_of t i.0 i.1).batch in
+    left_taken next (owed ++ (given_of t i.0 i.1).sends) is
+    ∙ ap (running (folded_all next (batches_given next is)))
+    (append_assoc owed (given_of t i.0 i.1).sends (sends_given next is))
 
 happens_taken : (t : ShowState) (owed : List (ℕ × Send)) (inputs : List (ℕ × Input))
     → Happens (running t owed) (all_taken inputs)
 happens_taken t owed [] = tt
 happens_taken t owed (i ∷ is) =
-    (tt, happens_taken (after_events t (given t i.0 i.1).batch) (owed ++ (given t i.0 i.1).sends) is)
+    (tt, happens_taken (after_events t (given_of t i.0 i.1).batch) (owed ++ (given_of t i.0 i.1).sends) is)
 
 pub lives_together : {T E : Type 0} (s : ShowState) (store : Store) (is : List Incident) (inputs : List (ℕ × Input))
     (old new : ShowState) (old_queue new_queue : List (ℕ × List ℕ)) (r : Result T E)
     → OnOk r (new ≡ folded_all old (batches_given old inputs))
-        → OnOk r (new_queue ≡ old_queue ++ datagrams (sends_given old inputs))
+    → OnOk r (new_queue ≡ old_queue ++ datagrams (sends_given old inputs))
     → RunsWith s store is old old_queue → OnOk r (RunsWith s store (is ++ all_taken inputs) new new_queue)
 lives_together s store is inputs old new old_queue new_queue (Err e) state queue runs = tt
 lives_together s store is inputs old new old_queue new_queue (Ok t) state queue runs =
@@ -145,9 +149,13 @@ lives_together s store is inputs old new old_queue new_queue (Ok t) state queue 
     let P : ShowState → Type 0 = λ u. left_by_all store (is ++ all_taken inputs) ≡ running u owed in
     let Q : Store → Type 0 = λ u. Happens u (all_taken inputs) in
     record {
-      life = record { rules = runs.life.rules; begins = runs.life.begins; happens =
-          happens_append store is (all_taken inputs) runs.life.happens
-          (subst Q (sym runs.runs) (happens_taken old runs.owed inputs)) };
+      life = record {
+        rules = runs.life.rules;
+        begins = runs.life.begins;
+        happens =
+            happens_append store is (all_taken inputs) runs.life.happens
+            (subst Q (sym runs.runs) (happens_taken old runs.owed inputs));
+      };
       owed = owed;
       runs = subst P (sym state) (left_append store is (all_taken inputs)
           ∙ ap (λ (u : Store). left_by_all u (all_taken inputs)) runs.runs ∙ left_taken old runs.owed inputs);
@@ -159,7 +167,7 @@ pub promised_in_commit : {D : Type 0} (moment : D → ℕ) (held_at : D → ℕ 
     (s : ShowState) (store : Store) (is : List Incident) (inputs : List (ℕ × Input)) (old : ShowState)
     (old_queue : List (ℕ × List ℕ))
     → LeavesPairsAtEachMoment moment held_at a b new_a new_b
-        (StandsEither old (folded_all old (batches_given old inputs)))
+    (StandsEither old (folded_all old (batches_given old inputs)))
     → RunsWith s store is old old_queue → IsPromisedWithin moment held_at a b new_a new_b s store is inputs
 promised_in_commit moment held_at a b new_a new_b s store is inputs old old_queue leaves runs =
     λ n i j x y at_i at_j left_x left_y.
@@ -167,17 +175,17 @@ promised_in_commit moment held_at a b new_a new_b s store is inputs old old_queu
     let other : Contents = held_at new_b j in
     let stop : Incident = stopped_in_commit inputs n one other in
     let ok : Permits (running old runs.owed) stop = stop_in_commit moment held_at old runs.owed inputs n a b new_a new_b
-        i j one other leaves at_i at_j (λ image left. left) (λ image left. left) in
+    i j one other leaves at_i at_j (λ image left. left) (λ image left. left) in
     let life = life_more s store is stop (running old runs.owed) runs.life runs.runs ok in
     recovery_gives_a_prefix s store (is ++ stop ∷ []) one other x y life.rules life.begins life.happens
-        (left_more store is stop) (left_x, left_y)
+    (left_more store is stop) (left_x, left_y)
 
 -- ---- hand_out
 
 pub lives_handed : (s : ShowState) (store : Store) (is : List Incident) (old new : ShowState)
     (old_queue new_queue : List (ℕ × List ℕ))
     → new ≡ old → new_queue ≡ [] → RunsWith s store is old old_queue
-        → RunsWith s store (is ++ handed_out ∷ []) new new_queue
+    → RunsWith s store (is ++ handed_out ∷ []) new new_queue
 lives_handed s store is old new old_queue new_queue state queue runs =
     let P : ShowState → Type 0 = λ u. left_by_all store (is ++ handed_out ∷ []) ≡ running u [] in
     record {
@@ -205,13 +213,13 @@ pub given_back : {T E : Type 0} (state_in : T → ShowState) (queue_in : T → L
     (store : Store) (is : List Incident) (one other : Contents) (r : Result T E)
     → IsImage one one.bytes → IsImage other other.bytes
     → IfOk r (λ made. ClosedFrom one.bytes other.bytes (state_in made))
-        → IfOk r (λ made. queue_in made ≡ datagrams (all_pending (state_in made)))
+    → IfOk r (λ made. queue_in made ≡ datagrams (all_pending (state_in made)))
     → RestsWith s store is one other → IfOk r (λ made. IsGivenBack s store is (state_in made) (queue_in made))
 given_back state_in queue_in s store is one other (Err e) reads_one reads_other stood queue at = tt
 given_back state_in queue_in s store is one other (Ok made) reads_one reads_other stood queue at =
     let p = promise_at_rest s store is one other reads_one reads_other at in
     let answered : IsAnswered one.bytes other.bytes (state_in made) (queue_in made) =
-        record { stood = stood; owed = queue } in
+    record { stood = stood; owed = queue } in
     record {
       kept = p.kept;
       prefix = p.prefix;
@@ -225,9 +233,9 @@ pub lives_recovered : {T E : Type 0} (state_in : T → ShowState) (queue_in : T 
     (store : Store) (is : List Incident) (one other : Contents) (r : Result T E)
     → IsImage one one.bytes → IsImage other other.bytes
     → IfOk r (λ made. ClosedFrom one.bytes other.bytes (state_in made))
-        → IfOk r (λ made. queue_in made ≡ datagrams (all_pending (state_in made)))
+    → IfOk r (λ made. queue_in made ≡ datagrams (all_pending (state_in made)))
     → RestsWith s store is one other
-        → IfOk r (λ made. RunsWith s store (is ++ recovered (state_in made) ∷ []) (state_in made) (queue_in made))
+    → IfOk r (λ made. RunsWith s store (is ++ recovered (state_in made) ∷ []) (state_in made) (queue_in made))
 lives_recovered state_in queue_in s store is one other (Err e) reads_one reads_other stood queue at = tt
 lives_recovered state_in queue_in s store is one other (Ok made) reads_one reads_other stood queue at =
     let t : ShowState = state_in made in
@@ -245,30 +253,30 @@ pub rests_stand : (s : ShowState) (store : Store) (is : List Incident) (one othe
 rests_stand s store is one other reads_one reads_other at =
     let P : Store → Type 0 = λ u. MayRead u one.bytes other.bytes in
     let came = whatever_happens s store is one.bytes other.bytes at.life.rules at.life.begins at.life.happens
-        (subst P (sym at.rests) (reads_one, reads_other)) in
-    let last : ShowState = after_events s (joined came.kept) in
+    (subst P (sym at.rests) (reads_one, reads_other)) in
+    let last : ShowState = after_events s (joined_list came.kept) in
     let Q : Store → Type 0 = λ u. HasState u one.bytes other.bytes last in
     (last, subst Q at.rests came.has)
 
 pub lives_refused : {T E D : Type 0} (moment : D → ℕ) (held : D → Contents) (held_at : D → ℕ → Contents) (is_honest : D
     → Type 0) → ((disk : D) → is_honest disk → held_at disk (moment disk) ≡ held disk)
     → (fault : E) (first_in second_in : T → D) (a b : D) (s : ShowState) (store : Store) (is : List Incident)
-        (r : Result T (E × D × D))
+    (r : Result T (E × D × D))
     → is_honest (first_after first_in r) → is_honest (second_after second_in r)
     → RefusedBut fault (LeavesAtEachMoment moment held_at a (first_after first_in r) (IsImage (held a))
-        × LeavesAtEachMoment moment held_at b (second_after second_in r) (IsImage (held b))) r
+    × LeavesAtEachMoment moment held_at b (second_after second_in r) (IsImage (held b))) r
     → RestsWith s store is (held a) (held b)
     → RefusedBut fault (RestsWith s store
-        (is ++ refused (held (first_after first_in r)) (held (second_after second_in r)) ∷ [])
-        (held (first_after first_in r)) (held (second_after second_in r))) r
+    (is ++ refused (held (first_after first_in r)) (held (second_after second_in r)) ∷ [])
+    (held (first_after first_in r)) (held (second_after second_in r))) r
 lives_refused moment held held_at is_honest held_now fault first_in second_in a b s store is (Ok made) honest_a honest_b
     leaves at = tt
 lives_refused moment held held_at is_honest held_now fault first_in second_in a b s store is (Err why) honest_a honest_b
     leaves at = λ other.
     let i : Incident = refused (held why.1) (held why.2) in
     let ok : Permits (at_rest (held a) (held b)) i =
-        refusal moment held held_at is_honest held_now (at_rest (held a) (held b)) a b why.1 why.2 (held why.1)
-        (held why.2) honest_a honest_b (inl refl) (leaves other) (λ image left. left) (λ image left. left) in
+    refusal moment held held_at is_honest held_now (at_rest (held a) (held b)) a b why.1 why.2 (held why.1)
+    (held why.2) honest_a honest_b (inl refl) (leaves other) (λ image left. left) (λ image left. left) in
     record {
       life = life_more s store is i (at_rest (held a) (held b)) at.life at.rests ok;
       rests = left_more store is i ∙ ap (λ (u : Store). left_by u i) at.rests;
@@ -287,37 +295,37 @@ rests_more s store is i now one other life same ok leaves = record {
 pub rests_in_take : {D : Type 0} (moment : D → ℕ) (held_at : D → ℕ → Contents) (a b new_a new_b : D) (s : ShowState)
     (store : Store) (is : List Incident) (now : ℕ) (input : Input) (old : ShowState) (old_queue : List (ℕ × List ℕ))
     → LeavesPairsAtEachMoment moment held_at a b new_a new_b
-        (StandsEither old (after_events old (given old now input).batch))
+    (StandsEither old (after_events old (given_of old now input).batch))
     → RunsWith s store is old old_queue → RestsAtEachMoment moment held_at a b new_a new_b s store is now input
 rests_in_take moment held_at a b new_a new_b s store is now input old old_queue leaves runs =
     λ n i j one other at_i at_j in_one in_other.
     let ok : Permits (running old runs.owed) (stopped_in_take now input n one other) =
-        stop_in_take moment held_at old runs.owed now input n a b new_a new_b i j one other leaves at_i at_j in_one
-        in_other in
+    stop_in_take moment held_at old runs.owed now input n a b new_a new_b i j one other leaves at_i at_j in_one
+    in_other in
     rests_more s store is (stopped_in_take now input n one other) (running old runs.owed) one other runs.life runs.runs
-        ok refl
+    ok refl
 
 pub rests_in_commit : {D : Type 0} (moment : D → ℕ) (held_at : D → ℕ → Contents) (a b new_a new_b : D) (s : ShowState)
     (store : Store) (is : List Incident) (inputs : List (ℕ × Input)) (old : ShowState) (old_queue : List (ℕ × List ℕ))
     → LeavesPairsAtEachMoment moment held_at a b new_a new_b
-        (StandsEither old (folded_all old (batches_given old inputs)))
+    (StandsEither old (folded_all old (batches_given old inputs)))
     → RunsWith s store is old old_queue → RestsWithin moment held_at a b new_a new_b s store is inputs
 rests_in_commit moment held_at a b new_a new_b s store is inputs old old_queue leaves runs =
     λ n i j one other at_i at_j in_one in_other.
     let ok : Permits (running old runs.owed) (stopped_in_commit inputs n one other) =
-        stop_in_commit moment held_at old runs.owed inputs n a b new_a new_b i j one other leaves at_i at_j in_one
-        in_other in
+    stop_in_commit moment held_at old runs.owed inputs n a b new_a new_b i j one other leaves at_i at_j in_one
+    in_other in
     rests_more s store is (stopped_in_commit inputs n one other) (running old runs.owed) one other runs.life runs.runs
-        ok refl
+    ok refl
 
 pub rests_closed : {D : Type 0} (held : D → Contents) (a b : D) (s : ShowState) (store : Store) (is : List Incident)
     (state : ShowState) (queue : List (ℕ × List ℕ))
     → StandsAs (held a) (held b) state → RunsWith s store is state queue
     → (n : ℕ) (one other : Contents) → IsWithin (held a) one → IsWithin (held b) other
-        → RestsWith s store (is ++ stopped n one other ∷ []) one other
+    → RestsWith s store (is ++ stopped n one other ∷ []) one other
 rests_closed held a b s store is state queue stands runs = λ n one other in_one in_other.
     let ok : Permits (running state runs.owed) (stopped n one other) =
-        stop held state runs.owed n a b one other stands in_one in_other in
+    stop held state runs.owed n a b one other stands in_one in_other in
     rests_more s store is (stopped n one other) (running state runs.owed) one other runs.life runs.runs ok refl
 
 pub rests_in_recovery : {D : Type 0} (moment : D → ℕ) (held : D → Contents) (held_at : D → ℕ → Contents) (is_honest : D
@@ -326,16 +334,18 @@ pub rests_in_recovery : {D : Type 0} (moment : D → ℕ) (held : D → Contents
     → AfterBarrier moment held_at a b new_a new_b (IsLeftOrStands (held a) (held b))
     → RestsWith s store is (held a) (held b)
     → LeavesAtEachStop moment held_at a b new_a new_b (IsLeftOrStands (held a) (held b))
-        (λ one other. RestsWith s store (is ++ stopped_in_recovery one other ∷ []) one other)
+    (λ one other. RestsWith s store (is ++ stopped_in_recovery one other ∷ []) one other)
 rests_in_recovery moment held held_at is_honest held_now a b new_a new_b s store is honest_a honest_b barrier at =
     record {
-  barrier = barrier;
-  each = λ i j one other stops in_one in_other.
-      let ok = stop_in_recovery moment held held_at is_honest held_now (at_rest (held a) (held b)) a b new_a new_b i j
+      barrier = barrier;
+      each = λ i j one other stops in_one in_other.
+          let ok = stop_in_recovery moment held held_at is_honest held_now (at_rest (held a) (held b)) a b new_a new_b i
+          j
           one other honest_a honest_b (inl refl) barrier stops in_one in_other in
-      rests_more s store is (stopped_in_recovery one other) (at_rest (held a) (held b)) one other at.life at.rests ok
+          rests_more s store is (stopped_in_recovery one other) (at_rest (held a) (held b)) one other at.life at.rests
+          ok
           refl;
-}
+    }
 
 -- ---- form
 
@@ -346,7 +356,7 @@ pub lives_formed : {T E : Type 0} (state_in : T → ShowState) (queue_in : T →
     (store : Store) (is : List Incident) (one other : Contents) (r : Result T E)
     → IfOk r (λ made. state_in made ≡ empty_state) → IfOk r (λ made. queue_in made ≡ [])
     → RestsUnformed s store is one other
-        → IfOk r (λ made. RunsWith s store (is ++ formed ∷ []) (state_in made) (queue_in made))
+    → IfOk r (λ made. RunsWith s store (is ++ formed ∷ []) (state_in made) (queue_in made))
 lives_formed state_in queue_in s store is one other (Err e) state queue at = tt
 lives_formed state_in queue_in s store is one other (Ok made) state queue at =
     let P : ShowState → Type 0 = λ u. left_by_all store (is ++ formed ∷ []) ≡ running u (all_pending empty_state) in
@@ -363,13 +373,13 @@ pub rests_in_form : {D : Type 0} (moment : D → ℕ) (held : D → Contents) (h
     → AfterBarrier moment held_at a b new_a new_b (IsUnformedOr first_area (held a) (held b))
     → RestsUnformed s store is (held a) (held b)
     → LeavesAtEachStop moment held_at a b new_a new_b (IsUnformedOr first_area (held a) (held b))
-        (λ one other. RestsUnformed s store (is ++ stopped_in_form one other ∷ []) one other)
+    (λ one other. RestsUnformed s store (is ++ stopped_in_form one other ∷ []) one other)
 rests_in_form moment held held_at is_honest held_now a b new_a new_b s store is honest_a honest_b barrier at = record {
   barrier = barrier;
   each = λ i j one other stops in_one in_other.
       let stop : Incident = stopped_in_form one other in
       let ok : Permits (unformed (held a) (held b)) stop = stop_in_form moment held held_at is_honest held_now a b new_a
-          new_b i j one other honest_a honest_b barrier stops in_one in_other in
+      new_b i j one other honest_a honest_b barrier stops in_one in_other in
       record {
         life = life_more s store is stop (unformed (held a) (held b)) at.life at.rests ok;
         rests = left_more store is stop ∙ ap (λ (u : Store). left_by u stop) at.rests;

@@ -2,7 +2,7 @@
 use Rattle.std.proofs.Common.{◌≡◌, inl, inr, ℕ, List, length, refl, sym, subst, arith}
 use Rattle.std.proofs.lemmas.Bool.{lt-leb}
 use Rattle.cue_disk.specs.Disk.{Contents, IsImage, IsStable}
-use Rattle.cue_disk.specs.Effect.{settled}
+use Rattle.cue_disk.specs.Effect.{settled_contents}
 use Rattle.cue_disk.proofs.CrashLemmas.{image_stable}
 use Rattle.cue_snap.specs.Pair.{AfterBarrier, IsUnformedOr}
 use Rattle.cue_core.specs.State.{empty_state}
@@ -14,12 +14,12 @@ use Rattle.cue_engine.specs.Permitted.{IsWithin, IsStop, IsOnDisks, PowerLossIsW
 use Rattle.cue_engine.specs.Permitted.{StopInTakeIsPermitted, StopInCommitIsPermitted, StopInRecoveryIsPermitted}
 use Rattle.cue_engine.specs.Permitted.{StopInFormIsPermitted, RecoveryIsPermitted, RefusalIsPermitted}
 
-settled_stable : (bytes : List ℕ) → IsStable (settled bytes)
+settled_stable : (bytes : List ℕ) → IsStable (settled_contents bytes)
 settled_stable bytes = record { length = refl; none_touched = λ i within. lt-leb (length bytes) i within }
 
 pub power_loss : PowerLossIsWithin
 power_loss then_held bytes left = λ image after. let P : List ℕ → Type 0 = λ xs. IsImage then_held xs in
-    subst P (sym (image_stable (settled bytes) image (settled_stable bytes) after)) left
+    subst P (sym (image_stable (settled_contents bytes) image (settled_stable bytes) after)) left
 
 pub stop : {D : Type 0} (held : D → Contents) → StopIsPermitted held
 stop held s owed n a b one other stands in_one in_other =
@@ -41,7 +41,7 @@ at_stop : {D : Type 0} (moment : D → ℕ) (held_at : D → ℕ → Contents) (
     → held_at a (moment a) ≡ then_one → held_at b (moment b) ≡ then_other
     → ((x y : List ℕ) → IsImage then_one x → IsImage then_other y → P x y)
     → (barrier : AfterBarrier moment held_at a b new_a new_b P) (i j : ℕ)
-        → IsStop moment held_at a b new_a new_b P barrier i j
+    → IsStop moment held_at a b new_a new_b P barrier i j
     → (x y : List ℕ) → IsImage (held_at new_a i) x → IsImage (held_at new_b j) y → P x y
 at_stop moment held_at a b new_a new_b P then_one then_other now_a now_b entry barrier i j (inl before) x y left_x
     left_y =
@@ -65,8 +65,8 @@ stop_in_recovery moment held held_at is_honest held_now store a b new_a new_b i 
     stops in_one in_other =
     let leaves : LeavesOnly one other (IsLeftOrStands (held a) (held b)) = λ x y left_x left_y.
     at_stop moment held_at a b new_a new_b (IsLeftOrStands (held a) (held b)) (held a) (held b) (held_now a honest_a)
-        (held_now b honest_b) (λ u v left_u left_v. inl (left_u, left_v)) barrier i j stops x y (in_one x left_x)
-        (in_other y left_y) in
+    (held_now b honest_b) (λ u v left_u left_v. inl (left_u, left_v)) barrier i j stops x y (in_one x left_x)
+    (in_other y left_y) in
     on_disks (stopped_in_recovery one other) store (held a) (held b) leaves leaves on
 
 pub stop_in_form : {D : Type 0} (moment : D → ℕ) (held : D → Contents) (held_at : D → ℕ → Contents) (is_honest : D
@@ -76,8 +76,8 @@ stop_in_form moment held held_at is_honest held_now a b new_a new_b i j one othe
     in_other =
     λ x y left_x left_y.
     at_stop moment held_at a b new_a new_b (IsUnformedOr first_area (held a) (held b)) (held a) (held b)
-        (held_now a honest_a) (held_now b honest_b) (λ u v left_u left_v. inl (left_u, left_v)) barrier i j stops x y
-        (in_one x left_x) (in_other y left_y)
+    (held_now a honest_a) (held_now b honest_b) (λ u v left_u left_v. inl (left_u, left_v)) barrier i j stops x y
+    (in_one x left_x) (in_other y left_y)
 
 -- ---- recovery that came to its end
 
@@ -85,8 +85,13 @@ pub recovery : {D : Type 0} (held : D → Contents) (is_honest : D → Type 0)
     → ((disk : D) → is_honest disk → IsImage (held disk) (held disk).bytes) → RecoveryIsPermitted held is_honest
 recovery held is_honest reads store a b s honest_a honest_b on closed =
     let closes : RecoversAs (held a) (held b) s =
-        record { first = (held a).bytes; second = (held b).bytes; left = (reads a honest_a, reads b honest_b); closed =
-        closed } in
+    record {
+      first = (held a).bytes;
+      second = (held b).bytes;
+      left = (reads a honest_a, reads b honest_b);
+      closed =
+          closed;
+    } in
     on_disks (recovered s) store (held a) (held b) closes closes on
 
 pub refusal : {D : Type 0} (moment : D → ℕ) (held : D → Contents) (held_at : D → ℕ → Contents) (is_honest : D → Type 0)
@@ -95,11 +100,11 @@ pub refusal : {D : Type 0} (moment : D → ℕ) (held : D → Contents) (held_at
 refusal {D} moment held held_at is_honest held_now store a b new_a new_b one other honest_a honest_b on leaves in_one
     in_other =
     let was : (new_disk : D) (now : Contents) (image : List ℕ) → is_honest new_disk → IsWithin (held new_disk) now
-        → IsImage now image → IsImage (held_at new_disk (moment new_disk)) image =
+    → IsImage now image → IsImage (held_at new_disk (moment new_disk)) image =
     λ new_disk now image honest within left. subst (λ (c : Contents). IsImage c image) (sym (held_now new_disk honest))
-        (within image left) in
+    (within image left) in
     let both : (x y : List ℕ) → IsImage one x → IsImage other y → IsImage (held a) x × IsImage (held b) y =
-        λ x y left_x left_y. (
+    λ x y left_x left_y. (
       leaves.0.each (moment new_a) leaves.0.later (omega arith) x (was new_a one x honest_a in_one left_x),
       leaves.1.each (moment new_b) leaves.1.later (omega arith) y (was new_b other y honest_b in_other left_y),
     ) in

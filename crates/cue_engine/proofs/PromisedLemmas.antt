@@ -11,8 +11,8 @@ use Rattle.cue_keeper.specs.Stands.{Stands}
 use Rattle.cue_keeper.proofs.StandingLemmas.{one_state}
 use Rattle.cue_keeper.proofs.RefusedLemmas.{is_opened}
 use Rattle.cue_outbox.specs.Sending.{Send, all_pending, datagrams}
-use Rattle.cue_core.specs.Batches.{closed}
-use Rattle.cue_engine.specs.Runs.{with_batch, joined, rests}
+use Rattle.cue_core.specs.Batches.{closed_state}
+use Rattle.cue_engine.specs.Runs.{with_batch, joined_list, rests}
 use Rattle.cue_engine.specs.Incidents.{Incident, Store, running, at_rest, unformed, left_by, Happens, left_by_all}
 use Rattle.cue_engine.specs.Headline.{handed_in, all_handed, batch_of, is_cut_off, AreKept, BeginsWith, MayRead}
 use Rattle.cue_engine.specs.Headline.{HasState, CameTo, IsAnswered, WhateverHappens, RecoveryGivesAPrefix}
@@ -29,8 +29,8 @@ use Rattle.cue_engine.proofs.IncidentLemmas.{as_before, resting_at, unformed_at,
 record Found (s : ShowState) (es : List Event) (store : Store) (is : List Incident) (x y : List ℕ) : Type 0 where
   kept : List (List Event)
   prefix : AreKept (after_events s es) is kept
-  has : HasOn (left_by_all store is) x y (after_events s (es ++ joined kept))
-  decided : list_all (rests s (es ++ joined kept)) (all_handed store is) ≡ true
+  has : HasOn (left_by_all store is) x y (after_events s (es ++ joined_list kept))
+  decided : list_all (rests s (es ++ joined_list kept)) (all_handed store is) ≡ true
   readable : Each IsReadable (all_handed store is)
 
 found_none : (s : ShowState) (es : List Event) (store : Store) (x y : List ℕ) → IsOn s es store x y
@@ -44,18 +44,19 @@ found_whole : (s : ShowState) (es : List Event) (store : Store) (i : Incident) (
 found_whole s es store i is x y first second on f =
     let batch : List Event = batch_of (after_events s es) i in
     let P : ShowState → Type 0 = λ u. AreKept u is f.kept in
-    let same : (es ++ batch) ++ joined f.kept ≡ es ++ joined (with_batch batch f.kept) =
-        append_assoc es batch (joined f.kept) ∙ ap (λ (xs : List Event). es ++ xs) (sym (joined-with batch f.kept)) in
+    let same : (es ++ batch) ++ joined_list f.kept ≡ es ++ joined_list (with_batch batch f.kept) =
+    append_assoc es batch (joined_list f.kept) ∙ ap (λ (xs : List Event). es ++ xs) (sym (joined-with batch f.kept)) in
     let Q : List Event → Type 0 = λ xs. HasOn (left_by_all (left_by store i) is) x y (after_events s xs) in
     let R : List Event → Type 0 = λ xs. list_all (rests s xs) (all_handed (left_by store i) is) ≡ true in
     record {
       kept = with_batch batch f.kept;
       prefix = inl (f.kept, (refl, subst P (after_events-append s es batch) f.prefix));
       has = subst Q same f.has;
-      decided = all-append (rests s (es ++ joined (with_batch batch f.kept))) (handed_in store i)
+      decided = all-append (rests s (es ++ joined_list (with_batch batch f.kept))) (handed_in store i)
           (all_handed (left_by store i) is)
-          (all_more s es (joined (with_batch batch f.kept)) (handed_in store i) (handed_rests s es store i on.owed))
-              (subst R same f.decided);
+          (all_more s es (joined_list (with_batch batch f.kept)) (handed_in store i)
+          (handed_rests s es store i on.owed))
+          (subst R same f.decided);
       readable = each_append (λ (m : ℕ × Send). IsReadable m.1) (handed_in store i) (all_handed (left_by store i) is)
           (handed_readable store i on.readable) f.readable;
     }
@@ -67,8 +68,8 @@ found_cut s es store i is x y first second on cut f = record {
   kept = f.kept;
   prefix = inr (cut, f.prefix);
   has = f.has;
-  decided = all-append (rests s (es ++ joined f.kept)) (handed_in store i) (all_handed (left_by store i) is)
-      (all_more s es (joined f.kept) (handed_in store i) (handed_rests s es store i on.owed)) f.decided;
+  decided = all-append (rests s (es ++ joined_list f.kept)) (handed_in store i) (all_handed (left_by store i) is)
+      (all_more s es (joined_list f.kept) (handed_in store i) (handed_rests s es store i on.owed)) f.decided;
   readable = each_append (λ (m : ℕ × Send). IsReadable m.1) (handed_in store i) (all_handed (left_by store i) is)
       (handed_readable store i on.readable) f.readable;
 }
@@ -76,7 +77,7 @@ found_cut s es store i is x y first second on cut f = record {
 found_either : (s : ShowState) (es : List Event) (store : Store) (i : Incident) (is : List Incident)
     (x y first second u v : List ℕ) → IsOn s es store first second
     → (IsOn s (es ++ batch_of (after_events s es) i) (left_by store i) u v
-        → Found s (es ++ batch_of (after_events s es) i) (left_by store i) is x y)
+    → Found s (es ++ batch_of (after_events s es) i) (left_by store i) is x y)
     → (IsOn s es (left_by store i) u v → Found s es (left_by store i) is x y)
     → Goes s es store i u v → Found s es store (i ∷ is) x y
 found_either s es store i is x y first second u v on whole cut (inl h) =
@@ -114,8 +115,12 @@ starts : (s : ShowState) (store : Store) (x y : List ℕ) → IsTrue (is_state s
     → IsOn s [] store x y
 starts s (running t owed) x y h begins may =
     let P : List (ℕ × Send) → Type 0 = λ ms. IsOn s [] (running t ms) x y in
-    subst P (sym begins.1) (record { has = begins.0; owed = all_pending_rest s []; readable = pending_readable s h;
-        rules = h })
+    subst P (sym begins.1) (record {
+      has = begins.0;
+      owed = all_pending_rest s [];
+      readable = pending_readable s h;
+      rules = h;
+    })
 starts s (at_rest one other) x y h begins may = resting_at s [] one other x y h (begins x y may.0 may.1)
 starts s (unformed one other) x y h begins may =
     unformed_at s [] one other x y h begins.1 (λ u v left_u left_v. inl (begins.0 u v left_u left_v))
@@ -143,23 +148,23 @@ whatever_happens s store is x y h begins ok may =
     record {
       kept = f.kept;
       prefix = f.prefix;
-      has = has_state (left_by_all store is) x y (after_events s (joined f.kept)) may f.has;
+      has = has_state (left_by_all store is) x y (after_events s (joined_list f.kept)) may f.has;
       decided = f.decided;
-      in_bytes = all_say s (joined f.kept) (all_handed store is) f.readable f.decided;
+      in_bytes = all_say s (joined_list f.kept) (all_handed store is) f.readable f.decided;
     }
 
 -- recovery closes the state that the two stand for
 gives : (x y : List ℕ) (s t : ShowState) (queue : List (ℕ × List ℕ)) → Stands x y s → IsAnswered x y t queue
-    → t ≡ closed s
+    → t ≡ closed_state s
 gives x y s t queue stands answered = answered.stood.is
-    ∙ ap closed (one_state x y answered.stood.before s answered.stood.stood stands)
+    ∙ ap closed_state (one_state x y answered.stood.before s answered.stood.stood stands)
 
 pub recovery_gives_a_prefix : RecoveryGivesAPrefix
 recovery_gives_a_prefix s store is one other x y h begins ok end left =
     let P : Store → Type 0 = λ last. MayRead last x y in
     let Q : Store → ShowState → Type 0 = λ last u. HasState last x y u in
     let came : CameTo s store is x y = whatever_happens s store is x y h begins ok (subst P (sym end) left) in
-    let last : ShowState = after_events s (joined came.kept) in
+    let last : ShowState = after_events s (joined_list came.kept) in
     let stands : Stands x y last = subst (λ (store : Store). Q store last) end came.has in
     let opened = is_opened x y last stands in
     record {

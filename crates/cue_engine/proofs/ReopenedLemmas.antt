@@ -17,14 +17,14 @@ use Rattle.cue_keeper.specs.declared.fault.StoreFault.TheVariants as store
 use Rattle.cue_keeper.proofs.StandingLemmas.{one_state}
 use Rattle.cue_keeper.specs.Due.{is_due}
 use Rattle.cue_keeper.specs.Stands.{Stands, StandsEither, IsKept}
-use Rattle.cue_core.specs.Batches.{closed}
+use Rattle.cue_core.specs.Batches.{closed_state}
 use Rattle.cue_engine.specs.Recovery.{ClosedFrom, IsLeftOrStands, NeedsArea, NoGenerationLeft, NoRoomLeft, RefusedBut}
 use Rattle.cue_engine.specs.Recovery.{cancels_length}
 
 -- ---- what a crash leaves
 
 pub left_or_stands : (then_a then_b : Contents) (first second : List ℕ) (s : ShowState) → IsImage then_a first
-    → IsImage then_b second → Stands first second s → (x y : List ℕ) → StandsEither s (closed s) x y
+    → IsImage then_b second → Stands first second s → (x y : List ℕ) → StandsEither s (closed_state s) x y
     → IsLeftOrStands then_a then_b x y
 left_or_stands then_a then_b first second s left_first left_second stood x y stands = inr (record {
   first = first;
@@ -87,17 +87,17 @@ the_area one other s generation count end kept first second area t needs =
 pub needs_new_area : (one other : Contents) (s : ShowState) (generation count end : ℕ)
     → IsKept one other s generation count end → IsImage one one.bytes → IsImage other other.bytes
     → (area : Area) (t : ShowState) → NeedsArea one.bytes other.bytes area t → (1 ≤ length (events_at s recovered))
-        × IsTrue (is_due count end (cancels_length s))
+    × IsTrue (is_due count end (cancels_length s))
 needs_new_area one other s generation count end kept first second area t needs =
     let same = the_area one other s generation count end kept first second area t needs in
     let due : IsTrue (is_due (length kept.area.payloads) (length (area_text kept.area)) (cancels_length t)) =
-        subst (λ (a : Area). IsTrue (is_due (length a.payloads) (length (area_text a)) (cancels_length t))) same.0
-        needs.due in (
+    subst (λ (a : Area). IsTrue (is_due (length a.payloads) (length (area_text a)) (cancels_length t))) same.0
+    needs.due in (
       subst (λ (x : ShowState). 1 ≤ length (events_at x recovered)) same.1 needs.some,
       subst (λ (x : ShowState). IsTrue (is_due count end (cancels_length x))) same.1
           (subst (λ (n : ℕ). IsTrue (is_due count n (cancels_length t))) (sym kept.same_end)
           (subst (λ (n : ℕ). IsTrue (is_due n (length (area_text kept.area)) (cancels_length t))) (sym kept.same_count)
-              due)),
+          due)),
     )
 
 -- its generation is that of the kept state
@@ -106,17 +106,17 @@ pub generation_is : (one other : Contents) (s : ShowState) (generation count end
     → (area : Area) (t : ShowState) → NeedsArea one.bytes other.bytes area t → generation ≡ area.generation
 generation_is one other s generation count end kept first second area t needs =
     kept.same_generation ∙ ap (λ (a : Area). a.generation)
-        (sym (the_area one other s generation count end kept first second area t needs).0)
+    (sym (the_area one other s generation count end kept first second area t needs).0)
 
 -- and there is no more room for the kept state than for it
 pub has_no_room : (one other : Contents) (s : ShowState) (generation count end : ℕ)
     → IsKept one other s generation count end → IsImage one one.bytes → IsImage other other.bytes
     → (area : Area) (t : ShowState) → NeedsArea one.bytes other.bytes area t
-        → AREA_LIMIT < 19 + length (state_text t) + cancels_length t
-        → AREA_LIMIT < 19 + length (state_text s) + cancels_length s
+    → AREA_LIMIT < 19 + length (state_text t) + cancels_length t
+    → AREA_LIMIT < 19 + length (state_text s) + cancels_length s
 has_no_room one other s generation count end kept first second area t needs long =
     subst (λ (x : ShowState). AREA_LIMIT < 19 + length (state_text x) + cancels_length x)
-        (the_area one other s generation count end kept first second area t needs).1 long
+    (the_area one other s generation count end kept first second area t needs).1 long
 
 -- one fault or the other was told, and is one of the store
 pub told_one : (f x y : Fault) (g gx gy : StoreFault) → (Some f ≡ Some x) ⊎ (Some f ≡ Some y) → (f ≡ x → g ≡ gx)
@@ -169,12 +169,13 @@ unwritten fault first_in second_in P Q a b (Err refused) same p q =
 -- ---- the state that was closed
 
 -- what holds of the state behind its cancels holds of the closed one
-pub closed_so : (s : ShowState) (P : ShowState → Type 0) → P (after_events s (events_at s recovered)) → P (closed s)
-unfolding closed
+pub closed_so : (s : ShowState) (P : ShowState → Type 0) → P (after_events s (events_at s recovered))
+    → P (closed_state s)
+unfolding closed_state
 closed_so s P so = so
 
 -- what was made keeps the closed state of one that stood
 pub closed_from : {T E : Type 0} (state_in : T → ShowState) (x y : List ℕ) (s : ShowState) (r : Result T E)
-    → Stands x y s → IfOk r (λ made. state_in made ≡ closed s) → IfOk r (λ made. ClosedFrom x y (state_in made))
+    → Stands x y s → IfOk r (λ made. state_in made ≡ closed_state s) → IfOk r (λ made. ClosedFrom x y (state_in made))
 closed_from state_in x y s (Ok made) stood is = record { before = s; stood = stood; is = is }
 closed_from state_in x y s (Err refused) stood is = tt

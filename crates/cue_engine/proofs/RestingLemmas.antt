@@ -26,14 +26,14 @@ use Rattle.cue_core.specs.declared.refusal.Refusal.TheVariants as refusal
 use Rattle.cue_engine.specs.Heard.{Heard, refused, carried, all_counts, hear_all, all_events, replies_to}
 use Rattle.cue_engine.specs.Heard.{replies_or_one, shown_by, sent_to}
 use Rattle.cue_core.specs.InTurn.{Step}
-use Rattle.cue_engine.specs.Given.{Input, datagram, tick, Given, given, given_by, given_heard, given_refused}
+use Rattle.cue_engine.specs.Given.{Input, datagram, tick, Given, given_of, given_by, given_heard, given_refused}
 use Rattle.cue_engine.specs.Given.{are_too_many, messages_in}
-use Rattle.cue_core.specs.Batches.{closed, is_live_in, is_decided_in}
+use Rattle.cue_core.specs.Batches.{closed_state, is_live_in, is_decided_in}
 use Rattle.cue_outbox.specs.New.{newly_pending, is_new}
-use Rattle.cue_engine.specs.Runs.{Story, run, joined, with_batch, Happening, took, given_at, is_cancelling_in}
+use Rattle.cue_engine.specs.Runs.{Story, run, joined_list, with_batch, Happening, took, given_at, is_cancelling_in}
 use Rattle.cue_engine.specs.Runs.{order_rests, send_rests, rests, PendingRests, EachRests}
 use Rattle.cue_engine.specs.Runs as runs
-use Rattle.cue_core.proofs.lists.AnyLemmas.{or_left, or_right, either, gives, given as given_that, any-append}
+use Rattle.cue_core.proofs.lists.AnyLemmas.{or_left, or_right, either, gives, given_of as given_that, any-append}
 use Rattle.cue_core.proofs.lists.AnyLemmas.{all-append, all-flat, all_implied, all_mapped, all_true}
 use Rattle.cue_core.proofs.live.CancelLemmas.{each-holds}
 use Rattle.cue_core.proofs.history.RestLemmas.{live-by-start, decided-by-go}
@@ -60,11 +60,11 @@ attempt_rests s es a = live_rests s es a.seq && (decision_rests s es a && cancel
 attempts_rest : (s : ShowState) (es : List Event) → list_all (attempt_rests s es) (after_events s es).live ≡ true
 attempts_rest s es =
     all_implied (λ a. holds a.seq (λ x. true) live && (decided_holds a && cancelling_holds a)) (attempt_rests s es) one
-        live
+    live
     (all_both (λ a. holds a.seq (λ x. true) live) (λ a. decided_holds a && cancelling_holds a) live
-        (each-holds (λ x. true) live)
+    (each-holds (λ x. true) live)
     (all_both decided_holds cancelling_holds live (each-holds (λ x. is_decided x.stage) live)
-        (each-holds (λ x. is_cancelling x.stage) live)))
+    (each-holds (λ x. is_cancelling x.stage) live)))
   where
     live : List Attempt
     live = (after_events s es).live
@@ -88,7 +88,7 @@ attempts_rest s es =
         let w = both (holds a.seq (λ x. true) live) _ k in
         let v = both (decided_holds a) (cancelling_holds a) w.1 in
         join (live_rests s es a.seq) _ (live-by-start s es a.seq w.0)
-            (join (decision_rests s es a) _ (decided a v.0) (cancelling a v.1))
+        (join (decision_rests s es a) _ (decided a v.0) (cancelling a v.1))
 
 order-rests : (s : ShowState) (es : List Event) (a : Attempt) (d : ℕ) (bytes : List ℕ) → attempt_rests s es a ≡ true
     → order_rests s es (order_at a.stage a.seq d a.cue bytes) ≡ true
@@ -100,7 +100,7 @@ order-rests s es a d bytes h =
     by : (stage : Stage) → live_rests s es a.seq ≡ true
         → (not (is_decided stage) || (is_decided_in s a.seq || list_any (is_go_of a.seq) es)) ≡ true
         → (not (is_cancelling stage) || (is_cancelling_in s a.seq || list_any (is_cancel_of a.seq) es)) ≡ true
-            → order_rests s es (order_at stage a.seq d a.cue bytes) ≡ true
+        → order_rests s es (order_at stage a.seq d a.cue bytes) ≡ true
     by Preparing l g c = l
     by Decided l g c = g
     by (Cancelling r) l g c = join (live_rests s es a.seq) _ l c
@@ -111,8 +111,11 @@ answers_rest s es t a h [] = refl
 answers_rest s es t a h (x ∷ xs) = by (waits x) (answers_rest s es t a h xs)
   where
     made : ℕ × Order
-    made = (unwrap_or (port_of t.show x.device) 0, order_at a.stage a.seq x.device a.cue
-        (bytes_for x.device (cue_parts t.show a.cue)))
+    made = (
+      unwrap_or (port_of t.show x.device) 0,
+      order_at a.stage a.seq x.device a.cue
+          (bytes_for x.device (cue_parts t.show a.cue)),
+    )
 
     by : (b : Bool) → list_all (λ o. order_rests s es o.1) (filter_map (order_for t a) xs) ≡ true
         → list_all (λ o. order_rests s es o.1)
@@ -184,8 +187,12 @@ unfolding given_heard
 heard_rests s from hs = by (are_too_many hs)
   where
     full : Given
-    full = record { batch = all_events hs; sends =
-        sent_to from (replies_or_one hs) ++ newly_pending s (after_events s (all_events hs)); counts = all_counts hs }
+    full = record {
+      batch = all_events hs;
+      sends =
+          sent_to from (replies_or_one hs) ++ newly_pending s (after_events s (all_events hs));
+      counts = all_counts hs;
+    }
 
     by : (b : Bool) → given_rests s (if b then given_refused from refusal.TooMany else full)
     by true = refl
@@ -199,13 +206,13 @@ datagram_rests : (s : ShowState) (now from : ℕ) (r : Result (List Content) Ref
 datagram_rests s now from (Err why) = refl
 datagram_rests s now from (Ok ms) = heard_rests s from (hear_all s now from ms)
 
-pub input_rests : (s : ShowState) (now : ℕ) (i : Input) → given_rests s (given s now i)
-unfolding given
+pub input_rests : (s : ShowState) (now : ℕ) (i : Input) → given_rests s (given_of s now i)
+unfolding given_of
 input_rests s now (datagram from bytes) = datagram_rests s now from (messages_in now bytes)
 input_rests s now tick = all_pending_rest s (events_at s (ticked now))
 
 happening_rests : (s : ShowState) (h : Happening) → given_rests s (given_at s h)
-unfolding closed
+unfolding closed_state
 happening_rests s (took now input) = input_rests s now input
 happening_rests s runs.recovered = all_pending_rest s (events_at s recovered)
 
@@ -232,7 +239,7 @@ more s es fs (order (go_2pc q d)) h = rw any-append (or_swap (is_decided_in s q)
 more s es fs (order (cancel q d)) h =
     let w = both (is_live_in s q || list_any (is_start_of q) es) _ h in
     join (is_live_in s q || list_any (is_start_of q) (es ++ fs)) _ (live-more s es fs q w.0)
-        (cancelling-more s es fs q w.1)
+    (cancelling-more s es fs q w.1)
 
 live-earlier : (s : ShowState) (es fs : List Event) (q : ℕ)
     → (is_live_in (after_events s es) q || list_any (is_start_of q) fs) ≡ true
@@ -255,8 +262,8 @@ cancelling-earlier : (s : ShowState) (es fs : List Event) (q : ℕ)
     → (is_cancelling_in s q || list_any (is_cancel_of q) (es ++ fs)) ≡ true
 cancelling-earlier s es fs q h =
     rw any-append (either (is_cancelling_in (after_events s es) q) _ _
-        (λ k. or_swap (is_cancelling_in s q) _ _ (cancelling-by-cancel s es q k))
-        (λ k. or_right (is_cancelling_in s q) _ (or_right (list_any (is_cancel_of q) es) _ k)) h)
+    (λ k. or_swap (is_cancelling_in s q) _ _ (cancelling-by-cancel s es q k))
+    (λ k. or_right (is_cancelling_in s q) _ (or_right (list_any (is_cancel_of q) es) _ k)) h)
 
 -- what rests on a later state rests on the earlier one
 pub earlier : (s : ShowState) (es fs : List Event) (m : Send) → send_rests (after_events s es) fs m ≡ true
@@ -268,21 +275,22 @@ earlier s es fs (order (go_2pc q d)) h = decided-earlier s es fs q h
 earlier s es fs (order (cancel q d)) h =
     let w = both (is_live_in (after_events s es) q || list_any (is_start_of q) fs) _ h in
     join (is_live_in s q || list_any (is_start_of q) (es ++ fs)) _ (live-earlier s es fs q w.0)
-        (cancelling-earlier s es fs q w.1)
+    (cancelling-earlier s es fs q w.1)
 
-pub joined-with : (b : List Event) (bs : List (List Event)) → joined (with_batch b bs) ≡ b ++ joined bs
+pub joined-with : (b : List Event) (bs : List (List Event)) → joined_list (with_batch b bs) ≡ b ++ joined_list bs
 joined-with [] bs = refl
 joined-with (e ∷ es) bs = refl
 
 in_front-rests : (s : ShowState) (g : Given) (rest : Story) → given_rests s g
-    → list_all (rests (after_events s g.batch) (joined rest.batches)) rest.sends ≡ true
-    → list_all (rests s (joined (with_batch g.batch rest.batches))) (g.sends ++ rest.sends) ≡ true
+    → list_all (rests (after_events s g.batch) (joined_list rest.batches)) rest.sends ≡ true
+    → list_all (rests s (joined_list (with_batch g.batch rest.batches))) (g.sends ++ rest.sends) ≡ true
 in_front-rests s g rest h k =
-    rw joined-with (all-append (rests s (g.batch ++ joined rest.batches)) g.sends rest.sends
-    (all_implied (rests s g.batch) (rests s (g.batch ++ joined rest.batches))
-        (λ m e. more s g.batch (joined rest.batches) m.1 e) g.sends h)
-    (all_implied (rests (after_events s g.batch) (joined rest.batches)) (rests s (g.batch ++ joined rest.batches))
-        (λ m e. earlier s g.batch (joined rest.batches) m.1 e) rest.sends k))
+    rw joined-with (all-append (rests s (g.batch ++ joined_list rest.batches)) g.sends rest.sends
+    (all_implied (rests s g.batch) (rests s (g.batch ++ joined_list rest.batches))
+    (λ m e. more s g.batch (joined_list rest.batches) m.1 e) g.sends h)
+    (all_implied (rests (after_events s g.batch) (joined_list rest.batches))
+    (rests s (g.batch ++ joined_list rest.batches))
+    (λ m e. earlier s g.batch (joined_list rest.batches) m.1 e) rest.sends k))
 
 pub each_rests : EachRests
 each_rests s [] = refl

@@ -13,9 +13,9 @@ use Rattle.cue_core.specs.declared.refusal.Refusal.TheVariants as refusal
 use Rattle.cue_engine.specs.Heard.{Heard, refused, carried, all_counts, hear_all, all_events, replies_to}
 use Rattle.cue_engine.specs.Heard.{replies_or_one, shown_by, sent_to}
 use Rattle.cue_core.specs.InTurn.{Step}
-use Rattle.cue_engine.specs.Given.{Input, datagram, tick, Given, given, given_by, given_heard, given_refused}
+use Rattle.cue_engine.specs.Given.{Input, datagram, tick, Given, given_of, given_by, given_heard, given_refused}
 use Rattle.cue_engine.specs.Given.{are_too_many, messages_in}
-use Rattle.cue_core.specs.Batches.{closed}
+use Rattle.cue_core.specs.Batches.{closed_state}
 use Rattle.cue_outbox.specs.New.{newly_pending, is_new}
 use Rattle.cue_engine.specs.Runs.{Happening, took, given_at}
 use Rattle.cue_engine.specs.Runs as runs
@@ -64,9 +64,11 @@ module _ (R : Send → Type 0) (els : HoldsElsewhere R) where
 
   reply-each : (h : Heard) → AllByRecursion R (replies_to h)
   reply-each (refused a c) = (els.answers _ _ _ _ _, tt)
-  reply-each (carried a xs) =
-      (els.answers _ _ _ _ _, each_flat (λ x. Unit {0}) R (λ (x : Step). shown_by x.command x.before)
-      (λ x u. shown-each x.command x.before) xs (each xs))
+  reply-each (carried a xs) = (
+    els.answers _ _ _ _ _,
+    each_flat (λ x. Unit {0}) R (λ (x : Step). shown_by x.command x.before)
+        (λ x u. shown-each x.command x.before) xs (each xs),
+  )
 
   replies-each : (hs : List Heard) → AllByRecursion R (replies_or_one hs)
   replies-each [] = (els.answers _ _ _ _ _, tt)
@@ -87,8 +89,12 @@ module _ (R : Send → Type 0) (els : HoldsElsewhere R) where
   heard-each s from hs = by (are_too_many hs)
     where
       full : Given
-      full = record { batch = all_events hs; sends =
-          sent_to from (replies_or_one hs) ++ newly_pending s (after_events s (all_events hs)); counts = all_counts hs }
+      full = record {
+        batch = all_events hs;
+        sends =
+            sent_to from (replies_or_one hs) ++ newly_pending s (after_events s (all_events hs));
+        counts = all_counts hs;
+      }
 
       by : (b : Bool) → HoldsOfSent R s (if b then given_refused from refusal.TooMany else full)
       by true = refused-each s from refusal.TooMany
@@ -101,12 +107,12 @@ module _ (R : Send → Type 0) (els : HoldsElsewhere R) where
   datagram-each s now from (Err why) = refused-each s from why
   datagram-each s now from (Ok ms) = heard-each s from (hear_all s now from ms)
 
-  input-each : (s : ShowState) (now : ℕ) (i : Input) → HoldsOfSent R s (given s now i)
-  unfolding given
+  input-each : (s : ShowState) (now : ℕ) (i : Input) → HoldsOfSent R s (given_of s now i)
+  unfolding given_of
   input-each s now (datagram from bytes) = datagram-each s now from (messages_in now bytes)
   input-each s now tick = λ h. h
 
   pub happening-each : (s : ShowState) (x : Happening) → HoldsOfSent R s (given_at s x)
-  unfolding closed
+  unfolding closed_state
   happening-each s (took now input) = input-each s now input
   happening-each s runs.recovered = λ h. h

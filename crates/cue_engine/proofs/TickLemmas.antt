@@ -32,15 +32,18 @@ pub cancels_few : (test : Attempt → Bool) (r : Reason) (s : ShowState) → IsT
     → length (cancels test r s) ≤ 8
 cancels_few test r s h =
     let same : length (cancels test r s) ≡ length (filter test s.live) =
-        length-map (filter test s.live) (λ (a : Attempt). Cancel a.seq r) in
+    length-map (filter test s.live) (λ (a : Attempt). Cancel a.seq r) in
     omega (arith, live_few s h, few_of test s.live, same)
 
 text_of : (r : Reason) (xs : List Attempt) → length (flat_map event_text (map (λ (a : Attempt). Cancel a.seq r) xs)) ≡ 6
     * length xs
 text_of r [] = refl
-text_of r (a ∷ xs) = omega
-    (arith, text_of r xs, length-append (event_text (Cancel a.seq r))
-    (flat_map event_text (map (λ (b : Attempt). Cancel b.seq r) xs)))
+text_of r (a ∷ xs) = omega (
+  arith,
+  text_of r xs,
+  length-append (event_text (Cancel a.seq r))
+      (flat_map event_text (map (λ (b : Attempt). Cancel b.seq r) xs)),
+)
 
 pub cancels_fit : (test : Attempt → Bool) (r : Reason) (s : ShowState) → IsTrue (is_state s)
     → FitsRecord (cancels test r s)

@@ -12,11 +12,11 @@ use Rattle.cue_core.specs.History.{parts_by}
 use Rattle.cue_core.specs.Pending.{Order}
 use Rattle.cue_core.specs.Safety.{is_order_to, is_go_to, is_cancel_to}
 use Rattle.cue_outbox.specs.Sending.{Send, answer, status, order}
-use Rattle.cue_engine.specs.Runs.{Happening, run, joined}
+use Rattle.cue_engine.specs.Runs.{Happening, run, joined_list}
 
 -- all events that were accepted, from the empty state on, in order
-abbrev pub accepted : List Happening → List Event
-accepted hs = joined (run empty_state hs).batches
+abbrev pub accepted_events : List Happening → List Event
+accepted_events hs = joined_list (run empty_state hs).batches
 
 -- the device of the part stood by in q, or it is optional and was excused
 abbrev pub may_go_after : List Event → ℕ → Part → Bool
@@ -36,13 +36,13 @@ pub record IsDecidedInOrder (q : ℕ) (before later : List Event) : Type 0 where
 -- Go of an attempt is accepted only after Ready of each required device, after Ready or Excuse of each optional one,
 -- and after no Cancel; and no Cancel is accepted after it.
 abbrev pub DecidedInOrder : Type 0
-DecidedInOrder = (hs : List Happening) (q : ℕ) (before later : List Event) → accepted hs ≡ before ++ Go q ∷ later
+DecidedInOrder = (hs : List Happening) (q : ℕ) (before later : List Event) → accepted_events hs ≡ before ++ Go q ∷ later
     → IsDecidedInOrder q before later
 
 -- A number names one attempt for good: no other Start has it.
 abbrev pub NumberNamesOne : Type 0
 NumberNamesOne = (hs : List Happening) (q : ℕ) (cue : List ℕ) (deadline : ℕ) (before later : List Event)
-    → accepted hs ≡ before ++ Start q cue deadline ∷ later
+    → accepted_events hs ≡ before ++ Start q cue deadline ∷ later
     → IsTrue (not (list_any (is_start_of q) before) && not (list_any (is_start_of q) later))
 
 -- a datagram that is a command with this test
@@ -58,7 +58,7 @@ was_sent test hs = list_any (λ m. is_command test m.1) (run empty_state hs).sen
 -- Once a device is done with in an attempt, since it has answered for the last time or was excused, nothing more is
 -- sent to it there, whatever comes later.
 abbrev pub NothingMoreIsSent : Type 0
-NothingMoreIsSent = (hs later : List Happening) (q d : ℕ) → IsTrue (list_any (is_end_of q d) (accepted hs))
+NothingMoreIsSent = (hs later : List Happening) (q d : ℕ) → IsTrue (list_any (is_end_of q d) (accepted_events hs))
     → IsTrue (not (list_any (λ m. is_command (is_order_to q d) m.1) (run (run empty_state hs).state later).sends))
 
 -- No device is ever sent both GO_2PC and CANCEL in one attempt.

@@ -6,7 +6,7 @@ use Rattle.cue_core.specs.Steps.{after_events}
 use Rattle.cue_outbox.specs.Sending.{Send}
 use Rattle.cue_outbox.specs.Views.{outs_view}
 use Rattle.cue_engine.specs.declared.offers.Offered.{Offered}
-use Rattle.cue_engine.specs.Given.{Input, given}
+use Rattle.cue_engine.specs.Given.{Input, given_of}
 use Rattle.cue_keeper.specs.Groups.{with_events}
 use Rattle.cue_keeper.specs.Stands.{folded_all}
 use Rattle.cue_engine.specs.Runs.{Happening, took, run}
@@ -14,12 +14,12 @@ use Rattle.cue_engine.specs.Runs.{Happening, took, run}
 -- the batch of each input, in order; one that changes nothing has an empty batch
 abbrev pub batches_given : ShowState → List (ℕ × Input) → List (List Event)
 batches_given s [] = []
-batches_given s (i ∷ is) = (given s i.0 i.1).batch ∷ batches_given (after_events s (given s i.0 i.1).batch) is
+batches_given s (i ∷ is) = (given_of s i.0 i.1).batch ∷ batches_given (after_events s (given_of s i.0 i.1).batch) is
 
 -- all that is sent for them, in order
 abbrev pub sends_given : ShowState → List (ℕ × Input) → List (ℕ × Send)
 sends_given s [] = []
-sends_given s (i ∷ is) = (given s i.0 i.1).sends ++ sends_given (after_events s (given s i.0 i.1).batch) is
+sends_given s (i ∷ is) = (given_of s i.0 i.1).sends ++ sends_given (after_events s (given_of s i.0 i.1).batch) is
 
 -- inputs as a run takes them
 abbrev pub all_took : List (ℕ × Input) → List Happening

@@ -8,14 +8,14 @@ use Rattle.cue_snap.specs.Pair.{NeitherHas, IsSpoiled}
 use Rattle.cue_core.specs.declared.event.Event.{Event}
 use Rattle.cue_core.specs.State.{ShowState, empty_state, is_state}
 use Rattle.cue_core.specs.Steps.{after_events}
-use Rattle.cue_core.specs.Batches.{closed}
+use Rattle.cue_core.specs.Batches.{closed_state}
 use Rattle.cue_keeper.specs.Stands.{Stands, StandsAs}
 use Rattle.cue_keeper.specs.Refusals.{HasOtherVersion, StandsForNone}
 use Rattle.cue_outbox.specs.Sending.{Send, all_pending, datagrams}
-use Rattle.cue_engine.specs.Given.{given, given_recovery}
+use Rattle.cue_engine.specs.Given.{given_of, given_recovery}
 use Rattle.cue_engine.specs.Groups.{batches_given}
 use Rattle.cue_engine.specs.Recovery.{ClosedFrom}
-use Rattle.cue_engine.specs.Runs.{with_batch, joined, rests}
+use Rattle.cue_engine.specs.Runs.{with_batch, joined_list, rests}
 use Rattle.cue_engine.specs.InBytes.{BytesRest}
 use Rattle.cue_engine.specs.Incidents.{Incident, taken, handed_out, stopped, stopped_in_take, stopped_in_commit}
 use Rattle.cue_engine.specs.Incidents.{recovered, stopped_in_recovery, Store, running, at_rest, unformed, LeavesOnly}
@@ -46,9 +46,9 @@ all_handed store (i ∷ is) = handed_in store i ++ all_handed (left_by store i) 
 -- The batch that an incident brings to the state before it. Those of a `commit` that was cut off count as one: they are
 -- kept together or not at all.
 abbrev pub batch_of : ShowState → Incident → List Event
-batch_of s (taken now input) = (given s now input).batch
-batch_of s (stopped_in_take now input n one other) = (given s now input).batch
-batch_of s (stopped_in_commit inputs n one other) = joined (batches_given s inputs)
+batch_of s (taken now input) = (given_of s now input).batch
+batch_of s (stopped_in_take now input n one other) = (given_of s now input).batch
+batch_of s (stopped_in_commit inputs n one other) = joined_list (batches_given s inputs)
 batch_of s (recovered t) = (given_recovery s).batch
 batch_of s (stopped_in_recovery one other) = (given_recovery s).batch
 batch_of s _ = []
@@ -100,9 +100,9 @@ HasState (unformed one other) x y s = (s ≡ empty_state) × (NeitherHas x y ⊎
 pub record CameTo (s : ShowState) (store : Store) (is : List Incident) (x y : List ℕ) : Type 0 where
   pub kept : List (List Event)
   pub prefix : AreKept s is kept
-  pub has : HasState (left_by_all store is) x y (after_events s (joined kept))
-  pub decided : IsTrue (list_all (rests s (joined kept)) (all_handed store is))
-  pub in_bytes : AllByRecursion (λ d. BytesRest s (joined kept) d.1) (datagrams (all_handed store is))
+  pub has : HasState (left_by_all store is) x y (after_events s (joined_list kept))
+  pub decided : IsTrue (list_all (rests s (joined_list kept)) (all_handed store is))
+  pub in_bytes : AllByRecursion (λ d. BytesRest s (joined_list kept) d.1) (datagrams (all_handed store is))
 
 -- Whatever happens to a store, it comes to that.
 abbrev pub WhateverHappens : Type 0
@@ -132,11 +132,11 @@ pub record IsPromised (s : ShowState) (store : Store) (is : List Incident) (x y 
   pub prefix : AreKept s is kept
   pub readable : IsReadable x y
   pub gives : (t : ShowState) (queue : List (ℕ × List ℕ)) → IsAnswered x y t queue
-      → t ≡ closed (after_events s (joined kept))
+      → t ≡ closed_state (after_events s (joined_list kept))
   pub owes : (t : ShowState) (queue : List (ℕ × List ℕ)) → IsAnswered x y t queue
-      → queue ≡ datagrams (all_pending (closed (after_events s (joined kept))))
-  pub decided : IsTrue (list_all (rests s (joined kept)) (all_handed store is))
-  pub in_bytes : AllByRecursion (λ d. BytesRest s (joined kept) d.1) (datagrams (all_handed store is))
+      → queue ≡ datagrams (all_pending (closed_state (after_events s (joined_list kept))))
+  pub decided : IsTrue (list_all (rests s (joined_list kept)) (all_handed store is))
+  pub in_bytes : AllByRecursion (λ d. BytesRest s (joined_list kept) d.1) (datagrams (all_handed store is))
 
 -- The promise: for every list of inputs, and stops before, within or after any write, also within recovery, one after
 -- the other; whatever the disks then read as.

@@ -8,7 +8,7 @@ use Rattle.cue_core.specs.declared.event.Event.{Event}
 use Rattle.cue_core.specs.Events.{is_cancel_of, is_go_of, is_start_of}
 use Rattle.cue_core.specs.State.{ShowState, is_state}
 use Rattle.cue_outbox.specs.Sending.{number, datagrams}
-use Rattle.cue_engine.specs.Runs.{Happening, is_cancelling_in, run, joined}
+use Rattle.cue_engine.specs.Runs.{Happening, is_cancelling_in, run, joined_list}
 use Rattle.cue_core.specs.Batches.{is_live_in, is_decided_in}
 
 -- the bytes are read as a message to this address about the attempt with this number
@@ -31,4 +31,4 @@ pub record BytesRest (s : ShowState) (es : List Event) (bytes : List ℕ) : Type
 -- The bytes of each datagram of a run, recoveries in between or not, rest on the first state and the batches.
 abbrev pub BytesOfEachRest : Type 0
 BytesOfEachRest = (s : ShowState) (hs : List Happening) → IsTrue (is_state s)
-    → AllByRecursion (λ d. BytesRest s (joined (run s hs).batches) d.1) (datagrams (run s hs).sends)
+    → AllByRecursion (λ d. BytesRest s (joined_list (run s hs).batches) d.1) (datagrams (run s hs).sends)

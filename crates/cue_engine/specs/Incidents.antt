@@ -10,7 +10,7 @@ use Rattle.cue_core.specs.Steps.{after_events}
 use Rattle.cue_keeper.specs.Stands.{StandsEither, StandsAs, first_area, folded_all}
 use Rattle.cue_outbox.specs.Sending.{Send, all_pending}
 use Rattle.cue_snap.specs.Pair.{IsUnformedOr}
-use Rattle.cue_engine.specs.Given.{Input, given}
+use Rattle.cue_engine.specs.Given.{Input, given_of}
 use Rattle.cue_engine.specs.Groups.{batches_given}
 use Rattle.cue_engine.specs.Recovery.{ClosedFrom, IsLeftOrStands}
 
@@ -76,7 +76,7 @@ PermitsRunning s (taken now input) = Unit {0}
 PermitsRunning s handed_out = Unit {0}
 PermitsRunning s (stopped n one other) = StandsAs one other s
 PermitsRunning s (stopped_in_take now input n one other) =
-    LeavesOnly one other (StandsEither s (after_events s (given s now input).batch))
+    LeavesOnly one other (StandsEither s (after_events s (given_of s now input).batch))
 PermitsRunning s (stopped_in_commit inputs n one other) =
     LeavesOnly one other (StandsEither s (folded_all s (batches_given s inputs)))
 PermitsRunning s _ = ⊥
@@ -113,8 +113,8 @@ Permits (unformed one other) i = PermitsUnformed one other i
 
 -- an engine that took an input has the state after the batch, and owes what is sent for it, too
 abbrev pub having_taken : Store → ℕ → Input → Store
-having_taken (running s owed) now input = running (after_events s (given s now input).batch)
-    (owed ++ (given s now input).sends)
+having_taken (running s owed) now input = running (after_events s (given_of s now input).batch)
+    (owed ++ (given_of s now input).sends)
 having_taken (at_rest one other) now input = at_rest one other
 having_taken (unformed one other) now input = unformed one other
 

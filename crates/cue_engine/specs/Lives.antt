@@ -6,10 +6,10 @@ use Rattle.cue_snap.specs.Pair.{AfterBarrier}
 use Rattle.cue_core.specs.declared.event.Event.{Event}
 use Rattle.cue_core.specs.State.{ShowState, is_state}
 use Rattle.cue_core.specs.Steps.{after_events}
-use Rattle.cue_core.specs.Batches.{closed}
+use Rattle.cue_core.specs.Batches.{closed_state}
 use Rattle.cue_outbox.specs.Sending.{Send, all_pending, datagrams}
 use Rattle.cue_engine.specs.Given.{Input}
-use Rattle.cue_engine.specs.Runs.{joined, rests}
+use Rattle.cue_engine.specs.Runs.{joined_list, rests}
 use Rattle.cue_engine.specs.InBytes.{BytesRest}
 use Rattle.cue_engine.specs.Incidents.{Incident, taken, stopped_in_take, stopped_in_commit, Store, running, at_rest}
 use Rattle.cue_engine.specs.Incidents.{unformed, Happens, left_by_all}
@@ -109,7 +109,7 @@ pub record IsGivenBack (s : ShowState) (store : Store) (is : List Incident) (sta
     (queue : List (ℕ × List ℕ)) : Type 0 where
   pub kept : List (List Event)
   pub prefix : AreKept s is kept
-  pub gives : state ≡ closed (after_events s (joined kept))
-  pub owes : queue ≡ datagrams (all_pending (closed (after_events s (joined kept))))
-  pub decided : IsTrue (list_all (rests s (joined kept)) (all_handed store is))
-  pub in_bytes : AllByRecursion (λ d. BytesRest s (joined kept) d.1) (datagrams (all_handed store is))
+  pub gives : state ≡ closed_state (after_events s (joined_list kept))
+  pub owes : queue ≡ datagrams (all_pending (closed_state (after_events s (joined_list kept))))
+  pub decided : IsTrue (list_all (rests s (joined_list kept)) (all_handed store is))
+  pub in_bytes : AllByRecursion (λ d. BytesRest s (joined_list kept) d.1) (datagrams (all_handed store is))

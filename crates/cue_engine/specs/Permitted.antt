@@ -5,14 +5,14 @@
 -- `is_honest` are those of the disk's trait.
 use Rattle.std.specs.Prelude.{◌≡◌, ◌⊎◌, ◌≤◌, ℕ, List}
 use Rattle.cue_disk.specs.Disk.{Contents, IsImage, LeavesAtEachMoment}
-use Rattle.cue_disk.specs.Effect.{settled}
+use Rattle.cue_disk.specs.Effect.{settled_contents}
 use Rattle.cue_snap.specs.Pair.{AfterBarrier, IsUnformedOr}
 use Rattle.cue_core.specs.State.{ShowState, empty_state}
 use Rattle.cue_core.specs.Steps.{after_events}
 use Rattle.cue_keeper.specs.Pairs.{LeavesPairsAtEachMoment}
 use Rattle.cue_keeper.specs.Stands.{StandsEither, StandsAs, first_area, folded_all}
 use Rattle.cue_outbox.specs.Sending.{Send}
-use Rattle.cue_engine.specs.Given.{Input, given}
+use Rattle.cue_engine.specs.Given.{Input, given_of}
 use Rattle.cue_engine.specs.Groups.{batches_given}
 use Rattle.cue_engine.specs.Recovery.{ClosedFrom, IsLeftOrStands}
 use Rattle.cue_engine.specs.Incidents.{stopped_in_form, stopped, stopped_in_take, stopped_in_commit, recovered}
@@ -44,7 +44,7 @@ IsOnDisks store one other = (store ≡ at_rest one other) ⊎ (store ≡ unforme
 -- Disks that power loss left with these bytes, and nothing else, are within what they held.
 abbrev pub PowerLossIsWithin : Type 0
 PowerLossIsWithin = (then_held : Contents) (bytes : List ℕ) → IsImage then_held bytes
-    → IsWithin then_held (settled bytes)
+    → IsWithin then_held (settled_contents bytes)
 
 -- Between two calls (`accepts` of `take`, `stands` of `form`, `recover` and `close`): a stop is permitted.
 abbrev pub StopIsPermitted : {D : Type 0} (held : D → Contents) → Type 0
@@ -60,7 +60,7 @@ StopInTakeIsPermitted {D} moment held_at =
     (s : ShowState) (owed : List (ℕ × Send)) (now : ℕ) (input : Input) (n : ℕ) (a b new_a new_b : D) (i j : ℕ)
     (one other : Contents)
     → LeavesPairsAtEachMoment moment held_at a b new_a new_b
-    (StandsEither s (after_events s (given s now input).batch))
+    (StandsEither s (after_events s (given_of s now input).batch))
     → IsFromTo (moment a) (moment new_a) i → IsFromTo (moment b) (moment new_b) j
     → IsWithin (held_at new_a i) one → IsWithin (held_at new_b j) other
     → Permits (running s owed) (stopped_in_take now input n one other)

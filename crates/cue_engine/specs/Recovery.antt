@@ -12,13 +12,13 @@ use Rattle.cue_keeper.specs.declared.fault.StoreFault.{StoreFault}
 use Rattle.cue_keeper.specs.declared.fault.StoreFault.TheVariants as store
 use Rattle.cue_keeper.specs.Due.{is_due}
 use Rattle.cue_keeper.specs.Stands.{StandsFor, Stands, StandsEither}
-use Rattle.cue_core.specs.Batches.{closed}
+use Rattle.cue_core.specs.Batches.{closed_state}
 
 -- The two stand for a state, and closed it is this one.
 pub record ClosedFrom (x y : List ℕ) (s : ShowState) : Type 0 where
   pub before : ShowState
   pub stood : Stands x y before
-  pub is : s ≡ closed before
+  pub is : s ≡ closed_state before
 
 -- What a crash might have left stood for a state, and now the two stand for that state or for its closed one.
 pub record StandsSince (then_a then_b : Contents) (x y : List ℕ) : Type 0 where
@@ -28,7 +28,7 @@ pub record StandsSince (then_a then_b : Contents) (x y : List ℕ) : Type 0 wher
   pub left_second : IsImage then_b second
   pub before : ShowState
   pub stood : Stands first second before
-  pub stands : StandsEither before (closed before) x y
+  pub stands : StandsEither before (closed_state before) x y
 
 -- both are images of then, or they stand for what such images stood for, closed or not
 abbrev pub IsLeftOrStands : Contents → Contents → List ℕ → List ℕ → Type 0

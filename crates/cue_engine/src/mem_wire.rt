@@ -1,7 +1,7 @@
 //! A wire in memory, for tests and for scripts: it tells all that was handed to it, and it can be told to refuse.
 ghost use Rattle.std.specs.Prelude.{◌≡◌, ◌-◌, [], ◌∷◌, Some, None, is_err, nat_eq, IsSome, MatchOption, OnOk};
 ghost use Rattle.cue_engine.specs.Told.{sents_view, told_by, refuse_in_of, IsAsPlanned};
-ghost use Rattle.cue_engine.specs.Wires.{Grew, handed};
+ghost use Rattle.cue_engine.specs.Wires.{Grew, handed_as};
 
 use crate::wire::{Wire, WireFault};
 use std::alloc::{AllocError, Global};
@@ -71,7 +71,7 @@ impl MemWire {
 
     // Keeps what was handed over, where the wire tells and there is memory for it.
     fn keep(&mut self, to: u16, bytes: &[u8], refused: bool) -> Result<(), AllocError>
-        ensures kept { OnOk result (Grew (told_by self.old) (handed ((to, bytes.now) ∷ []) (refused ∷ []))
+        ensures kept { OnOk result (Grew (told_by self.old) (handed_as ((to, bytes.now) ∷ []) (refused ∷ []))
             (told_by self.new)) }
         ensures tells { self.new.tells ≡ self.old.tells }
         ensures plan { self.new.refuse_in ≡ self.old.refuse_in }
@@ -89,7 +89,7 @@ impl Wire for MemWire {
     ghost told = { told_by };
 
     fn send(&mut self, to: u16, bytes: &[u8]) -> Result<(), WireFault>
-        ensures told { Grew (told_by self.old) (handed ((to, bytes.now) ∷ []) (is_err result ∷ [])) (told_by self.new) }
+        ensures told { Grew (told_by self.old) (handed_as ((to, bytes.now) ∷ []) (is_err result ∷ [])) (told_by self.new) }
         ensures refused { IsAsPlanned (refuse_in_of self.old) (is_err result) (told_by self.new) }
         ensures counted { refuse_in_of self.new ≡ refuse_in_of self.old - 1 }
     {

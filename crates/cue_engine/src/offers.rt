@@ -4,7 +4,7 @@ ghost use Rattle.std.specs.Prelude.{IfOk, OnOk, OnErr, MatchResult, IsTrue};
 ghost use Rattle.cue_core.specs.Steps.{after_events, are_acceptable};
 ghost use Rattle.cue_outbox.specs.Sending.{datagrams};
 ghost use Rattle.cue_outbox.specs.Views.{outs_view};
-ghost use Rattle.cue_engine.specs.Given.{given};
+ghost use Rattle.cue_engine.specs.Given.{given_of};
 ghost use Rattle.cue_engine.specs.Inputs.{input_view};
 ghost use Rattle.cue_engine.specs.Takes.{FitsRecord, CanFollow, Follows, InStep, IsAhead};
 ghost use Rattle.cue_records.specs.Batch.{is_batch};
@@ -83,10 +83,10 @@ pub(crate) fn offer_first(
     ensures marked { draft.new.is_valid ≡ false }
     ensures ahead { IfOk result (λ first. IsAhead kept.now draft.new first.0) }
     ensures group { IfOk result (λ first. first.0.group
-        ≡ (given kept.now now (input_view input.entry)).batch ∷ []) }
+        ≡ (given_of kept.now now (input_view input.entry)).batch ∷ []) }
     ensures sends { IfOk result (λ first. outs_view first.0.sends.items
-        ≡ datagrams (given kept.now now (input_view input.entry)).sends) }
-    ensures counts { IfOk result (λ first. first.1 ≡ (given kept.now now (input_view input.entry)).counts) }
+        ≡ datagrams (given_of kept.now now (input_view input.entry)).sends) }
+    ensures counts { IfOk result (λ first. first.1 ≡ (given_of kept.now now (input_view input.entry)).counts) }
     ensures spare { MatchResult result (λ _. InStep draft.new.state spare.new) (λ _. InStep kept.now spare.new) }
 {
     let _last = kept.last_seq();
@@ -112,16 +112,16 @@ pub(crate) fn offer_next(
     ensures marked { draft.new.is_valid ≡ false }
     ensures draft { MatchResult result
         (λ _. draft.new.state ≡ after_events draft.old.state
-        (given draft.old.state now (input_view input.entry)).batch)
+        (given_of draft.old.state now (input_view input.entry)).batch)
         (λ _. draft.new.state ≡ draft.old.state) }
     ensures in_turn { OnOk result (IsTrue (are_acceptable draft.old.state
-        (given draft.old.state now (input_view input.entry)).batch)) }
+        (given_of draft.old.state now (input_view input.entry)).batch)) }
     ensures group { OnOk result (offered.new.group
-        ≡ offered.old.group ++ (given draft.old.state now (input_view input.entry)).batch ∷ []) }
+        ≡ offered.old.group ++ (given_of draft.old.state now (input_view input.entry)).batch ∷ []) }
     ensures sends { OnOk result (outs_view offered.new.sends.items
         ≡ outs_view offered.old.sends.items
-        ++ datagrams (given draft.old.state now (input_view input.entry)).sends) }
-    ensures counts { IfOk result (λ counts. counts ≡ (given draft.old.state now (input_view input.entry)).counts) }
+        ++ datagrams (given_of draft.old.state now (input_view input.entry)).sends) }
+    ensures counts { IfOk result (λ counts. counts ≡ (given_of draft.old.state now (input_view input.entry)).counts) }
     ensures same { OnErr result ((offered.new.group ≡ offered.old.group)
         × (outs_view offered.new.sends.items ≡ outs_view offered.old.sends.items)) }
     ensures spare { InStep draft.new.state spare.new }

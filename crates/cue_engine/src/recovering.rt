@@ -6,7 +6,7 @@ ghost use Rattle.cue_core.specs.Steps.{are_acceptable};
 ghost use Rattle.cue_keeper.specs.Accepting.{Accepts};
 ghost use Rattle.cue_keeper.specs.Observed.{state_of, is_broken};
 ghost use Rattle.cue_outbox.specs.Sending.{datagrams, all_pending};
-ghost use Rattle.cue_core.specs.Batches.{closed};
+ghost use Rattle.cue_core.specs.Batches.{closed_state};
 ghost use Rattle.cue_engine.specs.Takes.{FitsRecord, CanFollow, Follows, InStep};
 
 use crate::drafts::{Draft, sync_to};
@@ -50,11 +50,11 @@ fn close_on(
     requires can_follow { CanFollow draft.old }
     requires follows { Follows kept.now draft.old }
     ensures marked { draft.new.is_valid ≡ false }
-    ensures draft { OnOk result (draft.new.state ≡ closed kept.now) }
+    ensures draft { OnOk result (draft.new.state ≡ closed_state kept.now) }
     ensures batch { IfOk result (λ r. r.0.items ≡ events_at kept.now recovered) }
     ensures acceptable { IfOk result (λ r. IsTrue (are_acceptable kept.now r.0.items)) }
     ensures fits { IfOk result (λ r. FitsRecord r.0.items) }
-    ensures queue { IfOk result (λ r. r.1 ≡ datagrams (all_pending (closed kept.now))) }
+    ensures queue { IfOk result (λ r. r.1 ≡ datagrams (all_pending (closed_state kept.now))) }
 {
     sync_to(kept, draft)?;
     let batch = cancels_undecided(alloc, kept)?;
@@ -76,7 +76,7 @@ pub(crate) fn close_undecided<D: Disk>(
     requires follows { Follows (state_of keeper.old) draft.old }
 
     ensures accepts { Accepts (events_at (state_of keeper.old) recovered) (result_err result) keeper.old keeper.new }
-    ensures queue { IfOk result (λ queue. queue ≡ datagrams (all_pending (closed (state_of keeper.old)))) }
+    ensures queue { IfOk result (λ queue. queue ≡ datagrams (all_pending (closed_state (state_of keeper.old)))) }
     ensures draft { InStep (state_of keeper.new) draft.new }
 {
     let _broken = keeper.is_broken();

@@ -31,5 +31,5 @@ abbrev pub is_new : ℕ → Attempt → Bool
 is_new last attempt = nat_lt last attempt.seq && is_preparing attempt.stage
 
 -- the device that the log names for an attempt
-abbrev pub named : ℕ → Attempt → Option ℕ
-named last attempt = if is_new last attempt then alone_required attempt.answers else None
+abbrev pub named_device : ℕ → Attempt → Option ℕ
+named_device last attempt = if is_new last attempt then alone_required attempt.answers else None

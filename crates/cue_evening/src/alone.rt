@@ -7,7 +7,7 @@ ghost use Rattle.cue_evening.specs.Alone.{
   first_required,
   alone_required,
   is_new,
-  named,
+  named_device,
 };
 
 use cue_exchange::{Answers, Attempt};
@@ -59,7 +59,7 @@ fn alone_required(answers: &Answers) -> Option<DeviceNo>
 /// The device that alone is required of an attempt that is Preparing and began after the one with this number, where
 /// other devices of it are optional.
 pub fn named(last: u32, attempt: &Attempt) -> Option<DeviceNo>
-    ensures { result ≡ named last attempt.now }
+    ensures { result ≡ named_device last attempt.now }
 {
     if attempt.seq > last && attempt.stage.is_preparing() {
         alone_required(&attempt.answers)

@@ -13,7 +13,7 @@ use Rattle.cue_exchange.specs.declared.attempt.Stage.TheVariants.{Preparing, Dec
 use Rattle.cue_exchange.specs.declared.attempt.DeviceAnswer.{DeviceAnswer}
 use Rattle.cue_exchange.specs.Answers.{is_waiting, is_preparing, is_decided, is_cancelling, is_concluding, is_known_in}
 use Rattle.cue_exchange.specs.Answers.{is_excused, is_required, has_required, entering, enters, stands, answers_with}
-use Rattle.cue_exchange.specs.Answers.{first_answers, entered, with_answer, some_waits, devices_of}
+use Rattle.cue_exchange.specs.Answers.{first_answers, answers_on_entry, with_answer, some_waits, devices_of}
 use Rattle.cue_exchange.specs.Live.{is_open}
 use Rattle.cue_exchange.proofs.ListLemmas.{both, join, all_given, all_map}
 
@@ -135,7 +135,8 @@ pub devices_of-with_answer : (d : ℕ) (x : Answer) (answers : List DeviceAnswer
 devices_of-with_answer d x [] = refl
 devices_of-with_answer d x (y ∷ ys) = ap (λ ds. y.device ∷ ds) (devices_of-with_answer d x ys)
 
-pub devices_of-entered : (s : Stage) (answers : List DeviceAnswer) → devices_of (entered s answers) ≡ devices_of answers
+pub devices_of-entered : (s : Stage) (answers : List DeviceAnswer)
+    → devices_of (answers_on_entry s answers) ≡ devices_of answers
 devices_of-entered s [] = refl
 devices_of-entered s (y ∷ ys) = ap (λ ds. y.device ∷ ds) (devices_of-entered s ys)
 
@@ -151,7 +152,7 @@ has_required-with_answer d x [] = refl
 has_required-with_answer d x (y ∷ ys) = ap (λ b. is_required y || b) (has_required-with_answer d x ys)
 
 pub has_required-entered : (s : Stage) (answers : List DeviceAnswer)
-    → has_required (entered s answers) ≡ has_required answers
+    → has_required (answers_on_entry s answers) ≡ has_required answers
 has_required-entered s [] = refl
 has_required-entered s (y ∷ ys) = ap (λ b. is_required y || b) (has_required-entered s ys)
 
@@ -184,20 +185,20 @@ pub all_stand-with_answer : (s : Stage) (d : ℕ) (x : Answer) (answers : List D
 all_stand-with_answer s d x answers known none h =
     all_map (stands s) (answers_with d x) answers
     (all_given (stands s) (λ y. not (nat_eq y.device d && (is_required y && is_excused x)))
-        (λ y. stands s (answers_with d x y))
+    (λ y. stands s (answers_with d x y))
     (λ y k n. cond_both (nat_eq y.device d) x y.answer
-        (λ z. IsTrue (is_known_in s z && not (is_required y && is_excused z)))
+    (λ z. IsTrue (is_known_in s z && not (is_required y && is_excused z)))
     (λ e. join (is_known_in s x) (not (is_required y && is_excused x)) known (rw e at n)) (λ e. k)) answers h none)
 
 pub all_stand-entered : (s t : Stage) (answers : List DeviceAnswer) → IsTrue (list_all (stands s) answers)
-    → IsTrue (list_all (stands t) (entered t answers))
+    → IsTrue (list_all (stands t) (answers_on_entry t answers))
 all_stand-entered s t [] h = refl
 all_stand-entered s t (y ∷ ys) h =
     let k : IsTrue (stands s y) × IsTrue (list_all (stands s) ys) = both (stands s y) (list_all (stands s) ys) h in
     let fits : IsTrue (is_known_in s y.answer) × IsTrue (not (is_required y && is_excused y.answer)) =
-        both (is_known_in s y.answer) (not (is_required y && is_excused y.answer)) k.0 in
-    join (stands t (enters t y)) (list_all (stands t) (entered t ys))
-        (stands-entering t (is_required y) y.answer fits.1) (all_stand-entered s t ys k.1)
+    both (is_known_in s y.answer) (not (is_required y && is_excused y.answer)) k.0 in
+    join (stands t (enters t y)) (list_all (stands t) (answers_on_entry t ys))
+    (stands-entering t (is_required y) y.answer fits.1) (all_stand-entered s t ys k.1)
 
 stands-first_answer : (required : Bool) → IsTrue (not (required && false))
 stands-first_answer true = refl
@@ -215,15 +216,15 @@ required-waits t true x h k = is_waiting-entering t x h
 required-waits t false x h k = (cc)
 
 pub some_waits-entered : (s t : Stage) (answers : List DeviceAnswer) → IsTrue (has_required answers)
-    → IsTrue (list_all (stands s) answers) → IsTrue (some_waits (entered t answers))
+    → IsTrue (list_all (stands s) answers) → IsTrue (some_waits (answers_on_entry t answers))
 some_waits-entered s t [] some h = some
 some_waits-entered s t (y ∷ ys) some h =
     let k : IsTrue (stands s y) × IsTrue (list_all (stands s) ys) = both (stands s y) (list_all (stands s) ys) h in
     let fits : IsTrue (is_known_in s y.answer) × IsTrue (not (is_required y && is_excused y.answer)) =
-        both (is_known_in s y.answer) (not (is_required y && is_excused y.answer)) k.0 in
+    both (is_known_in s y.answer) (not (is_required y && is_excused y.answer)) k.0 in
     ⊎_elim
-    (λ (r : is_required y ≡ true). or_left (is_waiting (entering t y.answer)) (some_waits (entered t ys))
-        (required-waits t (is_required y) y.answer fits.1 r))
-    (λ (r : has_required ys ≡ true). or_right (is_waiting (entering t y.answer)) (some_waits (entered t ys))
-        (some_waits-entered s t ys r k.1))
+    (λ (r : is_required y ≡ true). or_left (is_waiting (entering t y.answer)) (some_waits (answers_on_entry t ys))
+    (required-waits t (is_required y) y.answer fits.1 r))
+    (λ (r : has_required ys ≡ true). or_right (is_waiting (entering t y.answer)) (some_waits (answers_on_entry t ys))
+    (some_waits-entered s t ys r k.1))
     (or_cases (is_required y) (has_required ys) some)

@@ -27,7 +27,7 @@ disjoint-devices_of (x ∷ xs) ys = rw (is_among-devices_of x.device ys, disjoin
 -- no device twice: the first is not one of the rest, and no device of the rest is there twice
 pub distinct-first : (items : List DeviceAnswer) (x : DeviceAnswer) → 1 ≤ length items → x ≡ get_or items 0 x
     → distinct (devices_of items) ≡ (not (is_one_of x.device (take (length items - 1) (drop 1 items))) && distinct
-        (devices_of (take (length items - 1) (drop 1 items))))
+    (devices_of (take (length items - 1) (drop 1 items))))
 distinct-first [] x h e = absurd (omega arith)
 distinct-first (y ∷ ys) x h e =
     let rest : take (length (y ∷ ys) - 1) ys ≡ ys = take_all (length (y ∷ ys) - 1) ys (omega arith) in
@@ -41,7 +41,7 @@ passes-is_one_of d test (x ∷ xs) h = by (nat_eq x.device d) (test x) h (passes
   where
     by : (same passes : Bool) → IsTrue ((same && passes) || list_any (λ y. nat_eq y.device d && test y) xs)
         → (IsTrue (list_any (λ y. nat_eq y.device d && test y) xs) → IsTrue (is_one_of d xs))
-            → IsTrue (same || is_one_of d xs)
+        → IsTrue (same || is_one_of d xs)
     by true passes k later = refl
     by false passes k later = later k
 
@@ -51,7 +51,7 @@ none-passes : (d : ℕ) (test : DeviceAnswer → Bool) (xs : List DeviceAnswer) 
 none-passes d test [] h = refl
 none-passes d test (x ∷ xs) h =
     let parts : (nat_eq x.device d ≡ false) × (is_one_of d xs ≡ false) =
-        or_parts (nat_eq x.device d) (is_one_of d xs) h in
+    or_parts (nat_eq x.device d) (is_one_of d xs) h in
     rw parts.0 (none-passes d test xs parts.1)
 
 -- no device is there twice, so a test of one with the number is a test of each that has it
@@ -61,9 +61,9 @@ pub only_one_device : (d : ℕ) (test : DeviceAnswer → Bool) (xs : List Device
 only_one_device d test [] apart h = refl
 only_one_device d test (x ∷ xs) apart h =
     let s : IsTrue (not (is_among x.device (devices_of xs))) × IsTrue (distinct (devices_of xs)) =
-        both (not (is_among x.device (devices_of xs))) (distinct (devices_of xs)) apart in
+    both (not (is_among x.device (devices_of xs))) (distinct (devices_of xs)) apart in
     let absent : is_one_of x.device xs ≡ false = sym (is_among-devices_of x.device xs)
-        ∙ not-true (is_among x.device (devices_of xs)) s.0 in
+    ∙ not-true (is_among x.device (devices_of xs)) s.0 in
     by (nat_eq x.device d) refl (test x) h absent (only_one_device d test xs s.1)
   where
     one : (passes : Bool) → is_one_of d xs ≡ false → IsTrue (passes || list_any (λ y. nat_eq y.device d && test y) xs)
@@ -74,7 +74,7 @@ only_one_device d test (x ∷ xs) apart h =
     by : (same : Bool) → nat_eq x.device d ≡ same → (passes : Bool)
         → IsTrue ((same && passes) || list_any (λ y. nat_eq y.device d && test y) xs) → is_one_of x.device xs ≡ false
         → (IsTrue (list_any (λ y. nat_eq y.device d && test y) xs)
-            → IsTrue (list_all (λ y. not (nat_eq y.device d) || test y) xs))
+        → IsTrue (list_all (λ y. not (nat_eq y.device d) || test y) xs))
         → IsTrue ((not same || passes) && list_all (λ y. not (nat_eq y.device d) || test y) xs)
     by true e passes k absent later = one passes (subst (λ n. is_one_of n xs ≡ false) (eqb-true x.device d e) absent) k
     by false e passes k absent later = later k
@@ -88,7 +88,7 @@ pub not_among : (d : ℕ) (ds : List ℕ) → IsTrue (list_all (λ e. not (nat_e
 not_among d [] h = refl
 not_among d (e ∷ es) h =
     let s : IsTrue (not (nat_eq e d)) × IsTrue (list_all (λ x. not (nat_eq x d)) es) =
-        both (not (nat_eq e d)) (list_all (λ x. not (nat_eq x d)) es) h in
+    both (not (nat_eq e d)) (list_all (λ x. not (nat_eq x d)) es) h in
     or_from (nat_eq e d) (is_among d es) (not-true (nat_eq e d) s.0) (not_among d es s.1)
 
 -- lists that share no number, either way round
@@ -98,15 +98,15 @@ disjoint-other ds (e ∷ es) h =
     let first : IsTrue (list_all (λ d. not (nat_eq d e)) ds) =
     all_weaker (λ d. not (is_among d (e ∷ es))) (λ d. not (nat_eq d e))
     (λ d k. not_from_false (nat_eq d e)
-        (nat_eq-other e d (or_parts (nat_eq e d) (is_among d es) (not-true (is_among d (e ∷ es)) k)).0)) ds h
+    (nat_eq-other e d (or_parts (nat_eq e d) (is_among d es) (not-true (is_among d (e ∷ es)) k)).0)) ds h
     in
     let rest : IsTrue (disjoint ds es) =
     all_weaker (λ d. not (is_among d (e ∷ es))) (λ d. not (is_among d es))
     (λ d k. not_from_false (is_among d es) (or_parts (nat_eq e d) (is_among d es) (not-true (is_among d (e ∷ es)) k)).1)
-        ds h
+    ds h
     in
     join (not (is_among e ds)) (disjoint es ds) (not_from_false (is_among e ds) (not_among e ds first))
-        (disjoint-other ds es rest)
+    (disjoint-other ds es rest)
 
 -- a device in none of the attempts is not in the first, nor in the others
 pub free_parts : (d : ℕ) (a : Attempt) (live : List Attempt) → IsTrue (is_none (attempt_of_device (a ∷ live) d))
@@ -114,9 +114,12 @@ pub free_parts : (d : ℕ) (a : Attempt) (live : List Attempt) → IsTrue (is_no
 free_parts d a live h =
     ⊎_elim
     (λ (k : has_device d a ≡ true). let g : IsTrue (is_none (cond true (Some a) (attempt_of_device live d))) =
-        subst (λ b. IsTrue (is_none (cond b (Some a) (attempt_of_device live d)))) k h in (cc))
-    (λ (k : has_device d a ≡ false). (k, subst (λ b. IsTrue (is_none (cond b (Some a) (attempt_of_device live d)))) k
-        h))
+    subst (λ b. IsTrue (is_none (cond b (Some a) (attempt_of_device live d)))) k h in (cc))
+    (λ (k : has_device d a ≡ false). (
+      k,
+      subst (λ b. IsTrue (is_none (cond b (Some a) (attempt_of_device live d)))) k
+          h,
+    ))
     (cases_Bool (has_device d a))
 
 -- devices that are in none of the attempts are disjoint from those of each
@@ -127,11 +130,11 @@ are_free-each ds (a ∷ live) h =
     let first : IsTrue (disjoint ds (devices_of a.answers)) =
     all_weaker (λ d. is_none (attempt_of_device (a ∷ live) d)) (λ d. not (is_among d (devices_of a.answers)))
     (λ d k. not_from_false (is_among d (devices_of a.answers)) (is_among-devices_of d a.answers
-        ∙ (free_parts d a live k).0)) ds h
+    ∙ (free_parts d a live k).0)) ds h
     in
     let rest : IsTrue (are_free ds live) =
     all_weaker (λ d. is_none (attempt_of_device (a ∷ live) d)) (λ d. is_none (attempt_of_device live d))
-        (λ d k. (free_parts d a live k).1) ds h
+    (λ d k. (free_parts d a live k).1) ds h
     in
     join (disjoint (devices_of a.answers) ds) (list_all (λ b. disjoint (devices_of b.answers) ds) live)
     (disjoint-other ds (devices_of a.answers) first) (are_free-each ds live rest)

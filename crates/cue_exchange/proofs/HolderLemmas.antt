@@ -11,7 +11,7 @@ use Rattle.cue_exchange.specs.declared.attempt.Attempt.{Attempt}
 use Rattle.cue_exchange.specs.Answers.{devices_of, is_one_of}
 use Rattle.cue_exchange.specs.Live.{is_number, is_attempt, are_live, pairwise, goes_before, has_number, has_device}
 use Rattle.cue_exchange.specs.Live.{attempt_of, attempt_of_device}
-use Rattle.cue_exchange.specs.Steps.{changed}
+use Rattle.cue_exchange.specs.Steps.{with_change}
 use Rattle.cue_exchange.specs.Holders.{holder, AreHolders}
 use Rattle.cue_exchange.proofs.ListLemmas.{both, all_weaker}
 use Rattle.cue_exchange.proofs.DeviceLemmas.{is_among-devices_of}
@@ -41,25 +41,25 @@ holder-first (b ∷ bs) a h e d =
 -- ---- a change that keeps the devices
 
 same-device : (q : ℕ) (change : Attempt → Attempt) → IsInside change → (d : ℕ) (a : Attempt)
-    → has_device d (changed q change a) ≡ has_device d a
+    → has_device d (with_change q change a) ≡ has_device d a
 same-device q change inside d a =
-    sym (is_among-devices_of d (changed q change a).answers)
-        ∙ (rw (devices_of-changed q change inside a) (is_among-devices_of d a.answers))
+    sym (is_among-devices_of d (with_change q change a).answers)
+    ∙ (rw (devices_of-changed q change inside a) (is_among-devices_of d a.answers))
 
 pub holder-changed : (q : ℕ) (change : Attempt → Attempt) → IsInside change → (live : List Attempt) (d : ℕ)
-    → holder (map (changed q change) live) d ≡ holder live d
+    → holder (map (with_change q change) live) d ≡ holder live d
 holder-changed q change inside live d =
     ap (λ (o : Option Attempt). option_map_or (λ a. a.seq) o 0)
-        (find-map (has_device d) (changed q change) (same-device q change inside d) live)
-        ∙ by (attempt_of_device live d)
+    (find-map (has_device d) (with_change q change) (same-device q change inside d) live)
+    ∙ by (attempt_of_device live d)
   where
-    by : (o : Option Attempt) → option_map_or (λ (a : Attempt). a.seq) (option_map (changed q change) o) 0
+    by : (o : Option Attempt) → option_map_or (λ (a : Attempt). a.seq) (option_map (with_change q change) o) 0
         ≡ option_map_or (λ (a : Attempt). a.seq) o 0
     by None = refl
     by (Some a) = seq-changed q change inside a
 
 pub holders-changed : (table : List ℕ) (q : ℕ) (change : Attempt → Attempt) → IsInside change → (live : List Attempt)
-    → AreHolders table live → AreHolders table (map (changed q change) live)
+    → AreHolders table live → AreHolders table (map (with_change q change) live)
 holders-changed table q change inside live h = λ d below. h d below ∙ sym (holder-changed q change inside live d)
 
 -- ---- what the table finds
@@ -70,7 +70,7 @@ one-holder : (live : List Attempt) (d : ℕ) (a : Attempt) → IsTrue (pairwise 
 one-holder [] d a order h = absurd cc
 one-holder (b ∷ bs) d a order h =
     let s : IsTrue (list_all (goes_before b) bs) × IsTrue (pairwise goes_before bs) =
-        both (list_all (goes_before b) bs) (pairwise goes_before bs) order in
+    both (list_all (goes_before b) bs) (pairwise goes_before bs) order in
     by (has_device d b) s.0 (one-holder bs d a s.1) h
   where
     itself : (n : ℕ) → nat_eq n n ≡ true
@@ -84,8 +84,8 @@ one-holder (b ∷ bs) d a order h =
     by false before rest m =
         let first : IsTrue (goes_before b a) = find-all (goes_before b) (has_device d) bs a before m in
         let lt : b.seq < a.seq =
-            ltb-true b.seq a.seq (both (nat_lt b.seq a.seq) (disjoint (devices_of b.answers) (devices_of a.answers))
-            first).0 in
+        ltb-true b.seq a.seq (both (nat_lt b.seq a.seq) (disjoint (devices_of b.answers) (devices_of a.answers))
+        first).0 in
         rw (ne_eqb b.seq a.seq (λ e. omega arith)) (rest m)
 
 numbered : (a : Attempt) → IsTrue (is_attempt a) → 1 ≤ a.seq
@@ -96,8 +96,8 @@ none-numbered : (live : List Attempt) → IsTrue (are_live live) → attempt_of 
 none-numbered live h =
     find-none (has_number 0) live
     (all_weaker is_attempt (λ a. not (has_number 0 a))
-        (λ a k. let m : 1 ≤ a.seq = numbered a k in not_from_false (nat_eq a.seq 0) (ne_eqb a.seq 0 (λ e. omega arith)))
-        live (attempts_of live h))
+    (λ a k. let m : 1 ≤ a.seq = numbered a k in not_from_false (nat_eq a.seq 0) (ne_eqb a.seq 0 (λ e. omega arith)))
+    live (attempts_of live h))
 
 -- the attempt with the holder's number is the one that the device is in
 pub held-by : (live : List Attempt) (d : ℕ) → IsTrue (are_live live)

@@ -27,7 +27,7 @@ pub all_given : {A : Type 0} (p r : A → Bool) → (s : A → Bool) → ((x : A
     → (xs : List A) → IsTrue (list_all p xs) → IsTrue (list_all r xs) → IsTrue (list_all s xs)
 all_given p r s h xs t u =
     all_weaker (λ x. p x && r x) s (λ x k. let parts : IsTrue (p x) × IsTrue (r x) = both (p x) (r x) k in h x parts.0
-        parts.1) xs (all_both p r xs t u)
+    parts.1) xs (all_both p r xs t u)
 
 -- a test of each element of a mapped list
 pub all_map : {A B : Type 0} (p : B → Bool) (f : A → B) (xs : List A) → IsTrue (list_all (λ x. p (f x)) xs)
@@ -75,7 +75,7 @@ pairwise_filter R keep (x ∷ xs) t =
     let s : IsTrue (list_all (R x) xs) × IsTrue (pairwise R xs) = both (list_all (R x) xs) (pairwise R xs) t in
     ⊎_elim
     (λ (k : keep x ≡ true). rw k (join (list_all (R x) (filter keep xs)) (pairwise R (filter keep xs))
-        (all_filter (R x) keep xs s.0) (pairwise_filter R keep xs s.1)))
+    (all_filter (R x) keep xs s.0) (pairwise_filter R keep xs s.1)))
     (λ (k : keep x ≡ false). rw k (pairwise_filter R keep xs s.1))
     (cases_Bool (keep x))
 
@@ -95,7 +95,7 @@ pairwise_push R (x ∷ xs) y t u =
     let s : IsTrue (list_all (R x) xs) × IsTrue (pairwise R xs) = both (list_all (R x) xs) (pairwise R xs) t in
     let v : IsTrue (R x y) × IsTrue (list_all (λ z. R z y) xs) = both (R x y) (list_all (λ z. R z y) xs) u in
     join (list_all (R x) (xs ++ y ∷ [])) (pairwise R (xs ++ y ∷ [])) (all_push (R x) xs y s.0 v.0)
-        (pairwise_push R xs y s.1 v.1)
+    (pairwise_push R xs y s.1 v.1)
 
 -- a test of each element, of the front and of the back
 pub all_front : {A : Type 0} (p : A → Bool) (xs ys : List A) → IsTrue (list_all p (xs ++ ys)) → IsTrue (list_all p xs)
@@ -114,7 +114,7 @@ pub pairwise_front : {A : Type 0} (R : A → A → Bool) (xs ys : List A) → Is
 pairwise_front R [] ys t = refl
 pairwise_front R (x ∷ xs) ys t =
     let s : IsTrue (list_all (R x) (xs ++ ys)) × IsTrue (pairwise R (xs ++ ys)) =
-        both (list_all (R x) (xs ++ ys)) (pairwise R (xs ++ ys)) t in
+    both (list_all (R x) (xs ++ ys)) (pairwise R (xs ++ ys)) t in
     join (list_all (R x) xs) (pairwise R xs) (all_front (R x) xs ys s.0) (pairwise_front R xs ys s.1)
 
 -- each of the front stands before the next one
@@ -123,6 +123,6 @@ pub before_next : {A : Type 0} (R : A → A → Bool) (xs ys : List A) (y : A) �
 before_next R [] ys y t = refl
 before_next R (x ∷ xs) ys y t =
     let s : IsTrue (list_all (R x) (xs ++ y ∷ ys)) × IsTrue (pairwise R (xs ++ y ∷ ys)) =
-        both (list_all (R x) (xs ++ y ∷ ys)) (pairwise R (xs ++ y ∷ ys)) t in
+    both (list_all (R x) (xs ++ y ∷ ys)) (pairwise R (xs ++ y ∷ ys)) t in
     join (R x y) (list_all (λ z. R z y) xs)
     (both (R x y) (list_all (R x) ys) (all_back (R x) xs (y ∷ ys) s.0)).0 (before_next R xs ys y s.1)

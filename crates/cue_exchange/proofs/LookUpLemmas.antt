@@ -13,11 +13,13 @@ use Rattle.cue_exchange.specs.declared.attempt.Stage.{Stage}
 use Rattle.cue_exchange.specs.declared.attempt.DeviceAnswer.{DeviceAnswer}
 use Rattle.cue_exchange.specs.declared.attempt.Attempt.{Attempt}
 use Rattle.cue_exchange.specs.declared.limits.TheConstants.{MAX_LIVE}
-use Rattle.cue_exchange.specs.Answers.{entering, entered, with_answer, answer_of, answer_passes, devices_of, is_one_of}
+use Rattle.cue_exchange.specs.Answers.{entering, answers_on_entry, with_answer, answer_of, answer_passes, devices_of}
+use Rattle.cue_exchange.specs.Answers.{is_one_of}
 use Rattle.cue_exchange.specs.Answers.{some_waits}
 use Rattle.cue_exchange.specs.Live.{is_attempt, pairwise, goes_before, are_live, has_number, has_device, attempt_of}
 use Rattle.cue_exchange.specs.Live.{attempt_of_device, is_due, due}
-use Rattle.cue_exchange.specs.Steps.{holds, are_below, has_room, changed, goes_on, without_ended, outcome_of, ended_in}
+use Rattle.cue_exchange.specs.Steps.{holds, are_below, has_room, with_change, goes_on, without_ended, outcome_of}
+use Rattle.cue_exchange.specs.Steps.{ended_in}
 use Rattle.cue_exchange.specs.Steps.{is_apart, can_put, with_attempt}
 use Rattle.cue_exchange.proofs.ListLemmas.{both, join, all_weaker, all_filter, all_map, all_front, all_back}
 use Rattle.cue_exchange.proofs.ListLemmas.{pairwise_filter, pairwise_front, before_next}
@@ -33,7 +35,7 @@ find-passes test [] x h = (cc)
 find-passes test (y ∷ ys) x h =
     ⊎_elim
     (λ (k : test y ≡ true). let e : Some y ≡ Some x = subst (λ b. cond b (Some y) (find test ys) ≡ Some x) k h in
-        subst (λ z. test z ≡ true) (same_Some y x e) k)
+    subst (λ z. test z ≡ true) (same_Some y x e) k)
     (λ (k : test y ≡ false). find-passes test ys x (subst (λ b. cond b (Some y) (find test ys) ≡ Some x) k h))
     (cases_Bool (test y))
 
@@ -45,7 +47,7 @@ find-all p test (y ∷ ys) x all h =
     let s : IsTrue (p y) × IsTrue (list_all p ys) = both (p y) (list_all p ys) all in
     ⊎_elim
     (λ (k : test y ≡ true). let e : Some y ≡ Some x = subst (λ b. cond b (Some y) (find test ys) ≡ Some x) k h in
-        subst (λ z. IsTrue (p z)) (same_Some y x e) s.0)
+    subst (λ z. IsTrue (p z)) (same_Some y x e) s.0)
     (λ (k : test y ≡ false). find-all p test ys x s.1 (subst (λ b. cond b (Some y) (find test ys) ≡ Some x) k h))
     (cases_Bool (test y))
 
@@ -55,7 +57,7 @@ pub find-none : {A : Type 0} (test : A → Bool) (xs : List A) → IsTrue (list_
 find-none test [] h = refl
 find-none test (x ∷ xs) h =
     let s : IsTrue (not (test x)) × IsTrue (list_all (λ y. not (test y)) xs) =
-        both (not (test x)) (list_all (λ y. not (test y)) xs) h in
+    both (not (test x)) (list_all (λ y. not (test y)) xs) h in
     rw (not-true (test x) s.0) (find-none test xs s.1)
 
 -- a change that keeps the test changes what is found
@@ -77,7 +79,7 @@ find-filter test keep h (x ∷ xs) =
     (λ (k : test x ≡ true). rw (h x k, k) refl)
     (λ (k : test x ≡ false).
     ⊎_elim (λ (on : keep x ≡ true). rw (on, k) (find-filter test keep h xs))
-        (λ (off : keep x ≡ false). rw (off, k) (find-filter test keep h xs)) (cases_Bool (keep x)))
+    (λ (off : keep x ≡ false). rw (off, k) (find-filter test keep h xs)) (cases_Bool (keep x)))
     (cases_Bool (test x))
 
 -- ---- one attempt has the number
@@ -88,12 +90,12 @@ pub holds-attempt_of : (q : ℕ) (test : Attempt → Bool) (live : List Attempt)
 holds-attempt_of q test [] order = refl
 holds-attempt_of q test (a ∷ live) order =
     let s : IsTrue (list_all (goes_before a) live) × IsTrue (pairwise goes_before live) =
-        both (list_all (goes_before a) live) (pairwise goes_before live) order in
+    both (list_all (goes_before a) live) (pairwise goes_before live) order in
     ⊎_elim
     (λ (here : has_number q a ≡ true).
     let none : holds q test live ≡ false =
     holds-none q test live (all_weaker (goes_before a) (λ b. not (has_number q b)) (λ b k. other_number q a b here k)
-        live s.0)
+    live s.0)
     in
     rw (here, none) (elim (test a) as (λ b. (b || false) ≡ b) [ true ↦ refl | false ↦ refl ]))
     (λ (off : has_number q a ≡ false). rw off (holds-attempt_of q test live s.1))
@@ -104,33 +106,33 @@ pub attempt_of-behind : (q : ℕ) (a : Attempt) (live : List Attempt) → IsTrue
     → has_number q a ≡ true → IsTrue (list_all (λ b. not (has_number q b)) live)
 attempt_of-behind q a live order here =
     all_weaker (goes_before a) (λ b. not (has_number q b)) (λ b k. other_number q a b here k) live
-        (both (list_all (goes_before a) live) (pairwise goes_before live) order).0
+    (both (list_all (goes_before a) live) (pairwise goes_before live) order).0
 
 -- ---- after a change of the attempt with the number
 
 -- the numbers stay
 pub has_number-changed : (q p : ℕ) (change : Attempt → Attempt) → IsInside change → (a : Attempt)
-    → has_number p (changed q change a) ≡ has_number p a
+    → has_number p (with_change q change a) ≡ has_number p a
 has_number-changed q p change inside a = ap (λ n. nat_eq n p) (seq-changed q change inside a)
 
 -- what is found is the change of what was found
 pub attempt_of-changed : (q p : ℕ) (change : Attempt → Attempt) → IsInside change → (live : List Attempt)
-    → attempt_of (map (changed q change) live) p ≡ option_map (changed q change) (attempt_of live p)
+    → attempt_of (map (with_change q change) live) p ≡ option_map (with_change q change) (attempt_of live p)
 attempt_of-changed q p change inside live =
-    find-map (has_number p) (changed q change) (has_number-changed q p change inside) live
+    find-map (has_number p) (with_change q change) (has_number-changed q p change inside) live
 
 -- the attempt with the number is changed
 pub attempt_of-changed_same : (q : ℕ) (change : Attempt → Attempt) → IsInside change
     → (live : List Attempt) (a : Attempt) → attempt_of live q ≡ Some a
-    → attempt_of (map (changed q change) live) q ≡ Some (change a)
+    → attempt_of (map (with_change q change) live) q ≡ Some (change a)
 attempt_of-changed_same q change inside live a h =
     let here : has_number q a ≡ true = find-passes (has_number q) live a h in
-    attempt_of-changed q q change inside live ∙ ap (option_map (changed q change)) h
-        ∙ ap (λ b. Some (cond b (change a) a)) here
+    attempt_of-changed q q change inside live ∙ ap (option_map (with_change q change)) h
+    ∙ ap (λ b. Some (cond b (change a) a)) here
 
 -- an attempt with another number stays as it is
 pub attempt_of-changed_other : (q p : ℕ) (change : Attempt → Attempt) → IsInside change → (live : List Attempt)
-    → (p ≡ q → ⊥) → attempt_of (map (changed q change) live) p ≡ attempt_of live p
+    → (p ≡ q → ⊥) → attempt_of (map (with_change q change) live) p ≡ attempt_of live p
 attempt_of-changed_other q p change inside [] ne = refl
 attempt_of-changed_other q p change inside (a ∷ live) ne =
     ⊎_elim
@@ -138,16 +140,17 @@ attempt_of-changed_other q p change inside (a ∷ live) ne =
     let off : has_number q a ≡ false = ne_eqb a.seq q (λ e. ne (sym (eqb-true a.seq p here) ∙ e)) in
     rw (has_number-changed q p change inside a, here, off) refl)
     (λ (away : has_number p a ≡ false). rw (has_number-changed q p change inside a, away)
-        (attempt_of-changed_other q p change inside live ne))
+    (attempt_of-changed_other q p change inside live ne))
     (cases_Bool (has_number p a))
 
 -- the device of an attempt stays, and so does its cue
 pub attempt_of_device-changed : (q d : ℕ) (change : Attempt → Attempt) → IsInside change → (live : List Attempt)
-    → attempt_of_device (map (changed q change) live) d ≡ option_map (changed q change) (attempt_of_device live d)
+    → attempt_of_device (map (with_change q change) live) d ≡ option_map (with_change q change)
+    (attempt_of_device live d)
 attempt_of_device-changed q d change inside live =
-    find-map (has_device d) (changed q change)
-    (λ a. sym (is_among-devices_of d (changed q change a).answers)
-        ∙ (ap (is_among d) (devices_of-changed q change inside a) ∙ is_among-devices_of d a.answers)) live
+    find-map (has_device d) (with_change q change)
+    (λ a. sym (is_among-devices_of d (with_change q change a).answers)
+    ∙ (ap (is_among d) (devices_of-changed q change inside a) ∙ is_among-devices_of d a.answers)) live
 
 -- ---- after a start
 
@@ -156,7 +159,7 @@ pub attempt_of-push_same : (a : Attempt) (live : List Attempt) → IsTrue (are_b
 attempt_of-push_same a [] below = rw (eq-eqb a.seq a.seq refl) refl
 attempt_of-push_same a (b ∷ bs) below =
     let s : IsTrue (nat_lt b.seq a.seq) × IsTrue (are_below a.seq bs) =
-        both (nat_lt b.seq a.seq) (are_below a.seq bs) below in
+    both (nat_lt b.seq a.seq) (are_below a.seq bs) below in
     let lt : b.seq < a.seq = ltb-true b.seq a.seq s.0 in
     rw (ne_eqb b.seq a.seq (λ e. omega arith)) (attempt_of-push_same a bs s.1)
 
@@ -176,7 +179,7 @@ pub attempt_of-ended_other : (q p : ℕ) (live : List Attempt) → (p ≡ q → 
 attempt_of-ended_other q p live ne =
     find-filter (has_number p) (goes_on q)
     (λ a here. or_left (not (has_number q a)) (some_waits a.answers)
-        (not_from_false (has_number q a) (ne_eqb a.seq q (λ e. ne (sym (eqb-true a.seq p here) ∙ e))))) live
+    (not_from_false (has_number q a) (ne_eqb a.seq q (λ e. ne (sym (eqb-true a.seq p here) ∙ e))))) live
 
 -- the attempt goes on, where a device of it is still to answer
 pub attempt_of-goes_on : (q : ℕ) (live : List Attempt) (a : Attempt) → attempt_of live q ≡ Some a
@@ -187,12 +190,12 @@ attempt_of-goes_on q (b ∷ bs) a h waits =
     (λ (here : has_number q b ≡ true).
     let same : b ≡ a = same_Some b a (subst (λ x. cond x (Some b) (attempt_of bs q) ≡ Some a) here h) in
     let on : goes_on q b ≡ true =
-        or_right (not (has_number q b)) (some_waits b.answers)
-        (subst (λ x. some_waits x.answers ≡ true) (sym same) waits) in
+    or_right (not (has_number q b)) (some_waits b.answers)
+    (subst (λ x. some_waits x.answers ≡ true) (sym same) waits) in
     rw (on, here) (ap (λ x. Some x) same))
     (λ (away : has_number q b ≡ false).
     let on : goes_on q b ≡ true =
-        or_left (not (has_number q b)) (some_waits b.answers) (not_from_false (has_number q b) away) in
+    or_left (not (has_number q b)) (some_waits b.answers) (not_from_false (has_number q b) away) in
     rw (on, away) (attempt_of-goes_on q bs a (subst (λ x. cond x (Some b) (attempt_of bs q) ≡ Some a) away h) waits))
     (cases_Bool (has_number q b))
 
@@ -202,19 +205,19 @@ pub attempt_of-ended : (q : ℕ) (live : List Attempt) (a : Attempt) → IsTrue 
 attempt_of-ended q [] a order h none = (cc)
 attempt_of-ended q (b ∷ bs) a order h none =
     let s : IsTrue (list_all (goes_before b) bs) × IsTrue (pairwise goes_before bs) =
-        both (list_all (goes_before b) bs) (pairwise goes_before bs) order in
+    both (list_all (goes_before b) bs) (pairwise goes_before bs) order in
     ⊎_elim
     (λ (here : has_number q b ≡ true).
     let same : b ≡ a = same_Some b a (subst (λ x. cond x (Some b) (attempt_of bs q) ≡ Some a) here h) in
     let off : goes_on q b ≡ false =
-        or_from (not (has_number q b)) (some_waits b.answers) (not_from_true (has_number q b) here)
-        (subst (λ x. some_waits x.answers ≡ false) (sym same) none) in
+    or_from (not (has_number q b)) (some_waits b.answers) (not_from_true (has_number q b) here)
+    (subst (λ x. some_waits x.answers ≡ false) (sym same) none) in
     let behind : IsTrue (list_all (λ c. not (has_number q c)) bs) = attempt_of-behind q b bs order here in
     rw off (find-none (has_number q) (filter (goes_on q) bs)
-        (all_filter (λ c. not (has_number q c)) (goes_on q) bs behind)))
+    (all_filter (λ c. not (has_number q c)) (goes_on q) bs behind)))
     (λ (away : has_number q b ≡ false).
     let on : goes_on q b ≡ true =
-        or_left (not (has_number q b)) (some_waits b.answers) (not_from_false (has_number q b) away) in
+    or_left (not (has_number q b)) (some_waits b.answers) (not_from_false (has_number q b) away) in
     rw (on, away) (attempt_of-ended q bs a s.1 (subst (λ x. cond x (Some b) (attempt_of bs q) ≡ Some a) away h) none))
     (cases_Bool (has_number q b))
 
@@ -224,20 +227,20 @@ pub all_go_on : (q : ℕ) (live : List Attempt) (a : Attempt) → IsTrue (pairwi
 all_go_on q [] a order h waits = refl
 all_go_on q (b ∷ bs) a order h waits =
     let s : IsTrue (list_all (goes_before b) bs) × IsTrue (pairwise goes_before bs) =
-        both (list_all (goes_before b) bs) (pairwise goes_before bs) order in
+    both (list_all (goes_before b) bs) (pairwise goes_before bs) order in
     ⊎_elim
     (λ (here : has_number q b ≡ true).
     let same : b ≡ a = same_Some b a (subst (λ x. cond x (Some b) (attempt_of bs q) ≡ Some a) here h) in
     let on : goes_on q b ≡ true =
-        or_right (not (has_number q b)) (some_waits b.answers)
-        (subst (λ x. some_waits x.answers ≡ true) (sym same) waits) in
+    or_right (not (has_number q b)) (some_waits b.answers)
+    (subst (λ x. some_waits x.answers ≡ true) (sym same) waits) in
     join (not (not (goes_on q b))) (list_all (λ c. not (not (goes_on q c))) bs) (rw on refl)
     (all_weaker (λ c. not (has_number q c)) (λ c. not (not (goes_on q c)))
     (λ c k. let g : goes_on q c ≡ true = or_left (not (has_number q c)) (some_waits c.answers) k in rw g refl) bs
-        (attempt_of-behind q b bs order here)))
+    (attempt_of-behind q b bs order here)))
     (λ (away : has_number q b ≡ false).
     let on : goes_on q b ≡ true =
-        or_left (not (has_number q b)) (some_waits b.answers) (not_from_false (has_number q b) away) in
+    or_left (not (has_number q b)) (some_waits b.answers) (not_from_false (has_number q b) away) in
     join (not (not (goes_on q b))) (list_all (λ c. not (not (goes_on q c))) bs) (rw on refl)
     (all_go_on q bs a s.1 (subst (λ x. cond x (Some b) (attempt_of bs q) ≡ Some a) away h) waits))
     (cases_Bool (has_number q b))
@@ -257,12 +260,12 @@ ended_in-ended q (b ∷ bs) a h none =
     (λ (here : has_number q b ≡ true).
     let same : b ≡ a = same_Some b a (subst (λ x. cond x (Some b) (attempt_of bs q) ≡ Some a) here h) in
     let off : goes_on q b ≡ false =
-        or_from (not (has_number q b)) (some_waits b.answers) (not_from_true (has_number q b) here)
-        (subst (λ x. some_waits x.answers ≡ false) (sym same) none) in
+    or_from (not (has_number q b)) (some_waits b.answers) (not_from_true (has_number q b) here)
+    (subst (λ x. some_waits x.answers ≡ false) (sym same) none) in
     rw off (ap (λ x. Some (outcome_of x)) same))
     (λ (away : has_number q b ≡ false).
     let on : goes_on q b ≡ true =
-        or_left (not (has_number q b)) (some_waits b.answers) (not_from_false (has_number q b) away) in
+    or_left (not (has_number q b)) (some_waits b.answers) (not_from_false (has_number q b) away) in
     rw on (ended_in-ended q bs a (subst (λ x. cond x (Some b) (attempt_of bs q) ≡ Some a) away h) none))
     (cases_Bool (has_number q b))
 
@@ -283,15 +286,15 @@ pub answer_passes-answer_of : (test : Answer → Bool) (d : ℕ) (answers : List
 answer_passes-answer_of test d [] h = refl
 answer_passes-answer_of test d (x ∷ xs) h =
     let s : IsTrue (not (is_among x.device (devices_of xs))) × IsTrue (distinct (devices_of xs)) =
-        both (not (is_among x.device (devices_of xs))) (distinct (devices_of xs)) h in
+    both (not (is_among x.device (devices_of xs))) (distinct (devices_of xs)) h in
     ⊎_elim
     (λ (here : nat_eq x.device d ≡ true).
     let none : is_one_of d xs ≡ false =
     subst (λ n. is_one_of n xs ≡ false) (eqb-true x.device d here) (sym (is_among-devices_of x.device xs)
-        ∙ not-true (is_among x.device (devices_of xs)) s.0)
+    ∙ not-true (is_among x.device (devices_of xs)) s.0)
     in
     rw (here, answer_passes-none test d xs none)
-        (elim (test x.answer) as (λ b. (b || false) ≡ b) [ true ↦ refl | false ↦ refl ]))
+    (elim (test x.answer) as (λ b. (b || false) ≡ b) [ true ↦ refl | false ↦ refl ]))
     (λ (away : nat_eq x.device d ≡ false). rw away (answer_passes-answer_of test d xs s.1))
     (cases_Bool (nat_eq x.device d))
 
@@ -319,7 +322,7 @@ answer_of-with_answer_other d e x (y ∷ ys) ne =
 
 -- the answer of a device, as its attempt enters a stage
 pub answer_of-entered : (stage : Stage) (d : ℕ) (answers : List DeviceAnswer)
-    → answer_of (entered stage answers) d ≡ option_map (entering stage) (answer_of answers d)
+    → answer_of (answers_on_entry stage answers) d ≡ option_map (entering stage) (answer_of answers d)
 answer_of-entered stage d [] = refl
 answer_of-entered stage d (y ∷ ys) =
     ⊎_elim
@@ -333,7 +336,7 @@ answer_of-entered stage d (y ∷ ys) =
 pub are_live-front : (live rest : List Attempt) → IsTrue (are_live (live ++ rest)) → IsTrue (are_live live)
 are_live-front live rest h =
     let room : length (live ++ rest) ≤ MAX_LIVE =
-        leb-true (length (live ++ rest)) MAX_LIVE (room_of (live ++ rest) h) in
+    leb-true (length (live ++ rest)) MAX_LIVE (room_of (live ++ rest) h) in
     are_live_from live
     (le-leb (length live) MAX_LIVE (omega (arith, length-append live rest)))
     (all_front is_attempt live rest (attempts_of (live ++ rest) h))
@@ -344,19 +347,19 @@ pub can_put-next : (live rest : List Attempt) (a : Attempt) → IsTrue (are_live
     → IsTrue (can_put a live)
 can_put-next live rest a h =
     let room : length (live ++ a ∷ rest) ≤ MAX_LIVE =
-        leb-true (length (live ++ a ∷ rest)) MAX_LIVE (room_of (live ++ a ∷ rest) h) in
+    leb-true (length (live ++ a ∷ rest)) MAX_LIVE (room_of (live ++ a ∷ rest) h) in
     join (has_room live) (is_attempt a && list_all (is_apart a) live)
     (lt-ltb (length live) MAX_LIVE (omega (arith, length-append live (a ∷ rest))))
     (join (is_attempt a) (list_all (is_apart a) live)
     (both (is_attempt a) (list_all is_attempt rest)
-        (all_back is_attempt live (a ∷ rest) (attempts_of (live ++ a ∷ rest) h))).0
+    (all_back is_attempt live (a ∷ rest) (attempts_of (live ++ a ∷ rest) h))).0
     (all_weaker (λ b. goes_before b a) (is_apart a)
     (λ b k.
     let t : IsTrue (nat_lt b.seq a.seq) × IsTrue (disjoint (devices_of b.answers) (devices_of a.answers)) =
-        both (nat_lt b.seq a.seq) (disjoint (devices_of b.answers) (devices_of a.answers)) k in
+    both (nat_lt b.seq a.seq) (disjoint (devices_of b.answers) (devices_of a.answers)) k in
     let lt : b.seq < a.seq = ltb-true b.seq a.seq t.0 in
     join (not (nat_eq b.seq a.seq)) (disjoint (devices_of b.answers) (devices_of a.answers))
-        (not_from_false (nat_eq b.seq a.seq) (ne_eqb b.seq a.seq (λ e. omega arith))) t.1)
+    (not_from_false (nat_eq b.seq a.seq) (ne_eqb b.seq a.seq (λ e. omega arith))) t.1)
     live (before_next goes_before live rest a (order_of (live ++ a ∷ rest) h))))
 
 -- an attempt that goes behind all others is put last
@@ -365,10 +368,10 @@ pub with_attempt-last : (a : Attempt) (live : List Attempt) → IsTrue (list_all
 with_attempt-last a [] h = refl
 with_attempt-last a (b ∷ bs) h =
     let s : IsTrue (goes_before b a) × IsTrue (list_all (λ c. goes_before c a) bs) =
-        both (goes_before b a) (list_all (λ c. goes_before c a) bs) h in
+    both (goes_before b a) (list_all (λ c. goes_before c a) bs) h in
     let lt : b.seq < a.seq =
-        ltb-true b.seq a.seq (both (nat_lt b.seq a.seq) (disjoint (devices_of b.answers) (devices_of a.answers))
-        s.0).0 in
+    ltb-true b.seq a.seq (both (nat_lt b.seq a.seq) (disjoint (devices_of b.answers) (devices_of a.answers))
+    s.0).0 in
     rw (le-ltb a.seq b.seq (omega arith)) (ap (λ xs. b ∷ xs) (with_attempt-last a bs s.1))
 
 -- and goes last
@@ -385,11 +388,11 @@ pub rising-numbers : (live : List Attempt) → IsTrue (pairwise goes_before live
 rising-numbers [] h = refl
 rising-numbers (a ∷ live) h =
     let s : IsTrue (list_all (goes_before a) live) × IsTrue (pairwise goes_before live) =
-        both (list_all (goes_before a) live) (pairwise goes_before live) h in
+    both (list_all (goes_before a) live) (pairwise goes_before live) h in
     join (list_all (nat_lt a.seq) (map (λ b. b.seq) live)) (pairwise nat_lt (map (λ b. b.seq) live))
     (all_map (nat_lt a.seq) (λ b. b.seq) live
     (all_weaker (goes_before a) (λ b. nat_lt a.seq b.seq)
-        (λ b k. (both (nat_lt a.seq b.seq) (disjoint (devices_of a.answers) (devices_of b.answers)) k).0) live s.0))
+    (λ b k. (both (nat_lt a.seq b.seq) (disjoint (devices_of a.answers) (devices_of b.answers)) k).0) live s.0))
     (rising-numbers live s.1)
 
 -- the numbers of the attempts that are due rise

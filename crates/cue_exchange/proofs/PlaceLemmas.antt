@@ -28,7 +28,7 @@ unwrap_or-position p xs =
     ⊎_elim
     (λ (k : position_or_len p xs < length xs). rw (lt-ltb (position_or_len p xs) (length xs) k) refl)
     (λ (k : length xs ≤ position_or_len p xs). rw (le-ltb (position_or_len p xs) (length xs) k)
-        (omega (arith, position_or_len_le p xs)))
+    (omega (arith, position_or_len_le p xs)))
     (cases_lt (position_or_len p xs) (length xs))
 
 -- into the tail
@@ -43,7 +43,7 @@ insert-place a (b ∷ bs) =
     ⊎_elim
     (λ (k : nat_lt a.seq b.seq ≡ true). rw k refl)
     (λ (k : nat_lt a.seq b.seq ≡ false). rw k (insert-tail b bs (position_or_len (λ x. nat_lt a.seq x.seq) bs) a
-        ∙ ap (λ xs. b ∷ xs) (insert-place a bs)))
+    ∙ ap (λ xs. b ∷ xs) (insert-place a bs)))
     (cases_Bool (nat_lt a.seq b.seq))
 
 -- ---- the rules stay, where one more is put
@@ -64,47 +64,47 @@ all-with_attempt p a (b ∷ bs) here h =
     ⊎_elim
     (λ (k : nat_lt a.seq b.seq ≡ true). rw k (join (p a) (list_all p (b ∷ bs)) here h))
     (λ (k : nat_lt a.seq b.seq ≡ false).
-        rw k (join (p b) (list_all p (with_attempt a bs)) s.0 (all-with_attempt p a bs here s.1)))
+    rw k (join (p b) (list_all p (with_attempt a bs)) s.0 (all-with_attempt p a bs here s.1)))
     (cases_Bool (nat_lt a.seq b.seq))
 
 -- an attempt apart from another goes before it or behind it, by number
 pub apart_before : (a b : Attempt) → IsTrue (is_apart a b) → nat_lt a.seq b.seq ≡ true → IsTrue (goes_before a b)
 apart_before a b h k =
     let s : IsTrue (not (nat_eq b.seq a.seq)) × IsTrue (disjoint (devices_of b.answers) (devices_of a.answers)) =
-        both (not (nat_eq b.seq a.seq)) (disjoint (devices_of b.answers) (devices_of a.answers)) h in
+    both (not (nat_eq b.seq a.seq)) (disjoint (devices_of b.answers) (devices_of a.answers)) h in
     join (nat_lt a.seq b.seq) (disjoint (devices_of a.answers) (devices_of b.answers)) k
-        (disjoint-other (devices_of b.answers) (devices_of a.answers) s.1)
+    (disjoint-other (devices_of b.answers) (devices_of a.answers) s.1)
 
 pub apart_behind : (a b : Attempt) → IsTrue (is_apart a b) → nat_lt a.seq b.seq ≡ false → IsTrue (goes_before b a)
 apart_behind a b h k =
     let s : IsTrue (not (nat_eq b.seq a.seq)) × IsTrue (disjoint (devices_of b.answers) (devices_of a.answers)) =
-        both (not (nat_eq b.seq a.seq)) (disjoint (devices_of b.answers) (devices_of a.answers)) h in
+    both (not (nat_eq b.seq a.seq)) (disjoint (devices_of b.answers) (devices_of a.answers)) h in
     let le : b.seq ≤ a.seq = ltb-false a.seq b.seq k in
     let ne : b.seq ≡ a.seq → ⊥ = eqb-false b.seq a.seq (not-true (nat_eq b.seq a.seq) s.0) in
     join (nat_lt b.seq a.seq) (disjoint (devices_of b.answers) (devices_of a.answers))
-        (lt-ltb b.seq a.seq (omega arith)) s.1
+    (lt-ltb b.seq a.seq (omega arith)) s.1
 
 pub order-with_attempt : (a : Attempt) (live : List Attempt) → IsTrue (pairwise goes_before live)
     → IsTrue (list_all (is_apart a) live) → IsTrue (pairwise goes_before (with_attempt a live))
 order-with_attempt a [] order apart = refl
 order-with_attempt a (b ∷ bs) order apart =
     let s : IsTrue (list_all (goes_before b) bs) × IsTrue (pairwise goes_before bs) =
-        both (list_all (goes_before b) bs) (pairwise goes_before bs) order in
+    both (list_all (goes_before b) bs) (pairwise goes_before bs) order in
     let t : IsTrue (is_apart a b) × IsTrue (list_all (is_apart a) bs) =
-        both (is_apart a b) (list_all (is_apart a) bs) apart in
+    both (is_apart a b) (list_all (is_apart a) bs) apart in
     ⊎_elim
     (λ (k : nat_lt a.seq b.seq ≡ true).
     let below : IsTrue (list_all (goes_before a) bs) =
     all_given (is_apart a) (goes_before b) (goes_before a)
     (λ c far behind.
     let first : IsTrue (nat_lt b.seq c.seq) =
-        (both (nat_lt b.seq c.seq) (disjoint (devices_of b.answers) (devices_of c.answers)) behind).0 in
+    (both (nat_lt b.seq c.seq) (disjoint (devices_of b.answers) (devices_of c.answers)) behind).0 in
     let x : a.seq < b.seq = ltb-true a.seq b.seq k in
     let y : b.seq < c.seq = ltb-true b.seq c.seq first in
     apart_before a c far (lt-ltb a.seq c.seq (omega arith))) bs t.1 s.0
     in
     rw k (join (list_all (goes_before a) (b ∷ bs)) (pairwise goes_before (b ∷ bs))
-        (join (goes_before a b) (list_all (goes_before a) bs) (apart_before a b t.0 k) below) order))
+    (join (goes_before a b) (list_all (goes_before a) bs) (apart_before a b t.0 k) below) order))
     (λ (k : nat_lt a.seq b.seq ≡ false).
     rw k
     (join (list_all (goes_before b) (with_attempt a bs)) (pairwise goes_before (with_attempt a bs))
@@ -120,9 +120,9 @@ pub record CanPut (a : Attempt) (live : List Attempt) : Type 0 where
 pub can_put_parts : (a : Attempt) (live : List Attempt) → IsTrue (can_put a live) → CanPut a live
 can_put_parts a live h =
     let s : IsTrue (has_room live) × IsTrue (is_attempt a && list_all (is_apart a) live) =
-        both (has_room live) (is_attempt a && list_all (is_apart a) live) h in
+    both (has_room live) (is_attempt a && list_all (is_apart a) live) h in
     let t : IsTrue (is_attempt a) × IsTrue (list_all (is_apart a) live) =
-        both (is_attempt a) (list_all (is_apart a) live) s.1 in
+    both (is_attempt a) (list_all (is_apart a) live) s.1 in
     record { room = s.0; rules = t.0; apart = t.1 }
 
 -- one more attempt is put among the others

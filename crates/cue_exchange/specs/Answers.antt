@@ -161,8 +161,8 @@ abbrev pub first_answers : List Part → List DeviceAnswer
 first_answers parts = map first_answer parts
 
 -- the answers, as the attempt enters the stage
-abbrev pub entered : Stage → List DeviceAnswer → List DeviceAnswer
-entered stage answers = map (enters stage) answers
+abbrev pub answers_on_entry : Stage → List DeviceAnswer → List DeviceAnswer
+answers_on_entry stage answers = map (enters stage) answers
 
 -- the answers, once the device d has answered
 abbrev pub with_answer : ℕ → Answer → List DeviceAnswer → List DeviceAnswer

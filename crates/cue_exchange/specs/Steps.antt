@@ -13,7 +13,8 @@ use Rattle.cue_exchange.specs.declared.attempt.Outcome.TheVariants as outcome
 use Rattle.cue_exchange.specs.declared.attempt.Attempt.{Attempt}
 use Rattle.cue_exchange.specs.declared.limits.TheConstants.{MAX_LIVE}
 use Rattle.cue_exchange.specs.Answers.{is_waiting, is_preparing, is_decided, is_cancelling, is_concluding}
-use Rattle.cue_exchange.specs.Answers.{first_answers, entered, with_answer, answer_passes, is_excusable, all_may_go}
+use Rattle.cue_exchange.specs.Answers.{first_answers, answers_on_entry, with_answer, answer_passes, is_excusable}
+use Rattle.cue_exchange.specs.Answers.{all_may_go}
 use Rattle.cue_exchange.specs.Answers.{all_have_done, some_waits, devices_of}
 use Rattle.cue_exchange.specs.Live.{distinct, disjoint, devices_in, is_number, is_moment, is_attempt, has_number}
 use Rattle.cue_exchange.specs.Live.{attempt_of_device}
@@ -98,8 +99,8 @@ can_put a live = has_room live && (is_attempt a && list_all (is_apart a) live)
 -- ---- what a step makes of the attempts
 
 -- the attempt with the number q is changed, and each other one stays as it is
-abbrev pub changed : ℕ → (Attempt → Attempt) → Attempt → Attempt
-changed q change a = if has_number q a then change a else a
+abbrev pub with_change : ℕ → (Attempt → Attempt) → Attempt → Attempt
+with_change q change a = if has_number q a then change a else a
 
 -- the device d of the attempt has answered
 abbrev pub answers_as : ℕ → Answer → Attempt → Attempt
@@ -107,23 +108,23 @@ answers_as d answer a = record a { answers = with_answer d answer a.answers }
 
 -- the attempt enters the stage
 abbrev pub moves_to : Stage → Attempt → Attempt
-moves_to stage a = record a { stage = stage; answers = entered stage a.answers }
+moves_to stage a = record a { stage = stage; answers = answers_on_entry stage a.answers }
 
 -- an attempt at the cue c, as it begins
 abbrev pub new_attempt : ℕ → List ℕ → ℕ → List Part → Attempt
 new_attempt q c t parts = record { seq = q; cue = c; deadline = t; stage = Preparing; answers = first_answers parts }
 
 -- the attempts, once q has begun
-abbrev pub started : ℕ → List ℕ → ℕ → List Part → List Attempt → List Attempt
-started q c t parts live = live ++ new_attempt q c t parts ∷ []
+abbrev pub after_start : ℕ → List ℕ → ℕ → List Part → List Attempt → List Attempt
+after_start q c t parts live = live ++ new_attempt q c t parts ∷ []
 
 -- the attempts, once the device d has answered in q
-abbrev pub answered : ℕ → ℕ → Answer → List Attempt → List Attempt
-answered q d answer live = map (changed q (answers_as d answer)) live
+abbrev pub after_answer : ℕ → ℕ → Answer → List Attempt → List Attempt
+after_answer q d answer live = map (with_change q (answers_as d answer)) live
 
 -- the attempts, once q has entered the stage
-abbrev pub moved : ℕ → Stage → List Attempt → List Attempt
-moved q stage live = map (changed q (moves_to stage)) live
+abbrev pub after_move : ℕ → Stage → List Attempt → List Attempt
+after_move q stage live = map (with_change q (moves_to stage)) live
 
 -- the attempt is not q, or has a device that is still to answer
 abbrev pub goes_on : ℕ → Attempt → Bool

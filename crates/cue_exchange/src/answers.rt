@@ -6,7 +6,7 @@ ghost use Rattle.cue_show.specs.Devices.{distinct, disjoint};
 ghost use Rattle.cue_exchange.specs.Live.{have_sound_devices};
 ghost use Rattle.cue_exchange.specs.Answers.{is_waiting, device_answer, answer_passes, is_one_of, has_required};
 ghost use Rattle.cue_exchange.specs.Answers.{is_excusable, some_waits, all_may_go, all_have_done, with_answer};
-ghost use Rattle.cue_exchange.specs.Answers.{answers_with, devices_of, stands, entered, enters};
+ghost use Rattle.cue_exchange.specs.Answers.{answers_with, devices_of, stands, answers_on_entry, enters};
 
 use crate::attempt::{Answer, DeviceAnswer, Stage};
 use cue_show::DeviceNo;
@@ -141,7 +141,7 @@ impl Answers {
 
     // The attempt enters the stage.
     pub(crate) fn enter(&mut self, stage: Stage)
-        ensures { self.new ≡ entered stage self.old }
+        ensures { self.new ≡ answers_on_entry stage self.old }
     {
         enter_stage(&mut self.items, stage);
     }
@@ -200,7 +200,7 @@ fn answer_for(item: &mut DeviceAnswer, device: DeviceNo, answer: Answer)
 
 // Each device, as its attempt enters the stage.
 fn enter_stage(items: &mut Vec<DeviceAnswer>, stage: Stage)
-    ensures { items.new.items ≡ entered stage items.old.items }
+    ensures { items.new.items ≡ answers_on_entry stage items.old.items }
 {
     for item in items.iter_mut() {
         enter(item, stage);

@@ -7,9 +7,10 @@ ghost use Rattle.cue_show.specs.Devices.{devices_in};
 ghost use Rattle.cue_exchange.specs.declared.attempt.Answer.TheVariants as answer;
 ghost use Rattle.cue_exchange.specs.declared.attempt.Stage.TheVariants as stage;
 ghost use Rattle.cue_exchange.specs.Live.{are_live, attempt_of, attempt_of_device, attempt_of_cue, due, pairwise};
-ghost use Rattle.cue_exchange.specs.Steps.{answered, are_below, are_free, are_sound_parts, can_cancel, can_done};
+ghost use Rattle.cue_exchange.specs.Steps.{after_answer, are_below, are_free, are_sound_parts, can_cancel, can_done};
 ghost use Rattle.cue_exchange.specs.Steps.{can_excuse, can_fail, can_go, can_let_go, can_put, can_ready, can_start};
-ghost use Rattle.cue_exchange.specs.Steps.{ended_in, has_room, is_apart, moved, started, with_attempt, without_ended};
+ghost use Rattle.cue_exchange.specs.Steps.{ended_in, has_room, is_apart, after_move, after_start, with_attempt};
+ghost use Rattle.cue_exchange.specs.Steps.{without_ended};
 
 use crate::attempt::{Answer, Attempt, Outcome, Reason, Stage, is_number};
 use crate::holders::{Holders, holders_of, no_holders};
@@ -273,7 +274,7 @@ impl Live {
         parts: &Parts,
     ) -> Result<(), AllocError>
         requires { IsTrue (can_start seq deadline parts.now self.old) }
-        ensures ok { OnOk result (self.new ≡ started seq cue deadline parts.now self.old) }
+        ensures ok { OnOk result (self.new ≡ after_start seq cue deadline parts.now self.old) }
         ensures err { OnErr result (self.new ≡ self.old) }
     {
         let answers = steps::first_answers(*self.attempts.allocator(), parts)?;
@@ -291,7 +292,7 @@ impl Live {
     /// The device stands by. Asked first: `can_ready`.
     pub fn ready(&mut self, seq: u32, device: DeviceNo)
         requires { IsTrue (can_ready seq device self.old) }
-        ensures { self.new ≡ answered seq device answer.Ready self.old }
+        ensures { self.new ≡ after_answer seq device answer.Ready self.old }
     {
         steps::put_answer(&mut self.attempts, seq, device, Answer::Ready);
     }
@@ -300,7 +301,7 @@ impl Live {
     /// `can_excuse`.
     pub fn excuse(&mut self, seq: u32, device: DeviceNo)
         requires { IsTrue (can_excuse seq device self.old) }
-        ensures { self.new ≡ answered seq device answer.Excused self.old }
+        ensures { self.new ≡ after_answer seq device answer.Excused self.old }
     {
         steps::put_answer(&mut self.attempts, seq, device, Answer::Excused);
     }
@@ -308,7 +309,7 @@ impl Live {
     /// The cue is carried out: each device that was not excused is asked to do its part. Asked first: `can_go`.
     pub fn go(&mut self, seq: u32)
         requires { IsTrue (can_go seq self.old) }
-        ensures { self.new ≡ moved seq stage.Decided self.old }
+        ensures { self.new ≡ after_move seq stage.Decided self.old }
     {
         steps::move_to(&mut self.attempts, seq, Stage::Decided);
     }
@@ -316,7 +317,7 @@ impl Live {
     /// The preparation is given up: each device that was not excused is ordered to do so. Asked first: `can_cancel`.
     pub fn cancel(&mut self, seq: u32, reason: Reason)
         requires { IsTrue (can_cancel seq self.old) }
-        ensures { self.new ≡ moved seq (stage.Cancelling reason) self.old }
+        ensures { self.new ≡ after_move seq (stage.Cancelling reason) self.old }
     {
         steps::move_to(&mut self.attempts, seq, Stage::Cancelling(reason));
     }
@@ -325,8 +326,8 @@ impl Live {
     /// it ended. Asked first: `can_done`.
     pub fn done(&mut self, seq: u32, device: DeviceNo) -> Option<Outcome>
         requires { IsTrue (can_done seq device self.old) }
-        ensures live { self.new ≡ without_ended seq (answered seq device answer.Done self.old) }
-        ensures outcome { result ≡ ended_in seq (answered seq device answer.Done self.old) }
+        ensures live { self.new ≡ without_ended seq (after_answer seq device answer.Done self.old) }
+        ensures outcome { result ≡ ended_in seq (after_answer seq device answer.Done self.old) }
     {
         let outcome = steps::settle(&mut self.attempts, seq, device, Answer::Done);
         self.holders = holders_of(&self.attempts);
@@ -337,8 +338,8 @@ impl Live {
     /// how it ended. Asked first: `can_let_go`.
     pub fn let_go(&mut self, seq: u32, device: DeviceNo) -> Option<Outcome>
         requires { IsTrue (can_let_go seq device self.old) }
-        ensures live { self.new ≡ without_ended seq (answered seq device answer.LetGo self.old) }
-        ensures outcome { result ≡ ended_in seq (answered seq device answer.LetGo self.old) }
+        ensures live { self.new ≡ without_ended seq (after_answer seq device answer.LetGo self.old) }
+        ensures outcome { result ≡ ended_in seq (after_answer seq device answer.LetGo self.old) }
     {
         let outcome = steps::settle(&mut self.attempts, seq, device, Answer::LetGo);
         self.holders = holders_of(&self.attempts);
@@ -349,8 +350,8 @@ impl Live {
     /// Asked first: `can_fail`.
     pub fn failed(&mut self, seq: u32, device: DeviceNo) -> Option<Outcome>
         requires { IsTrue (can_fail seq device self.old) }
-        ensures live { self.new ≡ without_ended seq (answered seq device answer.Failed self.old) }
-        ensures outcome { result ≡ ended_in seq (answered seq device answer.Failed self.old) }
+        ensures live { self.new ≡ without_ended seq (after_answer seq device answer.Failed self.old) }
+        ensures outcome { result ≡ ended_in seq (after_answer seq device answer.Failed self.old) }
     {
         let outcome = steps::settle(&mut self.attempts, seq, device, Answer::Failed);
         self.holders = holders_of(&self.attempts);

@@ -3,7 +3,8 @@ ghost use Rattle.std.specs.Prelude.{◌≡◌, ◌≤◌, IfOk, nat_lt, vec_len}
 ghost use Rattle.std.specs.List.{position, position_or_len};
 ghost use Rattle.cue_exchange.specs.Answers.{first_answer, first_answers};
 ghost use Rattle.cue_exchange.specs.Live.{due};
-ghost use Rattle.cue_exchange.specs.Steps.{answered, answers_as, changed, ended_in, goes_on, moved, moves_to};
+ghost use Rattle.cue_exchange.specs.Steps.{after_answer, answers_as, with_change, ended_in, goes_on, after_move};
+ghost use Rattle.cue_exchange.specs.Steps.{moves_to};
 ghost use Rattle.cue_exchange.specs.Steps.{without_ended};
 
 use crate::answers::Answers;
@@ -42,7 +43,7 @@ fn first_answer(part: &Part) -> DeviceAnswer
 
 // The device has answered in the attempt with the number.
 pub(crate) fn put_answer(attempts: &mut Vec<Attempt>, seq: u32, device: DeviceNo, answer: Answer)
-    ensures { attempts.new.items ≡ answered seq device answer attempts.old.items }
+    ensures { attempts.new.items ≡ after_answer seq device answer attempts.old.items }
 {
     for attempt in attempts.iter_mut() {
         answer_in(attempt, seq, device, answer);
@@ -50,7 +51,7 @@ pub(crate) fn put_answer(attempts: &mut Vec<Attempt>, seq: u32, device: DeviceNo
 }
 
 fn answer_in(attempt: &mut Attempt, seq: u32, device: DeviceNo, answer: Answer)
-    ensures { attempt.new ≡ changed seq (answers_as device answer) attempt.old }
+    ensures { attempt.new ≡ with_change seq (answers_as device answer) attempt.old }
 {
     if attempt.seq == seq {
         attempt.answers.put(device, answer);
@@ -59,7 +60,7 @@ fn answer_in(attempt: &mut Attempt, seq: u32, device: DeviceNo, answer: Answer)
 
 // The attempt with the number enters the stage.
 pub(crate) fn move_to(attempts: &mut Vec<Attempt>, seq: u32, stage: Stage)
-    ensures { attempts.new.items ≡ moved seq stage attempts.old.items }
+    ensures { attempts.new.items ≡ after_move seq stage attempts.old.items }
 {
     for attempt in attempts.iter_mut() {
         move_in(attempt, seq, stage);
@@ -67,7 +68,7 @@ pub(crate) fn move_to(attempts: &mut Vec<Attempt>, seq: u32, stage: Stage)
 }
 
 fn move_in(attempt: &mut Attempt, seq: u32, stage: Stage)
-    ensures { attempt.new ≡ changed seq (moves_to stage) attempt.old }
+    ensures { attempt.new ≡ with_change seq (moves_to stage) attempt.old }
 {
     if attempt.seq == seq {
         attempt.stage = stage;
@@ -82,8 +83,8 @@ pub(crate) fn settle(
     device: DeviceNo,
     answer: Answer,
 ) -> Option<Outcome>
-    ensures live { attempts.new.items ≡ without_ended seq (answered seq device answer attempts.old.items) }
-    ensures outcome { result ≡ ended_in seq (answered seq device answer attempts.old.items) }
+    ensures live { attempts.new.items ≡ without_ended seq (after_answer seq device answer attempts.old.items) }
+    ensures outcome { result ≡ ended_in seq (after_answer seq device answer attempts.old.items) }
 {
     put_answer(attempts, seq, device, answer);
     let outcome = outcome_in(attempts, seq);

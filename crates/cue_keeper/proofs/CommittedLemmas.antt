@@ -57,23 +57,23 @@ module _ {D : Type 0} {disk : Ghosts D} where
   -- what the live area stands for, the two disks stand for in their order
   pub stands_as : (s : ShowState) (pair : Snap D disk)
       → (disk.is_honest (live_of pair) → disk.is_honest (spare_of pair) → is_broken pair ≡ false
-          → PairLeaves (disk.held (live_of pair)) (disk.held (spare_of pair)) (live_area_of disk.held pair))
+      → PairLeaves (disk.held (live_of pair)) (disk.held (spare_of pair)) (live_area_of disk.held pair))
       → (disk.is_honest (live_of pair) → disk.is_honest (spare_of pair) → StandsFor (live_area_of disk.held pair) s)
       → is_broken pair ≡ false
       → disk.is_honest (first_of pair) → disk.is_honest (second_of pair)
-          → StandsAs (disk.held (first_of pair)) (disk.held (second_of pair)) s
+      → StandsAs (disk.held (first_of pair)) (disk.held (second_of pair)) s
   stands_as s pair reads stands works first second =
       let h = of_sides disk.moment disk.held disk.held_at disk.failures disk.is_honest (is_first_live pair)
-          (live_of pair) (spare_of pair) first second in
+      (live_of pair) (spare_of pair) first second in
       stands_in_order disk.held s (is_first_live pair) (live_of pair) (spare_of pair)
       (leaves_stands (disk.held (live_of pair)) (disk.held (spare_of pair)) (live_area_of disk.held pair) s
-          (reads h.0 h.1 works) (stands h.0 h.1))
+      (reads h.0 h.1 works) (stands h.0 h.1))
 
   -- no device call was made
   pub not_tried : (s : ShowState) (batch : List Event) (f : Fault) (pair : Snap D disk)
       → ((x : D) → disk.is_honest x → disk.held_at x (disk.moment x) ≡ disk.held x)
       → (disk.is_honest (first_of pair) → disk.is_honest (second_of pair)
-          → StandsAs (disk.held (first_of pair)) (disk.held (second_of pair)) s)
+      → StandsAs (disk.held (first_of pair)) (disk.held (second_of pair)) s)
       → is_broken pair ≡ false
       → HasCause s batch pair pair f
       → LeavesPair pair pair f
@@ -93,7 +93,7 @@ module _ {D : Type 0} {disk : Ghosts D} where
     area = λ _ _ _. tt;
     any_moment = λ first second _.
         rests disk.moment disk.held disk.held_at disk.failures disk.is_honest (first_of pair) (second_of pair)
-            (StandsEither s (after_events s batch)) (now (first_of pair)) (now (second_of pair))
+        (StandsEither s (after_events s batch)) (now (first_of pair)) (now (second_of pair))
         (λ h k x y left_x left_y. inl (stands h k x y left_x left_y)) first second;
     first_failures = omega arith;
     second_failures = omega arith;
@@ -112,7 +112,7 @@ module _ {D : Type 0} {disk : Ghosts D} where
       → (NeedsNewArea old batch → IsAtTheLast old → ⊥)
       → (NeedsNewArea old batch → HasAGeneration old → HasNoRoom s batch → ⊥)
       → Moves disk.moment disk.held_at disk.failures disk.is_honest (first_of old) (second_of old) (first_of new)
-          (second_of new) (StandsEither s (after_events s batch))
+      (second_of new) (StandsEither s (after_events s batch))
       → HasFailed old new
       → is_broken new ≡ true
       → Commits s batch (Some fault.Disk) old new
@@ -144,13 +144,13 @@ module _ {D : Type 0} {disk : Ghosts D} where
       → (NeedsNewArea old batch → IsAtTheLast old → ⊥)
       → (NeedsNewArea old batch → HasAGeneration old → HasNoRoom s batch → ⊥)
       → Moves disk.moment disk.held_at disk.failures disk.is_honest (first_of old) (second_of old) (first_of new)
-          (second_of new) (StandsEither s (after_events s batch))
+      (second_of new) (StandsEither s (after_events s batch))
       → is_broken new ≡ false
       → generation_of new ≡ (if is_due (count_of old) (end_of old) (length (batch_text batch)) then generation_of old +
-          1 else generation_of old)
+      1 else generation_of old)
       → count_of new ≡ (if is_due (count_of old) (end_of old) (length (batch_text batch)) then 1 else count_of old + 1)
       → (disk.is_honest (first_of old) → disk.is_honest (second_of old) → NeedsNewArea old batch
-          → live_area_of disk.held new ≡ with_payload (fresh (generation_of old + 1) (state_text s)) (batch_text batch))
+      → live_area_of disk.held new ≡ with_payload (fresh (generation_of old + 1) (state_text s)) (batch_text batch))
       → Commits s batch None old new
   done s batch old new some works not_last has_room moves still generation count area = record {
     cause = tt;
@@ -198,7 +198,7 @@ module _ {D : Type 0} {disk : Ghosts D} where
   pub none_given : (s : ShowState) (batch : List Event) (pair : Snap D disk)
       → ((x : D) → disk.is_honest x → disk.held_at x (disk.moment x) ≡ disk.held x)
       → (disk.is_honest (first_of pair) → disk.is_honest (second_of pair)
-          → StandsAs (disk.held (first_of pair)) (disk.held (second_of pair)) s)
+      → StandsAs (disk.held (first_of pair)) (disk.held (second_of pair)) s)
       → is_broken pair ≡ false
       → batch ≡ []
       → Commits s batch None pair pair
@@ -215,7 +215,7 @@ module _ {D : Type 0} {disk : Ghosts D} where
     area = λ _ _ needs. absurd (not_some batch none needs.0);
     any_moment = λ first second _.
         rests disk.moment disk.held disk.held_at disk.failures disk.is_honest (first_of pair) (second_of pair)
-            (StandsEither s (after_events s batch)) (now (first_of pair)) (now (second_of pair))
+        (StandsEither s (after_events s batch)) (now (first_of pair)) (now (second_of pair))
         (λ h k x y left_x left_y. inl (stands h k x y left_x left_y)) first second;
     first_failures = omega arith;
     second_failures = omega arith;
@@ -230,7 +230,7 @@ module _ {D : Type 0} {disk : Ghosts D} where
   pub out_of_memory : (s : ShowState) (batch : List Event) (pair : Snap D disk)
       → ((x : D) → disk.is_honest x → disk.held_at x (disk.moment x) ≡ disk.held x)
       → (disk.is_honest (first_of pair) → disk.is_honest (second_of pair)
-          → StandsAs (disk.held (first_of pair)) (disk.held (second_of pair)) s)
+      → StandsAs (disk.held (first_of pair)) (disk.held (second_of pair)) s)
       → is_broken pair ≡ false
       → Commits s batch (Some fault.Memory) pair pair
   out_of_memory s batch pair now stands works = not_tried s batch fault.Memory pair now stands works tt refl

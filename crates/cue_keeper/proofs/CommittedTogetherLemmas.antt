@@ -76,7 +76,7 @@ module _ {D : Type 0} {disk : Ghosts D} where
   pub without_room : (s : ShowState) (batches : List (List Event)) (pair : Snap D disk)
       → ((x : D) → disk.is_honest x → disk.held_at x (disk.moment x) ≡ disk.held x)
       → (disk.is_honest (first_of pair) → disk.is_honest (second_of pair)
-          → StandsAs (disk.held (first_of pair)) (disk.held (second_of pair)) s)
+      → StandsAs (disk.held (first_of pair)) (disk.held (second_of pair)) s)
       → is_broken pair ≡ false
       → AreSeveral batches
       → LackRoom pair batches
@@ -94,7 +94,7 @@ module _ {D : Type 0} {disk : Ghosts D} where
     area = λ _ _ _. tt;
     any_moment = λ first second _.
         rests disk.moment disk.held disk.held_at disk.failures disk.is_honest (first_of pair) (second_of pair)
-            (StandsEither s (folded_all s batches)) (now (first_of pair)) (now (second_of pair))
+        (StandsEither s (folded_all s batches)) (now (first_of pair)) (now (second_of pair))
         (λ h k x y left_x left_y. inl (stands h k x y left_x left_y)) first second;
     first_failures = omega arith;
     second_failures = omega arith;
@@ -106,7 +106,7 @@ module _ {D : Type 0} {disk : Ghosts D} where
   pub none_together : (s : ShowState) (batches : List (List Event)) (pair : Snap D disk)
       → ((x : D) → disk.is_honest x → disk.held_at x (disk.moment x) ≡ disk.held x)
       → (disk.is_honest (first_of pair) → disk.is_honest (second_of pair)
-          → StandsAs (disk.held (first_of pair)) (disk.held (second_of pair)) s)
+      → StandsAs (disk.held (first_of pair)) (disk.held (second_of pair)) s)
       → is_broken pair ≡ false
       → with_events batches ≡ []
       → CommitsTogether s batches None pair pair
@@ -123,7 +123,7 @@ module _ {D : Type 0} {disk : Ghosts D} where
     area = λ _ _ several. absurd (not_none batches several none);
     any_moment = λ first second _.
         rests disk.moment disk.held disk.held_at disk.failures disk.is_honest (first_of pair) (second_of pair)
-            (StandsEither s (folded_all s batches)) (now (first_of pair)) (now (second_of pair))
+        (StandsEither s (folded_all s batches)) (now (first_of pair)) (now (second_of pair))
         (λ h k x y left_x left_y. inl (stands h k x y left_x left_y)) first second;
     first_failures = omega arith;
     second_failures = omega arith;
@@ -138,7 +138,7 @@ module _ {D : Type 0} {disk : Ghosts D} where
   pub memory_together : (s : ShowState) (batches : List (List Event)) (pair : Snap D disk)
       → ((x : D) → disk.is_honest x → disk.held_at x (disk.moment x) ≡ disk.held x)
       → (disk.is_honest (first_of pair) → disk.is_honest (second_of pair)
-          → StandsAs (disk.held (first_of pair)) (disk.held (second_of pair)) s)
+      → StandsAs (disk.held (first_of pair)) (disk.held (second_of pair)) s)
       → is_broken pair ≡ false
       → CommitsTogether s batches (Some fault.Memory) pair pair
   memory_together s batches pair now stands works = record {
@@ -154,7 +154,7 @@ module _ {D : Type 0} {disk : Ghosts D} where
     area = λ _ _ _. tt;
     any_moment = λ first second _.
         rests disk.moment disk.held disk.held_at disk.failures disk.is_honest (first_of pair) (second_of pair)
-            (StandsEither s (folded_all s batches)) (now (first_of pair)) (now (second_of pair))
+        (StandsEither s (folded_all s batches)) (now (first_of pair)) (now (second_of pair))
         (λ h k x y left_x left_y. inl (stands h k x y left_x left_y)) first second;
     first_failures = omega arith;
     second_failures = omega arith;
@@ -189,7 +189,7 @@ module _ {D : Type 0} {disk : Ghosts D} where
       → is_broken old ≡ false
       → (LackRoom old batches → ⊥)
       → Moves disk.moment disk.held_at disk.failures disk.is_honest (first_of old) (second_of old) (first_of new)
-          (second_of new) (StandsEither s (folded_all s batches))
+      (second_of new) (StandsEither s (folded_all s batches))
       → HasFailed old new
       → is_broken new ≡ true
       → CommitsTogether s batches (Some fault.Disk) old new
@@ -217,12 +217,12 @@ module _ {D : Type 0} {disk : Ghosts D} where
       → is_broken old ≡ false
       → (LackRoom old batches → ⊥)
       → Moves disk.moment disk.held_at disk.failures disk.is_honest (first_of old) (second_of old) (first_of new)
-          (second_of new) (StandsEither s (folded_all s batches))
+      (second_of new) (StandsEither s (folded_all s batches))
       → is_broken new ≡ false
       → generation_of new ≡ generation_of old
       → count_of new ≡ count_of old + length (with_events batches)
       → (disk.is_honest (first_of old) → disk.is_honest (second_of old)
-          → live_area_of disk.held new ≡ with_payloads (live_area_of disk.held old) (records_of batches))
+      → live_area_of disk.held new ≡ with_payloads (live_area_of disk.held old) (records_of batches))
       → CommitsTogether s batches None old new
   done_together s batches old new several works has_room moves still generation count area = record {
     alone = λ batch one. absurd (not_several batches batch several one);

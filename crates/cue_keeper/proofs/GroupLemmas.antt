@@ -54,12 +54,12 @@ pub grown : (batches : List (List Event)) (batch : List Event) (records new_reco
     (bytes new_bytes : ℕ) → IsGroup batches records bytes → IsTrue (is_batch batch)
     → length (batch_text batch) ≤ PAYLOAD_LIMIT → 1 ≤ length batch
     → new_records ≡ records ++ batch_text batch ∷ [] → new_bytes ≡ bytes + length (batch_text batch)
-        → IsGroup (batches ++ batch ∷ []) new_records new_bytes
+    → IsGroup (batches ++ batch ∷ []) new_records new_bytes
 grown batches batch records new_records bytes new_bytes group is short some framed long = record {
   each = each_more batches batch group.each (λ _. fits batch is short);
   framed = framed ∙ ap (λ (rs : List (List ℕ)). rs ++ batch_text batch ∷ []) group.framed
       ∙ sym (ap (map batch_text) (with_more batches batch some)
-          ∙ map-append batch_text (with_events batches) (batch ∷ []));
+      ∙ map-append batch_text (with_events batches) (batch ∷ []));
   long = long ∙ ap (λ (n : ℕ). n + length (batch_text batch)) group.long
       ∙ sym (ap (sum_by length) framed ∙ sum_by_push length records (batch_text batch));
 }
@@ -100,7 +100,7 @@ in_turn_together s ((e ∷ es) ∷ batches) each may =
     let l = both (are_acceptable s (e ∷ es)) (are_all_acceptable (after_events s (e ∷ es)) batches) may in
     let one = both (is_batch (e ∷ es)) (nat_le (length (batch_text (e ∷ es))) PAYLOAD_LIMIT) k.0 in
     into_turn s (e ∷ es) (with_events batches)
-        (record { is_one = one.0; acceptable = l.0; rest = in_turn_together (after_events s (e ∷ es)) batches k.1 l.1 })
+    (record { is_one = one.0; acceptable = l.0; rest = in_turn_together (after_events s (e ∷ es)) batches k.1 l.1 })
 
 -- and change what all of them change
 pub folded_together : (s : ShowState) (batches : List (List Event))
@@ -118,7 +118,7 @@ pub acceptable_only : (s : ShowState) (batches : List (List Event)) (batch : Lis
     → IsTrue (are_all_acceptable s batches) → with_events batches ≡ batch ∷ [] → IsTrue (are_acceptable s batch)
 acceptable_only s batches batch each may only =
     (in_turn s batch [] (subst (λ (bs : List (List Event)). IsTrue (are_in_turn s bs)) only
-        (in_turn_together s batches each may))).acceptable
+    (in_turn_together s batches each may))).acceptable
 
 -- of none
 pub folded_none : (s : ShowState) (batches : List (List Event)) → with_events batches ≡ [] → s ≡ folded_all s batches
@@ -131,8 +131,12 @@ in_turn_all s [] then h k = k
 in_turn_all s (batch ∷ first) then h k =
     let t = in_turn s batch first h in
     into_turn s batch (first ++ then)
-        (record { is_one = t.is_one; acceptable = t.acceptable; rest =
-        in_turn_all (after_events s batch) first then t.rest k })
+    (record {
+      is_one = t.is_one;
+      acceptable = t.acceptable;
+      rest =
+          in_turn_all (after_events s batch) first then t.rest k;
+    })
 
 pub folded_append : (s : ShowState) (first then : List (List Event))
     → folded_all s (first ++ then) ≡ folded_all (folded_all s first) then

@@ -13,7 +13,7 @@ pub in_order : {D : Type 0} (Q : D → D → D → D → Type 0)
     → ((a b new_a new_b : D) → Q a b new_a new_b → Q b a new_b new_a)
     → (was is : Bool) (live spare new_live new_spare : D) → is ≡ was → Q live spare new_live new_spare
     → Q (if was then live else spare) (if was then spare else live) (if is then new_live else new_spare)
-        (if is then new_spare else new_live)
+    (if is then new_spare else new_live)
 in_order Q turn true is live spare new_live new_spare same fact = rw same fact
 in_order Q turn false is live spare new_live new_spare same fact = rw same (turn live spare new_live new_spare fact)
 
@@ -22,7 +22,7 @@ pub in_turned_order : {D : Type 0} (Q : D → D → D → D → Type 0)
     → ((a b new_a new_b : D) → Q a b new_a new_b → Q b a new_b new_a)
     → (was is : Bool) (live spare new_live new_spare : D) → is ≡ not was → Q live spare new_spare new_live
     → Q (if was then live else spare) (if was then spare else live) (if is then new_live else new_spare)
-        (if is then new_spare else new_live)
+    (if is then new_spare else new_live)
 in_turned_order Q turn true is live spare new_live new_spare same fact = rw same fact
 in_turned_order Q turn false is live spare new_live new_spare same fact =
     rw same (turn live spare new_spare new_live fact)
@@ -64,7 +64,7 @@ module _ {D : Type 0} (moment : D → ℕ) (held : D → Contents) (held_at : D 
     honest_b = writes.honest;
     leaves = λ rests honest.
         let run : LeavesAtEachMoment moment held_at old new (P (held rest).bytes) =
-            writes.leaves rests honest (held rest).bytes (image rests) in
+        writes.leaves rests honest (held rest).bytes (image rests) in
         record {
           later_a = omega arith;
           later_b = run.later;
@@ -73,7 +73,7 @@ module _ {D : Type 0} (moment : D → ℕ) (held : D → Contents) (held_at : D 
           each = λ i j from_i to_i from_j to_j x y left_x left_y.
               let is_now : i ≡ moment rest = omega arith in
               (writes.leaves rests honest x (subst (λ (c : Contents). IsImage c x) (ap (held_at rest) is_now
-                  ∙ now rests) left_x)).each j from_j to_j y left_y;
+              ∙ now rests) left_x)).each j from_j to_j y left_y;
         };
   }
 
@@ -125,7 +125,7 @@ module _ {D : Type 0} (moment : D → ℕ) (held : D → Contents) (held_at : D 
         let is_a : i ≡ moment a = omega arith in
         let is_b : j ≡ moment b = omega arith in
         here honest_a honest_b x y (subst (λ (c : Contents). IsImage c x) (ap (held_at a) is_a ∙ now_a honest_a) left_x)
-            (subst (λ (c : Contents). IsImage c y) (ap (held_at b) is_b ∙ now_b honest_b) left_y);
+        (subst (λ (c : Contents). IsImage c y) (ap (held_at b) is_b ∙ now_b honest_b) left_y);
   }
 
   -- The live disk is written.
@@ -135,13 +135,13 @@ module _ {D : Type 0} (moment : D → ℕ) (held : D → Contents) (held_at : D 
       → (is_honest spare → IsImage (held spare) (held spare).bytes)
       → Writes moment held held_at failures is_honest spare live new_live P
       → Moves moment held_at failures is_honest (if was then live else spare) (if was then spare else live)
-          (if is then new_live else new_spare) (if is then new_spare else new_live) P
+      (if is then new_live else new_spare) (if is then new_spare else new_live) P
   live_written P turn was is live spare new_live new_spare same rest now image writes =
       let moves : Moves moment held_at failures is_honest live spare new_live spare P =
-          moves_swapped P turn spare live spare new_live (moves_of spare live new_live P now image writes) in
+      moves_swapped P turn spare live spare new_live (moves_of spare live new_live P now image writes) in
       in_order (λ a b new_a new_b. Moves moment held_at failures is_honest a b new_a new_b P) (moves_swapped P turn) was
-          is live spare new_live new_spare same
-          (subst (λ (d : D). Moves moment held_at failures is_honest live spare new_live d P) (sym rest) moves)
+      is live spare new_live new_spare same
+      (subst (λ (d : D). Moves moment held_at failures is_honest live spare new_live d P) (sym rest) moves)
 
   -- The spare disk is written, and stays spare.
   pub spare_written : (P : List ℕ → List ℕ → Type 0) → ((x y : List ℕ) → P x y → P y x)
@@ -150,13 +150,13 @@ module _ {D : Type 0} (moment : D → ℕ) (held : D → Contents) (held_at : D 
       → (is_honest live → IsImage (held live) (held live).bytes)
       → Writes moment held held_at failures is_honest live spare new_spare P
       → Moves moment held_at failures is_honest (if was then live else spare) (if was then spare else live)
-          (if is then new_live else new_spare) (if is then new_spare else new_live) P
+      (if is then new_live else new_spare) (if is then new_spare else new_live) P
   spare_written P turn was is live spare new_live new_spare same rest now image writes =
       let moves : Moves moment held_at failures is_honest live spare live new_spare P =
-          moves_of live spare new_spare P now image writes in
+      moves_of live spare new_spare P now image writes in
       in_order (λ a b new_a new_b. Moves moment held_at failures is_honest a b new_a new_b P) (moves_swapped P turn) was
-          is live spare new_live new_spare same
-          (subst (λ (d : D). Moves moment held_at failures is_honest live spare d new_spare P) (sym rest) moves)
+      is live spare new_live new_spare same
+      (subst (λ (d : D). Moves moment held_at failures is_honest live spare d new_spare P) (sym rest) moves)
 
   -- The spare disk is written, and is live afterwards.
   pub spare_turned : (P : List ℕ → List ℕ → Type 0) → ((x y : List ℕ) → P x y → P y x)
@@ -165,13 +165,13 @@ module _ {D : Type 0} (moment : D → ℕ) (held : D → Contents) (held_at : D 
       → (is_honest live → IsImage (held live) (held live).bytes)
       → Writes moment held held_at failures is_honest live spare new_live P
       → Moves moment held_at failures is_honest (if was then live else spare) (if was then spare else live)
-          (if is then new_live else new_spare) (if is then new_spare else new_live) P
+      (if is then new_live else new_spare) (if is then new_spare else new_live) P
   spare_turned P turn was is live spare new_live new_spare same rest now image writes =
       let moves : Moves moment held_at failures is_honest live spare live new_live P =
-          moves_of live spare new_live P now image writes in
+      moves_of live spare new_live P now image writes in
       in_turned_order (λ a b new_a new_b. Moves moment held_at failures is_honest a b new_a new_b P)
-          (moves_swapped P turn) was is live spare new_live new_spare same
-          (subst (λ (d : D). Moves moment held_at failures is_honest live spare d new_live P) (sym rest) moves)
+      (moves_swapped P turn) was is live spare new_live new_spare same
+      (subst (λ (d : D). Moves moment held_at failures is_honest live spare d new_live P) (sym rest) moves)
 
   -- two facts, told of the disks in their order, and back
   pub in_sides : (was : Bool) (live spare : D) → is_honest live → is_honest spare
@@ -212,11 +212,11 @@ module _ {D : Type 0} (moment : D → ℕ) (held : D → Contents) (held_at : D 
       → (is_honest live → held_at live (moment live) ≡ held live)
       → (is_honest spare → held_at spare (moment spare) ≡ held spare)
       → (is_honest live → is_honest spare → (x y : List ℕ) → IsImage (held live) x → IsImage (held spare) y → P x y)
-          → Moves moment held_at failures is_honest (if was then live else spare) (if was then spare else live)
-          (if was then live else spare) (if was then spare else live) P
+      → Moves moment held_at failures is_honest (if was then live else spare) (if was then spare else live)
+      (if was then live else spare) (if was then spare else live) P
   moves_none P turn was live spare now_live now_spare here =
       in_order (λ a b new_a new_b. Moves moment held_at failures is_honest a b new_a new_b P) (moves_swapped P turn) was
-          was live spare live spare refl
+      was live spare live spare refl
       (record {
         failures_a = omega arith;
         failures_b = omega arith;

@@ -35,12 +35,12 @@ is_opened x y s stands =
       λ other.
           let same : other.area ≡ stands.area = one_of_a_pair other.area stands.area x y other.reads stands.reads in
           let own : is_other_version other.area.snapshot ≡ false = ap (λ (a : Area). is_other_version a.snapshot) same
-              ∙ own_version stands.area.snapshot stands.stands.base stands.stands.base_text in
+          ∙ own_version stands.area.snapshot stands.stands.base stands.stands.base_text in
           let version = other.version in
           absurd cc,
       λ malformed.
           let same : malformed.area ≡ stands.area = one_of_a_pair malformed.area stands.area x y malformed.reads
-              stands.reads in
+          stands.reads in
           malformed.none s (subst (λ (a : Area). StandsFor a s) (sym same) stands.stands),
     )
 

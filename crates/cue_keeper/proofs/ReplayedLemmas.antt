@@ -98,6 +98,6 @@ pub none_stands : (area : Area) (snapshot : List ℕ) (payloads : List (List ℕ
     → payloads ≡ area.payloads → state_read snapshot payloads ≡ None → (s : ShowState) → StandsFor area s → ⊥
 none_stands area snapshot payloads one other read s stands =
     let none : state_in area ≡ None = ap (λ x. state_read x area.payloads) (sym one)
-        ∙ ap (state_read snapshot) (sym other) ∙ read in
+    ∙ ap (state_read snapshot) (sym other) ∙ read in
     let some : state_in area ≡ Some s = found area s stands in
     absurd cc

@@ -97,29 +97,29 @@ unfolding base_in
 base_again snapshot base h text =
     rw (state_laws.read_back snapshot base h text)
     (where_true (is_state base && is_state_text snapshot base) base
-        (join (is_state base) (is_state_text snapshot base) h ((state_laws.is_text-decides snapshot base).1 text)))
+    (join (is_state base) (is_state_text snapshot base) h ((state_laws.is_text-decides snapshot base).1 text)))
 
 pub batch_takes : (payload : List ℕ) (batch : List Event) → batch_in payload ≡ Some batch → IsTrue (is_batch batch)
     × (payload ≡ batch_text batch)
 unfolding batch_in
 batch_takes payload batch e =
     let x = bind_some (batch_of payload) (λ found. where_it (is_batch found && bytes_eq payload (batch_text found))
-        found) batch e in
+    found) batch e in
     let w = some_where (is_batch x.0 && bytes_eq payload (batch_text x.0)) x.0 batch x.2 in
     let k = both (is_batch x.0) (bytes_eq payload (batch_text x.0)) w.0 in
     subst (λ (found : List Event). IsTrue (is_batch found) × (payload ≡ batch_text found)) (sym w.1)
-        (k.0, (bytes_eq-Decides payload (batch_text x.0)).0 k.1)
+    (k.0, (bytes_eq-Decides payload (batch_text x.0)).0 k.1)
 
 pub base_takes : (snapshot : List ℕ) (base : ShowState) → base_in snapshot ≡ Some base
     → IsTrue (is_state base) × IsStateText snapshot base
 unfolding base_in
 base_takes snapshot base e =
     let x = bind_some (state_of snapshot) (λ found. where_it (is_state found && is_state_text snapshot found) found)
-        base e in
+    base e in
     let w = some_where (is_state x.0 && is_state_text snapshot x.0) x.0 base x.2 in
     let k = both (is_state x.0) (is_state_text snapshot x.0) w.0 in
     subst (λ (found : ShowState). IsTrue (is_state found) × IsStateText snapshot found) (sym w.1)
-        (k.0, (state_laws.is_text-decides snapshot x.0).0 k.1)
+    (k.0, (state_laws.is_text-decides snapshot x.0).0 k.1)
 
 finds_all : (s : ShowState) (batches : List (List Event)) → IsTrue (are_in_turn s batches)
     → state_after s (map batch_text batches) ≡ Some (folded_all s batches)
@@ -128,7 +128,7 @@ finds_all s [] h = refl
 finds_all s (batch ∷ batches) h =
     let k = in_turn s batch batches h in
     rw (batch_again batch k.is_one, where_true (are_acceptable s batch) (after_events s batch) k.acceptable)
-        (finds_all (after_events s batch) batches k.rest)
+    (finds_all (after_events s batch) batches k.rest)
 
 -- batches whose texts these are, in turn
 pub record Behind (s : ShowState) (payloads : List (List ℕ)) (t : ShowState) : Type 0 where
@@ -146,7 +146,7 @@ takes_all s t (payload ∷ payloads) e =
     let f = batch_takes payload y.0 y.1 in
     let w = some_where (are_acceptable s y.0) (after_events s y.0) x.0 y.2 in
     let rest = takes_all (after_events s y.0) t payloads
-        (subst (λ (u : ShowState). state_after u payloads ≡ Some t) w.1 x.2) in
+    (subst (λ (u : ShowState). state_after u payloads ≡ Some t) w.1 x.2) in
     record {
       batches = y.0 ∷ rest.batches;
       in_turn = into_turn s y.0 rest.batches (record { is_one = f.0; acceptable = w.0; rest = rest.in_turn });
@@ -158,9 +158,9 @@ pub found : (area : Area) (s : ShowState) → StandsFor area s → state_in area
 unfolding state_read
 found area s stands =
     let base : base_in area.snapshot ≡ Some stands.base =
-        base_again area.snapshot stands.base stands.is_base stands.base_text in
+    base_again area.snapshot stands.base stands.is_base stands.base_text in
     let tail : state_after stands.base area.payloads ≡ Some (folded_all stands.base stands.batches) =
-        ap (state_after stands.base) stands.texts ∙ finds_all stands.base stands.batches stands.in_turn in
+    ap (state_after stands.base) stands.texts ∙ finds_all stands.base stands.batches stands.in_turn in
     rw base (tail ∙ ap Some (sym stands.is))
 
 pub taken : (area : Area) (s : ShowState) → state_in area ≡ Some s → StandsFor area s
@@ -169,8 +169,16 @@ taken area s e =
     let x = bind_some (base_in area.snapshot) (λ base. state_after base area.payloads) s e in
     let f = base_takes area.snapshot x.0 x.1 in
     let rest = takes_all x.0 s area.payloads x.2 in
-    record { base = x.0; batches = rest.batches; is_base = f.0; in_turn = rest.in_turn; base_text = f.1; texts =
-        rest.texts; is = rest.is }
+    record {
+      base = x.0;
+      batches = rest.batches;
+      is_base = f.0;
+      in_turn = rest.in_turn;
+      base_text = f.1;
+      texts =
+          rest.texts;
+      is = rest.is;
+    }
 
 pub finds : ReaderFindsTheState
 finds area s = (found area s, taken area s)
@@ -196,8 +204,12 @@ in_turn_more s [] batch h one may = into_turn s batch [] (record { is_one = one;
 in_turn_more s (first ∷ batches) batch h one may =
     let k = in_turn s first batches h in
     into_turn s first (batches ++ batch ∷ [])
-        (record { is_one = k.is_one; acceptable = k.acceptable; rest =
-        in_turn_more (after_events s first) batches batch k.rest one may })
+    (record {
+      is_one = k.is_one;
+      acceptable = k.acceptable;
+      rest =
+          in_turn_more (after_events s first) batches batch k.rest one may;
+    })
 
 folded_more : (s : ShowState) (batches : List (List Event)) (batch : List Event)
     → folded_all s (batches ++ batch ∷ []) ≡ after_events (folded_all s batches) batch
@@ -227,8 +239,16 @@ area_more area s events payload stands one may text = record {
 pub fresh_stands : (generation : ℕ) (s : ShowState) (snapshot : List ℕ) → IsTrue (is_state s) → snapshot ≡ state_text s
     → StandsFor (fresh generation snapshot) s
 fresh_stands generation s snapshot keeps text =
-    record { base = s; batches = []; is_base = keeps; in_turn = refl; base_text =
-    subst (λ bytes. IsStateText bytes s) (sym text) (state_laws.written s); texts = refl; is = refl }
+    record {
+      base = s;
+      batches = [];
+      is_base = keeps;
+      in_turn = refl;
+      base_text =
+          subst (λ bytes. IsStateText bytes s) (sym text) (state_laws.written s);
+      texts = refl;
+      is = refl;
+    }
 
 -- ---- what a crash leaves
 

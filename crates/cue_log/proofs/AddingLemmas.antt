@@ -40,7 +40,7 @@ module _ {D : Type 0} {disk : Ghosts D} (payloads : List (List ℕ)) (log : Log 
   pub nothing_added : payloads ≡ [] → Appends {T = Unit0} payloads (Ok tt) log log
   nothing_added none =
       let same : area_of disk.held log ≡ with_payloads (area_of disk.held log) payloads =
-          with_none (area_of disk.held log) payloads none in
+      with_none (area_of disk.held log) payloads none in
       record {
         cause = tt;
         after = tt;
@@ -57,7 +57,7 @@ module _ {D : Type 0} {disk : Ghosts D} (payloads : List (List ℕ)) (log : Log 
         bytes = λ some. absurd (omega (arith, some, ap length none));
         any_moment = λ honest _.
             started disk.moment disk.held_at (disk_of log) (disk.held (disk_of log))
-                (IsEither (area_of disk.held log) (with_payloads (area_of disk.held log) payloads)) (now honest)
+            (IsEither (area_of disk.held log) (with_payloads (area_of disk.held log) payloads)) (now honest)
             (λ image left. inl (settled_reads (disk.held (disk_of log)) _ (log.settled honest works) image left));
         failures = omega arith;
         honest = (λ honest. honest, λ honest. honest);
@@ -80,7 +80,7 @@ module _ {D : Type 0} {disk : Ghosts D} (payloads : List (List ℕ)) (log : Log 
     bytes = λ _ _. tt;
     any_moment = λ honest _.
         started disk.moment disk.held_at (disk_of log) (disk.held (disk_of log))
-            (IsEither (area_of disk.held log) (with_payloads (area_of disk.held log) payloads)) (now honest)
+        (IsEither (area_of disk.held log) (with_payloads (area_of disk.held log) payloads)) (now honest)
         (λ image left. inl (settled_reads (disk.held (disk_of log)) _ (log.settled honest works) image left));
     failures = omega arith;
     honest = (λ honest. honest, λ honest. honest);

@@ -2,7 +2,8 @@
 use Rattle.std.specs.Prelude.{IsErr, OnOk, ◌↔◌}
 use Rattle.std.proofs.Common.{◌≡◌, Result, inl, refl, ℕ, ◌+◌, ◌<◌, ◌≤◌, true, List, [], ◌∷◌, length, sym, ◌∙◌, ap}
 use Rattle.std.proofs.Common.{subst, arith, length-append}
-use Rattle.cue_disk.specs.Disk.{Contents, IsImage, IsStable, Writes, overwritten, LeavesAtEachMoment, Elapses, Torn}
+use Rattle.cue_disk.specs.Disk.{Contents, IsImage, IsStable, Writes, overwritten_bytes, LeavesAtEachMoment, Elapses}
+use Rattle.cue_disk.specs.Disk.{Torn}
 use Rattle.cue_disk.specs.Disk.{MoreFailures}
 use Rattle.cue_disk.specs.declared.disk.Disk.{Ghosts}
 use Rattle.cue_disk.proofs.CrashLemmas.{image_torn}
@@ -27,7 +28,7 @@ pub record Done {T E D : Type 0} (disk : Ghosts D) (payloads : List (List ℕ)) 
       (IsEither (area_in (disk.held old).bytes) (with_payloads (area_in (disk.held old).bytes) payloads))
   pub area : OnOk result (area_in (disk.held new).bytes ≡ with_payloads (area_in (disk.held old).bytes) payloads)
   pub settled : OnOk result (IsSettled (disk.held new) (end + room_of payloads))
-  pub bytes : OnOk result ((disk.held new).bytes ≡ overwritten (disk.held old).bytes end (group_text payloads))
+  pub bytes : OnOk result ((disk.held new).bytes ≡ overwritten_bytes (disk.held old).bytes end (group_text payloads))
 
 module _ {D : Type 0} (disk : Ghosts D) (text : List ℕ) (end : ℕ) (framed : AreFramed text) (some : 1 < length text)
     (limit : end + length text ≤ AREA_LIMIT) (d0 : D) (settled : IsSettled (disk.held d0) end)
@@ -68,14 +69,14 @@ module _ {D : Type 0} (disk : Ghosts D) (text : List ℕ) (end : ℕ) (framed : 
     body_image image left =
         inl (body_torn area payloads (held d0).bytes stored end settled.is frame short settled.same_end room image
         (image_torn (end + 1) (length stored) (held d0) (held d1) image
-            (omega (arith, settled.is.ends, settled.same_end)) settled.stable writes left))
+        (omega (arith, settled.is.ends, settled.same_end)) settled.stable writes left))
 
     -- the records behind the closed gate
     pub body_leaves : LeavesAtEachMoment moment held_at d0 d1 Either
     body_leaves =
         goes_on moment held_at d0 d0 d1 Either (held d1)
         (started moment held_at d0 (held d0) Either now
-            (λ image left. inl (settled_reads (held d0) end settled image left))) time body_image
+        (λ image left. inl (settled_reads (held d0) end settled image left))) time body_image
 
     module _ (d2 : D) (fewer : (image : List ℕ) → IsImage (held d2) image → IsImage (held d1) image)
         (time2 : Elapses (moment d1) (moment d2) (held_at d1) (held_at d2) (held d2)) where
@@ -84,19 +85,23 @@ module _ {D : Type 0} (disk : Ghosts D) (text : List ℕ) (end : ℕ) (framed : 
       sync_leaves = goes_on moment held_at d0 d1 d2 Either (held d2) body_leaves time2
           (λ image left. body_image image (fewer image left))
 
-      module _ (d3 : D) (written : (held d1).bytes ≡ overwritten (held d0).bytes (end + 1) stored)
+      module _ (d3 : D) (written : (held d1).bytes ≡ overwritten_bytes (held d0).bytes (end + 1) stored)
           (same : (held d2).bytes ≡ (held d1).bytes) (stable : IsStable (held d2))
           (writes3 : Writes end 1 (held d2) (held d3))
           (time3 : Elapses (moment d2) (moment d3) (held_at d2) (held_at d3) (held d3)) where
         gate_image : (image : List ℕ) → IsImage (held d3) image → Either image
         gate_image image left =
             let bytes : (held d2).bytes ≡ behind_gate area payloads (held d0).bytes stored end settled.is frame short
-                settled.same_end room = same ∙ written in
+            settled.same_end room = same ∙ written in
             gate_torn area payloads (held d0).bytes stored end settled.is frame short settled.same_end room image
             (subst (λ (old : List ℕ). Torn end 1 old image) bytes
             (image_torn end 1 (held d2) (held d3) image
-                (omega (arith, ap length bytes, length-behind_gate area payloads (held d0).bytes stored end settled.is
-                frame short settled.same_end room)) stable writes3 left))
+            (omega (
+              arith,
+              ap length bytes,
+              length-behind_gate area payloads (held d0).bytes stored end settled.is
+                  frame short settled.same_end room,
+            )) stable writes3 left))
 
         -- the gate open
         pub gate_leaves : LeavesAtEachMoment moment held_at d0 d3 Either
@@ -110,14 +115,14 @@ module _ {D : Type 0} (disk : Ghosts D) (text : List ℕ) (end : ℕ) (framed : 
               (λ image left. gate_image image (fewer4 image left))
 
           -- All of them succeeded, as far as the last one did.
-          module _ (written3 : (held d3).bytes ≡ overwritten (held d2).bytes end (1 ∷ []))
+          module _ (written3 : (held d3).bytes ≡ overwritten_bytes (held d2).bytes end (1 ∷ []))
               (same4 : (held d4).bytes ≡ (held d3).bytes) where
             appended : IsArea (with_payloads area payloads) (held d4).bytes
             appended =
-                let bytes : (held d4).bytes ≡ overwritten
-                    (behind_gate area payloads (held d0).bytes stored end settled.is frame short settled.same_end room)
-                    end (1 ∷ []) =
-                same4 ∙ written3 ∙ ap (λ (l : List ℕ). overwritten l end (1 ∷ [])) (same ∙ written) in
+                let bytes : (held d4).bytes ≡ overwritten_bytes
+                (behind_gate area payloads (held d0).bytes stored end settled.is frame short settled.same_end room)
+                end (1 ∷ []) =
+                same4 ∙ written3 ∙ ap (λ (l : List ℕ). overwritten_bytes l end (1 ∷ [])) (same ∙ written) in
                 subst (λ (l : List ℕ). IsArea (with_payloads area payloads) l) (sym bytes)
                 (gate_written area payloads (held d0).bytes stored end settled.is frame short settled.same_end room)
 
@@ -128,17 +133,23 @@ module _ {D : Type 0} (disk : Ghosts D) (text : List ℕ) (end : ℕ) (framed : 
             settled_after stable4 = record {
               is = subst (λ (a : Area). IsArea a (held d4).bytes) (sym area_after) appended;
               stable = stable4;
-              same_end = omega (arith, settled.same_end, ap (λ (a : Area). length (area_text a)) area_after, ap length
-                  (area_text-append area payloads), length-append (area_text area) (records_text payloads),
-                  length-records payloads);
+              same_end = omega (
+                arith,
+                settled.same_end,
+                ap (λ (a : Area). length (area_text a)) area_after,
+                ap length
+                    (area_text-append area payloads),
+                length-append (area_text area) (records_text payloads),
+                length-records payloads,
+              );
             }
 
-            bytes_after : (held d4).bytes ≡ overwritten (held d0).bytes end (group_text payloads)
+            bytes_after : (held d4).bytes ≡ overwritten_bytes (held d0).bytes end (group_text payloads)
             bytes_after =
-                same4 ∙ written3 ∙ ap (λ (l : List ℕ). overwritten l end (1 ∷ [])) (same ∙ written)
+                same4 ∙ written3 ∙ ap (λ (l : List ℕ). overwritten_bytes l end (1 ∷ [])) (same ∙ written)
                 ∙ overwritten-front (held d0).bytes (1 ∷ []) stored end (end + 1)
-                    (omega (arith, settled.is.ends, settled.same_end)) refl
-                ∙ ap (λ (l : List ℕ). overwritten (held d0).bytes end l) frame
+                (omega (arith, settled.is.ends, settled.same_end)) refl
+                ∙ ap (λ (l : List ℕ). overwritten_bytes (held d0).bytes end l) frame
 
             pub done : {T E : Type 0} (result : Result T E) → OnOk result (IsStable (held d4))
                 → Done disk payloads result end d0 d4
@@ -153,7 +164,7 @@ module _ {D : Type 0} (disk : Ghosts D) (text : List ℕ) (end : ℕ) (framed : 
 pub failed : {T E D : Type 0} (disk : Ghosts D) (added : List (List ℕ)) (result : Result T E) (end : ℕ) (old new : D)
     → IsErr result
     → (disk.is_honest old → LeavesAtEachMoment disk.moment disk.held_at old new
-        (IsEither (area_in (disk.held old).bytes) (with_payloads (area_in (disk.held old).bytes) added)))
+    (IsEither (area_in (disk.held old).bytes) (with_payloads (area_in (disk.held old).bytes) added)))
     → MoreFailures (disk.failures old) (disk.failures new) × (disk.failures old ≤ disk.failures new)
     → (disk.is_honest new ↔ disk.is_honest old)
     → AppendsOn disk added result end old new

@@ -3,7 +3,7 @@ use Rattle.std.proofs.Common.{◌≡◌, ◌≢◌, inl, inr, ℕ, ◌+◌, ◌<
 use Rattle.std.proofs.Common.{drop, sym, ◌∙◌, ap, subst, arith, append_assoc, length-append}
 use Rattle.std.proofs.lemmas.Bool.{cases_eq}
 use Rattle.std.proofs.lemmas.List.{length-take, drop_at, take-take, take-append-le}
-use Rattle.cue_disk.specs.Disk.{Torn, overwritten}
+use Rattle.cue_disk.specs.Disk.{Torn, overwritten_bytes}
 use Rattle.cue_disk.proofs.CrashLemmas.{overwritten_torn, overwritten_within, length-overwritten}
 use Rattle.cue_log.specs.declared.area.TheConstants.{AREA_LIMIT}
 use Rattle.cue_log.specs.Area.{Area, IsArea, area_text, records_text, group_text, are_records, with_payloads}
@@ -20,7 +20,7 @@ module _ (area : Area) (payloads : List (List ℕ)) (bytes stored : List ℕ) (e
 
   -- the bytes once what is framed stands behind the last gate
   abbrev pub behind_gate : List ℕ
-  behind_gate = overwritten bytes (end + 1) stored
+  behind_gate = overwritten_bytes bytes (end + 1) stored
 
   front_long : length (take (end + 1) bytes) ≡ end + 1
   front_long = omega (arith, length-take (end + 1) bytes, is.ends, ends)
@@ -50,8 +50,16 @@ module _ (area : Area) (payloads : List (List ℕ)) (bytes stored : List ℕ) (e
       ∙ (simp append_assoc)
       ∙ ap (λ (l : List ℕ). l ++ 0 ∷ rest) (sym (area_text-append area payloads)) in
       reads (with_payloads area payloads) 0 rest image joined (λ equal. absurd (cc (equal)))
-      (omega (arith, ap length (area_text-append area payloads), length-append (area_text area) (records_text payloads),
-          length-records payloads, ap length frame, length-group payloads, room, ends))
+      (omega (
+        arith,
+        ap length (area_text-append area payloads),
+        length-append (area_text area) (records_text payloads),
+        length-records payloads,
+        ap length frame,
+        length-group payloads,
+        room,
+        ends,
+      ))
       is.generation
       (are_records-append area.payloads payloads is.records short)
 
@@ -80,13 +88,13 @@ module _ (area : Area) (payloads : List (List ℕ)) (bytes stored : List ℕ) (e
       (subst (λ (n : ℕ). take (n + 1) image ≡ take (n + 1) bytes) ends torn.before)
 
   -- the gate's write done
-  pub gate_written : IsArea (with_payloads area payloads) (overwritten behind_gate end (1 ∷ []))
+  pub gate_written : IsArea (with_payloads area payloads) (overwritten_bytes behind_gate end (1 ∷ []))
   gate_written =
-      let image : List ℕ = overwritten behind_gate end (1 ∷ []) in
+      let image : List ℕ = overwritten_bytes behind_gate end (1 ∷ []) in
       let torn : Torn end 1 behind_gate image =
-          overwritten_torn behind_gate (1 ∷ []) end 1 (omega (arith, length-behind_gate)) (omega arith) in
+      overwritten_torn behind_gate (1 ∷ []) end 1 (omega (arith, length-behind_gate)) (omega arith) in
       let long : end < length image = omega (arith, torn.no_shorter, length-behind_gate) in
       let one : get_or image end 0 ≡ 1 = ap (λ (n : ℕ). get_or image n 0) (omega arith)
-          ∙ overwritten_within behind_gate (1 ∷ []) end 0 (omega (arith, length-behind_gate)) (omega arith) in
+      ∙ overwritten_within behind_gate (1 ∷ []) end 0 (omega (arith, length-behind_gate)) (omega arith) in
       opened image (split_at image end long
-          ∙ (λ i. (torn.before ∙ text_first) i ++ one i ∷ (torn.after ∙ stored_next) i))
+      ∙ (λ i. (torn.before ∙ text_first) i ++ one i ∷ (torn.after ∙ stored_next) i))

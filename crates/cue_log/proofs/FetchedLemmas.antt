@@ -42,7 +42,7 @@ reads_next moment held held_at old mid new first second = record {
 take_both : (n more : ℕ) (bytes : List ℕ) → take (n + more) bytes ≡ take n bytes ++ take more (drop n bytes)
 take_both n more bytes =
     sym (take-append-drop n (take (n + more) bytes))
-        ∙ (λ i. take-take n (n + more) bytes (omega arith) i ++ drop-take n more bytes i)
+    ∙ (λ i. take-take n (n + more) bytes (omega arith) i ++ drop-take n more bytes i)
 
 -- What is read behind a front makes a longer front.
 pub front_more : (bytes text next : List ℕ) (more : ℕ) → text ≡ take (length text) bytes
@@ -50,7 +50,7 @@ pub front_more : (bytes text next : List ℕ) (more : ℕ) → text ≡ take (le
     → next ≡ take (length next) bytes
 front_more bytes text next more front is long =
     is ∙ ap (λ (l : List ℕ). l ++ take more (drop (length text) bytes)) front ∙ sym (take_both (length text) more bytes)
-        ∙ ap (λ (n : ℕ). take n bytes) (sym long)
+    ∙ ap (λ (n : ℕ). take n bytes) (sym long)
 
 -- A sync, and then only reads: a crash leaves what it might have left before.
 pub synced_reads : {D : Type 0} (moment : D → ℕ) (held : D → Contents) (held_at : D → ℕ → Contents) (d0 d1 d2 d3 d4 : D)
@@ -62,14 +62,14 @@ pub synced_reads : {D : Type 0} (moment : D → ℕ) (held : D → Contents) (he
 synced_reads moment held held_at d0 d1 d2 d3 d4 now fewer time1 same2 time2 same3 time3 reads4 =
     let P : List ℕ → Type 0 = IsImage (held d0) in
     let second : (image : List ℕ) → IsImage (held d2) image
-        → P image = λ image left. fewer image (subst (λ (c : Contents). IsImage c image) same2 left) in
+    → P image = λ image left. fewer image (subst (λ (c : Contents). IsImage c image) same2 left) in
     let third : (image : List ℕ) → IsImage (held d3) image
-        → P image = λ image left. second image (subst (λ (c : Contents). IsImage c image) same3 left) in
+    → P image = λ image left. second image (subst (λ (c : Contents). IsImage c image) same3 left) in
     and_then moment held_at d0 d3 d4 P
     (goes_on moment held_at d0 d2 d3 P (held d3)
     (goes_on moment held_at d0 d1 d2 P (held d2)
     (goes_on moment held_at d0 d0 d1 P (held d1) (started moment held_at d0 (held d0) P now (λ image left. left)) time1
-        fewer)
+    fewer)
     time2 second)
     time3 third)
     (weaker moment held_at d3 d4 (IsImage (held d3)) P third reads4.leaves)

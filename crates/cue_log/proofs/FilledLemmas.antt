@@ -3,11 +3,12 @@ use Rattle.std.proofs.Common.{◌≡◌, ◌≢◌, inl, inr, ℕ, ◌+◌, ◌<
 use Rattle.std.proofs.Common.{drop, refl, sym, ◌∙◌, ap, subst, arith, append_assoc, length-append, length-drop}
 use Rattle.std.proofs.lemmas.Bool.{cases_eq}
 use Rattle.std.proofs.lemmas.List.{append-nil, length-take, take_at, drop_at}
-use Rattle.cue_disk.specs.Disk.{Contents, IsImage, IsStable, Torn, Writes, overwritten, LeavesAtEachMoment, Elapses}
+use Rattle.cue_disk.specs.Disk.{Contents, IsImage, IsStable, Torn, Writes, overwritten_bytes, LeavesAtEachMoment}
+use Rattle.cue_disk.specs.Disk.{Elapses}
 use Rattle.cue_disk.proofs.CrashLemmas.{image_stable, image_torn, torn_elsewhere}
 use Rattle.cue_disk.proofs.MomentLemmas.{started, goes_on}
 use Rattle.cue_log.specs.declared.area.TheConstants.{AREA_LIMIT, HEAD_LEN}
-use Rattle.cue_log.specs.Area.{Area, IsArea, IsAbsent, area_text, body_text, fresh, framed, eight_bytes, four_bytes}
+use Rattle.cue_log.specs.Area.{Area, IsArea, IsAbsent, area_text, body_text, fresh, frame_of, eight_bytes, four_bytes}
 use Rattle.cue_log.specs.Reading.{area_in}
 use Rattle.cue_log.specs.Log.{IsSettled, IsShut, IsFilled, IsNoneOr}
 use Rattle.cue_log.proofs.TextLemmas.{split_at, reads, length-framed, length-eight_bytes}
@@ -42,32 +43,39 @@ shut_leaves moment held held_at old mid new so_far shut time =
 
 -- what stands up to the end of a write
 written_front : (old bytes : List ℕ) (at : ℕ) → at ≤ length old
-    → take (at + length bytes) (overwritten old at bytes) ≡ take at old ++ bytes
+    → take (at + length bytes) (overwritten_bytes old at bytes) ≡ take at old ++ bytes
 written_front old bytes at within =
     take_at (take at old ++ bytes) (drop (at + length bytes) old) (at + length bytes)
     (omega (arith, length-append (take at old) bytes, length-take at old))
 
 -- Three writes, one behind the other: what stands behind the head gate.
 pub body_written : (b0 b1 b2 b3 header snapshot : List ℕ) → 0 < length b0 → length header ≡ 12
-    → b1 ≡ overwritten b0 1 header → b2 ≡ overwritten b1 13 snapshot
-    → b3 ≡ overwritten b2 (13 + length snapshot) (0 ∷ [])
+    → b1 ≡ overwritten_bytes b0 1 header → b2 ≡ overwritten_bytes b1 13 snapshot
+    → b3 ≡ overwritten_bytes b2 (13 + length snapshot) (0 ∷ [])
     → drop 1 b3 ≡ (header ++ snapshot) ++ 0 ∷ drop (13 + length snapshot + 1) b2
 body_written b0 b1 b2 b3 header snapshot some long is1 is2 is3 =
     let first : take 13 b1 ≡ take 1 b0 ++ header =
     let thirteen : 13 ≡ 1 + length header = omega (arith, long) in
-    ap (λ (l : List ℕ). take 13 l) is1 ∙ ap (λ (n : ℕ). take n (overwritten b0 1 header)) thirteen
-        ∙ written_front b0 header 1 (omega (arith, some)) in
+    ap (λ (l : List ℕ). take 13 l) is1 ∙ ap (λ (n : ℕ). take n (overwritten_bytes b0 1 header)) thirteen
+    ∙ written_front b0 header 1 (omega (arith, some)) in
     let reach1 : 13 ≤ length b1 =
-        omega (arith, ap length first, length-append (take 1 b0) header, length-take 1 b0, length-take 13 b1, some,
-        long) in
+    omega (
+      arith,
+      ap length first,
+      length-append (take 1 b0) header,
+      length-take 1 b0,
+      length-take 13 b1,
+      some,
+      long,
+    ) in
     let second : take (13 + length snapshot) b2 ≡ (take 1 b0 ++ header) ++ snapshot =
     ap (λ (l : List ℕ). take (13 + length snapshot) l) is2 ∙ written_front b1 snapshot 13 reach1
-        ∙ ap (λ (l : List ℕ). l ++ snapshot) first in
+    ∙ ap (λ (l : List ℕ). l ++ snapshot) first in
     let rest : List ℕ = drop (13 + length snapshot + 1) b2 in
     let whole : b3 ≡ take 1 b0 ++ ((header ++ snapshot) ++ 0 ∷ rest) =
     is3 ∙ ap (λ (l : List ℕ). l ++ (0 ∷ []) ++ rest) second ∙ simp append_assoc in
     ap (λ (l : List ℕ). drop 1 l) whole
-        ∙ drop_at (take 1 b0) ((header ++ snapshot) ++ 0 ∷ rest) 1 (omega (arith, length-take 1 b0, some))
+    ∙ drop_at (take 1 b0) ((header ++ snapshot) ++ 0 ∷ rest) 1 (omega (arith, length-take 1 b0, some))
 
 -- A body that was written and synced behind a gate that is shut.
 pub filled_after : (generation : ℕ) (snapshot header : List ℕ) (written synced : Contents) (rest : List ℕ)
@@ -82,7 +90,7 @@ filled_after generation snapshot header written synced rest is shut body same st
       ap (λ (l : List ℕ). drop 1 l) same ∙ body
       ∙ ap (λ (l : List ℕ). (l ++ snapshot) ++ 0 ∷ rest) is
       ∙ ap (λ (l : List ℕ). l ++ 0 ∷ rest) (append_assoc (eight_bytes generation) (four_bytes (length snapshot))
-          snapshot);
+      snapshot);
 }
 
 -- A body behind a gate: the gate says whether it is an area.
@@ -95,31 +103,42 @@ module _ (held : Contents) (generation : ℕ) (snapshot : List ℕ) (filled : Is
   behind = body_text generation snapshot ++ 0 ∷ filled.rest
 
   pub some : 0 < length held.bytes
-  some = omega (arith, ap length filled.text, length-drop 1 held.bytes, length-append (body_text generation snapshot)
-      (0 ∷ filled.rest))
+  some = omega (
+    arith,
+    ap length filled.text,
+    length-drop 1 held.bytes,
+    length-append (body_text generation snapshot)
+        (0 ∷ filled.rest),
+  )
 
   length-area_text : length (area_text area) ≡ 13 + length snapshot
   length-area_text =
-      omega (arith, length-append (1 ∷ body_text generation snapshot) [], length-append (eight_bytes generation)
-          (framed snapshot), length-framed snapshot, length-eight_bytes generation)
+      omega (
+        arith,
+        length-append (1 ∷ body_text generation snapshot) [],
+        length-append (eight_bytes generation)
+            (frame_of snapshot),
+        length-framed snapshot,
+        length-eight_bytes generation,
+      )
 
   pub opened : (image : List ℕ) → image ≡ 1 ∷ behind → IsArea area image
   opened image is =
       reads area 0 filled.rest image (is
-          ∙ ap (λ (l : List ℕ). l ++ 0 ∷ filled.rest) (sym (append-nil (1 ∷ body_text generation snapshot))))
+      ∙ ap (λ (l : List ℕ). l ++ 0 ∷ filled.rest) (sym (append-nil (1 ∷ body_text generation snapshot))))
       (λ equal. absurd (cc (equal))) (omega (arith, length-area_text, room)) numbered refl
 
   pub gate_torn : (image : List ℕ) → Torn 0 1 held.bytes image → IsNoneOr area image
   gate_torn image torn =
       let split : image ≡ get_or image 0 0 ∷ behind =
       split_at image 0 (omega (arith, torn.no_shorter, some))
-          ∙ ap (λ (l : List ℕ). get_or image 0 0 ∷ l) (torn.after ∙ filled.text) in
+      ∙ ap (λ (l : List ℕ). get_or image 0 0 ∷ l) (torn.after ∙ filled.text) in
       elim (cases_eq (get_or image 0 0) 1) [
         | inl open_ ↦ inr (opened image (split ∙ ap (λ (n : ℕ). n ∷ behind) open_))
         | inr closed ↦ inl (not_open image closed)
       ]
 
-  pub gate_written : (bytes : List ℕ) → bytes ≡ overwritten held.bytes 0 (1 ∷ []) → IsArea area bytes
+  pub gate_written : (bytes : List ℕ) → bytes ≡ overwritten_bytes held.bytes 0 (1 ∷ []) → IsArea area bytes
   gate_written bytes is = opened bytes (is ∙ ap (λ (l : List ℕ). 1 ∷ l) filled.text)
 
   pub settled_area : (after : Contents) → IsArea area after.bytes → IsStable after
@@ -145,8 +164,8 @@ module _ (held : Contents) (generation : ℕ) (snapshot : List ℕ) (filled : Is
         goes_on moment held_at d0 d0 d1 (IsNoneOr area) (all_held d1)
         (started moment held_at d0 held (IsNoneOr area) now
         (λ image left. inl (not_open image
-            (λ opened_. filled.shut (sym
-            (ap (λ (l : List ℕ). get_or l 0 0) (image_stable held image filled.stable left)) ∙ opened_)))))
+        (λ opened_. filled.shut (sym
+        (ap (λ (l : List ℕ). get_or l 0 0) (image_stable held image filled.stable left)) ∙ opened_)))))
         time gate_image
 
     pub last_leaves : (d2 : D) → ((image : List ℕ) → IsImage (all_held d2) image → IsImage (all_held d1) image)

@@ -3,7 +3,7 @@ use Rattle.std.proofs.Common.{◌≡◌, ℕ, ◌+◌, ◌-◌, ◌<◌, true, L
 use Rattle.std.proofs.Common.{sym, ◌∙◌, ap, subst, arith, append_assoc, length-append, length-drop}
 use Rattle.std.proofs.lemmas.Bool.Decides.{nat_tests}
 use Rattle.std.proofs.lemmas.List.{append-nil, set_at, take_all}
-use Rattle.cue_log.specs.Area.{records_text, group_text, room_of, are_records, framed}
+use Rattle.cue_log.specs.Area.{records_text, group_text, room_of, are_records, frame_of}
 use Rattle.cue_log.specs.Reading.{payloads_in, or_none}
 use Rattle.cue_log.specs.Record.{IsFramed, AreFramed, IsGroup, payload_in}
 use Rattle.cue_log.proofs.CompleteLemmas.{payloads_read, length-records_text}
@@ -30,8 +30,8 @@ pub one_framed : (bytes : List ℕ) → IsFramed bytes → AreFramed bytes × (p
 one_framed bytes frame =
     let payload : List ℕ = payload_in bytes in
     framed_as bytes (payload ∷ []) (frame.text
-        ∙ ap (λ (l : List ℕ). 1 ∷ (l ++ 0 ∷ [])) (sym (append-nil (framed payload))))
-        (grind (arith, nat_tests, frame.short))
+    ∙ ap (λ (l : List ℕ). 1 ∷ (l ++ 0 ∷ [])) (sym (append-nil (frame_of payload))))
+    (grind (arith, nat_tests, frame.short))
 
 -- the same where it is read as other bytes
 pub one_read : (bytes read : List ℕ) → read ≡ bytes → IsFramed bytes
@@ -47,8 +47,13 @@ length-framed_group text count group = ap length group.framed.text ∙ length-gr
 -- There are fewer records than bytes.
 pub few_framed : (bytes : List ℕ) (count : ℕ) → IsGroup bytes count → count < length bytes
 few_framed bytes count group =
-    omega (arith, group.counted, ap length group.framed.text, length-append (records_text (payloads_in bytes)) (0 ∷ []),
-        length-records_text (payloads_in bytes))
+    omega (
+      arith,
+      group.counted,
+      ap length group.framed.text,
+      length-append (records_text (payloads_in bytes)) (0 ∷ []),
+      length-records_text (payloads_in bytes),
+    )
 
 -- One record more: what follows its gate is put after the last gate, which is opened.
 module _ (old text payload : List ℕ) (count : ℕ) (group : IsGroup old count) (added : AreFramed text)
@@ -71,9 +76,9 @@ module _ (old text payload : List ℕ) (count : ℕ) (group : IsGroup old count)
       grows
       ∙ ap (λ (l : List ℕ). old ++ l) (take_all (length text - 1) (drop 1 text) (omega (arith, length-drop 1 text)))
       ∙ (λ i. group.framed.text i ++ drop 1 ((added.text ∙ ap group_text one) i))
-          ∙ append_assoc records (0 ∷ []) behind in
+      ∙ append_assoc records (0 ∷ []) behind in
       let last : len - 1 ≡ length records =
-          omega (arith, long, ap length group.framed.text, length-append records (0 ∷ [])) in
+      omega (arith, long, ap length group.framed.text, length-append records (0 ∷ [])) in
       (λ i. slice_set (whole i) (last i) 1)
       ∙ set_at records 0 behind 1 (length records) refl
       ∙ sym (append_assoc records (records_text (payload ∷ [])) (0 ∷ []))
@@ -87,8 +92,11 @@ module _ (old text payload : List ℕ) (count : ℕ) (group : IsGroup old count)
   pushed_payloads = pushed.1
 
   pub pushed_group : IsGroup new (count + 1)
-  pushed_group = record { framed = pushed.0; counted =
-      omega (arith, group.counted, ap length pushed.1, length-append before (payload ∷ [])) }
+  pushed_group = record {
+    framed = pushed.0;
+    counted =
+        omega (arith, group.counted, ap length pushed.1, length-append before (payload ∷ []));
+  }
 
 -- The gate of the first record is open, where there is one.
 starts_open : (payloads : List (List ℕ)) (text : List ℕ) → text ≡ group_text payloads → 1 < length text
@@ -101,10 +109,10 @@ abbrev pub behind_first : List ℕ → List ℕ
 behind_first text = take (length text - 1) (drop 1 text)
 
 pub first_open : (text : List ℕ) → AreFramed text → 1 < length text → 1 ∷ behind_first text ≡ text
-first_open text framed some =
+first_open text frame_of some =
     ap (λ (l : List ℕ). 1 ∷ l) (take_all (length text - 1) (drop 1 text) (omega (arith, length-drop 1 text)))
-    ∙ starts_open (payloads_in text) text framed.text some
+    ∙ starts_open (payloads_in text) text frame_of.text some
 
 pub length-behind_first : (text : List ℕ) → AreFramed text → 1 < length text
     → 1 + length (behind_first text) ≡ length text
-length-behind_first text framed some = omega (arith, ap length (first_open text framed some))
+length-behind_first text frame_of some = omega (arith, ap length (first_open text frame_of some))

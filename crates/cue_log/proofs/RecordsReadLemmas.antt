@@ -22,15 +22,17 @@ read_in bytes behind payloads counted is = by (payloads_at (length bytes) bytes)
         → payloads_at (length bytes) bytes ≡ Some payloads
     by None none =
         let lacks : Some behind ≡ None = counted
-            ∙ ap (option_map (λ (l : List (List ℕ)). length bytes - length (records_text l))) none in
+        ∙ ap (option_map (λ (l : List (List ℕ)). length bytes - length (records_text l))) none in
         absurd (cc (lacks))
     by (Some others) some = some ∙ ap Some (sym (is ∙ ap or_none some))
 
 -- There are fewer than there are bytes.
 pub few_in : (bytes : List ℕ) → HasRecords bytes → length (payloads_in bytes) < length bytes
-few_in bytes has = omega
-    (arith, length-read (length bytes) bytes (payloads_in bytes) (some_is (payloads_at (length bytes) bytes) has),
-    length-records_text (payloads_in bytes))
+few_in bytes has = omega (
+  arith,
+  length-read (length bytes) bytes (payloads_in bytes) (some_is (payloads_at (length bytes) bytes) has),
+  length-records_text (payloads_in bytes),
+)
 
 in_front_of : (payload : List ℕ) (whole rest : Option (List (List ℕ))) → IsSome whole → whole ≡ in_front payload rest
     → IsSome rest × (or_none whole ≡ payload ∷ or_none rest)

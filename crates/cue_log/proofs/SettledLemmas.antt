@@ -56,8 +56,11 @@ pub counted_on : (held : Contents) (area : Area) → IsArea area held.bytes
     → IsNumbered held area.generation (length area.payloads)
 counted_on held area is =
     let same : area ≡ area_in held.bytes = sym (area_in_is area held.bytes is) in
-    record { same_generation = ap (λ (a : Area). a.generation) same; same_count =
-        ap (λ (a : Area). length a.payloads) same }
+    record {
+      same_generation = ap (λ (a : Area). a.generation) same;
+      same_count =
+          ap (λ (a : Area). length a.payloads) same;
+    }
 
 -- whatever a crash leaves of it reads as that area
 pub stable_reads : (held : Contents) (area : Area) → IsArea area held.bytes → IsStable held → ReadsAs held area

@@ -10,7 +10,7 @@ use Rattle.std.proofs.lemmas.Bool.Decides.{nat_tests}
 use Rattle.std.proofs.lemmas.List.{length-take, drop-drop, get_or-drop, get_or-take, get_or_past}
 use Rattle.std.proofs.lemmas.Nat.{be_bytes_4, be_bytes_8}
 use Rattle.cue_log.specs.declared.area.TheConstants.{AREA_LIMIT, PAYLOAD_LIMIT}
-use Rattle.cue_log.specs.Area.{Area, IsArea, IsAbsent, area_text, framed, records_text, are_records, four_bytes}
+use Rattle.cue_log.specs.Area.{Area, IsArea, IsAbsent, area_text, frame_of, records_text, are_records, four_bytes}
 use Rattle.cue_log.specs.Area.{eight_bytes}
 use Rattle.cue_log.specs.Reading.{frame_at, four_at, eight_at, in_front, payloads_after, payloads_at, area_with}
 use Rattle.cue_log.specs.Reading.{area_after, area_at, read_area, bytes_behind}
@@ -73,7 +73,7 @@ length-read (suc most) (gate ∷ bytes) payloads is = elim (gate_read most gate 
       omega (
         arith,
         ap (λ (l : List (List ℕ)). length (records_text l)) one.is,
-        length-append (1 ∷ framed one.payload) (records_text one.others),
+        length-append (1 ∷ frame_of one.payload) (records_text one.others),
         length-framed one.payload,
         length-frame_at PAYLOAD_LIMIT bytes one.payload one.rest one.frame,
         length-read most one.rest one.others one.read,
@@ -86,7 +86,7 @@ pub last_gate : (area : Area) (len behind : ℕ) (tail : List ℕ) → Some behi
     → (len - behind ≡ length (area_text area)) × (len - behind < len)
 last_gate area len behind tail counted read parts =
     let left : Some behind ≡ Some (length tail - length (records_text area.payloads)) = counted
-        ∙ ap (option_map (λ (payloads : List (List ℕ)). length tail - length (records_text payloads))) read in
+    ∙ ap (option_map (λ (payloads : List (List ℕ)). length tail - length (records_text payloads))) read in
     let is : behind ≡ length tail - length (records_text area.payloads) = cc (left) in
     let within = length-read (length tail) tail area.payloads read in
     let long = length-area_text area in
@@ -108,18 +108,18 @@ bytes_of_take n bytes are i = elim (cases_lt i n) [
 
 -- A frame that is found stands there.
 frame_text : (most : ℕ) (bytes text rest : List ℕ) → AreBytes bytes → frame_at most bytes ≡ Some (text, rest)
-    → bytes ≡ framed text ++ rest
+    → bytes ≡ frame_of text ++ rest
 unfolding four_at four_bytes
 frame_text most bytes text rest are is =
     let parts = frame_parts most bytes text rest is in
     let n : ℕ = four_at bytes in
     let long : length text ≡ n =
-        omega (arith, ap length parts.text_is, length-take n (drop 4 bytes), length-drop 4 bytes, parts.reach) in
+    omega (arith, ap length parts.text_is, length-take n (drop 4 bytes), length-drop 4 bytes, parts.reach) in
     let number : four_bytes n ≡ take 4 bytes =
-        be_bytes_4 (take 4 bytes) n (omega (arith, length-take 4 bytes, parts.reach)) (bytes_of_take 4 bytes are)
-        refl in
-    let front : framed text ≡ take 4 bytes ++ take n (drop 4 bytes) = (λ i. four_bytes (long i) ++ parts.text_is i)
-        ∙ ap (λ (l : List ℕ). l ++ take n (drop 4 bytes)) number in
+    be_bytes_4 (take 4 bytes) n (omega (arith, length-take 4 bytes, parts.reach)) (bytes_of_take 4 bytes are)
+    refl in
+    let front : frame_of text ≡ take 4 bytes ++ take n (drop 4 bytes) = (λ i. four_bytes (long i) ++ parts.text_is i)
+    ∙ ap (λ (l : List ℕ). l ++ take n (drop 4 bytes)) number in
     let back : rest ≡ drop n (drop 4 bytes) = parts.rest_is ∙ sym (drop-drop n 4 bytes) in
     sym (take-append-drop 4 bytes)
     ∙ ap (λ (l : List ℕ). take 4 bytes ++ l) (sym (take-append-drop n (drop 4 bytes)))
@@ -162,11 +162,11 @@ records_found (suc most) (gate ∷ bytes) payloads are is = elim (gate_read most
       let one = some.1 in
       let are_next : AreBytes bytes = λ i. are (suc i) in
       let found = records_found most one.rest one.others
-          (frame_bytes PAYLOAD_LIMIT bytes one.payload one.rest are_next one.frame) one.read in
-      let text : gate ∷ bytes ≡ (1 ∷ framed one.payload ++ records_text one.others) ++ found.gate ∷ found.rest =
+      (frame_bytes PAYLOAD_LIMIT bytes one.payload one.rest are_next one.frame) one.read in
+      let text : gate ∷ bytes ≡ (1 ∷ frame_of one.payload ++ records_text one.others) ++ found.gate ∷ found.rest =
       (λ i. some.0 i ∷ frame_text PAYLOAD_LIMIT bytes one.payload one.rest are_next one.frame i)
-      ∙ ap (λ (l : List ℕ). 1 ∷ framed one.payload ++ l) found.is
-      ∙ sym (append_assoc (1 ∷ framed one.payload) (records_text one.others) (found.gate ∷ found.rest)) in
+      ∙ ap (λ (l : List ℕ). 1 ∷ frame_of one.payload ++ l) found.is
+      ∙ sym (append_assoc (1 ∷ frame_of one.payload) (records_text one.others) (found.gate ∷ found.rest)) in
       record {
         gate = found.gate;
         rest = found.rest;
@@ -221,21 +221,21 @@ behind_found bytes area are long short found =
     let next : List ℕ = drop 8 bytes in
     let are_next : AreBytes next = bytes_of_drop 8 bytes are in
     let records = records_found (length found.tail) found.tail found.payloads
-        (frame_bytes AREA_LIMIT next found.snapshot found.tail are_next found.frame) found.read in
+    (frame_bytes AREA_LIMIT next found.snapshot found.tail are_next found.frame) found.read in
     let number : List ℕ = eight_bytes (eight_at bytes) in
     let split : bytes ≡ number
-        ++ (framed found.snapshot ++ (records_text found.payloads ++ records.gate ∷ records.rest)) =
+    ++ (frame_of found.snapshot ++ (records_text found.payloads ++ records.gate ∷ records.rest)) =
     sym (take-append-drop 8 bytes)
     ∙ (λ i. sym (eight_text bytes are long) i ++ frame_text AREA_LIMIT next found.snapshot found.tail are_next
-        found.frame i)
-    ∙ ap (λ (l : List ℕ). number ++ (framed found.snapshot ++ l)) records.is in
+    found.frame i)
+    ∙ ap (λ (l : List ℕ). number ++ (frame_of found.snapshot ++ l)) records.is in
     let text : 1 ∷ bytes ≡ area_text whole ++ records.gate ∷ records.rest =
-        ap (λ (l : List ℕ). 1 ∷ l) (split ∙ simp append_assoc) in
+    ap (λ (l : List ℕ). 1 ∷ l) (split ∙ simp append_assoc) in
     let ends : length (area_text whole) < length (1 ∷ bytes) =
-        omega (arith, ap length text, length-append (area_text whole) (records.gate ∷ records.rest)) in
+    omega (arith, ap length text, length-append (area_text whole) (records.gate ∷ records.rest)) in
     subst (λ (a : Area). IsArea a (1 ∷ bytes)) found.is
     (reads whole records.gate records.rest (1 ∷ bytes) text records.shut (omega (arith, ends, short))
-        (eight_fits bytes are) records.records)
+    (eight_fits bytes are) records.records)
 
 pub sound_at : (text : List ℕ) (area : Area) → AreBytes text → length text ≤ AREA_LIMIT → area_at text ≡ Some area
     → IsArea area text
@@ -249,16 +249,16 @@ sound_at (gate ∷ bytes) area are short is =
             let gate_test : (gate == 1) ≡ true = grind (arith, nat_tests, open_) in
             let test : nat_lt (length bytes) 8 ≡ true = grind (arith, nat_tests, less) in
             let none : Some area ≡ None = sym is ∙ ap (λ (b : Bool). if b then cut else None) gate_test
-                ∙ ap (λ (b : Bool). if b then None else after) test in
+            ∙ ap (λ (b : Bool). if b then None else after) test in
             absurd (cc (none))
         | inr enough ↦
             let gate_test : (gate == 1) ≡ true = grind (arith, nat_tests, open_) in
             let test : nat_lt (length bytes) 8 ≡ false = grind (arith, nat_tests, enough) in
             let some : after ≡ Some area = sym (ap (λ (b : Bool). if b then cut else None) gate_test
-                ∙ ap (λ (b : Bool). if b then None else after) test) ∙ is in
+            ∙ ap (λ (b : Bool). if b then None else after) test) ∙ is in
             let found = frame_behind bytes area (frame_at AREA_LIMIT (drop 8 bytes)) refl some in
             subst (λ (n : ℕ). IsArea area (n ∷ bytes)) (sym open_)
-                (behind_found bytes area (λ i. are (suc i)) enough (omega (arith, short)) found)
+            (behind_found bytes area (λ i. are (suc i)) enough (omega (arith, short)) found)
       ]
       | inr shut ↦
           let gate_test : (gate == 1) ≡ false = grind (arith, nat_tests, shut) in
@@ -272,7 +272,7 @@ unfolding read_area
 sound bytes area are is =
     let cut : List ℕ = take AREA_LIMIT bytes in
     let there : IsArea area cut =
-        sound_at cut area (bytes_of_take AREA_LIMIT bytes are) (omega (arith, length-take AREA_LIMIT bytes)) is in
+    sound_at cut area (bytes_of_take AREA_LIMIT bytes are) (omega (arith, length-take AREA_LIMIT bytes)) is in
     longer_reads area AREA_LIMIT bytes there
 
 some_or_none : {A : Type 0} (o : Option A) → IsSome o → o ≡ None → ⊥

@@ -7,7 +7,7 @@ use Rattle.std.proofs.lemmas.Bool.{cases_Bool}
 use Rattle.std.proofs.lemmas.Bool.Decides.{nat_tests}
 use Rattle.std.proofs.lemmas.List.{length-take}
 use Rattle.cue_log.specs.declared.area.TheConstants.{PAYLOAD_LIMIT}
-use Rattle.cue_log.specs.Area.{framed, records_text}
+use Rattle.cue_log.specs.Area.{frame_of, records_text}
 use Rattle.cue_log.specs.Reading.{frame_at, four_at, in_front, payloads_after, payloads_at, behind, bytes_behind}
 use Rattle.cue_log.proofs.TextLemmas.{length-framed}
 
@@ -23,7 +23,7 @@ pub frame_parts : (most : ℕ) (bytes text rest : List ℕ) → frame_at most by
 unfolding frame_at
 frame_parts most bytes text rest is =
     let refused : Bool = nat_lt (length bytes) 4 ||
-        (nat_lt most (four_at bytes) || nat_lt (length bytes) (4 + four_at bytes)) in
+    (nat_lt most (four_at bytes) || nat_lt (length bytes) (4 + four_at bytes)) in
     let found : List ℕ × List ℕ = (take (four_at bytes) (drop 4 bytes), drop (4 + four_at bytes) bytes) in
     elim (cases_Bool refused) [
       | inl yes_ ↦
@@ -45,8 +45,16 @@ pub length-frame_at : (most : ℕ) (bytes text rest : List ℕ) → frame_at mos
     → length bytes ≡ 4 + length text + length rest
 length-frame_at most bytes text rest is =
     let parts = frame_parts most bytes text rest is in
-    omega (arith, parts.reach, ap length parts.text_is, ap length parts.rest_is, length-take (four_at bytes)
-        (drop 4 bytes), length-drop 4 bytes, length-drop (4 + four_at bytes) bytes)
+    omega (
+      arith,
+      parts.reach,
+      ap length parts.text_is,
+      ap length parts.rest_is,
+      length-take (four_at bytes)
+          (drop 4 bytes),
+      length-drop 4 bytes,
+      length-drop (4 + four_at bytes) bytes,
+    )
 
 -- two readers of what follows that agree there
 after_same : (p q : List ℕ → Option (List (List ℕ))) (most : ℕ) (bytes : List ℕ) (frame : Option (List ℕ × List ℕ))
@@ -66,11 +74,11 @@ payloads_enough (suc m) zero (gate ∷ bytes) enough_m enough_n = absurd (omega 
 payloads_enough (suc m) (suc n) [] enough_m enough_n = refl
 payloads_enough (suc m) (suc n) (gate ∷ bytes) enough_m enough_n =
     let same : payloads_after (payloads_at m) (frame_at PAYLOAD_LIMIT bytes) ≡ payloads_after (payloads_at n)
-        (frame_at PAYLOAD_LIMIT bytes) =
+    (frame_at PAYLOAD_LIMIT bytes) =
     after_same (payloads_at m) (payloads_at n) PAYLOAD_LIMIT bytes (frame_at PAYLOAD_LIMIT bytes) refl
     (λ text rest is. payloads_enough m n rest
-        (omega (arith, enough_m, length-frame_at PAYLOAD_LIMIT bytes text rest is))
-        (omega (arith, enough_n, length-frame_at PAYLOAD_LIMIT bytes text rest is))) in
+    (omega (arith, enough_m, length-frame_at PAYLOAD_LIMIT bytes text rest is))
+    (omega (arith, enough_n, length-frame_at PAYLOAD_LIMIT bytes text rest is))) in
     ap (λ (o : Option (List (List ℕ))). if gate == 1 then o else Some []) same
 
 -- An open gate and a frame: one payload, and those behind it.
@@ -79,7 +87,7 @@ pub payloads_step : (after payload rest : List ℕ) → frame_at PAYLOAD_LIMIT a
 payloads_step after payload rest is =
     ap (payloads_after (payloads_at (length after))) is
     ∙ ap (in_front payload) (payloads_enough (length after) (length rest) rest
-        (omega (arith, length-frame_at PAYLOAD_LIMIT after payload rest is)) (omega arith))
+    (omega (arith, length-frame_at PAYLOAD_LIMIT after payload rest is)) (omega arith))
 
 -- the length behind one record more
 behind_one : (long short : ℕ) (payload : List ℕ) (rest : Option (List (List ℕ))) → long ≡ 5 + length payload + short
@@ -88,7 +96,7 @@ behind_one : (long short : ℕ) (payload : List ℕ) (rest : Option (List (List 
 behind_one long short payload None is = refl
 behind_one long short payload (Some payloads) is =
     let same : long - length (records_text (payload ∷ payloads)) ≡ short - length (records_text payloads) =
-    omega (arith, is, length-append (1 ∷ framed payload) (records_text payloads), length-framed payload) in
+    omega (arith, is, length-append (1 ∷ frame_of payload) (records_text payloads), length-framed payload) in
     ap Some same
 
 -- The last gate stands where it stood.
@@ -96,9 +104,9 @@ pub bytes_behind_step : (after payload rest : List ℕ) → frame_at PAYLOAD_LIM
     → bytes_behind (1 ∷ after) ≡ bytes_behind rest
 bytes_behind_step after payload rest is =
     ap (option_map (λ (payloads : List (List ℕ)). length (1 ∷ after) - length (records_text payloads)))
-        (payloads_step after payload rest is)
+    (payloads_step after payload rest is)
     ∙ behind_one (length (1 ∷ after)) (length rest) payload (payloads_at (length rest) rest)
-        (omega (arith, length-frame_at PAYLOAD_LIMIT after payload rest is))
+    (omega (arith, length-frame_at PAYLOAD_LIMIT after payload rest is))
 
 -- One payload read is in front no more, but among those that are read.
 pub behind_step : (front : List (List ℕ)) (payload : List ℕ) (rest : Option (List (List ℕ)))

@@ -5,7 +5,7 @@ use Rattle.std.proofs.lemmas.Bool.{and_parts, and_from}
 use Rattle.std.proofs.lemmas.List.Sums.{sum_by-cons}
 use Rattle.std.proofs.lemmas.List.{length-take, take_at, take-take, get_or_at, get_or-take, drop_more}
 use Rattle.cue_log.specs.declared.area.TheConstants.{AREA_LIMIT, PAYLOAD_LIMIT}
-use Rattle.cue_log.specs.Area.{Area, IsArea, area_text, records_text, are_records, framed, with_payloads, group_text}
+use Rattle.cue_log.specs.Area.{Area, IsArea, area_text, records_text, are_records, frame_of, with_payloads, group_text}
 use Rattle.cue_log.specs.Area.{room_of, body_text, four_bytes, eight_bytes}
 
 -- a list in front of an index, at it and behind it
@@ -46,15 +46,15 @@ pub records_text-append : (payloads more : List (List ℕ))
     → records_text (payloads ++ more) ≡ records_text payloads ++ records_text more
 records_text-append [] more = refl
 records_text-append (first ∷ payloads) more =
-    ap (λ (l : List ℕ). 1 ∷ framed first ++ l) (records_text-append payloads more)
-        ∙ sym (append_assoc (1 ∷ framed first) (records_text payloads) (records_text more))
+    ap (λ (l : List ℕ). 1 ∷ frame_of first ++ l) (records_text-append payloads more)
+    ∙ sym (append_assoc (1 ∷ frame_of first) (records_text payloads) (records_text more))
 
 pub area_text-append : (area : Area) (more : List (List ℕ))
     → area_text (with_payloads area more) ≡ area_text area ++ records_text more
 area_text-append area more =
     let head : List ℕ = 1 ∷ body_text area.generation area.snapshot in
     ap (λ (l : List ℕ). head ++ l) (records_text-append area.payloads more)
-        ∙ sym (append_assoc head (records_text area.payloads) (records_text more))
+    ∙ sym (append_assoc head (records_text area.payloads) (records_text more))
 
 -- the length of a framed text
 pub length-four_bytes : (n : ℕ) → length (four_bytes n) ≡ 4
@@ -65,16 +65,26 @@ pub length-eight_bytes : (n : ℕ) → length (eight_bytes n) ≡ 8
 unfolding eight_bytes
 length-eight_bytes n = refl
 
-pub length-framed : (payload : List ℕ) → length (framed payload) ≡ 4 + length payload
-length-framed payload = omega (arith, length-append (four_bytes (length payload)) payload, length-four_bytes
-    (length payload))
+pub length-framed : (payload : List ℕ) → length (frame_of payload) ≡ 4 + length payload
+length-framed payload = omega (
+  arith,
+  length-append (four_bytes (length payload)) payload,
+  length-four_bytes
+      (length payload),
+)
 
 -- how many bytes records take
 pub length-records : (payloads : List (List ℕ)) → length (records_text payloads) ≡ room_of payloads
 length-records [] = refl
 length-records (payload ∷ payloads) =
-    omega (arith, length-append (1 ∷ framed payload) (records_text payloads), length-framed payload, length-records
-        payloads, sum_by-cons length payload payloads)
+    omega (
+      arith,
+      length-append (1 ∷ frame_of payload) (records_text payloads),
+      length-framed payload,
+      length-records
+          payloads,
+      sum_by-cons length payload payloads,
+    )
 
 -- the same with the closed gate after them
 pub length-group : (payloads : List (List ℕ)) → length (group_text payloads) ≡ room_of payloads + 1
@@ -87,15 +97,19 @@ are_records-append [] more records short = short
 are_records-append (first ∷ payloads) more records short =
     let parts = and_parts (nat_le (length first) PAYLOAD_LIMIT) (are_records payloads) records in
     and_from (nat_le (length first) PAYLOAD_LIMIT) (are_records (payloads ++ more)) parts.0
-        (are_records-append payloads more parts.1 short)
+    (are_records-append payloads more parts.1 short)
 
 -- where the last gate stands
 pub length-area_text : (area : Area)
     → length (area_text area) ≡ 13 + length area.snapshot + length (records_text area.payloads)
 length-area_text area =
-    omega (arith, length-append (1 ∷ body_text area.generation area.snapshot) (records_text area.payloads),
-        length-append (eight_bytes area.generation) (framed area.snapshot), length-framed area.snapshot,
-        length-eight_bytes area.generation)
+    omega (
+      arith,
+      length-append (1 ∷ body_text area.generation area.snapshot) (records_text area.payloads),
+      length-append (eight_bytes area.generation) (frame_of area.snapshot),
+      length-framed area.snapshot,
+      length-eight_bytes area.generation,
+    )
 
 -- What stands behind the front of some bytes does not matter, where an area stands in front.
 pub longer_reads : (area : Area) (n : ℕ) (bytes : List ℕ) → IsArea area (take n bytes) → IsArea area bytes

@@ -2,7 +2,7 @@
 use Rattle.std.specs.Prelude.{◌≡◌, ◌≤◌, ◌<◌, ◌+◌, ◌↔◌, ℕ, false, true, List, [], length}
 use Rattle.std.specs.Prelude.{Result, OnOk, IfErr, IsErrOf}
 use Rattle.cue_disk.specs.declared.disk.Disk.{Ghosts}
-use Rattle.cue_disk.specs.Disk.{LeavesAtEachMoment, CountsFailure, MoreFailures, overwritten}
+use Rattle.cue_disk.specs.Disk.{LeavesAtEachMoment, CountsFailure, MoreFailures, overwritten_bytes}
 use Rattle.cue_log.specs.declared.area.TheConstants.{AREA_LIMIT}
 use Rattle.cue_log.specs.declared.log.AppendFault.{AppendFault}
 use Rattle.cue_log.specs.declared.log.AppendFault.TheVariants as fault
@@ -27,7 +27,7 @@ pub record Writes {T E D : Type 0} (disk : Ghosts D) (payloads : List (List ℕ)
   pub settled : disk.is_honest old → OnOk result (IsSettled (disk.held new) (end + room_of payloads))
   pub bytes :
       disk.is_honest old
-      → OnOk result ((disk.held new).bytes ≡ overwritten (disk.held old).bytes end (group_text payloads))
+      → OnOk result ((disk.held new).bytes ≡ overwritten_bytes (disk.held old).bytes end (group_text payloads))
   pub count : CountsFailure result (disk.failures old) (disk.failures new)
   pub honest : disk.is_honest new ↔ disk.is_honest old
 
@@ -82,7 +82,7 @@ pub record Appends {T D : Type 0} {disk : Ghosts D} (payloads : List (List ℕ))
       → disk.is_honest (disk_of old)
       → OnOk result
       ((disk.held (disk_of new)).bytes
-      ≡ overwritten (disk.held (disk_of old)).bytes (end_of old) (group_text payloads))
+      ≡ overwritten_bytes (disk.held (disk_of old)).bytes (end_of old) (group_text payloads))
   -- a stop at any moment leaves the area as it was, or with all of the records
   pub any_moment :
       disk.is_honest (disk_of old)

@@ -19,17 +19,17 @@ unfoldable pub eight_bytes : ℕ → List ℕ
 eight_bytes n = to_be_bytes w64 n
 
 -- a length, and so many bytes
-abbrev pub framed : List ℕ → List ℕ
-framed bytes = four_bytes (length bytes) ++ bytes
+abbrev pub frame_of : List ℕ → List ℕ
+frame_of bytes = four_bytes (length bytes) ++ bytes
 
 -- records, each behind an open gate
 abbrev pub records_text : List (List ℕ) → List ℕ
 records_text [] = []
-records_text (payload ∷ payloads) = 1 ∷ framed payload ++ records_text payloads
+records_text (payload ∷ payloads) = 1 ∷ frame_of payload ++ records_text payloads
 
 -- what stands behind the head gate, up to the records
 abbrev pub body_text : ℕ → List ℕ → List ℕ
-body_text generation snapshot = eight_bytes generation ++ framed snapshot
+body_text generation snapshot = eight_bytes generation ++ frame_of snapshot
 
 -- an area up to the gate that is not open
 abbrev pub area_text : Area → List ℕ
@@ -62,7 +62,7 @@ formed_text generation snapshot = 1 ∷ (body_text generation snapshot ++ 0 ∷ 
 
 -- what a record adds from the last gate on: that gate open, the payload, and a gate that is not open
 abbrev pub record_text : List ℕ → List ℕ
-record_text payload = 1 ∷ (framed payload ++ 0 ∷ [])
+record_text payload = 1 ∷ (frame_of payload ++ 0 ∷ [])
 
 -- the same of records that come together
 abbrev pub group_text : List (List ℕ) → List ℕ

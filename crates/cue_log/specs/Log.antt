@@ -47,9 +47,9 @@ abbrev pub IsOldOrAbsent : Contents → List ℕ → Type 0
 IsOldOrAbsent held image = IsImage held image ⊎ IsAbsent image
 
 -- a closed head gate where nothing stood
-abbrev pub prepared : List ℕ → List ℕ
-prepared [] = 0 ∷ []
-prepared (gate ∷ bytes) = gate ∷ bytes
+abbrev pub prepared_bytes : List ℕ → List ℕ
+prepared_bytes [] = 0 ∷ []
+prepared_bytes (gate ∷ bytes) = gate ∷ bytes
 
 -- Behind a gate that is not open stand this generation and snapshot and a gate that is not open, and a crash leaves it
 -- so.

@@ -1,10 +1,10 @@
 // How an area comes to be: its body is on the disk, behind a closed head gate, before that gate is opened.
 ghost use Rattle.std.specs.Prelude.{◌≡◌, ◌<◌, ◌≤◌, ◌+◌, ◌↔◌, [], ◌∷◌, ◌++◌, length};
 ghost use Rattle.std.specs.Prelude.{OnOk};
-ghost use Rattle.cue_disk.specs.Disk.{LeavesAtEachMoment, CountsFailure, overwritten};
+ghost use Rattle.cue_disk.specs.Disk.{LeavesAtEachMoment, CountsFailure, overwritten_bytes};
 ghost use Rattle.cue_log.specs.Area.{IsAbsent, fresh, body_text, formed_text, eight_bytes, four_bytes};
 ghost use Rattle.cue_log.specs.Reading.{area_in};
-ghost use Rattle.cue_log.specs.Log.{IsClosed, IsShut, IsFilled, IsNoneOr, IsSettled, ReadsAs, prepared};
+ghost use Rattle.cue_log.specs.Log.{IsClosed, IsShut, IsFilled, IsNoneOr, IsSettled, ReadsAs, prepared_bytes};
 
 use crate::area::{AREA_LIMIT, CLOSED, HEAD_LEN, OPEN};
 use cue_disk::{Disk, DiskFault};
@@ -15,7 +15,7 @@ fn prepare<D: Disk>(disk: &mut D) -> Result<(), DiskFault>
     ensures any_moment { D.is_honest disk.old → LeavesAtEachMoment D.moment D.held_at disk.old disk.new IsAbsent }
     ensures shut { D.is_honest disk.old → OnOk result (IsShut (D.held disk.new)) }
     ensures bytes { D.is_honest disk.old → OnOk result
-        ((D.held disk.new).bytes ≡ prepared (D.held disk.old).bytes) }
+        ((D.held disk.new).bytes ≡ prepared_bytes (D.held disk.old).bytes) }
     ensures count { CountsFailure result (D.failures disk.old) (D.failures disk.new) }
     ensures honest { D.is_honest disk.new ↔ D.is_honest disk.old }
 {
@@ -43,7 +43,7 @@ fn fill<D: Disk>(disk: &mut D, generation: u64, snapshot: &[u8]) -> Result<(), D
     ensures any_moment { D.is_honest disk.old → LeavesAtEachMoment D.moment D.held_at disk.old disk.new IsAbsent }
     ensures filled { D.is_honest disk.old → OnOk result (IsFilled (D.held disk.new) generation snapshot.now) }
     ensures bytes { D.is_honest disk.old → OnOk result
-        ((D.held disk.new).bytes ≡ overwritten (D.held disk.old).bytes 1
+        ((D.held disk.new).bytes ≡ overwritten_bytes (D.held disk.old).bytes 1
         (body_text generation snapshot.now ++ 0 ∷ [])) }
     ensures count { CountsFailure result (D.failures disk.old) (D.failures disk.new) }
     ensures honest { D.is_honest disk.new ↔ D.is_honest disk.old }
@@ -66,7 +66,7 @@ fn open_gate<D: Disk>(disk: &mut D, generation: u64, snapshot: &[u8]) -> Result<
     ensures area { D.is_honest disk.old → OnOk result (area_in (D.held disk.new).bytes
         ≡ fresh generation snapshot.now) }
     ensures bytes { D.is_honest disk.old → OnOk result
-        ((D.held disk.new).bytes ≡ overwritten (D.held disk.old).bytes 0 (1 ∷ [])) }
+        ((D.held disk.new).bytes ≡ overwritten_bytes (D.held disk.old).bytes 0 (1 ∷ [])) }
     ensures count { CountsFailure result (D.failures disk.old) (D.failures disk.new) }
     ensures honest { D.is_honest disk.new ↔ D.is_honest disk.old }
 {
@@ -89,7 +89,7 @@ pub(crate) fn form_on<D: Disk>(
     ensures area { D.is_honest disk.old → OnOk result (area_in (D.held disk.new).bytes
         ≡ fresh generation snapshot.now) }
     ensures bytes { D.is_honest disk.old → OnOk result
-        ((D.held disk.new).bytes ≡ overwritten (D.held disk.old).bytes 0 (formed_text generation snapshot.now)) }
+        ((D.held disk.new).bytes ≡ overwritten_bytes (D.held disk.old).bytes 0 (formed_text generation snapshot.now)) }
     ensures count { CountsFailure result (D.failures disk.old) (D.failures disk.new) }
     ensures honest { D.is_honest disk.new ↔ D.is_honest disk.old }
 {

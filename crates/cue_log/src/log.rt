@@ -50,7 +50,7 @@ pub struct Log<D: Disk> {
 impl<D: Disk> Log<D> {
     ghost use Rattle.std.specs.Prelude.{◌≡◌, ◌≤◌, ◌<◌, ◌+◌, ◌↔◌, ◌∷◌, [], false};
     ghost use Rattle.std.specs.Prelude.{length, OnOk, OnErr, IfOk};
-    ghost use Rattle.cue_disk.specs.Disk.{LeavesAtEachMoment, CountsFailure, overwritten};
+    ghost use Rattle.cue_disk.specs.Disk.{LeavesAtEachMoment, CountsFailure, overwritten_bytes};
     ghost use Rattle.cue_log.specs.Area.{fresh, formed_text};
     ghost use Rattle.cue_log.specs.Appending.{Appends};
     ghost use Rattle.cue_log.specs.Reading.{payloads_in};
@@ -69,7 +69,7 @@ impl<D: Disk> Log<D> {
             (λ log. ReadsAs (D.held (disk_of log)) (fresh generation snapshot.now)) }
         ensures area { D.is_honest disk → IfOk result (λ log. area_of D.held log ≡ fresh generation snapshot.now) }
         ensures bytes { D.is_honest disk → IfOk result
-            (λ log. (D.held (disk_of log)).bytes ≡ overwritten (D.held disk).bytes 0
+            (λ log. (D.held (disk_of log)).bytes ≡ overwritten_bytes (D.held disk).bytes 0
             (formed_text generation snapshot.now)) }
         ensures numbers { IfOk result (λ log. (generation_of log ≡ generation) × (count_of log ≡ 0)
             × (end_of log ≡ HEAD_LEN + length snapshot.now)) }
@@ -170,7 +170,7 @@ impl<D: Disk> Log<D> {
         ensures area { D.is_honest spare.old → OnOk result
             (area_of D.held self.new ≡ fresh generation snapshot.now) }
         ensures bytes { D.is_honest spare.old → OnOk result
-            ((D.held (disk_of self.new)).bytes ≡ overwritten (D.held spare.old).bytes 0
+            ((D.held (disk_of self.new)).bytes ≡ overwritten_bytes (D.held spare.old).bytes 0
             (formed_text generation snapshot.now)) }
         ensures numbers { OnOk result ((generation_of self.new ≡ generation) × (count_of self.new ≡ 0)
             × (end_of self.new ≡ HEAD_LEN + length snapshot.now)) }

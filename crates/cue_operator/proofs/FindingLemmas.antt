@@ -68,7 +68,7 @@ found-same text t (x ∷ xs) h =
     at : (b : Bool) → same_text t (text x) ≡ b → list_any (λ y. same_text y (text x)) (map text xs) ≡ false
         → filter (λ y. same_text t (text y)) xs ≡ option_to_list (find (λ y. same_text t (text y)) xs)
         → cond b (x ∷ filter (λ y. same_text t (text y)) xs) (filter (λ y. same_text t (text y)) xs) ≡ option_to_list
-            (cond b (Some x) (find (λ y. same_text t (text y)) xs))
+        (cond b (Some x) (find (λ y. same_text t (text y)) xs))
     at true e g r = ap (λ ys. x ∷ ys)
         (none-same text t xs (subst (λ (u : List ℕ). list_any (λ y. same_text y u) (map text xs) ≡ false)
         (sym (equal_text t (text x) e)) g))
@@ -97,8 +97,8 @@ fixed-alone a m h = at (same_text a (codes "/status")) (same_text a (codes "/sho
     at : (b c d e : Bool) → same_text a (codes "/status") ≡ b → same_text a (codes "/show/device") ≡ c
         → same_text a (codes "/show/cue") ≡ d → same_text a (codes "/show/mixed") ≡ e
         → cond b (Some method.Status)
-            (cond c (Some method.AddDevice) (cond d (Some method.AddCue) (cond e (Some method.AddMixedCue) None)))
-            ≡ Some m
+        (cond c (Some method.AddDevice) (cond d (Some method.AddCue) (cond e (Some method.AddMixedCue) None)))
+        ≡ Some m
         → (name_and_verb (codes "/cue/") a ≡ None) × (name_and_verb (codes "/device/") a ≡ None)
     at true c d e f g i j k = rw (equal_text a (codes "/status") f) (refl, refl)
     at false true d e f g i j k = rw (equal_text a (codes "/show/device") g) (refl, refl)
@@ -122,7 +122,7 @@ fronts-apart (x ∷ y ∷ r) p h = at (nat_eq 47 x) (nat_eq 99 y) refl h
     at : (b c : Bool) → nat_eq 99 y ≡ c
         → option_and_then cut_at_slash (if b then (if c then behind_front (codes "ue/") r else None) else None) ≡ Some p
         → option_and_then cut_at_slash (if b then (if nat_eq 100 y then behind_front (codes "evice/") r else None) else
-            None) ≡ None
+        None) ≡ None
     at true true e k = rw (differ y e) refl
     at true false e k = cc
     at false c e k = cc
@@ -172,9 +172,11 @@ written name (Some n) d h = at (is_device n) (same_text (decimal n) name) refl r
   where
     at : (b c : Bool) → is_device n ≡ b → same_text (decimal n) name ≡ c → (if b && c then Some n else None) ≡ Some d
         → (is_device d ≡ true) × (decimal d ≡ name)
-    at true true e f g = let i : n ≡ d = cc in
-        (subst (λ (m : ℕ). is_device m ≡ true) i e, subst (λ (m : ℕ). decimal m ≡ name) i
-        (equal_text (decimal n) name f))
+    at true true e f g = let i : n ≡ d = cc in (
+      subst (λ (m : ℕ). is_device m ≡ true) i e,
+      subst (λ (m : ℕ). decimal m ≡ name) i
+          (equal_text (decimal n) name f),
+    )
     at true false e f g = cc
     at false c e f g = cc
 
@@ -238,13 +240,13 @@ others d name make (e ∷ es) h n g =
 pub one-device : (d : ℕ) (name : List ℕ) (make : ℕ → List Method) (es : List (ℕ × ℕ)) → IsTrue (list_all is_entry es)
     → IsTrue (distinct (keys_of es)) → device_named name ≡ Some d
     → flat_map (λ k. if same_text name (decimal k) then make k else []) (keys_of es)
-        ≡ (if is_some (lookup (nat_eq d) es) then make d else [])
+    ≡ (if is_some (lookup (nat_eq d) es) then make d else [])
 one-device d name make [] h u n = refl
 one-device d name make (e ∷ es) h u n =
     let k = both (is_entry e) (list_all is_entry es) h in
     let v = both (not (list_any (λ y. nat_eq y e.0) (keys_of es))) (distinct (keys_of es)) u in
     rw (named-same name d e.0 n (entry_device e k.0))
-        (at (nat_eq d e.0) refl (not_so _ v.0) k.1 (one-device d name make es k.1 v.1 n))
+    (at (nat_eq d e.0) refl (not_so _ v.0) k.1 (one-device d name make es k.1 v.1 n))
   where
     equal : (m n : ℕ) → nat_eq m n ≡ true → m ≡ n
     equal m n q = grind (arith, nat_tests)
@@ -252,14 +254,14 @@ one-device d name make (e ∷ es) h u n =
     at : (b : Bool) → nat_eq d e.0 ≡ b → list_any (λ y. nat_eq y e.0) (keys_of es) ≡ false
         → IsTrue (list_all is_entry es)
         → flat_map (λ k. if same_text name (decimal k) then make k else []) (keys_of es)
-            ≡ (if is_some (lookup (nat_eq d) es) then make d else [])
+        ≡ (if is_some (lookup (nat_eq d) es) then make d else [])
         → ((if b then make e.0 else []) ++ flat_map (λ k. if same_text name (decimal k) then make k else [])
-            (keys_of es)) ≡ (if is_some (cond b (Some e.1) (lookup (nat_eq d) es)) then make d else [])
+        (keys_of es)) ≡ (if is_some (cond b (Some e.1) (lookup (nat_eq d) es)) then make d else [])
     at true q g i r =
         let same = equal d e.0 q in
         let none : flat_map (λ k. if same_text name (decimal k) then make k else []) (keys_of es) ≡ [] =
-            others d name make es i n (subst (λ (t : ℕ). list_any (λ y. nat_eq y t) (keys_of es) ≡ false) (sym same)
-            g) in
+        others d name make es i n (subst (λ (t : ℕ). list_any (λ y. nat_eq y t) (keys_of es) ≡ false) (sym same)
+        g) in
         rw none (append-nil (make e.0) ∙ ap make (sym same))
     at false q g i r = r
 
@@ -355,10 +357,10 @@ looked : (show : ShowLists) (a : List ℕ) (o p : Option (List ℕ × List ℕ))
     → looked_up show a ≡ option_to_list x ++ (cue_methods_at show o ++ device_methods_at show p)
 looked show a o p x e f g =
     ap (λ ms. ms ++ (cue_methods_at show (name_and_verb (codes "/cue/") a) ++ device_methods_at show
-        (name_and_verb (codes "/device/") a))) (fixed-found a ∙ ap option_to_list e)
+    (name_and_verb (codes "/device/") a))) (fixed-found a ∙ ap option_to_list e)
     ∙ ap (λ ms. option_to_list x ++ ms)
-        (ap (λ q. cue_methods_at show q ++ device_methods_at show (name_and_verb (codes "/device/") a)) f
-        ∙ ap (λ q. cue_methods_at show o ++ device_methods_at show q) g)
+    (ap (λ q. cue_methods_at show q ++ device_methods_at show (name_and_verb (codes "/device/") a)) f
+    ∙ ap (λ q. cue_methods_at show o ++ device_methods_at show q) g)
 
 pub looked-fixed : (show : ShowLists) (a : List ℕ) (m : Method)
     → find (λ x. same_text a (address_of x)) fixed_methods ≡ Some m → m ∷ [] ≡ looked_up show a
@@ -430,8 +432,8 @@ at-address show a h =
     ∙ ap (λ xs. methods_at (same_text a) fixed_methods ++ xs)
     (filter-append (λ x. same_text a (address_of x)) cues devices
     ∙ (ap (λ xs. xs ++ methods_at (same_text a) devices) (all-cues show a (stack_of show h))
-        ∙ ap (λ xs. cue_methods_at show (name_and_verb (codes "/cue/") a) ++ xs)
-        (all-devices show a (table_of show h))))
+    ∙ ap (λ xs. cue_methods_at show (name_and_verb (codes "/cue/") a) ++ xs)
+    (all-devices show a (table_of show h))))
 
 pub one-method_at_each : OneMethodAtEach
 one-method_at_each show a h = subst (λ (ms : List Method). length ms ≤ 1) (sym (at-address show a h))
@@ -449,8 +451,8 @@ cut-text_before (b ∷ r) = at (b == 47) (text_before 47 r) (cut-text_before r)
   where
     at : (t : Bool) (o : Option (List ℕ)) → cut_at_slash r ≡ option_map (λ (t : List ℕ). (t, drop (length t + 1) r)) o
         → cond t (Some (pair [] r)) (option_map (λ (p : List ℕ × List ℕ). pair (b ∷ p.0) p.1) (cut_at_slash r))
-            ≡ option_map (λ (u : List ℕ). (u, drop (length u + 1) (b ∷ r)))
-            (if t then Some [] else option_map (λ u. b ∷ u) o)
+        ≡ option_map (λ (u : List ℕ). (u, drop (length u + 1) (b ∷ r)))
+        (if t then Some [] else option_map (λ u. b ∷ u) o)
     at true o e = refl
     at false None e = rw e refl
     at false (Some t) e = rw (e, add-one, add-one) refl
@@ -503,7 +505,7 @@ pub literal-asks : (show : ShowLists) (a : List ℕ) (xs : List Argument) → Is
 literal-asks show a xs h l s =
     let p = literal-pattern a l s in
     pattern-asks show a xs p.0 p.1
-        ∙ ap (λ ms. unless_none (map (command_by xs) ms)) (literal-is-looked-up show a p.0 h l p.1)
+    ∙ ap (λ ms. unless_none (map (command_by xs) ms)) (literal-is-looked-up show a p.0 h l p.1)
 
 pub named-at : (f a r : List ℕ) (o : Option (List ℕ × List ℕ)) → Some r ≡ behind_front f a → cut_at_slash r ≡ o
     → name_and_verb f a ≡ o

@@ -115,7 +115,7 @@ cut-same c (x ∷ xs) (y ∷ ys) = at (x == c) (y == c) refl refl (front_of c xs
     at : (t u : Bool) → (x == c) ≡ t → (y == c) ≡ u → HasFront (cut c xs) → HasFront (cut c ys)
         → same_parts (cut c xs) (cut c ys) ≡ same_text xs ys
         → same_parts (if t then [] ∷ cut c xs else with_byte x (cut c xs))
-            (if u then [] ∷ cut c ys else with_byte y (cut c ys)) ≡ (nat_eq x y && same_text xs ys)
+        (if u then [] ∷ cut c ys else with_byte y (cut c ys)) ≡ (nat_eq x y && same_text xs ys)
     at true true e f k l r = let g : nat_eq x y ≡ true = grind (arith, nat_tests) in rw (g, r) refl
     at true false e f k l r = let g : nat_eq x y ≡ false = grind (arith, nat_tests) in rw (g, l.2) refl
     at false true e f k l r = let g : nat_eq x y ≡ false = grind (arith, nat_tests) in rw (g, k.2) refl

@@ -90,7 +90,7 @@ name-cut (x ∷ c) v (b ∷ r) h = let k = both (not (x == 47)) (no_slash c) h i
     at : (t : Bool) → (b == 47) ≡ t → IsTrue (not (x == 47)) → (o : Option (List ℕ × List ℕ))
         → same_text r (c ++ 47 ∷ v) ≡ is_named c v o
         → (nat_eq b x && same_text r (c ++ 47 ∷ v)) ≡ is_named (x ∷ c) v
-            (if t then Some ([], r) else option_map (λ (p : List ℕ × List ℕ). (b ∷ p.0, p.1)) o)
+        (if t then Some ([], r) else option_map (λ (p : List ℕ × List ℕ). (b ∷ p.0, p.1)) o)
     at true e g o k = rw (apart b x e g) refl
     at false e g None k = rw k (none (nat_eq b x))
     at false e g (Some p) k = rw k (assoc (nat_eq b x) (same_text p.0 c) (same_text p.1 v))
@@ -153,13 +153,13 @@ mapped-if f false xs = refl
 cue-part : (a c : List ℕ) (vs : List CueVerb) → IsTrue (no_slash c) → (o : Option (List ℕ × List ℕ))
     → o ≡ name_and_verb (codes "/cue/") a
     → methods_at (same_text a) (map (method.OfCue c) vs) ≡ option_map_or
-        (λ p. if same_text p.0 c then map (method.OfCue c) (filter (λ v. same_text p.1 (cue_verb_text v)) vs) else []) o
-        []
+    (λ p. if same_text p.0 c then map (method.OfCue c) (filter (λ v. same_text p.1 (cue_verb_text v)) vs) else []) o
+    []
 cue-part a c vs h o e =
     filter-mapped (λ m. same_text a (address_of m)) (method.OfCue c) vs
     ∙ (ap (map (method.OfCue c)) (filter-same (λ v. same_text a (under (codes "/cue/") c (cue_verb_text v)))
-        (λ v. is_named c (cue_verb_text v) o) (λ v. under-cut (codes "/cue/") c (cue_verb_text v) a h
-        ∙ ap (is_named c (cue_verb_text v)) (sym e)) vs) ∙ at o)
+    (λ v. is_named c (cue_verb_text v) o) (λ v. under-cut (codes "/cue/") c (cue_verb_text v) a h
+    ∙ ap (is_named c (cue_verb_text v)) (sym e)) vs) ∙ at o)
   where
     at : (x : Option (List ℕ × List ℕ)) → map (method.OfCue c) (filter (λ v. is_named c (cue_verb_text v) x) vs)
         ≡ option_map_or (λ p. if same_text p.0 c then map (method.OfCue c)
@@ -171,15 +171,15 @@ cue-part a c vs h o e =
 device-part : (a : List ℕ) (d : ℕ) (vs : List DeviceVerb) → IsTrue (no_slash (decimal d))
     → (o : Option (List ℕ × List ℕ)) → o ≡ name_and_verb (codes "/device/") a
     → methods_at (same_text a) (map (method.OfDevice d) vs) ≡ option_map_or
-        (λ p. if same_text p.0 (decimal d) then map (method.OfDevice d)
-        (filter (λ v. same_text p.1 (device_verb_text v)) vs) else []) o []
+    (λ p. if same_text p.0 (decimal d) then map (method.OfDevice d)
+    (filter (λ v. same_text p.1 (device_verb_text v)) vs) else []) o []
 device-part a d vs h o e =
     filter-mapped (λ m. same_text a (address_of m)) (method.OfDevice d) vs
     ∙ (ap (map (method.OfDevice d))
-        (filter-same (λ v. same_text a (under (codes "/device/") (decimal d) (device_verb_text v)))
-        (λ v. is_named (decimal d) (device_verb_text v) o)
-        (λ v. under-cut (codes "/device/") (decimal d) (device_verb_text v) a h
-        ∙ ap (is_named (decimal d) (device_verb_text v)) (sym e)) vs) ∙ at o)
+    (filter-same (λ v. same_text a (under (codes "/device/") (decimal d) (device_verb_text v)))
+    (λ v. is_named (decimal d) (device_verb_text v) o)
+    (λ v. under-cut (codes "/device/") (decimal d) (device_verb_text v) a h
+    ∙ ap (is_named (decimal d) (device_verb_text v)) (sym e)) vs) ∙ at o)
   where
     at : (x : Option (List ℕ × List ℕ))
         → map (method.OfDevice d) (filter (λ v. is_named (decimal d) (device_verb_text v) x) vs) ≡ option_map_or
@@ -229,12 +229,12 @@ one-key n make (e ∷ es) h = let k =
         → flat_map (λ c. if same_text n c then make c else []) (keys_of es)
         ≡ (if is_some (lookup (same_text n) es) then make n else [])
         → ((if b then make e.0 else []) ++ flat_map (λ c. if same_text n c then make c else []) (keys_of es))
-            ≡ (if is_some (cond b (Some e.1) (lookup (same_text n) es)) then make n else [])
+        ≡ (if is_some (cond b (Some e.1) (lookup (same_text n) es)) then make n else [])
     at true f g r =
         let same = equal_text n e.0 f in
         let rest : flat_map (λ c. if same_text n c then make c else []) (keys_of es) ≡ [] =
-            no-key n make (keys_of es) (subst (λ (t : List ℕ). list_any (λ y. same_text y t) (keys_of es) ≡ false)
-            (sym same) g) in
+        no-key n make (keys_of es) (subst (λ (t : List ℕ). list_any (λ y. same_text y t) (keys_of es) ≡ false)
+        (sym same) g) in
         rw rest (append-nil (make e.0) ∙ ap make (sym same))
     at false f g r = r
 
@@ -313,7 +313,7 @@ all-cues show a h =
     let o : Option (List ℕ × List ℕ) = name_and_verb (codes "/cue/") a in
     filter-flat (λ m. same_text a (address_of m)) methods_of_cue (keys_of show.cues)
     ∙ (flat-same no_slash (λ c. methods_at (same_text a) (methods_of_cue c))
-        (λ c. option_map_or (λ p. if same_text p.0 c then map (method.OfCue c) (cue_verbs_at p.1) else []) o [])
+    (λ c. option_map_or (λ p. if same_text p.0 c then map (method.OfCue c) (cue_verbs_at p.1) else []) o [])
     (λ c g. cue-part a c cue_verbs g o refl) (keys_of show.cues) (entries-no_slash show show.cues k.1) ∙ at o k.0)
   where
     at : (o : Option (List ℕ × List ℕ)) → IsTrue (are_distinct same_text (keys_of show.cues))
@@ -327,12 +327,12 @@ pub all-devices : (show : ShowLists) (a : List ℕ) → IsTrue (is_table show.de
     (name_and_verb (codes "/device/") a)
 all-devices show a h =
     let k = both (distinct (keys_of show.devices)) (list_all is_entry show.devices)
-        (both (nat_le (length show.devices) 112) _ h).1 in
+    (both (nat_le (length show.devices) 112) _ h).1 in
     let o : Option (List ℕ × List ℕ) = name_and_verb (codes "/device/") a in
     filter-flat (λ m. same_text a (address_of m)) methods_of_device (keys_of show.devices)
     ∙ (flat-same (λ d. no_slash (decimal d)) (λ d. methods_at (same_text a) (methods_of_device d))
-        (λ d. option_map_or (λ p. if same_text p.0 (decimal d) then map (method.OfDevice d) (device_verbs_at p.1) else
-        []) o [])
+    (λ d. option_map_or (λ p. if same_text p.0 (decimal d) then map (method.OfDevice d) (device_verbs_at p.1) else
+    []) o [])
     (λ d g. device-part a d device_verbs g o refl) (keys_of show.devices) (numbers-no_slash show.devices k.1) ∙ at o)
   where
     at : (o : Option (List ℕ × List ℕ))
@@ -350,9 +350,9 @@ literal-is-looked-up show a pattern h lit e =
     let cues : List Method = flat_map methods_of_cue (keys_of show.cues) in
     let devices : List Method = flat_map methods_of_device (keys_of show.devices) in
     filter-same (λ x. matches pattern (address_of x)) (λ x. same_text a (address_of x))
-        (λ x. literal-matches-itself a (address_of x) pattern lit e) (methods show)
+    (λ x. literal-matches-itself a (address_of x) pattern lit e) (methods show)
     ∙ (filter-append (λ x. same_text a (address_of x)) fixed_methods (cues ++ devices)
     ∙ ap (λ xs. methods_at (same_text a) fixed_methods ++ xs)
     (filter-append (λ x. same_text a (address_of x)) cues devices
     ∙ (ap (λ xs. xs ++ methods_at (same_text a) devices) (all-cues show a m.0)
-        ∙ ap (λ xs. cue_methods_at show (name_and_verb (codes "/cue/") a) ++ xs) (all-devices show a k.0))))
+    ∙ ap (λ xs. cue_methods_at show (name_and_verb (codes "/cue/") a) ++ xs) (all-devices show a k.0))))

@@ -33,14 +33,14 @@ reads-append xs ms ns = map-append (command_by xs) ms ns
 pub show_found : (xs : List Argument) (front name : List Piece) (none a b c : List Command) → none ≡ []
     → part_matches front (codes "show") ≡ true
     → a ≡ none ++ reads xs (named_method name (codes "device") method.AddDevice)
-        → b ≡ a ++ reads xs (named_method name (codes "cue") method.AddCue)
+    → b ≡ a ++ reads xs (named_method name (codes "cue") method.AddCue)
     → c ≡ b ++ reads xs (named_method name (codes "mixed") method.AddMixedCue) → c ≡ reads xs (show_by front name)
 show_found xs front name none a b c empty matched first then last =
     let d : List Method = named_method name (codes "device") method.AddDevice in
     let e : List Method = named_method name (codes "cue") method.AddCue in
     let f : List Method = named_method name (codes "mixed") method.AddMixedCue in
     let begun : b ≡ reads xs d ++ reads xs e = then
-        ∙ ap (λ cs. cs ++ reads xs e) (first ∙ ap (λ cs. cs ++ reads xs d) empty) in
+    ∙ ap (λ cs. cs ++ reads xs e) (first ∙ ap (λ cs. cs ++ reads xs d) empty) in
     last ∙ (ap (λ cs. cs ++ reads xs f) begun
     ∙ (append_assoc (reads xs d) (reads xs e) (reads xs f)
     ∙ (ap (λ cs. reads xs d ++ cs) (sym (reads-append xs e f))
@@ -71,7 +71,7 @@ cues_found xs f n v verbs es is matched =
     ap (λ ws. flat_map (cue_commands xs n ws) es) is
     ∙ (flat-reads xs (λ e. e.0) (named_cue n (filter (λ w. part_matches v (cue_verb_text w)) cue_verbs)) es
     ∙ ap (λ t. reads xs (methods_if t (flat_map (named_cue n (filter (λ w. part_matches v (cue_verb_text w)) cue_verbs))
-        (keys_of es)))) (sym matched))
+    (keys_of es)))) (sym matched))
 
 pub devices_found : (xs : List Argument) (f n v : List Piece) (verbs : List DeviceVerb) (es : List (ℕ × ℕ))
     → verbs ≡ filter (λ w. part_matches v (device_verb_text w)) device_verbs → part_matches f (codes "device") ≡ true
@@ -80,8 +80,8 @@ devices_found xs f n v verbs es is matched =
     ap (λ ws. flat_map (device_commands xs n ws) es) is
     ∙ (flat-reads xs (λ e. e.0) (named_device n (filter (λ w. part_matches v (device_verb_text w)) device_verbs)) es
     ∙ ap (λ t. reads xs (methods_if t
-        (flat_map (named_device n (filter (λ w. part_matches v (device_verb_text w)) device_verbs)) (keys_of es))))
-        (sym matched))
+    (flat_map (named_device n (filter (λ w. part_matches v (device_verb_text w)) device_verbs)) (keys_of es))))
+    (sym matched))
 
 -- ---- what rules a whole family out
 
@@ -103,32 +103,32 @@ pub cues_no_front : (xs : List Argument) (f n v : List Piece) (found : List Comm
     → part_matches f (codes "cue") ≡ false → found ≡ found ++ reads xs (cues_by f n v cs)
 cues_no_front xs f n v found cs unmatched =
     sym (ap (λ t. found ++ reads xs
-        (methods_if t (flat_map (named_cue n (filter (λ w. part_matches v (cue_verb_text w)) cue_verbs)) cs))) unmatched
-        ∙ append-nil found)
+    (methods_if t (flat_map (named_cue n (filter (λ w. part_matches v (cue_verb_text w)) cue_verbs)) cs))) unmatched
+    ∙ append-nil found)
 
 pub devices_no_front : (xs : List Argument) (f n v : List Piece) (found : List Command) (ds : List ℕ)
     → part_matches f (codes "device") ≡ false → found ≡ found ++ reads xs (devices_by f n v ds)
 devices_no_front xs f n v found ds unmatched =
     sym (ap (λ t. found ++ reads xs
-        (methods_if t (flat_map (named_device n (filter (λ w. part_matches v (device_verb_text w)) device_verbs)) ds)))
-        unmatched ∙ append-nil found)
+    (methods_if t (flat_map (named_device n (filter (λ w. part_matches v (device_verb_text w)) device_verbs)) ds)))
+    unmatched ∙ append-nil found)
 
 pub cues_no_verb : (xs : List Argument) (f n v : List Piece) (found : List Command) (cs : List (List ℕ))
     → filter (λ w. part_matches v (cue_verb_text w)) cue_verbs ≡ [] → found ≡ found ++ reads xs (cues_by f n v cs)
 cues_no_verb xs f n v found cs none =
     sym (ap (λ (ws : List CueVerb). found ++ reads xs
-        (methods_if (part_matches f (codes "cue")) (flat_map (named_cue n ws) cs))) none
+    (methods_if (part_matches f (codes "cue")) (flat_map (named_cue n ws) cs))) none
     ∙ (ap (λ ms. found ++ reads xs (methods_if (part_matches f (codes "cue")) ms)) (no-cue_named n cs)
-        ∙ (ap (λ ms. found ++ reads xs ms) (no_methods (part_matches f (codes "cue"))) ∙ append-nil found)))
+    ∙ (ap (λ ms. found ++ reads xs ms) (no_methods (part_matches f (codes "cue"))) ∙ append-nil found)))
 
 pub devices_no_verb : (xs : List Argument) (f n v : List Piece) (found : List Command) (ds : List ℕ)
     → filter (λ w. part_matches v (device_verb_text w)) device_verbs ≡ []
     → found ≡ found ++ reads xs (devices_by f n v ds)
 devices_no_verb xs f n v found ds none =
     sym (ap (λ (ws : List DeviceVerb). found ++ reads xs
-        (methods_if (part_matches f (codes "device")) (flat_map (named_device n ws) ds))) none
+    (methods_if (part_matches f (codes "device")) (flat_map (named_device n ws) ds))) none
     ∙ (ap (λ ms. found ++ reads xs (methods_if (part_matches f (codes "device")) ms)) (no-device_named n ds)
-        ∙ (ap (λ ms. found ++ reads xs ms) (no_methods (part_matches f (codes "device"))) ∙ append-nil found)))
+    ∙ (ap (λ ms. found ++ reads xs ms) (no_methods (part_matches f (codes "device"))) ∙ append-nil found)))
 
 -- ---- the parts of a pattern
 

@@ -46,7 +46,7 @@ cause : (bytes : List ℕ) (f : Fault) → datagram_at bytes ≡ Err f → ((MAX
 unfolding datagram_at
 cause bytes f e =
     elim (chosen (ltb MAX_LEN (length bytes)) (Err faults.TooLong)
-        (cond (not (eqb (length bytes % 4) 0)) (Err faults.NotMultiple) (packet_at 8 bytes)) (Err f) e) [
+    (cond (not (eqb (length bytes % 4) 0)) (Err faults.NotMultiple) (packet_at 8 bytes)) (Err f) e) [
       | inl p ↦ inl (ltb-true MAX_LEN (length bytes) p.0, cc)
       | inr p ↦ inr (
         ltb-false MAX_LEN (length bytes) p.0,
@@ -61,7 +61,7 @@ pub long_if : (bytes : List ℕ) (r : Result Packet Fault) → Gives view r (dat
     → MAX_LEN < length bytes
 long_if bytes r h e =
     let g : datagram_at bytes ≡ Err faults.TooLong =
-        subst (λ (s : Result Packet Fault). Gives view s (datagram_at bytes)) e h in
+    subst (λ (s : Result Packet Fault). Gives view s (datagram_at bytes)) e h in
     elim (cause bytes faults.TooLong g) [
       | inl p ↦ p.0
       | inr p ↦ elim p.1 [
@@ -74,7 +74,7 @@ pub no_multiple_if : (bytes : List ℕ) (r : Result Packet Fault) → Gives view
     → r ≡ Err faults.NotMultiple → (length bytes ≤ MAX_LEN) × (length bytes % 4 ≢ 0)
 no_multiple_if bytes r h e =
     let g : datagram_at bytes ≡ Err faults.NotMultiple =
-        subst (λ (s : Result Packet Fault). Gives view s (datagram_at bytes)) e h in
+    subst (λ (s : Result Packet Fault). Gives view s (datagram_at bytes)) e h in
     elim (cause bytes faults.NotMultiple g) [
       | inl p ↦ absurd cc
       | inr p ↦ elim p.1 [

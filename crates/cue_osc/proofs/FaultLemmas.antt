@@ -50,21 +50,21 @@ blob_inside : (bytes : List ℕ) → FailsInside (blob_at bytes)
 unfolding blob_at
 blob_inside bytes =
     bind_inside (number_at w32 bytes)
-        (λ count. cond (ltb count.0 (2 ^ 31)) (ok_or (padded_at count.0 (padding count.0) count.1) faults.BadBlob)
-        (Err faults.BadBlob)) (number_inside w32 bytes)
+    (λ count. cond (ltb count.0 (2 ^ 31)) (ok_or (padded_at count.0 (padding count.0) count.1) faults.BadBlob)
+    (Err faults.BadBlob)) (number_inside w32 bytes)
     (λ count. cond_inside (ltb count.0 (2 ^ 31)) (ok_or (padded_at count.0 (padding count.0) count.1) faults.BadBlob)
-        (Err faults.BadBlob) (ok_or_inside (padded_at count.0 (padding count.0) count.1) faults.BadBlob tt) tt)
+    (Err faults.BadBlob) (ok_or_inside (padded_at count.0 (padding count.0) count.1) faults.BadBlob tt) tt)
 
 arg_inside : (kind : ℕ) (bytes : List ℕ) → FailsInside (arg_at kind bytes)
 unfolding arg_at
 arg_inside kind bytes =
     let as_int : Result (Argument × List ℕ) Fault =
-        number_at w32 bytes >>= λ number. Ok (int (cast_signed w32 number.0), number.1) in
+    number_at w32 bytes >>= λ number. Ok (int (cast_signed w32 number.0), number.1) in
     let as_text : Result (Argument × List ℕ) Fault = string_at bytes >>= λ found. Ok (text found.0, found.1) in
     let as_blob : Result (Argument × List ℕ) Fault = blob_at bytes >>= λ found. Ok (blob found.0, found.1) in
     cond_inside (eqb kind 105) as_int (cond (eqb kind 115) as_text as_blob)
     (bind_inside (number_at w32 bytes) (λ number. Ok (int (cast_signed w32 number.0), number.1))
-        (number_inside w32 bytes) (λ x. tt))
+    (number_inside w32 bytes) (λ x. tt))
     (cond_inside (eqb kind 115) as_text as_blob
     (bind_inside (string_at bytes) (λ found. Ok (text found.0, found.1)) (string_inside bytes) (λ x. tt))
     (bind_inside (blob_at bytes) (λ found. Ok (blob found.0, found.1)) (blob_inside bytes) (λ x. tt)))
@@ -74,20 +74,20 @@ unfolding all_args_at
 args_inside [] bytes = cond_inside (eqb (length bytes) 0) (Ok []) (Err faults.Trailing) tt tt
 args_inside (kind ∷ kinds) bytes =
     bind_inside (arg_at kind bytes) (λ first. all_args_at kinds first.1 >>= λ others. Ok (first.0 ∷ others))
-        (arg_inside kind bytes)
+    (arg_inside kind bytes)
     (λ first. bind_inside (all_args_at kinds first.1) (λ others. Ok (first.0 ∷ others)) (args_inside kinds first.1)
-        (λ others. tt))
+    (λ others. tt))
 
 tagged_inside : (a bytes : List ℕ) → FailsInside (tagged_at a bytes)
 unfolding tagged_at
 tagged_inside a bytes =
     bind_inside (string_at bytes)
-        (λ found. cond (list_all is_known_tag (drop 1 found.0))
-        (all_args_at (drop 1 found.0) found.1 >>= λ xs. Ok (message a xs)) (Ok (discarded a))) (string_inside bytes)
+    (λ found. cond (list_all is_known_tag (drop 1 found.0))
+    (all_args_at (drop 1 found.0) found.1 >>= λ xs. Ok (message a xs)) (Ok (discarded a))) (string_inside bytes)
     (λ found. cond_inside (list_all is_known_tag (drop 1 found.0))
-        (all_args_at (drop 1 found.0) found.1 >>= λ xs. Ok (message a xs)) (Ok (discarded a))
+    (all_args_at (drop 1 found.0) found.1 >>= λ xs. Ok (message a xs)) (Ok (discarded a))
     (bind_inside (all_args_at (drop 1 found.0) found.1) (λ xs. Ok (message a xs)) (args_inside (drop 1 found.0) found.1)
-        (λ xs. tt)) tt)
+    (λ xs. tt)) tt)
 
 behind_inside : (a rest : List ℕ) → FailsInside (behind_address a rest)
 unfolding behind_address
@@ -104,10 +104,10 @@ element_inside : (bytes : List ℕ) → FailsInside (element_at bytes)
 unfolding element_at
 element_inside bytes =
     bind_inside (number_at w32 bytes)
-        (λ size. cond (is_size size.0 (length size.1)) (Ok (take size.0 size.1, drop size.0 size.1))
-        (Err faults.BadSize)) (number_inside w32 bytes)
+    (λ size. cond (is_size size.0 (length size.1)) (Ok (take size.0 size.1, drop size.0 size.1))
+    (Err faults.BadSize)) (number_inside w32 bytes)
     (λ size. cond_inside (is_size size.0 (length size.1)) (Ok (take size.0 size.1, drop size.0 size.1))
-        (Err faults.BadSize) tt tt)
+    (Err faults.BadSize) tt tt)
 
 elements_inside : (read : List ℕ → Result Content Fault) → ((bytes : List ℕ) → FailsInside (read bytes))
     → (n : ℕ) (bytes : List ℕ) → FailsInside (elements_by read n bytes)
@@ -115,29 +115,29 @@ unfolding elements_by
 elements_inside read h zero bytes = tt
 elements_inside read h (suc n) bytes =
     cond_inside (eqb (length bytes) 0) (Ok nothing) (element_at bytes >>= λ front. read front.0 >>= λ first. elements_by
-        read n front.1 >>= λ others. Ok (element first others)) tt
+    read n front.1 >>= λ others. Ok (element first others)) tt
     (bind_inside (element_at bytes) (λ front. read front.0 >>= λ first. elements_by read n front.1 >>= λ others.
-        Ok (element first others)) (element_inside bytes)
+    Ok (element first others)) (element_inside bytes)
     (λ front. bind_inside (read front.0) (λ first. elements_by read n front.1 >>= λ others. Ok (element first others))
-        (h front.0)
+    (h front.0)
     (λ first. bind_inside (elements_by read n front.1) (λ others. Ok (element first others))
-        (elements_inside read h n front.1) (λ others. tt))))
+    (elements_inside read h n front.1) (λ others. tt))))
 
 bundle_inside : (read : List ℕ → Result Content Fault) → ((bytes : List ℕ) → FailsInside (read bytes))
     → (bytes : List ℕ) → FailsInside (bundle_by read bytes)
 unfolding bundle_by
 bundle_inside read h bytes =
     bind_inside (number_at w64 bytes) (λ time. elements_by read (length time.1) time.1 >>= λ items.
-        Ok (bundle time.0 items)) (number_inside w64 bytes)
+    Ok (bundle time.0 items)) (number_inside w64 bytes)
     (λ time. bind_inside (elements_by read (length time.1) time.1) (λ items. Ok (bundle time.0 items))
-        (elements_inside read h (length time.1) time.1) (λ items. tt))
+    (elements_inside read h (length time.1) time.1) (λ items. tt))
 
 start_inside : (inner : Result Content Fault) (bytes : List ℕ) → FailsInside inner
     → FailsInside (cond (is_message_start bytes) (message_at bytes)
     (cond (is_bundle_start bytes) inner (Err faults.BadStart)))
 start_inside inner bytes h =
     cond_inside (is_message_start bytes) (message_at bytes) (cond (is_bundle_start bytes) inner (Err faults.BadStart))
-        (message_inside bytes)
+    (message_inside bytes)
     (cond_inside (is_bundle_start bytes) inner (Err faults.BadStart) h tt)
 
 pub packet_inside : (d : ℕ) (bytes : List ℕ) → FailsInside (packet_at d bytes)

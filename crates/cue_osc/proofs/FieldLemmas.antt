@@ -106,19 +106,25 @@ number_takes w limit wide bytes n rest fits e =
     let n-is : from_be_bytes w (take (byte_len w) bytes) ≡ n = g.1 in
     let rest-is : drop (byte_len w) bytes ≡ rest = g.2 in
     let front : to_be_bytes w n ≡ take (byte_len w) bytes =
-        rw (← n-is) (wide.back (take (byte_len w) bytes) (omega (arith, length-take (byte_len w) bytes))
-        (IsBytes-take (byte_len w) bytes fits)) in
-    (rw (front, ← rest-is) (sym (take-append-drop (byte_len w) bytes)), rw (← n-is)
-        (wide.below (take (byte_len w) bytes) (IsBytes-take (byte_len w) bytes fits)))
+    rw (← n-is) (wide.back (take (byte_len w) bytes) (omega (arith, length-take (byte_len w) bytes))
+    (IsBytes-take (byte_len w) bytes fits)) in (
+      rw (front, ← rest-is) (sym (take-append-drop (byte_len w) bytes)),
+      rw (← n-is)
+          (wide.below (take (byte_len w) bytes) (IsBytes-take (byte_len w) bytes fits)),
+    )
 
 pub number_again : (w : Width) (limit : ℕ) (wide : IsWide w limit) (n : ℕ) (rest : List ℕ) → n < limit
     → number_at w (to_be_bytes w n ++ rest) ≡ Ok (n, rest)
 number_again w limit wide n rest lt =
     let len = wide.len n in
     let long : ltb (length (to_be_bytes w n ++ rest)) (byte_len w) ≡ false =
-        le-ltb _ _ (omega (arith, length-append (to_be_bytes w n) rest)) in
-    rw (long, take_at (to_be_bytes w n) rest (byte_len w) len, drop_at (to_be_bytes w n) rest (byte_len w) len,
-        wide.again n lt) refl
+    le-ltb _ _ (omega (arith, length-append (to_be_bytes w n) rest)) in
+    rw (
+      long,
+      take_at (to_be_bytes w n) rest (byte_len w) len,
+      drop_at (to_be_bytes w n) rest (byte_len w) len,
+      wide.again n lt,
+    ) refl
 
 -- ---- bytes and zeros
 
@@ -144,15 +150,15 @@ pub padded_takes : (n k : ℕ) (bytes : List ℕ) (x : List ℕ × List ℕ) →
 unfolding padded_at
 padded_takes n k bytes x e =
     let a = else_some (ltb (length bytes) n)
-        (cond (ltb (length (drop n bytes)) k) None
-        (cond (are_zeros (take k (drop n bytes))) (Some (take n bytes, drop k (drop n bytes))) None)) x e in
+    (cond (ltb (length (drop n bytes)) k) None
+    (cond (are_zeros (take k (drop n bytes))) (Some (take n bytes, drop k (drop n bytes))) None)) x e in
     let b = else_some (ltb (length (drop n bytes)) k)
-        (cond (are_zeros (take k (drop n bytes))) (Some (take n bytes, drop k (drop n bytes))) None) x a.1 in
+    (cond (are_zeros (take k (drop n bytes))) (Some (take n bytes, drop k (drop n bytes))) None) x a.1 in
     let c = then_some (are_zeros (take k (drop n bytes))) (take n bytes, drop k (drop n bytes)) x b.1 in
     let long : n ≤ length bytes = ltb-false _ _ a.0 in
     let room : k ≤ length (drop n bytes) = ltb-false _ _ b.0 in
     let zeros : take k (drop n bytes) ≡ replicate k 0 = zeros_are (take k (drop n bytes)) c.0
-        ∙ ap (λ m. replicate m 0) (omega (arith, length-take k (drop n bytes))) in
+    ∙ ap (λ m. replicate m 0) (omega (arith, length-take k (drop n bytes))) in
     let made : IsPadded n k bytes (take n bytes) (drop k (drop n bytes)) = record {
       len = omega (arith, length-take n bytes);
       front = refl;
@@ -169,12 +175,20 @@ padded_again content rest k =
     let zeros = replicate k 0 in
     let len : length zeros ≡ k = length-replicate k 0 in
     let long : ltb (length (content ++ (zeros ++ rest))) (length content) ≡ false =
-        le-ltb _ _ (omega (arith, length-append content (zeros ++ rest))) in
+    le-ltb _ _ (omega (arith, length-append content (zeros ++ rest))) in
     let behind : drop (length content) (content ++ (zeros ++ rest)) ≡ zeros ++ rest =
-        drop_at content (zeros ++ rest) (length content) refl in
+    drop_at content (zeros ++ rest) (length content) refl in
     let room : ltb (length (zeros ++ rest)) k ≡ false = le-ltb _ _ (omega (arith, length-append zeros rest)) in
-    rw (long, behind, room, take_at zeros rest k len, are_zeros-replicate k, take_at content (zeros ++ rest)
-        (length content) refl, drop_at zeros rest k len) refl
+    rw (
+      long,
+      behind,
+      room,
+      take_at zeros rest k len,
+      are_zeros-replicate k,
+      take_at content (zeros ++ rest)
+          (length content) refl,
+      drop_at zeros rest k len,
+    ) refl
 
 -- ---- strings
 
@@ -198,9 +212,9 @@ unfolding string_at
 string_takes bytes t rest e =
     let n = text_len bytes in
     let p = padded_takes n (4 - n % 4) bytes (t, rest)
-        (ok_or_ok (padded_at n (4 - n % 4) bytes) BadString (t, rest) e) in
+    (ok_or_ok (padded_at n (4 - n % 4) bytes) BadString (t, rest) e) in
     let parts : bytes ≡ t ++ (replicate (4 - length t % 4) 0 ++ rest) = p.parts
-        ∙ ap (λ (m : ℕ). t ++ (replicate (4 - m % 4) 0 ++ rest)) (sym p.len) in
+    ∙ ap (λ (m : ℕ). t ++ (replicate (4 - m % 4) 0 ++ rest)) (sym p.len) in
     (parts ∙ sym (append_assoc t (replicate (4 - length t % 4) 0) rest), subst IsText (sym p.front) (text_before bytes))
 
 pub string_again : (t rest : List ℕ) → IsText t → string_at (osc_string t ++ rest) ≡ Ok (t, rest)
@@ -210,11 +224,11 @@ string_again t rest h =
     let one : k ≡ suc (k - 1) = omega arith in
     let regrouped : osc_string t ++ rest ≡ t ++ (replicate k 0 ++ rest) = append_assoc t (replicate k 0) rest in
     let null : t ++ (replicate k 0 ++ rest) ≡ t ++ (0 ∷ (replicate (k - 1) 0 ++ rest)) =
-        ap (λ (m : ℕ). t ++ (replicate m 0 ++ rest)) one in
+    ap (λ (m : ℕ). t ++ (replicate m 0 ++ rest)) one in
     let len : text_len (osc_string t ++ rest) ≡ length t = ap text_len (regrouped ∙ null)
-        ∙ text_len-again t (replicate (k - 1) 0 ++ rest) h in
+    ∙ text_len-again t (replicate (k - 1) 0 ++ rest) h in
     let found : padded_at (length t) k (osc_string t ++ rest) ≡ Some (t, rest) = ap (padded_at (length t) k) regrouped
-        ∙ padded_again t rest k in
+    ∙ padded_again t rest k in
     rw (len, found) refl
 
 -- ---- blobs
@@ -224,24 +238,26 @@ pub blob_takes : (bytes b rest : List ℕ) → IsBytes bytes → blob_at bytes �
 unfolding blob_at
 blob_takes bytes b rest fits e =
     let c = bind_ok (number_at w32 bytes)
-        (λ count. cond (ltb count.0 (2 ^ 31)) (ok_or (padded_at count.0 (padding count.0) count.1) BadBlob)
-        (Err BadBlob)) (b, rest) e in
+    (λ count. cond (ltb count.0 (2 ^ 31)) (ok_or (padded_at count.0 (padding count.0) count.1) BadBlob)
+    (Err BadBlob)) (b, rest) e in
     let n = c.0.0 in
     let t = number_takes w32 (2 ^ 32) wide32 bytes n c.0.1 fits c.1 in
     let g = then_ok (ltb n (2 ^ 31)) BadBlob (ok_or (padded_at n (padding n) c.0.1) BadBlob) (b, rest) c.2 in
     let p = padded_takes n (padding n) c.0.1 (b, rest)
-        (ok_or_ok (padded_at n (padding n) c.0.1) BadBlob (b, rest) g.1) in
+    (ok_or_ok (padded_at n (padding n) c.0.1) BadBlob (b, rest) g.1) in
     let lt : n < 2 ^ 31 = ltb-true n (2 ^ 31) g.0 in
     let count : to_be_bytes w32 n ≡ to_be_bytes w32 (length b) = ap (to_be_bytes w32) (sym p.len) in
     let zeros : replicate (padding n) 0 ≡ replicate (padding (length b)) 0 =
-        ap (λ (m : ℕ). replicate (padding m) 0) (sym p.len) in
+    ap (λ (m : ℕ). replicate (padding m) 0) (sym p.len) in
     let front = to_be_bytes w32 (length b) in
     let back = replicate (padding (length b)) 0 in
     let grouped : osc_blob b ++ rest ≡ front ++ (b ++ (back ++ rest)) = append_assoc front (b ++ back) rest
-        ∙ ap (λ (x : List ℕ). front ++ x) (append_assoc b back rest) in
-    let behind : c.0.1 ≡ b ++ (back ++ rest) = p.parts ∙ ap (λ (z : List ℕ). b ++ (z ++ rest)) zeros in
-    (t.0 ∙ ap (λ (f : List ℕ). f ++ c.0.1) count ∙ ap (λ (x : List ℕ). front ++ x) behind
-        ∙ sym grouped, subst (λ (m : ℕ). m < 2 ^ 31) (sym p.len) lt)
+    ∙ ap (λ (x : List ℕ). front ++ x) (append_assoc b back rest) in
+    let behind : c.0.1 ≡ b ++ (back ++ rest) = p.parts ∙ ap (λ (z : List ℕ). b ++ (z ++ rest)) zeros in (
+      t.0 ∙ ap (λ (f : List ℕ). f ++ c.0.1) count ∙ ap (λ (x : List ℕ). front ++ x) behind
+          ∙ sym grouped,
+      subst (λ (m : ℕ). m < 2 ^ 31) (sym p.len) lt,
+    )
 
 pub blob_again : (b rest : List ℕ) → length b < 2 ^ 31 → blob_at (osc_blob b ++ rest) ≡ Ok (b, rest)
 unfolding blob_at
@@ -249,9 +265,9 @@ blob_again b rest lt =
     let front = to_be_bytes w32 (length b) in
     let back = replicate (padding (length b)) 0 in
     let grouped : osc_blob b ++ rest ≡ front ++ (b ++ (back ++ rest)) = append_assoc front (b ++ back) rest
-        ∙ ap (λ (x : List ℕ). front ++ x) (append_assoc b back rest) in
+    ∙ ap (λ (x : List ℕ). front ++ x) (append_assoc b back rest) in
     let count : number_at w32 (osc_blob b ++ rest) ≡ Ok (length b, b ++ (back ++ rest)) = ap (number_at w32) grouped
-        ∙ number_again w32 (2 ^ 32) wide32 (length b) (b ++ (back ++ rest)) (omega arith) in
+    ∙ number_again w32 (2 ^ 32) wide32 (length b) (b ++ (back ++ rest)) (omega arith) in
     let small : ltb (length b) (2 ^ 31) ≡ true = lt-ltb (length b) (2 ^ 31) lt in
     rw (count, small, padded_again b rest (padding (length b))) refl
 
@@ -271,10 +287,13 @@ int_takes bytes x fits e =
     let t = number_takes w32 (2 ^ 32) wide32 bytes b.0.0 b.0.1 fits b.1 in
     let back : cast_unsigned w32 (cast_signed w32 b.0.0) ≡ b.0.0 = of_z-to_z w32 b.0.0 t.1 in
     let made : TakesArg 105 bytes (int (cast_signed w32 b.0.0)) b.0.1 =
-        record { parts = rw back t.0; fits = sfits_to_z {w = w32} {n = b.0.0} (Fits-of_lt {w = w32} {n = b.0.0} t.1);
-        kind_is = refl } in
+    record {
+      parts = rw back t.0;
+      fits = sfits_to_z {w = w32} {n = b.0.0} (Fits-of_lt {w = w32} {n = b.0.0} t.1);
+      kind_is = refl;
+    } in
     subst (λ (y : Argument × List ℕ). TakesArg 105 bytes y.0 y.1) (ok_is (int (cast_signed w32 b.0.0), b.0.1) x b.2)
-        made
+    made
 
 text_takes : (bytes : List ℕ) (x : Argument × List ℕ) → (string_at bytes >>= λ found. Ok (text found.0, found.1)) ≡ Ok x
     → TakesArg 115 bytes x.0 x.1
@@ -303,7 +322,7 @@ pub arg_takes : (kind : ℕ) (bytes : List ℕ) (x : Argument × List ℕ) → i
 unfolding arg_at
 arg_takes kind bytes x known fits e =
     let as_int : Result (Argument × List ℕ) Fault =
-        number_at w32 bytes >>= λ number. Ok (int (cast_signed w32 number.0), number.1) in
+    number_at w32 bytes >>= λ number. Ok (int (cast_signed w32 number.0), number.1) in
     let as_text : Result (Argument × List ℕ) Fault = string_at bytes >>= λ found. Ok (text found.0, found.1) in
     let as_blob : Result (Argument × List ℕ) Fault = blob_at bytes >>= λ found. Ok (blob found.0, found.1) in
     elim (chosen (eqb kind 105) as_int (cond (eqb kind 115) as_text as_blob) (Ok x) e) [
@@ -320,9 +339,9 @@ unfolding arg_at
 arg_again (int z) rest h =
     let n = cast_unsigned w32 z in
     let read : number_at w32 (to_be_bytes w32 n ++ rest) ≡ Ok (n, rest) =
-        number_again w32 (2 ^ 32) wide32 n rest (Fits-lt-pow {w = w32} {n = n} (Fits-of_z {w = w32} {z = z} h)) in
+    number_again w32 (2 ^ 32) wide32 n rest (Fits-lt-pow {w = w32} {n = n} (Fits-of_z {w = w32} {z = z} h)) in
     let as_int : Result (ℕ × List ℕ) Fault → Result (Argument × List ℕ) Fault =
-        λ r. r >>= λ number. Ok (int (cast_signed w32 number.0), number.1) in
+    λ r. r >>= λ number. Ok (int (cast_signed w32 number.0), number.1) in
     ap as_int read ∙ ap (λ (y : ℤ). done (int y, rest)) (to_z-of_z w32 z h)
 arg_again (text t) rest h = rw (string_again t rest h) refl
 arg_again (blob b) rest h = rw (blob_again b rest h) refl

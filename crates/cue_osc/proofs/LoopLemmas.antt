@@ -47,12 +47,12 @@ regroup front x (Err f) = refl
 pub arg_more : (front : List Argument) (kinds : List ℕ) (i : ℕ) (bytes : List ℕ) (x : Argument) (after : List ℕ)
     (total : Result (List Argument) Fault) → i < length kinds → arg_at (get_or kinds i 0) bytes ≡ Ok (x, after)
     → with_args front (all_args_at (drop i kinds) bytes) ≡ total
-        → with_args (front ++ x ∷ []) (all_args_at (drop (i + 1) kinds) after) ≡ total
+    → with_args (front ++ x ∷ []) (all_args_at (drop (i + 1) kinds) after) ≡ total
 unfolding all_args_at
 arg_more front kinds i bytes x after total lt h so_far =
     let one : with_args front (all_args_at (drop i kinds) bytes) ≡ with_args (front ++ x ∷ [])
-        (all_args_at (drop (i + 1) kinds) after) =
-        rw (add-one, drop-cons kinds i 0 lt, h) (regroup front x (all_args_at (drop (suc i) kinds) after)) in
+    (all_args_at (drop (i + 1) kinds) after) =
+    rw (add-one, drop-cons kinds i 0 lt, h) (regroup front x (all_args_at (drop (suc i) kinds) after)) in
     sym one ∙ so_far
 
 pub arg_fails : (e : Fault) (front : List Argument) (kinds : List ℕ) (i : ℕ) (bytes : List ℕ)
@@ -62,22 +62,22 @@ unfolding all_args_at
 arg_fails e front kinds i bytes total lt h so_far =
     fails_on e (arg_at (get_or kinds i 0) bytes) total
     (λ f k. let one : with_args front (all_args_at (drop i kinds) bytes) ≡ Err f =
-        rw (drop-cons kinds i 0 lt, k) refl in sym so_far ∙ one) h
+    rw (drop-cons kinds i 0 lt, k) refl in sym so_far ∙ one) h
 
 -- the last argument
 pub args_done : (front : List Argument) (kinds : List ℕ) (i : ℕ) (bytes : List ℕ) (total : Result (List Argument) Fault)
     → length kinds ≤ i
     → with_args front (all_args_at (drop i kinds) bytes) ≡ total
-        → cond (eqb (length bytes) 0) (Ok front) (Err faults.Trailing) ≡ total
+    → cond (eqb (length bytes) 0) (Ok front) (Err faults.Trailing) ≡ total
 unfolding all_args_at
 args_done front kinds i bytes total le so_far =
     let none : drop i kinds ≡ [] = nil_from_length (drop i kinds) (omega (arith, length-drop i kinds)) in
     let one : with_args front (all_args_at (drop i kinds) bytes) ≡ with_args front
-        (cond (eqb (length bytes) 0) (Ok []) (Err faults.Trailing)) = rw none refl in
+    (cond (eqb (length bytes) 0) (Ok []) (Err faults.Trailing)) = rw none refl in
     let two : with_args front (cond (eqb (length bytes) 0) (Ok []) (Err faults.Trailing)) ≡ cond (eqb (length bytes) 0)
-        (Ok front) (Err faults.Trailing) =
-        elim (eqb (length bytes) 0) as (λ v. with_args front (cond v (Ok []) (Err faults.Trailing)) ≡ cond v (Ok front)
-        (Err faults.Trailing)) [ true ↦ ap (λ (ys : List Argument). Ok ys) (append-nil front) | false ↦ refl ] in
+    (Ok front) (Err faults.Trailing) =
+    elim (eqb (length bytes) 0) as (λ v. with_args front (cond v (Ok []) (Err faults.Trailing)) ≡ cond v (Ok front)
+    (Err faults.Trailing)) [ true ↦ ap (λ (ys : List Argument). Ok ys) (append-nil front) | false ↦ refl ] in
     sym two ∙ sym one ∙ so_far
 
 -- ---- elements
@@ -109,7 +109,7 @@ pub number_is : (w : Width) (bytes : List ℕ) (x : ℕ × List ℕ) → number_
     × (from_be_bytes w (take (byte_len w) bytes) ≡ x.0) × (drop (byte_len w) bytes ≡ x.1)
 number_is w bytes x e =
     let g = guard_ok (ltb (length bytes) (byte_len w)) faults.BadSize
-        (from_be_bytes w (take (byte_len w) bytes), drop (byte_len w) bytes) x e in
+    (from_be_bytes w (take (byte_len w) bytes), drop (byte_len w) bytes) x e in
     (ltb-false _ _ g.0, ap (λ (p : ℕ × List ℕ). p.0) g.1, ap (λ (p : ℕ × List ℕ). p.1) g.1)
 
 pub element_is : (bytes : List ℕ) (x : List ℕ × List ℕ) → element_at bytes ≡ Ok x
@@ -118,8 +118,8 @@ pub element_is : (bytes : List ℕ) (x : List ℕ × List ℕ) → element_at by
 unfolding element_at
 element_is bytes x e =
     let b = bind_ok (number_at w32 bytes)
-        (λ size. cond (is_size size.0 (length size.1)) (Ok (take size.0 size.1, drop size.0 size.1))
-        (Err faults.BadSize)) x e in
+    (λ size. cond (is_size size.0 (length size.1)) (Ok (take size.0 size.1, drop size.0 size.1))
+    (Err faults.BadSize)) x e in
     let g = pass_ok (is_size b.0.0 (length b.0.1)) faults.BadSize (take b.0.0 b.0.1, drop b.0.0 b.0.1) x b.2 in
     (b.0, b.1, g.0, ap (λ (p : List ℕ × List ℕ). p.0) g.1, ap (λ (p : List ℕ × List ℕ). p.1) g.1)
 
@@ -153,7 +153,7 @@ enough_step : (read : List ℕ → Result Content Fault) (n m : ℕ) (bytes : Li
     → ((rest : List ℕ) → length rest < length bytes → elements_by read n rest ≡ elements_by read m rest)
     → (r : Result (List ℕ × List ℕ) Fault) → element_at bytes ≡ r
     → (r >>= λ front. read front.0 >>= λ first. elements_by read n front.1 >>= λ others. Ok (element first others))
-        ≡ (r >>= λ front. read front.0 >>= λ first. elements_by read m front.1 >>= λ others. Ok (element first others))
+    ≡ (r >>= λ front. read front.0 >>= λ first. elements_by read m front.1 >>= λ others. Ok (element first others))
 enough_step read n m bytes same (Ok x) e =
     ap (λ (rest : Result Contents Fault). read x.0 >>= λ first. rest >>= λ others. Ok (element first others))
     (same x.1 (element_shorter bytes x e))
@@ -172,8 +172,8 @@ enough read (suc n) (suc m) bytes h k =
       | inr ne ↦
           let some : 0 < length bytes = omega arith in
           elements_some read n bytes some
-              ∙ enough_step read n m bytes (λ rest lt. enough read n m rest (omega arith) (omega arith))
-              (element_at bytes) refl ∙ sym (elements_some read m bytes some)
+          ∙ enough_step read n m bytes (λ rest lt. enough read n m rest (omega arith) (omega arith))
+          (element_at bytes) refl ∙ sym (elements_some read m bytes some)
     ]
 
 -- the elements that begin with this one
@@ -188,17 +188,17 @@ pub element_more : (read : List ℕ → Result Content Fault) (front : List Cont
     (after : List ℕ) (c : Content) (total : Result Contents Fault) → 0 < length bytes → element_at bytes ≡ Ok (x, after)
     → read x ≡ Ok c
     → with_elements front (elements_by read (length bytes) bytes) ≡ total
-        → with_elements (front ++ c ∷ []) (elements_by read (length after) after) ≡ total
+    → with_elements (front ++ c ∷ []) (elements_by read (length after) after) ≡ total
 element_more read front bytes x after c total some h k so_far =
     let shorter : length after < length bytes = element_shorter bytes (x, after) h in
     let one : elements_by read (length bytes) bytes
-        ≡ (elements_by read (length bytes - 1) after >>= λ others. Ok (element c others)) =
-        elements_whole read bytes some ∙ rw (h, k) refl in
+    ≡ (elements_by read (length bytes - 1) after >>= λ others. Ok (element c others)) =
+    elements_whole read bytes some ∙ rw (h, k) refl in
     let two : elements_by read (length bytes - 1) after ≡ elements_by read (length after) after =
-        enough read (length bytes - 1) (length after) after (omega arith) (omega arith) in
+    enough read (length bytes - 1) (length after) after (omega arith) (omega arith) in
     sym (regroup_elements front c (elements_by read (length after) after))
-        ∙ ap (λ (r : Result Contents Fault). with_elements front (r >>= λ others. Ok (element c others))) (sym two)
-        ∙ ap (with_elements front) (sym one) ∙ so_far
+    ∙ ap (λ (r : Result Contents Fault). with_elements front (r >>= λ others. Ok (element c others))) (sym two)
+    ∙ ap (with_elements front) (sym one) ∙ so_far
 
 -- the element's size is bad
 pub element_cut : (e : Fault) (read : List ℕ → Result Content Fault) (front : List Content) (bytes : List ℕ)
@@ -207,7 +207,7 @@ pub element_cut : (e : Fault) (read : List ℕ → Result Content Fault) (front 
 element_cut e read front bytes total some h so_far =
     fails_on e (element_at bytes) total
     (λ f k. let one : elements_by read (length bytes) bytes ≡ Err f = elements_whole read bytes some
-        ∙ rw k refl in sym so_far ∙ ap (with_elements front) one) h
+    ∙ rw k refl in sym so_far ∙ ap (with_elements front) one) h
 
 -- what the element holds is bad
 pub element_fails : (e : Fault) (read : List ℕ → Result Content Fault) (front : List Content) (bytes x after : List ℕ)
@@ -216,7 +216,7 @@ pub element_fails : (e : Fault) (read : List ℕ → Result Content Fault) (fron
 element_fails e read front bytes x after total some h bad so_far =
     fails_on e (read x) total
     (λ f k. let one : elements_by read (length bytes) bytes ≡ Err f = elements_whole read bytes some ∙ rw (h, k) refl in
-        sym so_far ∙ ap (with_elements front) one) bad
+    sym so_far ∙ ap (with_elements front) one) bad
 
 -- the last element
 pub elements_done : (read : List ℕ → Result Content Fault) (front : List Content) (bytes : List ℕ)
@@ -224,4 +224,4 @@ pub elements_done : (read : List ℕ → Result Content Fault) (front : List Con
     → with_elements front (elements_by read (length bytes) bytes) ≡ total → total ≡ Ok (contents_of front)
 elements_done read front bytes total none so_far =
     sym so_far ∙ ap (with_elements front) (elements_none read (length bytes) bytes none)
-        ∙ ap (λ (cs : Contents). Ok cs) (joined_nothing front)
+    ∙ ap (λ (cs : Contents). Ok cs) (joined_nothing front)

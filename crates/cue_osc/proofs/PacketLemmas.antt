@@ -52,7 +52,7 @@ element_takes bytes x fits e =
     let s = size_from_test n (length behind) p.2 in
     let len : length x.0 ≡ n = ap length (sym p.3) ∙ omega (arith, length-take n behind, s.1) in
     let parts : behind ≡ x.0 ++ x.1 = sym (take-append-drop n behind) ∙ ap (λ (f : List ℕ). f ++ drop n behind) p.3
-        ∙ ap (λ (r : List ℕ). x.0 ++ r) p.4 in
+    ∙ ap (λ (r : List ℕ). x.0 ++ r) p.4 in
     let behind_fits : IsBytes behind = IsBytes-rest bytes (to_be_bytes w32 n) behind t.0 fits in
     record {
       size = subst IsSize (sym len) s.0;
@@ -84,7 +84,7 @@ elements_take : (d : ℕ) → ReadsSpelled d → (n : ℕ) (bytes : List ℕ) (c
 elements_take d spelled zero bytes cs le fits e =
     let none : length bytes ≡ 0 = omega arith in
     subst (AreElements d bytes) (ok_is nothing cs (sym (elements_none (packet_at d) zero bytes none) ∙ e))
-        (nil_from_length bytes none)
+    (nil_from_length bytes none)
 elements_take d spelled (suc n) bytes cs le fits e =
     elim (cases_eq (length bytes) 0) [
       | inl none ↦ subst (AreElements d bytes) (ok_is nothing cs (sym (elements_none (packet_at d) (suc n) bytes none)
@@ -92,19 +92,19 @@ elements_take d spelled (suc n) bytes cs le fits e =
       | inr some ↦
           let some_left : 0 < length bytes = omega arith in
           let read : elements_from (packet_at d) n bytes ≡ Ok cs = sym (elements_some (packet_at d) n bytes some_left)
-              ∙ e in
+          ∙ e in
           let a = bind_ok (element_at bytes) (λ front. packet_at d front.0 >>= λ first. elements_by (packet_at d) n
-              front.1 >>= λ others. Ok (element first others)) cs read in
+          front.1 >>= λ others. Ok (element first others)) cs read in
           let front = a.0.0 in
           let rest = a.0.1 in
           let t = element_takes bytes a.0 fits a.1 in
           let shorter : length rest < length bytes = element_shorter bytes a.0 a.1 in
           let b = bind_ok (packet_at d front)
-              (λ first. elements_by (packet_at d) n rest >>= λ others. Ok (element first others)) cs a.2 in
+          (λ first. elements_by (packet_at d) n rest >>= λ others. Ok (element first others)) cs a.2 in
           let o = bind_ok (elements_by (packet_at d) n rest) (λ others. Ok (element b.0 others)) cs b.2 in
           let others : AreElements d rest o.0 = elements_take d spelled n rest o.0 (omega arith) t.rest_fits o.1 in
           subst (AreElements d bytes) (ok_is (element b.0 o.0) cs o.2)
-              (front, rest, t.size, t.parts, spelled front b.0 t.front_fits b.1, others)
+          (front, rest, t.size, t.parts, spelled front b.0 t.front_fits b.1, others)
     ]
 
 -- ---- bundles
@@ -121,15 +121,20 @@ unfolding bundle_by
 bundle_takes d spelled bytes c fits start e =
     let behind = drop 8 bytes in
     let a = bind_ok (number_at w64 behind) (λ time. elements_by (packet_at d) (length time.1) time.1 >>= λ items.
-        Ok (bundle time.0 items)) c e in
+    Ok (bundle time.0 items)) c e in
     let time = a.0.0 in
     let rest = a.0.1 in
     let t = number_takes w64 (2 ^ 64) wide64 behind time rest (IsBytes-drop 8 bytes fits) a.1 in
     let b = bind_ok (elements_by (packet_at d) (length rest) rest) (λ items. Ok (bundle time items)) c a.2 in
     let rest_fits : IsBytes rest = IsBytes-rest behind (to_be_bytes w64 time) rest t.0 (IsBytes-drop 8 bytes fits) in
     let items : AreElements d rest b.0 = elements_take d spelled (length rest) rest b.0 (omega arith) rest_fits b.1 in
-    subst (IsPacket (suc d) bytes) (ok_is (bundle time b.0) c b.2) (t.1, rest, head_first bytes start
-        ∙ ap (λ (r : List ℕ). bundle_head ++ r) t.0, items)
+    subst (IsPacket (suc d) bytes) (ok_is (bundle time b.0) c b.2) (
+      t.1,
+      rest,
+      head_first bytes start
+          ∙ ap (λ (r : List ℕ). bundle_head ++ r) t.0,
+      items,
+    )
 
 -- ---- packets
 
@@ -159,7 +164,7 @@ element_first : (d n : ℕ) (bytes front rest : List ℕ) (c : Content) (cs : Co
     → elements_by (packet_at d) (suc n) bytes ≡ Ok (element c cs)
 element_first d n bytes front rest c cs size parts first others =
     let len : length bytes ≡ 4 + length (front ++ rest) = ap length parts
-        ∙ length-append (to_be_bytes w32 (length front)) (front ++ rest) in
+    ∙ length-append (to_be_bytes w32 (length front)) (front ++ rest) in
     let some : 0 < length bytes = omega arith in
     let read : element_at bytes ≡ Ok (front, rest) = ap element_at parts ∙ element_again front rest size in
     elements_some (packet_at d) n bytes some ∙ rw (read, first, others) refl
@@ -178,7 +183,7 @@ bundle_again d t bytes rest cs small parts items =
     let head : is_bundle_start bytes ≡ true = head_again bytes (to_be_bytes w64 t ++ rest) parts in
     let behind : drop 8 bytes ≡ to_be_bytes w64 t ++ rest = ap (drop 8) parts in
     let time : number_at w64 (drop 8 bytes) ≡ Ok (t, rest) = ap (number_at w64) behind
-        ∙ number_again w64 (2 ^ 64) wide64 t rest small in
+    ∙ number_again w64 (2 ^ 64) wide64 t rest small in
     bundle_start d bytes other head ∙ rw (time, items) refl
 
 mutual
@@ -195,7 +200,7 @@ mutual
   elements_again d zero bytes (element c cs) le h = absurd (omega (arith, element_len bytes h.0 h.1 h.3))
   elements_again d (suc n) bytes (element c cs) le h =
       element_first d n bytes h.0 h.1 c cs h.2 h.3 (packet_again d h.0 c h.4)
-          (elements_again d n h.1 cs (omega (arith, element_len bytes h.0 h.1 h.3)) h.5)
+      (elements_again d n h.1 cs (omega (arith, element_len bytes h.0 h.1 h.3)) h.5)
 
 -- ---- datagrams
 
@@ -203,10 +208,12 @@ pub datagram_takes : (bytes : List ℕ) (c : Content) → IsBytes bytes → data
 unfolding datagram_at
 datagram_takes bytes c fits e =
     let a = else_ok (ltb MAX_LEN (length bytes)) TooLong
-        (cond (not (eqb (length bytes % 4) 0)) (Err NotMultiple) (packet_at 8 bytes)) c e in
-    let b = else_ok (not (eqb (length bytes % 4) 0)) NotMultiple (packet_at 8 bytes) c a.1 in
-    (ltb-false MAX_LEN (length bytes) a.0, eqb-true (length bytes % 4) 0 (not-false (eqb (length bytes % 4) 0) b.0),
-        packet_takes 8 bytes c fits b.1)
+    (cond (not (eqb (length bytes % 4) 0)) (Err NotMultiple) (packet_at 8 bytes)) c e in
+    let b = else_ok (not (eqb (length bytes % 4) 0)) NotMultiple (packet_at 8 bytes) c a.1 in (
+      ltb-false MAX_LEN (length bytes) a.0,
+      eqb-true (length bytes % 4) 0 (not-false (eqb (length bytes % 4) 0) b.0),
+      packet_takes 8 bytes c fits b.1,
+    )
 
 pub datagram_again : (bytes : List ℕ) (c : Content) → Spells bytes c → datagram_at bytes ≡ Ok c
 unfolding datagram_at

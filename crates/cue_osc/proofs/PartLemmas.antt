@@ -32,7 +32,7 @@ args_take [] bytes xs known fits e =
     let p = then_ok (eqb (length bytes) 0) Trailing (Ok []) xs e in
     let none : bytes ≡ [] = nil_from_length bytes (eqb-true (length bytes) 0 p.0) in
     subst (λ (ys : List Argument). AreArgs [] bytes ys) (ok_is [] xs p.1)
-        (record { parts = none; fit = tt; kinds_are = refl })
+    (record { parts = none; fit = tt; kinds_are = refl })
 args_take (kind ∷ kinds) bytes xs known fits e =
     let k = and_parts (is_known_tag kind) (list_all is_known_tag kinds) known in
     let a = bind_ok (arg_at kind bytes) (λ first. all_args_at kinds first.1 >>= λ others. Ok (first.0 ∷ others)) xs e in
@@ -55,7 +55,7 @@ unfolding all_args_at
 args_again [] h = refl
 args_again (x ∷ xs) h =
     let read : arg_at (tag x) (flat_map argument (x ∷ xs)) ≡ Ok (x, flat_map argument xs) =
-        ap (arg_at (tag x)) (flat_map-cons argument x xs) ∙ arg_again x (flat_map argument xs) h.0 in
+    ap (arg_at (tag x)) (flat_map-cons argument x xs) ∙ arg_again x (flat_map argument xs) h.0 in
     rw (read, args_again xs h.1) refl
 
 known_tags : (xs : List Argument) → list_all is_known_tag (map tag xs) ≡ true
@@ -84,16 +84,16 @@ tagged_message a bytes kinds values c parts known fits e =
     let xs = b.0 in
     let t = args_take kinds values xs known fits b.1 in
     let whole : bytes ≡ osc_string (tags xs) ++ flat_map argument xs = parts
-        ∙ ap (λ (r : List ℕ). osc_string (44 ∷ kinds) ++ r) t.parts
-        ∙ ap (λ (ks : List ℕ). osc_string (44 ∷ ks) ++ flat_map argument xs) (sym t.kinds_are) in
+    ∙ ap (λ (r : List ℕ). osc_string (44 ∷ kinds) ++ r) t.parts
+    ∙ ap (λ (ks : List ℕ). osc_string (44 ∷ ks) ++ flat_map argument xs) (sym t.kinds_are) in
     subst (IsTagged a bytes) (ok_is (message a xs) c b.2) (refl, t.fit, whole)
 
 tagged_takes : (a bs : List ℕ) (c : Content) → IsBytes (44 ∷ bs) → tagged_at a (44 ∷ bs) ≡ Ok c → IsTagged a (44 ∷ bs) c
 unfolding tagged_at
 tagged_takes a bs c fits e =
     let f = bind_ok (string_at (44 ∷ bs))
-        (λ found. cond (list_all is_known_tag (drop 1 found.0))
-        (all_args_at (drop 1 found.0) found.1 >>= λ xs. Ok (message a xs)) (Ok (discarded a))) c e in
+    (λ found. cond (list_all is_known_tag (drop 1 found.0))
+    (all_args_at (drop 1 found.0) found.1 >>= λ xs. Ok (message a xs)) (Ok (discarded a))) c e in
     let t = f.0.0 in
     let values = f.0.1 in
     let s = string_takes (44 ∷ bs) t values f.1 in
@@ -101,11 +101,11 @@ tagged_takes a bs c fits e =
     let kinds = comma.0 in
     let dropped : drop 1 t ≡ kinds = ap (drop 1) comma.1 in
     let parts : 44 ∷ bs ≡ osc_string (44 ∷ kinds) ++ values = s.0
-        ∙ ap (λ (u : List ℕ). osc_string u ++ values) comma.1 in
+    ∙ ap (λ (u : List ℕ). osc_string u ++ values) comma.1 in
     let is_text : IsText (44 ∷ kinds) = subst IsText comma.1 s.1 in
     let behind : List ℕ → Result Content Fault = λ ks. all_args_at ks values >>= λ xs. Ok (message a xs) in
     let read : cond (list_all is_known_tag kinds) (behind kinds) (Ok (discarded a)) ≡ Ok c =
-        ap (λ (ks : List ℕ). cond (list_all is_known_tag ks) (behind ks) (Ok (discarded a))) (sym dropped) ∙ f.2 in
+    ap (λ (ks : List ℕ). cond (list_all is_known_tag ks) (behind ks) (Ok (discarded a))) (sym dropped) ∙ f.2 in
     elim (chosen (list_all is_known_tag kinds) (behind kinds) (Ok (discarded a)) (Ok c) read) [
       | inl p ↦ tagged_message a (44 ∷ bs) kinds values c parts p.0
           (IsBytes-rest (44 ∷ bs) (osc_string t) values s.0 fits) p.1
@@ -131,7 +131,7 @@ other_tags_again : (a rest : List ℕ) → IsOtherTags rest → tagged_at a rest
 unfolding tagged_at
 other_tags_again a rest h =
     let read : string_at rest ≡ Ok (44 ∷ h.kinds, h.after) = ap string_at h.spelled
-        ∙ string_again (44 ∷ h.kinds) h.after (omega arith, h.are_text) in
+    ∙ string_again (44 ∷ h.kinds) h.after (omega arith, h.are_text) in
     rw (read, h.other) refl
 
 -- with anything
@@ -155,7 +155,7 @@ behind_takes a (b ∷ bs) c fits e =
           let comma : b ≡ 44 = eqb-true b 44 p.0 in
           let read : tagged_at a (44 ∷ bs) ≡ Ok c = ap (λ (n : ℕ). tagged_at a (n ∷ bs)) (sym comma) ∙ p.1 in
           let tagged : IsTagged a (44 ∷ bs) c = tagged_takes a bs c (subst (λ (n : ℕ). IsBytes (n ∷ bs)) comma fits)
-              read in
+          read in
           subst (λ (n : ℕ). IsBehind a (n ∷ bs) c) (sym comma) (from_tagged a (44 ∷ bs) c tagged)
       | inr p ↦ subst (IsBehind a (b ∷ bs)) (ok_is (discarded a) c p.1) (refl, inl (eqb-false b 44 p.0))
     ]
@@ -177,8 +177,11 @@ whole_message d bytes a rest (message b xs) address parts h =
     let spelled : (bytes ≡ message_text b xs) ⊎ ((xs ≡ []) × (bytes ≡ osc_string b)) = elim h.2 [
       | inl p ↦ inl (parts ∙ ap (λ (r : List ℕ). osc_string a ++ r) p
           ∙ ap (λ (t : List ℕ). osc_string t ++ (osc_string (tags xs) ++ flat_map argument xs)) (sym h.0))
-      | inr p ↦ inr (p.0, parts ∙ ap (λ (r : List ℕ). osc_string a ++ r) p.1 ∙ append-nil (osc_string a)
-          ∙ ap osc_string (sym h.0))
+      | inr p ↦ inr (
+        p.0,
+        parts ∙ ap (λ (r : List ℕ). osc_string a ++ r) p.1 ∙ append-nil (osc_string a)
+            ∙ ap osc_string (sym h.0),
+      )
     ] in
     (subst IsAddress (sym h.0) address, h.1, spelled)
 whole_message d bytes a rest (discarded b) address parts h =
@@ -194,7 +197,7 @@ message_takes d (b ∷ bs) c start fits e =
     let s = string_takes (b ∷ bs) a.0.0 a.0.1 a.1 in
     let slash : 47 ∷ bs ≡ osc_string a.0.0 ++ a.0.1 = ap (λ (n : ℕ). n ∷ bs) (sym (eqb-true b 47 start)) ∙ s.0 in
     whole_message d (b ∷ bs) a.0.0 a.0.1 c (address_first a.0.0 a.0.1 bs slash s.1) s.0
-        (behind_takes a.0.0 a.0.1 c (IsBytes-rest (b ∷ bs) (osc_string a.0.0) a.0.1 s.0 fits) a.2)
+    (behind_takes a.0.0 a.0.1 c (IsBytes-rest (b ∷ bs) (osc_string a.0.0) a.0.1 s.0 fits) a.2)
 
 -- what begins with an address begins a message
 pub message_begins : (bytes a rest : List ℕ) → IsAddress a → bytes ≡ osc_string a ++ rest
@@ -227,7 +230,7 @@ message_again bytes a xs h =
       | inr p ↦
           let said : Result Content Fault → Type 0 = λ r. behind_address a [] ≡ r in
           spelled_again bytes a [] (message a xs) h.0 (p.1 ∙ sym (append-nil (osc_string a)))
-              (subst (λ (ys : List Argument). said (Ok (message a ys))) (sym p.0) refl)
+          (subst (λ (ys : List Argument). said (Ok (message a ys))) (sym p.0) refl)
     ]
 
 no_tag_again : (a rest : List ℕ) → IsNoTag rest → behind_address a rest ≡ Ok (discarded a)

@@ -41,8 +41,13 @@ pub args_len-drop : (args : List Arg) (i : ℕ) (x : Arg) → i < length args �
 args_len-drop args i x lt e =
     let rest = drop (suc i) args in
     let parts : drop i args ≡ x ∷ rest = drop-cons args i x lt ∙ ap (λ (y : Arg). y ∷ rest) (sym e) in
-    rw (parts, flat_map-cons argument (arg_view x) (map arg_view rest), length-append (argument (arg_view x))
-        (flat_map argument (map arg_view rest)), add-one) refl
+    rw (
+      parts,
+      flat_map-cons argument (arg_view x) (map arg_view rest),
+      length-append (argument (arg_view x))
+          (flat_map argument (map arg_view rest)),
+      add-one,
+    ) refl
 
 -- ---- elements
 
@@ -60,7 +65,7 @@ items_len-drop items i x lt e =
     let rest = drop (suc i) items in
     let parts : drop i items ≡ x ∷ rest = drop-cons items i x lt ∙ ap (λ (y : Packet). y ∷ rest) (sym e) in
     ap items_len parts ∙ element_len (view x) (contents_of (map view rest))
-        ∙ ap (λ (n : ℕ). 4 + (length (text_of (view x)) + items_len (drop n items))) (sym (add-one i))
+    ∙ ap (λ (n : ℕ). 4 + (length (text_of (view x)) + items_len (drop n items))) (sym (add-one i))
 
 -- what fits is no longer than the room
 pub room-some : (room n left : ℕ) → Some left ≡ room_left room n → n ≤ room

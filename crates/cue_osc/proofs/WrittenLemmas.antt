@@ -111,9 +111,14 @@ mutual
   elements_spelled d nothing h k lt = refl
   elements_spelled d (element c cs) h k lt =
       let unit = text_unit d c h.0 in
-      let len = element_len c cs in
-      (text_of c, elements_text cs, (unit.some, omega arith, unit.whole), refl, text_spelled d c h.0 k.0 (omega arith),
-          elements_spelled d cs h.1 k.1 (omega arith))
+      let len = element_len c cs in (
+        text_of c,
+        elements_text cs,
+        (unit.some, omega arith, unit.whole),
+        refl,
+        text_spelled d c h.0 k.0 (omega arith),
+        elements_spelled d cs h.1 k.1 (omega arith),
+      )
 
 -- the spelling of a plain packet is a datagram of it, unless it is too long
 pub text_spells : (c : Content) → IsPlain 8 c → IsInRange c → length (text_of c) ≤ MAX_LEN → Spells (text_of c) c

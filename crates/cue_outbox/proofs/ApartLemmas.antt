@@ -58,7 +58,7 @@ numbers_told : (s : ShowState) (a : Attempt) (xs : List DeviceAnswer)
 numbers_told s a xs =
     each_found (λ x. Unit {0}) (λ (o : ℕ × Order). (key o.1).0 ≡ a.seq) (order_for s a)
     (λ x h. if_waits (waits x) (sent s a x) (λ (o : ℕ × Order). (key o.1).0 ≡ a.seq)
-        (ap (λ (k : ℕ × ℕ). k.0) (key_sent s a x))) xs (every xs)
+    (ap (λ (k : ℕ × ℕ). k.0) (key_sent s a x))) xs (every xs)
 
 -- a device that is none of them is told nothing
 others_told : (s : ShowState) (a : Attempt) (d : ℕ) (xs : List DeviceAnswer)
@@ -66,11 +66,11 @@ others_told : (s : ShowState) (a : Attempt) (d : ℕ) (xs : List DeviceAnswer)
     → AllByRecursion (λ (o : ℕ × Order). (key o.1).1 ≡ d → ⊥) (told_to s a xs)
 others_told s a d xs h =
     each_found (λ (x : DeviceAnswer). nat_eq x.device d ≡ false) (λ (o : ℕ × Order). (key o.1).1 ≡ d
-        → ⊥) (order_for s a)
+    → ⊥) (order_for s a)
     (λ x other. if_waits (waits x) (sent s a x) (λ (o : ℕ × Order). (key o.1).1 ≡ d
-        → ⊥) (λ same. eqb-false x.device d other (sym (ap (λ (k : ℕ × ℕ). k.1) (key_sent s a x)) ∙ same)))
+    → ⊥) (λ same. eqb-false x.device d other (sym (ap (λ (k : ℕ × ℕ). k.1) (key_sent s a x)) ∙ same)))
     xs (each_mapped (λ e. nat_eq e d ≡ false) (λ (x : DeviceAnswer). x.device) xs
-        (each_fails (λ e. nat_eq e d) (devices_of xs) h))
+    (each_fails (λ e. nat_eq e d) (devices_of xs) h))
 
 apart_within : (s : ShowState) (a : Attempt) (xs : List DeviceAnswer) → IsTrue (distinct (devices_of xs))
     → Pairs Apart (told_to s a xs)
@@ -78,7 +78,7 @@ apart_within s a [] h = tt
 apart_within s a (x ∷ xs) h =
     let k = and_parts (not (list_any (λ e. nat_eq e x.device) (devices_of xs))) (distinct (devices_of xs)) h in
     onto (waits x) (others_told s a x.device xs (not-true (list_any (λ e. nat_eq e x.device) (devices_of xs)) k.0))
-        (apart_within s a xs k.1)
+    (apart_within s a xs k.1)
   where
     onto : (b : Bool) → AllByRecursion (λ (o : ℕ × Order). (key o.1).1 ≡ x.device → ⊥) (told_to s a xs)
         → Pairs Apart (told_to s a xs) → Pairs Apart (cons_option (cond b (Some (sent s a x)) None) (told_to s a xs))
@@ -97,10 +97,10 @@ higher_told : (s : ShowState) (a : Attempt) (rest : List Attempt) → IsTrue (li
 higher_told s a rest h =
     each_flat (λ b. IsTrue (goes_before a b)) (λ (o : ℕ × Order). a.seq < (key o.1).0) (λ b. told_to s b b.answers)
     (λ b before. let lt : a.seq < b.seq =
-        ltb-true a.seq b.seq (and_parts (nat_lt a.seq b.seq) (disjoint (devices_of a.answers) (devices_of b.answers))
-        before).0 in
+    ltb-true a.seq b.seq (and_parts (nat_lt a.seq b.seq) (disjoint (devices_of a.answers) (devices_of b.answers))
+    before).0 in
     each_weaker (λ (o : ℕ × Order). (key o.1).0 ≡ b.seq) (λ (o : ℕ × Order). a.seq < (key o.1).0)
-        (λ o same. omega (arith, same)) (told_to s b b.answers) (numbers_told s b b.answers))
+    (λ o same. omega (arith, same)) (told_to s b b.answers) (numbers_told s b b.answers))
     rest (each_passes (goes_before a) rest h)
 
 apart_across : (s : ShowState) (a : Attempt) (ys : List (ℕ × Order))
@@ -109,7 +109,7 @@ apart_across : (s : ShowState) (a : Attempt) (ys : List (ℕ × Order))
 apart_across s a ys higher =
     each_weaker (λ (o : ℕ × Order). (key o.1).0 ≡ a.seq) (λ o. AllByRecursion (Apart o) ys)
     (λ o here. each_weaker (λ (p : ℕ × Order). a.seq < (key p.1).0) (Apart o)
-        (λ p above same. let e : (key o.1).0 ≡ (key p.1).0 = ap (λ (k : ℕ × ℕ). k.0) same in omega arith) ys higher)
+    (λ p above same. let e : (key o.1).0 ≡ (key p.1).0 = ap (λ (k : ℕ × ℕ). k.0) same in omega arith) ys higher)
     (told_to s a a.answers) (numbers_told s a a.answers)
 
 apart_all : (s : ShowState) (live : List Attempt) → AllByRecursion (IsTold s) live → IsTrue (pairwise goes_before live)
@@ -143,7 +143,7 @@ pub apart_bytes : (o p : ℕ × Order) → IsWritableOrder o → IsWritableOrder
 unfolding datagram send_content
 apart_bytes o p w v apart e =
     let read : Ok (order_content o.1) ≡ Ok (order_content p.1) = sym (read_back (order_content o.1) w)
-        ∙ ap (λ (x : ℕ × List ℕ). datagram_at x.1) e ∙ read_back (order_content p.1) v in
+    ∙ ap (λ (x : ℕ × List ℕ). datagram_at x.1) e ∙ read_back (order_content p.1) v in
     let same : order_content o.1 ≡ order_content p.1 = cc in
     apart (sym (key_in o.1) ∙ ap content_key same ∙ key_in p.1)
 

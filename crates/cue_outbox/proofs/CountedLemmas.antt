@@ -36,10 +36,10 @@ owed-first s numbers a rest =
     let here : filter test (told s a) ≡ cond (is_among a.seq numbers) (told s a) [] =
     filter-alike test (is_among a.seq numbers) (told s a)
     (each_weaker (IsOf a) (λ o. test o ≡ is_among a.seq numbers) (λ o k. ap (λ q. is_among q numbers) k.number)
-        (told s a) (told_of s a))
+    (told s a) (told_of s a))
     in
     ap (λ (os : List (ℕ × Order)). datagrams (orders os)) (filter-append test (told s a) (flat_map (λ b. told s b) rest)
-        ∙ ap (λ (os : List (ℕ × Order)). os ++ filter test (flat_map (λ b. told s b) rest)) here)
+    ∙ ap (λ (os : List (ℕ × Order)). os ++ filter test (flat_map (λ b. told s b) rest)) here)
     ∙ (sent-append (cond (is_among a.seq numbers) (told s a) []) (filter test (flat_map (λ b. told s b) rest))
     ∙ ap (λ (ds : List (ℕ × List ℕ)). ds ++ datagrams_of s numbers rest) (either (is_among a.seq numbers)))
   where
@@ -51,11 +51,11 @@ owed-first s numbers a rest =
 pub owed-more : (s : ShowState) (numbers : List ℕ) (live : List Attempt) (i : ℕ) (a : Attempt)
     (outs news all : List (ℕ × List ℕ)) → i < length live → a ≡ get_or live i a
     → news ≡ outs ++ cond (is_among a.seq numbers) (datagrams_for s a a.answers) []
-        → outs ++ datagrams_of s numbers (drop i live) ≡ all → news ++ datagrams_of s numbers (drop (i + 1) live) ≡ all
+    → outs ++ datagrams_of s numbers (drop i live) ≡ all → news ++ datagrams_of s numbers (drop (i + 1) live) ≡ all
 owed-more s numbers live i a outs news all lt is new old =
     let cut : drop i live ≡ a ∷ drop (i + 1) live = drop_more live i a lt ∙ ap (λ x. x ∷ drop (i + 1) live) (sym is) in
     ap (λ (ds : List (ℕ × List ℕ)). ds ++ datagrams_of s numbers (drop (i + 1) live)) new
     ∙ (append_assoc outs (cond (is_among a.seq numbers) (datagrams_for s a a.answers) [])
-        (datagrams_of s numbers (drop (i + 1) live))
+    (datagrams_of s numbers (drop (i + 1) live))
     ∙ (ap (λ (ds : List (ℕ × List ℕ)). outs ++ ds)
-        (sym (ap (datagrams_of s numbers) cut ∙ owed-first s numbers a (drop (i + 1) live))) ∙ old))
+    (sym (ap (datagrams_of s numbers) cut ∙ owed-first s numbers a (drop (i + 1) live))) ∙ old))

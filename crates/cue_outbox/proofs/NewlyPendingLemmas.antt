@@ -66,10 +66,10 @@ differ_bytes : (o p : ℕ × Order) → IsWritableOrder o → IsWritableOrder p 
 unfolding datagram send_content
 differ_bytes o p w v other e =
     let read : Ok (order_content o.1) ≡ Ok (order_content p.1) = sym (read_back (order_content o.1) w)
-        ∙ ap (λ (x : ℕ × List ℕ). datagram_at x.1) e ∙ read_back (order_content p.1) v in
+    ∙ ap (λ (x : ℕ × List ℕ). datagram_at x.1) e ∙ read_back (order_content p.1) v in
     let same : order_content o.1 ≡ order_content p.1 = cc in
     let number : number_of o.1 ≡ number_of p.1 = sym (number_key o.1)
-        ∙ ap (λ (k : ℕ × ℕ). k.0) (sym (key_in o.1) ∙ ap content_key same ∙ key_in p.1) ∙ number_key p.1 in
+    ∙ ap (λ (k : ℕ × ℕ). k.0) (sym (key_in o.1) ∙ ap content_key same ∙ key_in p.1) ∙ number_key p.1 in
     let kind : is_standby o.1 ≡ is_standby p.1 = sym (four_in o.1) ∙ ap has_four same ∙ four_in p.1 in
     let k = other number in
     let clash : true ≡ false = sym k.0 ∙ kind ∙ k.1 in
@@ -130,7 +130,7 @@ all_old [] = refl
 all_old (o ∷ os) =
     join (is_old (datagrams (orders (o ∷ os))) o) (list_all (is_old (datagrams (orders (o ∷ os)))) os)
     (rw (same_itself (datagram (o.0, order o.1))) refl)
-        (all_more (datagram (o.0, order o.1)) (datagrams (orders os)) os (all_old os))
+    (all_more (datagram (o.0, order o.1)) (datagrams (orders os)) os (all_old os))
 
 -- ---- the orders of an attempt
 
@@ -157,8 +157,11 @@ pub told_of : (s : ShowState) (a : Attempt) → AllByRecursion (IsOf a) (told s 
 told_of s a =
     each_found (λ x. Unit {0}) (IsOf a) (order_for s a)
     (λ x h. if_waits (waits x) (sent s a x) (IsOf a)
-    (record { number = number_at a.stage a.seq x.device a.cue (bytes_for x.device (cue_parts s.show a.cue)); kind =
-        standby_at a.stage a.seq x.device a.cue (bytes_for x.device (cue_parts s.show a.cue)) }))
+    (record {
+      number = number_at a.stage a.seq x.device a.cue (bytes_for x.device (cue_parts s.show a.cue));
+      kind =
+          standby_at a.stage a.seq x.device a.cue (bytes_for x.device (cue_parts s.show a.cue));
+    }))
     a.answers (every a.answers)
 
 -- ---- each attempt is found by its number
@@ -183,7 +186,7 @@ each_itself (a ∷ live) h =
       each_both (λ (b : Attempt). IsTrue (nat_lt a.seq b.seq)) (λ (b : Attempt). attempt_of live b.seq ≡ Some b)
           (λ (b : Attempt). attempt_of (a ∷ live) b.seq ≡ Some b)
           (λ b above e. rw (not_at a.seq b.seq above) e) live (each_passes (λ b. nat_lt a.seq b.seq) live p.0)
-              (each_itself live p.1),
+          (each_itself live p.1),
     )
 
 -- ---- whether an order is new
@@ -211,7 +214,7 @@ olds_differ s b p number f rises =
     each_flat (λ (a : Attempt). attempt_of s.live a.seq ≡ Some a) (λ o. Differs o p) (λ a. told s a)
     (λ a e. each_weaker (IsOf a) (λ o. Differs o p)
     (λ o k same. let one : a.seq ≡ b.seq = sym k.number ∙ (same ∙ number) in let m = f a e one in (k.kind ∙ m.0, m.1))
-        (told s a) (told_of s a))
+    (told s a) (told_of s a))
     s.live (each_itself s.live rises)
 
 -- an attempt with its orders in the new state
@@ -230,8 +233,8 @@ begun_new s t b i n lt =
     (λ o w k. new_beside o (pending s) w (all_writable s i)
     (olds_differ s b o k.number
     (λ a e one. let low : a.seq ≤ s.last_seq =
-        leb-true a.seq s.last_seq (found_has (λ y. nat_le y.seq s.last_seq) (has_number a.seq) s.live a
-        (rules_of s i).within e) in absurd (omega arith))
+    leb-true a.seq s.last_seq (found_has (λ y. nat_le y.seq s.last_seq) (has_number a.seq) s.live a
+    (rules_of s i).within e) in absurd (omega arith))
     (sound_of s i).rises))
     (told t b) n.writable (told_of t b)
 
@@ -255,12 +258,12 @@ stayed_old : (s t : ShowState) (b a : Attempt) → attempt_of s.live b.seq ≡ S
 stayed_old s t b a f h =
     let old = datagrams (all_pending s) in
     let there = found_has (λ x. list_all (is_old (datagrams (all_pending s))) (told s x)) (has_number b.seq) s.live a
-        (pending_all s (is_old (datagrams (all_pending s))) s.live (all_old (pending s))) f in
+    (pending_all s (is_old (datagrams (all_pending s))) s.live (all_old (pending s))) f in
     each_weaker (λ (o : ℕ × Order). IsTrue (is_old (datagrams (all_pending s)) o))
-        (λ (o : ℕ × Order). is_new (datagrams (all_pending s)) (o.0, order o.1) ≡ false)
+    (λ (o : ℕ × Order). is_new (datagrams (all_pending s)) (o.0, order o.1) ≡ false)
     (λ o k. by (is_new (datagrams (all_pending s)) (o.0, order o.1)) k) (told t b)
     (each_passes (is_old (datagrams (all_pending s))) (told t b)
-        (h.among.each (is_old (datagrams (all_pending s))) there))
+    (h.among.each (is_old (datagrams (all_pending s))) there))
   where
     by : (c : Bool) → IsTrue (not c) → c ≡ false
     by true k = absurd cc
@@ -297,26 +300,26 @@ newly-pending-are-asked s events numbers i g asked =
     let t = after_events s events in
     let j = is_state-after_events s events i g in
     filter_orders (is_new (datagrams (all_pending s))) (λ o. is_among (number_of o.1) numbers)
-        (pending (after_events s events))
+    (pending (after_events s events))
     (each_flat (IsNow (after_events s events)) (λ (o : ℕ × Order). is_new (datagrams (all_pending s)) (o.0, order o.1)
-        ≡ is_among (number_of o.1) numbers) (λ a. told (after_events s events) a)
+    ≡ is_among (number_of o.1) numbers) (λ a. told (after_events s events) a)
     (λ b n. each_both (IsOf b) (λ (o : ℕ × Order). is_new (datagrams (all_pending s)) (o.0, order o.1) ≡ is_asked b.seq
-        events) (λ (o : ℕ × Order). is_new (datagrams (all_pending s)) (o.0, order o.1) ≡ is_among (number_of o.1)
-        numbers)
+    events) (λ (o : ℕ × Order). is_new (datagrams (all_pending s)) (o.0, order o.1) ≡ is_among (number_of o.1)
+    numbers)
     (λ o k e. e ∙ (sym (asked b.seq) ∙ ap (λ q. is_among q numbers) (sym k.number)))
     (told (after_events s events) b) (told_of (after_events s events) b)
-        (new_as_asked s (after_events s events) b (is_asked b.seq events) i n (since s events b.seq b i g n.there)))
+    (new_as_asked s (after_events s events) b (is_asked b.seq events) i n (since s events b.seq b i g n.there)))
     (after_events s events).live
     (each_both (λ (b : Attempt). attempt_of (after_events s events).live b.seq ≡ Some b)
-        (IsTold (after_events s events)) (IsNow (after_events s events))
-        (λ b e told_b. record { there = e; writable = writable_for (after_events s events) b told_b })
+    (IsTold (after_events s events)) (IsNow (after_events s events))
+    (λ b e told_b. record { there = e; writable = writable_for (after_events s events) b told_b })
     (after_events s events).live (each_itself (after_events s events).live (sound_of (after_events s events) j).rises)
-        (live_told (after_events s events) j)))
+    (live_told (after_events s events) j)))
 
 pub steps-ask-anew : StepsAskAnew
 steps-ask-anew s now from commands numbers h fit asked =
     newly-pending-are-asked s (events_of (steps s now from commands)) numbers h
-        (steps-acceptable s now from commands h fit) asked
+    (steps-acceptable s now from commands h fit) asked
 
 -- ---- no two are the same
 
@@ -334,4 +337,4 @@ asked-orders-differ s numbers h =
     let test : ℕ × Order → Bool = λ o. is_among (number_of o.1) numbers in
     pairs_all (λ x y. x ≢ y) (datagrams (pending_of numbers s))
     (all_other (filter test (pending s)) (each_filter IsWritableOrder test (pending s) (all_writable s h))
-        (pairs_filter Apart test (pending s) (apart_pending s h)))
+    (pairs_filter Apart test (pending s) (apart_pending s h)))

@@ -19,7 +19,7 @@ do-not-fall xs h i j le lt =
     ⊎_elim
     (λ (k : i < j). let low : get_or xs i 0 < get_or xs j 0 = AllPairs-from_increasing xs h i j 0 k lt in omega arith)
     (λ (k : j ≤ i). let same : i ≡ j = omega arith in let e : get_or xs i 0 ≡ get_or xs j 0 =
-        ap (λ n. get_or xs n 0) same in omega arith)
+    ap (λ n. get_or xs n 0) same in omega arith)
     (cases_lt i j)
 
 at-among : (xs : List ℕ) (i d q : ℕ) → i < length xs → get_or xs i d ≡ q → is_among q xs ≡ true

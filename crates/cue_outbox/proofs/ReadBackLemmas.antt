@@ -101,11 +101,11 @@ front_text (suc n) (b ∷ bs) h = (h.0, front_text n bs h.1)
 reply_read : (most : ℕ) (address : List ℕ) (made known refused code : ℕ) → most ≤ 64 → IsText address → made < 2 ^ 16
     → known < 2 ^ 16 → refused < 2 ^ 16 → code < 2 ^ 16
     → datagram_at (text_of (send_content (answer (take most address) made known refused code))) ≡ Ok
-        (send_content (answer (take most address) made known refused code))
+    (send_content (answer (take most address) made known refused code))
 reply_read most address made known refused code few is_text m k r c =
     read_back (send_content (answer (take most address) made known refused code))
     (answer_writable (take most address) made known refused code (front_text most address is_text)
-        (omega (arith, length-take most address)) (omega arith) (omega arith) (omega arith) (omega arith))
+    (omega (arith, length-take most address)) (omega arith) (omega arith) (omega arith) (omega arith))
 
 pub replies-are-read : RepliesAreRead
 replies-are-read address made known refused code is_text m k r c =
@@ -152,4 +152,4 @@ status-is-read s h =
     let outcome = ended_small s.ended in
     read_back (send_content (status_of s))
     (status_writable s.last_seq (unwrap_or s.show.place []) (length s.live) (ended_number s.ended)
-        (ended_outcome s.ended) (omega arith) place.0 place.1 (omega arith) (omega arith) (omega arith))
+    (ended_outcome s.ended) (omega arith) place.0 place.1 (omega arith) (omega arith) (omega arith))

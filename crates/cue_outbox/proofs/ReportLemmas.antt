@@ -45,7 +45,7 @@ part_short d (p ∷ ps) h =
     let k = and_parts (is_part p) (list_all is_part ps) h in
     let here = and_parts (is_device p.device) (nat_le (length p.bytes) MAX_PART_BYTES && are_bytes p.bytes) k.0 in
     by (nat_eq p.device d) (leb-true (length p.bytes) MAX_PART_BYTES
-        (and_parts (nat_le (length p.bytes) MAX_PART_BYTES) (are_bytes p.bytes) here.1).0) (part_short d ps k.1)
+    (and_parts (nat_le (length p.bytes) MAX_PART_BYTES) (are_bytes p.bytes) here.1).0) (part_short d ps k.1)
   where
     by : (b : Bool) → length p.bytes ≤ 32 → length (bytes_for d ps) ≤ 32 → length (cond b p.bytes (bytes_for d ps)) ≤ 32
     by true here rest = here
@@ -61,9 +61,9 @@ part_device p h = (and_parts (is_device p.device) (nat_le (length p.bytes) MAX_P
 each_part : (parts : List Part) → IsTrue (are_parts parts) → IsTrue (list_all is_part parts)
 each_part parts h =
     let some = and_parts (has_required_part parts)
-        (nat_le (length parts) MAX_PARTS && (distinct (devices_in parts) && list_all is_part parts)) h in
+    (nat_le (length parts) MAX_PARTS && (distinct (devices_in parts) && list_all is_part parts)) h in
     let few = and_parts (nat_le (length parts) MAX_PARTS) (distinct (devices_in parts) && list_all is_part parts)
-        some.1 in
+    some.1 in
     (and_parts (distinct (devices_in parts)) (list_all is_part parts) few.1).1
 
 -- the devices of the answers are those of the parts
@@ -75,7 +75,7 @@ devices_same (p ∷ ps) [] h = absurd cc
 devices_same (p ∷ ps) (x ∷ xs) h =
     let k = and_parts (is_of_part p x) (are_of_parts ps xs) h in
     let same : p.device ≡ x.device =
-        eqb-true p.device x.device (and_parts (nat_eq p.device x.device) (beq p.optional x.optional) k.0).0 in
+    eqb-true p.device x.device (and_parts (nat_eq p.device x.device) (beq p.optional x.optional) k.0).0 in
     rw (same, devices_same ps xs k.1) refl
 
 -- what holds of each device of the parts, of each device of the attempt
@@ -85,7 +85,7 @@ pub devices_each : (test : ℕ → Bool) (answers : List DeviceAnswer) (parts : 
 devices_each test answers parts same h =
     let P : List ℕ → Type 0 = AllByRecursion (λ d. IsTrue (test d)) in
     each_mapped (λ d. IsTrue (test d)) (λ x. x.device) answers
-        (subst P (sym same) (each_passes test (devices_in parts) (all_map test (λ p. p.device) parts h)))
+    (subst P (sym same) (each_passes test (devices_in parts) (all_map test (λ p. p.device) parts h)))
 
 port_good : (show : ShowLists) (d : ℕ) → IsTrue (is_show show) → IsTrue (has_device show d)
     → IsTrue (is_port (unwrap_or (port_of show d) 0))
@@ -105,12 +105,12 @@ numbered : (a : Attempt) → IsTrue (is_attempt a) → IsNumbered a
 numbered a h =
     let whole = and_parts (is_sound a) (is_open a.stage a.answers) h in
     let first = and_parts (is_number a.seq)
-        (is_moment a.deadline && (have_sound_devices a.answers && list_all (stands a.stage) a.answers)) whole.0 in
+    (is_moment a.deadline && (have_sound_devices a.answers && list_all (stands a.stage) a.answers)) whole.0 in
     let then = and_parts (is_moment a.deadline) (have_sound_devices a.answers && list_all (stands a.stage) a.answers)
-        first.1 in
+    first.1 in
     let sound = and_parts (have_sound_devices a.answers) (list_all (stands a.stage) a.answers) then.1 in
     let below : a.seq ≤ MAX_NUMBER =
-        leb-true a.seq MAX_NUMBER (and_parts (nat_le 1 a.seq) (nat_le a.seq MAX_NUMBER) first.0).1 in
+    leb-true a.seq MAX_NUMBER (and_parts (nat_le 1 a.seq) (nat_le a.seq MAX_NUMBER) first.0).1 in
     record {
       number = omega arith;
       distinct = (and_parts (has_required a.answers) (distinct (devices_of a.answers)) sound.0).1;
@@ -137,14 +137,14 @@ told s a rules attempt at = by (parts_of s.show a.cue) refl (is_cue_of-parts_of 
           part = λ d. rw e (part_short d parts each);
           devices =
               each_weaker (λ (x : DeviceAnswer). IsTrue (is_device x.device)) (λ x. x.device < 2 ^ 31)
-                  (λ x. device_small x.device) a.answers
+              (λ x. device_small x.device) a.answers
               (devices_each is_device a.answers parts devices
-                  (all_weaker is_part (λ q. is_device q.device) part_device parts each));
+              (all_weaker is_part (λ q. is_device q.device) part_device parts each));
           ports =
               each_weaker (λ (x : DeviceAnswer). IsTrue (has_device s.show x.device))
-                  (λ x. IsTrue (is_port (unwrap_or (port_of s.show x.device) 0)))
+              (λ x. IsTrue (is_port (unwrap_or (port_of s.show x.device) 0)))
               (λ x. port_good s.show x.device rules) a.answers
-                  (devices_each (has_device s.show) a.answers parts devices p.1);
+              (devices_each (has_device s.show) a.answers parts devices p.1);
           distinct = n.distinct;
         }
 

@@ -30,7 +30,8 @@ use Rattle.cue_exchange.specs.declared.attempt.Attempt.{Attempt}
 use Rattle.cue_exchange.specs.Answers.{some_waits, is_waiting, is_preparing, all_may_go, waits, answers_with}
 use Rattle.cue_exchange.specs.Answers.{with_answer}
 use Rattle.cue_exchange.specs.Live.{attempt_of, has_number}
-use Rattle.cue_exchange.specs.Steps.{changed, answers_as, moves_to, answered, moved, started, new_attempt}
+use Rattle.cue_exchange.specs.Steps.{with_change, answers_as, moves_to, after_answer, after_move, after_start}
+use Rattle.cue_exchange.specs.Steps.{new_attempt}
 use Rattle.cue_exchange.specs.Steps.{without_ended, can_go_now}
 use Rattle.cue_core.specs.declared.event.Event.{Event}
 use Rattle.cue_core.specs.declared.event.Event.TheVariants as event
@@ -75,11 +76,11 @@ order_same : (s t : ShowState) (a : Attempt) (x : DeviceAnswer) → port_of t.sh
     → cue_parts t.show a.cue ≡ cue_parts s.show a.cue → order_for t a x ≡ order_for s a x
 order_same s t a x port parts =
     ap (λ (o : Option ℕ). cond (waits x)
-        (Some (unwrap_or o 0, order_at a.stage a.seq x.device a.cue (bytes_for x.device (cue_parts t.show a.cue))))
-        None) port
+    (Some (unwrap_or o 0, order_at a.stage a.seq x.device a.cue (bytes_for x.device (cue_parts t.show a.cue))))
+    None) port
     ∙ ap (λ (ps : List Part). cond (waits x)
-        (Some (unwrap_or (port_of s.show x.device) 0, order_at a.stage a.seq x.device a.cue (bytes_for x.device ps)))
-        None) parts
+    (Some (unwrap_or (port_of s.show x.device) 0, order_at a.stage a.seq x.device a.cue (bytes_for x.device ps)))
+    None) parts
 
 told_same : (s t : ShowState) (a : Attempt) (xs : List DeviceAnswer) → cue_parts t.show a.cue ≡ cue_parts s.show a.cue
     → AllByRecursion (λ (x : DeviceAnswer). port_of t.show x.device ≡ port_of s.show x.device) xs
@@ -94,8 +95,13 @@ same_since : (s t : ShowState) (p : ℕ) (b : Attempt) → told t b ≡ told s b
     → Since s t p b false
 same_since s t p b e h =
     stayed refl b h
-    (record { stage = refl; among = record { each = λ test k. let P : List (ℕ × Order)
-        → Type 0 = λ os. IsTrue (list_all test os) in subst P (sym e) k } })
+    (record {
+      stage = refl;
+      among = record {
+        each = λ test k. let P : List (ℕ × Order)
+            → Type 0 = λ os. IsTrue (list_all test os) in subst P (sym e) k;
+      };
+    })
 
 ports_each : (s t : ShowState) → ((d : ℕ) → IsTrue (has_device s.show d) → port_of t.show d ≡ port_of s.show d)
     → (xs : List DeviceAnswer) → AllByRecursion (λ (x : DeviceAnswer). IsTrue (has_device s.show x.device)) xs
@@ -147,7 +153,7 @@ port_beside show d port e can there = port_of-with_device_other show d port e (b
         let same : e ≡ d = same_number e d k in
         let P : ℕ → Type 0 = λ n. IsTrue (has_device show n) in
         absurd (not_both (has_device show d) (subst P same there)
-            (and_parts (not (has_device show d)) (is_device d && is_port port) can).0)
+        (and_parts (not (has_device show d)) (is_device d && is_port port) can).0)
     by false k = refl
 
 -- and so is one that is left when another is taken out
@@ -169,7 +175,7 @@ parts_beside show c parts a can at =
         let same : a.cue ≡ c = same_text-true a.cue c k in
         let P : List ℕ → Type 0 = λ n. IsTrue (has_cue show n) in
         absurd (not_both (has_cue show c) (subst P same (cue_there show a at))
-            (and_parts (not (has_cue show c)) (not (is_full show) && is_cue_of show (c, parts)) can).0)
+        (and_parts (not (has_cue show c)) (not (is_full show) && is_cue_of show (c, parts)) can).0)
     by false k = refl
 
 parts_left : (show : ShowLists) (c : List ℕ) (a : Attempt) → IsTrue (is_show show)
@@ -178,7 +184,7 @@ parts_left show c a rules at =
     let same = parts_of-without_cue show c a.cue rules in
     let P : Option (List Part) → Type 0 = λ o. IsTrue (is_some o) in
     ap (λ (o : Option (List Part)). unwrap_or o []) (same
-        ∙ is_kept (same_text c a.cue) (parts_of show a.cue) (subst P same (cue_there (without_cue show c) a at)))
+    ∙ is_kept (same_text c a.cue) (parts_of show a.cue) (subst P same (cue_there (without_cue show c) a at)))
 
 -- ---- a device answers
 
@@ -186,7 +192,7 @@ parts_left show c a rules at =
 kept_or_gone : (test : ℕ × Order → Bool) (o : ℕ × Order) (olds news : List (ℕ × Order)) (w v : Bool)
     → (v ≡ true → w ≡ true) → (IsTrue (list_all test olds) → IsTrue (list_all test news))
     → IsTrue (list_all test (cons_option (cond w (Some o) None) olds))
-        → IsTrue (list_all test (cons_option (cond v (Some o) None) news))
+    → IsTrue (list_all test (cons_option (cond v (Some o) None) news))
 kept_or_gone test o olds news true true k f h = let p = both (test o) (list_all test olds) h in
     join (test o) (list_all test news) p.0 (f p.1)
 kept_or_gone test o olds news true false k f h = f (both (test o) (list_all test olds) h).1
@@ -196,13 +202,16 @@ kept_or_gone test o olds news false false k f h = f h
 fewer_told : (s : ShowState) (a : Attempt) (d : ℕ) (given : Answer) (test : ℕ × Order → Bool) (xs : List DeviceAnswer)
     → is_waiting given ≡ false
     → IsTrue (list_all test (filter_map (order_for s a) xs))
-        → IsTrue (list_all test (filter_map (order_for s a) (with_answer d given xs)))
+    → IsTrue (list_all test (filter_map (order_for s a) (with_answer d given xs)))
 fewer_told s a d given test [] w h = refl
 fewer_told s a d given test (x ∷ xs) w h =
-    kept_or_gone test (unwrap_or (port_of s.show x.device) 0, order_at a.stage a.seq x.device a.cue
-        (bytes_for x.device (cue_parts s.show a.cue)))
+    kept_or_gone test (
+      unwrap_or (port_of s.show x.device) 0,
+      order_at a.stage a.seq x.device a.cue
+          (bytes_for x.device (cue_parts s.show a.cue)),
+    )
     (filter_map (order_for s a) xs) (filter_map (order_for s a) (with_answer d given xs)) (is_waiting x.answer)
-        (is_waiting (answers_with d given x).answer)
+    (is_waiting (answers_with d given x).answer)
     (by (nat_eq x.device d)) (fewer_told s a d given test xs w) h
   where
     by : (b : Bool) → is_waiting (cond b given x.answer) ≡ true → is_waiting x.answer ≡ true
@@ -210,7 +219,7 @@ fewer_told s a d given test (x ∷ xs) w h =
     by false k = k
 
 answered_stays : (s : ShowState) (q d : ℕ) (given : Answer) (a : Attempt) → is_waiting given ≡ false
-    → Stays s a s (changed q (answers_as d given) a)
+    → Stays s a s (with_change q (answers_as d given) a)
 answered_stays s q d given a w = by (nat_eq a.seq q)
   where
     by : (b : Bool) → Stays s a s (cond b (answers_as d given a) a)
@@ -224,18 +233,24 @@ was f None b h = absurd cc
 was f (Some a) b h = (a, refl, same_Some (f a) b h)
 
 changed_was : (q p : ℕ) (f : Attempt → Attempt) → ((a : Attempt) → (f a).seq ≡ a.seq)
-    → (live : List Attempt) (b : Attempt) → attempt_of (map (changed q f) live) p ≡ Some b
-    → (a : Attempt) × (attempt_of live p ≡ Some a) × (changed q f a ≡ b)
-changed_was q p f keeps live b h = was (changed q f) (attempt_of live p) b (sym (attempt_of-changed q p f keeps live)
+    → (live : List Attempt) (b : Attempt) → attempt_of (map (with_change q f) live) p ≡ Some b
+    → (a : Attempt) × (attempt_of live p ≡ Some a) × (with_change q f a ≡ b)
+changed_was q p f keeps live b h =
+    was (with_change q f) (attempt_of live p) b (sym (attempt_of-changed q p f keeps live)
     ∙ h)
 
 -- the orders in t are those in s
 carried : (s t : ShowState) (a b : Attempt) → told t b ≡ told s b → Stays s a s b → Stays s a t b
-carried s t a b e h = record { stage = h.stage; among = record { each = λ test k. let P : List (ℕ × Order)
-    → Type 0 = λ os. IsTrue (list_all test os) in subst P (sym e) (h.among.each test k) } }
+carried s t a b e h = record {
+  stage = h.stage;
+  among = record {
+    each = λ test k. let P : List (ℕ × Order)
+        → Type 0 = λ os. IsTrue (list_all test os) in subst P (sym e) (h.among.each test k);
+  };
+}
 
 answered_since : (s t : ShowState) (q d p : ℕ) (given : Answer) (b : Attempt) → is_waiting given ≡ false
-    → told t b ≡ told s b → attempt_of (answered q d given s.live) p ≡ Some b → Since s t p b false
+    → told t b ≡ told s b → attempt_of (after_answer q d given s.live) p ≡ Some b → Since s t p b false
 answered_since s t q d p given b w same h =
     let c = changed_was q p (answers_as d given) (λ a. refl) s.live b h in
     let P : Attempt → Type 0 = λ x. Stays s c.0 s x in
@@ -262,17 +277,19 @@ left_was q p live b r h = by (nat_eq q p) refl
     by false k = sym (attempt_of-without_ended_other q p live k) ∙ h
 
 settled_since : (s t : ShowState) (q d p : ℕ) (given : Answer) (b : Attempt) → is_waiting given ≡ false
-    → told t b ≡ told s b → IsTrue (rising s.live) → attempt_of (without_ended q (answered q d given s.live)) p ≡ Some b
+    → told t b ≡ told s b → IsTrue (rising s.live)
+    → attempt_of (without_ended q (after_answer q d given s.live)) p ≡ Some b
     → Since s t p b false
 settled_since s t q d p given b w same r h =
     answered_since s t q d p given b w same
-    (left_was q p (answered q d given s.live) b (rising-changed q (answers_as d given) (λ a. refl) s.live r) h)
+    (left_was q p (after_answer q d given s.live) b (rising-changed q (answers_as d given) (λ a. refl) s.live r) h)
 
 -- ---- an attempt enters a stage
 
 moved_since : (s t : ShowState) (q p : ℕ) (stage : Stage) (b : Attempt) → is_preparing stage ≡ false → (x : Attempt)
     → attempt_of s.live q ≡ Some x → IsTrue (is_preparing x.stage)
-    → ((a : Attempt) → told t a ≡ told s a) → attempt_of (moved q stage s.live) p ≡ Some b → Since s t p b (nat_eq q p)
+    → ((a : Attempt) → told t a ≡ told s a) → attempt_of (after_move q stage s.live) p ≡ Some b
+    → Since s t p b (nat_eq q p)
 moved_since s t q p stage b ends x e prepares same h =
     let c = changed_was q p (moves_to stage) (λ a. refl) s.live b h in
     by c.0 c.1 (nat_eq c.0.seq q) refl c.2
@@ -298,7 +315,7 @@ moved_since s t q p stage b ends x e prepares same h =
 
 started_since : (s t : ShowState) (q p : ℕ) (c : List ℕ) (d : ℕ) (b : Attempt) → Rules s → q ≡ s.last_seq + 1
     → ((a : Attempt) → told t a ≡ told s a)
-    → attempt_of (started q c d (cue_parts s.show c) s.live) p ≡ Some b → Since s t p b (nat_eq q p)
+    → attempt_of (after_start q c d (cue_parts s.show c) s.live) p ≡ Some b → Since s t p b (nat_eq q p)
 started_since s t q p c d b r next same h =
     by (attempt_of s.live p) refl (sym (find-append (has_number p) s.live (new_attempt q c d (cue_parts s.show c) ∷ []))
     ∙ h)
@@ -310,7 +327,7 @@ started_since s t q p c d b r next same h =
         let one : a ≡ b = same_Some a b m in
         let here : a.seq ≡ p = same_number a.seq p (found_passes (has_number p) s.live a f) in
         let low : a.seq ≤ s.last_seq =
-            leb-true a.seq s.last_seq (found_has (λ y. nat_le y.seq s.last_seq) (has_number p) s.live a r.within f) in
+        leb-true a.seq s.last_seq (found_has (λ y. nat_le y.seq s.last_seq) (has_number p) s.live a r.within f) in
         let apart : nat_eq q p ≡ false = ne_eqb q p (λ e. omega arith) in
         let P : Bool → Type 0 = λ z. Since s t p b z in
         let Q : Attempt → Type 0 = λ y. Since s t p y false in
@@ -331,7 +348,7 @@ since_event s (event.Device d port) p b i g h =
     same_since s (after s (event.Device d port)) p b
     (told_same s (after s (event.Device d port)) b b.answers refl
     (ports_each s (after s (event.Device d port)) (λ e there. port_beside s.show d port e g there) b.answers
-        (known s.show b r.show (at_of s p b r h)))) h
+    (known s.show b r.show (at_of s p b r h)))) h
 since_event s (event.NoDevice d) p b i g h =
     let r = rules_of s i in
     let n = rules_of (after s (event.NoDevice d)) (is_state-after s (event.NoDevice d) i g) in
@@ -349,13 +366,13 @@ since_event s (event.Cue c parts) p b i g h =
     same_since s (after s (event.Cue c parts)) p b
     (told_same s (after s (event.Cue c parts)) b b.answers (parts_beside s.show c parts b g (at_of s p b r h))
     (ports_each s (after s (event.Cue c parts)) (λ e there. refl) b.answers (known s.show b r.show (at_of s p b r h))))
-        h
+    h
 since_event s (event.NoCue c) p b i g h =
     let r = rules_of s i in
     let n = rules_of (after s (event.NoCue c)) (is_state-after s (event.NoCue c) i g) in
     same_since s (after s (event.NoCue c)) p b
     (told_same s (after s (event.NoCue c)) b b.answers
-        (parts_left s.show c b r.show (at_of (after s (event.NoCue c)) p b n h))
+    (parts_left s.show c b r.show (at_of (after s (event.NoCue c)) p b n h))
     (ports_each s (after s (event.NoCue c)) (λ e there. refl) b.answers (known s.show b r.show (at_of s p b r h)))) h
 since_event s (event.Place c) p b i g h = same_since s (after s (event.Place c)) p b refl h
 since_event s (event.Start q c t) p b i g h = started_since s (after s (event.Start q c t)) q p c t b (rules_of s i)
@@ -365,7 +382,7 @@ since_event s (event.Ready q d) p b i g h = answered_since s (after s (event.Rea
 since_event s (event.Go q) p b i g h =
     let f = found q can_go_now s.live (sound_of s i).rises g in
     moved_since s (after s (event.Go q)) q p Decided b refl f.0 f.1
-        (both (is_preparing f.0.stage) (all_may_go f.0.answers) f.2).0 (λ a. refl) h
+    (both (is_preparing f.0.stage) (all_may_go f.0.answers) f.2).0 (λ a. refl) h
 since_event s (event.Done q d) p b i g h = settled_since s (after s (event.Done q d)) q d p answer.Done b refl refl
     (sound_of s i).rises h
 since_event s (event.Cancel q reason) p b i g h =
@@ -451,7 +468,7 @@ since s (e ∷ events) p b i g h =
     let P : Bool → Type 0 = λ z. Since s (after_events (after s e) events) p b z in
     subst P (sym (asked-next p e events))
     (joined s (after s e) (after_events (after s e) events) p b (asks p e) (is_asked p events) (grows s e k.0)
-        (λ a f. since_event s e p a i k.0 f)
+    (λ a f. since_event s e p a i k.0 f)
     (since (after s e) events p b (is_state-after s e i k.0) k.1 h))
 
 -- the state after the events keeps its rules

@@ -43,7 +43,7 @@ writable_for s a t =
     each_found (λ (x : DeviceAnswer). x.device < 2 ^ 31) IsWritableOrder (order_for s a)
     (λ x small. if_waits (waits x) (sent s a x) IsWritableOrder
     (writable_at a.stage a.seq x.device a.cue (bytes_for x.device (cue_parts s.show a.cue)) t.number small t.text
-        t.short (t.part x.device)))
+    t.short (t.part x.device)))
     a.answers t.devices
 
 pub all_writable : (s : ShowState) → IsTrue (is_state s) → AllByRecursion IsWritableOrder (pending s)
@@ -64,11 +64,11 @@ port_for : (s : ShowState) (a : Attempt) → IsTold s a
     → AllByRecursion (λ (o : ℕ × Order). IsTrue (is_port o.0)) (filter_map (order_for s a) a.answers)
 port_for s a t =
     each_found (λ (x : DeviceAnswer). IsTrue (is_port (unwrap_or (port_of s.show x.device) 0)))
-        (λ (o : ℕ × Order). IsTrue (is_port o.0)) (order_for s a)
+    (λ (o : ℕ × Order). IsTrue (is_port o.0)) (order_for s a)
     (λ x port. if_waits (waits x) (sent s a x) (λ (o : ℕ × Order). IsTrue (is_port o.0)) port) a.answers t.ports
 
 pub orders-have-ports : OrdersHavePorts
 orders-have-ports s h =
     each_map (λ (x : ℕ × Send). IsTrue (is_port x.0)) (λ (o : ℕ × Order). (o.0, order o.1)) (pending s)
     (each_flat (IsTold s) (λ (o : ℕ × Order). IsTrue (is_port o.0)) (λ a. filter_map (order_for s a) a.answers)
-        (λ a t. port_for s a t) s.live (live_told s h))
+    (λ a t. port_for s a t) s.live (live_told s h))

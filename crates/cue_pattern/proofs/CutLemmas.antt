@@ -9,7 +9,7 @@ use Rattle.std.proofs.lemmas.List.Quantifiers.{position-Some}
 use Rattle.std.proofs.lemmas.List.Sums.{prefix_len_passes}
 use Rattle.std.proofs.lemmas.List.{length-take-le, length-drop}
 use Rattle.std.proofs.Math.Seq.{take-length}
-use Rattle.cue_pattern.specs.Meaning.{separated, HasNo, IsCut}
+use Rattle.cue_pattern.specs.Meaning.{separated_texts, HasNo, IsCut}
 use Rattle.cue_pattern.specs.Reading.{with_byte, cut, text_before}
 use Rattle.cue_pattern.specs.Steps.{CutsFirst}
 
@@ -25,7 +25,8 @@ IsCut-here : (c : ℕ) (bs : List ℕ) (ts : List (List ℕ)) → IsCut c bs ts 
 IsCut-here c bs [] h = absurd (h.0 refl)
 IsCut-here c bs (t ∷ ts) h = (λ e. cc, ap (λ x. c ∷ x) h.1, (tt, h.2))
 
-separated-byte : (c b : ℕ) (t : List ℕ) (ts : List (List ℕ)) → separated c ((b ∷ t) ∷ ts) ≡ b ∷ separated c (t ∷ ts)
+separated-byte : (c b : ℕ) (t : List ℕ) (ts : List (List ℕ))
+    → separated_texts c ((b ∷ t) ∷ ts) ≡ b ∷ separated_texts c (t ∷ ts)
 separated-byte c b t [] = refl
 separated-byte c b t (u ∷ ts) = refl
 
@@ -58,12 +59,12 @@ cut-from c (b ∷ bs) ((x ∷ t) ∷ []) h =
 cut-from c (b ∷ bs) ([] ∷ u ∷ us) h =
     let e = h.1 in
     let same : b ≡ c = cc in
-    let rest : bs ≡ separated c (u ∷ us) = cc in
+    let rest : bs ≡ separated_texts c (u ∷ us) = cc in
     cut-here c b bs same ∙ ap (λ x. [] ∷ x) (cut-from c bs (u ∷ us) (λ k. cc, rest, h.2.1))
 cut-from c (b ∷ bs) ((x ∷ t) ∷ u ∷ us) h =
     let e = h.1 in
     let same : b ≡ x = cc in
-    let rest : bs ≡ t ++ c ∷ separated c (u ∷ us) = cc in
+    let rest : bs ≡ t ++ c ∷ separated_texts c (u ∷ us) = cc in
     let again = cut-from c bs (t ∷ u ∷ us) (λ k. cc, rest, (h.2.0.1, h.2.1)) in
     cut-other c b bs (λ k. h.2.0.0 (sym same ∙ k)) ∙ (rw (again, same) refl)
 
@@ -128,8 +129,11 @@ CutsFirst-found c xs i h =
     record {
       parts = rw add-one both.0;
       inside = both.1;
-      rest = (ap (λ n. drop (n + 1) xs) (sym (length-take-le i xs (omega (arith, p.0)))), omega
-          (arith, length-take-le i xs (omega (arith, p.0)), length-drop (i + 1) xs, p.0));
+      rest = (
+        ap (λ n. drop (n + 1) xs) (sym (length-take-le i xs (omega (arith, p.0)))),
+        omega
+            (arith, length-take-le i xs (omega (arith, p.0)), length-drop (i + 1) xs, p.0),
+      );
     }
 
 -- the rest of a slice from n on, as a range gives it
@@ -144,7 +148,7 @@ pub CutsFirst-none : (c : ℕ) (xs : List ℕ) → position (is c) xs ≡ None �
 CutsFirst-none c xs h =
     let past : length xs ≤ prefix_len (λ b. not (is c b)) xs = past_end _ _ h in
     let both = cut-nowhere c xs
-        (λ k l. eqb-false _ c (not-true _ (prefix_len_passes (λ b. not (is c b)) xs k 0 (omega arith)))) in
+    (λ k l. eqb-false _ c (not-true _ (prefix_len_passes (λ b. not (is c b)) xs k 0 (omega arith)))) in
     record { parts = both.0; inside = both.1; rest = tt }
   where
     past_end : (n m : ℕ) → cond (ltb n m) (Some n) None ≡ None → m ≤ n

@@ -54,8 +54,14 @@ after_any-is rest [] h = record { front = []; tail = []; text_is = refl; in_piec
 after_any-is rest (b ∷ t) h = elim (or_cases _ _ h) [
   | inl here ↦ record { front = []; tail = b ∷ t; text_is = refl; in_piece = tt; passes = here }
   | inr later ↦ (let s = after_any-is rest t later in
-      record { front = b ∷ s.front; tail = s.tail; text_is = ap (λ x. b ∷ x) s.text_is; in_piece = tt; passes =
-          s.passes })
+      record {
+        front = b ∷ s.front;
+        tail = s.tail;
+        text_is = ap (λ x. b ∷ x) s.text_is;
+        in_piece = tt;
+        passes =
+            s.passes;
+      })
 ]
 
 after_any-again : (rest : List ℕ → Bool) (front tail : List ℕ) → rest tail ≡ true
@@ -151,8 +157,12 @@ pub matches-is : (pattern : List (List Piece)) (address : List ℕ) → matches 
 unfolding matches
 matches-is pattern [] h = cc
 matches-is pattern (b ∷ bs) h = elim (cases_eq b 47) [
-  | inl same ↦ (cut 47 bs, (bs, ap (λ x. x ∷ bs) same, cut-is_cut 47 bs), parts_match-is pattern (cut 47 bs)
-      (rw (eq-eqb b 47 same) at h))
+  | inl same ↦ (
+    cut 47 bs,
+    (bs, ap (λ x. x ∷ bs) same, cut-is_cut 47 bs),
+    parts_match-is pattern (cut 47 bs)
+        (rw (eq-eqb b 47 same) at h),
+  )
   | inr ne ↦ (let k = rw (ne_eqb b 47 ne) at h in cc)
 ]
 

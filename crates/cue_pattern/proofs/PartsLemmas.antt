@@ -8,7 +8,7 @@ use Rattle.cue_pattern.specs.declared.piece.Piece.{Piece}
 use Rattle.cue_pattern.specs.declared.fault.Fault.{Fault}
 use Rattle.cue_pattern.specs.declared.fault.Fault.TheVariants.{BadPattern, Memory}
 use Rattle.cue_pattern.specs.Grammar.{IsPattern}
-use Rattle.cue_pattern.specs.Meaning.{separated, Denotes}
+use Rattle.cue_pattern.specs.Meaning.{separated_texts, Denotes}
 use Rattle.cue_pattern.specs.Reading.{with_byte, cut, parts_of, pieces_behind, pieces_of, pattern_at}
 use Rattle.cue_pattern.specs.Matching.{part_matches, parts_match, matches}
 use Rattle.cue_pattern.specs.Steps.{cut_left, left_len, CutsFirst, with_front}
@@ -135,7 +135,7 @@ cut-shorter bytes before (Some rest) h = omega (arith, h.rest)
 
 pub before-shorter : (bytes before : List ℕ) (behind : Option (List ℕ)) → CutsFirst 47 bytes before behind
     → length before ≤ length bytes
-before-shorter bytes before None h = let e = (cut-is_cut 47 bytes).1 ∙ ap (separated 47) h.parts in
+before-shorter bytes before None h = let e = (cut-is_cut 47 bytes).1 ∙ ap (separated_texts 47) h.parts in
     omega (arith, ap length e)
 before-shorter bytes before (Some rest) h = omega (arith, h.rest)
 
@@ -160,7 +160,7 @@ pub parts_match-next : (ps : List (List Piece)) (i : ℕ) (p : List Piece) (byte
     ≡ (part_matches p before && parts_match (drop (i + 1) ps) (cut_left 47 behind))
 parts_match-next ps i p bytes before behind l is h =
     let here : drop i ps ≡ p ∷ drop (suc i) ps = drop-cons ps i p l
-        ∙ ap (λ (x : List Piece). x ∷ drop (suc i) ps) (sym is) in
+    ∙ ap (λ (x : List Piece). x ∷ drop (suc i) ps) (sym is) in
     rw (add-one, h.parts, here) (parts_match-cons p (drop (suc i) ps) before (cut_left 47 behind))
 
 -- no part is left
@@ -177,8 +177,11 @@ parts_match-end ps i (Some bytes) l = rw (drop_of_length-le ps l) (some_text (cu
 -- what the test answers is what the pattern denotes
 pub denotes-from : (pattern : List (List Piece)) (address : List ℕ) (b : Bool) → b ≡ matches pattern address
     → IsTrue b ↔ Denotes pattern address
-denotes-from pattern address b h = (λ e. matches-is pattern address (sym h ∙ e), λ d. h
-    ∙ matches-again pattern address d)
+denotes-from pattern address b h = (
+  λ e. matches-is pattern address (sym h ∙ e),
+  λ d. h
+      ∙ matches-again pattern address d,
+)
 
 pub none_left : (left : Option (Bor (List ℕ))) (b : Bool) → is_some left ≡ not b → b ≡ is_none (option_copied left)
 none_left None true h = refl
@@ -281,6 +284,6 @@ denotes-behind pattern address rest (Err e) h k = k
 
 pub matches-part_by_part : MatchesPartByPart
 matches-part_by_part pattern texts some none =
-    let bytes : List ℕ = separated 47 texts in
+    let bytes : List ℕ = separated_texts 47 texts in
     matches-behind pattern (47 ∷ bytes) bytes refl
-        ∙ ap (parts_match pattern) (cut-from 47 bytes texts (some, refl, none))
+    ∙ ap (parts_match pattern) (cut-from 47 bytes texts (some, refl, none))

@@ -50,7 +50,7 @@ part-is (p ∷ ps) (b ∷ bs) h =
     let front : piece_at b bs ≡ Some (p, a.own) = piece-same _ p a.piece a.own a.piece_is same in
     let f = piece_at-fronts b bs p a.own front in
     let more : pieces_behind 0 f.rest ≡ Some ps = ap (pieces_behind 0) (sym f.rest_is)
-        ∙ (a.rest_is ∙ ap (λ (x : List Piece). Some x) rest) in
+    ∙ (a.rest_is ∙ ap (λ (x : List Piece). Some x) rest) in
     (b ∷ f.front, f.rest, ap (λ x. b ∷ x) f.bytes_are, f.spells, part-is ps f.rest more)
 
 part-again : (ps : List Piece) (t : List ℕ) → IsPart t ps → pieces_behind 0 t ≡ Some ps
@@ -91,8 +91,12 @@ pub pattern_at-is : (bytes : List ℕ) (pattern : List (List Piece)) → pattern
 unfolding pattern_at
 pattern_at-is [] pattern h = cc
 pattern_at-is (b ∷ bs) pattern h = elim (cases_eq b 47) [
-  | inl same ↦ (cut 47 bs, (bs, ap (λ x. x ∷ bs) same, cut-is_cut 47 bs), pieces_of-is (cut 47 bs) pattern
-      (rw (eq-eqb b 47 same) at h))
+  | inl same ↦ (
+    cut 47 bs,
+    (bs, ap (λ x. x ∷ bs) same, cut-is_cut 47 bs),
+    pieces_of-is (cut 47 bs) pattern
+        (rw (eq-eqb b 47 same) at h),
+  )
   | inr ne ↦ (let k = rw (ne_eqb b 47 ne) at h in cc)
 ]
 

@@ -130,18 +130,20 @@ unfolding part_matches
 left-more ps rest last text marks n len before is told =
     let less : length rest - 1 ≡ n = omega arith in
     let shorter : length (take (length rest - 1) rest) ≡ n = length-take-le (length rest - 1) rest (omega arith)
-        ∙ less in
+    ∙ less in
     let whole : rest ≡ take (suc n) ps = before ∙ ap (λ (m : ℕ). take m ps) len in
     let front : take (length rest - 1) rest ≡ take n ps = ap (λ (m : ℕ). take m rest) less
-        ∙ (ap (take n) whole ∙ take-less n ps) in
+    ∙ (ap (take n) whole ∙ take-less n ps) in
     let within : n < length ps = omega (arith, length-take (suc n) ps, ap length whole) in
     let last_is : last ≡ get_or (take (suc n) ps) n last = is
-        ∙ (ap (λ (m : ℕ). get_or rest m last) less ∙ ap (λ (r : List Piece). get_or r n last) whole) in
+    ∙ (ap (λ (m : ℕ). get_or rest m last) less ∙ ap (λ (r : List Piece). get_or r n last) whole) in
     let split : drop n ps ≡ last ∷ drop (suc n) ps = last-piece ps last n within last_is in
     let here = subst (λ (m : ℕ). Tells (after_piece last (part_matches (drop m ps))) text marks) len told in
-    let told_before = subst (λ (q : List Piece). Tells (part_matches q) text marks) (sym split) here in
-    (front ∙ ap (λ (m : ℕ). take m ps) (sym shorter), subst (λ (m : ℕ). Tells (part_matches (drop m ps)) text marks)
-        (sym shorter) told_before)
+    let told_before = subst (λ (q : List Piece). Tells (part_matches q) text marks) (sym split) here in (
+      front ∙ ap (λ (m : ℕ). take m ps) (sym shorter),
+      subst (λ (m : ℕ). Tells (part_matches (drop m ps)) text marks)
+          (sym shorter) told_before,
+    )
 
 -- before the last piece
 pub left-start : (ps rest : List Piece) (text : List ℕ) (marks : List Bool) → rest ≡ ps → Tells is_empty_text text marks

@@ -34,13 +34,25 @@ IsBraced-is b h =
     let two = and_parts _ _ one.1 in
     let three = and_parts _ _ two.1 in
     let four = and_parts _ _ three.1 in
-    let five = and_parts _ _ four.1 in
-    (eqb-false b 91 (not-true _ one.0), eqb-false b 93 (not-true _ two.0), eqb-false b 123 (not-true _ three.0),
-        eqb-false b 125 (not-true _ four.0), eqb-false b 42 (not-true _ five.0), eqb-false b 63 (not-true _ five.1))
+    let five = and_parts _ _ four.1 in (
+      eqb-false b 91 (not-true _ one.0),
+      eqb-false b 93 (not-true _ two.0),
+      eqb-false b 123 (not-true _ three.0),
+      eqb-false b 125 (not-true _ four.0),
+      eqb-false b 42 (not-true _ five.0),
+      eqb-false b 63 (not-true _ five.1),
+    )
 
 IsBraced-again : (b : ℕ) → IsBraced b → is_braced b ≡ true
-IsBraced-again b h = simp (ne_eqb b 91 h.0, ne_eqb b 93 h.1, ne_eqb b 123 h.2, ne_eqb b 125 h.3, ne_eqb b 42 h.4, ne_eqb
-    b 63 h.5)
+IsBraced-again b h = simp (
+  ne_eqb b 91 h.0,
+  ne_eqb b 93 h.1,
+  ne_eqb b 123 h.2,
+  ne_eqb b 125 h.3,
+  ne_eqb b 42 h.4,
+  ne_eqb
+      b 63 h.5,
+)
 
 all_braced-is : (bs : List ℕ) → list_all is_braced bs ≡ true → AllByRecursion IsBraced bs
 all_braced-is [] h = tt
@@ -171,8 +183,12 @@ brace-again inside rest ts all cuts = record {
   more = (inside ++ 125 ∷ []) ++ rest;
   own = length inside + 1;
   text_is = refl;
-  piece_is = rw (append_assoc inside (125 ∷ []) rest, text_before-again 125 inside rest (has_no_brace inside all),
-      all_braced-again inside all, cut-from 44 inside ts cuts) refl;
+  piece_is = rw (
+    append_assoc inside (125 ∷ []) rest,
+    text_before-again 125 inside rest (has_no_brace inside all),
+    all_braced-again inside all,
+    cut-from 44 inside ts cuts,
+  ) refl;
   rest_is = rw (append_assoc inside (125 ∷ []) rest) (drop-closed inside rest 125);
 }
 
@@ -186,8 +202,15 @@ many-again rest = record { first = 42; more = rest; own = 0; text_is = refl; pie
 
 plain-again : (b : ℕ) (rest : List ℕ) → IsPlain b → StandsAtFront (b ∷ rest) (Plain b) rest
 unfolding piece_at
-plain-again b rest h = record { first = b; more = rest; own = 0; text_is = refl; piece_is = simp
-    (ne_eqb b 63 h.0, ne_eqb b 42 h.1, ne_eqb b 91 h.2, ne_eqb b 123 h.3); rest_is = refl }
+plain-again b rest h = record {
+  first = b;
+  more = rest;
+  own = 0;
+  text_is = refl;
+  piece_is = simp
+      (ne_eqb b 63 h.0, ne_eqb b 42 h.1, ne_eqb b 91 h.2, ne_eqb b 123 h.3);
+  rest_is = refl;
+}
 
 listed-again : (rest : List ℕ) (first : ℕ) (more : List ℕ) → first ≢ 33 → HasNo 93 (first ∷ more)
     → StandsAtFront ((91 ∷ ((first ∷ more) ++ 93 ∷ [])) ++ rest) (Listed (ranges (first ∷ more))) rest
@@ -208,11 +231,11 @@ piece_at-again front rest (Plain b) h = subst (λ (t : List ℕ). StandsAtFront 
 piece_at-again front rest (Listed rs) h =
     subst (λ (t : List ℕ). StandsAtFront (t ++ rest) (Listed rs) rest) (sym h.2)
     (subst (λ (x : List Range). StandsAtFront ((91 ∷ ((h.0 ∷ h.1) ++ 93 ∷ [])) ++ rest) (Listed x) rest) (sym h.5)
-        (listed-again rest h.0 h.1 h.3 h.4))
+    (listed-again rest h.0 h.1 h.3 h.4))
 piece_at-again front rest (Unlisted rs) h =
     subst (λ (t : List ℕ). StandsAtFront (t ++ rest) (Unlisted rs) rest) (sym h.2)
     (subst (λ (x : List Range). StandsAtFront ((91 ∷ ((33 ∷ h.0 ∷ h.1) ++ 93 ∷ [])) ++ rest) (Unlisted x) rest)
-        (sym h.4) (unlisted-again rest h.0 h.1 h.3))
+    (sym h.4) (unlisted-again rest h.0 h.1 h.3))
 piece_at-again front rest (Among ts) h =
     subst (λ (t : List ℕ). StandsAtFront (t ++ rest) (Among ts) rest) (sym h.1) (brace-again h.0 rest ts h.2 h.3)
 

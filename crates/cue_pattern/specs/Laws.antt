@@ -3,7 +3,7 @@ use Rattle.std.specs.Prelude.{◌≡◌, ◌≢◌, ◌↔◌, ℕ, IsTrue, List
 use Rattle.std.specs.List.{AllByRecursion}
 use Rattle.cue_pattern.specs.declared.piece.Piece.{Piece}
 use Rattle.cue_pattern.specs.Bytes.{slash}
-use Rattle.cue_pattern.specs.Meaning.{Denotes, HasNo, separated}
+use Rattle.cue_pattern.specs.Meaning.{Denotes, HasNo, separated_texts}
 use Rattle.cue_pattern.specs.Grammar.{IsPattern}
 use Rattle.cue_pattern.specs.Reading.{pattern_at}
 use Rattle.cue_pattern.specs.Matching.{parts_match, matches}
@@ -23,4 +23,4 @@ MatchesTheMeaning =
 abbrev pub MatchesPartByPart : Type 0
 MatchesPartByPart =
     (pattern : List (List Piece)) (texts : List (List ℕ)) → texts ≢ [] → AllByRecursion (HasNo slash) texts
-    → matches pattern (slash ∷ separated slash texts) ≡ parts_match pattern texts
+    → matches pattern (slash ∷ separated_texts slash texts) ≡ parts_match pattern texts

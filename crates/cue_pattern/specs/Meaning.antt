@@ -38,10 +38,10 @@ InParts (p ∷ ps) [] = ⊥
 InParts (p ∷ ps) (t ∷ ts) = InPart p t × InParts ps ts
 
 -- the texts, with a separator between two
-abbrev pub separated : ℕ → List (List ℕ) → List ℕ
-separated c [] = []
-separated c (t ∷ []) = t
-separated c (t ∷ u ∷ ts) = t ++ c ∷ separated c (u ∷ ts)
+abbrev pub separated_texts : ℕ → List (List ℕ) → List ℕ
+separated_texts c [] = []
+separated_texts c (t ∷ []) = t
+separated_texts c (t ∷ u ∷ ts) = t ++ c ∷ separated_texts c (u ∷ ts)
 
 -- the byte is not in the text
 abbrev pub HasNo : ℕ → List ℕ → Type 0
@@ -49,7 +49,7 @@ HasNo c t = AllByRecursion (λ b. b ≢ c) t
 
 -- the bytes, cut at every separator, are these texts; there is at least one
 abbrev pub IsCut : ℕ → List ℕ → List (List ℕ) → Type 0
-IsCut c bytes ts = (ts ≢ []) × (bytes ≡ separated c ts) × AllByRecursion (HasNo c) ts
+IsCut c bytes ts = (ts ≢ []) × (bytes ≡ separated_texts c ts) × AllByRecursion (HasNo c) ts
 
 -- the bytes begin with a slash, and what follows, cut at every slash, is these parts
 abbrev pub AreParts : List ℕ → List (List ℕ) → Type 0

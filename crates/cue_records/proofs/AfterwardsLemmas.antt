@@ -25,7 +25,7 @@ pub absent_before : {K V : Type 0} (same : K → K → Bool) (ys zs : List (K ×
 absent_before same [] zs x h = refl
 absent_before same (y ∷ ys) zs x h =
     let p = both (not (list_any (λ k. same k y.0) (keys_of (ys ++ x ∷ zs))))
-        (are_distinct same (keys_of (ys ++ x ∷ zs))) h in
+    (are_distinct same (keys_of (ys ++ x ∷ zs))) h in
     let other : same x.0 y.0 ≡ false =
-        none_here (λ k. same k y.0) ys zs x (not_false (list_any (λ k. same k y.0) (keys_of (ys ++ x ∷ zs))) p.0) in
+    none_here (λ k. same k y.0) ys zs x (not_false (list_any (λ k. same k y.0) (keys_of (ys ++ x ∷ zs))) p.0) in
     rw other (absent_before same ys zs x p.1)

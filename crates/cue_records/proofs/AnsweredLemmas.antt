@@ -15,26 +15,26 @@ use Rattle.cue_records.proofs.CountedLemmas.{with_front, regroup}
 -- the answers of the parts from one on
 answers_from : (parts : List Part) (i : ℕ) (p : Part) (bytes : List ℕ) → i < length parts → p ≡ get_or parts i p
     → answers_at (drop i parts) bytes ≡ (one_answer_at bytes >>= λ a. answers_at (drop (i + 1) parts) a.1 >>= λ xs.
-        Some (record { device = p.device; optional = p.optional; answer = a.0 } ∷ xs.0, xs.1))
+    Some (record { device = p.device; optional = p.optional; answer = a.0 } ∷ xs.0, xs.1))
 unfolding answers_at
 answers_from parts i p bytes lt is =
     let e : drop i parts ≡ p ∷ drop (i + 1) parts =
-        rw (add-one, drop-cons parts i p) (ap (λ q. q ∷ drop (suc i) parts) (sym is)) in
+    rw (add-one, drop-cons parts i p) (ap (λ q. q ∷ drop (suc i) parts) (sym is)) in
     rw e refl
 
 pub answers_go_on : (front : List DeviceAnswer) (parts : List Part) (i : ℕ) (p : Part) (bytes : List ℕ) (a : Answer)
     (after : List ℕ) (total : Option (List DeviceAnswer × List ℕ)) → i < length parts → p ≡ get_or parts i p
     → one_answer_at bytes ≡ Some (a, after)
     → with_front front (answers_at (drop i parts) bytes) ≡ total
-        → with_front (front ++ record { device = p.device; optional = p.optional; answer = a } ∷ [])
-        (answers_at (drop (i + 1) parts) after) ≡ total
+    → with_front (front ++ record { device = p.device; optional = p.optional; answer = a } ∷ [])
+    (answers_at (drop (i + 1) parts) after) ≡ total
 answers_go_on front parts i p bytes a after total lt is h so_far =
     let one : with_front front (answers_at (drop i parts) bytes) ≡ with_front
-        (front ++ record { device = p.device; optional = p.optional; answer = a } ∷ [])
-        (answers_at (drop (i + 1) parts) after) =
+    (front ++ record { device = p.device; optional = p.optional; answer = a } ∷ [])
+    (answers_at (drop (i + 1) parts) after) =
     ap (with_front front) (answers_from parts i p bytes lt is)
-        ∙ rw h (regroup front (record { device = p.device; optional = p.optional; answer = a })
-        (answers_at (drop (i + 1) parts) after)) in
+    ∙ rw h (regroup front (record { device = p.device; optional = p.optional; answer = a })
+    (answers_at (drop (i + 1) parts) after)) in
     sym one ∙ so_far
 
 pub answers_end : (e : ReadFault) (front : List DeviceAnswer) (parts : List Part) (i : ℕ) (p : Part) (bytes : List ℕ)
@@ -44,7 +44,7 @@ pub answers_end : (e : ReadFault) (front : List DeviceAnswer) (parts : List Part
 answers_end fault.Memory front parts i p bytes total lt is h so_far = tt
 answers_end fault.Malformed front parts i p bytes total lt is h so_far =
     let one : with_front front (answers_at (drop i parts) bytes) ≡ None =
-        ap (with_front front) (answers_from parts i p bytes lt is) ∙ rw h refl in
+    ap (with_front front) (answers_from parts i p bytes lt is) ∙ rw h refl in
     sym so_far ∙ one
 
 pub answers_done : (front : List DeviceAnswer) (parts : List Part) (i : ℕ) (bytes : List ℕ)
@@ -54,5 +54,5 @@ unfolding answers_at
 answers_done front parts i bytes total le so_far =
     let k : drop i parts ≡ [] = drop_all i parts le in
     let one : with_front front (answers_at (drop i parts) bytes) ≡ Some (front, bytes) =
-        rw k (ap (λ xs. Some (xs, bytes)) (append-nil front)) in
+    rw k (ap (λ xs. Some (xs, bytes)) (append-nil front)) in
     sym so_far ∙ one

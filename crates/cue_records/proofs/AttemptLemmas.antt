@@ -122,7 +122,7 @@ is_answering p x h =
     let device : p.device ≡ x.device = same_number p.device x.device k.0 in
     let optional : p.optional ≡ x.optional = (booleans_Decides p.optional x.optional).0 k.1 in
     ap (λ d. record { device = d; optional = p.optional; answer = x.answer }) device
-        ∙ ap (λ o. record { device = x.device; optional = o; answer = x.answer }) optional
+    ∙ ap (λ o. record { device = x.device; optional = o; answer = x.answer }) optional
 
 answers_take : (ps : List Part) (bytes : List ℕ) (y : List DeviceAnswer × List ℕ) → IsTrue (are_bytes bytes)
     → answers_at ps bytes ≡ Some y → TakesAnswers ps bytes y
@@ -130,14 +130,17 @@ unfolding answers_at
 answers_take [] bytes y b e = subst (TakesAnswers [] bytes) (some_is ([], bytes) y e) (refl, refl)
 answers_take (p ∷ ps) bytes y b e =
     let a = bind_some (one_answer_at bytes) (λ a. answers_at ps a.1 >>= λ xs. Some (answering p a.0 ∷ xs.0, xs.1)) y
-        e in
+    e in
     let m = bind_some (answers_at ps a.0.1) (λ xs. Some (answering p a.0.0 ∷ xs.0, xs.1)) y a.2 in
     let t = answer_field.takes bytes a.0 b a.1 in
     let u = answers_take ps a.0.1 m.0 (bytes_behind bytes (byte_text (answer_number a.0.0)) a.0.1 t.0 b) m.1 in
     let made : List DeviceAnswer × List ℕ = (answering p a.0.0 ∷ m.0.0, m.0.1) in
-    subst (TakesAnswers (p ∷ ps) bytes) (some_is made y m.2) (t.0
-        ∙ ap (λ bs. answer_number a.0.0 ∷ bs) u.0, join (is_of_part p (answering p a.0.0)) (are_of_parts ps m.0.0)
-        (answering_is p a.0.0) u.1)
+    subst (TakesAnswers (p ∷ ps) bytes) (some_is made y m.2) (
+      t.0
+          ∙ ap (λ bs. answer_number a.0.0 ∷ bs) u.0,
+      join (is_of_part p (answering p a.0.0)) (are_of_parts ps m.0.0)
+          (answering_is p a.0.0) u.1,
+    )
 
 answers_again : (xs : List DeviceAnswer) (ps : List Part) (rest : List ℕ) → IsTrue (are_of_parts ps xs)
     → answers_at ps (answers_text xs ++ rest) ≡ Some (xs, rest)
@@ -148,7 +151,7 @@ answers_again (x ∷ xs) [] rest e = absurd cc
 answers_again (x ∷ xs) (p ∷ ps) rest e =
     let k = both (is_of_part p x) (are_of_parts ps xs) e in
     rw (answer_field.again x.answer (answers_text xs ++ rest) refl, answers_again xs ps rest k.1)
-        (ap (λ z. Some (z ∷ xs, rest)) (is_answering p x k.0))
+    (ap (λ z. Some (z ∷ xs, rest)) (is_answering p x k.0))
 
 -- ---- attempts
 
@@ -184,21 +187,21 @@ attempt_takes : (show : ShowLists) (bytes : List ℕ) (y : Attempt × List ℕ) 
 unfolding attempt_at
 attempt_takes show bytes y b e =
     let s = bind_some (head_at bytes) (λ h. parts_of show h.0.1.0 >>= λ ps. answers_at ps h.1 >>= λ xs.
-        Some (attempt_of h.0 xs.0, xs.1)) y e in
+    Some (attempt_of h.0 xs.0, xs.1)) y e in
     let h = s.0.0 in
     let p = bind_some (parts_of show h.1.0) (λ ps. answers_at ps s.0.1 >>= λ xs. Some (attempt_of h xs.0, xs.1)) y
-        s.2 in
+    s.2 in
     let m = bind_some (answers_at p.0 s.0.1) (λ xs. Some (attempt_of h xs.0, xs.1)) y p.2 in
     let t = head_field.takes bytes s.0 b s.1 in
     let u = answers_take p.0 s.0.1 m.0 (bytes_behind bytes (head_text h) s.0.1 t.0 b) m.1 in
     let xs = m.0.0 in
     let parts : bytes ≡ attempt_text (attempt_of h xs) ++ m.0.1 =
     t.0 ∙ ap (λ bs. head_text h ++ bs) u.0
-        ∙ grouped (number_text h.0) (text_text h.1.0) (moment_text h.1.1.0) (byte_text (stage_number h.1.1.1))
-        (answers_text xs) m.0.1 in
+    ∙ grouped (number_text h.0) (text_text h.1.0) (moment_text h.1.1.0) (byte_text (stage_number h.1.1.1))
+    (answers_text xs) m.0.1 in
     let at : IsTrue (is_at_cue show (attempt_of h xs)) = at_parts (parts_of show h.1.0) p.0 xs p.1 u.1 in
     subst (Takes attempt_text (attempt_fits show) bytes) (some_is (attempt_of h xs, m.0.1) y m.2)
-        (parts, join (head_fits h) (is_at_cue show (attempt_of h xs)) t.1 at)
+    (parts, join (head_fits h) (is_at_cue show (attempt_of h xs)) t.1 at)
 
 pub parts_found : (show : ShowLists) (a : Attempt) → IsTrue (is_at_cue show a)
     → (ps : List Part) × (parts_of show a.cue ≡ Some ps) × IsTrue (are_of_parts ps a.answers)
@@ -218,10 +221,10 @@ attempt_again show a rest h =
     let p = parts_found show a k.1 in
     let regrouped : attempt_text a ++ rest ≡ head_text head ++ (answers_text a.answers ++ rest) =
     sym (grouped (number_text a.seq) (text_text a.cue) (moment_text a.deadline) (byte_text (stage_number a.stage))
-        (answers_text a.answers) rest) in
+    (answers_text a.answers) rest) in
     ap (attempt_at show) regrouped
-        ∙ rw (head_field.again head (answers_text a.answers ++ rest) k.0, p.1, answers_again a.answers p.0 rest p.2)
-        refl
+    ∙ rw (head_field.again head (answers_text a.answers ++ rest) k.0, p.1, answers_again a.answers p.0 rest p.2)
+    refl
 
 pub attempt_field : (show : ShowLists) → IsField (attempt_at show) attempt_text (attempt_fits show)
 attempt_field show = record { takes = attempt_takes show; again = attempt_again show }
@@ -245,7 +248,7 @@ live_allow show ys zs a h =
     let live = (both (are_live (ys ++ a ∷ zs)) (list_all (attempt_fits show) (ys ++ a ∷ zs)) h).0 in
     let before = before_next goes_before ys zs a (order_of (ys ++ a ∷ zs) live) in
     let below = all_weaker (λ b. goes_before b a) (λ b. nat_lt b.seq a.seq)
-        (λ b k. (both (nat_lt b.seq a.seq) (disjoint (devices_of b.answers) (devices_of a.answers)) k).0) ys before in
+    (λ b k. (both (nat_lt b.seq a.seq) (disjoint (devices_of b.answers) (devices_of a.answers)) k).0) ys before in
     join (are_below a.seq ys) (can_put a ys) below (can_put-next ys zs a live)
 
 live_made : (show : ShowLists) → IsMade can_follow (λ live a. with_attempt a live) (λ live. live) (attempt_fits show)

@@ -54,14 +54,14 @@ batch_takes bytes es b e =
     let nothing : s.0.1 ≡ [] = nil_from_length s.0.1 (eqb-true (length s.0.1) 0 w.0) in
     let t = batch_field.takes bytes s.0 b s.1 in
     let whole : bytes ≡ batch_text s.0.0 = t.0 ∙ ap (λ rest. batch_text s.0.0 ++ rest) nothing
-        ∙ append-nil (batch_text s.0.0) in
+    ∙ append-nil (batch_text s.0.0) in
     subst (λ xs. IsTrue (is_batch xs) × (bytes ≡ batch_text xs)) w.1 (t.1, whole)
 
 batch_again : (es : List Event) → IsTrue (is_batch es) → batch_of (batch_text es) ≡ Some es
 unfolding batch_of
 batch_again es h =
     let read : counted_at event_count_at event_at (batch_text es) ≡ Some (es, []) =
-        ap (counted_at event_count_at event_at) (sym (append-nil (batch_text es))) ∙ batch_field.again es [] h in
+    ap (counted_at event_count_at event_at) (sym (append-nil (batch_text es))) ∙ batch_field.again es [] h in
     rw read refl
 
 pub is_found : (bytes : List ℕ) (r : Result (List Event) ReadFault) → IsTrue (are_bytes bytes)

@@ -18,12 +18,12 @@ regroup front x None = refl
 pub goes_on : {A : Type 0} (read : Reads A) (front : List A) (count i : ℕ) (bytes : List ℕ) (x : A) (after : List ℕ)
     (total : Option (List A × List ℕ)) → i < count → read bytes ≡ Some (x, after)
     → with_front front (list_at read (count - i) bytes) ≡ total
-        → with_front (front ++ x ∷ []) (list_at read (count - (i + 1)) after) ≡ total
+    → with_front (front ++ x ∷ []) (list_at read (count - (i + 1)) after) ≡ total
 unfolding list_at
 goes_on read front count i bytes x after total lt h so_far =
     let k : count - i ≡ suc (count - (i + 1)) = omega arith in
     let one : with_front front (list_at read (count - i) bytes) ≡ with_front (front ++ x ∷ [])
-        (list_at read (count - (i + 1)) after) = rw (k, h) (regroup front x (list_at read (count - (i + 1)) after)) in
+    (list_at read (count - (i + 1)) after) = rw (k, h) (regroup front x (list_at read (count - (i + 1)) after)) in
     sym one ∙ so_far
 
 pub ends : {A : Type 0} (read : Reads A) (e : ReadFault) (front : List A) (count i : ℕ) (bytes : List ℕ)
@@ -43,5 +43,5 @@ unfolding list_at
 is_done read front count i bytes total le so_far =
     let k : count - i ≡ 0 = omega arith in
     let one : with_front front (list_at read (count - i) bytes) ≡ Some (front, bytes) =
-        rw k (ap (λ xs. Some (xs, bytes)) (append-nil front)) in
+    rw k (ap (λ xs. Some (xs, bytes)) (append-nil front)) in
     sym so_far ∙ one

@@ -107,12 +107,15 @@ module _ {A : Type 0} {read : Reads A} {text : A → List ℕ} {fits : A → Boo
       → ((y : A) → IsTrue (fits y) → event_text (make y) ≡ number ∷ text y)
       → ((y : A) → IsTrue (fits y) → IsTrue (is_event (make y)))
       → (bytes : List ℕ) (x : Event × List ℕ) → IsTrue (are_bytes bytes) → as_at make read bytes ≡ Some x
-          → TakesEvent number bytes x
+      → TakesEvent number bytes x
   taken f make number spelled fitting bytes x b e =
       let s = bind_some (read bytes) (λ y. Some (make y.0, y.1)) x e in
       let t = f.takes bytes s.0 b s.1 in
-      subst (TakesEvent number bytes) (some_is (make s.0.0, s.0.1) x s.2) (ap (λ bs. number ∷ bs) t.0
-          ∙ ap (λ bs. bs ++ s.0.1) (sym (spelled s.0.0 t.1)), fitting s.0.0 t.1)
+      subst (TakesEvent number bytes) (some_is (make s.0.0, s.0.1) x s.2) (
+        ap (λ bs. number ∷ bs) t.0
+            ∙ ap (λ bs. bs ++ s.0.1) (sym (spelled s.0.0 t.1)),
+        fitting s.0.0 t.1,
+      )
 
   given : IsField read text fits → (make : A → Event) (y : A) (rest : List ℕ) → IsTrue (fits y)
       → as_at make read (text y ++ rest) ≡ Some (make y, rest)
@@ -220,7 +223,7 @@ cue_again c parts rest number fit = by (are_required parts) refl
     by false some =
         given mixed_cue_field (λ x. event.Cue x.0 x.1) (c, parts) rest
         (join (not (are_required parts)) (new_cue_fits Flagged (c, parts)) (rw some refl)
-            (from_rules c parts true (record { number = number; fit = fit; told = refl })))
+        (from_rules c parts true (record { number = number; fit = fit; told = refl })))
 
 event_again : (e : Event) (rest : List ℕ) → IsTrue (is_event e) → event_at (event_text e ++ rest) ≡ Some (e, rest)
 unfolding event_at kind_at body_at

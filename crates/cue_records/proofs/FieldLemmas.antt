@@ -67,11 +67,13 @@ text_takes bytes x b e =
     let len : length (take n rest) ≡ n = omega (arith, length-take n rest) in
     let whole : take n rest ++ drop n rest ≡ rest = take-append-drop n rest in
     let parts = bytes_apart (take n rest) (drop n rest)
-        (subst (λ bs. IsTrue (are_bytes bs)) (sym whole) (bytes_behind bytes (byte_text n) rest t.0 b)) in
-    subst (Takes text_text (λ t. nat_le (length t) 255 && are_bytes t) bytes) g.1
-    (t.0 ∙ ap (λ bs. n ∷ bs) (sym whole)
-        ∙ ap (λ m. m ∷ (take n rest ++ drop n rest)) (sym len), join (nat_le (length (take n rest)) 255)
-        (are_bytes (take n rest)) (rw len t.1) parts.0)
+    (subst (λ bs. IsTrue (are_bytes bs)) (sym whole) (bytes_behind bytes (byte_text n) rest t.0 b)) in
+    subst (Takes text_text (λ t. nat_le (length t) 255 && are_bytes t) bytes) g.1 (
+      t.0 ∙ ap (λ bs. n ∷ bs) (sym whole)
+          ∙ ap (λ m. m ∷ (take n rest ++ drop n rest)) (sym len),
+      join (nat_le (length (take n rest)) 255)
+          (are_bytes (take n rest)) (rw len t.1) parts.0,
+    )
 
 text_again : (t rest : List ℕ) → text_at (text_text t ++ rest) ≡ Some (t, rest)
 unfolding text_at
@@ -145,7 +147,7 @@ runs_are_bytes a (b ∷ bs) h = by (is_ascii_digit b) refl h (runs_are_bytes tru
   where
     by : (d : Bool) → is_ascii_digit b ≡ d → cond d (runs_from true bs) (b == 46 && (a && runs_from false bs)) ≡ true
         → (runs_from true bs ≡ true → IsTrue (are_bytes bs)) → (runs_from false bs ≡ true → IsTrue (are_bytes bs))
-            → IsTrue (are_bytes (b ∷ bs))
+        → IsTrue (are_bytes (b ∷ bs))
     by true digit h after before = join (nat_le b 255) (are_bytes bs) (digit_byte b digit) (after h)
     by false digit h after before =
         let here = both (b == 46) (a && runs_from false bs) h in
@@ -157,7 +159,7 @@ cue_short c h =
     let p = both (nat_le (length c) MAX_CUE_BYTES) (list_all is_run (pieces c)) h in
     let k : length c ≤ MAX_CUE_BYTES = leb-true (length c) MAX_CUE_BYTES p.0 in
     join (nat_le (length c) 255) (are_bytes c) (le-leb (length c) 255 (omega arith))
-        (runs_are_bytes false c (rw (runs_from-start c) p.1))
+    (runs_are_bytes false c (rw (runs_from-start c) p.1))
 
 pub cue_field : IsField cue_at text_text is_cue_number
 unfolding cue_at
@@ -171,7 +173,7 @@ short_bytes most other less t h =
     let p = both (nat_le (length t) most) (are_bytes t) h in
     let k : length t ≤ most = leb-true (length t) most p.0 in
     join (nat_le (length t) most) (nat_le (length t) other && are_bytes t) p.0
-        (join (nat_le (length t) other) (are_bytes t) (le-leb (length t) other (omega arith)) p.1)
+    (join (nat_le (length t) other) (are_bytes t) (le-leb (length t) other (omega arith)) p.1)
 
 bytes_short : (most other : ℕ) → (t : List ℕ)
     → IsTrue (nat_le (length t) most && (nat_le (length t) other && are_bytes t))
@@ -184,8 +186,8 @@ part_bytes_field : IsField part_bytes_at text_text (λ t. nat_le (length t) MAX_
 unfolding part_bytes_at
 part_bytes_field =
     refit (λ t. nat_le (length t) MAX_PART_BYTES && are_bytes t)
-        (where_field (λ t. nat_le (length t) MAX_PART_BYTES) text_field) (bytes_short MAX_PART_BYTES 255)
-        (short_bytes MAX_PART_BYTES 255 (omega arith))
+    (where_field (λ t. nat_le (length t) MAX_PART_BYTES) text_field) (bytes_short MAX_PART_BYTES 255)
+    (short_bytes MAX_PART_BYTES 255 (omega arith))
 
 flag_numbered : (n : ℕ) (o : Bool) → flag_of n ≡ Some o → flag_number o ≡ n
 flag_numbered n =
@@ -243,20 +245,25 @@ unfolding part_at
 part_field form =
     refit (part_fits form)
     (as_field (λ x. record { device = x.0; optional = x.1.0; bytes = x.1.1 }) (λ p. (p.device, (p.optional, p.bytes)))
-        (both_field device_field (both_field (flag_field form) part_bytes_field)) (λ x. refl) (λ p. refl))
+    (both_field device_field (both_field (flag_field form) part_bytes_field)) (λ x. refl) (λ p. refl))
     (λ p h. last_but_one (is_device p.device) (flag_fits form p.optional)
-        (nat_le (length p.bytes) MAX_PART_BYTES && are_bytes p.bytes) h)
+    (nat_le (length p.bytes) MAX_PART_BYTES && are_bytes p.bytes) h)
     (λ p h. last_again (is_device p.device) (flag_fits form p.optional)
-        (nat_le (length p.bytes) MAX_PART_BYTES && are_bytes p.bytes) h)
+    (nat_le (length p.bytes) MAX_PART_BYTES && are_bytes p.bytes) h)
 
 -- what each part is
 all_fit : (form : PartsForm) (ps : List Part) → IsTrue (list_all (part_fits form) ps) → IsTrue (list_all is_part ps)
     × IsTrue (have_text form ps)
-all_fit Plain ps h =
-    (all_from (part_fits Plain) is_part ps (λ p k. (both (is_part p) (flag_fits Plain p.optional) k).0) h, all_from
-        (part_fits Plain) is_required_part ps (λ p k. (both (is_part p) (flag_fits Plain p.optional) k).1) h)
-all_fit Flagged ps h = (all_from (part_fits Flagged) is_part ps
-    (λ p k. (both (is_part p) (flag_fits Flagged p.optional) k).0) h, refl)
+all_fit Plain ps h = (
+  all_from (part_fits Plain) is_part ps (λ p k. (both (is_part p) (flag_fits Plain p.optional) k).0) h,
+  all_from
+      (part_fits Plain) is_required_part ps (λ p k. (both (is_part p) (flag_fits Plain p.optional) k).1) h,
+)
+all_fit Flagged ps h = (
+  all_from (part_fits Flagged) is_part ps
+      (λ p k. (both (is_part p) (flag_fits Flagged p.optional) k).0) h,
+  refl,
+)
 
 each_fits : (form : PartsForm) (ps : List Part) → IsTrue (list_all is_part ps) → IsTrue (have_text form ps)
     → IsTrue (list_all (part_fits form) ps)
@@ -282,7 +289,7 @@ pub record PartsRules (ps : List Part) : Type 0 where
 pub parts_rules : (ps : List Part) → IsTrue (are_parts ps) → PartsRules ps
 parts_rules ps h =
     let p = both (has_required_part ps)
-        (nat_le (length ps) MAX_PARTS && (distinct (devices_in ps) && list_all is_part ps)) h in
+    (nat_le (length ps) MAX_PARTS && (distinct (devices_in ps) && list_all is_part ps)) h in
     let q = both (nat_le (length ps) MAX_PARTS) (distinct (devices_in ps) && list_all is_part ps) p.1 in
     let r = both (distinct (devices_in ps)) (list_all is_part ps) q.1 in
     record { some = p.0; few = q.0; apart = r.0; each = r.1 }
@@ -296,14 +303,14 @@ tested_parts : (form : PartsForm) (ps : List Part) → IsTrue (are_tested form p
     → IsTrue (are_parts ps && have_text form ps)
 tested_parts form ps h =
     let p = both (has_required_part ps && distinct (devices_in ps))
-        (nat_le (length ps) MAX_PARTS && list_all (part_fits form) ps) h in
+    (nat_le (length ps) MAX_PARTS && list_all (part_fits form) ps) h in
     let q = both (has_required_part ps) (distinct (devices_in ps)) p.0 in
     let r = both (nat_le (length ps) MAX_PARTS) (list_all (part_fits form) ps) p.1 in
     let t = all_fit form ps r.1 in
     join (are_parts ps) (have_text form ps)
     (join (has_required_part ps) (nat_le (length ps) MAX_PARTS && (distinct (devices_in ps) && list_all is_part ps)) q.0
     (join (nat_le (length ps) MAX_PARTS) (distinct (devices_in ps) && list_all is_part ps) r.0
-        (join (distinct (devices_in ps)) (list_all is_part ps) q.1 t.0)))
+    (join (distinct (devices_in ps)) (list_all is_part ps) q.1 t.0)))
     t.1
 
 parts_tested : (form : PartsForm) (ps : List Part) → IsTrue (are_parts ps && have_text form ps)
@@ -312,7 +319,7 @@ parts_tested form ps h =
     let k = both (are_parts ps) (have_text form ps) h in
     let r = parts_rules ps k.0 in
     join (has_required_part ps && distinct (devices_in ps))
-        (nat_le (length ps) MAX_PARTS && list_all (part_fits form) ps)
+    (nat_le (length ps) MAX_PARTS && list_all (part_fits form) ps)
     (join (has_required_part ps) (distinct (devices_in ps)) r.some r.apart)
     (join (nat_le (length ps) MAX_PARTS) (list_all (part_fits form) ps) r.few (each_fits form ps r.each k.1))
 
@@ -321,8 +328,8 @@ pub parts_field : (form : PartsForm)
 unfolding parts_at
 parts_field form =
     refit (λ ps. are_parts ps && have_text form ps)
-        (where_field (λ ps. has_required_part ps && distinct (devices_in ps))
-        (counted_field part_count_field (part_field form)))
+    (where_field (λ ps. has_required_part ps && distinct (devices_in ps))
+    (counted_field part_count_field (part_field form)))
     (tested_parts form) (parts_tested form)
 
 -- ---- entries

@@ -72,7 +72,7 @@ parts_devices (p ∷ ps) (x ∷ xs) h same =
     let s = both (is_of_part p x) (are_of_parts ps xs) same in
     let device = same_number p.device x.device (both (nat_eq p.device x.device) (beq p.optional x.optional) s.0).0 in
     join (is_device x.device) (list_all is_device (devices_of xs))
-        (subst (λ d. IsTrue (is_device d)) device (part_device p k.0)) (parts_devices ps xs k.1 s.1)
+    (subst (λ d. IsTrue (is_device d)) device (part_device p k.0)) (parts_devices ps xs k.1 s.1)
 
 devices_fit : (show : ShowLists) (a : Attempt) → IsTrue (is_show show) → IsTrue (is_at_cue show a)
     → IsTrue (list_all is_device (devices_of a.answers))
@@ -80,7 +80,7 @@ devices_fit show a rules at = by (parts_of show a.cue) (is_cue_of-parts_of show 
   where
     by : (o : Option (List Part)) → IfSome o (λ parts. IsTrue (is_cue_of show (a.cue, parts)))
         → IsTrue (option_map_or (λ parts. are_of_parts parts a.answers) o false)
-            → IsTrue (list_all is_device (devices_of a.answers))
+        → IsTrue (list_all is_device (devices_of a.answers))
     by None cue at = absurd cc
     by (Some parts) cue at =
         let k = both (is_cue_number a.cue) (are_parts parts && are_known show parts) cue in
@@ -100,7 +100,7 @@ live_fit : (s : ShowState) → Rules s → IsTrue (list_all is_ranged s.live)
 live_fit s r =
     all_given is_attempt (is_at_cue s.show) is_ranged
     (λ a attempt at. join (is_number a.seq) (list_all is_device (devices_of a.answers)) (attempt_rules a attempt).number
-        (devices_fit s.show a r.show at))
+    (devices_fit s.show a r.show at))
     s.live (attempts_of s.live r.live) r.at
 
 -- what holds of some attempt with the number
@@ -123,8 +123,8 @@ number_fits : (s : ShowState) (q : ℕ) (test : Attempt → Bool) → Rules s �
     → IsTrue (is_number q)
 number_fits s q test r h =
     some_fits (is_number q) q test s.live (live_fit s r)
-        (λ a fits same passes. subst (λ n. IsTrue (is_number n)) same
-        (both (is_number a.seq) (list_all is_device (devices_of a.answers)) fits).0) h
+    (λ a fits same passes. subst (λ n. IsTrue (is_number n)) same
+    (both (is_number a.seq) (list_all is_device (devices_of a.answers)) fits).0) h
 
 -- the device d is one of the attempt, and passes the test
 abbrev device_passes : (DeviceAnswer → Bool) → ℕ → List DeviceAnswer → Bool
@@ -150,11 +150,11 @@ device_fits_in : (s : ShowState) (q d : ℕ) (stage : Stage → Bool) (test : De
     → IsTrue (is_number q && is_device d)
 device_fits_in s q d stage test r h =
     some_fits (is_number q && is_device d) q (λ a. stage a.stage && device_passes test d a.answers) s.live
-        (live_fit s r)
+    (live_fit s r)
     (λ a fits same passes.
     let p = both (is_number a.seq) (list_all is_device (devices_of a.answers)) fits in
     join (is_number q) (is_device d) (subst (λ n. IsTrue (is_number n)) same p.0)
-        (passing_fits test d a.answers p.1 (both (stage a.stage) (device_passes test d a.answers) passes).1))
+    (passing_fits test d a.answers p.1 (both (stage a.stage) (device_passes test d a.answers) passes).1))
     h
 
 answer_fits : (s : ShowState) (q d : ℕ) (stage : Stage → Bool) → Rules s → IsTrue (holds q (waits_in stage d) s.live)
@@ -173,14 +173,14 @@ start_fits s q c t r g =
     let b = begins s q c t g in
     join (is_number q) (is_cue_number c && is_moment t) b.number
     (join (is_cue_number c) (is_moment t) (cue_fits s.show c r.show b.cue)
-        (can_start_parts q t (cue_parts s.show c) s.live b.start).moment)
+    (can_start_parts q t (cue_parts s.show c) s.live b.start).moment)
 
 new_cue_fits : (s : ShowState) (c : List ℕ) (parts : List Part) → IsTrue (acceptable s (event.Cue c parts))
     → IsTrue (is_cue_number c && are_parts parts)
 new_cue_fits s c parts g =
     let p = both (not (has_cue s.show c)) (not (is_full s.show) && is_cue_of s.show (c, parts)) g in
     let k = both (is_cue_number c) (are_parts parts && are_known s.show parts)
-        (both (not (is_full s.show)) (is_cue_of s.show (c, parts)) p.1).1 in
+    (both (not (is_full s.show)) (is_cue_of s.show (c, parts)) p.1).1 in
     join (is_cue_number c) (are_parts parts) k.0 (both (are_parts parts) (are_known s.show parts) k.1).0
 
 event_fits : (s : ShowState) (e : Event) → Rules s → IsTrue (acceptable s e) → IsTrue (is_event e)
@@ -205,4 +205,4 @@ events_fit s [] h g = refl
 events_fit s (e ∷ es) h g =
     let p = both (acceptable s e) (are_acceptable (after s e) es) g in
     join (is_event e) (list_all is_event es) (event_fits s e (rules_of s h) p.0)
-        (events_fit (after s e) es (is_state-after s e h p.0) p.1)
+    (events_fit (after s e) es (is_state-after s e h p.0) p.1)

@@ -48,8 +48,13 @@ flat_map-short : {A : Type 0} (text : A → List ℕ) (fits : A → Bool) (most 
 flat_map-short text fits most short [] h = omega arith
 flat_map-short text fits most short (x ∷ xs) h =
     let p = both (fits x) (list_all fits xs) h in
-    omega (arith, length-append (text x) (flat_map text xs), short x p.0, flat_map-short text fits most short xs p.1,
-        suc-mul (length xs) most)
+    omega (
+      arith,
+      length-append (text x) (flat_map text xs),
+      short x p.0,
+      flat_map-short text fits most short xs p.1,
+      suc-mul (length xs) most,
+    )
 
 -- and there are only so many
 counted-short : {A : Type 0} (text : A → List ℕ) (fits : A → Bool) (most count : ℕ)
@@ -89,8 +94,8 @@ part_short : (form : PartsForm) (p : Part) → IsTrue (is_part p) → length (pa
 part_short form p h =
     let q = both (is_device p.device) (nat_le (length p.bytes) MAX_PART_BYTES && are_bytes p.bytes) h in
     let few : length p.bytes ≤ MAX_PART_BYTES =
-        leb-true (length p.bytes) MAX_PART_BYTES (both (nat_le (length p.bytes) MAX_PART_BYTES) (are_bytes p.bytes)
-        q.1).0 in
+    leb-true (length p.bytes) MAX_PART_BYTES (both (nat_le (length p.bytes) MAX_PART_BYTES) (are_bytes p.bytes)
+    q.1).0 in
     omega (arith, few, length-append (flag_text form p.optional) (text_text p.bytes), flag_short form p.optional)
 
 -- few parts, each short
@@ -102,8 +107,11 @@ parts_short : (form : PartsForm) (parts : List Part) → IsTrue (are_parts parts
 parts_short form parts h =
     let r = parts_rules parts h in
     let few : length parts ≤ MAX_PARTS = leb-true (length parts) MAX_PARTS r.few in
-    record { few = few; short = counted-short (part_text form) is_part longest_part MAX_PARTS (part_short form) parts
-        few r.each }
+    record {
+      few = few;
+      short = counted-short (part_text form) is_part longest_part MAX_PARTS (part_short form) parts
+          few r.each;
+    }
 
 new_cue_short : (form : PartsForm) (s : ShowLists) (e : List ℕ × List Part) → IsTrue (is_cue_of s e)
     → length (new_cue_text form e) ≤ longest_cue
@@ -120,19 +128,23 @@ table_short devices h =
     let p = both (nat_le (length devices) MAX_DEVICES) (distinct (keys_of devices) && list_all is_entry devices) h in
     let each = (both (distinct (keys_of devices)) (list_all is_entry devices) p.1).1 in
     let all = counted-short entry_text is_entry 3 MAX_DEVICES entry_long devices
-        (leb-true (length devices) MAX_DEVICES p.0) each in
+    (leb-true (length devices) MAX_DEVICES p.0) each in
     omega (arith, length-append (byte_text (length devices)) (flat_map entry_text devices), all)
 
 stack_short : (form : PartsForm) (s : ShowLists) (cues : Cues) → IsTrue (is_stack_of s cues)
     → length (stack_text form cues) ≤ 2 + MAX_CUES * longest_cue
 stack_short form s cues h =
     let p = both (nat_le (length cues) MAX_CUES) (are_distinct same_text (keys_of cues) && list_all (is_cue_of s) cues)
-        h in
+    h in
     let each = (both (are_distinct same_text (keys_of cues)) (list_all (is_cue_of s) cues) p.1).1 in
     let all = counted-short (new_cue_text form) (is_cue_of s) longest_cue MAX_CUES (new_cue_short form s) cues
-        (leb-true (length cues) MAX_CUES p.0) each in
-    omega (arith, length-append (short_text (length cues)) (flat_map (new_cue_text form) cues), two_long (length cues),
-        all)
+    (leb-true (length cues) MAX_CUES p.0) each in
+    omega (
+      arith,
+      length-append (short_text (length cues)) (flat_map (new_cue_text form) cues),
+      two_long (length cues),
+      all,
+    )
 
 place_short : (s : ShowLists) (place : Option (List ℕ)) → IsTrue (is_show s) → IsTrue (is_place_of s place)
     → length (place_text place) ≤ 1 + MAX_CUE_BYTES
@@ -180,8 +192,12 @@ answers_few show a rules at =
     by (Some parts) ps e cue =
         let k = both (is_cue_number a.cue) (are_parts parts && are_known show parts) cue in
         let same : parts ≡ ps = cc e in
-        omega (arith, ap length same, leb-true (length parts) MAX_PARTS
-            (parts_rules parts (both (are_parts parts) (are_known show parts) k.1).0).few)
+        omega (
+          arith,
+          ap length same,
+          leb-true (length parts) MAX_PARTS
+              (parts_rules parts (both (are_parts parts) (are_known show parts) k.1).0).few,
+        )
 
 attempt_short : (show : ShowLists) → IsTrue (is_show show) → (a : Attempt) → IsTrue (is_at_cue show a)
     → length (attempt_text a) ≤ longest_attempt
@@ -205,13 +221,21 @@ attempt_short show rules a at =
 live_text_short : (show : ShowLists) (live : List Attempt) → IsTrue (is_show show) → length live ≤ MAX_LIVE
     → IsTrue (list_all (is_at_cue show) live) → length (live_text live) ≤ 1 + MAX_LIVE * longest_attempt
 live_text_short show live rules few at =
-    omega (arith, length-append (byte_text (length live)) (flat_map attempt_text live), counted-short attempt_text
-        (is_at_cue show) longest_attempt MAX_LIVE (attempt_short show rules) live few at)
+    omega (
+      arith,
+      length-append (byte_text (length live)) (flat_map attempt_text live),
+      counted-short attempt_text
+          (is_at_cue show) longest_attempt MAX_LIVE (attempt_short show rules) live few at,
+    )
 
 ended_long : (ended : Option Ended) → length (ended_text ended) ≡ 5
 ended_long None = refl
-ended_long (Some e) = omega (arith, length-append (number_text e.seq) (byte_text (outcome_number e.outcome)), four_long
-    e.seq)
+ended_long (Some e) = omega (
+  arith,
+  length-append (number_text e.seq) (byte_text (outcome_number e.outcome)),
+  four_long
+      e.seq,
+)
 
 -- ---- the state
 

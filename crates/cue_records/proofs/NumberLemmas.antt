@@ -52,19 +52,26 @@ number_takes w most wide bytes x b e =
     let parts = bytes_apart (take k bytes) (drop k bytes) (subst (λ bs. IsTrue (are_bytes bs)) (sym whole) b) in
     let fits : (i : ℕ) → get_or (take k bytes) i 0 < 256 = byte_below (take k bytes) parts.0 in
     let front : to_be_bytes w (from_be_bytes w (take k bytes)) ≡ take k bytes =
-        wide.back (take k bytes) (omega (arith, length-take k bytes)) fits in
-    subst (Takes (to_be_bytes w) (λ n. nat_le n most) bytes) g.1 (sym whole
-        ∙ ap (λ bs. bs ++ drop k bytes) (sym front), le-leb (from_be_bytes w (take k bytes)) most
-        (wide.within (take k bytes) fits))
+    wide.back (take k bytes) (omega (arith, length-take k bytes)) fits in
+    subst (Takes (to_be_bytes w) (λ n. nat_le n most) bytes) g.1 (
+      sym whole
+          ∙ ap (λ bs. bs ++ drop k bytes) (sym front),
+      le-leb (from_be_bytes w (take k bytes)) most
+          (wide.within (take k bytes) fits),
+    )
 
 number_again : (w : Width) (most : ℕ) → IsWide w most → (n : ℕ) (rest : List ℕ) → IsTrue (nat_le n most)
     → number_at w (to_be_bytes w n ++ rest) ≡ Some (n, rest)
 number_again w most wide n rest h =
     let len : length (to_be_bytes w n) ≡ byte_len w = wide.len n in
     let long : ltb (length (to_be_bytes w n ++ rest)) (byte_len w) ≡ false =
-        le-ltb _ _ (omega (arith, length-append (to_be_bytes w n) rest)) in
-    rw (long, take_at (to_be_bytes w n) rest (byte_len w) len, drop_at (to_be_bytes w n) rest (byte_len w) len,
-        wide.again n (leb-true n most h)) refl
+    le-ltb _ _ (omega (arith, length-append (to_be_bytes w n) rest)) in
+    rw (
+      long,
+      take_at (to_be_bytes w n) rest (byte_len w) len,
+      drop_at (to_be_bytes w n) rest (byte_len w) len,
+      wide.again n (leb-true n most h),
+    ) refl
 
 number_field : (w : Width) (most : ℕ) → IsWide w most → IsField (number_at w) (to_be_bytes w) (λ n. nat_le n most)
 number_field w most wide = record { takes = number_takes w most wide; again = number_again w most wide }

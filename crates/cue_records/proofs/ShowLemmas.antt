@@ -48,7 +48,7 @@ devices_allow ys zs x h =
     let q = both (distinct (keys_of all)) (list_all is_entry all) p.1 in
     let absent : has_device (of_devices ys) x.0 ≡ false = ap is_some (absent_before nat_eq ys zs x q.0) in
     join (not (has_device (of_devices ys) x.0)) (is_device x.0 && is_port x.1) (rw absent refl)
-        (all_here is_entry ys zs x q.1)
+    (all_here is_entry ys zs x q.1)
 
 entry_fits : (ys zs : List (ℕ × ℕ)) (x : ℕ × ℕ) → IsTrue (is_table (ys ++ x ∷ zs))
     → IsTrue (is_device x.0 && is_port x.1)
@@ -71,8 +71,8 @@ table_again : (ds : List (ℕ × ℕ)) (rest : List ℕ) → IsTrue (is_table ds
 unfolding table_at device_step
 table_again ds rest h =
     let few : length ds ≤ MAX_DEVICES =
-        leb-true (length ds) MAX_DEVICES
-        (both (nat_le (length ds) MAX_DEVICES) (distinct (keys_of ds) && list_all is_entry ds) h).0 in
+    leb-true (length ds) MAX_DEVICES
+    (both (nat_le (length ds) MAX_DEVICES) (distinct (keys_of ds) && list_all is_entry ds) h).0 in
     counted_again byte_field entry_field devices_made ds rest (le-leb (length ds) 255 (omega arith)) h
 
 -- ---- cues
@@ -90,7 +90,7 @@ record StackRules (ds : List (ℕ × ℕ)) (cs : Cues) : Type 0 where
 stack_rules : (ds : List (ℕ × ℕ)) (cs : Cues) → IsTrue (is_stack_of (of_devices ds) cs) → StackRules ds cs
 stack_rules ds cs h =
     let p = both (nat_le (length cs) MAX_CUES)
-        (are_distinct same_text (keys_of cs) && list_all (is_cue_of (of_devices ds)) cs) h in
+    (are_distinct same_text (keys_of cs) && list_all (is_cue_of (of_devices ds)) cs) h in
     let q = both (are_distinct same_text (keys_of cs)) (list_all (is_cue_of (of_devices ds)) cs) p.1 in
     record { few = leb-true (length cs) MAX_CUES p.0; apart = q.0; each = q.1 }
 
@@ -105,9 +105,9 @@ cues_allow ds ys zs x h =
     let absent : has_cue (of_cues ds ys) x.0 ≡ false = ap is_some (absent_before same_text ys zs x r.apart) in
     let room : is_full (of_cues ds ys) ≡ false = room_before ys zs x r.few in
     join (not (has_cue (of_cues ds ys) x.0)) (not (is_full (of_cues ds ys)) && is_cue_of (of_cues ds ys) (x.0, x.1))
-        (rw absent refl)
+    (rw absent refl)
     (join (not (is_full (of_cues ds ys))) (is_cue_of (of_cues ds ys) (x.0, x.1)) (rw room refl)
-        (all_here (is_cue_of (of_devices ds)) ys zs x r.each))
+    (all_here (is_cue_of (of_devices ds)) ys zs x r.each))
 
 -- the parts of each cue have a text in this form
 abbrev are_told : PartsForm → Cues → Bool
@@ -129,7 +129,7 @@ told_fits form ds ys zs x h =
     let p = both (is_cue_number x.0) (are_parts x.1 && are_known (of_devices ds) x.1) here in
     join (is_cue_number x.0) (are_parts x.1 && have_text form x.1) p.0
     (join (are_parts x.1) (have_text form x.1) (both (are_parts x.1) (are_known (of_devices ds) x.1) p.1).0
-        (all_here (λ e. have_text form e.1) ys zs x k.1))
+    (all_here (λ e. have_text form e.1) ys zs x k.1))
 
 cues_made : (form : PartsForm) (ds : List (ℕ × ℕ))
     → IsMade (λ s e. can_add_cue s e.0 e.1) (λ s e. with_cue s e.0 e.1) (of_cues ds) (new_cue_fits form)
@@ -161,8 +161,8 @@ stack_takes form ds bytes y b e =
     let t = counted_takes (cue_count_field form) (new_cue_field form) (cues_made form ds) bytes y b e in
     let k = both (nat_le (length t.0) (most_cues form)) (list_all (new_cue_fits form) t.0) t.3 in
     let told = all_from (new_cue_fits form) (λ x. have_text form x.1) t.0
-        (λ x h. (both (are_parts x.1) (have_text form x.1)
-        (both (is_cue_number x.0) (are_parts x.1 && have_text form x.1) h).1).1) k.1 in
+    (λ x h. (both (are_parts x.1) (have_text form x.1)
+    (both (is_cue_number x.0) (are_parts x.1 && have_text form x.1) h).1).1) k.1 in
     (t.0, t.1, t.2, join (nat_le (length t.0) (most_cues form)) (are_told form t.0) k.0 told)
 
 stack_again : (form : PartsForm) (ds : List (ℕ × ℕ)) (cs : Cues) (rest : List ℕ)
@@ -172,7 +172,7 @@ unfolding stack_at cue_step
 stack_again form ds cs rest h k =
     let p = both (nat_le (length cs) (most_cues form)) (are_told form cs) k in
     counted_again (cue_count_field form) (new_cue_field form) (cues_made form ds) cs rest p.0
-        (join (is_stack_of (of_devices ds) cs) (are_told form cs) h p.1)
+    (join (is_stack_of (of_devices ds) cs) (are_told form cs) h p.1)
 
 -- ---- the place
 
@@ -249,7 +249,7 @@ show_takes form bytes y b e =
     let whole : y.0 ≡ record { devices = ds; cues = cs; place = v.0 } = v.2 ∙ ap (λ s. with_place s v.0) u.2 in
     let parts : bytes ≡ (table_text ds ++ (stack_text form cs ++ place_text v.0)) ++ y.1 =
     t.1 ∙ ap (λ bs. table_text ds ++ bs) (u.1 ∙ ap (λ bs. stack_text form cs ++ bs) v.1)
-        ∙ three (table_text ds) (stack_text form cs) (place_text v.0) y.1 in
+    ∙ three (table_text ds) (stack_text form cs) (place_text v.0) y.1 in
     subst (λ s. (bytes ≡ show_text form s ++ y.1) × IsTrue (stack_fits form s.cues)) (sym whole) (parts, u.3)
 
 place_same : (s : ShowLists) (o : Option (List ℕ)) → IsTrue (is_place_of s o)
@@ -270,11 +270,11 @@ show_again form s rest h k =
     let after = place_text s.place ++ rest in
     let behind = stack_text form s.cues ++ after in
     let regrouped : show_text form s ++ rest ≡ table_text s.devices ++ behind =
-        sym (three (table_text s.devices) (stack_text form s.cues) (place_text s.place) rest) in
+    sym (three (table_text s.devices) (stack_text form s.cues) (place_text s.place) rest) in
     let table : table_at empty_show (table_text s.devices ++ behind) ≡ Some (of_devices s.devices, behind) =
-        table_again s.devices behind p.0 in
+    table_again s.devices behind p.0 in
     let stack : stack_at form (of_devices s.devices) behind ≡ Some (of_cues s.devices s.cues, after) =
-        stack_again form s.devices s.cues after q.0 k in
+    stack_again form s.devices s.cues after q.0 k in
     ap (show_at form empty_show) regrouped
-        ∙ rw (table, stack) (place_again (of_cues s.devices s.cues) s.place rest (place_in s s.place h q.1)
-        (place_same s s.place q.1))
+    ∙ rw (table, stack) (place_again (of_cues s.devices s.cues) s.place rest (place_in s s.place h q.1)
+    (place_same s s.place q.1))

@@ -49,10 +49,10 @@ pub stands : (form : PartsForm) (bytes : List ℕ) (start show : ShowLists) (aft
     → show_at form start bytes ≡ Some (show, after) → tail_of show before after ≡ Some (last_seq, (ended, live))
     → IfSome made (λ m. m ≡ record { show = show; live = live; last_seq = last_seq; ended = ended })
     → (IsSome made ↔ IsTrue (is_state (record { show = show; live = live; last_seq = last_seq; ended = ended })))
-        → Gives (λ m. m) (ok_or made fault.Malformed) (standing_of form bytes)
+    → Gives (λ m. m) (ok_or made fault.Malformed) (standing_of form bytes)
 unfolding standing_of
 stands form bytes start show after before live last_seq ended made new no_live found rest same exact =
     let front : show_at form empty_show bytes ≡ Some (show, after) = ap (λ s. show_at form s bytes) (sym new) ∙ found in
     let tail : tail_of show [] after ≡ Some (last_seq, (ended, live)) = ap (λ l. tail_of show l after) (sym no_live)
-        ∙ rest in
+    ∙ rest in
     rw (front, tail) (made_so (record { show = show; live = live; last_seq = last_seq; ended = ended }) made same exact)

@@ -84,7 +84,7 @@ ended_numbered x o h e = by (x.1 == 0) refl e
     by false some e =
         let s = bind_some (outcome_numbered x.1) (λ k. Some (Some (record { seq = x.0; outcome = k }))) o e in
         subst (EndedIs x) (some_is (Some (record { seq = x.0; outcome = s.0 })) o s.2)
-            (ap (λ n. (x.0, n)) (outcome_again x.1 s.0 s.1), (both (nat_le x.0 4294967295) (nat_le x.1 255) h).0)
+        (ap (λ n. (x.0, n)) (outcome_again x.1 s.0 s.1), (both (nat_le x.0 4294967295) (nat_le x.1 255) h).0)
 
 ended_again : (o : Option Ended) → IsTrue (ended_fits o) → ended_of (ended_numbers o) ≡ Some o
 ended_again None h = refl
@@ -122,9 +122,9 @@ tail_takes : (show : ShowLists) (bytes : List ℕ) (t : ℕ × (Option Ended × 
 unfolding tail_of
 tail_takes show bytes t b e =
     let q = bind_some (number_at w32 bytes) (λ q. ended_at q.1 >>= λ o. live_at show [] o.1 >>= λ all. where_it
-        (length all.1 == 0) (q.0, (o.0, all.0))) t e in
+    (length all.1 == 0) (q.0, (o.0, all.0))) t e in
     let o = bind_some (ended_at q.0.1)
-        (λ o. live_at show [] o.1 >>= λ all. where_it (length all.1 == 0) (q.0.0, (o.0, all.0))) t q.2 in
+    (λ o. live_at show [] o.1 >>= λ all. where_it (length all.1 == 0) (q.0.0, (o.0, all.0))) t q.2 in
     let all = bind_some (live_at show [] o.0.1) (λ all. where_it (length all.1 == 0) (q.0.0, (o.0.0, all.0))) t o.2 in
     let w = where_some (length all.0.1 == 0) (q.0.0, (o.0.0, all.0.0)) t all.2 in
     let nothing : all.0.1 ≡ [] = nil_from_length all.0.1 (eqb-true (length all.0.1) 0 w.0) in
@@ -133,9 +133,9 @@ tail_takes show bytes t b e =
     let t1 = ended_field.takes q.0.1 o.0 b1 o.1 in
     let t2 = live_takes show o.0.1 all.0 (bytes_behind q.0.1 (ended_text o.0.0) o.0.1 t1.0 b1) all.1 in
     let last : o.0.1 ≡ live_text all.0.0 = t2 ∙ ap (λ rest. live_text all.0.0 ++ rest) nothing
-        ∙ append-nil (live_text all.0.0) in
+    ∙ append-nil (live_text all.0.0) in
     let parts : bytes ≡ number_text q.0.0 ++ (ended_text o.0.0 ++ live_text all.0.0) = t0.0
-        ∙ ap (λ bs. number_text q.0.0 ++ bs) (t1.0 ∙ ap (λ bs. ended_text o.0.0 ++ bs) last) in
+    ∙ ap (λ bs. number_text q.0.0 ++ bs) (t1.0 ∙ ap (λ bs. ended_text o.0.0 ++ bs) last) in
     subst (λ z. bytes ≡ number_text z.0 ++ (ended_text z.1.0 ++ live_text z.1.1)) w.1 parts
 
 tail_again : (show : ShowLists) (last : ℕ) (ended : Option Ended) (live : List Attempt)
@@ -145,9 +145,9 @@ tail_again : (show : ShowLists) (last : ℕ) (ended : Option Ended) (live : List
 unfolding tail_of
 tail_again show last ended live h k few all =
     let read : live_at show [] (live_text live) ≡ Some (live, []) =
-        ap (live_at show []) (sym (append-nil (live_text live))) ∙ live_again show live [] (live_short live few) all in
+    ap (live_at show []) (sym (append-nil (live_text live))) ∙ live_again show live [] (live_short live few) all in
     rw (field32.again last (ended_text ended ++ live_text live) h, ended_field.again ended (live_text live) k, read)
-        refl
+    refl
 
 -- ---- states
 
@@ -164,10 +164,10 @@ standing_takes : (form : PartsForm) (bytes : List ℕ) (s : ShowState) → IsTru
 unfolding standing_of
 standing_takes form bytes s b e =
     let a = bind_some (show_at form empty_show bytes)
-        (λ show. tail_of show.0 [] show.1 >>= λ t. where_state
-        (record { show = show.0; live = t.1.1; last_seq = t.0; ended = t.1.0 })) s e in
+    (λ show. tail_of show.0 [] show.1 >>= λ t. where_state
+    (record { show = show.0; live = t.1.1; last_seq = t.0; ended = t.1.0 })) s e in
     let c = bind_some (tail_of a.0.0 [] a.0.1)
-        (λ t. where_state (record { show = a.0.0; live = t.1.1; last_seq = t.0; ended = t.1.0 })) s a.2 in
+    (λ t. where_state (record { show = a.0.0; live = t.1.1; last_seq = t.0; ended = t.1.0 })) s a.2 in
     let made : ShowState = record { show = a.0.0; live = c.0.1.1; last_seq = c.0.0; ended = c.0.1.0 } in
     let w = where_some (is_state made) made s c.2 in
     let t = show_takes form bytes a.0 b a.1 in
@@ -183,7 +183,7 @@ live_fits s r =
     join (is_number a.seq && (is_cue_number a.cue && (is_moment a.deadline && true))) (is_at_cue s.show a)
     (join (is_number a.seq) (is_cue_number a.cue && (is_moment a.deadline && true)) k.number
     (join (is_cue_number a.cue) (is_moment a.deadline && true) (attempt_cue_fits s.show a r.show at)
-        (join (is_moment a.deadline) true k.moment refl))) at)
+    (join (is_moment a.deadline) true k.moment refl))) at)
     s.live (attempts_of s.live r.live) r.at)
 
 last_fits : (n : ℕ) → IsTrue (nat_le n MAX_NUMBER) → IsTrue (nat_le n 4294967295)
@@ -203,10 +203,10 @@ standing_again form s h k =
     let r = rules_of s h in
     let tail = number_text s.last_seq ++ (ended_text s.ended ++ live_text s.live) in
     let show : show_at form empty_show (show_text form s.show ++ tail) ≡ Some (s.show, tail) =
-        show_again form s.show tail r.show k in
+    show_again form s.show tail r.show k in
     let rest : tail_of s.show [] tail ≡ Some (s.last_seq, (s.ended, s.live)) =
-        tail_again s.show s.last_seq s.ended s.live (last_fits s.last_seq r.last)
-        (ended_in_range s.live s.last_seq s.ended r.ended) r.live (live_fits s r) in
+    tail_again s.show s.last_seq s.ended s.live (last_fits s.last_seq r.last)
+    (ended_in_range s.live s.last_seq s.ended r.ended) r.live (live_fits s r) in
     let keeps : is_state s ≡ true = h in
     rw (show, rest, keeps) refl
 
@@ -232,13 +232,13 @@ text_fits Plain s h k = k
 text_fits Flagged s h k =
     let show = (rules_of s h).show in
     let stack = (both (is_stack_of s.show s.show.cues) (is_place_of s.show s.show.place)
-        (both (is_table s.show.devices) (is_stack_of s.show s.show.cues && is_place_of s.show s.show.place) show).1).0
-        in
+    (both (is_table s.show.devices) (is_stack_of s.show s.show.cues && is_place_of s.show s.show.place) show).1).0
+    in
     let p = both (nat_le (length s.show.cues) MAX_CUES)
-        (are_distinct same_text (keys_of s.show.cues) && list_all (is_cue_of s.show) s.show.cues) stack in
+    (are_distinct same_text (keys_of s.show.cues) && list_all (is_cue_of s.show) s.show.cues) stack in
     let each = (both (are_distinct same_text (keys_of s.show.cues)) (list_all (is_cue_of s.show) s.show.cues) p.1).1 in
     join (nat_le (length s.show.cues) MAX_CUES) (list_all (λ e. have_text Flagged e.1) s.show.cues) p.0
-        (all_from (is_cue_of s.show) (λ e. have_text Flagged e.1) s.show.cues (λ e h. refl) each)
+    (all_from (is_cue_of s.show) (λ e. have_text Flagged e.1) s.show.cues (λ e h. refl) each)
 
 state_takes : (bytes : List ℕ) (s : ShowState) → IsTrue (are_bytes bytes) → state_of bytes ≡ Some s
     → IsTrue (is_state s) × IsStateText bytes s
@@ -247,9 +247,15 @@ state_takes [] s b e = absurd cc
 state_takes (n ∷ bytes) s b e =
     let v = bind_some (form_of_version n) (λ form. standing_of form bytes) s e in
     let number : version_number v.0 ≡ n = version_numbered n v.0 v.1 in
-    let t = standing_takes v.0 bytes s (both (nat_le n 255) (are_bytes bytes) b).1 v.2 in
-    (t.0, record { form = v.0; has = found_text v.0 s t.2; is = ap (λ k. k ∷ bytes) (sym number)
-        ∙ ap (λ bs. version_number v.0 ∷ bs) t.1 })
+    let t = standing_takes v.0 bytes s (both (nat_le n 255) (are_bytes bytes) b).1 v.2 in (
+      t.0,
+      record {
+        form = v.0;
+        has = found_text v.0 s t.2;
+        is = ap (λ k. k ∷ bytes) (sym number)
+            ∙ ap (λ bs. version_number v.0 ∷ bs) t.1;
+      },
+    )
 
 state_again : (form : PartsForm) (s : ShowState) → IsTrue (is_state s) → IsTrue (has_text form s)
     → state_of (text_in form s) ≡ Some s

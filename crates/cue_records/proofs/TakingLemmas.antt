@@ -97,7 +97,7 @@ module _ {A : Type 0} {read : Reads A} {text : A → List ℕ} {fits : A → Boo
         let s = bind_some (read bytes) (λ x. Some (make x.0, x.1)) y e in
         let t = f.takes bytes s.0 b s.1 in
         subst (Takes (λ y. text (back y)) (λ y. fits (back y)) bytes) (some_is (make s.0.0, s.0.1) y s.2)
-            (rw (one s.0.0) t);
+        (rw (one s.0.0) t);
     again = λ y rest h. rw (f.again (back y) rest h, other y) refl;
   }
 
@@ -105,7 +105,7 @@ module _ {A : Type 0} {read : Reads A} {text : A → List ℕ} {fits : A → Boo
   pub made_field : {B : Type 0} (make : A → Option B) (number : B → A) (good : B → Bool) → IsField read text fits
       → ((x : A) (y : B) → IsTrue (fits x) → make x ≡ Some y → (number y ≡ x) × IsTrue (good y))
       → ((y : B) → IsTrue (good y) → make (number y) ≡ Some y) → ((y : B) → IsTrue (good y) → IsTrue (fits (number y)))
-          → IsField (made_at make read) (λ y. text (number y)) good
+      → IsField (made_at make read) (λ y. text (number y)) good
   made_field make number good f one other within = record {
     takes = λ bytes y b e.
         let s = bind_some (read bytes) (λ x. make x.0 >>= λ z. Some (z, x.1)) y e in
@@ -127,10 +127,13 @@ module _ {A : Type 0} {read : Reads A} {text : A → List ℕ} {fits : A → Boo
       let t = f.takes bytes s.0 b s.1 in
       let u = list_takes f n s.0.1 m.0 (bytes_behind bytes (text s.0.0) s.0.1 t.0 b) m.1 in
       let parts : bytes ≡ (text s.0.0 ++ flat_map text m.0.0) ++ m.0.1 = t.0 ∙ ap (λ bs. text s.0.0 ++ bs) u.0.0
-          ∙ sym (append_assoc (text s.0.0) (flat_map text m.0.0) m.0.1) in
+      ∙ sym (append_assoc (text s.0.0) (flat_map text m.0.0) m.0.1) in
       subst (λ y. Takes (flat_map text) (list_all fits) bytes y × (length y.0 ≡ suc n))
-          (some_is (s.0.0 ∷ m.0.0, m.0.1) x m.2) ((parts, join (fits s.0.0) (list_all fits m.0.0) t.1 u.0.1), ap suc
-          u.1)
+      (some_is (s.0.0 ∷ m.0.0, m.0.1) x m.2) (
+        (parts, join (fits s.0.0) (list_all fits m.0.0) t.1 u.0.1),
+        ap suc
+            u.1,
+      )
 
   pub list_again : IsField read text fits → (xs : List A) (rest : List ℕ) → IsTrue (list_all fits xs)
       → list_at read (length xs) (flat_map text xs ++ rest) ≡ Some (xs, rest)
@@ -139,9 +142,9 @@ module _ {A : Type 0} {read : Reads A} {text : A → List ℕ} {fits : A → Boo
   list_again f (x ∷ xs) rest h =
       let p = both (fits x) (list_all fits xs) h in
       let regrouped : flat_map text (x ∷ xs) ++ rest ≡ text x ++ (flat_map text xs ++ rest) =
-          append_assoc (text x) (flat_map text xs) rest in
+      append_assoc (text x) (flat_map text xs) rest in
       ap (list_at read (suc (length xs))) regrouped
-          ∙ rw (f.again x (flat_map text xs ++ rest) p.0, list_again f xs rest p.1) refl
+      ∙ rw (f.again x (flat_map text xs ++ rest) p.0, list_again f xs rest p.1) refl
 
 -- what passes a test that is all that fits
 pub test_field : {A : Type 0} {read : Reads A} {text : A → List ℕ} {fits : A → Bool} (test : A → Bool)
@@ -153,44 +156,45 @@ test_field {fits = fits} test f within = refit test (where_field test f) (λ x h
 pub both_field : {A B : Type 0} {one : Reads A} {one_text : A → List ℕ} {one_fits : A → Bool} {other : Reads B}
     {other_text : B → List ℕ} {other_fits : B → Bool}
     → IsField one one_text one_fits → IsField other other_text other_fits
-        → IsField (both_at one other) (λ x. one_text x.0 ++ other_text x.1) (λ x. one_fits x.0 && other_fits x.1)
+    → IsField (both_at one other) (λ x. one_text x.0 ++ other_text x.1) (λ x. one_fits x.0 && other_fits x.1)
 both_field {one = one} {one_text = one_text} {one_fits = one_fits} {other = other} {other_text = other_text}
     {other_fits = other_fits} f g = record {
-  takes = λ bytes x b e.
-      let s = bind_some (one bytes) (λ a. other a.1 >>= λ b. Some ((a.0, b.0), b.1)) x e in
-      let m = bind_some (other s.0.1) (λ b. Some ((s.0.0, b.0), b.1)) x s.2 in
-      let t = f.takes bytes s.0 b s.1 in
-      let u = g.takes s.0.1 m.0 (bytes_behind bytes (one_text s.0.0) s.0.1 t.0 b) m.1 in
-      let parts : bytes ≡ (one_text s.0.0 ++ other_text m.0.0) ++ m.0.1 = t.0 ∙ ap (λ bs. one_text s.0.0 ++ bs) u.0
+      takes = λ bytes x b e.
+          let s = bind_some (one bytes) (λ a. other a.1 >>= λ b. Some ((a.0, b.0), b.1)) x e in
+          let m = bind_some (other s.0.1) (λ b. Some ((s.0.0, b.0), b.1)) x s.2 in
+          let t = f.takes bytes s.0 b s.1 in
+          let u = g.takes s.0.1 m.0 (bytes_behind bytes (one_text s.0.0) s.0.1 t.0 b) m.1 in
+          let parts : bytes ≡ (one_text s.0.0 ++ other_text m.0.0) ++ m.0.1 = t.0 ∙ ap (λ bs. one_text s.0.0 ++ bs) u.0
           ∙ sym (append_assoc (one_text s.0.0) (other_text m.0.0) m.0.1) in
-      subst (Takes (λ y. one_text y.0 ++ other_text y.1) (λ y. one_fits y.0 && other_fits y.1) bytes)
+          subst (Takes (λ y. one_text y.0 ++ other_text y.1) (λ y. one_fits y.0 && other_fits y.1) bytes)
           (some_is ((s.0.0, m.0.0), m.0.1) x m.2) (parts, join (one_fits s.0.0) (other_fits m.0.0) t.1 u.1);
-  again = λ x rest h.
-      let p = both (one_fits x.0) (other_fits x.1) h in
-      let regrouped : (one_text x.0 ++ other_text x.1) ++ rest ≡ one_text x.0 ++ (other_text x.1 ++ rest) =
+      again = λ x rest h.
+          let p = both (one_fits x.0) (other_fits x.1) h in
+          let regrouped : (one_text x.0 ++ other_text x.1) ++ rest ≡ one_text x.0 ++ (other_text x.1 ++ rest) =
           append_assoc (one_text x.0) (other_text x.1) rest in
-      ap (both_at one other) regrouped ∙ rw (f.again x.0 (other_text x.1 ++ rest) p.0, g.again x.1 rest p.1) refl;
-}
+          ap (both_at one other) regrouped ∙ rw (f.again x.0 (other_text x.1 ++ rest) p.0, g.again x.1 rest p.1) refl;
+    }
 
 -- a count, and so many
 pub counted_field : {A : Type 0} {count : Reads ℕ} {count_text : ℕ → List ℕ} {count_fits : ℕ → Bool} {read : Reads A}
     {text : A → List ℕ} {fits : A → Bool}
     → IsField count count_text count_fits → IsField read text fits
-        → IsField (counted_at count read) (λ xs. count_text (length xs) ++ flat_map text xs)
-        (λ xs. count_fits (length xs) && list_all fits xs)
+    → IsField (counted_at count read) (λ xs. count_text (length xs) ++ flat_map text xs)
+    (λ xs. count_fits (length xs) && list_all fits xs)
 counted_field {count = count} {count_text = count_text} {count_fits = count_fits} {read = read} {text = text}
     {fits = fits} f g = record {
-  takes = λ bytes x b e.
-      let s = bind_some (count bytes) (λ n. list_at read n.0 n.1) x e in
-      let t = f.takes bytes s.0 b s.1 in
-      let u = list_takes g s.0.0 s.0.1 x (bytes_behind bytes (count_text s.0.0) s.0.1 t.0 b) s.2 in
-      let parts : bytes ≡ (count_text s.0.0 ++ flat_map text x.0) ++ x.1 = t.0 ∙ ap (λ bs. count_text s.0.0 ++ bs) u.0.0
+      takes = λ bytes x b e.
+          let s = bind_some (count bytes) (λ n. list_at read n.0 n.1) x e in
+          let t = f.takes bytes s.0 b s.1 in
+          let u = list_takes g s.0.0 s.0.1 x (bytes_behind bytes (count_text s.0.0) s.0.1 t.0 b) s.2 in
+          let parts : bytes ≡ (count_text s.0.0 ++ flat_map text x.0) ++ x.1 = t.0
+          ∙ ap (λ bs. count_text s.0.0 ++ bs) u.0.0
           ∙ sym (append_assoc (count_text s.0.0) (flat_map text x.0) x.1) in
-      rw u.1 (parts, join (count_fits s.0.0) (list_all fits x.0) t.1 u.0.1);
-  again = λ xs rest h.
-      let p = both (count_fits (length xs)) (list_all fits xs) h in
-      let regrouped : (count_text (length xs) ++ flat_map text xs) ++ rest ≡ count_text (length xs)
+          rw u.1 (parts, join (count_fits s.0.0) (list_all fits x.0) t.1 u.0.1);
+      again = λ xs rest h.
+          let p = both (count_fits (length xs)) (list_all fits xs) h in
+          let regrouped : (count_text (length xs) ++ flat_map text xs) ++ rest ≡ count_text (length xs)
           ++ (flat_map text xs ++ rest) = append_assoc (count_text (length xs)) (flat_map text xs) rest in
-      ap (counted_at count read) regrouped
+          ap (counted_at count read) regrouped
           ∙ rw (f.again (length xs) (flat_map text xs ++ rest) p.0) (list_again g xs rest p.1);
-}
+    }

@@ -14,7 +14,7 @@ write_goes_on text xs i x out after total lt is grown so_far =
     let rest = drop (i + 1) xs in
     let parts : drop i xs ≡ x ∷ rest = drop_more xs i x lt ∙ ap (λ y. y ∷ rest) (sym is) in
     let one : out ++ flat_map text (drop i xs) ≡ after ++ flat_map text rest =
-        rw (parts, grown, flat_map-cons text x rest) (simp append_assoc) in
+    rw (parts, grown, flat_map-cons text x rest) (simp append_assoc) in
     sym one ∙ so_far
 
 -- what all elements that are left keep, all but the first of them keep

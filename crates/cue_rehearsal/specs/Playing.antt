@@ -51,14 +51,14 @@ due now None = None
 due now (Some work) = if nat_le work.takes (now - work.since) then Some work.order else None
 
 -- what the machine tells at the end of an order that it carries out
-abbrev pub done : Order → Told
-done (Prepare q) = Prepared q
-done (Move q) = Moved q
-done (GiveUp q) = GaveUp q
+abbrev pub report_of : Order → Told
+report_of (Prepare q) = Prepared q
+report_of (Move q) = Moved q
+report_of (GiveUp q) = GaveUp q
 
 -- and at the end of any order
 abbrev pub told_at_end : Fate → Order → Told
-told_at_end fate order = if breaks_at fate order then Cannot (ordered_for order) else done order
+told_at_end fate order = if breaks_at fate order then Cannot (ordered_for order) else report_of order
 
 -- a device whose machine is at rest
 abbrev pub player_of : Device → Manner → Player

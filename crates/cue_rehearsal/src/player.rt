@@ -1,7 +1,7 @@
 //! One rehearsed device: what it hears, and what its machine does meanwhile.
 ghost use Rattle.std.specs.Prelude.{◌≡◌, ◌≤◌, IsTrue, false, None, take};
 ghost use Rattle.cue_device.specs.Datagrams.{HearsDatagram};
-ghost use Rattle.cue_device.specs.Hearing.{answer_ticked, rested};
+ghost use Rattle.cue_device.specs.Hearing.{answer_ticked, device_at_rest};
 ghost use Rattle.cue_rehearsal.specs.Playing.{after_end, answer_at_end, begun, due, is_silent, player_of, work_after};
 
 use crate::manner::Manner;
@@ -30,7 +30,7 @@ pub struct Player {
 impl Player {
     /// A device that has heard of no attempt, with its machine at rest.
     pub fn new(number: DeviceNo, manner: Manner) -> Player
-        ensures { result ≡ player_of (rested number 0) manner }
+        ensures { result ≡ player_of (device_at_rest number 0) manner }
     {
         Player {
             device: Device::new(number, 0),

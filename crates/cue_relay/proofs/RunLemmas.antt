@@ -15,7 +15,7 @@ use Rattle.cue_relay.specs.Relaying.{way_of}
 use Rattle.cue_relay.specs.Sources.{Answer, comes, ticks, ends, fails, others_left, GaveInTurn, GaveAll}
 use Rattle.cue_relay.specs.Wires.{Sending, Handed, Grew}
 use Rattle.cue_relay.specs.Relayed.{sent_by, handed_on, all_handed_on, is_dropped, sending_of, is_lost, is_passed}
-use Rattle.cue_relay.specs.Relayed.{happened, counted, Takes, HasRelayed}
+use Rattle.cue_relay.specs.Relayed.{happening_of, counts_after, Takes, HasRelayed}
 
 pub grew_none : (told : Option (List Handed)) → Grew told [] told
 grew_none None = tt
@@ -59,24 +59,25 @@ count_both p xs ys = sum_by-append (λ x. cond (p x) 1 0) xs ys
 abbrev Adds : Relay → Answer → List Handed → Counts → Counts → Type 0
 Adds r a hs c d =
     (d.passed ≡ c.passed + count_by is_passed hs) × (d.lost ≡ c.lost + count_by is_lost hs)
-        × (d.dropped ≡ c.dropped + count_by (is_dropped r) (a ∷ []))
+    × (d.dropped ≡ c.dropped + count_by (is_dropped r) (a ∷ []))
 
 abbrev AddsBy : Option Way → List Handed → Counts → Counts → Type 0
 AddsBy way hs c d =
     (d.passed ≡ c.passed + count_by is_passed hs) × (d.lost ≡ c.lost + count_by is_lost hs)
-        × (d.dropped ≡ c.dropped + cond (is_none way) 1 0)
+    × (d.dropped ≡ c.dropped + cond (is_none way) 1 0)
 
 adds_one : (now : ℕ) (at : Opening) (lost : Bool) (sending : Sending) (c : Counts)
     → let hs : List Handed = record { sending = sending; lost = lost } ∷ [] in
-    let d : Counts = counted c (cond lost (happening.Lost now at) (happening.Passed now at)) in
+    let d : Counts = counts_after c (cond lost (happening.Lost now at) (happening.Passed now at)) in
     (d.passed ≡ c.passed + count_by is_passed hs) × (d.lost ≡ c.lost + count_by is_lost hs)
-        × (d.dropped ≡ c.dropped + 0)
+    × (d.dropped ≡ c.dropped + 0)
 adds_one now at true sending c = (omega arith, omega arith, omega arith)
 adds_one now at false sending c = (omega arith, omega arith, omega arith)
 
 adds_comes : (now : ℕ) (at : Opening) (from : Address) (bytes : List ℕ) (way : Option Way) (hs : List Handed)
     (c : Counts)
-    → map sending_of hs ≡ sent_by bytes way → AddsBy way hs c (counted c (happened (comes now at from bytes) hs))
+    → map sending_of hs ≡ sent_by bytes way
+    → AddsBy way hs c (counts_after c (happening_of (comes now at from bytes) hs))
 adds_comes now at from bytes None [] c e = (omega arith, omega arith, omega arith)
 adds_comes now at from bytes None (h ∷ hs) c e = absurd (omega (arith, ap length e))
 adds_comes now at from bytes (Some way) [] c e = absurd (omega (arith, ap length e))
@@ -89,10 +90,10 @@ adds_nothing r a [] c d not_dropped same e = rw (same, not_dropped) (omega arith
 adds_nothing r a (h ∷ hs) c d not_dropped same e = absurd (omega (arith, ap length e))
 
 adds : (r : Relay) (a : Answer) (hs : List Handed) (c : Counts) → map sending_of hs ≡ handed_on r a
-    → Adds r a hs c (counted c (happened a hs))
+    → Adds r a hs c (counts_after c (happening_of a hs))
 adds r (comes now at from bytes) hs c e =
     let k = adds_comes now at from bytes (way_of r.controller r.routes.now at from (length bytes)) hs c e in
-        (k.0, k.1, omega (arith, k.2))
+    (k.0, k.1, omega (arith, k.2))
 adds r (ticks now) hs c e = adds_nothing r (ticks now) hs c c refl refl e
 adds r ends hs c e = adds_nothing r ends hs c c refl refl e
 adds r fails hs c e = adds_nothing r fails hs c c refl refl e
@@ -101,14 +102,14 @@ adds r fails hs c e = adds_nothing r fails hs c c refl refl e
 abbrev pub total : Counts → ℕ
 total c = c.passed + c.lost + c.dropped
 
-counted_once : (c : Counts) (what : Happening) → total (counted c what) ≤ total c + 1
+counted_once : (c : Counts) (what : Happening) → total (counts_after c what) ≤ total c + 1
 counted_once c (happening.Passed now at) = omega arith
 counted_once c (happening.Lost now at) = omega arith
 counted_once c (happening.Dropped now) = omega arith
 counted_once c (happening.Tick now) = omega arith
 
 -- so the sums fit
-pub total_more : (c d : Counts) (what : Happening) (turns : ℕ) → total c ≤ turns → d ≡ counted c what
+pub total_more : (c d : Counts) (what : Happening) (turns : ℕ) → total c ≤ turns → d ≡ counts_after c what
     → total d ≤ turns + 1
 total_more c d what turns fits e = rw e (omega (arith, fits, counted_once c what))
 
@@ -131,11 +132,12 @@ begun r size left told = record {
 pub relayed_more : (r : Relay) (size : ℕ) (left mid left_then : Option (List Answer))
     (told mid_told told_then : Option (List Handed)) (turns : ℕ) (c d : Counts) (a : Answer) (what : Happening)
     → HasRelayed r size left told turns c mid mid_told → GaveAll size mid (a ∷ []) left_then
-        → Takes r a what mid_told told_then → d ≡ counted c what
+    → Takes r a what mid_told told_then → d ≡ counts_after c what
     → HasRelayed r size left told (turns + 1) d left_then told_then
 relayed_more r size left mid left_then told mid_told told_then turns c d a what h came t same =
-    let k : Adds r a t.handed c d = subst (λ (x : Counts). Adds r a t.handed c x) (sym (same ∙ ap (counted c) t.was))
-        (adds r a t.handed c t.sent) in
+    let k : Adds r a t.handed c d =
+    subst (λ (x : Counts). Adds r a t.handed c x) (sym (same ∙ ap (counts_after c) t.was))
+    (adds r a t.handed c t.sent) in
     record {
       given = h.given ++ a ∷ [];
       gave = gave_all_more size left h.given mid (a ∷ []) left_then h.gave came;
@@ -153,6 +155,6 @@ relayed_more r size left mid left_then told mid_told told_then turns c d a what 
 pub still : (r : Relay) (size : ℕ) (left mid : Option (List Answer)) (told mid_told told_then : Option (List Handed))
     (turns : ℕ) (c : Counts)
     → HasRelayed r size left told turns c mid mid_told → told_then ≡ mid_told
-        → HasRelayed r size left told turns c mid told_then
+    → HasRelayed r size left told turns c mid told_then
 still r size left mid told mid_told told_then turns c h e =
     subst (λ (x : Option (List Handed)). HasRelayed r size left told turns c mid x) (sym e) h

@@ -31,7 +31,7 @@ cut_comes : (size : ℕ) → MAX_LEN < size → (r : Relay) (now : ℕ) (at : Op
 cut_comes size h r now at from bytes (inl fits) = rw (take_all size bytes fits) refl
 cut_comes size h r now at from bytes (inr long) =
     ap (sent_by (take size bytes)) (too_long r.controller r.routes.now at from (length (take size bytes))
-        (omega (arith, h, long, length-take size bytes)))
+    (omega (arith, h, long, length-take size bytes)))
     ∙ sym (ap (sent_by bytes) (too_long r.controller r.routes.now at from (length bytes) (omega (arith, h, long))))
 
 le_or : (a b : ℕ) → (a ≤ b) ⊎ (b < a)
@@ -66,14 +66,20 @@ went : (c : Address) (routes : List Route) (at : Opening) (from : Address) (len 
     → way_of c routes at from len ≡ Some way → Went c routes at from len way
 went c routes at from len way e =
     let short = guarded (nat_le len MAX_LEN)
-        (option_and_then (λ route. way_by c route at from) (slice_get routes at.route)) way e in
+    (option_and_then (λ route. way_by c route at from) (slice_get routes at.route)) way e in
     option_and_then_some (λ route. way_by c route at from) (slice_get routes at.route) way short.1
     (λ route found by.
     let known = guarded (is_same from (who_is_at c route at.side))
-        (Some (record { out = record { route = at.route; side = across at.side }; to =
-        who_is_at c route (across at.side) })) way by in
-    let same = same_Some (record { out = record { route = at.route; side = across at.side }; to = who_is_at c route
-        (across at.side) }) way known.1 in
+    (Some (record {
+      out = record { route = at.route; side = across at.side };
+      to =
+          who_is_at c route (across at.side);
+    })) way by in
+    let same = same_Some (record {
+      out = record { route = at.route; side = across at.side };
+      to = who_is_at c route
+          (across at.side);
+    }) way known.1 in
     record {
       route = route;
       found = found;
@@ -151,7 +157,7 @@ same_opening at route side e f = rw (sym e, sym f) refl
 came_by : (r : Relay) (given : List Answer) (s : Sending) (now : ℕ) (at at_then : Opening) (from from_then : Address)
     (route : Route)
     → Contains given (comes now at from s.bytes) → slice_get r.routes.now at.route ≡ Some route
-        → s.way.out.route ≡ at.route → length s.bytes ≤ MAX_LEN → at ≡ at_then → from ≡ from_then
+    → s.way.out.route ≡ at.route → length s.bytes ≤ MAX_LEN → at ≡ at_then → from ≡ from_then
     → CameBy r given s at_then from_then route
 came_by r given s now at at_then from from_then route came found out fits e f = record {
   now = now;
@@ -179,7 +185,7 @@ nothing-of-strangers r given s h e =
 pub nothing-to-strangers : (r : Relay) (given : List Answer) (s : Sending) → Contains (all_handed_on r given) s
     → s.way.out.side ≡ Stage
     → (route : Route) × (s.way.to ≡ route.address)
-        × CameBy r given s (record { route = s.way.out.route; side = Controller }) r.controller route
+    × CameBy r given s (record { route = s.way.out.route; side = Controller }) r.controller route
 nothing-to-strangers r given s h e =
     let o = of_all r given s h in
     let w = went r.controller r.routes.now o.at o.from (length s.bytes) s.way o.way in

@@ -6,7 +6,7 @@ use Rattle.cue_relay.specs.declared.mem_source.MemSource.{MemSource}
 use Rattle.cue_relay.specs.declared.mem_wire.Sent.{Sent}
 use Rattle.cue_relay.specs.declared.mem_wire.MemWire.{MemWire}
 use Rattle.cue_relay.specs.Sources.{Answer, comes, ticks, ends, fails}
-use Rattle.cue_relay.specs.Wires.{Handed, handed}
+use Rattle.cue_relay.specs.Wires.{Handed, handed_as}
 
 -- an answer as contracts of sources see it
 abbrev pub answer_view : MemAnswer → Answer
@@ -25,7 +25,7 @@ left_by source = Some (answers_view (drop source.given source.answers.items))
 
 -- a datagram that was handed over, as contracts of wires see it
 abbrev pub sent_view : Sent → Handed
-sent_view sent = handed sent.way sent.bytes.items false
+sent_view sent = handed_as sent.way sent.bytes.items false
 
 -- all of them, in order
 abbrev pub sents_view : List Sent → List Handed

@@ -48,26 +48,26 @@ abbrev pub is_passed : Handed → Bool
 is_passed h = not h.lost
 
 -- what happened in a turn, by what came and what was handed over for it
-abbrev pub happened : Answer → List Handed → Happening
-happened (comes now at from bytes) [] = happening.Dropped now
-happened (comes now at from bytes) (h ∷ hs) = if h.lost then happening.Lost now at else happening.Passed now at
-happened (ticks now) hs = happening.Tick now
-happened ends hs = happening.Tick 0
-happened fails hs = happening.Tick 0
+abbrev pub happening_of : Answer → List Handed → Happening
+happening_of (comes now at from bytes) [] = happening.Dropped now
+happening_of (comes now at from bytes) (h ∷ hs) = if h.lost then happening.Lost now at else happening.Passed now at
+happening_of (ticks now) hs = happening.Tick now
+happening_of ends hs = happening.Tick 0
+happening_of fails hs = happening.Tick 0
 
 -- the counts after it
-abbrev pub counted : Counts → Happening → Counts
-counted c (happening.Passed now at) = record { passed = c.passed + 1; lost = c.lost; dropped = c.dropped }
-counted c (happening.Lost now at) = record { passed = c.passed; lost = c.lost + 1; dropped = c.dropped }
-counted c (happening.Dropped now) = record { passed = c.passed; lost = c.lost; dropped = c.dropped + 1 }
-counted c (happening.Tick now) = c
+abbrev pub counts_after : Counts → Happening → Counts
+counts_after c (happening.Passed now at) = record { passed = c.passed + 1; lost = c.lost; dropped = c.dropped }
+counts_after c (happening.Lost now at) = record { passed = c.passed; lost = c.lost + 1; dropped = c.dropped }
+counts_after c (happening.Dropped now) = record { passed = c.passed; lost = c.lost; dropped = c.dropped + 1 }
+counts_after c (happening.Tick now) = c
 
 -- A turn: its answer was taken, and what goes on of that was handed over.
 pub record Takes (r : Relay) (answer : Answer) (what : Happening) (told told_then : Option (List Handed)) : Type 0 where
   pub handed : List Handed
   pub grew : Grew told handed told_then
   pub sent : map sending_of handed ≡ handed_on r answer
-  pub was : what ≡ happened answer handed
+  pub was : what ≡ happening_of answer handed
 
 -- one turn, by how it went
 abbrev pub Turned : Relay → ℕ → Result (Option Happening) RelayFault → (left left_then : Option (List Answer))

@@ -12,8 +12,8 @@ pub record Handed : Type 0 where
   pub sending : Sending
   pub lost : Bool
 
-abbrev pub handed : Way → List ℕ → Bool → Handed
-handed way bytes lost = record { sending = record { way = way; bytes = bytes }; lost = lost }
+abbrev pub handed_as : Way → List ℕ → Bool → Handed
+handed_as way bytes lost = record { sending = record { way = way; bytes = bytes }; lost = lost }
 
 -- what is shown grew by this; None: nothing is shown, for good
 abbrev pub Grew : Option (List Handed) → List Handed → Option (List Handed) → Type 0

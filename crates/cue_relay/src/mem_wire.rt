@@ -1,7 +1,7 @@
 //! A wire in memory, for tests: it shows all that was handed to it, and loses what there is no memory for.
 ghost use Rattle.std.specs.Prelude.{◌≡◌, [], ◌∷◌, None, Some, OnOk, MatchOption, false};
 ghost use Rattle.cue_relay.specs.Memory.{sents_view, told_by};
-ghost use Rattle.cue_relay.specs.Wires.{Grew, handed};
+ghost use Rattle.cue_relay.specs.Wires.{Grew, handed_as};
 
 use crate::route::Way;
 use crate::wire::{Wire, WireFault};
@@ -46,7 +46,7 @@ impl MemWire {
 
     // Keeps what was handed over, where the wire shows it and there is memory for it.
     fn keep(&mut self, way: Way, bytes: &[u8]) -> Result<(), AllocError>
-        ensures { OnOk result (Grew (told_by self.old) (handed way bytes.now false ∷ []) (told_by self.new)) }
+        ensures { OnOk result (Grew (told_by self.old) (handed_as way bytes.now false ∷ []) (told_by self.new)) }
     {
         if !self.tells {
             return Ok(());

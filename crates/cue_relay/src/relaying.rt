@@ -1,6 +1,6 @@
 //! The loop of the relay: what comes is handed on, or dropped, or lost.
 ghost use Rattle.std.specs.Prelude.{◌≡◌, ◌+◌, ◌-◌, ◌<◌, ◌^◌, length};
-ghost use Rattle.cue_relay.specs.Relayed.{Ran, Takes, Turned, counted};
+ghost use Rattle.cue_relay.specs.Relayed.{Ran, Takes, Turned, counts_after};
 ghost use Rattle.cue_relay.specs.Sources.{comes};
 
 use crate::route::{Address, Opening, Route, way_of};
@@ -83,7 +83,7 @@ impl Counts {
     // Counts what happened.
     fn after(self, what: Happening) -> Counts
         requires { self.passed + self.lost + self.dropped < 2 ^ 64 - 1 }
-        ensures { result ≡ counted self what }
+        ensures { result ≡ counts_after self what }
     {
         let mut counts = self;
         match what {

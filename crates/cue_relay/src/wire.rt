@@ -1,6 +1,6 @@
 //! Where the relay hands datagrams over.
 ghost use Rattle.std.specs.Prelude.{List, Option, [], ◌∷◌, is_err};
-ghost use Rattle.cue_relay.specs.Wires.{Handed, Grew, handed};
+ghost use Rattle.cue_relay.specs.Wires.{Handed, Grew, handed_as};
 
 use crate::route::Way;
 use std::error::Error;
@@ -25,5 +25,5 @@ pub trait Wire {
 
     /// Hands a datagram over. One that cannot be sent at once is lost.
     fn send(&mut self, way: Way, bytes: &[u8]) -> Result<(), WireFault>
-        ensures { Grew (told self.old) (handed way bytes.now (is_err result) ∷ []) (told self.new) };
+        ensures { Grew (told self.old) (handed_as way bytes.now (is_err result) ∷ []) (told self.new) };
 }

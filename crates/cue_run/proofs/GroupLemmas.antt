@@ -6,7 +6,7 @@ use Rattle.cue_core.specs.State.{ShowState}
 use Rattle.cue_core.specs.Steps.{after_events}
 use Rattle.cue_keeper.specs.Stands.{folded_all}
 use Rattle.cue_outbox.specs.Sending.{datagrams, Send}
-use Rattle.cue_engine.specs.Given.{Input, given}
+use Rattle.cue_engine.specs.Given.{Input, given_of}
 use Rattle.cue_engine.specs.Groups.{batches_given, sends_given}
 use Rattle.cue_engine.specs.Wires.{Handed, Grew, AllHanded}
 use Rattle.cue_engine.proofs.GroupLemmas.{is_a_run}
@@ -31,22 +31,22 @@ pub gave_join : (size : ℕ) (left mid left_then : Option (List Answer)) (is js 
     → GaveAll size left (given_answers (is ++ js)) left_then
 gave_join size left mid left_then is js g h =
     subst (λ (xs : List Answer). GaveAll size left xs left_then) (answers_join is js)
-        (gave_all_more size left (given_answers is) mid (given_answers js) left_then g h)
+    (gave_all_more size left (given_answers is) mid (given_answers js) left_then g h)
 
 -- ---- stories
 
 story_join_state : (s : ShowState) (is js : List (ℕ × Input))
     → (story s (is ++ js)).state ≡ (story (story s is).state js).state
 story_join_state s [] js = refl
-story_join_state s (i ∷ is) js = story_join_state (after_events s (given s i.0 i.1).batch) is js
+story_join_state s (i ∷ is) js = story_join_state (after_events s (given_of s i.0 i.1).batch) is js
 
 story_join_sends : (s : ShowState) (is js : List (ℕ × Input))
     → (story s (is ++ js)).sends ≡ (story s is).sends ++ (story (story s is).state js).sends
 story_join_sends s [] js = refl
 story_join_sends s (i ∷ is) js =
-    let next : ShowState = after_events s (given s i.0 i.1).batch in
-    ap (λ (xs : List (ℕ × Send)). (given s i.0 i.1).sends ++ xs) (story_join_sends next is js)
-    ∙ sym (append_assoc (given s i.0 i.1).sends (story next is).sends (story (story next is).state js).sends)
+    let next : ShowState = after_events s (given_of s i.0 i.1).batch in
+    ap (λ (xs : List (ℕ × Send)). (given_of s i.0 i.1).sends ++ xs) (story_join_sends next is js)
+    ∙ sym (append_assoc (given_of s i.0 i.1).sends (story next is).sends (story (story next is).state js).sends)
 
 -- a run, and then another
 pub runs_join : (size : ℕ) (left mid left_then : Option (List Answer)) (s mid_s s_then : ShowState)
@@ -57,17 +57,17 @@ pub runs_join : (size : ℕ) (left mid left_then : Option (List Answer)) (s mid_
     → HasRun size left s owed told (turns + more) all left_then s_then told_then
 runs_join size left mid left_then s mid_s s_then owed told mid_told told_then turns unsent more mores all is h k =
     record {
-  inputs = h.inputs ++ k.inputs;
-  gave = gave_join size left mid left_then h.inputs k.inputs h.gave k.gave;
-  number = omega (arith, h.number, k.number, length-append h.inputs k.inputs);
-  state = k.state ∙ (ap (λ (x : ShowState). (story x k.inputs).state) h.state
-      ∙ sym (story_join_state s h.inputs k.inputs));
-  refused = h.refused + k.refused;
-  handed = subst (λ (os : List (ℕ × List ℕ)). AllHanded told os (h.refused + k.refused) told_then) sends_are
-      (all_handed_both told mid_told told_then (owed ++ datagrams (story s h.inputs).sends)
-      (datagrams (story mid_s k.inputs).sends) h.refused k.refused h.handed k.handed);
-  counted = omega (arith, is, h.counted, k.counted);
-}
+      inputs = h.inputs ++ k.inputs;
+      gave = gave_join size left mid left_then h.inputs k.inputs h.gave k.gave;
+      number = omega (arith, h.number, k.number, length-append h.inputs k.inputs);
+      state = k.state ∙ (ap (λ (x : ShowState). (story x k.inputs).state) h.state
+          ∙ sym (story_join_state s h.inputs k.inputs));
+      refused = h.refused + k.refused;
+      handed = subst (λ (os : List (ℕ × List ℕ)). AllHanded told os (h.refused + k.refused) told_then) sends_are
+          (all_handed_both told mid_told told_then (owed ++ datagrams (story s h.inputs).sends)
+          (datagrams (story mid_s k.inputs).sends) h.refused k.refused h.handed k.handed);
+      counted = omega (arith, is, h.counted, k.counted);
+    }
   where
     sends_are : (owed ++ datagrams (story s h.inputs).sends) ++ datagrams (story mid_s k.inputs).sends ≡ owed
         ++ datagrams (story s (h.inputs ++ k.inputs)).sends
@@ -77,7 +77,7 @@ runs_join size left mid left_then s mid_s s_then owed told mid_told told_then tu
         (datagrams_more (story s h.inputs).sends (story mid_s k.inputs).sends
         ∙ ap (λ (xs : List (ℕ × Send)). datagrams xs)
         (ap (λ (x : ShowState). (story s h.inputs).sends ++ (story x k.inputs).sends) h.state
-            ∙ sym (story_join_sends s h.inputs k.inputs)))
+        ∙ sym (story_join_sends s h.inputs k.inputs)))
 
 -- ---- one group as a run
 
@@ -129,7 +129,7 @@ none_has_run size turns unsent left s s_then told told_then no_turns all_sent sa
 counted_both : (told mid told_then : Option (List Handed)) (os ps : List (ℕ × List ℕ)) (unsent refused all : ℕ)
     → all ≡ min (unsent + refused) (2 ^ 64 - 1)
     → HandedCounted told os unsent mid → AllHanded mid ps refused told_then
-        → HandedCounted told (os ++ ps) all told_then
+    → HandedCounted told (os ++ ps) all told_then
 counted_both told mid told_then os ps unsent refused all is h k = record {
   refused = h.refused + refused;
   handed = all_handed_both told mid told_then os ps h.refused refused h.handed k;
@@ -138,8 +138,12 @@ counted_both told mid told_then os ps unsent refused all is h k = record {
 
 -- none was handed over yet
 pub so_far_none : (told : Option (List Handed)) (owed : List (ℕ × List ℕ)) → CountedSoFar told owed owed 0 told
-so_far_none told owed = record { sent = []; together = refl; handed =
-    record { refused = 0; handed = (handed_nothing told); counted = refl } }
+so_far_none told owed = record {
+  sent = [];
+  together = refl;
+  handed =
+      record { refused = 0; handed = (handed_nothing told); counted = refl };
+}
 
 -- the first k of those that are left were handed over
 pub so_far_more : (told mid told_then seen : Option (List Handed)) (owed left rest : List (ℕ × List ℕ))
@@ -148,7 +152,7 @@ pub so_far_more : (told mid told_then seen : Option (List Handed)) (owed left re
     → rest ≡ drop k left
     → seen ≡ told_then
     → CountedSoFar told owed left unsent mid → AllHanded mid (take k left) refused told_then
-        → CountedSoFar told owed rest all seen
+    → CountedSoFar told owed rest all seen
 so_far_more told mid told_then seen owed left rest k unsent refused all is others same h more = record {
   sent = h.sent ++ take k left;
   together = h.together ∙ (ap (λ (os : List (ℕ × List ℕ)). h.sent ++ os) (sym (take-append-drop k left))
@@ -162,7 +166,7 @@ so_far_more told mid told_then seen owed left rest k unsent refused all is other
 pub so_far_all : (told mid told_then : Option (List Handed)) (owed left : List (ℕ × List ℕ)) (unsent refused all : ℕ)
     → all ≡ min (unsent + refused) (2 ^ 64 - 1)
     → CountedSoFar told owed left unsent mid → AllHanded mid left refused told_then
-        → HandedCounted told owed all told_then
+    → HandedCounted told owed all told_then
 so_far_all told mid told_then owed left unsent refused all is h more =
     subst (λ (os : List (ℕ × List ℕ)). HandedCounted told os all told_then) (sym h.together)
-        (counted_both told mid told_then h.sent left unsent refused all is h.handed more)
+    (counted_both told mid told_then h.sent left unsent refused all is h.handed more)

@@ -13,7 +13,7 @@ use Rattle.cue_keeper.specs.Accepting.{Commits, Accepts, AcceptsTogether}
 use Rattle.cue_keeper.specs.Stands.{StandsAs, folded_all}
 use Rattle.cue_keeper.specs.Observed as kept
 use Rattle.cue_keeper.proofs.CommittedLemmas.{unless_disk, still_broken, out_of_memory}
-use Rattle.cue_engine.specs.Given.{Input, given}
+use Rattle.cue_engine.specs.Given.{Input, given_of}
 use Rattle.cue_engine.specs.Groups.{batches_given}
 use Rattle.cue_run.specs.Sources.{Answer, comes, fails, GaveAll}
 use Rattle.cue_run.specs.declared.turns.RunFault.{RunFault}
@@ -131,7 +131,7 @@ module _ {D : Type 0} {disk : Ghosts D} where
             subst (λ (x : D). StandsAs (disk.held x) (disk.held (kept.second_of new)) (kept.state_of new)) (sym first)
             (subst (λ (x : D). StandsAs (disk.held (kept.first_of old)) (disk.held x) (kept.state_of new)) (sym second)
             (subst (λ (s : ShowState). StandsAs (disk.held (kept.first_of old)) (disk.held (kept.second_of old)) s)
-                (sym accepts.state) (works.stands a b working)));
+            (sym accepts.state) (works.stands a b working)));
       }
 
   -- the commit of some inputs was refused
@@ -159,16 +159,20 @@ module _ {D : Type 0} {disk : Ghosts D} where
         accepts = accepts;
         leaves = λ first second working.
             left_now disk.moment disk.held disk.held_at (kept.first_of old) (kept.second_of old) (kept.first_of new)
-                (kept.second_of new) s (folded_all s (batches_given s inputs))
+            (kept.second_of new) s (folded_all s (batches_given s inputs))
             (now (kept.first_of new) (pair.first_honest.1 first))
-                (now (kept.second_of new) (pair.second_honest.1 second))
+            (now (kept.second_of new) (pair.second_honest.1 second))
             (pair.any_moment first second working);
       }
     where
       after_them : (why : Option RunFault) → CutShort size why old mid left_then
           → (after : List Answer) × (length after ≤ 1) × GaveAll size mid after left_then
-      after_them None cut = ([], omega arith, subst (λ (x : Option (List Answer)). GaveAll size mid [] x) (sym cut)
-          (gave_none size mid))
+      after_them None cut = (
+        [],
+        omega arith,
+        subst (λ (x : Option (List Answer)). GaveAll size mid [] x) (sym cut)
+            (gave_none size mid),
+      )
       after_them (Some fault.Source) cut = (fails ∷ [], omega arith, cut)
       after_them (Some (fault.Engine g)) cut = (comes cut.0.0.0 cut.0.0.1 ∷ [], omega arith, cut.0.1)
 
@@ -177,8 +181,13 @@ module _ {D : Type 0} {disk : Ghosts D} where
   -- the call left everything as it was
   works_itself : (old new : Keeper D disk) → Works old new → Works new new
   works_itself old new works = record {
-    keeps = record { first_failures = omega arith; second_failures = omega arith; first_honest =
-        (λ h. h, λ h. h); second_honest = (λ h. h, λ h. h) };
+    keeps = record {
+      first_failures = omega arith;
+      second_failures = omega arith;
+      first_honest =
+          (λ h. h, λ h. h);
+      second_honest = (λ h. h, λ h. h);
+    };
     broken = refl;
     stands = λ first second working. works.stands (works.keeps.first_honest.0 first)
         (works.keeps.second_honest.0 second) (sym works.broken ∙ working);
@@ -225,7 +234,7 @@ module _ {D : Type 0} {disk : Ghosts D} where
   refuses_alone size f old met left left_then now works still came down =
       let t = came.0 in
       let s = kept.state_of met in
-      let batch = (given s t.0 t.1).batch in
+      let batch = (given_of s t.0 t.1).batch in
       let accepts = turned_down f batch met now still down.0 down.1 in
       record {
         met = met;
@@ -235,7 +244,7 @@ module _ {D : Type 0} {disk : Ghosts D} where
             let first = works.keeps.first_honest.1 first in
             let second = works.keeps.second_honest.1 second in
             left_now disk.moment disk.held disk.held_at (kept.first_of met) (kept.second_of met) (kept.first_of met)
-                (kept.second_of met) s (after_events s batch)
+            (kept.second_of met) s (after_events s batch)
             (now (kept.first_of met) first) (now (kept.second_of met) second)
             (accepts.pair.any_moment first second (works.broken ∙ working));
       }
@@ -252,8 +261,11 @@ module _ {D : Type 0} {disk : Ghosts D} where
   stopped_by_cut size (Some fault.Source) old new left left_then now works worked cut = cut
   stopped_by_cut size (Some (fault.Engine f)) old new left left_then now works worked cut =
       inl (refuses_alone size f old new left left_then now works (works_itself old new works) cut.0 (
-        (λ is. absurd (true≢false (sym (cut.1.0.0 is) ∙ worked)), λ is.
-            absurd (true≢false (sym is ∙ works.broken ∙ worked))),
+        (
+          λ is. absurd (true≢false (sym (cut.1.0.0 is) ∙ worked)),
+          λ is.
+              absurd (true≢false (sym is ∙ works.broken ∙ worked)),
+        ),
         cut.1.1,
       ))
 

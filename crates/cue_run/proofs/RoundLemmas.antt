@@ -42,7 +42,7 @@ module _ {D : Type 0} {disk : Ghosts D} where
   accepts_as inputs old mid new refused same offered accepts =
       subst (λ (k : Keeper D disk). AcceptsTogether (batches_given (kept.state_of k) inputs) refused k new) same
       (subst (λ (batches : List (List Event)). AcceptsTogether batches refused (keeper_of mid) new) offered.batches
-          accepts)
+      accepts)
 
   sends_as : (inputs : List (ℕ × Input)) (old mid : Engine D disk) → keeper_of mid ≡ keeper_of old
       → IsOffered inputs mid → offered_sends_of mid ≡ datagrams (sends_given (state_of old) inputs)
@@ -72,7 +72,7 @@ module _ {D : Type 0} {disk : Ghosts D} where
             told_then
             (omega (arith, took.turns, offered.number)) offered.gave accepts.state
             (subst (λ (sends : List (ℕ × List ℕ)). HandedCounted told sends round.unsent told_then)
-                (sends_as inputs old mid offered.keeper is_offered) took.handed);
+            (sends_as inputs old mid offered.keeper is_offered) took.handed);
         why = subst (λ (st : Option Stop). StoppedBy size st (keeper_of old) (keeper_of new) gathered.mid left_then)
             (sym took.stop) (stopped_by_cut size cut (keeper_of old) (keeper_of new) gathered.mid left_then now works
             worked gathered.cut);
@@ -106,7 +106,7 @@ module _ {D : Type 0} {disk : Ghosts D} where
         why = subst (λ (st : Option Stop). StoppedBy size st (keeper_of old) (keeper_of new) left left_then)
             (sym lost.stop)
             (inr (refuses_together size lost.why (keeper_of old) (keeper_of new) inputs cut left gathered.mid left_then
-                now works (omega (arith, offered.number, group.1)) offered.gave gathered.cut accepts));
+            now works (omega (arith, offered.number, group.1)) offered.gave gathered.cut accepts));
         at_most = omega (arith, lost.turns);
         some = λ is. goes_on (stop.Fault (fault.Engine lost.why)) (sym is ∙ lost.stop);
         none_taken = λ _. lost.turns;
@@ -166,15 +166,15 @@ module _ {D : Type 0} {disk : Ghosts D} where
       → HasRun size left (state_of first) (queue_of first) told turns unsent mid (state_of old) mid_told
       → HasRound size room round old new mid left_then mid_told told_then
       → HasRun size left (state_of first) (queue_of first) told (turns + round.turns) all left_then (state_of new)
-          told_then
+      told_then
   round_more size room turns unsent all round first old new left mid left_then told mid_told told_then is none run one =
       let why : left_then ≡ one.mid =
-          subst (λ (st : Option Stop). StoppedBy size st (keeper_of old) (keeper_of new) one.mid left_then) none
-          one.why in
+      subst (λ (st : Option Stop). StoppedBy size st (keeper_of old) (keeper_of new) one.mid left_then) none
+      one.why in
       subst (λ (x : Option (List Answer)). HasRun size left (state_of first) (queue_of first) told (turns + round.turns)
-          all x (state_of new) told_then) (sym why)
+      all x (state_of new) told_then) (sym why)
       (runs_join size left mid one.mid (state_of first) (state_of old) (state_of new) (queue_of first) told mid_told
-          told_then turns unsent round.turns round.unsent all is run one.taken)
+      told_then turns unsent round.turns round.unsent all is run one.taken)
 
   -- it was the last one
   pub round_last : (size room asked turns unsent all : ℕ) (round : Round) (why : Stop) (cause : Option RunFault)
@@ -190,11 +190,11 @@ module _ {D : Type 0} {disk : Ghosts D} where
       → HasRun size left (state_of first) (queue_of first) told turns unsent mid (state_of old) mid_told
       → HasRound size room round old new mid left_then mid_told told_then
       → RanByGroups size asked (record { turns = turns + round.turns; unsent = all; fault = cause }) first new left
-          left_then told told_then
+      left_then told told_then
   round_last size room asked turns unsent all round why cause first old new left mid left_then told mid_told told_then
       is stops causes fits emptied works none run one =
       let so = subst (λ (st : Option Stop). StoppedBy size st (keeper_of old) (keeper_of new) one.mid left_then) stops
-          one.why in
+      one.why in
       record {
         mid = one.mid;
         taken = runs_join size left mid one.mid (state_of first) (state_of old) (state_of new) (queue_of first) told

@@ -5,8 +5,8 @@ use Rattle.cue_disk.specs.declared.disk.Disk.{Ghosts}
 use Rattle.cue_core.specs.State.{ShowState}
 use Rattle.cue_core.specs.Steps.{after_events}
 use Rattle.cue_outbox.specs.Sending.{datagram, datagrams, Send}
-use Rattle.cue_engine.specs.Given.{Input, given}
-use Rattle.cue_engine.specs.Wires.{Handed, handed, Grew, how_many_refused, AllHanded}
+use Rattle.cue_engine.specs.Given.{Input, given_of}
+use Rattle.cue_engine.specs.Wires.{Handed, handed_as, Grew, how_many_refused, AllHanded}
 use Rattle.cue_keeper.specs.declared.fault.Fault.{Fault}
 use Rattle.cue_keeper.specs.declared.fault.Fault.TheVariants.{Disk}
 use Rattle.cue_keeper.specs.declared.keeper.Keeper.{Keeper}
@@ -38,18 +38,18 @@ answers_more [] t = refl
 answers_more (i ∷ is) t = ap (λ (others : List Answer). comes i.0 i.1 ∷ others) (answers_more is t)
 
 story_state : (s : ShowState) (is : List (ℕ × Input)) (t : ℕ × Input)
-    → (story s (is ++ t ∷ [])).state ≡ after_events (story s is).state (given (story s is).state t.0 t.1).batch
+    → (story s (is ++ t ∷ [])).state ≡ after_events (story s is).state (given_of (story s is).state t.0 t.1).batch
 story_state s [] t = refl
-story_state s (i ∷ is) t = story_state (after_events s (given s i.0 i.1).batch) is t
+story_state s (i ∷ is) t = story_state (after_events s (given_of s i.0 i.1).batch) is t
 
 story_sends : (s : ShowState) (is : List (ℕ × Input)) (t : ℕ × Input)
-    → (story s (is ++ t ∷ [])).sends ≡ (story s is).sends ++ (given (story s is).state t.0 t.1).sends
-story_sends s [] t = append-nil (given s t.0 t.1).sends
+    → (story s (is ++ t ∷ [])).sends ≡ (story s is).sends ++ (given_of (story s is).state t.0 t.1).sends
+story_sends s [] t = append-nil (given_of s t.0 t.1).sends
 story_sends s (i ∷ is) t =
-    ap (λ (xs : List (ℕ × Send)). (given s i.0 i.1).sends ++ xs)
-        (story_sends (after_events s (given s i.0 i.1).batch) is t)
-    ∙ sym (append_assoc (given s i.0 i.1).sends (story (after_events s (given s i.0 i.1).batch) is).sends
-        (given (story (after_events s (given s i.0 i.1).batch) is).state t.0 t.1).sends)
+    ap (λ (xs : List (ℕ × Send)). (given_of s i.0 i.1).sends ++ xs)
+    (story_sends (after_events s (given_of s i.0 i.1).batch) is t)
+    ∙ sym (append_assoc (given_of s i.0 i.1).sends (story (after_events s (given_of s i.0 i.1).batch) is).sends
+    (given_of (story (after_events s (given_of s i.0 i.1).batch) is).state t.0 t.1).sends)
 
 pub datagrams_more : (xs ys : List (ℕ × Send)) → datagrams xs ++ datagrams ys ≡ datagrams (xs ++ ys)
 datagrams_more [] ys = refl
@@ -64,7 +64,7 @@ grew_both (Some old) xs (Some mid) ys (Some new) g h = h
     ∙ (ap (λ (zs : List Handed). zs ++ ys) g ∙ append_assoc old xs ys)
 
 handed_both : (os ps : List (ℕ × List ℕ)) (fs gs : List Bool) → length fs ≡ length os
-    → handed os fs ++ handed ps gs ≡ handed (os ++ ps) (fs ++ gs)
+    → handed_as os fs ++ handed_as ps gs ≡ handed_as (os ++ ps) (fs ++ gs)
 handed_both [] ps [] gs e = refl
 handed_both [] ps (f ∷ fs) gs e = absurd (omega (arith, e))
 handed_both (o ∷ os) ps [] gs e = absurd (omega (arith, e))
@@ -82,7 +82,7 @@ all_handed_both told mid new os ps n m a b = record {
   each = omega (arith, a.each, b.each, length-append a.flags b.flags, length-append os ps);
   count = omega (arith, a.count, b.count, refused_both a.flags b.flags);
   grew = subst (λ (hs : List Handed). Grew told hs new) (handed_both os ps a.flags b.flags a.each)
-      (grew_both told (handed os a.flags) mid (handed ps b.flags) new a.grew b.grew);
+      (grew_both told (handed_as os a.flags) mid (handed_as ps b.flags) new a.grew b.grew);
 }
 
 -- nothing was taken yet, and what was owed at first was handed over
@@ -110,7 +110,7 @@ pub run_more : (size now_size : ℕ) (left mid left_then : Option (List Answer))
     → more ≡ min (unsent + refused) (2 ^ 64 - 1)
     → HasRun size left s owed told turns unsent mid now_s mid_told
     → (t : ℕ × Input) × GaveAll now_size mid (comes t.0 t.1 ∷ []) left_then
-        × IsTaken now_s t.0 t.1 mid_told refused s_then told_then
+    × IsTaken now_s t.0 t.1 mid_told refused s_then told_then
     → HasRun size left s owed told (turns + 1) more left_then s_then told_then
 run_more size now_size left mid left_then s now_s s_then owed told mid_told told_then turns unsent more refused same is
     h one =
@@ -122,30 +122,31 @@ run_more size now_size left mid left_then s now_s s_then owed told mid_told told
           (gave_all_more size left (given_answers h.inputs) mid (comes t.0 t.1 ∷ []) left_then h.gave
           (subst (λ (n : ℕ). GaveAll n mid (comes t.0 t.1 ∷ []) left_then) same one.1));
       number = omega (arith, h.number, length-append h.inputs (t ∷ []));
-      state = taken.state ∙ (ap (λ (x : ShowState). after_events x (given x t.0 t.1).batch) h.state
+      state = taken.state ∙ (ap (λ (x : ShowState). after_events x (given_of x t.0 t.1).batch) h.state
           ∙ sym (story_state s h.inputs t));
       refused = h.refused + refused;
       handed = subst (λ (os : List (ℕ × List ℕ)). AllHanded told os (h.refused + refused) told_then) (sends_are t)
           (all_handed_both told mid_told told_then (owed ++ datagrams (story s h.inputs).sends)
-          (datagrams (given now_s t.0 t.1).sends) h.refused refused h.handed taken.handed);
+          (datagrams (given_of now_s t.0 t.1).sends) h.refused refused h.handed taken.handed);
       counted = omega (arith, is, h.counted);
     }
   where
-    sends_are : (t : ℕ × Input) → (owed ++ datagrams (story s h.inputs).sends) ++ datagrams (given now_s t.0 t.1).sends
+    sends_are : (t : ℕ × Input)
+        → (owed ++ datagrams (story s h.inputs).sends) ++ datagrams (given_of now_s t.0 t.1).sends
         ≡ owed ++ datagrams (story s (h.inputs ++ t ∷ [])).sends
     sends_are t =
-        append_assoc owed (datagrams (story s h.inputs).sends) (datagrams (given now_s t.0 t.1).sends)
+        append_assoc owed (datagrams (story s h.inputs).sends) (datagrams (given_of now_s t.0 t.1).sends)
         ∙ ap (λ (os : List (ℕ × List ℕ)). owed ++ os)
-        (datagrams_more (story s h.inputs).sends (given now_s t.0 t.1).sends
+        (datagrams_more (story s h.inputs).sends (given_of now_s t.0 t.1).sends
         ∙ ap (λ (xs : List (ℕ × Send)). datagrams xs)
-        (ap (λ (x : ShowState). (story s h.inputs).sends ++ (given x t.0 t.1).sends) h.state
-            ∙ sym (story_sends s h.inputs t)))
+        (ap (λ (x : ShowState). (story s h.inputs).sends ++ (given_of x t.0 t.1).sends) h.state
+        ∙ sym (story_sends s h.inputs t)))
 
 -- what did not change was taken as it was
 pub still : (size : ℕ) (left mid : Option (List Answer)) (s now_s s_then : ShowState) (owed : List (ℕ × List ℕ))
     (told mid_told told_then : Option (List Handed)) (turns unsent : ℕ)
     → HasRun size left s owed told turns unsent mid now_s mid_told → s_then ≡ now_s → told_then ≡ mid_told
-        → HasRun size left s owed told turns unsent mid s_then told_then
+    → HasRun size left s owed told turns unsent mid s_then told_then
 still size left mid s now_s s_then owed told mid_told told_then turns unsent h same_s same_told =
     subst (λ (x : ShowState). HasRun size left s owed told turns unsent mid x told_then) (sym same_s)
     (subst (λ (x : Option (List Handed)). HasRun size left s owed told turns unsent mid now_s x) (sym same_told) h)
@@ -154,7 +155,7 @@ module _ {D : Type 0} {disk : Ghosts D} where
   -- the end of a source
   pub ended_there : (size now_size asked turns : ℕ) (old new : Keeper D disk) (mid left_then : Option (List Answer))
       → now_size ≡ size → GaveAll now_size mid (ends ∷ []) left_then
-          → EndedBy size asked turns None old new mid left_then
+      → EndedBy size asked turns None old new mid left_then
   ended_there size now_size asked turns old new mid left_then same gave =
       inr (subst (λ (n : ℕ). GaveAll n mid (ends ∷ []) left_then) same gave)
 
@@ -179,9 +180,9 @@ module _ {D : Type 0} {disk : Ghosts D} where
             let first = works.keeps.first_honest.1 first in
             let second = works.keeps.second_honest.1 second in
             left_now disk.moment disk.held disk.held_at (kept.first_of met) (kept.second_of met) (kept.first_of new)
-                (kept.second_of new) s (after_events s (given s turn.0.now turn.0.input).batch)
+            (kept.second_of new) s (after_events s (given_of s turn.0.now turn.0.input).batch)
             (now (kept.first_of new) (pair.first_honest.1 first))
-                (now (kept.second_of new) (pair.second_honest.1 second))
+            (now (kept.second_of new) (pair.second_honest.1 second))
             (pair.any_moment first second (works.broken ∙ working));
       }))
 
@@ -192,22 +193,23 @@ module _ {D : Type 0} {disk : Ghosts D} where
   keeps_after size fault.Source old met new mid left_then told told_then works turn =
       subst (λ (x : Keeper D disk). Keeps old x) (sym turn.1) works.keeps
   keeps_after size (fault.Engine f) old met new mid left_then told told_then works turn =
-      keeps_on old met new (given (kept.state_of met) turn.0.now turn.0.input).batch (Some f) works.keeps turn.0.accepts
+      keeps_on old met new (given_of (kept.state_of met) turn.0.now turn.0.input).batch (Some f) works.keeps
+      turn.0.accepts
 
   pub works_after : (size : ℕ) (why : RunFault) (old met new : Keeper D disk) (mid left_then : Option (List Answer))
       (told told_then : Option (List Handed))
       → Works old met → Turned size (Err why) met new mid left_then told told_then
-          → (Some why ≡ Some (fault.Engine Disk) → ⊥) → Works old new
+      → (Some why ≡ Some (fault.Engine Disk) → ⊥) → Works old new
   works_after size fault.Source old met new mid left_then told told_then works turn other =
       subst (λ (x : Keeper D disk). Works old x) (sym turn.1) works
   works_after size (fault.Engine f) old met new mid left_then told told_then works turn other =
-      works_still old met new (given (kept.state_of met) turn.0.now turn.0.input).batch f works turn.0.accepts
-          (λ is. other (ap (λ (x : Fault). Some (fault.Engine x)) is))
+      works_still old met new (given_of (kept.state_of met) turn.0.now turn.0.input).batch f works turn.0.accepts
+      (λ is. other (ap (λ (x : Fault). Some (fault.Engine x)) is))
 
   -- state and wire are as they were
   pub state_after : (size : ℕ) (why : RunFault) (met new : Keeper D disk) (mid left_then : Option (List Answer))
       (told told_then : Option (List Handed))
       → Turned size (Err why) met new mid left_then told told_then → (kept.state_of new ≡ kept.state_of met)
-          × (told_then ≡ told)
+      × (told_then ≡ told)
   state_after size fault.Source met new mid left_then told told_then turn = (ap kept.state_of turn.1, turn.2)
   state_after size (fault.Engine f) met new mid left_then told told_then turn = (turn.0.accepts.state, turn.1)

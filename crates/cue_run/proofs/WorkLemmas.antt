@@ -24,12 +24,17 @@ module _ {D : Type 0} {disk : Ghosts D} where
   -- nothing was called yet
   pub begins : (old new : Keeper D disk) → new ≡ old
       → (disk.is_honest (first_of old) → disk.is_honest (second_of old) → is_broken old ≡ false
-          → StandsAs (disk.held (first_of old)) (disk.held (second_of old)) (state_of old))
+      → StandsAs (disk.held (first_of old)) (disk.held (second_of old)) (state_of old))
       → Works old new
   begins old new same stands = subst (λ (x : Keeper D disk). Works old x) (sym same)
       (record {
-        keeps = record { first_failures = omega arith; second_failures = omega arith; first_honest =
-            (λ h. h, λ h. h); second_honest = (λ h. h, λ h. h) };
+        keeps = record {
+          first_failures = omega arith;
+          second_failures = omega arith;
+          first_honest =
+              (λ h. h, λ h. h);
+          second_honest = (λ h. h, λ h. h);
+        };
         broken = refl;
         stands = stands;
       })
@@ -78,7 +83,7 @@ module _ {D : Type 0} {disk : Ghosts D} where
             subst (λ (x : D). StandsAs (disk.held x) (disk.held (second_of new)) (state_of new)) (sym first)
             (subst (λ (x : D). StandsAs (disk.held (first_of mid)) (disk.held x) (state_of new)) (sym second)
             (subst (λ (s : ShowState). StandsAs (disk.held (first_of mid)) (disk.held (second_of mid)) s)
-                (sym accepts.state) (works.stands a b working)));
+            (sym accepts.state) (works.stands a b working)));
       }
 
   -- no call was made

@@ -14,7 +14,7 @@ use Rattle.cue_keeper.specs.Observed as kept
 use Rattle.cue_outbox.specs.Sending.{datagrams}
 use Rattle.cue_engine.specs.declared.engine.Engine.{Engine}
 use Rattle.cue_engine.specs.Words.{keeper_of, state_of, queue_of}
-use Rattle.cue_engine.specs.Given.{Input, given}
+use Rattle.cue_engine.specs.Given.{Input, given_of}
 use Rattle.cue_engine.specs.Runs.{took, Story, run}
 use Rattle.cue_engine.specs.Wires.{Handed, AllHanded}
 use Rattle.cue_run.specs.declared.turns.Ended.{Ended}
@@ -32,8 +32,8 @@ story s inputs = run s (map (λ t. took t.0 t.1) inputs)
 -- an input was taken, and all that it owes was handed over
 pub record IsTaken (s : ShowState) (now : ℕ) (input : Input) (told : Option (List Handed)) (refused : ℕ)
     (s_then : ShowState) (told_then : Option (List Handed)) : Type 0 where
-  pub state : s_then ≡ after_events s (given s now input).batch
-  pub handed : AllHanded told (datagrams (given s now input).sends) refused told_then
+  pub state : s_then ≡ after_events s (given_of s now input).batch
+  pub handed : AllHanded told (datagrams (given_of s now input).sends) refused told_then
 
 -- So far these inputs were taken, as the source gave them, and what was owed at first and what they owe was handed
 -- over.
@@ -75,14 +75,14 @@ pub record TakesNext {D : Type 0} {disk : Ghosts D} (size : ℕ) (refused : Opti
   pub now : ℕ
   pub input : Input
   pub came : GaveAll size left (comes now input ∷ []) left_then
-  pub accepts : Accepts (given (kept.state_of old) now input).batch refused old new
+  pub accepts : Accepts (given_of (kept.state_of old) now input).batch refused old new
 
 -- one turn, by how it went
 abbrev pub Turned : {D : Type 0} {disk : Ghosts D} → ℕ → Result (Option ℕ) RunFault → (old new : Keeper D disk)
     → (left left_then : Option (List Answer)) (told told_then : Option (List Handed)) → Type 0
 Turned size (Ok (Some refused)) old new left left_then told told_then =
     (next : TakesNext size None old new left left_then)
-    × AllHanded told (datagrams (given (kept.state_of old) next.now next.input).sends) refused told_then
+    × AllHanded told (datagrams (given_of (kept.state_of old) next.now next.input).sends) refused told_then
 Turned size (Ok None) old new left left_then told told_then =
     GaveAll size left (ends ∷ []) left_then × (new ≡ old) × (told_then ≡ told)
 Turned size (Err fault.Source) old new left left_then told told_then =
@@ -102,7 +102,7 @@ pub record Refuses {D : Type 0} {disk : Ghosts D} (size : ℕ) (f : Fault) (old 
       → disk.is_honest (kept.second_of old)
       → kept.is_broken old ≡ false
       → LeavesEither (disk.held (kept.first_of new)) (disk.held (kept.second_of new)) (kept.state_of met)
-      (after_events (kept.state_of met) (given (kept.state_of met) next.now next.input).batch)
+      (after_events (kept.state_of met) (given_of (kept.state_of met) next.now next.input).batch)
 
 -- Why a run ended. Memory is also the end of one that had none for its buffer, and asked nothing of the source.
 abbrev pub EndedBy : {D : Type 0} {disk : Ghosts D} → (size asked turns : ℕ) → Option RunFault

@@ -12,10 +12,10 @@ pub data Try : Type 0 where
   breaks : Try
 
 -- what a try answered
-abbrev pub tried : Result (Option Turn) Error → Try
-tried (Ok None) = passes
-tried (Ok (Some turn)) = brings turn
-tried (Err error) = breaks
+abbrev pub try_of : Result (Option Turn) Error → Try
+try_of (Ok None) = passes
+try_of (Ok (Some turn)) = brings turn
+try_of (Err error) = breaks
 
 -- the first of the tries that are left; after them each one fails
 abbrev pub first_try : List Try → Try

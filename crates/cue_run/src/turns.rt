@@ -3,7 +3,7 @@ ghost use Rattle.std.specs.Prelude.{◌≡◌, [], length, MatchResult};
 ghost use Rattle.std.specs.Result.{result_err};
 ghost use Rattle.cue_keeper.specs.Accepting.{Accepts};
 ghost use Rattle.cue_outbox.specs.Sending.{datagrams};
-ghost use Rattle.cue_engine.specs.Given.{given};
+ghost use Rattle.cue_engine.specs.Given.{given_of};
 ghost use Rattle.cue_engine.specs.Inputs.{input_view};
 ghost use Rattle.cue_engine.specs.Wires.{AllHanded};
 ghost use Rattle.cue_engine.specs.Words.{keeper_of, state_of, queue_of};
@@ -47,11 +47,11 @@ fn take_one<D: Disk, W: Wire>(
     input: Input<'_>,
 ) -> Result<u64, Fault>
     requires { queue_of engine.old ≡ [] }
-    ensures accepts { Accepts (given (state_of engine.old) now (input_view input.entry)).batch (result_err result)
+    ensures accepts { Accepts (given_of (state_of engine.old) now (input_view input.entry)).batch (result_err result)
         (keeper_of engine.old) (keeper_of engine.new) }
     ensures handed { MatchResult result
         (λ refused. AllHanded (W.told wire.old)
-        (datagrams (given (state_of engine.old) now (input_view input.entry)).sends) refused (W.told wire.new))
+        (datagrams (given_of (state_of engine.old) now (input_view input.entry)).sends) refused (W.told wire.new))
         (λ _. W.told wire.new ≡ W.told wire.old) }
     ensures emptied { queue_of engine.new ≡ [] }
 {

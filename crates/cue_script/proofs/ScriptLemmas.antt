@@ -11,14 +11,14 @@ use Rattle.cue_core.specs.Steps.{after_events}
 use Rattle.cue_keeper.specs.Stands.{Stands}
 use Rattle.cue_keeper.proofs.StandingLemmas.{one_state}
 use Rattle.cue_outbox.specs.Sending.{Send, datagram, datagrams, all_pending}
-use Rattle.cue_core.specs.Batches.{closed}
+use Rattle.cue_core.specs.Batches.{closed_state}
 use Rattle.cue_engine.specs.Recovery.{ClosedFrom}
 use Rattle.cue_engine.specs.declared.mem_wire.Sent.{Sent}
 use Rattle.cue_engine.specs.Runs.{Happening, recovered, given_at, run}
 use Rattle.cue_engine.specs.Told.{sents_view}
-use Rattle.cue_engine.specs.Wires.{Handed, handed, AllHanded}
+use Rattle.cue_engine.specs.Wires.{Handed, handed_as, AllHanded}
 use Rattle.cue_disk.specs.Disk.{Contents}
-use Rattle.cue_disk.specs.Effect.{settled}
+use Rattle.cue_disk.specs.Effect.{settled_contents}
 use Rattle.cue_log.specs.Area.{IsAbsent}
 use Rattle.cue_snap.specs.Pair.{SomeIsThere}
 use Rattle.cue_script.specs.declared.entry.TheConstants.{SCRIPT_LIMIT}
@@ -32,7 +32,7 @@ use Rattle.cue_script.specs.Endings.{can_come, ending_line, status_of, store_sta
 use Rattle.cue_script.specs.ScriptLines.{lines_of, happening_in}
 use Rattle.cue_script.specs.ScriptViews.{sent_view}
 use Rattle.cue_script.specs.Playing.{Goes, EndsAt, EndsUnheard}
-use Rattle.cue_script.specs.Script.{line_of, printed, output, Ran, Wrote, HasRun}
+use Rattle.cue_script.specs.Script.{line_of, printed_lines, output, Ran, Wrote, HasRun}
 
 pub appends_none : (old : Option (List ℕ)) → Appends old old []
 appends_none None = tt
@@ -48,34 +48,34 @@ appends_both (Some old) (Some mid) (Some new) first then one two = two ∙ ap (�
 
 -- ---- what is printed
 
-printed-append : (xs ys : List (ℕ × List ℕ)) → printed (xs ++ ys) ≡ printed xs ++ printed ys
+printed-append : (xs ys : List (ℕ × List ℕ)) → printed_lines (xs ++ ys) ≡ printed_lines xs ++ printed_lines ys
 printed-append xs ys = flat_map-append line_of xs ys
 
 -- a datagram more was printed
 pub printed_more : (all : List Sent) (i : ℕ) (d : Sent) → i < length all
-    → printed (map sent_view (take (i + 1) all)) ≡ printed (map sent_view (take i all)) ++ line_of
+    → printed_lines (map sent_view (take (i + 1) all)) ≡ printed_lines (map sent_view (take i all)) ++ line_of
     (sent_view (slice_index_or all i d))
 printed_more all i d low =
-    ap (λ (xs : List Sent). printed (map sent_view xs)) (take_more all i d low)
-    ∙ ap printed (map-append sent_view (take i all) (slice_index_or all i d ∷ []))
+    ap (λ (xs : List Sent). printed_lines (map sent_view xs)) (take_more all i d low)
+    ∙ ap printed_lines (map-append sent_view (take i all) (slice_index_or all i d ∷ []))
     ∙ printed-append (map sent_view (take i all)) (sent_view (slice_index_or all i d) ∷ [])
-    ∙ ap (λ (t : List ℕ). printed (map sent_view (take i all)) ++ t)
-        (append-nil (line_of (sent_view (slice_index_or all i d))))
+    ∙ ap (λ (t : List ℕ). printed_lines (map sent_view (take i all)) ++ t)
+    (append-nil (line_of (sent_view (slice_index_or all i d))))
 
 pub printed_step : (all : List Sent) (i : ℕ) (d : Sent) (old new : List ℕ) → i < length all → d ≡ slice_index_or all i d
-    → old ≡ printed (map sent_view (take i all)) → new ≡ old ++ line_of (sent_view d)
-    → new ≡ printed (map sent_view (take (i + 1) all))
+    → old ≡ printed_lines (map sent_view (take i all)) → new ≡ old ++ line_of (sent_view d)
+    → new ≡ printed_lines (map sent_view (take (i + 1) all))
 printed_step all i d old new low is before more =
     more ∙ ap (λ (t : List ℕ). t ++ line_of (sent_view d)) before
-        ∙ ap (λ (x : Sent). printed (map sent_view (take i all)) ++ line_of (sent_view x)) is
-        ∙ sym (printed_more all i d low)
+    ∙ ap (λ (x : Sent). printed_lines (map sent_view (take i all)) ++ line_of (sent_view x)) is
+    ∙ sym (printed_more all i d low)
 
 -- a datagram that was handed over, without what became of it
 abbrev pub sent_of : Handed → ℕ × List ℕ
 sent_of h = (h.to, h.bytes)
 
 handed-all : (queue : List (ℕ × List ℕ)) (flags : List Bool) → length flags ≡ length queue
-    → map sent_of (handed queue flags) ≡ queue
+    → map sent_of (handed_as queue flags) ≡ queue
 handed-all [] flags same = refl
 handed-all (o ∷ os) [] same = absurd (omega arith)
 handed-all (o ∷ os) (f ∷ fs) same = ap (λ (xs : List (ℕ × List ℕ)). o ∷ xs) (handed-all os fs (omega arith))
@@ -93,7 +93,7 @@ told_whole queue n (Some xs) (Some ys) all none each is =
     let empty : xs ≡ [] = cc in
     let same : ys ≡ sents_view all = cc in
     sym (sents-all all) ∙ ap (map sent_of) (sym same ∙ each.grew
-        ∙ ap (λ (zs : List Handed). zs ++ handed queue each.flags) empty) ∙ handed-all queue each.flags each.each
+    ∙ ap (λ (zs : List Handed). zs ++ handed_as queue each.flags) empty) ∙ handed-all queue each.flags each.each
 
 -- ---- what happened
 
@@ -110,61 +110,68 @@ pub run-more-sends : (s : ShowState) (hs : List Happening) (h : Happening)
 run-more-sends s [] h = append-nil (given_at s h).sends
 run-more-sends s (g ∷ gs) h =
     ap (λ (xs : List (ℕ × Send)). (given_at s g).sends ++ xs)
-        (run-more-sends (after_events s (given_at s g).batch) gs h)
+    (run-more-sends (after_events s (given_at s g).batch) gs h)
     ∙ sym (append_assoc (given_at s g).sends (run (after_events s (given_at s g).batch) gs).sends
-        (given_at (run (after_events s (given_at s g).batch) gs).state h).sends)
+    (given_at (run (after_events s (given_at s g).batch) gs).state h).sends)
 
 pub output-none : (s : ShowState) → output s [] ≡ []
 unfolding output
 output-none s = refl
 
 pub output-more : (s : ShowState) (hs : List Happening) (h : Happening)
-    → output s (hs ++ h ∷ []) ≡ output s hs ++ printed (datagrams (given_at (run s hs).state h).sends)
+    → output s (hs ++ h ∷ []) ≡ output s hs ++ printed_lines (datagrams (given_at (run s hs).state h).sends)
 unfolding output
 output-more s hs h =
-    ap (λ (xs : List (ℕ × Send)). printed (datagrams xs)) (run-more-sends s hs h)
-    ∙ ap printed (map-append datagram (run s hs).sends (given_at (run s hs).state h).sends)
+    ap (λ (xs : List (ℕ × Send)). printed_lines (datagrams xs)) (run-more-sends s hs h)
+    ∙ ap printed_lines (map-append datagram (run s hs).sends (given_at (run s hs).state h).sends)
     ∙ printed-append (datagrams (run s hs).sends) (datagrams (given_at (run s hs).state h).sends)
 
 -- what recovery makes of bytes that stand for a state
 pub closed_state : (s t : ShowState) (x y : List ℕ) → Stands x y s → ClosedFrom x y t
     → t ≡ after_events s (given_at s recovered).batch
-unfolding closed
-closed_state s t x y stands from = from.is ∙ ap closed (one_state x y from.before s from.stood stands)
+unfolding closed_state
+closed_state s t x y stands from = from.is ∙ ap closed_state (one_state x y from.before s from.stood stands)
 
 pub closed_sends : (s t : ShowState) (x y : List ℕ) (queue : List (ℕ × List ℕ)) → Stands x y s → ClosedFrom x y t
     → queue ≡ datagrams (all_pending t) → queue ≡ datagrams (given_at s recovered).sends
 closed_sends s t x y queue stands from owes = owes
     ∙ ap (λ (u : ShowState). datagrams (all_pending u)) (from.is
-    ∙ ap closed (one_state x y from.before s from.stood stands))
+    ∙ ap closed_state (one_state x y from.before s from.stood stands))
 
 -- ---- the lines of a text
 
 -- The first lines of a text were run, those of the rest are left, and this is the state.
 pub record IsRunning (first : ShowState) (text rest : List ℕ) (state : ShowState) (old new : Option (List ℕ)) : Type 0
-    where
-  pub happened : List Happening
-  pub lines : List (List ℕ)
-  pub all : lines_of text ≡ lines ++ lines_of rest
-  pub each : map happening_in lines ≡ map Some happened
-  pub is : state ≡ (run first happened).state
-  pub wrote : Appends old new (output first happened)
+  where
+    pub happened : List Happening
+    pub lines : List (List ℕ)
+    pub all : lines_of text ≡ lines ++ lines_of rest
+    pub each : map happening_in lines ≡ map Some happened
+    pub is : state ≡ (run first happened).state
+    pub wrote : Appends old new (output first happened)
 
 pub running_first : (first : ShowState) (text : List ℕ) (old : Option (List ℕ))
     → IsRunning first text text first old old
 running_first first text old =
     let P : List ℕ → Type 0 = λ t. Appends old old t in
-    record { happened = []; lines = []; all = refl; each = refl; is = refl; wrote =
-        subst P (sym (output-none first)) (appends_none old) }
+    record {
+      happened = [];
+      lines = [];
+      all = refl;
+      each = refl;
+      is = refl;
+      wrote =
+          subst P (sym (output-none first)) (appends_none old);
+    }
 
 -- a line more was run
 pub running_more : (first : ShowState) (text rest others line : List ℕ) (s t : ShowState)
     (old mid new : Option (List ℕ)) →
     IsRunning first text rest s old mid → lines_of rest ≡ line ∷ lines_of others → Goes line s t mid new
-        → IsRunning first text others t old new
+    → IsRunning first text others t old new
 running_more first text rest others line s t old mid new held split goes =
     let P : List ℕ → Type 0 = λ out. Appends old new out in
-    let Q : ShowState → Type 0 = λ u. Appends mid new (printed (datagrams (given_at u goes.happening).sends)) in
+    let Q : ShowState → Type 0 = λ u. Appends mid new (printed_lines (datagrams (given_at u goes.happening).sends)) in
     record {
       happened = held.happened ++ goes.happening ∷ [];
       lines = held.lines ++ line ∷ [];
@@ -173,7 +180,7 @@ running_more first text rest others line s t old mid new held split goes =
       each = map-append happening_in held.lines (line ∷ [])
           ∙ ap (λ (xs : List (Option Happening)). xs ++ happening_in line ∷ []) held.each
           ∙ ap (λ (x : Option Happening). map Some held.happened ++ x ∷ []) goes.tells
-              ∙ sym (map-append Some held.happened (goes.happening ∷ []));
+          ∙ sym (map-append Some held.happened (goes.happening ∷ []));
       is = goes.is ∙ ap (λ (u : ShowState). after_events u (given_at u goes.happening).batch) held.is
           ∙ sym (run-more-state first held.happened goes.happening);
       wrote = subst P (sym (output-more first held.happened goes.happening))
@@ -184,8 +191,8 @@ running_more first text rest others line s t old mid new held split goes =
 pub goes_behind : {T E : Type 0} (r : Result T E) (state : T → ShowState) (line : List ℕ) (h : Happening)
     (s : ShowState) (old new : Option (List ℕ)) → happening_in line ≡ Some h →
     IfOk r (λ next. state next ≡ after_events s (given_at s h).batch)
-        → OnOk r (Appends old new (printed (datagrams (given_at s h).sends)))
-        → IfOk r (λ next. Goes line s (state next) old new)
+    → OnOk r (Appends old new (printed_lines (datagrams (given_at s h).sends)))
+    → IfOk r (λ next. Goes line s (state next) old new)
 goes_behind (Ok next) state line h s old new tells is wrote =
     record { happening = h; tells = tells; is = is; wrote = wrote }
 goes_behind (Err ending) state line h s old new tells is wrote = tt
@@ -222,17 +229,27 @@ ran first text rest left s old new held is short =
 pub ran_until : (ending : Ending) (first : ShowState) (text rest others line : List ℕ) (s : ShowState)
     (old mid new : Option (List ℕ)) →
     IsRunning first text rest s old mid → lines_of rest ≡ line ∷ lines_of others → length text ≤ SCRIPT_LIMIT
-        → EndsAt ending line mid new → Wrote ending first text [] old new
+    → EndsAt ending line mid new → Wrote ending first text [] old new
 ran_until Done first text rest others line s old mid new held split short ends = absurd ends
 ran_until BadLine first text rest others line s old mid new held split short ends =
     let P : Option (List ℕ) → Type 0 = λ now. Ran first text (line ∷ lines_of others) [] old now in
-    record { bad = line; others = lines_of others; no_form = ends.0; ran =
-        subst P (sym ends.1) (ran first text rest (line ∷ lines_of others) s old mid held split short) }
+    record {
+      bad = line;
+      others = lines_of others;
+      no_form = ends.0;
+      ran =
+          subst P (sym ends.1) (ran first text rest (line ∷ lines_of others) s old mid held split short);
+    }
 ran_until BadInput first text rest others line s old mid new held split short ends = absurd ends
 ran_until (Failed failure) first text rest others line s old mid new held split short ends =
-    let P : Option (List ℕ) → Type 0 = λ now. Ran first text (line ∷ lines_of others) [] old now in
-    (ends.0, (line ∷ lines_of others, subst P (sym ends.1)
-        (ran first text rest (line ∷ lines_of others) s old mid held split short)))
+    let P : Option (List ℕ) → Type 0 = λ now. Ran first text (line ∷ lines_of others) [] old now in (
+      ends.0,
+      (
+        line ∷ lines_of others,
+        subst P (sym ends.1)
+            (ran first text rest (line ∷ lines_of others) s old mid held split short),
+      ),
+    )
 ran_until (Stopped failure) first text rest others line s old mid new held split short ends = tt
 
 -- a last line behind it
@@ -253,8 +270,13 @@ pub wrote_with : (ending : Ending) (first : ShowState) (text last : List ℕ) (o
     → Wrote ending first text [] old mid → Appends mid new last → Wrote ending first text last old new
 wrote_with Done first text last old mid new held more = ran_with first text last [] old mid new held more
 wrote_with BadLine first text last old mid new held more =
-    record { bad = held.bad; others = held.others; no_form = held.no_form; ran =
-    ran_with first text last (held.bad ∷ held.others) old mid new held.ran more }
+    record {
+      bad = held.bad;
+      others = held.others;
+      no_form = held.no_form;
+      ran =
+          ran_with first text last (held.bad ∷ held.others) old mid new held.ran more;
+    }
 wrote_with BadInput first text last old mid new held more = (held.0, appends_both old mid new [] last held.1 more)
 wrote_with (Failed failure) first text last old mid new held more =
     (held.0, (held.1.0, ran_with first text last held.1.0 old mid new held.1.1 more))
@@ -291,9 +313,14 @@ too_long (Some text) first old long = (long, appends_none old)
 -- nothing was run where no engine was formed, and two new disks are refused for want of memory, or by themselves
 pub not_formed : (fault : StoreFault) (first : ShowState) (text : List ℕ) (old : Option (List ℕ))
     → length text ≤ SCRIPT_LIMIT → can_come (Store fault) ≡ true → Wrote (Failed (Store fault)) first text [] old old
-not_formed fault first text old short comes =
-    (comes, (lines_of text, ran first text text (lines_of text) first old old (running_first first text old) refl
-    short))
+not_formed fault first text old short comes = (
+  comes,
+  (
+    lines_of text,
+    ran first text text (lines_of text) first old old (running_first first text old) refl
+        short,
+  ),
+)
 
 pub has_run : (known : Option (List ℕ)) (ending : Ending) (first : ShowState) (line : List ℕ) (status : ℕ)
     (old mid new : Option (List ℕ)) → IfSome known (λ text. Wrote ending first text [] old mid)
@@ -302,8 +329,12 @@ pub has_run : (known : Option (List ℕ)) (ending : Ending) (first : ShowState) 
 has_run None ending first line status old mid new wrote is last ends = tt
 has_run (Some text) ending first line status old mid new wrote is last ends =
     let P : List ℕ → Type 0 = λ l. Appends mid new l in
-    record { ending = ending; is = ends; wrote = wrote_with ending first text (ending_line ending) old mid new wrote
-        (subst P is last) }
+    record {
+      ending = ending;
+      is = ends;
+      wrote = wrote_with ending first text (ending_line ending) old mid new wrote
+          (subst P is last);
+    }
 
 pub has_stopped : (known : Option (List ℕ)) (failure : StreamFailure) (first : ShowState) (status : ℕ)
     (old new : Option (List ℕ)) → status ≡ status_of (Stopped failure)
@@ -341,13 +372,14 @@ small_status ending status is =
     subst P (sym is) (small ending)
 
 -- an empty disk has no area
-absent : (held : Contents) → held ≡ settled [] → IsAbsent held.bytes
+absent : (held : Contents) → held ≡ settled_contents [] → IsAbsent held.bytes
 absent held is =
     let P : Contents → Type 0 = λ now. IsAbsent now.bytes in
     subst P (sym is) tt
 
 -- two empty disks have none
-pub no_area : (one two : Contents) → one ≡ settled [] → two ≡ settled [] → SomeIsThere one.bytes two.bytes → ⊥
+pub no_area : (one two : Contents) → one ≡ settled_contents [] → two ≡ settled_contents []
+    → SomeIsThere one.bytes two.bytes → ⊥
 no_area one two first second (inl there) = there (absent one first)
 no_area one two first second (inr there) = there (absent two second)
 

@@ -26,16 +26,23 @@ cut_found mark [] place low before here = absurd (omega arith)
 cut_found mark (byte ∷ bytes) zero low before here = rw here refl
 cut_found mark (byte ∷ bytes) (suc place) low before here =
     let next : suc place + 1 ≡ suc (place + 1) = omega arith in
-    rw (no_mark (byte == mark) (before 0 (omega arith)), cut_found mark bytes place (omega arith)
-        (λ k below. before (suc k) (omega arith)) here, next) refl
+    rw (
+      no_mark (byte == mark) (before 0 (omega arith)),
+      cut_found mark bytes place (omega arith)
+          (λ k below. before (suc k) (omega arith)) here,
+      next,
+    ) refl
 
 -- there is no mark
 pub cut_nowhere : (mark : ℕ) (text : List ℕ) → ((k : ℕ) → k < length text → ¬ ((slice_index text k == mark) ≡ true))
     → cut_at mark text ≡ None
 cut_nowhere mark [] nowhere = refl
 cut_nowhere mark (byte ∷ bytes) nowhere =
-    rw (no_mark (byte == mark) (nowhere 0 (omega arith)), cut_nowhere mark bytes
-        (λ k below. nowhere (suc k) (omega arith))) refl
+    rw (
+      no_mark (byte == mark) (nowhere 0 (omega arith)),
+      cut_nowhere mark bytes
+          (λ k below. nowhere (suc k) (omega arith)),
+    ) refl
 
 -- a text that has no line feed is one line, where it is not empty
 abbrev pub whole : List ℕ → List (List ℕ)
@@ -47,7 +54,7 @@ cut_lines cut = cut.0 ∷ lines_of cut.1
 
 onto_cut : (byte : ℕ) (bytes : List ℕ) (found : Option (List ℕ × List ℕ)) →
     onto_first byte (option_map_or cut_lines found (whole bytes)) ≡ option_map_or cut_lines
-        (option_map (before_front byte) found) (whole (byte ∷ bytes))
+    (option_map (before_front byte) found) (whole (byte ∷ bytes))
 onto_cut byte [] None = refl
 onto_cut byte (next ∷ bytes) None = refl
 onto_cut byte bytes (Some cut) = refl
@@ -60,7 +67,7 @@ lines-cut (byte ∷ bytes) = by_feed (lines-cut bytes) (byte == 10)
     by_feed : lines_of bytes ≡ option_map_or cut_lines (cut_at 10 bytes) (whole bytes) → (feed : Bool) →
         (if feed then [] ∷ lines_of bytes else onto_first byte (lines_of bytes))
         ≡ option_map_or cut_lines (if feed then Some ([], bytes) else option_map (before_front byte) (cut_at 10 bytes))
-            (whole (byte ∷ bytes))
+        (whole (byte ∷ bytes))
     by_feed others true = refl
     by_feed others false = rw others (onto_cut byte bytes (cut_at 10 bytes))
 
@@ -78,7 +85,7 @@ pub number_not : (most : ℕ) (digits : List ℕ) (i : ℕ) → i < length digit
     → is_ascii_digit (slice_index digits i) ≡ false → number_in most digits ≡ None
 number_not most digits i low bad =
     let none : all_ascii_digits digits ≡ false = and_fails_at all_ascii_digits is_ascii_digit refl (λ _ _. refl) digits
-        i 0 low bad in
+    i 0 low bad in
     rw none (by_test (not (length digits == 0)))
   where
     by_test : (b : Bool) → (if b && (false && nat_le (digits_value 10 digits) most) then Some (digits_value 10 digits)
@@ -105,7 +112,7 @@ pub digits_more : (digits : List ℕ) (i : ℕ) → i < length digits → all_as
     → is_ascii_digit (slice_index digits i) ≡ true → all_ascii_digits (take (i + 1) digits) ≡ true
 digits_more digits i low before here =
     rw (take_more digits i 0 low) (and_push all_ascii_digits is_ascii_digit refl (λ _ _. refl) (take i digits)
-        (slice_index digits i) ∙ rw (before, here) refl)
+    (slice_index digits i) ∙ rw (before, here) refl)
 
 -- the value of a digit
 pub digit_less : (c : ℕ) → is_ascii_digit c ≡ true → digit_value c + 48 ≡ c

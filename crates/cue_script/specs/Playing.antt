@@ -12,7 +12,7 @@ use Rattle.cue_script.specs.declared.ending.Ending.{Ending}
 use Rattle.cue_script.specs.declared.ending.Ending.TheVariants.{Done, BadLine, BadInput, Failed, Stopped}
 use Rattle.cue_script.specs.Endings.{can_come}
 use Rattle.cue_script.specs.ScriptLines.{happening_in}
-use Rattle.cue_script.specs.Script.{printed}
+use Rattle.cue_script.specs.Script.{printed_lines}
 
 -- an engine that works and owes nothing
 pub record IsReady {D : Type 0} {disk : _} (engine : Engine D disk) : Type 0 where
@@ -30,7 +30,7 @@ pub record Goes (line : List ℕ) (s t : ShowState) (old new : Option (List ℕ)
   pub happening : Happening
   pub tells : happening_in line ≡ Some happening
   pub is : t ≡ after_events s (given_at s happening).batch
-  pub wrote : Appends old new (printed (datagrams (given_at s happening).sends))
+  pub wrote : Appends old new (printed_lines (datagrams (given_at s happening).sends))
 
 -- what happened cannot be carried out, or its output not be written, and that ends the script; nothing is said of the
 -- output where a call of the writer failed

@@ -18,12 +18,12 @@ use Rattle.cue_script.specs.ScriptLines.{lines_of, happening_in}
 abbrev pub line_of : ℕ × List ℕ → List ℕ
 line_of sent = codes "> " ++ (decimal sent.0 ++ (32 ∷ encode_lower sent.1 ++ (10 ∷ [])))
 
-abbrev pub printed : List (ℕ × List ℕ) → List ℕ
-printed sent = flat_map line_of sent
+abbrev pub printed_lines : List (ℕ × List ℕ) → List ℕ
+printed_lines sent = flat_map line_of sent
 
 -- what is written for what happens, from this state on: a line for each datagram that is sent
 unfoldable pub output : ShowState → List Happening → List ℕ
-output first hs = printed (datagrams (run first hs).sends)
+output first hs = printed_lines (datagrams (run first hs).sends)
 
 -- The first lines of a text told of what happened, and the others are left; what is written is the output, and behind
 -- it this last line.

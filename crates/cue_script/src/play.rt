@@ -12,7 +12,7 @@ ghost use Rattle.cue_keeper.specs.Observed.{is_broken};
 ghost use Rattle.cue_script.specs.Endings.{can_come};
 ghost use Rattle.cue_script.specs.ScriptViews.{line_view};
 ghost use Rattle.cue_script.specs.Playing.{IsReady, IsAfter, Goes, EndsAt, EndsUnheard};
-ghost use Rattle.cue_script.specs.Script.{printed, Wrote};
+ghost use Rattle.cue_script.specs.Script.{printed_lines, Wrote};
 ghost use Rattle.cue_script.specs.Streams.{HasCause};
 
 use crate::ending::{Ending, Failure, StreamFailure};
@@ -114,7 +114,7 @@ fn carry_out(
 fn owed_text(alloc: Global, engine: &mut Engine<MemDisk>) -> Result<Vec<u8>, AllocError>
     ensures keeper { keeper_of engine.new ≡ keeper_of engine.old }
     ensures emptied { queue_of engine.new ≡ [] }
-    ensures text { IfOk result (λ text. text.items ≡ printed (queue_of engine.old)) }
+    ensures text { IfOk result (λ text. text.items ≡ printed_lines (queue_of engine.old)) }
 {
     let mut wire = MemWire::new(alloc);
     engine.hand_out(&mut wire);
@@ -134,7 +134,7 @@ fn print_owed<W: Write>(
     requires works { is_broken (keeper_of engine) ≡ false }
     ensures ready { IfOk result (λ next. IsReady next) }
     ensures state { IfOk result (λ next. state_of next ≡ state_of engine) }
-    ensures wrote { OnOk result (Appends (W.contents writer.old) (W.contents writer.new) (printed (queue_of engine))) }
+    ensures wrote { OnOk result (Appends (W.contents writer.old) (W.contents writer.new) (printed_lines (queue_of engine))) }
     ensures ends { IfErr result (λ ending. EndsUnheard ending (W.contents writer.old) (W.contents writer.new)) }
     ensures no_failure { OnOk result (streams.new ≡ streams.old) }
     ensures cause { IfErr result (λ ending. HasCause ending streams.old streams.new) }
@@ -162,7 +162,7 @@ fn run_line<W: Write>(
         (λ next. state_of next ≡ after_events (state_of engine)
         (given_at (state_of engine) (line_view line.now)).batch) }
     ensures wrote { OnOk result (Appends (W.contents writer.old) (W.contents writer.new)
-        (printed (datagrams (given_at (state_of engine) (line_view line.now)).sends))) }
+        (printed_lines (datagrams (given_at (state_of engine) (line_view line.now)).sends))) }
     ensures ends { IfErr result (λ ending. EndsUnheard ending (W.contents writer.old) (W.contents writer.new)) }
     ensures no_failure { OnOk result (streams.new ≡ streams.old) }
     ensures cause { IfErr result (λ ending. HasCause ending streams.old streams.new) }

@@ -1,7 +1,7 @@
 //! The text of what is sent: a line `> PORT HEX` for each datagram.
 ghost use Rattle.std.specs.Prelude.{◌≡◌, ◌++◌, IfOk, OnOk, string_bytes, map};
 ghost use Rattle.cue_script.specs.ScriptViews.{sent_view};
-ghost use Rattle.cue_script.specs.Script.{line_of, printed};
+ghost use Rattle.cue_script.specs.Script.{line_of, printed_lines};
 
 use cue_engine::Sent;
 use std::alloc::{AllocError, Global};
@@ -24,7 +24,7 @@ fn print(alloc: Global, sent: &Sent, text: &mut Vec<u8>) -> Result<(), AllocErro
 
 /// A line for each datagram, in order.
 pub fn print_all(alloc: Global, all: &[Sent]) -> Result<Vec<u8>, AllocError>
-    ensures { IfOk result (λ text. text.items ≡ printed (map sent_view all.now)) }
+    ensures { IfOk result (λ text. text.items ≡ printed_lines (map sent_view all.now)) }
 {
     let mut text = Vec::new(alloc);
     for sent in all {

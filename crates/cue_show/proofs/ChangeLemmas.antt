@@ -33,7 +33,7 @@ pub port_of-without_device : (s : ShowLists) (d q : ℕ) → IsTrue (is_show s)
 port_of-without_device s d q show =
     let t = table_parts s.devices (show_rules s show).table in
     lookup-remove_entry nat_eq_equiv (nat_eq d) (nat_eq_equiv.congr d) q s.devices
-        (IsDistinct-from_are_distinct nat_eq nat_eq_equiv (keys_of s.devices) t.distinct)
+    (IsDistinct-from_are_distinct nat_eq nat_eq_equiv (keys_of s.devices) t.distinct)
 
 -- a device of the table is in range, and so is its port
 pub is_entry-port_of : (s : ShowLists) (d : ℕ) → IsTrue (is_show s)
@@ -41,7 +41,7 @@ pub is_entry-port_of : (s : ShowLists) (d : ℕ) → IsTrue (is_show s)
 is_entry-port_of s d show =
     let t = table_parts s.devices (show_rules s show).table in
     lookup-passes (nat_eq d) is_entry (λ port. IsTrue (is_entry (d, port))) (λ e same entry. let P : ℕ
-        → Type 0 = λ k. is_entry (k, e.1) ≡ true in subst P (sym (eqb-true d e.0 same)) entry) s.devices t.entries
+    → Type 0 = λ k. is_entry (k, e.1) ≡ true in subst P (sym (eqb-true d e.0 same)) entry) s.devices t.entries
 
 -- ---- cues
 
@@ -49,7 +49,7 @@ pub parts_of-with_cue_same : (s : ShowLists) (c : List ℕ) (parts : List Part) 
     → parts_of (with_cue s c parts) c ≡ Some parts
 parts_of-with_cue_same s c parts can =
     let absent = not-true (has_cue s c) (and_parts (not (has_cue s c)) (not (is_full s) && is_cue_of s (c, parts))
-        can).0 in
+    can).0 in
     lookup-push_same (same_text c) s.cues (c, parts) (same_text-itself c) absent
 
 pub parts_of-with_cue_other : (s : ShowLists) (c : List ℕ) (parts : List Part) (q : List ℕ) → same_text q c ≡ false
@@ -62,7 +62,7 @@ pub is_cue_of-parts_of : (s : ShowLists) (c : List ℕ) → IsTrue (is_show s)
 is_cue_of-parts_of s c show =
     let k = stack_parts s s.cues (show_rules s show).stack in
     lookup-passes (same_text c) (is_cue_of s) (λ parts. IsTrue (is_cue_of s (c, parts))) (λ e same cue. let P : List ℕ
-        → Type 0 = λ q. is_cue_of s (q, e.1) ≡ true in subst P (sym (same_text-true c e.0 same)) cue) s.cues k.each
+    → Type 0 = λ q. is_cue_of s (q, e.1) ≡ true in subst P (sym (same_text-true c e.0 same)) cue) s.cues k.each
 
 -- ---- what a look-up in the code finds, of the show s that the caller sees as old
 

@@ -65,8 +65,8 @@ module _ {X : Type 0} where
         by (inl here) later =
             let again : list_any (λ e. same e x) (xs ++ y ∷ ys) ≡ true =
             list_any-append (λ e. same e x) xs (y ∷ ys)
-                ∙ or_right (list_any (λ e. same e x) xs) (same y x || list_any (λ e. same e x) ys)
-                (or_left (same y x) (list_any (λ e. same e x) ys) (laws.symm y x ∙ here)) in
+            ∙ or_right (list_any (λ e. same e x) xs) (same y x || list_any (λ e. same e x) ys)
+            (or_left (same y x) (list_any (λ e. same e x) ys) (laws.symm y x ∙ here)) in
             rw again
         by (inr among) later = and_right (not (list_any (λ e. same e x) (xs ++ y ∷ ys)))
             (are_distinct same (xs ++ y ∷ ys)) (later among)
@@ -111,7 +111,7 @@ module _ {K V : Type 0} where
     where
       by : (b : Bool) → test f.0 ≡ b → is_some (cond (test f.0) (Some f.1) (lookup test fs)) ≡ false
           → (is_some (lookup test fs) ≡ false → lookup test (fs ++ e ∷ []) ≡ Some e.1)
-              → cond (test f.0) (Some f.1) (lookup test (fs ++ e ∷ [])) ≡ Some e.1
+          → cond (test f.0) (Some f.1) (lookup test (fs ++ e ∷ [])) ≡ Some e.1
       by true h missing later =
           absurd (true≢false (sym (ap (λ c. is_some (cond c (Some f.1) (lookup test fs))) h) ∙ missing))
       by false h missing later = rw h (later (sym (ap (λ c. is_some (cond c (Some f.1) (lookup test fs))) h) ∙ missing))
@@ -137,7 +137,7 @@ module _ {K V : Type 0} where
     where
       by : (b : Bool) → same k e.0 ≡ b → is_some (cond (same k e.0) (Some e.1) (lookup (same k) es)) ≡ false
           → (is_some (lookup (same k) es) ≡ false → insert_entry same es k v ≡ es ++ (k, v) ∷ [])
-              → insert_entry same (e ∷ es) k v ≡ (e ∷ es) ++ (k, v) ∷ []
+          → insert_entry same (e ∷ es) k v ≡ (e ∷ es) ++ (k, v) ∷ []
       by true h missing later =
           absurd (true≢false (sym (ap (λ c. is_some (cond c (Some e.1) (lookup (same k) es))) h) ∙ missing))
       by false h missing later =
@@ -184,14 +184,14 @@ module _ {K V : Type 0} where
     are_distinct-remove_entry same (e ∷ es) all =
         let here = and_parts (not (list_any (λ k. same k e.0) (keys_of es))) (are_distinct same (keys_of es)) all in
         by (test e.0) refl (not-true (list_any (λ k. same k e.0) (keys_of es)) here.0) here.1
-            (are_distinct-remove_entry same es here.1)
+        (are_distinct-remove_entry same es here.1)
       where
         by : (b : Bool) → test e.0 ≡ b → list_any (λ k. same k e.0) (keys_of es) ≡ false
             → are_distinct same (keys_of es) ≡ true
             → are_distinct same (keys_of (remove_entry test es)) ≡ true
-                → are_distinct same (keys_of (remove_entry test (e ∷ es))) ≡ true
+            → are_distinct same (keys_of (remove_entry test (e ∷ es))) ≡ true
         by true h first rest kept = rw h rest
         by false h first rest kept =
             rw h (and_from (not (list_any (λ k. same k e.0) (keys_of (remove_entry test es))))
-                (are_distinct same (keys_of (remove_entry test es)))
+            (are_distinct same (keys_of (remove_entry test es)))
             (ap not (list_any-remove_entry (λ k. same k e.0) es first)) kept)

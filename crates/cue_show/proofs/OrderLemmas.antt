@@ -53,9 +53,9 @@ behind_found c f parts others [] after distinct = rw (same_text-itself c)
 behind_found c f parts others (b ∷ bs) after distinct =
     let rest : Cues = bs ++ (c, parts) ∷ (f, others) ∷ after in
     let here = and_parts (not (list_any (λ y. same_text y b.0) (keys_of rest))) (are_distinct same_text (keys_of rest))
-        distinct in
+    distinct in
     let other = fails_at (λ y. same_text y b.0) bs c parts ((f, others) ∷ after)
-        (not-true (list_any (λ y. same_text y b.0) (keys_of rest)) here.0) in
+    (not-true (list_any (λ y. same_text y b.0) (keys_of rest)) here.0) in
     rw other (behind_found c f parts others bs after here.1)
 
 pub following_behind : FollowingStandsBehind
@@ -65,7 +65,7 @@ following_behind s c f show = (found_behind c f s.cues, back)
     back h =
         let k = stack_parts s s.cues (show_rules s show).stack in
         ap (cue_behind c) h.4 ∙ behind_found c f h.2 h.3 h.0 h.1
-            (sym (ap (λ es. are_distinct same_text (keys_of es)) h.4) ∙ k.distinct)
+        (sym (ap (λ es. are_distinct same_text (keys_of es)) h.4) ∙ k.distinct)
 
 module _ {K V : Type 0} (same : K → K → Bool) where
   -- entries of which none passes are all kept
@@ -83,18 +83,20 @@ module _ {K V : Type 0} (same : K → K → Bool) where
   remove_entry-filter laws k (e ∷ es) distinct =
       let here = and_parts (not (list_any (λ y. same y e.0) (keys_of es))) (are_distinct same (keys_of es)) distinct in
       by (same k e.0) refl (not-true (list_any (λ y. same y e.0) (keys_of es)) here.0) (filter-none k es)
-          (remove_entry-filter laws k es here.1)
+      (remove_entry-filter laws k es here.1)
     where
       by : (b : Bool) → same k e.0 ≡ b → list_any (λ y. same y e.0) (keys_of es) ≡ false
           → (list_any (same k) (keys_of es) ≡ false → filter (λ x. not (same k x.0)) es ≡ es)
           → remove_entry (same k) es ≡ filter (λ x. not (same k x.0)) es
-              → remove_entry (same k) (e ∷ es) ≡ filter (λ x. not (same k x.0)) (e ∷ es)
+          → remove_entry (same k) (e ∷ es) ≡ filter (λ x. not (same k x.0)) (e ∷ es)
       by true h once kept later =
           rw h (sym (kept ((λ i. list_any (λ y. (laws.congr k e.0 y h ∙ laws.symm e.0 y) i) (keys_of es)) ∙ once)))
       by false h once kept later = rw h (ap (λ fs. e ∷ fs) later)
 
 pub removals_in_order : RemovalsKeepTheOrder
 removals_in_order s show =
-    let r = show_rules s show in
-    (λ d. remove_entry-filter nat_eq nat_eq_equiv d s.devices (table_parts s.devices r.table).distinct, λ c.
-        remove_entry-filter same_text same_text_equiv c s.cues (stack_parts s s.cues r.stack).distinct)
+    let r = show_rules s show in (
+      λ d. remove_entry-filter nat_eq nat_eq_equiv d s.devices (table_parts s.devices r.table).distinct,
+      λ c.
+          remove_entry-filter same_text same_text_equiv c s.cues (stack_parts s s.cues r.stack).distinct,
+    )

@@ -33,10 +33,10 @@ join-pieces (b ∷ bs) = by (b == 46) refl (pieces-some bs) (join-pieces bs)
         → join_with_byte 46 (pieces bs) ≡ bs → join_with_byte 46 (pieces (b ∷ bs)) ≡ b ∷ bs
     by true is_point some later =
         rw is_point (ap (λ ps. join_with_byte 46 ([] ∷ ps)) some.2 ∙ ap (λ ps. 46 ∷ join_with_byte 46 ps) (sym some.2)
-            ∙ (λ i. sym (eqb-true b 46 is_point) i ∷ later i))
+        ∙ (λ i. sym (eqb-true b 46 is_point) i ∷ later i))
     by false is_point some later =
         rw is_point (ap (λ ps. join_with_byte 46 (onto_first b ps)) some.2 ∙ joined_onto some.0 some.1
-            ∙ ap (λ ps. b ∷ join_with_byte 46 ps) (sym some.2) ∙ ap (λ t. b ∷ t) later)
+        ∙ ap (λ ps. b ∷ join_with_byte 46 ps) (sym some.2) ∙ ap (λ t. b ∷ t) later)
 
 -- a run is one piece
 pieces-run : (run : List ℕ) → list_all is_ascii_digit run ≡ true → pieces run ≡ run ∷ []
@@ -62,7 +62,7 @@ pieces-join run [] all = pieces-run run (digits_of run (and_parts (is_run run) t
 pieces-join run (next ∷ rest) all =
     let here = and_parts (is_run run) (list_all is_run (next ∷ rest)) all in
     pieces-run-point run (join_with_byte 46 (next ∷ rest)) (digits_of run here.0)
-        ∙ ap (λ ps. run ∷ ps) (pieces-join next rest here.1)
+    ∙ ap (λ ps. run ∷ ps) (pieces-join next rest here.1)
 
 from_runs : (text : List ℕ) → (runs : List (List ℕ)) → 0 < length runs → list_all is_run runs ≡ true
     → text ≡ join_with_byte 46 runs → list_all is_run (pieces text) ≡ true

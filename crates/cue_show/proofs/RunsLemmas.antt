@@ -60,12 +60,12 @@ runs_from-pieces a (b ∷ bs) = by (is_ascii_digit b) (b == 46) refl refl (runs_
         → runs_from a (b ∷ bs) ≡ goes_on a (pieces (b ∷ bs))
     by true p is_digit is_point then_true then_false =
         rw (is_digit, no_point b is_digit) (then_true
-            ∙ sym (goes_on-onto_first a b (pieces bs) ∙ ap (λ x. x && goes_on true (pieces bs)) is_digit))
+        ∙ sym (goes_on-onto_first a b (pieces bs) ∙ ap (λ x. x && goes_on true (pieces bs)) is_digit))
     by false true is_digit is_point then_true then_false =
         rw (is_digit, is_point) (ap (λ x. a && x) (then_false ∙ goes_on-false (pieces bs)))
     by false false is_digit is_point then_true then_false =
         rw (is_digit, is_point) (sym (goes_on-onto_first a b (pieces bs)
-            ∙ ap (λ x. x && goes_on true (pieces bs)) is_digit))
+        ∙ ap (λ x. x && goes_on true (pieces bs)) is_digit))
 
 -- a text is runs of digits joined by points exactly where reading it from the front says so
 pub runs_from-start : (bs : List ℕ) → runs_from false bs ≡ list_all is_run (pieces bs)
@@ -75,7 +75,7 @@ runs_from-start bs = runs_from-pieces false bs ∙ goes_on-false (pieces bs)
 pub runs_from-stops : (after_digit : Bool) (text : List ℕ) (i : ℕ) → i < length text
     → is_ascii_digit (get_or text i 0) ≡ false
     → ((get_or text i 0 ≡ 46) × (after_digit ≡ false)) ⊎ (get_or text i 0 ≢ 46)
-        → runs_from after_digit (drop i text) ≡ false
+    → runs_from after_digit (drop i text) ≡ false
 runs_from-stops a text i within not_digit why = rw (drop-cons text i 0 within, not_digit) (by why)
   where
     by : ((get_or text i 0 ≡ 46) × (a ≡ false)) ⊎ (get_or text i 0 ≢ 46)

@@ -71,7 +71,7 @@ devices_in-next parts i p within here =
 pub IsSeen-next : (seen : List Bool) (parts : List Part) (i : ℕ) (p : Part) (d : ℕ)
     → IsSeen seen (devices_in (take i parts)) → i < length parts → p ≡ get_or parts i p
     → d ≡ p.device → d ≤ MAX_DEVICE_NUMBER → get_or seen d false ≡ false
-        → IsSeen (set seen d true) (devices_in (take (i + 1) parts))
+    → IsSeen (set seen d true) (devices_in (take (i + 1) parts))
 IsSeen-next seen parts i p d s within here number in_range new =
     let next = devices_in-next parts i p within here ∙ ap (λ e. devices_in (take i parts) ++ e ∷ []) (sym number) in
     subst (IsSeen (set seen d true)) (sym next) (IsSeen-push seen (devices_in (take i parts)) d s (omega arith) new)
@@ -83,11 +83,11 @@ pub distinct-marked : (seen : List Bool) (parts : List Part) (i : ℕ) (p : Part
 distinct-marked seen parts i p d s within here number in_range marked =
     let halves : parts ≡ take i parts ++ p ∷ drop (suc i) parts =
     sym (take-append-drop i parts)
-        ∙ ap (λ rest. take i parts ++ rest) (drop-cons parts i p within
-        ∙ ap (λ q. q ∷ drop (suc i) parts) (sym here)) in
+    ∙ ap (λ rest. take i parts ++ rest) (drop-cons parts i p within
+    ∙ ap (λ q. q ∷ drop (suc i) parts) (sym here)) in
     let among : is_among p.device (devices_in (take i parts)) ≡ true =
-        ap (λ e. is_among e (devices_in (take i parts))) (sym number) ∙ sym (s.marks d (omega arith)) ∙ marked in
+    ap (λ e. is_among e (devices_in (take i parts))) (sym number) ∙ sym (s.marks d (omega arith)) ∙ marked in
     ap (λ ps. distinct (devices_in ps)) halves
     ∙ ap distinct (map-append (λ (q : Part). q.device) (take i parts) (p ∷ drop (suc i) parts))
     ∙ are_distinct-twice nat_eq nat_eq_equiv (devices_in (take i parts)) p.device (devices_in (drop (suc i) parts))
-        among
+    among

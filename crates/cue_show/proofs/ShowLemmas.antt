@@ -54,14 +54,14 @@ pub record Stack (s : ShowLists) (cues : Cues) : Type 0 where
 pub stack_parts : (s : ShowLists) (cues : Cues) → is_stack_of s cues ≡ true → Stack s cues
 stack_parts s cues stack =
     let first = and_parts (nat_le (length cues) MAX_CUES)
-        (are_distinct same_text (keys_of cues) && list_all (is_cue_of s) cues) stack in
+    (are_distinct same_text (keys_of cues) && list_all (is_cue_of s) cues) stack in
     let rest = and_parts (are_distinct same_text (keys_of cues)) (list_all (is_cue_of s) cues) first.1 in
     record { short = first.0; distinct = rest.0; each = rest.1 }
 
 pub is_stack_of-from : (s : ShowLists) (cues : Cues) → Stack s cues → is_stack_of s cues ≡ true
 is_stack_of-from s cues k =
     and_from (nat_le (length cues) MAX_CUES) (are_distinct same_text (keys_of cues) && list_all (is_cue_of s) cues)
-        k.short
+    k.short
     (and_from (are_distinct same_text (keys_of cues)) (list_all (is_cue_of s) cues) k.distinct k.each)
 
 -- ---- a device more
@@ -73,7 +73,7 @@ is_cue_of-known s t e cue step =
     let first = and_parts (is_cue_number e.0) (are_parts e.1 && are_known s e.1) cue in
     let rest = and_parts (are_parts e.1) (are_known s e.1) first.1 in
     and_from (is_cue_number e.0) (are_parts e.1 && are_known t e.1) first.0
-        (and_from (are_parts e.1) (are_known t e.1) rest.0 (step rest.1))
+    (and_from (are_parts e.1) (are_known t e.1) rest.0 (step rest.1))
 
 pub is_show-with_device : (s : ShowLists) (d port : ℕ) → IsTrue (is_show s) → IsTrue (can_add_device s d port)
     → IsTrue (is_show (with_device s d port))
@@ -82,11 +82,11 @@ is_show-with_device s d port show can =
     let k = stack_parts s s.cues r.stack in
     let asked = and_parts (not (has_device s d)) (is_device d && is_port port) can in
     let absent : list_any (nat_eq d) (keys_of s.devices) ≡ false = sym (is_some-lookup (nat_eq d) s.devices)
-        ∙ not-true (has_device s d) asked.0 in
+    ∙ not-true (has_device s d) asked.0 in
     let new : ShowLists = with_device s d port in
     let known : (parts : List Part) → are_known s parts ≡ true → are_known new parts ≡ true =
     list_all-weaken (λ p. has_device s p.device) (λ p. has_device new p.device)
-        (λ p. is_some-lookup-push (nat_eq p.device) s.devices (d, port)) in
+    (λ p. is_some-lookup-push (nat_eq p.device) s.devices (d, port)) in
     is_show-from new record {
       table = is_table-from new.devices (Table-push s.devices d port (table_parts s.devices r.table) absent asked.1);
       stack = is_stack_of-from new s.cues record {
@@ -110,13 +110,13 @@ are_known-without : (s : ShowLists) (d : ℕ) → are_distinct nat_eq (keys_of s
     → are_known s parts ≡ true → are_known (without_device s d) parts ≡ true
 are_known-without s d distinct parts unused known =
     list_all-from (λ p. has_device s p.device) (λ p. nat_eq p.device d) (λ p. has_device (without_device s d) p.device)
-        stays parts known unused
+    stays parts known unused
   where
     stays : (p : Part) → has_device s p.device ≡ true → nat_eq p.device d ≡ false
         → has_device (without_device s d) p.device ≡ true
     stays p there other =
         ap is_some (lookup-remove_entry nat_eq_equiv (nat_eq d) (nat_eq_equiv.congr d) p.device s.devices
-            (IsDistinct-from_are_distinct nat_eq nat_eq_equiv (keys_of s.devices) distinct))
+        (IsDistinct-from_are_distinct nat_eq nat_eq_equiv (keys_of s.devices) distinct))
         ∙ ap (λ b. is_some (cond b None (lookup (nat_eq p.device) s.devices))) (nat_eq_equiv.symm d p.device ∙ other)
         ∙ there
 
@@ -163,7 +163,7 @@ is_show-with_cue s c parts show can =
     let asked = and_parts (not (has_cue s c)) (not (is_full s) && is_cue_of s (c, parts)) can in
     let room = and_parts (not (is_full s)) (is_cue_of s (c, parts)) asked.1 in
     let absent : list_any (same_text c) (keys_of s.cues) ≡ false = sym (is_some-lookup (same_text c) s.cues)
-        ∙ not-true (has_cue s c) asked.0 in
+    ∙ not-true (has_cue s c) asked.0 in
     let below = leb-false MAX_CUES (length s.cues) (not-true (is_full s) room.0) in
     let new : ShowLists = with_cue s c parts in
     is_show-from new record {
@@ -235,7 +235,7 @@ pub parts_of-without_cue : (s : ShowLists) (c q : List ℕ) → IsTrue (is_show 
 parts_of-without_cue s c q show =
     let k = stack_parts s s.cues (show_rules s show).stack in
     lookup-remove_entry same_text_equiv (same_text c) (same_text_equiv.congr c) q s.cues
-        (IsDistinct-from_are_distinct same_text same_text_equiv (keys_of s.cues) k.distinct)
+    (IsDistinct-from_are_distinct same_text same_text_equiv (keys_of s.cues) k.distinct)
 
 place_after_removal : (s : ShowLists) (c : List ℕ) → IsTrue (is_show s) → (p : Option (List ℕ)) → is_place_of s p ≡ true
     → is_place_of (without_cue s c) (if is_place c p then following s c else p) ≡ true
@@ -298,7 +298,7 @@ device_inserted s old devices d port view show asked inserted =
     let absent = not-true (has_device s d) (and_parts (not (has_device s d)) (is_device d && is_port port) can).0 in
     let last = inserted ∙ insert_entry-absent nat_eq s.devices d port absent in
     made (record s { devices = devices }) s old (λ t. with_device t d port) view
-        (ap (λ (ds : List (ℕ × ℕ)). record s { devices = ds }) last) (is_show-with_device s d port show can)
+    (ap (λ (ds : List (ℕ × ℕ)). record s { devices = ds }) last) (is_show-with_device s d port show can)
 
 pub device_removed : (s old : ShowLists) (devices : List (ℕ × ℕ)) (d : ℕ) → s ≡ old → IsTrue (is_show s)
     → IsTrue (can_remove_device old d)
@@ -307,7 +307,7 @@ device_removed s old devices d view show asked removed =
     let P : ShowLists → Type 0 = λ t. IsTrue (can_remove_device t d) in
     let can = subst P (sym view) asked in
     made (record s { devices = devices }) s old (λ t. without_device t d) view
-        (ap (λ (ds : List (ℕ × ℕ)). record s { devices = ds }) removed) (is_show-without_device s d show can)
+    (ap (λ (ds : List (ℕ × ℕ)). record s { devices = ds }) removed) (is_show-without_device s d show can)
 
 pub cue_inserted : (s old : ShowLists) (cues : Cues) (c : List ℕ) (parts : List Part) → s ≡ old → IsTrue (is_show s)
     → IsTrue (can_add_cue old c parts)
@@ -316,15 +316,15 @@ cue_inserted s old cues c parts view show asked inserted =
     let P : ShowLists → Type 0 = λ t. IsTrue (can_add_cue t c parts) in
     let can = subst P (sym view) asked in
     let absent = not-true (has_cue s c) (and_parts (not (has_cue s c)) (not (is_full s) && is_cue_of s (c, parts))
-        can).0 in
+    can).0 in
     let last = inserted ∙ insert_entry-absent same_text s.cues c parts absent in
     made (record s { cues = cues }) s old (λ t. with_cue t c parts) view
-        (ap (λ (es : Cues). record s { cues = es }) last) (is_show-with_cue s c parts show can)
+    (ap (λ (es : Cues). record s { cues = es }) last) (is_show-with_cue s c parts show can)
 
 pub cue_removed : (s old : ShowLists) (cues : Cues) (place : Option (List ℕ)) (c : List ℕ) → s ≡ old
     → IsTrue (is_show s)
     → cues ≡ remove_entry (same_text c) s.cues → place ≡ (without_cue old c).place
-        → IsMade (record s { cues = cues; place = place }) (without_cue old c)
+    → IsMade (record s { cues = cues; place = place }) (without_cue old c)
 cue_removed s old cues place c view show removed moved =
     made (record s { cues = cues; place = place }) s old (λ t. without_cue t c) view
     (λ i. record s { cues = removed i; place = (moved ∙ sym (ap (λ t. (without_cue t c).place) view)) i })
@@ -335,7 +335,7 @@ pub place_set : (s old : ShowLists) (place : Option (List ℕ)) → s ≡ old �
 place_set s old place view show asked =
     let P : ShowLists → Type 0 = λ t. IsTrue (is_place_of t place) in
     made (record s { place = place }) s old (λ t. with_place t place) view refl
-        (is_show-with_place s place show (subst P (sym view) asked))
+    (is_show-with_place s place show (subst P (sym view) asked))
 
 -- ---- the cue that follows, by its index
 
@@ -353,7 +353,7 @@ cue_behind-position c (e ∷ es) = by (same_text c e.0) refl (cue_behind-positio
         → cue_behind c es ≡ option_map (λ (f : List ℕ × List Part). f.0)
         (slice_get es (suc (position_or_len (same_text c) (keys_of es))))
         → cue_behind c (e ∷ es) ≡ option_map (λ (f : List ℕ × List Part). f.0)
-            (slice_get (e ∷ es) (suc (position_or_len (same_text c) (keys_of (e ∷ es)))))
+        (slice_get (e ∷ es) (suc (position_or_len (same_text c) (keys_of (e ∷ es)))))
     by true same later = rw same (first es)
     by false same later = rw (same, one-add) later
 
@@ -371,12 +371,12 @@ cue_behind-found c es i at =
     let n : ℕ = position_or_len (same_text c) (keys_of es) in
     cue_behind-position c es
     ∙ ap (λ k. option_map (λ (e : List ℕ × List Part). e.0) (slice_get es k))
-        (ap suc (index_found (nat_lt n (length (keys_of es))) n i at) ∙ sym (add-one i))
+    (ap suc (index_found (nat_lt n (length (keys_of es))) n i at) ∙ sym (add-one i))
 
 pub cue_behind-missing : (c : List ℕ) (es : Cues) → None ≡ position (same_text c) (keys_of es) → cue_behind c es ≡ None
 cue_behind-missing c es at =
     let n : ℕ = position_or_len (same_text c) (keys_of es) in
     let past = ltb-false n (length (keys_of es)) (index_missing (nat_lt n (length (keys_of es))) n at) in
     cue_behind-position c es
-        ∙ ap (option_map (λ (e : List ℕ × List Part). e.0))
-        (slice_get_past es (suc n) (omega (arith, length-keys_of es)))
+    ∙ ap (option_map (λ (e : List ℕ × List Part). e.0))
+    (slice_get_past es (suc n) (omega (arith, length-keys_of es)))

@@ -23,7 +23,7 @@ module _ (devices : List (ℕ × ℕ)) where
   pub table_parts : is_table devices ≡ true → Table devices
   table_parts table =
       let parts = and_parts (nat_le (length devices) MAX_DEVICES)
-          (distinct (keys_of devices) && list_all is_entry devices) table in
+      (distinct (keys_of devices) && list_all is_entry devices) table in
       let rest = and_parts (distinct (keys_of devices)) (list_all is_entry devices) parts.1 in
       record { distinct = rest.0; entries = rest.1 }
 
@@ -55,7 +55,7 @@ table_short devices t =
 pub is_table-from : (devices : List (ℕ × ℕ)) → Table devices → is_table devices ≡ true
 is_table-from devices t =
     and_from (nat_le (length devices) MAX_DEVICES) (distinct (keys_of devices) && list_all is_entry devices)
-        (le-leb (length devices) MAX_DEVICES (table_short devices t))
+    (le-leb (length devices) MAX_DEVICES (table_short devices t))
     (and_from (distinct (keys_of devices)) (list_all is_entry devices) t.distinct t.entries)
 
 -- a device that is not in the table goes last

@@ -8,11 +8,11 @@ abbrev pub text_of : List ℕ → ℕ → List ℕ
 text_of bytes len = take len bytes
 
 -- the sixteen bytes of a text
-abbrev pub padded : List ℕ → List ℕ
-padded text = text ++ replicate (MAX_CUE_BYTES - length text) 0
+abbrev pub padded_text : List ℕ → List ℕ
+padded_text text = text ++ replicate (MAX_CUE_BYTES - length text) 0
 
 -- the bytes hold a cue number of that length, and zeros after it
 pub record IsPadded (bytes : List ℕ) (len : ℕ) : Type 0 where
   pub number : IsTrue (is_cue_number (text_of bytes len))
   pub whole : length (text_of bytes len) ≡ len
-  pub zeros : padded (text_of bytes len) ≡ bytes
+  pub zeros : padded_text (text_of bytes len) ≡ bytes

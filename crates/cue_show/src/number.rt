@@ -26,13 +26,13 @@ impl Model for CueNo {
 
     ghost Value = { List ℕ };
 
-    ghost use Rattle.cue_show.specs.Padded.{text_of, padded, IsPadded};
+    ghost use Rattle.cue_show.specs.Padded.{text_of, padded_text, IsPadded};
 
     ghost view = { λ c. text_of c.bytes c.len };
 
     ghost invariant = { λ c. IsPadded c.bytes c.len };
 
-    ghost inverse = { λ text. record { bytes = padded text; len = length text } };
+    ghost inverse = { λ text. record { bytes = padded_text text; len = length text } };
 
     ghost inverse_ok = { λ c h i. record { bytes = h.zeros i; len = h.whole i } };
 }

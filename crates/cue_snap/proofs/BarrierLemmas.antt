@@ -56,7 +56,7 @@ module _ {D : Type 0} (moment : D → ℕ) (held : D → Contents) (held_at : D 
       → AfterBarrier moment held_at a b new_a new_b P
   barrier_runs a b mid_a new_a new_b P now_a now_b now_new image_b first second rest =
       let run : LeavesAtEachMoment moment held_at mid_a new_a (λ x. P x (held new_b).bytes) =
-          rest (held new_b).bytes image_b in
+      rest (held new_b).bytes image_b in
       record {
         at_a = moment mid_a;
         at_b = moment new_b;
@@ -72,7 +72,7 @@ module _ {D : Type 0} (moment : D → ℕ) (held : D → Contents) (held_at : D 
         each = λ i j from_i to_i from_j to_j x y left_x left_y.
             let is_now : j ≡ moment new_b = omega arith in
             (rest y (subst (λ (c : Contents). IsImage c y) (ap (held_at new_b) is_now ∙ now_new) left_y)).each i from_i
-                to_i x left_x;
+            to_i x left_x;
       }
 
   -- what has P has Q

@@ -33,9 +33,11 @@ absent_leaves_older held generation absent image left there = absurd (there (abs
 pub area_leaves_older : (held : Contents) (area : Area) (generation : ℕ) → ReadsAs held area
     → area.generation < generation → LeavesOlder held generation
 area_leaves_older held area generation reads lower image left there =
-    let same : area ≡ area_in image = sym (area_in_is area image (reads image left)) in
-    (subst (λ (a : Area). IsArea a image) same (reads image left), subst (λ (a : Area). a.generation < generation) same
-        lower)
+    let same : area ≡ area_in image = sym (area_in_is area image (reads image left)) in (
+      subst (λ (a : Area). IsArea a image) same (reads image left),
+      subst (λ (a : Area). a.generation < generation) same
+          lower,
+    )
 
 -- the order of the two does not count
 pub swapped : (area : Area) (x y : List ℕ) → PairReads area x y → PairReads area y x

@@ -34,7 +34,7 @@ none_at (suc n) (gate ∷ byte ∷ bytes) absent =
     let shut : (gate == 1) ≡ false = grind (arith, nat_tests, absent) in
     let rest : List ℕ = take n (byte ∷ bytes) in
     ap (λ (b : Bool). if b then (if nat_lt (length rest) 8 then None else area_after (eight_at rest)
-        (frame_at AREA_LIMIT (drop 8 rest))) else None) shut
+    (frame_at AREA_LIMIT (drop 8 rest))) else None) shut
 
 read_none : (bytes : List ℕ) → IsAbsent bytes → read_area bytes ≡ None
 unfolding read_area
@@ -63,12 +63,12 @@ pub pair_found : ReaderFindsEachPair
 unfolding pair_in
 pair_found area x y (inl (is, inl absent)) =
     (λ i. newer_of x y (complete area x is i) (read_none y absent i))
-        ∙ ap (λ (t : Bool). only t (Some area)) (tested y absent)
+    ∙ ap (λ (t : Bool). only t (Some area)) (tested y absent)
 pair_found area x y (inl (is, inr (other, there, lower))) =
     (λ i. newer_of x y (complete area x is i) (complete other y there i)) ∙ newer_first area other lower
 pair_found area x y (inr (is, inl absent)) =
     (λ i. newer_of x y (read_none x absent i) (complete area y is i))
-        ∙ ap (λ (t : Bool). only t (Some area)) (tested x absent)
+    ∙ ap (λ (t : Bool). only t (Some area)) (tested x absent)
 pair_found area x y (inr (is, inr (other, there, lower))) =
     (λ i. newer_of x y (complete other x there i) (complete area y is i)) ∙ newer_second other area lower
 
@@ -85,10 +85,20 @@ two_areas x y a b is_a is_b = elim (cases_lt a.generation b.generation) [
         let same_a : area_in x ≡ a = area_in_is a x is_a in
         let same_b : area_in y ≡ b = area_in_is b y is_b in
         let one : (area_in x).generation ≡ (area_in y).generation =
-        omega (arith, above, below, ap (λ (it : Area). it.generation) same_a, ap (λ (it : Area). it.generation)
-            same_b) in
-        inr (inr (inr (subst (λ (it : Area). IsArea it x) (sym same_a) is_a, subst (λ (it : Area). IsArea it y)
-            (sym same_b) is_b, one)))
+        omega (
+          arith,
+          above,
+          below,
+          ap (λ (it : Area). it.generation) same_a,
+          ap (λ (it : Area). it.generation)
+              same_b,
+        ) in
+        inr (inr (inr (
+          subst (λ (it : Area). IsArea it x) (sym same_a) is_a,
+          subst (λ (it : Area). IsArea it y)
+              (sym same_b) is_b,
+          one,
+        )))
   ]
 ]
 
@@ -120,12 +130,22 @@ not_damaged area x y (inr (is, inr (other, there, lower))) damaged = damaged.1 o
 not_one : (area : Area) (x y : List ℕ) → PairReads area x y → OneGeneration x y → ⊥
 not_one area x y (inl (is, inl absent)) one = area_not_absent (area_in y) y one.1 absent
 not_one area x y (inl (is, inr (other, there, lower))) one =
-    absurd (omega (arith, lower, one.2, ap (λ (it : Area). it.generation) (area_in_is area x is),
-        ap (λ (it : Area). it.generation) (area_in_is other y there)))
+    absurd (omega (
+      arith,
+      lower,
+      one.2,
+      ap (λ (it : Area). it.generation) (area_in_is area x is),
+      ap (λ (it : Area). it.generation) (area_in_is other y there),
+    ))
 not_one area x y (inr (is, inl absent)) one = area_not_absent (area_in x) x one.0 absent
 not_one area x y (inr (is, inr (other, there, lower))) one =
-    absurd (omega (arith, lower, one.2, ap (λ (it : Area). it.generation) (area_in_is area y is),
-        ap (λ (it : Area). it.generation) (area_in_is other x there)))
+    absurd (omega (
+      arith,
+      lower,
+      one.2,
+      ap (λ (it : Area). it.generation) (area_in_is area y is),
+      ap (λ (it : Area). it.generation) (area_in_is other x there),
+    ))
 
 not_spoiled : (area : Area) (x y : List ℕ) → PairReads area x y → IsSpoiled x y → ⊥
 not_spoiled area x y reads (inl damaged) = not_damaged area x y reads damaged

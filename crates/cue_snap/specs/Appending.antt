@@ -2,7 +2,7 @@
 use Rattle.std.specs.Prelude.{◌≡◌, ◌≤◌, ◌<◌, ◌+◌, ◌↔◌, ℕ, false, true, List, [], length}
 use Rattle.std.specs.Prelude.{Result, OnOk, IfErr, IsErrOf}
 use Rattle.cue_disk.specs.declared.disk.Disk.{Ghosts}
-use Rattle.cue_disk.specs.Disk.{IsImage, LeavesAtEachMoment, MoreFailures, overwritten}
+use Rattle.cue_disk.specs.Disk.{IsImage, LeavesAtEachMoment, MoreFailures, overwritten_bytes}
 use Rattle.cue_log.specs.declared.area.TheConstants.{AREA_LIMIT}
 use Rattle.cue_log.specs.declared.log.AppendFault.{AppendFault}
 use Rattle.cue_log.specs.declared.log.AppendFault.TheVariants as fault
@@ -66,7 +66,7 @@ pub record Appends {T D : Type 0} {disk : Ghosts D} (payloads : List (List ℕ))
       → disk.is_honest (live_of old)
       → OnOk result
       ((disk.held (live_of new)).bytes
-      ≡ overwritten (disk.held (live_of old)).bytes (end_of old) (group_text payloads))
+      ≡ overwritten_bytes (disk.held (live_of old)).bytes (end_of old) (group_text payloads))
   -- the spare disk is not touched
   pub spare : spare_of new ≡ spare_of old
   pub sides : is_first_live new ≡ is_first_live old

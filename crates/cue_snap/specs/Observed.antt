@@ -44,9 +44,9 @@ abbrev pub live_area_of : {D : Type 0} {disk : _} → (D → Contents) → Snap 
 live_area_of held snap = log.area_of held snap.log
 
 -- the disk that a turn-over writes: the spare one at entry, which is live after Ok
-abbrev pub turned : {E D : Type 0} {disk : _} {T : Type 0} → Result T E → Snap D disk → D
-turned (Ok done) snap = log.disk_of snap.log
-turned (Err fault) snap = snap.spare
+abbrev pub turned_disk : {E D : Type 0} {disk : _} {T : Type 0} → Result T E → Snap D disk → D
+turned_disk (Ok done) snap = log.disk_of snap.log
+turned_disk (Err fault) snap = snap.spare
 
 -- the two disks that come back: in what was made, or with the fault
 abbrev pub first_after : {T E D : Type 0} → (T → D) → Result T (E × D × D) → D

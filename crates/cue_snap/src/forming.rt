@@ -1,7 +1,8 @@
 // How a pair comes to be: both disks are looked at and synced, and then the first one gets an area.
 ghost use Rattle.std.specs.Prelude.{◌≡◌, ◌⊎◌, ◌<◌, ◌≤◌, ◌+◌, ◌↔◌};
 ghost use Rattle.std.specs.Prelude.{false, length, IfOk, OnOk, IsErrOf};
-ghost use Rattle.cue_disk.specs.Disk.{LeavesAtEachMoment, IsImage, IsStable, CountsFailure, MoreFailures, overwritten};
+ghost use Rattle.cue_disk.specs.Disk.{LeavesAtEachMoment, IsImage, IsStable, CountsFailure, MoreFailures};
+ghost use Rattle.cue_disk.specs.Disk.{overwritten_bytes};
 ghost use Rattle.cue_log.specs.Area.{fresh, formed_text};
 ghost use Rattle.cue_log.specs.Log.{IsNoneOr, LeavesAbsent, ReadsAs};
 ghost use Rattle.cue_log.specs.Observed.{disk_of, disk_after, generation_of, end_of, count_of, is_broken, area_of};
@@ -79,7 +80,7 @@ pub(crate) fn form_first<D: Disk>(disk: D, snapshot: &[u8]) -> Result<Log<D>, (D
     ensures formed { D.is_honest disk → IfOk result (λ log. ReadsAs (D.held (disk_of log)) (fresh 1 snapshot.now)) }
     ensures area { D.is_honest disk → IfOk result (λ log. area_of D.held log ≡ fresh 1 snapshot.now) }
     ensures bytes { D.is_honest disk → IfOk result (λ log. (D.held (disk_of log)).bytes
-        ≡ overwritten (D.held disk).bytes 0 (formed_text 1 snapshot.now)) }
+        ≡ overwritten_bytes (D.held disk).bytes 0 (formed_text 1 snapshot.now)) }
     ensures numbers { IfOk result (λ log. (generation_of log ≡ 1) × (count_of log ≡ 0)
         × (end_of log ≡ HEAD_LEN + length snapshot.now)) }
     ensures works { IfOk result (λ log. is_broken log ≡ false) }

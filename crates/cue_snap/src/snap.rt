@@ -45,7 +45,7 @@ impl<D: Disk> Snap<D> {
     ghost use Rattle.std.specs.Prelude.{◌≡◌, ◌≤◌, ◌<◌, ◌+◌, ◌-◌, ◌^◌, ◌⊎◌, ◌↔◌};
     ghost use Rattle.std.specs.Prelude.{ℕ, List, [], ◌∷◌, false, true, not};
     ghost use Rattle.std.specs.Prelude.{length, IfOk, OnOk, OnErr, IsErrOf};
-    ghost use Rattle.cue_disk.specs.Disk.{LeavesAtEachMoment, IsImage, IsStable, MoreFailures, overwritten};
+    ghost use Rattle.cue_disk.specs.Disk.{LeavesAtEachMoment, IsImage, IsStable, MoreFailures, overwritten_bytes};
     ghost use Rattle.cue_log.specs.Area.{fresh, formed_text};
     ghost use Rattle.cue_log.specs.declared.area.TheConstants.{AREA_LIMIT, HEAD_LEN};
     ghost use Rattle.cue_snap.specs.Pair.{PairIsEither, PairLeaves, NeitherHas, SomeIsThere, IsUnformedOr};
@@ -53,7 +53,7 @@ impl<D: Disk> Snap<D> {
     ghost use Rattle.cue_snap.specs.Appending.{Appends};
     ghost use Rattle.cue_snap.specs.Found.{IsPairOf};
     ghost use Rattle.cue_snap.specs.Observed.{live_of, spare_of, is_first_live, generation_of, end_of, count_of};
-    ghost use Rattle.cue_snap.specs.Observed.{is_broken, live_area_of, turned, first_of, second_of, first_after};
+    ghost use Rattle.cue_snap.specs.Observed.{is_broken, live_area_of, turned_disk, first_of, second_of, first_after};
     ghost use Rattle.cue_snap.specs.Observed.{second_after, RefusedAs};
 
     /// A pair of a log that works and a disk whose area is older.
@@ -83,7 +83,7 @@ impl<D: Disk> Snap<D> {
         ensures area { D.is_honest first → IfOk result (λ snap. live_area_of D.held snap ≡ fresh 1 snapshot.now) }
         ensures bytes { D.is_honest first → IfOk result
             (λ snap. (D.held (first_of snap)).bytes
-            ≡ overwritten (D.held first).bytes 0 (formed_text 1 snapshot.now)) }
+            ≡ overwritten_bytes (D.held first).bytes 0 (formed_text 1 snapshot.now)) }
         ensures numbers { IfOk result (λ snap. (generation_of snap ≡ 1) × (count_of snap ≡ 0)
             × (end_of snap ≡ HEAD_LEN + length snapshot.now)) }
         ensures works { IfOk result (λ snap. is_broken snap ≡ false) }
@@ -189,9 +189,9 @@ impl<D: Disk> Snap<D> {
 
         // Disk is the device's own failure, and breaks the pair.
         ensures disk { IsErrOf result TurnOverFault.Disk
-            → MoreFailures (D.failures (spare_of self.old)) (D.failures (turned result self.new)) }
+            → MoreFailures (D.failures (spare_of self.old)) (D.failures (turned_disk result self.new)) }
         ensures breaks { IsErrOf result TurnOverFault.Disk → is_broken self.new ≡ true }
-        ensures failures { D.failures (spare_of self.old) ≤ D.failures (turned result self.new) }
+        ensures failures { D.failures (spare_of self.old) ≤ D.failures (turned_disk result self.new) }
 
         // What is there after Ok, whatever a stop leaves.
         ensures formed { D.is_honest (live_of self.old) → D.is_honest (spare_of self.old)
@@ -201,7 +201,7 @@ impl<D: Disk> Snap<D> {
             → OnOk result (live_area_of D.held self.new ≡ fresh (generation_of self.old + 1) snapshot.now) }
         ensures bytes { D.is_honest (spare_of self.old)
             → OnOk result ((D.held (live_of self.new)).bytes
-            ≡ overwritten (D.held (spare_of self.old)).bytes 0
+            ≡ overwritten_bytes (D.held (spare_of self.old)).bytes 0
             (formed_text (generation_of self.old + 1) snapshot.now)) }
         ensures works { OnOk result (is_broken self.new ≡ false) }
         ensures numbers { OnOk result ((generation_of self.new ≡ generation_of self.old + 1)
@@ -219,9 +219,9 @@ impl<D: Disk> Snap<D> {
         ensures any_moment { D.is_honest (live_of self.old) → D.is_honest (spare_of self.old)
             → is_broken self.old ≡ false
             → (x : List ℕ) → IsImage (D.held (live_of self.old)) x
-            → LeavesAtEachMoment D.moment D.held_at (spare_of self.old) (turned result self.new)
+            → LeavesAtEachMoment D.moment D.held_at (spare_of self.old) (turned_disk result self.new)
             (PairIsEither (live_area_of D.held self.old) (fresh (generation_of self.old + 1) snapshot.now) x) }
-        ensures honest { D.is_honest (turned result self.new) ↔ D.is_honest (spare_of self.old) }
+        ensures honest { D.is_honest (turned_disk result self.new) ↔ D.is_honest (spare_of self.old) }
     {
         if self.broken {
             return Err(TurnOverFault::Broken);

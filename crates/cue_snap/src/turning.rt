@@ -1,6 +1,6 @@
 // How the other area comes to count: the spare disk is closed and formed anew, and the log goes on there.
 ghost use Rattle.std.specs.Prelude.{◌≡◌, ◌<◌, ◌+◌, ◌↔◌, false, length, OnOk, OnErr};
-ghost use Rattle.cue_disk.specs.Disk.{LeavesAtEachMoment, CountsFailure, overwritten};
+ghost use Rattle.cue_disk.specs.Disk.{LeavesAtEachMoment, CountsFailure, overwritten_bytes};
 ghost use Rattle.cue_log.specs.Area.{fresh, formed_text};
 ghost use Rattle.cue_log.specs.Log.{ReadsAs};
 ghost use Rattle.cue_log.specs.Observed.{disk_of, generation_of, end_of, count_of, is_broken, area_of, formed_disk};
@@ -24,7 +24,7 @@ pub(crate) fn turn<D: Disk>(
         (ReadsAs (D.held (disk_of log.new)) (fresh generation snapshot.now)) }
     ensures area { D.is_honest spare.old → OnOk result (area_of D.held log.new ≡ fresh generation snapshot.now) }
     ensures bytes { D.is_honest spare.old → OnOk result
-        ((D.held (disk_of log.new)).bytes ≡ overwritten (D.held spare.old).bytes 0
+        ((D.held (disk_of log.new)).bytes ≡ overwritten_bytes (D.held spare.old).bytes 0
         (formed_text generation snapshot.now)) }
     ensures numbers { OnOk result ((generation_of log.new ≡ generation) × (count_of log.new ≡ 0)
         × (end_of log.new ≡ HEAD_LEN + length snapshot.now)) }

@@ -172,20 +172,23 @@ matched_among xs test d q [] among = absurd among
 matched_among xs test d q (m ∷ ms) among = by (test (address_of m)) refl (λ k. matched_among xs test d q ms k) among
   where
     here : test (address_of m) ≡ true → Reads xs m d q → IsMatched xs test d q
-    here passes r = record { matching = ap (λ (n : Method). test (address_of n)) (sym r.method) ∙ passes; number =
-        r.number }
+    here passes r = record {
+      matching = ap (λ (n : Method). test (address_of n)) (sym r.method) ∙ passes;
+      number =
+          r.number;
+    }
 
     one : test (address_of m) ≡ true → (Among (command.Reply reply.StandingBy d q) (commands_at xs test ms)
         → IsMatched xs test d q)
         → (command_by xs m ≡ command.Reply reply.StandingBy d q)
-            ⊎ Among (command.Reply reply.StandingBy d q) (commands_at xs test ms) → IsMatched xs test d q
+        ⊎ Among (command.Reply reply.StandingBy d q) (commands_at xs test ms) → IsMatched xs test d q
     one passes f (inl is) = here passes (method_reads m d q xs is)
     one passes f (inr later) = f later
 
     by : (b : Bool) → test (address_of m) ≡ b → (Among (command.Reply reply.StandingBy d q) (commands_at xs test ms)
         → IsMatched xs test d q)
         → Among (command.Reply reply.StandingBy d q)
-            (map (command_by xs) (cond b (m ∷ methods_at test ms) (methods_at test ms))) → IsMatched xs test d q
+        (map (command_by xs) (cond b (m ∷ methods_at test ms) (methods_at test ms))) → IsMatched xs test d q
     by true passes f k = one passes f k
     by false passes f k = f k
 
@@ -205,7 +208,7 @@ read_among show address xs asked d q is among = by (pattern_at address) refl is
     by None read k = absurd cc
     by (Some p) read k =
         let m : IsMatched xs (matches p) d q =
-            matched_among xs (matches p) d q (methods show)
-            (subst (Among (command.Reply reply.StandingBy d q))
-            (sym (all_of (commands_at xs (matches p) (methods show)) asked k)) among) in
+        matched_among xs (matches p) d q (methods show)
+        (subst (Among (command.Reply reply.StandingBy d q))
+        (sym (all_of (commands_at xs (matches p) (methods show)) asked k)) among) in
         record { pattern = p; read = read; matching = m.matching; number = m.number }

@@ -20,9 +20,9 @@ use Rattle.cue_core.proofs.rules.BatchLemmas.{onto-append}
 use Rattle.cue_engine.specs.Attempts.{IsDecidedInOrder, may_go_after}
 use Rattle.cue_engine.specs.Incidents.{Incident, formed, stopped_in_form, taken, handed_out, stopped, stopped_in_take}
 use Rattle.cue_engine.specs.Incidents.{stopped_in_commit, recovered, stopped_in_recovery, refused}
-use Rattle.cue_engine.specs.Runs.{joined}
+use Rattle.cue_engine.specs.Runs.{joined_list}
 use Rattle.cue_engine.proofs.AttemptLemmas.{any_in}
-use Rattle.cue_device.specs.Hearing.{rested}
+use Rattle.cue_device.specs.Hearing.{device_at_rest}
 use Rattle.cue_device.specs.Histories.{answers_of}
 use Rattle.cue_device.specs.Laws.{has_stood_by}
 use Rattle.cue_stage.specs.Stage.{Beginning, Happening, meets, befalls, incidents, life_of}
@@ -41,7 +41,7 @@ answered_still from (meets i) past d q said = said
 answered_still from (befalls e what) past d q said = by (nat_eq e d)
   where
     by : (b : Bool) → has_stood_by q
-        (answers_of (rested d (from.over d)) (cond b (what ∷ life_of d past) (life_of d past))) ≡ true
+        (answers_of (device_at_rest d (from.over d)) (cond b (what ∷ life_of d past) (life_of d past))) ≡ true
     by true = said_still d (from.over d) q what (life_of d past) said
     by false = said
 
@@ -160,11 +160,11 @@ parts_before : (q : ℕ) (before later : List Event) → IsTrue (is_history (ont
 parts_before q before later h started =
     let past : List Event = onto before [] in
     let split : onto (before ++ event.Go q ∷ later) [] ≡ onto (event.Go q ∷ later) past =
-        onto-append before (event.Go q ∷ later) [] in
+    onto-append before (event.Go q ∷ later) [] in
     let begun : list_any (is_start_of q) past ≡ true =
-        any_in (is_start_of q) before [] (or_left (list_any (is_start_of q) before) false started) in
+    any_in (is_start_of q) before [] (or_left (list_any (is_start_of q) before) false started) in
     let none = no_start q (event.Go q ∷ later) past (subst (λ (es : List Event). IsTrue (is_history es)) split h)
-        begun in
+    begun in
     ap (λ (es : List Event). parts_by es q) split ∙ parts_stay q (event.Go q ∷ later) past none
 
 -- each required device of what was decided was ready before
@@ -174,19 +174,19 @@ was_ready : (q e : ℕ) (es before later : List Event) → es ≡ before ++ even
 was_ready q e es before later split h decided r =
     let same : parts_by (onto es []) q ≡ parts_by (onto before []) q =
     ap (λ (xs : List Event). parts_by (onto xs []) q) split
-        ∙ parts_before q before later (subst (λ (xs : List Event). IsTrue (is_history (onto xs []))) split h)
-        decided.started in
+    ∙ parts_before q before later (subst (λ (xs : List Event). IsTrue (is_history (onto xs []))) split h)
+    decided.started in
     let here : Contains (parts_by (onto before []) q) r.part =
-        subst (λ (ps : List Part). Contains ps r.part) same r.of_cue in
+    subst (λ (ps : List Part). Contains ps r.part) same r.of_cue in
     let may : may_go_after before q r.part ≡ true =
-        each_has (λ (p : Part). may_go_after before q p ≡ true) (parts_by (onto before []) q) r.part
-        (all_of (may_go_after before q) (parts_by (onto before []) q) decided.all_ready) here in
+    each_has (λ (p : Part). may_go_after before q p ≡ true) (parts_by (onto before []) q) r.part
+    (all_of (may_go_after before q) (parts_by (onto before []) q) decided.all_ready) here in
     let ready = required_ready (list_any (is_ready_of q r.part.device) before) r.part.optional _ may r.required in
     let there = or_left (list_any (is_ready_of q r.part.device) before)
-        (list_any (is_ready_of q r.part.device) (event.Go q ∷ later)) ready in
+    (list_any (is_ready_of q r.part.device) (event.Go q ∷ later)) ready in
     subst (λ (d : ℕ). list_any (is_ready_of q d) es ≡ true) r.is_it
     (ap (list_any (is_ready_of q r.part.device)) split
-        ∙ (any-append (is_ready_of q r.part.device) before (event.Go q ∷ later) ∙ there))
+    ∙ (any-append (is_ready_of q r.part.device) before (event.Go q ∷ later) ∙ there))
 
 started_in : (q : ℕ) (before later es : List Event) → es ≡ before ++ event.Go q ∷ later
     → list_any (is_start_of q) before ≡ true → list_any (is_start_of q) es ≡ true
@@ -195,9 +195,9 @@ started_in q before later es split h = ap (list_any (is_start_of q)) split
 
 pub only_with_consent : OnlyWithConsent
 only_with_consent from past x y d q h only keeps moved =
-    let es : List Event = joined keeps.kept in
+    let es : List Event = joined_list keeps.kept in
     let history : IsTrue (is_history (onto es [])) =
-        history-onto es [] refl (kept_ok empty_state (incidents past) keeps.kept refl keeps.prefix) in
+    history-onto es [] refl (kept_ok empty_state (incidents past) keeps.kept refl keeps.prefix) in
     let a : Around q es = around q es (keeps.decided d q moved) in
     let decided : IsDecidedInOrder q a.before a.later = decided_kept q (incidents past) keeps.kept keeps.prefix a in
     record {
@@ -205,8 +205,10 @@ only_with_consent from past x y d q h only keeps moved =
       each = λ e r.
           let ready = was_ready q e es a.before a.later a.split history decided r in
           let answered : HasStoodBy from past e q =
-              said_is_answered from past e q only (kept_says q e empty_state (incidents past) keeps.kept keeps.prefix
-              ready) in
-          record { prepared = said_told e (from.over e) q (life_of e past) (keeps_numbers from past e h) answered;
-              answered = answered };
+          said_is_answered from past e q only (kept_says q e empty_state (incidents past) keeps.kept keeps.prefix
+          ready) in
+          record {
+            prepared = said_told e (from.over e) q (life_of e past) (keeps_numbers from past e h) answered;
+            answered = answered;
+          };
     }

@@ -14,7 +14,7 @@ use Rattle.cue_osc.specs.Reading.{datagram_at}
 use Rattle.cue_outbox.proofs.ReadBackLemmas.{read_back, cancel_writable, go_2pc_writable}
 use Rattle.cue_engine.specs.Headline.{CameTo}
 use Rattle.cue_engine.specs.InBytes.{AreReadAs, BytesRest}
-use Rattle.cue_engine.specs.Runs.{joined}
+use Rattle.cue_engine.specs.Runs.{joined_list}
 use Rattle.cue_engine.proofs.PromisedLemmas.{whatever_happens}
 use Rattle.cue_device.specs.declared.asked.Command.TheVariants.{Go, Cancel}
 use Rattle.cue_device.specs.declared.reading.TheConstants.{MAX_NUMBER}
@@ -34,18 +34,22 @@ read_as_go : (d q : ℕ) (bytes : List ℕ) → IsTrue (is_device d) → IsFor d
 unfolding command_text order_content
 read_as_go d q bytes is_number f =
     let most : q ≤ MAX_NUMBER = f.is_command.numbered.1 in
-    let below : q < 2 ^ 31 = omega arith in
-    (number d ∷ [], ap datagram_at f.text
-        ∙ read_back (order_content (go_2pc q d)) (go_2pc_writable q d below (device_fits d is_number)))
+    let below : q < 2 ^ 31 = omega arith in (
+      number d ∷ [],
+      ap datagram_at f.text
+          ∙ read_back (order_content (go_2pc q d)) (go_2pc_writable q d below (device_fits d is_number)),
+    )
 
 read_as_cancel : (d q : ℕ) (bytes : List ℕ) → IsTrue (is_device d) → IsFor d bytes (Cancel q)
     → AreReadAs bytes (codes "/msc/cancel") q
 unfolding command_text order_content
 read_as_cancel d q bytes is_number f =
     let most : q ≤ MAX_NUMBER = f.is_command.numbered.1 in
-    let below : q < 2 ^ 31 = omega arith in
-    (number d ∷ [], ap datagram_at f.text
-        ∙ read_back (order_content (cancel q d)) (cancel_writable q d below (device_fits d is_number)))
+    let below : q < 2 ^ 31 = omega arith in (
+      number d ∷ [],
+      ap datagram_at f.text
+          ∙ read_back (order_content (cancel q d)) (cancel_writable q d below (device_fits d is_number)),
+    )
 
 -- all that was handed over rests on the events
 abbrev Rest : Beginning → List Happening → List Event → Type 0
@@ -56,7 +60,7 @@ go_rests : (from : Beginning) (past : List Happening) (es : List Event) (d q : �
 go_rests from past es d q rest told =
     let m = told.delivered in
     let bytes : BytesRest empty_state es m.datagram.1 = each_has (λ (m : ℕ × List ℕ). BytesRest empty_state es m.1)
-        (handed_by from past) m.datagram rest m.was_handed in
+    (handed_by from past) m.datagram rest m.was_handed in
     bytes.go_2pc q (read_as_go d q m.datagram.1 told.number m.is_command)
 
 cancel_rests : (from : Beginning) (past : List Happening) (es : List Event) (d q : ℕ) → Rest from past es
@@ -64,20 +68,21 @@ cancel_rests : (from : Beginning) (past : List Happening) (es : List Event) (d q
 cancel_rests from past es d q rest told =
     let m = told.delivered in
     let bytes : BytesRest empty_state es m.datagram.1 = each_has (λ (m : ℕ × List ℕ). BytesRest empty_state es m.1)
-        (handed_by from past) m.datagram rest m.was_handed in
+    (handed_by from past) m.datagram rest m.was_handed in
     bytes.cancelled q (read_as_cancel d q m.datagram.1 told.number m.is_command)
 
 pub moves_rest_on_decisions : MovesRestOnDecisions
 moves_rest_on_decisions from past x y h may =
     let came : CameTo empty_state from.store (incidents past) x y =
-        whatever_happens empty_state from.store (incidents past) x y refl (begins from past h)
-        (store_happens from past h) may in
+    whatever_happens empty_state from.store (incidents past) x y refl (begins from past h)
+    (store_happens from past h) may in
     record {
       kept = came.kept;
       prefix = came.prefix;
       has = came.has;
-      decided = λ d q m. go_rests from past (joined came.kept) d q came.in_bytes (was_told_to_go from past d q h m);
-      cancelled = λ d q m. cancel_rests from past (joined came.kept) d q came.in_bytes
+      decided = λ d q m. go_rests from past (joined_list came.kept) d q came.in_bytes
+          (was_told_to_go from past d q h m);
+      cancelled = λ d q m. cancel_rests from past (joined_list came.kept) d q came.in_bytes
           (was_told from past d (Cancel q) h m);
     }
 

@@ -9,7 +9,7 @@ use Rattle.cue_device.specs.declared.asked.Command.TheVariants.{Go}
 use Rattle.cue_device.specs.declared.hearing.Device.{Device}
 use Rattle.cue_device.specs.declared.words.Order.{Order}
 use Rattle.cue_device.specs.declared.words.Order.TheVariants.{Prepare, Move, GiveUp}
-use Rattle.cue_device.specs.Hearing.{rested}
+use Rattle.cue_device.specs.Hearing.{device_at_rest}
 use Rattle.cue_device.specs.Histories.{hears, latest, device_after, order_at, orders_of}
 use Rattle.cue_device.specs.Histories as device
 use Rattle.cue_device.specs.Laws.{has_moved}
@@ -57,7 +57,7 @@ Earlier from past d q = WasToMove from past d q → WasTold from past d (Go q)
 
 -- the device d by now
 abbrev device_now : Beginning → List Happening → ℕ → Device
-device_now from past d = device_after (rested d (from.over d)) (life_of d past)
+device_now from past d = device_after (device_at_rest d (from.over d)) (life_of d past)
 
 pub was_told_to_go : (from : Beginning) (past : List Happening) (d q : ℕ) → Happens from past → WasToMove from past d q
     → WasTold from past d (Go q)
@@ -87,7 +87,8 @@ was_told_to_go from (befalls e what ∷ past) d q h m =
     ordered f (Some (GiveUp p)) same at k = f k
 
     by : Earlier from past d q → (b : Bool) → nat_eq e d ≡ b
-        → has_moved q (orders_of (rested d (from.over d)) (cond b (what ∷ life_of d past) (life_of d past))) ≡ true
+        → has_moved q (orders_of (device_at_rest d (from.over d)) (cond b (what ∷ life_of d past) (life_of d past)))
+        ≡ true
         → WasTold from past d (Go q)
     by f true same k = ordered f (order_at what (device_now from past d)) same refl k
     by f false same k = f k

@@ -17,7 +17,7 @@ use Rattle.cue_engine.specs.Attempts.{IsDecidedInOrder}
 use Rattle.cue_engine.specs.Headline.{AreKept, batch_of}
 use Rattle.cue_engine.specs.Incidents.{Incident, formed, stopped_in_form, taken, handed_out, stopped, stopped_in_take}
 use Rattle.cue_engine.specs.Incidents.{stopped_in_commit, recovered, stopped_in_recovery, refused}
-use Rattle.cue_engine.specs.Runs.{joined, with_batch}
+use Rattle.cue_engine.specs.Runs.{joined_list, with_batch}
 use Rattle.cue_engine.specs.Runs as runs
 use Rattle.cue_engine.proofs.AttemptLemmas.{contrary, decided_of}
 use Rattle.cue_engine.proofs.GroupLemmas.{inputs-ok}
@@ -39,22 +39,24 @@ batch_ok s (stopped_in_recovery one other) h = happening-ok s runs.recovered h
 batch_ok s (refused one other) h = refl
 
 pub kept_ok : (s : ShowState) (is : List Incident) (kept : List (List Event)) → IsTrue (is_state s) → AreKept s is kept
-    → are_acceptable s (joined kept) ≡ true
-kept_ok s [] kept rules are = subst (λ (bs : List (List Event)). are_acceptable s (joined bs) ≡ true) (sym are) refl
+    → are_acceptable s (joined_list kept) ≡ true
+kept_ok s [] kept rules are = subst (λ (bs : List (List Event)). are_acceptable s (joined_list bs) ≡ true) (sym are)
+    refl
 kept_ok s (i ∷ is) kept rules (inl whole) =
     let ok = batch_ok s i rules in
     let later = kept_ok (after_events s (batch_of s i)) is whole.0 (is_state-after_events s (batch_of s i) rules ok)
-        whole.1.1 in
-    let same : batch_of s i ++ joined whole.0 ≡ joined kept = sym (joined-with (batch_of s i) whole.0)
-        ∙ ap joined (sym whole.1.0) in
+    whole.1.1 in
+    let same : batch_of s i ++ joined_list whole.0 ≡ joined_list kept = sym (joined-with (batch_of s i) whole.0)
+    ∙ ap joined_list (sym whole.1.0) in
     subst (λ (es : List Event). are_acceptable s es ≡ true) same
-        (acceptable-append s (batch_of s i) (joined whole.0) ok later)
+    (acceptable-append s (batch_of s i) (joined_list whole.0) ok later)
 kept_ok s (i ∷ is) kept rules (inr cut) = kept_ok s is kept rules cut.1
 
 kept_in_order : (is : List Incident) (kept : List (List Event)) → AreKept empty_state is kept
-    → IsTrue (is_in_order (onto (joined kept) []))
+    → IsTrue (is_in_order (onto (joined_list kept) []))
 kept_in_order is kept are =
-    go-after-ready (onto (joined kept) []) (history-onto (joined kept) [] refl (kept_ok empty_state is kept refl are))
+    go-after-ready (onto (joined_list kept) [])
+    (history-onto (joined_list kept) [] refl (kept_ok empty_state is kept refl are))
 
 -- ---- around a Go
 
@@ -65,8 +67,11 @@ pub record Around (q : ℕ) (es : List Event) : Type 0 where
   pub split : es ≡ before ++ event.Go q ∷ later
 
 one_before : (q : ℕ) (e : Event) (es : List Event) → Around q es → Around q (e ∷ es)
-one_before q e es a = record { before = e ∷ a.before; later = a.later; split = ap (λ (xs : List Event). e ∷ xs) a.split
-    }
+one_before q e es a = record {
+  before = e ∷ a.before;
+  later = a.later;
+  split = ap (λ (xs : List Event). e ∷ xs) a.split;
+}
 
 pub around : (q : ℕ) (es : List Event) → list_any (is_go_of q) es ≡ true → Around q es
 around q [] h = absurd (true≢false (sym h))
@@ -90,12 +95,12 @@ around q (event.Failed p d ∷ es) h = one_before q (event.Failed p d) es (aroun
 around q (event.Excuse p d ∷ es) h = one_before q (event.Excuse p d) es (around q es h)
 
 pub decided_kept : (q : ℕ) (is : List Incident) (kept : List (List Event)) → AreKept empty_state is kept
-    → (a : Around q (joined kept)) → IsDecidedInOrder q a.before a.later
+    → (a : Around q (joined_list kept)) → IsDecidedInOrder q a.before a.later
 decided_kept q is kept are a =
     let P : List Event → Type 0 = λ es. IsTrue (is_in_order (onto es [])) in
     let Q : List Event → Type 0 = λ es. IsTrue (is_in_order es) in
     decided_of q a.before a.later
-        (subst Q (onto-append a.before (event.Go q ∷ a.later) []) (subst P a.split (kept_in_order is kept are)))
+    (subst Q (onto-append a.before (event.Go q ∷ a.later) []) (subst P a.split (kept_in_order is kept are)))
 
 no_cancel : (q : ℕ) (before later : List Event) → IsDecidedInOrder q before later
     → list_any (is_cancel_of q) (before ++ event.Go q ∷ later) ≡ true → ⊥
@@ -108,8 +113,8 @@ no_cancel q before later o h =
 
 -- what is kept has no Go beside a Cancel
 pub never_both : (q : ℕ) (is : List Incident) (kept : List (List Event)) → AreKept empty_state is kept
-    → list_any (is_go_of q) (joined kept) ≡ true → list_any (is_cancel_of q) (joined kept) ≡ true → ⊥
+    → list_any (is_go_of q) (joined_list kept) ≡ true → list_any (is_cancel_of q) (joined_list kept) ≡ true → ⊥
 never_both q is kept are go cancel =
-    let a : Around q (joined kept) = around q (joined kept) go in
+    let a : Around q (joined_list kept) = around q (joined_list kept) go in
     no_cancel q a.before a.later (decided_kept q is kept are a)
-        (subst (λ (es : List Event). list_any (is_cancel_of q) es ≡ true) a.split cancel)
+    (subst (λ (es : List Event). list_any (is_cancel_of q) es ≡ true) a.split cancel)

@@ -6,7 +6,7 @@ use Rattle.std.proofs.lemmas.Bool.{eqb-true}
 use Rattle.std.proofs.lemmas.List.Sums.{sum_by-cons}
 use Rattle.cue_device.specs.declared.words.Order.{Order}
 use Rattle.cue_device.specs.declared.words.Order.TheVariants.{Prepare, Move, GiveUp}
-use Rattle.cue_device.specs.Hearing.{rested}
+use Rattle.cue_device.specs.Hearing.{device_at_rest}
 use Rattle.cue_device.specs.Histories.{Happening, KeepsNumbers, device_after, latest, order_at, orders_of}
 use Rattle.cue_device.specs.Laws.{has_moved, is_move}
 use Rattle.cue_device.proofs.HistoryLemmas.{all_lawful}
@@ -44,12 +44,12 @@ latest_more : (q : ℕ) (os : List Order) (o : Option Order) → count_by (is_mo
 latest_more q os None h f = h
 latest_more q os (Some o) h f = one_more q os o h (λ e. f (ap Some e))
 
-device_once : (d over q : ℕ) (hs : List Happening) → KeepsNumbers (rested d over) hs
-    → count_by (is_move q) (orders_of (rested d over) hs) ≤ 1
+device_once : (d over q : ℕ) (hs : List Happening) → KeepsNumbers (device_at_rest d over) hs
+    → count_by (is_move q) (orders_of (device_at_rest d over) hs) ≤ 1
 device_once d over q [] k = omega arith
 device_once d over q (h ∷ hs) k =
-    latest_more q (orders_of (rested d over) hs) (order_at h (device_after (rested d over) hs))
-        (device_once d over q hs k.1) (λ e. (all_lawful d over h hs (Move q) k.1 e).0.0)
+    latest_more q (orders_of (device_at_rest d over) hs) (order_at h (device_after (device_at_rest d over) hs))
+    (device_once d over q hs k.1) (λ e. (all_lawful d over h hs (Move q) k.1 e).0.0)
 
 pub moves_once : MovesOnce
 moves_once from past d q h = device_once d (from.over d) q (life_of d past) (keeps_numbers from past d h)

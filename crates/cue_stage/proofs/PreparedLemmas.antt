@@ -17,10 +17,11 @@ use Rattle.cue_device.specs.declared.phase.Phase.TheVariants.{Preparing, Ready, 
 use Rattle.cue_device.specs.declared.words.Order.{Order}
 use Rattle.cue_device.specs.declared.words.Answer.{Answer}
 use Rattle.cue_device.specs.declared.words.Answer.TheVariants.{StandingBy, Complete, Cancelled, Abort}
-use Rattle.cue_device.specs.Hearing.{again, answer_at, answer_ticked, heard_at, is_for, place, place_known, rested}
+use Rattle.cue_device.specs.Hearing.{again, answer_at, answer_ticked, heard_at, is_for, place, place_known}
+use Rattle.cue_device.specs.Hearing.{device_at_rest}
 use Rattle.cue_device.specs.Hearing.{seq_of, told_in, told_of}
 use Rattle.cue_device.specs.Histories.{Happening, hears, tells, repeats, hears_reply, restarts, KeepsNumbers, answer_to}
-use Rattle.cue_device.specs.Histories.{answers_of, device_after, latest, orders_of, unfinished}
+use Rattle.cue_device.specs.Histories.{answers_of, device_after, latest, orders_of, unfinished_order}
 use Rattle.cue_device.specs.Laws.{has_stood_by, is_standing_by}
 use Rattle.cue_device.specs.Table.{anew, answer_over, new_standby, other_standby, same_cancel, same_go, same_standby}
 use Rattle.cue_device.proofs.HistoryLemmas.{Stands, all_fits}
@@ -152,24 +153,28 @@ place_same d n a e = at (nat_lt d.last n) e
     at false k = known (nat_eq n d.last) d.attempt refl refl k
 
 -- where a device that fits its answers is ready, it has said so
-ready_said : (q : ℕ) (hs : List Happening) (d over : ℕ) → KeepsNumbers (rested d over) hs → (c : Command) (a : Attempt)
-    → place (device_after (rested d over) hs) (seq_of c) ≡ Same a
-    → IsReady (seq_of c) a.phase q → has_stood_by q (answers_of (rested d over) hs) ≡ true
+ready_said : (q : ℕ) (hs : List Happening) (d over : ℕ) → KeepsNumbers (device_at_rest d over) hs
+    → (c : Command) (a : Attempt)
+    → place (device_after (device_at_rest d over) hs) (seq_of c) ≡ Same a
+    → IsReady (seq_of c) a.phase q → has_stood_by q (answers_of (device_at_rest d over) hs) ≡ true
 ready_said q hs d over k c a is r =
-    let now : Device = device_after (rested d over) hs in
+    let now : Device = device_after (device_at_rest d over) hs in
     let fits = all_fits d over hs k in
     let at = place_same now (seq_of c) a is in
-    let stands : Stands (Some a) now.last (orders_of (rested d over) hs) (answers_of (rested d over) hs)
-        (unfinished (rested d over) hs) =
-    subst (λ (o : Option Attempt). Stands o now.last (orders_of (rested d over) hs) (answers_of (rested d over) hs)
-        (unfinished (rested d over) hs)) at.1 fits.stands in
-    by (orders_of (rested d over) hs) (unfinished (rested d over) hs) a.phase r.0 (sym at.0 ∙ r.1) stands
+    let stands : Stands (Some a) now.last (orders_of (device_at_rest d over) hs) (answers_of (device_at_rest d over) hs)
+    (unfinished_order (device_at_rest d over) hs) =
+    subst (λ (o : Option Attempt). Stands o now.last (orders_of (device_at_rest d over) hs)
+    (answers_of (device_at_rest d over) hs)
+    (unfinished_order (device_at_rest d over) hs)) at.1 fits.stands in
+    by (orders_of (device_at_rest d over) hs) (unfinished_order (device_at_rest d over) hs) a.phase r.0 (sym at.0
+    ∙ r.1) stands
   where
-    by : (os : List Order) (u : Option Order) (p : Phase) → p ≡ Ready → (device_after (rested d over) hs).last ≡ q
-        → Stands (Some (record { phase = p; task = a.task })) (device_after (rested d over) hs).last os
-        (answers_of (rested d over) hs) u
-        → has_stood_by q (answers_of (rested d over) hs) ≡ true
-    by os u Ready e same s = subst (λ (n : ℕ). has_stood_by n (answers_of (rested d over) hs) ≡ true) same s.1
+    by : (os : List Order) (u : Option Order) (p : Phase) → p ≡ Ready
+        → (device_after (device_at_rest d over) hs).last ≡ q
+        → Stands (Some (record { phase = p; task = a.task })) (device_after (device_at_rest d over) hs).last os
+        (answers_of (device_at_rest d over) hs) u
+        → has_stood_by q (answers_of (device_at_rest d over) hs) ≡ true
+    by os u Ready e same s = subst (λ (n : ℕ). has_stood_by n (answers_of (device_at_rest d over) hs) ≡ true) same s.1
     by os u Preparing e same s = absurd cc
     by os u Moving e same s = absurd cc
     by os u Done e same s = absurd cc
@@ -200,14 +205,15 @@ latest_said P q (Some (Cancelled p)) xs f h = inr h
 latest_said P q (Some (Abort p)) xs f h = inr h
 
 -- a command is answered so only where that was said before
-heard_comes : (q : ℕ) (hs : List Happening) (d over : ℕ) (c : Command) → KeepsNumbers (rested d over) hs → (p : Place)
-    → place (device_after (rested d over) hs) (seq_of c) ≡ p
-    → ComesOf (has_stood_by q (answers_of (rested d over) hs) ≡ true) q
-        (heard_at p c (device_after (rested d over) hs)).answer
+heard_comes : (q : ℕ) (hs : List Happening) (d over : ℕ) (c : Command) → KeepsNumbers (device_at_rest d over) hs
+    → (p : Place)
+    → place (device_after (device_at_rest d over) hs) (seq_of c) ≡ p
+    → ComesOf (has_stood_by q (answers_of (device_at_rest d over) hs) ≡ true) q
+    (heard_at p c (device_after (device_at_rest d over) hs)).answer
 heard_comes q hs d over c k Over is = over_comes _ q c
 heard_comes q hs d over c k (Same a) is = comes_by q (again a c).answer (λ r. ready_said q hs d over k c a is r)
     (again_comes q a c)
-heard_comes q hs d over c k New is = anew_comes _ q (is_none (device_after (rested d over) hs).doing) c
+heard_comes q hs d over c k New is = anew_comes _ q (is_none (device_after (device_at_rest d over) hs).doing) c
 
 ticked_comes : (P : Type 0) (q : ℕ) (d : Device) → ComesOf P q (answer_ticked d)
 ticked_comes P q d = by d.unheard
@@ -223,18 +229,18 @@ HasTold hs q = Contains hs (tells (Prepared q))
 before : (q : ℕ) (h : Happening) (hs : List Happening) → HasTold hs q → HasTold (h ∷ hs) q
 before q h hs told = further h (tells (Prepared q)) hs told
 
-pub said_told : (d over q : ℕ) (hs : List Happening) → KeepsNumbers (rested d over) hs
-    → has_stood_by q (answers_of (rested d over) hs) ≡ true → HasTold hs q
+pub said_told : (d over q : ℕ) (hs : List Happening) → KeepsNumbers (device_at_rest d over) hs
+    → has_stood_by q (answers_of (device_at_rest d over) hs) ≡ true → HasTold hs q
 said_told d over q [] k h = absurd (true≢false (sym h))
 said_told d over q (hears c ∷ hs) k h =
     by (λ e. said_told d over q hs k.1 e) (latest_said (has_stood_by q xs ≡ true) q (answer_to (hears c) now) xs
-        (heard_comes q hs d over c k.1 (place now (seq_of c)) refl) h)
+    (heard_comes q hs d over c k.1 (place now (seq_of c)) refl) h)
   where
     now : Device
-    now = device_after (rested d over) hs
+    now = device_after (device_at_rest d over) hs
 
     xs : List Answer
-    xs = answers_of (rested d over) hs
+    xs = answers_of (device_at_rest d over) hs
 
     by : (has_stood_by q xs ≡ true → HasTold hs q) → (has_stood_by q xs ≡ true) ⊎ (has_stood_by q xs ≡ true)
         → HasTold (hears c ∷ hs) q
@@ -242,13 +248,13 @@ said_told d over q (hears c ∷ hs) k h =
     by f (inr e) = before q (hears c) hs (f e)
 said_told d over q (tells t ∷ hs) k h =
     by (λ e. said_told d over q hs k.1 e)
-        (latest_said (t ≡ Prepared q) q (answer_to (tells t) now) xs (answer_comes (place now (told_of t)) t q) h)
+    (latest_said (t ≡ Prepared q) q (answer_to (tells t) now) xs (answer_comes (place now (told_of t)) t q) h)
   where
     now : Device
-    now = device_after (rested d over) hs
+    now = device_after (device_at_rest d over) hs
 
     xs : List Answer
-    xs = answers_of (rested d over) hs
+    xs = answers_of (device_at_rest d over) hs
 
     by : (has_stood_by q xs ≡ true → HasTold hs q) → (t ≡ Prepared q) ⊎ (has_stood_by q xs ≡ true)
         → HasTold (tells t ∷ hs) q
@@ -258,10 +264,10 @@ said_told d over q (repeats ∷ hs) k h =
     by (λ e. said_told d over q hs k.1 e) (latest_said ⊥ q (answer_to repeats now) xs (ticked_comes ⊥ q now) h)
   where
     now : Device
-    now = device_after (rested d over) hs
+    now = device_after (device_at_rest d over) hs
 
     xs : List Answer
-    xs = answers_of (rested d over) hs
+    xs = answers_of (device_at_rest d over) hs
 
     by : (has_stood_by q xs ≡ true → HasTold hs q) → ⊥ ⊎ (has_stood_by q xs ≡ true) → HasTold (repeats ∷ hs) q
     by f (inl e) = absurd e
@@ -271,10 +277,10 @@ said_told d over q (restarts n ∷ hs) k h = before q (restarts n) hs (said_told
 
 -- what was said is said from then on
 pub said_still : (d over q : ℕ) (h : Happening) (hs : List Happening)
-    → has_stood_by q (answers_of (rested d over) hs) ≡ true
-    → has_stood_by q (answers_of (rested d over) (h ∷ hs)) ≡ true
-said_still d over q h hs said = by (answer_to h (device_after (rested d over) hs))
+    → has_stood_by q (answers_of (device_at_rest d over) hs) ≡ true
+    → has_stood_by q (answers_of (device_at_rest d over) (h ∷ hs)) ≡ true
+said_still d over q h hs said = by (answer_to h (device_after (device_at_rest d over) hs))
   where
-    by : (o : Option Answer) → has_stood_by q (latest o (answers_of (rested d over) hs)) ≡ true
+    by : (o : Option Answer) → has_stood_by q (latest o (answers_of (device_at_rest d over) hs)) ≡ true
     by None = said
     by (Some x) = or_right (is_standing_by q x) _ said

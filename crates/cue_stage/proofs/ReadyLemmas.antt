@@ -26,7 +26,7 @@ use Rattle.cue_core.specs.Events.{is_ready_of}
 use Rattle.cue_core.specs.State.{ShowState}
 use Rattle.cue_core.specs.InTurn.{steps, events_of}
 use Rattle.cue_core.specs.Steps.{after_events}
-use Rattle.cue_core.specs.Judge.{Judgement, judgement_of, made, refused, abort_early, abort_late, release_early}
+use Rattle.cue_core.specs.Judge.{Judgement, judgement_of, made_by, refused_with, abort_early, abort_late, release_early}
 use Rattle.cue_core.specs.Judge.{on_reply, on_reply_in, on_reply_to, on_release_in, on_release_of, is_from_another}
 use Rattle.cue_core.proofs.lists.AnyLemmas.{any-append}
 use Rattle.cue_core.proofs.live.FindingLemmas.{found_passes}
@@ -99,12 +99,12 @@ cancelled-lacks q e n x (Cancelling r) answer.Failed = record { none = refl }
 cancelled-lacks q e n x (Cancelling r) answer.Excused = record { none = refl }
 
 abort_early-lacks : (q e n : ℕ) (x : DeviceAnswer) → LacksReady q e (abort_early n x)
-abort_early-lacks q e n x = if-lacks q e x.optional (made (event.Excuse n x.device ∷ []))
-    (made (event.Cancel n Abort ∷ event.Failed n x.device ∷ [])) (record { none = refl }) (record { none = refl })
+abort_early-lacks q e n x = if-lacks q e x.optional (made_by (event.Excuse n x.device ∷ []))
+    (made_by (event.Cancel n Abort ∷ event.Failed n x.device ∷ [])) (record { none = refl }) (record { none = refl })
 
 abort_late-lacks : (q e n : ℕ) (x : DeviceAnswer) → LacksReady q e (abort_late n x)
-abort_late-lacks q e n x = if-lacks q e x.optional (made (event.LetGo n x.device ∷ []))
-    (made (event.Failed n x.device ∷ [])) (record { none = refl }) (record { none = refl })
+abort_late-lacks q e n x = if-lacks q e x.optional (made_by (event.LetGo n x.device ∷ []))
+    (made_by (event.Failed n x.device ∷ [])) (record { none = refl }) (record { none = refl })
 
 abort-lacks : (q e n : ℕ) (x : DeviceAnswer) (g : Stage) (w : Answer) → LacksReady q e (on_reply_in reply.Abort n x g w)
 abort-lacks q e n x Preparing answer.Waiting = abort_early-lacks q e n x
@@ -127,8 +127,8 @@ abort-lacks q e n x (Cancelling r) answer.Failed = record { none = refl }
 abort-lacks q e n x (Cancelling r) answer.Excused = record { none = refl }
 
 release_early-lacks : (q e n : ℕ) (x : DeviceAnswer) → LacksReady q e (release_early n x)
-release_early-lacks q e n x = if-lacks q e x.optional (made (event.Excuse n x.device ∷ []))
-    (made (event.Cancel n Release ∷ event.LetGo n x.device ∷ [])) (record { none = refl }) (record { none = refl })
+release_early-lacks q e n x = if-lacks q e x.optional (made_by (event.Excuse n x.device ∷ []))
+    (made_by (event.Cancel n Release ∷ event.LetGo n x.device ∷ [])) (record { none = refl }) (record { none = refl })
 
 release_in-lacks : (q e n : ℕ) (x : DeviceAnswer) (g : Stage) (w : Answer) → LacksReady q e (on_release_in n x g w)
 release_in-lacks q e n x Preparing answer.Waiting = release_early-lacks q e n x
@@ -226,7 +226,7 @@ to_attempt q e kind d a h = at (device_answer a.answers d) refl h
   where
     at : (o : Option DeviceAnswer) → device_answer a.answers d ≡ o
         → list_any (is_ready_of q e)
-        (option_map_or (λ x. on_reply_in kind a.seq x a.stage x.answer) o (refused code.NotPart)).1 ≡ true
+        (option_map_or (λ x. on_reply_in kind a.seq x a.stage x.answer) o (refused_with code.NotPart)).1 ≡ true
         → IsIt q e kind d a.seq
     at None is k = absurd (true≢false (sym k))
     at (Some x) is k = subst (λ (n : ℕ). IsIt q e kind n a.seq) (device_found d a.answers x is)
@@ -238,9 +238,10 @@ reply_is q e s from kind d p h = at (has_device s.show d) (is_from_another s d f
     (attempt_of s.live p) refl h
   where
     at : (b f l : Bool) (o : Option Attempt) → attempt_of s.live p ≡ o
-        → list_any (is_ready_of q e) (if not b then refused code.NoMethod else if f then refused code.WrongPort else if
-            l then refused code.Early else option_map_or (on_reply_to kind d) o (refused code.Stale)).1 ≡ true
-            → IsIt q e kind d p
+        → list_any (is_ready_of q e) (if not b then refused_with code.NoMethod else if f then refused_with
+        code.WrongPort else if
+        l then refused_with code.Early else option_map_or (on_reply_to kind d) o (refused_with code.Stale)).1 ≡ true
+        → IsIt q e kind d p
     at false f l o is k = absurd (true≢false (sym k))
     at true true l o is k = absurd (true≢false (sym k))
     at true false true o is k = absurd (true≢false (sym k))

@@ -21,14 +21,14 @@ use Rattle.cue_core.specs.Happenings.{is_undecided}
 use Rattle.cue_core.proofs.lists.AnyLemmas.{any-append}
 use Rattle.cue_osc.specs.Content.{Content, message, discarded, bundle}
 use Rattle.cue_operator.specs.Commands.{commands_of}
-use Rattle.cue_engine.specs.Given.{Input, datagram, tick, Given, given, given_by, given_heard, given_refused}
+use Rattle.cue_engine.specs.Given.{Input, datagram, tick, Given, given_of, given_by, given_heard, given_refused}
 use Rattle.cue_engine.specs.Given.{are_too_many, messages_in}
 use Rattle.cue_engine.specs.Groups.{batches_given}
 use Rattle.cue_engine.specs.Heard.{Heard, carried_out, hear, heard_events, hear_all, all_events}
 use Rattle.cue_engine.specs.Headline.{AreKept, batch_of}
 use Rattle.cue_engine.specs.Incidents.{Incident, formed, stopped_in_form, taken, handed_out, stopped, stopped_in_take}
 use Rattle.cue_engine.specs.Incidents.{stopped_in_commit, recovered, stopped_in_recovery, refused}
-use Rattle.cue_engine.specs.Runs.{joined}
+use Rattle.cue_engine.specs.Runs.{joined_list}
 use Rattle.cue_engine.proofs.GivenLemmas.{given_by_test, in_full}
 use Rattle.cue_engine.proofs.RestingLemmas.{joined-with}
 use Rattle.cue_stage.specs.Consent.{IsStandingBy, SaysStandingBy}
@@ -110,9 +110,10 @@ by_messages q e s now from bytes (Ok ms) is h =
     let said : IsSaid ms q e = all_say q e s now from ms (full_or_none q e s from (hear_all s now from ms) h) in
     record { content = said.content; brings = (ms, is, said.there); says = said.says }
 
-input_says : (q e : ℕ) (s : ShowState) (now : ℕ) (i : Input) → list_any (is_ready_of q e) (given s now i).batch ≡ true
+input_says : (q e : ℕ) (s : ShowState) (now : ℕ) (i : Input)
+    → list_any (is_ready_of q e) (given_of s now i).batch ≡ true
     → SaysStandingBy now i e q
-unfolding given
+unfolding given_of
 input_says q e s now (datagram from bytes) h = by_messages q e s now from bytes (messages_in now bytes) refl h
 input_says q e s now tick h = absurd (none_cancelled q e Deadline (filter (is_due now) s.live) h)
 
@@ -129,17 +130,17 @@ said_by_later q e i is said =
     record { input = said.input; there = further i said.input is said.there; says = said.says }
 
 inputs_say : (q e : ℕ) (s : ShowState) (inputs : List (ℕ × Input))
-    → list_any (is_ready_of q e) (joined (batches_given s inputs)) ≡ true → IsSaidByOne inputs q e
+    → list_any (is_ready_of q e) (joined_list (batches_given s inputs)) ≡ true → IsSaidByOne inputs q e
 inputs_say q e s [] h = absurd (true≢false (sym h))
 inputs_say q e s (i ∷ is) h =
     by (list_any (is_ready_of q e) first) refl (λ k. inputs_say q e (after_events s first) is k)
     (sym (any-append (is_ready_of q e) first rest) ∙ h)
   where
     first : List Event
-    first = (given s i.0 i.1).batch
+    first = (given_of s i.0 i.1).batch
 
     rest : List Event
-    rest = joined (batches_given (after_events s first) is)
+    rest = joined_list (batches_given (after_events s first) is)
 
     by : (b : Bool) → list_any (is_ready_of q e) first ≡ b
         → (list_any (is_ready_of q e) rest ≡ true → IsSaidByOne is q e) → (b || list_any (is_ready_of q e) rest) ≡ true
@@ -175,22 +176,23 @@ SaidIn q e [] = ⊥
 SaidIn q e (i ∷ is) = SaysAt q e i ⊎ SaidIn q e is
 
 pub kept_says : (q e : ℕ) (s : ShowState) (is : List Incident) (kept : List (List Event)) → AreKept s is kept
-    → list_any (is_ready_of q e) (joined kept) ≡ true → SaidIn q e is
+    → list_any (is_ready_of q e) (joined_list kept) ≡ true → SaidIn q e is
 kept_says q e s [] kept are h =
-    absurd (true≢false (sym (ap (λ (bs : List (List Event)). list_any (is_ready_of q e) (joined bs)) (sym are) ∙ h)))
+    absurd (true≢false (sym (ap (λ (bs : List (List Event)). list_any (is_ready_of q e) (joined_list bs)) (sym are)
+    ∙ h)))
 kept_says q e s (i ∷ is) kept (inr cut) h = inr (kept_says q e s is kept cut.1 h)
 kept_says q e s (i ∷ is) kept (inl whole) h =
     by (list_any (is_ready_of q e) batch) refl (λ k. kept_says q e (after_events s batch) is whole.0 whole.1.1 k)
-    (sym (any-append (is_ready_of q e) batch (joined whole.0)) ∙ (ap (list_any (is_ready_of q e)) same ∙ h))
+    (sym (any-append (is_ready_of q e) batch (joined_list whole.0)) ∙ (ap (list_any (is_ready_of q e)) same ∙ h))
   where
     batch : List Event
     batch = batch_of s i
 
-    same : batch ++ joined whole.0 ≡ joined kept
-    same = sym (joined-with batch whole.0) ∙ ap joined (sym whole.1.0)
+    same : batch ++ joined_list whole.0 ≡ joined_list kept
+    same = sym (joined-with batch whole.0) ∙ ap joined_list (sym whole.1.0)
 
     by : (b : Bool) → list_any (is_ready_of q e) batch ≡ b
-        → (list_any (is_ready_of q e) (joined whole.0) ≡ true → SaidIn q e is)
-        → (b || list_any (is_ready_of q e) (joined whole.0)) ≡ true → SaidIn q e (i ∷ is)
+        → (list_any (is_ready_of q e) (joined_list whole.0) ≡ true → SaidIn q e is)
+        → (b || list_any (is_ready_of q e) (joined_list whole.0)) ≡ true → SaidIn q e (i ∷ is)
     by true is_so f k = inl (incident_says q e s i is_so)
     by false is_so f k = inr (f k)

@@ -16,7 +16,7 @@ use Rattle.cue_operator.specs.declared.method.Method.TheVariants.{OfDevice}
 use Rattle.cue_operator.specs.Methods.{address_of}
 use Rattle.cue_engine.specs.Given.{Input, datagram, tick, messages_in}
 use Rattle.cue_engine.specs.Incidents.{taken, stopped_in_take, stopped_in_commit}
-use Rattle.cue_engine.specs.Runs.{joined}
+use Rattle.cue_engine.specs.Runs.{joined_list}
 use Rattle.cue_device.specs.declared.hearing.Told.TheVariants.{Prepared}
 use Rattle.cue_device.specs.Histories.{tells}
 use Rattle.cue_device.specs.Laws.{has_stood_by}
@@ -102,4 +102,4 @@ pub record IsConsented (from : Beginning) (past : List Happening) (es : List Eve
 abbrev pub OnlyWithConsent : Type 0
 OnlyWithConsent = (from : Beginning) (past : List Happening) (x y : List ℕ) (d q : ℕ) → Happens from past
     → OnlyDevicesAnswer from past → (keeps : KeepsEachDecision from past x y) → WasToMove from past d q
-    → IsConsented from past (joined keeps.kept) q
+    → IsConsented from past (joined_list keeps.kept) q

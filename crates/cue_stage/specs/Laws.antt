@@ -6,7 +6,7 @@ use Rattle.cue_core.specs.Events.{is_cancel_of, is_go_of}
 use Rattle.cue_core.specs.State.{empty_state}
 use Rattle.cue_core.specs.Steps.{after_events}
 use Rattle.cue_engine.specs.Headline.{AreKept, HasState, MayRead}
-use Rattle.cue_engine.specs.Runs.{joined}
+use Rattle.cue_engine.specs.Runs.{joined_list}
 use Rattle.cue_device.specs.declared.asked.Command.TheVariants.{Cancel}
 use Rattle.cue_device.specs.Histories.{hears}
 use Rattle.cue_device.specs.Laws.{has_moved, is_move}
@@ -26,9 +26,9 @@ WasToGiveUp from past d q = Contains (life_of d past) (hears (Cancel q))
 pub record KeepsEachDecision (from : Beginning) (past : List Happening) (x y : List ℕ) : Type 0 where
   pub kept : List (List Event)
   pub prefix : AreKept empty_state (incidents past) kept
-  pub has : HasState (store_after from past) x y (after_events empty_state (joined kept))
-  pub decided : (d q : ℕ) → WasToMove from past d q → IsTrue (list_any (is_go_of q) (joined kept))
-  pub cancelled : (d q : ℕ) → WasToGiveUp from past d q → IsTrue (list_any (is_cancel_of q) (joined kept))
+  pub has : HasState (store_after from past) x y (after_events empty_state (joined_list kept))
+  pub decided : (d q : ℕ) → WasToMove from past d q → IsTrue (list_any (is_go_of q) (joined_list kept))
+  pub cancelled : (d q : ℕ) → WasToGiveUp from past d q → IsTrue (list_any (is_cancel_of q) (joined_list kept))
 
 -- A move rests on a decision that stays: whatever happens, and whatever the disks then read as, the store keeps the
 -- Go of each attempt for which any device was ever ordered to move.

@@ -13,7 +13,7 @@ use Rattle.cue_device.specs.declared.asked.Command.{Command}
 use Rattle.cue_device.specs.declared.words.Answer.{Answer}
 use Rattle.cue_device.specs.declared.words.Order.{Order}
 use Rattle.cue_device.specs.Datagrams.{IsFor}
-use Rattle.cue_device.specs.Hearing.{rested}
+use Rattle.cue_device.specs.Hearing.{device_at_rest}
 use Rattle.cue_device.specs.Histories.{hears, KeepsNumber, answers_of, orders_of}
 use Rattle.cue_device.specs.Histories as device
 
@@ -54,11 +54,11 @@ handed_by from past = datagrams (all_handed from.store (incidents past))
 
 -- what the device d has ordered its machine by now, the latest first
 abbrev pub orders_by : Beginning → List Happening → ℕ → List Order
-orders_by from past d = orders_of (rested d (from.over d)) (life_of d past)
+orders_by from past d = orders_of (device_at_rest d (from.over d)) (life_of d past)
 
 -- what the device d has answered by now, the latest first
 abbrev pub answers_by : Beginning → List Happening → ℕ → List Answer
-answers_by from past d = answers_of (rested d (from.over d)) (life_of d past)
+answers_by from past d = answers_of (device_at_rest d (from.over d)) (life_of d past)
 
 -- ---- what may happen
 

@@ -91,7 +91,7 @@ sound_both c (x ∷ xs) ys h k = (h.0, sound_both c xs ys h.1 k)
 -- one row changed, or one more
 row_changed : (c : List Rule) (id : Text) (change : Row → List Row) (missing rows : List Row)
     → ((r : Row) → r.id ≡ id → RowFits c r → Sound c (change r)) → Sound c missing → Sound c rows
-        → Sound c (at_row id change missing rows)
+    → Sound c (at_row id change missing rows)
 row_changed c id change missing [] changes more h = more
 row_changed c id change missing (r ∷ rs) changes more h =
     go (bytes_eq r.id id) refl (row_changed c id change missing rs changes more h.1)
@@ -155,9 +155,9 @@ pub use_sound : (c : List Rule) (again : Bool) (a : Rule) (values : List Text) (
     → use_fault again a values rows ≡ [] → Sound c rows → Sound c (used a values rows)
 use_sound c again a values rows is h sound =
     let parts = both_empty (range_kinds (unwrap_or_range a.range).start_inclusive (most_values a) (length values))
-        (action_fault (action_of a) again a (values_or_missing a values) rows) h in
+    (action_fault (action_of a) again a (values_or_missing a values) rows) h in
     elim (one_true (is_set (action_of a) && nat_lt 0 (unwrap_or_range a.range).start_inclusive) (is_ask (action_of a))
-        is.usual) [
+    is.usual) [
       | inl set ↦
           let both = both_true (is_set (action_of a)) (nat_lt 0 (unwrap_or_range a.range).start_inclusive) set in
           by_set (action_of a) values both.0 (some_value _ _ values both.1 parts.0) parts.1

@@ -88,13 +88,13 @@ module _ (c : List Rule) (again : Bool) (usual : Each (IsUsual c) c) where
     where
       go : (o : Option ℕ) (skip : ℕ) → bundle_step_fault c again o flags skip h (flags_fault c again k) ≡ []
           → ((flags : Text) (skip : ℕ) (so_far : Outcome) (h : Held) → flags_fault c again k flags skip h ≡ []
-              → Sound c h.rows → Sound c (bundle_met c k flags skip so_far h).0.rows)
+          → Sound c h.rows → Sound c (bundle_met c k flags skip so_far h).0.rows)
           → Sound c (bundle_step c o flags skip so_far h (bundle_met c k)).0.rows
       go None skip e others = sound
       go (Some x) zero e others =
           let rest = drop (length (encode_utf8 x)) flags in
           short_sound (arg_by_short c x) rest h (flags_fault c again k rest 0) (bundle_met c k rest 0 done)
-              (λ a found. (each_found (IsUsual c) _ c a usual found).0)
+          (λ a found. (each_found (IsUsual c) _ c a usual found).0)
           (λ y z w. others rest 0 done y z w) e sound
       go (Some x) (suc less) e others = others (drop (length (encode_utf8 x)) flags) less so_far h e sound
 
@@ -211,51 +211,51 @@ module _ (s : Shape) (names : Names) (usual : Each (IsUsual s.rules) s.rules) wh
       no_help name false is k enabled = is
       no_help name true is k enabled =
           let bad : other_fault s (Some name) word w.held ≡ DisplayHelp ∷ InvalidSubcommand ∷ [] =
-              rw (is, enabled) refl in
+          rw (is, enabled) refl in
           let none : [] ≡ DisplayHelp ∷ InvalidSubcommand ∷ [] = sym k ∙ bad in
           cc
 
       by_mark : (b : Bool) → cond b [] (flag_word_fault s.rules s.args_override_self (long_of word) word w.held) ≡ []
           → step_fault s w.position
-              (cond b (w.held, trailing w.position) (long_or_other s.rules w.waiting word (long_of word) w.held)).0
-              (cond b (w.held, trailing w.position) (long_or_other s.rules w.waiting word (long_of word) w.held)).1 ≡ []
+          (cond b (w.held, trailing w.position) (long_or_other s.rules w.waiting word (long_of word) w.held)).0
+          (cond b (w.held, trailing w.position) (long_or_other s.rules w.waiting word (long_of word) w.held)).1 ≡ []
           → Holds s (after_step s.rules word w
-              (cond b (w.held, trailing w.position) (long_or_other s.rules w.waiting word (long_of word) w.held)).0
-              (cond b (w.held, trailing w.position) (long_or_other s.rules w.waiting word (long_of word) w.held)).1)
+          (cond b (w.held, trailing w.position) (long_or_other s.rules w.waiting word (long_of word) w.held)).0
+          (cond b (w.held, trailing w.position) (long_or_other s.rules w.waiting word (long_of word) w.held)).1)
       by_mark true k step = other_holds word w w.held (trailing w.position) holds.stopped refl step holds.rows
       by_mark false k step =
           other_holds word w (long_or_other s.rules w.waiting word (long_of word) w.held).0
-              (long_or_other s.rules w.waiting word (long_of word) w.held).1 holds.stopped
+          (long_or_other s.rules w.waiting word (long_of word) w.held).1 holds.stopped
           (flag_other s.rules (long_of word) w.waiting word w.held) step
           (flag_word_sound s.rules s.args_override_self usual (long_of word) w.waiting word w.held k holds.rows)
 
       by_name : (o : Option Text) → other_fault s o word w.held ≡ []
           → step_fault s w.position (subcommand_or_other s.rules o w.waiting w.position word w.held).0
-              (subcommand_or_other s.rules o w.waiting w.position word w.held).1 ≡ []
+          (subcommand_or_other s.rules o w.waiting w.position word w.held).1 ≡ []
           → Holds s (after_step s.rules word w (subcommand_or_other s.rules o w.waiting w.position word w.held).0
-              (subcommand_or_other s.rules o w.waiting w.position word w.held).1)
+          (subcommand_or_other s.rules o w.waiting w.position word w.held).1)
       by_name (Some name) k step =
           record { rows = holds.rows; stopped = no_help name (bytes_eq name (codes "help")) refl k }
       by_name None k step = by_mark (bytes_eq word (45 ∷ 45 ∷ [])) k step
 
       by_trail : (b : Bool) → cond b [] (other_fault s (subcommand_met names w.waiting word) word w.held) ≡ []
           → step_fault s w.position (word_met s.rules names b w.waiting w.position word w.held).0
-              (word_met s.rules names b w.waiting w.position word w.held).1 ≡ []
+          (word_met s.rules names b w.waiting w.position word w.held).1 ≡ []
           → Holds s (after_step s.rules word w (word_met s.rules names b w.waiting w.position word w.held).0
-              (word_met s.rules names b w.waiting w.position word w.held).1)
+          (word_met s.rules names b w.waiting w.position word w.held).1)
       by_trail true k step = other_holds word w w.held value holds.stopped refl step holds.rows
       by_trail false k step = by_name (subcommand_met names w.waiting word) k step
 
       go : (o : Option (Text × List Text)) → (s.disable_help_subcommand ≡ false → IsNoHelp o)
           → cond (is_some o) [] (or_else (word_fault s names w.is_trailing w.waiting word w.held)
           (step_fault s w.position (word_met s.rules names w.is_trailing w.waiting w.position word w.held).0
-              (word_met s.rules names w.is_trailing w.waiting w.position word w.held).1)) ≡ []
+          (word_met s.rules names w.is_trailing w.waiting w.position word w.held).1)) ≡ []
           → Holds s (walked_from s.rules names o w word)
       go (Some p) before k = record { rows = holds.rows; stopped = before }
       go None before k =
           let parts = both_empty (word_fault s names w.is_trailing w.waiting word w.held)
-              (step_fault s w.position (word_met s.rules names w.is_trailing w.waiting w.position word w.held).0
-              (word_met s.rules names w.is_trailing w.waiting w.position word w.held).1) k in
+          (step_fault s w.position (word_met s.rules names w.is_trailing w.waiting w.position word w.held).0
+          (word_met s.rules names w.is_trailing w.waiting w.position word w.held).1) k in
           by_trail w.is_trailing parts.0 parts.1
 
   -- all the words
@@ -295,9 +295,9 @@ taken s names words has below usual e =
     let under = both_empty below _ walked.1 in
     let settles = both_empty (settle_fault s.rules s.args_override_self end) _ under.1 in
     let defaults = both_empty (defaults_fault (settled s.rules end).rows s.rules)
-        (check_fault s (finished s.rules end) has) settles.1 in
+    (check_fault s (finished s.rules end) has) settles.1 in
     let holds = walk_holds s names usual words (walk_from nothing_held) (record { rows = tt; stopped = λ enabled. tt })
-        walked.0 in
+    walked.0 in
     record {
       rows = subst (Sound s.rules) (sym (defaults_bare s.rules s.rules (settled s.rules end).rows usual))
           (settle_sound s.rules s.args_override_self usual end settles.0 holds.rows);

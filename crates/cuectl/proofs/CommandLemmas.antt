@@ -46,7 +46,7 @@ given_each rows (a ∷ more) h = go a.required (is_given a.id rows) h (given_eac
   where
     go : (r g : Bool) → ((r && not g) || list_any (λ a. a.required && not (is_given a.id rows)) more) ≡ false
         → (list_any (λ a. a.required && not (is_given a.id rows)) more ≡ false
-            → Each (λ a. a.required ≡ true → is_given a.id rows ≡ true) more)
+        → Each (λ a. a.required ≡ true → is_given a.id rows ≡ true) more)
         → (r ≡ true → g ≡ true) × Each (λ a. a.required ≡ true → is_given a.id rows ≡ true) more
     go true true k others = (λ e. refl, others k)
     go true false k others = cc
@@ -71,7 +71,7 @@ pub first_there : (a : Rule) (rows : List Row) → ((r : Row) × (find (λ r. by
     → first_of a.id rows ≡ None → ⊥
 first_there a rows h none =
     let there : first_of a.id rows ≡ slice_get h.0.values 0 =
-        ap (option_and_then (λ (r : Row). slice_get r.values 0)) h.1 in
+    ap (option_and_then (λ (r : Row). slice_get r.values 0)) h.1 in
     go h.0.values h.2.some (sym there ∙ none)
   where
     go : (values : List Text) → 0 < length values → slice_get values 0 ≡ None → ⊥
@@ -88,20 +88,23 @@ value_good i p v h = go (accepts i p v) h
 -- the text that a number is read from passed the parser
 pub text_there : (a : Rule) (rows : List Row) → ((r : Row) × (find (λ r. bytes_eq r.id a.id) rows ≡ Some r) × Fits a r)
     → (v : Text) × (one_of a.id rows ≡ Some (read_as (reading_by a) v))
-        × (accepts a.ignore_case (parser_of_value a.parser) v ≡ true)
+    × (accepts a.ignore_case (parser_of_value a.parser) v ≡ true)
 text_there a rows h =
     let there : one_of a.id rows ≡ option_map (read_as h.0.reading) (slice_get h.0.values 0) =
-        ap (option_and_then row_text) h.1 in
+    ap (option_and_then row_text) h.1 in
     go h.0.values h.2.some h.2.good (there ∙ ap (λ how. option_map (read_as how) (slice_get h.0.values 0)) h.2.reading)
   where
     go : (values : List Text) → 0 < length values → values_kinds a.ignore_case (parser_of_value a.parser) values ≡ []
         → one_of a.id rows ≡ option_map (read_as (reading_by a)) (slice_get values 0)
         → (v : Text) × (one_of a.id rows ≡ Some (read_as (reading_by a) v))
-            × (accepts a.ignore_case (parser_of_value a.parser) v ≡ true)
+        × (accepts a.ignore_case (parser_of_value a.parser) v ≡ true)
     go [] some good is = absurd (omega (arith, some))
-    go (v ∷ vs) some good is =
-        (v, is, value_good a.ignore_case (parser_of_value a.parser) v
-        (both_empty _ (values_kinds a.ignore_case (parser_of_value a.parser) vs) good).0)
+    go (v ∷ vs) some good is = (
+      v,
+      is,
+      value_good a.ignore_case (parser_of_value a.parser) v
+          (both_empty _ (values_kinds a.ignore_case (parser_of_value a.parser) vs) good).0,
+    )
 
 -- ---- numbers
 
@@ -122,7 +125,7 @@ no_plus (d ∷ ds) h =
 -- a text that passed a range from 0 on is a numeral in it, read without its minus
 signed_number : (high : ℕ) (t : Text) → IsSignedIn (pos 0) (pos high) t
     → IsNumeral 10 (without_leading_plus (without_minus t))
-        × (digits_value 10 (without_leading_plus (without_minus t)) ≤ high)
+    × (digits_value 10 (without_leading_plus (without_minus t)) ≤ high)
 signed_number high t passed =
     subst (λ (u : List ℕ). IsNumeral 10 (without_leading_plus u) × (digits_value 10 (without_leading_plus u) ≤ high))
     (sym (without_minus-cond t)) (go (starts_with_minus t) refl)
@@ -154,26 +157,34 @@ record IsLeaf (s : Shape) : Type 0 where
       → IsNoLine (s.name, rows) → HasPortZero (Some (s.name, rows))
 
 form_usual : Each (IsUsual (leaf_of form_app.top).rules) (leaf_of form_app.top).rules
-form_usual = (record { first = refl; usual = refl; bare = refl },
-    (record { first = refl; usual = refl; bare = refl }, tt))
+form_usual = (
+  record { first = refl; usual = refl; bare = refl },
+  (record { first = refl; usual = refl; bare = refl }, tt),
+)
 
 serve_usual : Each (IsUsual (leaf_of serve_app.top).rules) (leaf_of serve_app.top).rules
 serve_usual = (
   record { first = refl; usual = refl; bare = refl },
-  (record { first = refl; usual = refl; bare = refl },
-      (record { first = refl; usual = refl; bare = refl }, (record { first = refl; usual = refl; bare = refl }, tt))),
+  (
+    record { first = refl; usual = refl; bare = refl },
+    (record { first = refl; usual = refl; bare = refl }, (record { first = refl; usual = refl; bare = refl }, tt)),
+  ),
 )
 
 show_usual : Each (IsUsual (leaf_of show_app.top).rules) (leaf_of show_app.top).rules
-show_usual = (record { first = refl; usual = refl; bare = refl },
-    (record { first = refl; usual = refl; bare = refl }, tt))
+show_usual = (
+  record { first = refl; usual = refl; bare = refl },
+  (record { first = refl; usual = refl; bare = refl }, tt),
+)
 
 script_usual : Each (IsUsual (leaf_of script_app.top).rules) (leaf_of script_app.top).rules
 script_usual = (record { first = refl; usual = refl; bare = refl }, tt)
 
 top_usual : Each (IsUsual (built cuectl_app).top.rules) (built cuectl_app).top.rules
-top_usual = (record { first = refl; usual = refl; bare = refl },
-    (record { first = refl; usual = refl; bare = refl }, tt))
+top_usual = (
+  record { first = refl; usual = refl; bare = refl },
+  (record { first = refl; usual = refl; bare = refl }, tt),
+)
 
 form_leaf : IsLeaf (leaf_of form_app.top)
 form_leaf = record {
@@ -207,13 +218,20 @@ serve_leaf = record { usual = serve_usual; line = serve_line }
       | inl dir ↦ absurd (first_there _ rows (row_of_given _ _ rows serve_usual.0 sound (given.0 refl)) dir)
       | inr (inl lacks) ↦
           let text = text_there _ rows (row_of_given _ _ rows serve_usual.1.0 sound (given.1.0 refl)) in
-          let number = signed_number 65535 text.0 (accepts-Accepts false (Signed (pos 0) (pos 65535)) text.0 text.2) in
-          (refl, port_zero rows _ (record { text = without_minus text.0; stands = text.1; numeral = number.0; value =
-              refl }) number.1 lacks)
+          let number = signed_number 65535 text.0 (accepts-Accepts false (Signed (pos 0) (pos 65535)) text.0 text.2) in (
+            refl,
+            port_zero rows _ (record {
+              text = without_minus text.0;
+              stands = text.1;
+              numeral = number.0;
+              value =
+                  refl;
+            }) number.1 lacks,
+          )
       | inr (inr lacks) ↦
           let text = text_there _ rows (row_of_given _ _ rows serve_usual.1.1.0 sound (given.1.1.0 refl)) in
           let number : IsUnsignedIn 0 18446744073709551615 text.0 =
-              accepts-Accepts false (Unsigned 0 18446744073709551615) text.0 text.2 in
+          accepts-Accepts false (Unsigned 0 18446744073709551615) text.0 text.2 in
           absurd (lacks _ (record { text = text.0; stands = text.1; numeral = number.0; value = refl }, number.1))
     ]
 
@@ -233,9 +251,9 @@ pub but_port_zero : (words : List Text) (found : Text × List Row) → fault_of 
     → subcommand_of cuectl_app words ≡ Some found → IsNoLine found → HasPortZero (Some found)
 but_port_zero words found e is unread =
     let stop = stop_after (built cuectl_app).top.rules (names_of (built cuectl_app))
-        (argument_words cuectl_app words) in
+    (argument_words cuectl_app words) in
     let top = taken (built cuectl_app).top (names_of (built cuectl_app)) (argument_words cuectl_app words)
-        (is_some (entered (built cuectl_app) stop)) (entered_fault (built cuectl_app) stop) top_usual e in
+    (is_some (entered (built cuectl_app) stop)) (entered_fault (built cuectl_app) stop) top_usual e in
     go stop (top.stopped refl) top.none_below is
   where
     by_help : (s : Shape) (p : Text × List Text) → label_of s ≡ (codes "help", []) → answers_to p.0 (label_of s) ≡ true
@@ -254,19 +272,19 @@ but_port_zero words found e is unread =
     by_sub : (p : Text × List Text) (o : Option Shape)
         → find (λ s. answers_to p.0 (label_of s)) (built cuectl_app).subs ≡ o → bytes_eq p.0 (codes "help") ≡ false
         → option_map_or (λ s. level_fault s [] nothing_held p.1 false []) o [] ≡ []
-            → option_map (λ s. rows_at s p.1) o ≡ Some found → HasPortZero (Some found)
+        → option_map (λ s. rows_at s p.1) o ≡ Some found → HasPortZero (Some found)
     by_sub p None among no_help k same = cc
     by_sub p (Some s) among no_help k same =
         let known = each_found Known (λ (x : Shape). answers_to p.0 (label_of x)) (built cuectl_app).subs s each_known
-            among in
+        among in
         let same_found : rows_at s p.1 ≡ found = cc in
         elim known.0 [
           | inl leaf ↦
               let level = taken s [] p.1 false [] leaf.usual k in
               let given = given_each (rows_after s.rules [] p.1) s.rules
-                  (not_given s.subcommand_negates_reqs _ (none_wanted _ _ _ level.checked)) in
+              (not_given s.subcommand_negates_reqs _ (none_wanted _ _ _ level.checked)) in
               subst (λ (f : Text × List Row). HasPortZero (Some f)) same_found
-                  (leaf.line (rows_after s.rules [] p.1) level.rows given (subst IsNoLine (sym same_found) unread))
+              (leaf.line (rows_after s.rules [] p.1) level.rows given (subst IsNoLine (sym same_found) unread))
           | inr help ↦ absurd (by_help s p help known.1 no_help)
         ]
 

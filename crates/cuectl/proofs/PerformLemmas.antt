@@ -66,8 +66,8 @@ pub only_memory : (words : List Text) (fault : LineFault) → fault_of cuectl_ap
 only_memory words (Help text) taken named help usage = absurd (no_text (subst AsksForText taken (help tt)))
 only_memory words Usage taken named help usage =
     absurd (no_other (subcommand_of cuectl_app words) named
-        (subst (λ kinds. IsRefused kinds ⊎ (subcommand_of cuectl_app words ≡ None)
-        ⊎ HasPortZero (subcommand_of cuectl_app words)) taken (usage refl)))
+    (subst (λ kinds. IsRefused kinds ⊎ (subcommand_of cuectl_app words ≡ None)
+    ⊎ HasPortZero (subcommand_of cuectl_app words)) taken (usage refl)))
 only_memory words Memory taken named help usage = refl
 
 -- a state that was printed is told

@@ -13,7 +13,7 @@ use Rattle.cue_exchange.specs.declared.attempt.DeviceAnswer.{DeviceAnswer}
 use Rattle.cue_exchange.specs.declared.attempt.Attempt.{Attempt}
 use Rattle.cue_exchange.specs.Answers.{is_ready, is_excused, is_waiting, is_preparing, is_decided, is_cancelling}
 use Rattle.cue_exchange.specs.Answers.{is_concluding, is_known_in, is_required, stands, waits, some_waits, entering}
-use Rattle.cue_exchange.specs.Answers.{enters, entered, answer_passes, answers_with, first_answer, devices_of}
+use Rattle.cue_exchange.specs.Answers.{enters, answers_on_entry, answer_passes, answers_with, first_answer, devices_of}
 use Rattle.cue_exchange.specs.Live.{devices_in}
 use Rattle.cue_exchange.specs.Steps.{answers_as, moves_to, new_attempt}
 use Rattle.cue_core.specs.declared.event.Event.{Event}
@@ -64,8 +64,11 @@ devices-parts [] (x ∷ xs) k = cc
 devices-parts (p ∷ ps) [] k = cc
 devices-parts (p ∷ ps) (x ∷ xs) k =
     let m = both (is_of_part p x) (are_of_parts ps xs) k in
-    rw (same_number p.device x.device (both (nat_eq p.device x.device) (beq p.optional x.optional) m.0).0, devices-parts
-        ps xs m.1) refl
+    rw (
+      same_number p.device x.device (both (nat_eq p.device x.device) (beq p.optional x.optional) m.0).0,
+      devices-parts
+          ps xs m.1,
+    ) refl
 
 pub devices_told : (h : List Event) (q : ℕ) (a : Attempt) → Tells h q a → devices_of a.answers ≡ devices_by h q
 devices_told h q a t = devices-parts (parts_by h q) a.answers t.parts
@@ -103,24 +106,59 @@ quiet q (event.Place c) h =
 quiet q (event.Start p c t) h =
     record { start = h; go = refl; cancel = refl; ready = λ d. refl; excuse = λ d. refl; end = λ d. refl }
 quiet q (event.Ready p e) h =
-    record { start = refl; go = refl; cancel = refl; ready = λ d. and_false (nat_eq p q) (nat_eq e d) h; excuse =
-    λ d. refl; end = λ d. refl }
+    record {
+      start = refl;
+      go = refl;
+      cancel = refl;
+      ready = λ d. and_false (nat_eq p q) (nat_eq e d) h;
+      excuse =
+          λ d. refl;
+      end = λ d. refl;
+    }
 quiet q (event.Go p) h =
     record { start = refl; go = h; cancel = refl; ready = λ d. refl; excuse = λ d. refl; end = λ d. refl }
 quiet q (event.Done p e) h =
-    record { start = refl; go = refl; cancel = refl; ready = λ d. refl; excuse = λ d. refl; end =
-    λ d. and_false (nat_eq p q) (nat_eq e d) h }
+    record {
+      start = refl;
+      go = refl;
+      cancel = refl;
+      ready = λ d. refl;
+      excuse = λ d. refl;
+      end =
+          λ d. and_false (nat_eq p q) (nat_eq e d) h;
+    }
 quiet q (event.Cancel p r) h =
     record { start = refl; go = refl; cancel = h; ready = λ d. refl; excuse = λ d. refl; end = λ d. refl }
 quiet q (event.LetGo p e) h =
-    record { start = refl; go = refl; cancel = refl; ready = λ d. refl; excuse = λ d. refl; end =
-    λ d. and_false (nat_eq p q) (nat_eq e d) h }
+    record {
+      start = refl;
+      go = refl;
+      cancel = refl;
+      ready = λ d. refl;
+      excuse = λ d. refl;
+      end =
+          λ d. and_false (nat_eq p q) (nat_eq e d) h;
+    }
 quiet q (event.Failed p e) h =
-    record { start = refl; go = refl; cancel = refl; ready = λ d. refl; excuse = λ d. refl; end =
-    λ d. and_false (nat_eq p q) (nat_eq e d) h }
+    record {
+      start = refl;
+      go = refl;
+      cancel = refl;
+      ready = λ d. refl;
+      excuse = λ d. refl;
+      end =
+          λ d. and_false (nat_eq p q) (nat_eq e d) h;
+    }
 quiet q (event.Excuse p e) h =
-    record { start = refl; go = refl; cancel = refl; ready = λ d. refl; excuse =
-    λ d. and_false (nat_eq p q) (nat_eq e d) h; end = λ d. and_false (nat_eq p q) (nat_eq e d) h }
+    record {
+      start = refl;
+      go = refl;
+      cancel = refl;
+      ready = λ d. refl;
+      excuse =
+          λ d. and_false (nat_eq p q) (nat_eq e d) h;
+      end = λ d. and_false (nat_eq p q) (nat_eq e d) h;
+    }
 
 pub parts_by-on : (q : ℕ) (e : Event) (h : List Event) → is_start_of q e ≡ false → parts_by (e ∷ h) q ≡ parts_by h q
 parts_by-on q e h n = rw n refl
@@ -160,7 +198,7 @@ tells-on q e h a n t = record {
 pub tells-start : (q : ℕ) (c : List ℕ) (t : ℕ) (parts : List Part) (h : List Event)
     → list_any (is_go_of q) h ≡ false → list_any (is_cancel_of q) h ≡ false
     → ((d : ℕ) → stood_by h q d ≡ false) → ((d : ℕ) → was_excused h q d ≡ false)
-        → ((d : ℕ) → list_any (is_end_of q d) h ≡ false)
+    → ((d : ℕ) → list_any (is_end_of q d) h ≡ false)
     → parts_by (event.Start q c t ∷ h) q ≡ parts
     → Tells (event.Start q c t ∷ h) q (new_attempt q c t parts)
 tells-start q c t parts h go cancel ready excused end same = record {
@@ -186,7 +224,7 @@ waiting_not test none R d [] k w = cc
 waiting_not test none R d (x ∷ xs) k w =
     let p = both (agrees (test x.answer) (R x.device)) (list_all (λ x. agrees (test x.answer) (R x.device)) xs) k in
     at (nat_eq x.device d) refl x.answer (same-agrees (test x.answer) (R x.device) p.0)
-        (waiting_not test none R d xs p.1) w
+    (waiting_not test none R d xs p.1) w
   where
     at : (b : Bool) → nat_eq x.device d ≡ b → (answer : Answer) → test answer ≡ R x.device
         → (IsTrue (answer_passes is_waiting d xs) → R d ≡ false)
@@ -225,17 +263,17 @@ tells-ready q d h a w t = record {
   cancelled = t.cancelled;
   ready = λ p. rw (all_mapped (ready_by (event.Ready q d ∷ h) q) (answers_with d Ready) a.answers)
       (all_from (ready_by h q) (λ x. ready_by (event.Ready q d ∷ h) q (answers_with d Ready x)) a.answers
-          (λ x k. ready_told q d x.device (nat_eq x.device d) x.answer (stood_by h q x.device)
-          (was_excused h q x.device) refl (at_device (was_excused h q) d x.device (not_excused p)) k) (t.ready p));
+      (λ x k. ready_told q d x.device (nat_eq x.device d) x.answer (stood_by h q x.device)
+      (was_excused h q x.device) refl (at_device (was_excused h q) d x.device (not_excused p)) k) (t.ready p));
   excused = λ p. rw (all_mapped (excused_by (event.Ready q d ∷ h) q) (answers_with d Ready) a.answers)
       (all_from (excused_by h q) (λ x. excused_by (event.Ready q d ∷ h) q (answers_with d Ready x)) a.answers
-          (λ x k. none_told is_excused d x.device (nat_eq x.device d) Ready x.answer (was_excused h q x.device) refl
-          refl (at_device (was_excused h q) d x.device (not_excused p)) k) (t.excused p));
+      (λ x k. none_told is_excused d x.device (nat_eq x.device d) Ready x.answer (was_excused h q x.device) refl
+      refl (at_device (was_excused h q) d x.device (not_excused p)) k) (t.excused p));
   ended = rw (all_mapped (last_by (event.Ready q d ∷ h) q) (answers_with d Ready) a.answers)
       (all_from (last_by h q) (λ x. last_by (event.Ready q d ∷ h) q (answers_with d Ready x)) a.answers
-          (λ x k. none_told is_last d x.device (nat_eq x.device d) Ready x.answer (list_any (is_end_of q x.device) h)
-          refl refl (at_device (λ n. list_any (is_end_of q n) h) d x.device
-          (waiting_not is_last refl (λ n. list_any (is_end_of q n) h) d a.answers t.ended w)) k) t.ended);
+      (λ x k. none_told is_last d x.device (nat_eq x.device d) Ready x.answer (list_any (is_end_of q x.device) h)
+      refl refl (at_device (λ n. list_any (is_end_of q n) h) d x.device
+      (waiting_not is_last refl (λ n. list_any (is_end_of q n) h) d a.answers t.ended w)) k) t.ended);
 }
   where
     not_excused : IsTrue (is_preparing a.stage) → was_excused h q d ≡ false
@@ -268,16 +306,16 @@ tells-excuse q d h a t = record {
   cancelled = t.cancelled;
   ready = λ p. rw (all_mapped (ready_by (event.Excuse q d ∷ h) q) (answers_with d Excused) a.answers)
       (all_from (ready_by h q) (λ x. ready_by (event.Excuse q d ∷ h) q (answers_with d Excused x)) a.answers
-          (λ x k. gone_told q d x.device (nat_eq x.device d) x.answer (stood_by h q x.device) (was_excused h q x.device)
-          refl k) (t.ready p));
+      (λ x k. gone_told q d x.device (nat_eq x.device d) x.answer (stood_by h q x.device) (was_excused h q x.device)
+      refl k) (t.ready p));
   excused = λ p. rw (all_mapped (excused_by (event.Excuse q d ∷ h) q) (answers_with d Excused) a.answers)
       (all_from (excused_by h q) (λ x. excused_by (event.Excuse q d ∷ h) q (answers_with d Excused x)) a.answers
-          (λ x k. now_told is_excused (nat_eq x.device d) Excused x.answer (nat_eq q q && nat_eq d x.device)
-          (was_excused h q x.device) (of_device q d x.device) refl k) (t.excused p));
+      (λ x k. now_told is_excused (nat_eq x.device d) Excused x.answer (nat_eq q q && nat_eq d x.device)
+      (was_excused h q x.device) (of_device q d x.device) refl k) (t.excused p));
   ended = rw (all_mapped (last_by (event.Excuse q d ∷ h) q) (answers_with d Excused) a.answers)
       (all_from (last_by h q) (λ x. last_by (event.Excuse q d ∷ h) q (answers_with d Excused x)) a.answers
-          (λ x k. now_told is_last (nat_eq x.device d) Excused x.answer (nat_eq q q && nat_eq d x.device)
-          (list_any (is_end_of q x.device) h) (of_device q d x.device) refl k) t.ended);
+      (λ x k. now_told is_last (nat_eq x.device d) Excused x.answer (nat_eq q q && nat_eq d x.device)
+      (list_any (is_end_of q x.device) h) (of_device q d x.device) refl k) t.ended);
 }
 
 -- ---- a new stage
@@ -309,11 +347,11 @@ moved_told old new past e k = rw e k
 
 ended_on : (q : ℕ) (stage : Stage) (h : List Event) (a : Attempt) → IsTrue (is_preparing a.stage)
     → IsTrue (is_concluding stage) → IsTrue (list_all (stands a.stage) a.answers)
-    → IsTrue (list_all (last_by h q) a.answers) → IsTrue (list_all (last_by h q) (entered stage a.answers))
+    → IsTrue (list_all (last_by h q) a.answers) → IsTrue (list_all (last_by h q) (answers_on_entry stage a.answers))
 ended_on q stage h a p c s t = rw (all_mapped (last_by h q) (enters stage) a.answers)
     (all_zip (stands a.stage) (last_by h q) (λ x. last_by h q (enters stage x)) a.answers
-        (λ x k l. moved_told (is_last x.answer) (is_last (entering stage x.answer)) (list_any (is_end_of q x.device) h)
-        (entering_keeps a.stage stage x.answer p c (knows a.stage x k)) l) s t)
+    (λ x k l. moved_told (is_last x.answer) (is_last (entering stage x.answer)) (list_any (is_end_of q x.device) h)
+    (entering_keeps a.stage stage x.answer p c (knows a.stage x k)) l) s t)
 
 pub not_decided : (stage : Stage) → IsTrue (is_preparing stage) → (is_decided stage ≡ false)
     × (is_cancelling stage ≡ false)
@@ -366,8 +404,8 @@ tells-end q d given e h a p l n t = record {
   excused = λ k. cc;
   ended = rw (all_mapped (last_by (e ∷ h) q) (answers_with d given) a.answers)
       (all_from (last_by h q) (λ x. last_by (e ∷ h) q (answers_with d given x)) a.answers
-          (λ x k. now_told is_last (nat_eq x.device d) given x.answer (is_end_of q x.device e)
-          (list_any (is_end_of q x.device) h) (n.end x.device) l k) t.ended);
+      (λ x k. now_told is_last (nat_eq x.device d) given x.answer (is_end_of q x.device e)
+      (list_any (is_end_of q x.device) h) (n.end x.device) l k) t.ended);
 }
 
 -- in a stage that is not Preparing a device that is not Waiting is done with
@@ -393,8 +431,8 @@ gone_by q h a p s w t =
     rw (← devices_told h q a t) (rw (all_mapped (λ d. list_any (is_end_of q d) h) (λ x. x.device) a.answers)
     (all_zip (last_by h q) (λ x. stands a.stage x && not (waits x)) (λ x. list_any (is_end_of q x.device) h) a.answers
     (λ x l k. told_last (is_last x.answer) (list_any (is_end_of q x.device) h)
-        (let k2 = both (stands a.stage x) (not (waits x)) k in last_one a.stage x.answer p (knows a.stage x k2.0) k2.1)
-        l)
+    (let k2 = both (stands a.stage x) (not (waits x)) k in last_one a.stage x.answer p (knows a.stage x k2.0) k2.1)
+    l)
     t.ended
     (all_zip (stands a.stage) (λ x. not (waits x)) (λ x. stands a.stage x && not (waits x)) a.answers
-        (λ x k l. join (stands a.stage x) (not (waits x)) k l) s (none_passes waits a.answers w))))
+    (λ x k l. join (stands a.stage x) (not (waits x)) k l) s (none_passes waits a.answers w))))

@@ -84,8 +84,13 @@ live_told h q None left k =
     sym (rw (any_not (λ d. list_any (is_end_of q d) h) (devices_by h q))
     (and_nothing (list_any (is_start_of q) h) (list_all (λ d. list_any (is_end_of q d) h) (devices_by h q)) k))
 live_told h q (Some a) left t =
-    sym (rw (any_not (λ d. list_any (is_end_of q d) h) (devices_by h q), t.begun, ← devices_told h q a t, ended_told h q
-    a.answers t.ended) (left a refl))
+    sym (rw (
+      any_not (λ d. list_any (is_end_of q d) h) (devices_by h q),
+      t.begun,
+      ← devices_told h q a t,
+      ended_told h q
+          a.answers t.ended,
+    ) (left a refl))
 
 -- ---- who stood by
 
@@ -96,7 +101,7 @@ none_stands : (d : ℕ) (R : ℕ → Bool) (xs : List DeviceAnswer)
 none_stands d R [] k n = refl
 none_stands d R (x ∷ xs) k n =
     let p = both (agrees (is_ready x.answer) (R x.device)) (list_all (λ x. agrees (is_ready x.answer) (R x.device)) xs)
-        k in
+    k in
     at (nat_eq x.device d) refl (same-agrees (is_ready x.answer) (R x.device) p.0) (none_stands d R xs p.1 n)
   where
     at : (b : Bool) → nat_eq x.device d ≡ b → is_ready x.answer ≡ R x.device → answer_passes is_ready d xs ≡ false
@@ -110,7 +115,7 @@ one_stands : (d : ℕ) (R : ℕ → Bool) (xs : List DeviceAnswer)
 one_stands d R [] k n m = cc
 one_stands d R (x ∷ xs) k n m =
     let p = both (agrees (is_ready x.answer) (R x.device)) (list_all (λ x. agrees (is_ready x.answer) (R x.device)) xs)
-        k in
+    k in
     at (nat_eq x.device d) refl (same-agrees (is_ready x.answer) (R x.device) p.0) (one_stands d R xs p.1 n) m
   where
     at : (b : Bool) → nat_eq x.device d ≡ b → is_ready x.answer ≡ R x.device
@@ -122,8 +127,11 @@ one_stands d R (x ∷ xs) k n m =
 ready_told : (d : ℕ) (R : ℕ → Bool) (xs : List DeviceAnswer)
     → IsTrue (list_all (λ x. agrees (is_ready x.answer) (R x.device)) xs) → IsTrue (is_among d (devices_of xs))
     → answer_passes is_ready d xs ≡ R d
-ready_told d R xs k m = elim (cases (R d)) [ inl e ↦ one_stands d R xs k e m ∙ sym e | inr e ↦ none_stands d R xs k e
-    ∙ sym e ]
+ready_told d R xs k m = elim (cases (R d)) [
+  | inl e ↦ one_stands d R xs k e m ∙ sym e
+  | inr e ↦ none_stands d R xs k e
+      ∙ sym e
+]
 
 pub told_of : (h : List Event) (q : ℕ) (o : Option Attempt) (a : Attempt) → o ≡ Some a → Settles h q o → Tells h q a
 told_of h q o a e k = let P : Option Attempt → Type 0 = λ x. Settles h q x in subst P e k
@@ -186,7 +194,7 @@ parts_told h q (p ∷ ps) (x ∷ xs) m k =
     let g = both (goes_by h q x) (list_all (goes_by h q) xs) k in
     let s = both (nat_eq p.device x.device) (beq p.optional x.optional) n.0 in
     join (may_go_by h q p) (list_all (may_go_by h q) ps)
-        (rw (same_number p.device x.device s.0, same_bool p.optional x.optional s.1) g.0) (parts_told h q ps xs n.1 g.1)
+    (rw (same_number p.device x.device s.0, same_bool p.optional x.optional s.1) g.0) (parts_told h q ps xs n.1 g.1)
 
 parts_go : (h : List Event) (q : ℕ) (a : Attempt) → IsTrue (is_preparing a.stage)
     → IsTrue (list_all (stands a.stage) a.answers) → Tells h q a → IsTrue (all_may_go a.answers)
@@ -194,13 +202,13 @@ parts_go : (h : List Event) (q : ℕ) (a : Attempt) → IsTrue (is_preparing a.s
 parts_go h q a p s t g =
     parts_told h q (parts_by h q) a.answers t.parts
     (all_zip may_go (told_by h q) (goes_by h q) a.answers
-        (λ x m k. may_go_told x.answer x.optional (stood_by h q x.device) (was_excused h q x.device) m k) g
+    (λ x m k. may_go_told x.answer x.optional (stood_by h q x.device) (was_excused h q x.device) m k) g
     (all_zip (ready_by h q) (λ x. excused_by h q x && not (not x.optional && is_excused x.answer)) (told_by h q)
-        a.answers (λ x r k. join (ready_by h q x) (excused_by h q x && not (not x.optional && is_excused x.answer)) r k)
-        (t.ready p)
+    a.answers (λ x r k. join (ready_by h q x) (excused_by h q x && not (not x.optional && is_excused x.answer)) r k)
+    (t.ready p)
     (all_zip (excused_by h q) (stands a.stage) (λ x. excused_by h q x && not (not x.optional && is_excused x.answer))
-        a.answers (λ x e k. join (excused_by h q x) (not (not x.optional && is_excused x.answer)) e
-        (both (is_known_in a.stage x.answer) (not (not x.optional && is_excused x.answer)) k).1) (t.excused p) s)))
+    a.answers (λ x e k. join (excused_by h q x) (not (not x.optional && is_excused x.answer)) e
+    (both (is_known_in a.stage x.answer) (not (not x.optional && is_excused x.answer)) k).1) (t.excused p) s)))
 
 preparing_no : (h : List Event) (q : ℕ) (a : Attempt) → IsTrue (is_preparing a.stage) → Tells h q a
     → IsTrue (not (list_any (is_go_of q) h)) × IsTrue (not (list_any (is_cancel_of q) h))
@@ -222,9 +230,9 @@ keeps h (event.Go q) k i g =
     let t = told_of h q (attempt_of (state_of h).live q) f.0 f.1 (k.settles q) in
     let s = found_has (λ b. list_all (stands b.stage) b.answers) (has_number q) (state_of h).live f.0 i.stand f.1 in
     join (list_any (is_start_of q) h) (list_all (may_go_by h q) (parts_by h q) && not (list_any (is_cancel_of q) h))
-        t.begun
+    t.begun
     (join (list_all (may_go_by h q) (parts_by h q)) (not (list_any (is_cancel_of q) h)) (parts_go h q f.0 p.0 s t p.1)
-        (preparing_no h q f.0 p.0 t).1)
+    (preparing_no h q f.0 p.0 t).1)
 keeps h (event.Done q d) k i g = refl
 keeps h (event.Cancel q r) k i g =
     let f = found q (λ a. is_preparing a.stage) (state_of h).live i.rises g in
@@ -238,4 +246,4 @@ go-after-ready [] p = refl
 go-after-ready (e ∷ h) p =
     let q = both (acceptable (state_of h) e) (is_history h) p in
     join (keeps_order h e) (is_in_order h) (keeps h e (kept-history h q.1) (sound-history h q.1) q.0)
-        (go-after-ready h q.1)
+    (go-after-ready h q.1)

@@ -9,7 +9,7 @@ use Rattle.cue_exchange.specs.declared.attempt.Stage.TheVariants.{Cancelling}
 use Rattle.cue_exchange.specs.declared.attempt.Attempt.{Attempt}
 use Rattle.cue_exchange.specs.Answers.{is_preparing}
 use Rattle.cue_exchange.specs.Live.{is_due}
-use Rattle.cue_exchange.specs.Steps.{holds, changed, moves_to, moved, can_cancel}
+use Rattle.cue_exchange.specs.Steps.{holds, with_change, moves_to, after_move, can_cancel}
 use Rattle.cue_exchange.proofs.ListLemmas.{pairwise_filter}
 use Rattle.cue_core.specs.declared.event.Event.{Event}
 use Rattle.cue_core.specs.declared.event.Event.TheVariants.{Cancel}
@@ -26,7 +26,7 @@ use Rattle.cue_core.proofs.verdicts.JudgementLemmas.{judgement_of-acceptable}
 
 -- a test on a number is left alone by a change of another
 holds-others : (p q : ℕ) (test : Attempt → Bool) (f : Attempt → Attempt) → ((a : Attempt) → (f a).seq ≡ a.seq)
-    → nat_eq p q ≡ false → (live : List Attempt) → holds q test (map (changed p f) live) ≡ holds q test live
+    → nat_eq p q ≡ false → (live : List Attempt) → holds q test (map (with_change p f) live) ≡ holds q test live
 holds-others p q test f keeps n [] = refl
 holds-others p q test f keeps n (a ∷ live) = rw (holds-others p q test f keeps n live) (at (nat_eq a.seq p) refl)
   where
@@ -49,9 +49,9 @@ in_turn r (a ∷ xs) s h g =
     join (can_cancel a.seq s.live) (are_acceptable (after s (Cancel a.seq r)) (map (λ b. Cancel b.seq r) xs)) k.0
     (in_turn r xs (after s (Cancel a.seq r)) p.1
     (all_zip (λ b. nat_lt a.seq b.seq) (λ b. can_cancel b.seq s.live)
-        (λ b. can_cancel b.seq (moved a.seq (Cancelling r) s.live)) xs
+    (λ b. can_cancel b.seq (after_move a.seq (Cancelling r) s.live)) xs
     (λ b l c. rw (holds-others a.seq b.seq (λ x. is_preparing x.stage) (moves_to (Cancelling r)) (λ x. refl)
-        (apart a.seq b.seq l) s.live) c) p.0 k.1))
+    (apart a.seq b.seq l) s.live) c) p.0 k.1))
   where
     apart : (m n : ℕ) → IsTrue (nat_lt m n) → nat_eq m n ≡ false
     apart m n l = Prim.grind (arith, nat_tests, l)
@@ -106,7 +106,7 @@ commands-make-histories (x ∷ before) h =
     let p = both (can_come x) (list_all can_come before) h in
     let past = commands-make-histories before p.1 in
     history-onto (events_at (state_of (history_of before)) x) (history_of before) past
-        (events-acceptable (history_of before) x past p.0)
+    (events-acceptable (history_of before) x past p.0)
 
 pub commands-in-order : CommandsInOrder
 commands-in-order hs h = go-after-ready (history_of hs) (commands-make-histories hs h)

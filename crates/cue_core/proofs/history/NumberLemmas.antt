@@ -16,7 +16,8 @@ use Rattle.cue_exchange.specs.Answers.{is_waiting, is_excused, is_preparing, is_
 use Rattle.cue_exchange.specs.Answers.{is_known_in, stands, some_waits, answer_passes, is_excusable, all_may_go}
 use Rattle.cue_exchange.specs.Answers.{answers_with}
 use Rattle.cue_exchange.specs.Live.{attempt_of, has_number}
-use Rattle.cue_exchange.specs.Steps.{holds, waits_in, answers_as, moves_to, new_attempt, started, answered, moved}
+use Rattle.cue_exchange.specs.Steps.{holds, waits_in, answers_as, moves_to, new_attempt, after_start, after_answer}
+use Rattle.cue_exchange.specs.Steps.{after_move}
 use Rattle.cue_exchange.specs.Steps.{without_ended, can_start, can_ready, can_go, can_go_now, can_cancel, can_done}
 use Rattle.cue_exchange.specs.Steps.{can_let_go, can_fail, can_excuse}
 use Rattle.cue_show.specs.Show.{has_cue}
@@ -79,8 +80,8 @@ started_other q a live n = find-append (has_number q) live (a ∷ []) ∙ at (at
     at (Some x) b e = refl
 
 ended_other : (p q d : ℕ) (given : Answer) (live : List Attempt) → nat_eq p q ≡ false
-    → attempt_of (without_ended p (answered p d given live)) q ≡ attempt_of live q
-ended_other p q d given live n = attempt_of-without_ended_other p q (answered p d given live) n
+    → attempt_of (without_ended p (after_answer p d given live)) q ≡ attempt_of live q
+ended_other p q d given live n = attempt_of-without_ended_other p q (after_answer p d given live) n
     ∙ found-others p q (answers_as d given) (kept_number d given) live n
 
 pub attempt_of-after_other : (s : ShowState) (q : ℕ) (e : Event) → is_about q e ≡ false
@@ -124,7 +125,8 @@ started_found q a live n e = find-append (has_number q) live (a ∷ []) ∙ rw (
 
 step_start : (h : List Event) (q : ℕ) (c : List ℕ) (t : ℕ) → Kept h (state_of h) → (state_of h).last_seq < q
     → IsTrue (list_all (λ a. nat_lt a.seq q) (state_of h).live)
-    → Settles (event.Start q c t ∷ h) q (attempt_of (started q c t (cue_parts (state_of h).show c) (state_of h).live) q)
+    → Settles (event.Start q c t ∷ h) q
+    (attempt_of (after_start q c t (cue_parts (state_of h).show c) (state_of h).live) q)
 step_start h q c t k above below =
     let fresh = k.unused q above in
     let none = attempt_of-lacks q (state_of h).live (lacks-below q (state_of h).live below) in
@@ -143,7 +145,7 @@ stands_at : (s : ShowState) (q : ℕ) (a : Attempt) → IsSound s → attempt_of
 stands_at s q a i e = found_has (λ b. list_all (stands b.stage) b.answers) (has_number q) s.live a i.stand e
 
 step_ready : (h : List Event) (s : ShowState) (q d : ℕ) → Kept h s → IsSound s → IsTrue (can_ready q d s.live)
-    → Settles (event.Ready q d ∷ h) q (attempt_of (answered q d answer.Ready s.live) q)
+    → Settles (event.Ready q d ∷ h) q (attempt_of (after_answer q d answer.Ready s.live) q)
 step_ready h s q d k i g =
     let f = found q (waits_in is_preparing d) s.live i.rises g in
     let p = both (is_preparing f.0.stage) (answer_passes is_waiting d f.0.answers) f.2 in
@@ -151,14 +153,14 @@ step_ready h s q d k i g =
     (tells-ready q d h f.0 p.1 (told_at h q (attempt_of s.live q) f.0 f.1 (k.settles q)))
 
 step_excuse : (h : List Event) (s : ShowState) (q d : ℕ) → Kept h s → IsSound s → IsTrue (can_excuse q d s.live)
-    → Settles (event.Excuse q d ∷ h) q (attempt_of (answered q d answer.Excused s.live) q)
+    → Settles (event.Excuse q d ∷ h) q (attempt_of (after_answer q d answer.Excused s.live) q)
 step_excuse h s q d k i g =
     let f = found q (λ a. is_preparing a.stage && is_excusable d a.answers) s.live i.rises g in
     rw (found-changed q (answers_as d answer.Excused) (kept_number d answer.Excused) s.live f.0 f.1)
     (tells-excuse q d h f.0 (told_at h q (attempt_of s.live q) f.0 f.1 (k.settles q)))
 
 step_go : (h : List Event) (s : ShowState) (q : ℕ) → Kept h s → IsSound s → IsTrue (can_go q s.live)
-    → Settles (event.Go q ∷ h) q (attempt_of (moved q Decided s.live) q)
+    → Settles (event.Go q ∷ h) q (attempt_of (after_move q Decided s.live) q)
 step_go h s q k i g =
     let f = found q can_go_now s.live i.rises g in
     let p = both (is_preparing f.0.stage) (all_may_go f.0.answers) f.2 in
@@ -166,7 +168,8 @@ step_go h s q k i g =
     (tells-go q h f.0 p.0 (stands_at s q f.0 i f.1) (told_at h q (attempt_of s.live q) f.0 f.1 (k.settles q)))
 
 step_cancel : (h : List Event) (s : ShowState) (q : ℕ) (r : Reason) → Kept h s → IsSound s
-    → IsTrue (can_cancel q s.live) → Settles (event.Cancel q r ∷ h) q (attempt_of (moved q (Cancelling r) s.live) q)
+    → IsTrue (can_cancel q s.live)
+    → Settles (event.Cancel q r ∷ h) q (attempt_of (after_move q (Cancelling r) s.live) q)
 step_cancel h s q r k i g =
     let f = found q (λ a. is_preparing a.stage) s.live i.rises g in
     rw (found-changed q (moves_to (Cancelling r)) (moved_number (Cancelling r)) s.live f.0 f.1)
@@ -176,7 +179,7 @@ step_cancel h s q r k i g =
 known_with : (stage : Stage) (b optional : Bool) (given answer : Answer) → IsTrue (is_known_in stage given)
     → is_excused given ≡ false → IsTrue (is_known_in stage answer && not (not optional && is_excused answer))
     → IsTrue (is_known_in stage (if b then given else answer) && not
-        (not optional && is_excused (if b then given else answer)))
+    (not optional && is_excused (if b then given else answer)))
 known_with stage true true given answer p n k = rw p refl
 known_with stage true false given answer p n k = rw (p, n) refl
 known_with stage false optional given answer p n k = k
@@ -198,10 +201,10 @@ settles_if_open h q a p k t = at (some_waits a.answers) refl
 step_end : (h : List Event) (s : ShowState) (q d : ℕ) (given : Answer) (e : Event) (a : Attempt) → Kept h s → IsSound s
     → attempt_of s.live q ≡ Some a → is_preparing a.stage ≡ false → IsTrue (is_known_in a.stage given)
     → is_excused given ≡ false → IsTrue (is_last given) → IsLastAnswer q d e
-    → Settles (e ∷ h) q (attempt_of (without_ended q (answered q d given s.live)) q)
+    → Settles (e ∷ h) q (attempt_of (without_ended q (after_answer q d given s.live)) q)
 step_end h s q d given e a k i f p known excused l n =
-    rw (attempt_of-without_ended q (answered q d given s.live)
-        (rising-changed q (answers_as d given) (kept_number d given) s.live i.rises))
+    rw (attempt_of-without_ended q (after_answer q d given s.live)
+    (rising-changed q (answers_as d given) (kept_number d given) s.live i.rises))
     (rw (found-changed q (answers_as d given) (kept_number d given) s.live a f)
     (settles_if_open (e ∷ h) q (answers_as d given a) p (stand_with d given a known excused (stands_at s q a i f))
     (tells-end q d given e h a p l n (told_at h q (attempt_of s.live q) a f (k.settles q)))))
@@ -225,29 +228,29 @@ closing_knows Decided p = (refl, refl)
 closing_knows (Cancelling r) p = (refl, refl)
 
 step_done : (h : List Event) (s : ShowState) (q d : ℕ) → Kept h s → IsSound s → IsTrue (can_done q d s.live)
-    → Settles (event.Done q d ∷ h) q (attempt_of (without_ended q (answered q d answer.Done s.live)) q)
+    → Settles (event.Done q d ∷ h) q (attempt_of (without_ended q (after_answer q d answer.Done s.live)) q)
 step_done h s q d k i g =
     let f = found q (waits_in is_decided d) s.live i.rises g in
     let p = decided_knows f.0.stage (both (is_decided f.0.stage) (answer_passes is_waiting d f.0.answers) f.2).0 in
     step_end h s q d answer.Done (event.Done q d) f.0 k i f.1 p.0 p.1 refl refl
-        (record { start = refl; go = refl; cancel = refl; end = λ n. of_device q d n })
+    (record { start = refl; go = refl; cancel = refl; end = λ n. of_device q d n })
 
 step_let_go : (h : List Event) (s : ShowState) (q d : ℕ) → Kept h s → IsSound s → IsTrue (can_let_go q d s.live)
-    → Settles (event.LetGo q d ∷ h) q (attempt_of (without_ended q (answered q d answer.LetGo s.live)) q)
+    → Settles (event.LetGo q d ∷ h) q (attempt_of (without_ended q (after_answer q d answer.LetGo s.live)) q)
 step_let_go h s q d k i g =
     let f = found q (waits_in is_cancelling d) s.live i.rises g in
     let p = cancelling_knows f.0.stage (both (is_cancelling f.0.stage) (answer_passes is_waiting d f.0.answers)
-        f.2).0 in
+    f.2).0 in
     step_end h s q d answer.LetGo (event.LetGo q d) f.0 k i f.1 p.0 p.1 refl refl
-        (record { start = refl; go = refl; cancel = refl; end = λ n. of_device q d n })
+    (record { start = refl; go = refl; cancel = refl; end = λ n. of_device q d n })
 
 step_failed : (h : List Event) (s : ShowState) (q d : ℕ) → Kept h s → IsSound s → IsTrue (can_fail q d s.live)
-    → Settles (event.Failed q d ∷ h) q (attempt_of (without_ended q (answered q d answer.Failed s.live)) q)
+    → Settles (event.Failed q d ∷ h) q (attempt_of (without_ended q (after_answer q d answer.Failed s.live)) q)
 step_failed h s q d k i g =
     let f = found q (waits_in is_concluding d) s.live i.rises g in
     let p = closing_knows f.0.stage (both (is_concluding f.0.stage) (answer_passes is_waiting d f.0.answers) f.2).0 in
     step_end h s q d answer.Failed (event.Failed q d) f.0 k i f.1 p.0 p.1 refl refl
-        (record { start = refl; go = refl; cancel = refl; end = λ n. of_device q d n })
+    (record { start = refl; go = refl; cancel = refl; end = λ n. of_device q d n })
 
 -- ---- all events
 
@@ -318,7 +321,7 @@ at_most_last : (s : ShowState) (q : ℕ) (test : Attempt → Bool) → IsSound s
 at_most_last s q test i g =
     let f = found q test s.live i.rises g in
     at f.0.seq (found_passes (has_number q) s.live f.0 f.1)
-        (found_has (λ a. nat_le a.seq s.last_seq) (has_number q) s.live f.0 i.within f.1)
+    (found_has (λ a. nat_le a.seq s.last_seq) (has_number q) s.live f.0 i.within f.1)
   where
     at : (n : ℕ) → IsTrue (nat_eq n q) → IsTrue (nat_le n s.last_seq) → q ≤ s.last_seq
     at n e l = Prim.grind (arith, nat_tests, e, l)

@@ -6,7 +6,7 @@ use Rattle.cue_exchange.specs.declared.attempt.Answer.TheVariants as answers
 use Rattle.cue_exchange.specs.declared.attempt.Stage.TheVariants.{Decided, Cancelling}
 use Rattle.cue_exchange.specs.declared.attempt.Attempt.{Attempt}
 use Rattle.cue_exchange.specs.Answers.{is_decided}
-use Rattle.cue_exchange.specs.Steps.{changed, answers_as, moves_to, moved, answered, holds, goes_on}
+use Rattle.cue_exchange.specs.Steps.{with_change, answers_as, moves_to, after_move, after_answer, holds, goes_on}
 use Rattle.cue_core.specs.declared.event.Event.{Event}
 use Rattle.cue_core.specs.declared.event.Event.TheVariants as event
 use Rattle.cue_core.specs.Events.{is_go_of, is_start_of}
@@ -20,11 +20,12 @@ use Rattle.cue_core.proofs.lists.AnyLemmas.{or_left, or_right, or_assoc, either,
 
 -- nothing else makes an attempt live than its Start, nor Decided than its Go
 live-changed : (p q : ℕ) (f : Attempt → Attempt) → ((a : Attempt) → (f a).seq ≡ a.seq) → (live : List Attempt)
-    → holds q (λ a. true) (map (changed p f) live) ≡ true → holds q (λ a. true) live ≡ true
-live-changed p q f keeps live h = any-mapped (changed p f) (λ a. nat_eq a.seq q && true) (λ a. nat_eq a.seq q && true)
+    → holds q (λ a. true) (map (with_change p f) live) ≡ true → holds q (λ a. true) live ≡ true
+live-changed p q f keeps live h = any-mapped (with_change p f) (λ a. nat_eq a.seq q && true)
+    (λ a. nat_eq a.seq q && true)
     one live h
   where
-    one : (a : Attempt) → (nat_eq (changed p f a).seq q && true) ≡ true → (nat_eq a.seq q && true) ≡ true
+    one : (a : Attempt) → (nat_eq (with_change p f a).seq q && true) ≡ true → (nat_eq a.seq q && true) ≡ true
     one a k = by (nat_eq a.seq p) k
       where
         by : (b : Bool) → (nat_eq (if b then f a else a).seq q && true) ≡ true → (nat_eq a.seq q && true) ≡ true
@@ -34,11 +35,12 @@ live-changed p q f keeps live h = any-mapped (changed p f) (λ a. nat_eq a.seq q
 -- a change that decides nothing
 decided-changed : (p q : ℕ) (f : Attempt → Attempt) → ((a : Attempt) → (f a).seq ≡ a.seq)
     → ((a : Attempt) → is_decided (f a).stage ≡ true → is_decided a.stage ≡ true) → (live : List Attempt)
-    → holds q (λ a. is_decided a.stage) (map (changed p f) live) ≡ true → holds q (λ a. is_decided a.stage) live ≡ true
-decided-changed p q f keeps back live h = any-mapped (changed p f) (λ a. nat_eq a.seq q && is_decided a.stage)
+    → holds q (λ a. is_decided a.stage) (map (with_change p f) live) ≡ true
+    → holds q (λ a. is_decided a.stage) live ≡ true
+decided-changed p q f keeps back live h = any-mapped (with_change p f) (λ a. nat_eq a.seq q && is_decided a.stage)
     (λ a. nat_eq a.seq q && is_decided a.stage) one live h
   where
-    one : (a : Attempt) → (nat_eq (changed p f a).seq q && is_decided (changed p f a).stage) ≡ true
+    one : (a : Attempt) → (nat_eq (with_change p f a).seq q && is_decided (with_change p f a).stage) ≡ true
         → (nat_eq a.seq q && is_decided a.stage) ≡ true
     one a k = by (nat_eq a.seq p) k
       where
@@ -48,12 +50,13 @@ decided-changed p q f keeps back live h = any-mapped (changed p f) (λ a. nat_eq
         by false m = m
 
 -- Go decides its own attempt alone
-decided-gone : (p q : ℕ) (live : List Attempt) → holds q (λ a. is_decided a.stage) (moved p Decided live) ≡ true
+decided-gone : (p q : ℕ) (live : List Attempt) → holds q (λ a. is_decided a.stage) (after_move p Decided live) ≡ true
     → (holds q (λ a. is_decided a.stage) live || nat_eq p q) ≡ true
 decided-gone p q [] h = absurd (true≢false (sym h))
 decided-gone p q (a ∷ rest) h =
-    either (nat_eq (changed p (moves_to Decided) a).seq q && is_decided (changed p (moves_to Decided) a).stage) _ _
-        (λ k. by (nat_eq a.seq p) refl k) (λ k. late (nat_eq a.seq q && is_decided a.stage) (decided-gone p q rest k)) h
+    either (nat_eq (with_change p (moves_to Decided) a).seq q && is_decided (with_change p (moves_to Decided) a).stage)
+    _ _
+    (λ k. by (nat_eq a.seq p) refl k) (λ k. late (nat_eq a.seq q && is_decided a.stage) (decided-gone p q rest k)) h
   where
     late : (b : Bool) → (holds q (λ a. is_decided a.stage) rest || nat_eq p q) ≡ true
         → ((b || holds q (λ a. is_decided a.stage) rest) || nat_eq p q) ≡ true
@@ -89,16 +92,16 @@ live-back s (event.Go p) q h = or_left (is_live_in s q) _ (live-changed p q (mov
 live-back s (event.Done p d) q h =
     or_left (is_live_in s q) _
     (live-changed p q (answers_as d answers.Done) (λ a. refl) s.live
-    (any-kept (λ a. nat_eq a.seq q && true) (goes_on p) (answered p d answers.Done s.live) h))
+    (any-kept (λ a. nat_eq a.seq q && true) (goes_on p) (after_answer p d answers.Done s.live) h))
 live-back s (event.Cancel p r) q h =
     or_left (is_live_in s q) _ (live-changed p q (moves_to (Cancelling r)) (λ a. refl) s.live h)
 live-back s (event.LetGo p d) q h =
     or_left (is_live_in s q) _
     (live-changed p q (answers_as d answers.LetGo) (λ a. refl) s.live
-    (any-kept (λ a. nat_eq a.seq q && true) (goes_on p) (answered p d answers.LetGo s.live) h))
+    (any-kept (λ a. nat_eq a.seq q && true) (goes_on p) (after_answer p d answers.LetGo s.live) h))
 live-back s (event.Failed p d) q h =
     or_left (is_live_in s q) _ (live-changed p q (answers_as d answers.Failed) (λ a. refl) s.live
-    (any-kept (λ a. nat_eq a.seq q && true) (goes_on p) (answered p d answers.Failed s.live) h))
+    (any-kept (λ a. nat_eq a.seq q && true) (goes_on p) (after_answer p d answers.Failed s.live) h))
 live-back s (event.Excuse p d) q h =
     or_left (is_live_in s q) _ (live-changed p q (answers_as d answers.Excused) (λ a. refl) s.live h)
 
@@ -119,16 +122,16 @@ decided-back s (event.Ready p d) q h =
 decided-back s (event.Go p) q h = decided-gone p q s.live h
 decided-back s (event.Done p d) q h =
     or_left (is_decided_in s q) _ (decided-changed p q (answers_as d answers.Done) (λ a. refl) (λ a k. k) s.live
-    (any-kept (λ a. nat_eq a.seq q && is_decided a.stage) (goes_on p) (answered p d answers.Done s.live) h))
+    (any-kept (λ a. nat_eq a.seq q && is_decided a.stage) (goes_on p) (after_answer p d answers.Done s.live) h))
 decided-back s (event.Cancel p r) q h =
     or_left (is_decided_in s q) _
     (decided-changed p q (moves_to (Cancelling r)) (λ a. refl) (λ a k. absurd (true≢false (sym k))) s.live h)
 decided-back s (event.LetGo p d) q h =
     or_left (is_decided_in s q) _ (decided-changed p q (answers_as d answers.LetGo) (λ a. refl) (λ a k. k) s.live
-    (any-kept (λ a. nat_eq a.seq q && is_decided a.stage) (goes_on p) (answered p d answers.LetGo s.live) h))
+    (any-kept (λ a. nat_eq a.seq q && is_decided a.stage) (goes_on p) (after_answer p d answers.LetGo s.live) h))
 decided-back s (event.Failed p d) q h =
     or_left (is_decided_in s q) _ (decided-changed p q (answers_as d answers.Failed) (λ a. refl) (λ a k. k) s.live
-    (any-kept (λ a. nat_eq a.seq q && is_decided a.stage) (goes_on p) (answered p d answers.Failed s.live) h))
+    (any-kept (λ a. nat_eq a.seq q && is_decided a.stage) (goes_on p) (after_answer p d answers.Failed s.live) h))
 decided-back s (event.Excuse p d) q h =
     or_left (is_decided_in s q) _ (decided-changed p q (answers_as d answers.Excused) (λ a. refl) (λ a k. k) s.live h)
 

@@ -35,8 +35,8 @@ order_says : (pick : Order → Bool) (stage : Stage → Bool) (q d : ℕ)
     → ((t : Stage) (p e : ℕ) (c b : List ℕ) → IsTrue (pick (order_at t p e c b))
     → IsTrue (nat_eq p q && (stage t && nat_eq e d)))
     → (s : ShowState) (a : Attempt) (xs : List DeviceAnswer)
-        → IsTrue (list_any (λ (o : ℕ × Order). pick o.1) (filter_map (order_for s a) xs))
-        → IsTrue (nat_eq a.seq q && (stage a.stage && answer_passes is_waiting d xs))
+    → IsTrue (list_any (λ (o : ℕ × Order). pick o.1) (filter_map (order_for s a) xs))
+    → IsTrue (nat_eq a.seq q && (stage a.stage && answer_passes is_waiting d xs))
 order_says pick stage q d f s a [] h = cc
 order_says pick stage q d f s a (x ∷ xs) h = at (waits x) h (order_says pick stage q d f s a xs)
   where
@@ -62,17 +62,20 @@ order_says pick stage q d f s a (x ∷ xs) h = at (waits x) h (order_says pick s
 
     at : (w : Bool) → IsTrue
         (list_any (λ (o : ℕ × Order). pick o.1)
-        (cons_option (if w then Some (unwrap_or (port_of s.show x.device) 0, order_at a.stage a.seq x.device a.cue
-        (bytes_for x.device (cue_parts s.show a.cue))) else None) (filter_map (order_for s a) xs)))
+        (cons_option (if w then Some (
+          unwrap_or (port_of s.show x.device) 0,
+          order_at a.stage a.seq x.device a.cue
+              (bytes_for x.device (cue_parts s.show a.cue)),
+        ) else None) (filter_map (order_for s a) xs)))
         → (IsTrue (list_any (λ (o : ℕ × Order). pick o.1) (filter_map (order_for s a) xs))
-            → IsTrue (nat_eq a.seq q && (stage a.stage && answer_passes is_waiting d xs)))
-            → IsTrue (nat_eq a.seq q && (stage a.stage && ((nat_eq x.device d && w) || answer_passes is_waiting d xs)))
+        → IsTrue (nat_eq a.seq q && (stage a.stage && answer_passes is_waiting d xs)))
+        → IsTrue (nat_eq a.seq q && (stage a.stage && ((nat_eq x.device d && w) || answer_passes is_waiting d xs)))
     at true h g = told (pick (order_at a.stage a.seq x.device a.cue (bytes_for x.device (cue_parts s.show a.cue))))
         (list_any (λ (o : ℕ × Order). pick o.1) (filter_map (order_for s a) xs))
         (λ k. now (nat_eq a.seq q) (stage a.stage) (nat_eq x.device d) (answer_passes is_waiting d xs)
-            (f a.stage a.seq x.device a.cue (bytes_for x.device (cue_parts s.show a.cue)) k))
+        (f a.stage a.seq x.device a.cue (bytes_for x.device (cue_parts s.show a.cue)) k))
         (λ k. later (nat_eq a.seq q) (stage a.stage) (nat_eq x.device d && true) (answer_passes is_waiting d xs) (g k))
-            h
+        h
     at false h g = later (nat_eq a.seq q) (stage a.stage) (nat_eq x.device d && false) (answer_passes is_waiting d xs)
         (g h)
 
@@ -90,15 +93,15 @@ pending_says : (pick : Order → Bool) (stage : Stage → Bool) (q d : ℕ)
     → ((t : Stage) (p e : ℕ) (c b : List ℕ) → IsTrue (pick (order_at t p e c b))
     → IsTrue (nat_eq p q && (stage t && nat_eq e d)))
     → (s : ShowState) (live : List Attempt)
-        → IsTrue (list_any (λ (o : ℕ × Order). pick o.1) (flat_map (λ a. filter_map (order_for s a) a.answers) live))
-        → IsTrue (holds q (waits_in stage d) live)
+    → IsTrue (list_any (λ (o : ℕ × Order). pick o.1) (flat_map (λ a. filter_map (order_for s a) a.answers) live))
+    → IsTrue (holds q (waits_in stage d) live)
 pending_says pick stage q d f s [] h = h
 pending_says pick stage q d f s (a ∷ live) h =
     at (list_any (λ (o : ℕ × Order). pick o.1) (filter_map (order_for s a) a.answers))
-        (list_any (λ (o : ℕ × Order). pick o.1) (flat_map (λ b. filter_map (order_for s b) b.answers) live))
-        (order_says pick stage q d f s a a.answers) (pending_says pick stage q d f s live)
+    (list_any (λ (o : ℕ × Order). pick o.1) (flat_map (λ b. filter_map (order_for s b) b.answers) live))
+    (order_says pick stage q d f s a a.answers) (pending_says pick stage q d f s live)
     (rw (any_append (λ (o : ℕ × Order). pick o.1) (filter_map (order_for s a) a.answers)
-        (flat_map (λ b. filter_map (order_for s b) b.answers) live)) at h)
+    (flat_map (λ b. filter_map (order_for s b) b.answers) live)) at h)
   where
     later : (b c : Bool) → IsTrue c → IsTrue (b || c)
     later true c k = refl
@@ -137,10 +140,10 @@ asked_of : (h : List Event) (pick : Order → Bool) (stage : Stage → Bool) (q 
     → ((t : Stage) (p e : ℕ) (c b : List ℕ) → IsTrue (pick (order_at t p e c b))
     → IsTrue (nat_eq p q && (stage t && nat_eq e d)))
     → IsTrue (is_history h) → IsTrue (list_any (λ (o : ℕ × Order). pick o.1) (pending (state_of h)))
-        → (a : Attempt) × Tells h q a × IsTrue (stage a.stage) × IsTrue (answer_passes is_waiting d a.answers)
+    → (a : Attempt) × Tells h q a × IsTrue (stage a.stage) × IsTrue (answer_passes is_waiting d a.answers)
 asked_of h pick stage q d says p k =
     let f = found q (waits_in stage d) (state_of h).live (sound-history h p).rises
-        (pending_says pick stage q d says (state_of h) (state_of h).live k) in
+    (pending_says pick stage q d says (state_of h) (state_of h).live k) in
     let w = both (stage f.0.stage) (answer_passes is_waiting d f.0.answers) f.2 in
     (f.0, told_of h q (attempt_of (state_of h).live q) f.0 f.1 ((kept-history h p).settles q), w.0, w.1)
 
@@ -237,7 +240,7 @@ both_none q (e ∷ past) p = let k = both (keeps_order past e) (is_in_order past
 pub never-asked-both : NeverAskedBoth
 never-asked-both h q d p = at (ever (asks_to_go q d) h) (ever (asks_to_cancel q d) h)
     (ever_told (asks_to_go q d) (is_go_of q) (λ k r m. asked_go k q d r m) h p)
-        (ever_told (asks_to_cancel q d) (is_cancel_of q) (λ k r m. asked_cancel k q d r m) h p)
+    (ever_told (asks_to_cancel q d) (is_cancel_of q) (λ k r m. asked_cancel k q d r m) h p)
     (both_none q h (go-after-ready h p))
   where
     at : (b c : Bool) → (IsTrue b → IsTrue (list_any (is_go_of q) h))

@@ -7,14 +7,14 @@ use Rattle.cue_exchange.specs.declared.attempt.Reason.TheVariants.{Power}
 use Rattle.cue_exchange.specs.declared.attempt.Stage.TheVariants.{Cancelling}
 use Rattle.cue_exchange.specs.declared.attempt.Attempt.{Attempt}
 use Rattle.cue_exchange.specs.Answers.{is_preparing}
-use Rattle.cue_exchange.specs.Steps.{changed, moves_to, holds}
+use Rattle.cue_exchange.specs.Steps.{with_change, moves_to, holds}
 use Rattle.cue_core.proofs.lists.ConditionLemmas.{join}
 use Rattle.cue_core.proofs.lists.AnyLemmas.{all_implied, all_mapped}
 use Rattle.cue_core.specs.declared.event.Event.{Event}
 use Rattle.cue_core.specs.declared.event.Event.TheVariants.{Cancel}
 use Rattle.cue_core.specs.State.{ShowState}
 use Rattle.cue_core.specs.Steps.{after, after_events}
-use Rattle.cue_core.specs.Batches.{closed, ClosedStays}
+use Rattle.cue_core.specs.Batches.{closed_state, ClosedStays}
 use Rattle.cue_core.proofs.lists.AnyLemmas.{or_left, or_right, either, gives, given, itself, same, none-filtered}
 
 abbrev cancel : Reason → Attempt → Event
@@ -29,7 +29,7 @@ abbrev is_left : List Attempt → Attempt → Bool
 is_left todo a = not (is_preparing a.stage) || named todo a.seq
 
 left-moved : (r : Reason) (b : Attempt) (todo : List Attempt) (a : Attempt) → is_left (b ∷ todo) a ≡ true
-    → is_left todo (changed b.seq (moves_to (Cancelling r)) a) ≡ true
+    → is_left todo (with_change b.seq (moves_to (Cancelling r)) a) ≡ true
 left-moved r b todo a h = by (nat_eq a.seq b.seq) refl
   where
     by : (t : Bool) → nat_eq a.seq b.seq ≡ t → is_left todo (if t then moves_to (Cancelling r) a else a) ≡ true
@@ -49,8 +49,8 @@ all-cancelled r [] s h = all_implied (is_left []) (λ a. not (is_preparing a.sta
     by false k = refl
 all-cancelled r (b ∷ todo) s h =
     all-cancelled r todo (after s (Cancel b.seq r))
-        (all_mapped (is_left (b ∷ todo)) (is_left todo) (changed b.seq (moves_to (Cancelling r))) (left-moved r b todo)
-        s.live h)
+    (all_mapped (is_left (b ∷ todo)) (is_left todo) (with_change b.seq (moves_to (Cancelling r))) (left-moved r b todo)
+    s.live h)
 
 first-left : (live : List Attempt) → list_all (is_left (filter (λ a. is_preparing a.stage) live)) live ≡ true
 first-left [] = refl
@@ -65,21 +65,21 @@ first-left (a ∷ rest) = by (is_preparing a.stage) refl (first-left rest)
     by true e r = join (nat_eq a.seq a.seq || named (filter (λ a. is_preparing a.stage) rest) a.seq) _
         (or_left (nat_eq a.seq a.seq) _ (itself a.seq))
         (all_implied (is_left (filter (λ a. is_preparing a.stage) rest))
-            (is_left (a ∷ filter (λ a. is_preparing a.stage) rest))
-            (λ x k. given (is_preparing x.stage) _
-            (λ p. or_right (nat_eq a.seq x.seq) _ (gives (is_preparing x.stage) _ k p))) rest r)
+        (is_left (a ∷ filter (λ a. is_preparing a.stage) rest))
+        (λ x k. given (is_preparing x.stage) _
+        (λ p. or_right (nat_eq a.seq x.seq) _ (gives (is_preparing x.stage) _ k p))) rest r)
     by false e r = r
 
-none-preparing : (s : ShowState) → list_all (λ a. not (is_preparing a.stage)) (closed s).live ≡ true
-unfolding closed
+none-preparing : (s : ShowState) → list_all (λ a. not (is_preparing a.stage)) (closed_state s).live ≡ true
+unfolding closed_state
 none-preparing s = all-cancelled Power (filter (λ a. is_preparing a.stage) s.live) s (first-left s.live)
 
-none-left : (s : ShowState) → list_all (λ a. not (is_preparing a.stage)) s.live ≡ true → closed s ≡ s
-unfolding closed
+none-left : (s : ShowState) → list_all (λ a. not (is_preparing a.stage)) s.live ≡ true → closed_state s ≡ s
+unfolding closed_state
 none-left s h = ap (λ xs. after_events s (map (cancel Power) xs)) (none-filtered (λ a. is_preparing a.stage) s.live h)
 
 pub closed-stays : ClosedStays
-closed-stays s = none-left (closed s) (none-preparing s)
+closed-stays s = none-left (closed_state s) (none-preparing s)
 
 -- what passes a test holds by its number
 pub each-holds : (test : Attempt → Bool) (live : List Attempt)
@@ -87,6 +87,6 @@ pub each-holds : (test : Attempt → Bool) (live : List Attempt)
 each-holds test [] = refl
 each-holds test (a ∷ rest) =
     join (not (test a) || holds a.seq test (a ∷ rest)) _
-        (given (test a) _ (λ t. or_left _ _ (join (nat_eq a.seq a.seq) _ (itself a.seq) t)))
+    (given (test a) _ (λ t. or_left _ _ (join (nat_eq a.seq a.seq) _ (itself a.seq) t)))
     (all_implied (λ x. not (test x) || holds x.seq test rest) (λ x. not (test x) || holds x.seq test (a ∷ rest))
-        (λ x k. given (test x) _ (λ t. or_right _ _ (gives (test x) _ k t))) rest (each-holds test rest))
+    (λ x k. given (test x) _ (λ t. or_right _ _ (gives (test x) _ k t))) rest (each-holds test rest))

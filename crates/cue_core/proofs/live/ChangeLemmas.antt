@@ -12,9 +12,10 @@ use Rattle.cue_exchange.specs.declared.attempt.Stage.TheVariants.{Preparing, Dec
 use Rattle.cue_exchange.specs.declared.attempt.DeviceAnswer.{DeviceAnswer}
 use Rattle.cue_exchange.specs.declared.attempt.Attempt.{Attempt}
 use Rattle.cue_exchange.specs.Answers.{is_waiting, is_excused, some_waits, device_answer, answers_with, with_answer}
-use Rattle.cue_exchange.specs.Answers.{entering, enters, entered, devices_of}
+use Rattle.cue_exchange.specs.Answers.{entering, enters, answers_on_entry, devices_of}
 use Rattle.cue_exchange.specs.Live.{attempt_of, is_among, distinct}
-use Rattle.cue_exchange.specs.Steps.{changed, answers_as, moves_to, answered, moved, goes_on, ended_in, outcome_of}
+use Rattle.cue_exchange.specs.Steps.{with_change, answers_as, moves_to, after_answer, after_move, goes_on, ended_in}
+use Rattle.cue_exchange.specs.Steps.{outcome_of}
 use Rattle.cue_core.specs.State.{ShowState, with_live}
 use Rattle.cue_core.specs.Steps.{after_last_answer, ended_as}
 use Rattle.cue_core.proofs.lists.ConditionLemmas.{both, join, all_from, same_number}
@@ -39,28 +40,31 @@ with_both d e x y n (z ∷ zs) = cons_eq (answers_with d x (answers_with e y z))
     at false true p q = rw (p, q) refl
     at false false p q = rw (p, q) refl
 
-changed_yes : (q : ℕ) (f : Attempt → Attempt) (a : Attempt) → nat_eq a.seq q ≡ true → changed q f a ≡ f a
+changed_yes : (q : ℕ) (f : Attempt → Attempt) (a : Attempt) → nat_eq a.seq q ≡ true → with_change q f a ≡ f a
 changed_yes q f a e = rw e refl
 
-changed_no : (q : ℕ) (f : Attempt → Attempt) (a : Attempt) → nat_eq a.seq q ≡ false → changed q f a ≡ a
+changed_no : (q : ℕ) (f : Attempt → Attempt) (a : Attempt) → nat_eq a.seq q ≡ false → with_change q f a ≡ a
 changed_no q f a e = rw e refl
 
 changed_both : (q : ℕ) (f g h k : Attempt → Attempt) → ((a : Attempt) → (g a).seq ≡ a.seq)
     → ((a : Attempt) → (k a).seq ≡ a.seq) → ((a : Attempt) → f (g a) ≡ h (k a)) → (live : List Attempt)
-    → map (changed q f) (map (changed q g) live) ≡ map (changed q h) (map (changed q k) live)
+    → map (with_change q f) (map (with_change q g) live) ≡ map (with_change q h) (map (with_change q k) live)
 changed_both q f g h k kg kk same [] = refl
-changed_both q f g h k kg kk same (a ∷ live) = cons_eq (changed q f (changed q g a)) (changed q h (changed q k a))
-    (map (changed q f) (map (changed q g) live)) (map (changed q h) (map (changed q k) live)) (at (nat_eq a.seq q) refl)
+changed_both q f g h k kg kk same (a ∷ live) =
+    cons_eq (with_change q f (with_change q g a)) (with_change q h (with_change q k a))
+    (map (with_change q f) (map (with_change q g) live)) (map (with_change q h) (map (with_change q k) live))
+    (at (nat_eq a.seq q) refl)
     (changed_both q f g h k kg kk same live)
   where
     there : (m n : Attempt → Attempt) → ((b : Attempt) → (n b).seq ≡ b.seq) → nat_eq a.seq q ≡ true
-        → changed q m (changed q n a) ≡ m (n a)
-    there m n kn e = ap (changed q m) (changed_yes q n a e) ∙ changed_yes q m (n a) (ap (λ p. nat_eq p q) (kn a) ∙ e)
+        → with_change q m (with_change q n a) ≡ m (n a)
+    there m n kn e = ap (with_change q m) (changed_yes q n a e)
+        ∙ changed_yes q m (n a) (ap (λ p. nat_eq p q) (kn a) ∙ e)
 
-    elsewhere : (m n : Attempt → Attempt) → nat_eq a.seq q ≡ false → changed q m (changed q n a) ≡ a
-    elsewhere m n e = ap (changed q m) (changed_no q n a e) ∙ changed_no q m a e
+    elsewhere : (m n : Attempt → Attempt) → nat_eq a.seq q ≡ false → with_change q m (with_change q n a) ≡ a
+    elsewhere m n e = ap (with_change q m) (changed_no q n a e) ∙ changed_no q m a e
 
-    at : (b : Bool) → nat_eq a.seq q ≡ b → changed q f (changed q g a) ≡ changed q h (changed q k a)
+    at : (b : Bool) → nat_eq a.seq q ≡ b → with_change q f (with_change q g a) ≡ with_change q h (with_change q k a)
     at true e = there f g kg e ∙ (same a ∙ sym (there h k kk e))
     at false e = elsewhere f g e ∙ sym (elsewhere h k e)
 
@@ -71,19 +75,22 @@ pub moved_number : (stage : Stage) (a : Attempt) → (moves_to stage a).seq ≡ 
 moved_number stage a = refl
 
 pub answered_both : (q d e : ℕ) (x y : Answer) (live : List Attempt) → nat_eq d e ≡ false
-    → answered q d x (answered q e y live) ≡ answered q e y (answered q d x live)
+    → after_answer q d x (after_answer q e y live) ≡ after_answer q e y (after_answer q d x live)
 answered_both q d e x y live n =
     changed_both q (answers_as d x) (answers_as e y) (answers_as e y) (answers_as d x) (given_number e y)
-        (given_number d x)
+    (given_number d x)
     (λ a. ap (λ (zs : List DeviceAnswer). record a { answers = zs }) (with_both d e x y n a.answers)) live
 
 -- an excused device is let go of as the preparation is given up
 entered_excused : (r : Reason) (d : ℕ) (zs : List DeviceAnswer)
-    → entered (Cancelling r) (with_answer d answer.Excused zs) ≡ with_answer d answer.LetGo (entered (Cancelling r) zs)
+    → answers_on_entry (Cancelling r) (with_answer d answer.Excused zs) ≡ with_answer d answer.LetGo
+    (answers_on_entry (Cancelling r) zs)
 entered_excused r d [] = refl
 entered_excused r d (z ∷ zs) = cons_eq (enters (Cancelling r) (answers_with d answer.Excused z))
-    (answers_with d answer.LetGo (enters (Cancelling r) z)) (entered (Cancelling r) (with_answer d answer.Excused zs))
-    (with_answer d answer.LetGo (entered (Cancelling r) zs)) (at (nat_eq z.device d) refl) (entered_excused r d zs)
+    (answers_with d answer.LetGo (enters (Cancelling r) z))
+    (answers_on_entry (Cancelling r) (with_answer d answer.Excused zs))
+    (with_answer d answer.LetGo (answers_on_entry (Cancelling r) zs)) (at (nat_eq z.device d) refl)
+    (entered_excused r d zs)
   where
     at : (b : Bool) → nat_eq z.device d ≡ b
         → enters (Cancelling r) (answers_with d answer.Excused z) ≡ answers_with d answer.LetGo
@@ -92,13 +99,13 @@ entered_excused r d (z ∷ zs) = cons_eq (enters (Cancelling r) (answers_with d 
     at false e = rw e refl
 
 pub moved_excused : (q d : ℕ) (r : Reason) (live : List Attempt)
-    → moved q (Cancelling r) (answered q d answer.Excused live) ≡ answered q d answer.LetGo
-    (moved q (Cancelling r) live)
+    → after_move q (Cancelling r) (after_answer q d answer.Excused live) ≡ after_answer q d answer.LetGo
+    (after_move q (Cancelling r) live)
 moved_excused q d r live =
     changed_both q (moves_to (Cancelling r)) (answers_as d answer.Excused) (answers_as d answer.LetGo)
-        (moves_to (Cancelling r)) (given_number d answer.Excused) (moved_number (Cancelling r))
+    (moves_to (Cancelling r)) (given_number d answer.Excused) (moved_number (Cancelling r))
     (λ a. ap (λ (zs : List DeviceAnswer). record a { stage = Cancelling r; answers = zs })
-        (entered_excused r d a.answers)) live
+    (entered_excused r d a.answers)) live
 
 -- ---- what holds of the attempt with the number
 
@@ -136,17 +143,19 @@ all_of_one q P a (b ∷ live) h e w =
 changed_over : (q : ℕ) (f g : Attempt → Attempt) (P : Attempt → Bool) → ((a : Attempt) → (g a).seq ≡ a.seq)
     → ((a : Attempt) → IsTrue (P a) → f (g a) ≡ f a) → (live : List Attempt)
     → IsTrue (list_all (λ b. not (nat_eq b.seq q) || P b) live)
-    → map (changed q f) (map (changed q g) live) ≡ map (changed q f) live
+    → map (with_change q f) (map (with_change q g) live) ≡ map (with_change q f) live
 changed_over q f g P kg same [] h = refl
 changed_over q f g P kg same (a ∷ live) h =
     let k = both (not (nat_eq a.seq q) || P a) (list_all (λ b. not (nat_eq b.seq q) || P b) live) h in
-    cons_eq (changed q f (changed q g a)) (changed q f a) (map (changed q f) (map (changed q g) live))
-        (map (changed q f) live) (at (nat_eq a.seq q) refl k.0) (changed_over q f g P kg same live k.1)
+    cons_eq (with_change q f (with_change q g a)) (with_change q f a)
+    (map (with_change q f) (map (with_change q g) live))
+    (map (with_change q f) live) (at (nat_eq a.seq q) refl k.0) (changed_over q f g P kg same live k.1)
   where
-    at : (b : Bool) → nat_eq a.seq q ≡ b → IsTrue (not b || P a) → changed q f (changed q g a) ≡ changed q f a
-    at true e k = ap (changed q f) (changed_yes q g a e)
+    at : (b : Bool) → nat_eq a.seq q ≡ b → IsTrue (not b || P a)
+        → with_change q f (with_change q g a) ≡ with_change q f a
+    at true e k = ap (with_change q f) (changed_yes q g a e)
         ∙ (changed_yes q f (g a) (ap (λ n. nat_eq n q) (kg a) ∙ e) ∙ (same a k ∙ sym (changed_yes q f a e)))
-    at false e k = ap (changed q f) (changed_no q g a e)
+    at false e k = ap (with_change q f) (changed_no q g a e)
 
 -- a device that was not excused is asked anew
 pub asked_anew : (stage : Stage) (x : Answer) → IsTrue (not (is_excused x)) → entering stage x ≡ answer.Waiting
@@ -204,18 +213,19 @@ unexcused x (z ∷ zs) h e n =
         let same : x ≡ z = cc in
         join (not (nat_eq z.device x.device && is_excused z.answer)) (is_unexcused x.device zs)
         (clear (nat_eq z.device x.device) (is_excused z.answer)
-            (subst (λ (y : DeviceAnswer). IsTrue (not (is_excused y.answer))) same n))
+        (subst (λ (y : DeviceAnswer). IsTrue (not (is_excused y.answer))) same n))
         (none zs (subst (λ (d : ℕ). IsTrue (not (is_among d (devices_of zs)))) (same_number z.device x.device s) m))
     at false s k m f = join (not (nat_eq z.device x.device && is_excused z.answer)) (is_unexcused x.device zs)
         (rw s refl) (f k)
 
 entered_over : (stage : Stage) (d : ℕ) (x : Answer) (zs : List DeviceAnswer) → IsTrue (not (is_excused x))
-    → IsTrue (is_unexcused d zs) → entered stage (with_answer d x zs) ≡ entered stage zs
+    → IsTrue (is_unexcused d zs) → answers_on_entry stage (with_answer d x zs) ≡ answers_on_entry stage zs
 entered_over stage d x [] n h = refl
 entered_over stage d x (z ∷ zs) n h =
     let p = both (not (nat_eq z.device d && is_excused z.answer)) (is_unexcused d zs) h in
-    cons_eq (enters stage (answers_with d x z)) (enters stage z) (entered stage (with_answer d x zs)) (entered stage zs)
-        (at (nat_eq z.device d) refl p.0) (entered_over stage d x zs n p.1)
+    cons_eq (enters stage (answers_with d x z)) (enters stage z) (answers_on_entry stage (with_answer d x zs))
+    (answers_on_entry stage zs)
+    (at (nat_eq z.device d) refl p.0) (entered_over stage d x zs n p.1)
   where
     at : (b : Bool) → nat_eq z.device d ≡ b → IsTrue (not (b && is_excused z.answer))
         → enters stage (answers_with d x z) ≡ enters stage z
@@ -225,11 +235,11 @@ entered_over stage d x (z ∷ zs) n h =
 
 pub moved_over : (q d : ℕ) (stage : Stage) (x : Answer) (a : Attempt) (live : List Attempt) → IsTrue (rising live)
     → attempt_of live q ≡ Some a → IsTrue (not (is_excused x)) → IsTrue (is_unexcused d a.answers)
-    → moved q stage (answered q d x live) ≡ moved q stage live
+    → after_move q stage (after_answer q d x live) ≡ after_move q stage live
 moved_over q d stage x a live h e n k =
     changed_over q (moves_to stage) (answers_as d x) (λ b. is_unexcused d b.answers) (given_number d x)
     (λ b l. ap (λ (zs : List DeviceAnswer). record b { stage = stage; answers = zs })
-        (entered_over stage d x b.answers n l)) live (all_of_one q (λ b. is_unexcused d b.answers) a live h e k)
+    (entered_over stage d x b.answers n l)) live (all_of_one q (λ b. is_unexcused d b.answers) a live h e k)
 
 -- ---- an attempt that goes on
 
@@ -242,12 +252,22 @@ pub settled_open : (s : ShowState) (q : ℕ) (live : List Attempt) (a : Attempt)
 settled_open s q live a h e w =
     let open_one : if_closed a ≡ None = rw w refl in
     let none : find (λ (b : Attempt). not (goes_on q b)) live ≡ None = found-closed q live h
-        ∙ (ap (λ (o : Option Attempt). option_and_then if_closed o) e ∙ open_one) in
-    ap (λ (l : List Attempt). record { show = s.show; live = l; last_seq = s.last_seq; ended = ended_as q
-        (ended_in q live) s.ended })
-        (filter_all (goes_on q) live (all_of_one q (λ b. some_waits b.answers) a live h e w))
-    ∙ ap (λ (o : Option Attempt). record { show = s.show; live = live; last_seq = s.last_seq; ended = ended_as q
-        (option_map outcome_of o) s.ended }) none
+    ∙ (ap (λ (o : Option Attempt). option_and_then if_closed o) e ∙ open_one) in
+    ap (λ (l : List Attempt). record {
+      show = s.show;
+      live = l;
+      last_seq = s.last_seq;
+      ended = ended_as q
+          (ended_in q live) s.ended;
+    })
+    (filter_all (goes_on q) live (all_of_one q (λ b. some_waits b.answers) a live h e w))
+    ∙ ap (λ (o : Option Attempt). record {
+      show = s.show;
+      live = live;
+      last_seq = s.last_seq;
+      ended = ended_as q
+          (option_map outcome_of o) s.ended;
+    }) none
 
 -- ---- what a device has answered
 
@@ -260,13 +280,13 @@ device_answer-other d e x (z ∷ zs) n =
     at : (b c : Bool) → nat_eq z.device e ≡ b → nat_eq z.device d ≡ c
         → device_answer (with_answer d x zs) e ≡ device_answer zs e
         → (if b then Some (answers_with d x z) else device_answer (with_answer d x zs) e)
-            ≡ (if b then Some z else device_answer zs e)
+        ≡ (if b then Some z else device_answer zs e)
     at true true p q h = let s = same_number z.device d q in let t : nat_eq d e ≡ true = rw (← s) p in cc
     at true false p q h = rw q refl
     at false c p q h = h
 
 pub device_answer-entered : (stage : Stage) (e : ℕ) (y : DeviceAnswer) (zs : List DeviceAnswer)
-    → device_answer zs e ≡ Some y → device_answer (entered stage zs) e ≡ Some (enters stage y)
+    → device_answer zs e ≡ Some y → device_answer (answers_on_entry stage zs) e ≡ Some (enters stage y)
 device_answer-entered stage e y zs h = found_mapped (λ z. nat_eq z.device e) (enters stage) (λ z. refl) zs
     ∙ ap (λ (o : Option DeviceAnswer). option_map (enters stage) o) h
 

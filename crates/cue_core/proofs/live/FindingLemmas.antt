@@ -7,7 +7,7 @@ use Rattle.std.specs.Option.{option_map, option_map_or}
 use Rattle.cue_exchange.specs.declared.attempt.Attempt.{Attempt}
 use Rattle.cue_exchange.specs.Answers.{some_waits}
 use Rattle.cue_exchange.specs.Live.{attempt_of, pairwise}
-use Rattle.cue_exchange.specs.Steps.{holds, changed, without_ended, goes_on}
+use Rattle.cue_exchange.specs.Steps.{holds, with_change, without_ended, goes_on}
 use Rattle.cue_core.proofs.lists.ConditionLemmas.{both, join, same_number, all_from, all_mapped}
 use Rattle.std.proofs.lemmas.Bool.Decides.{nat_tests}
 
@@ -74,7 +74,7 @@ found_passes t (x ∷ xs) a e = at (t x) refl (found_passes t xs a) e
 -- ---- finding an attempt by its number
 
 number_of_changed : (p : ℕ) (f : Attempt → Attempt) → ((a : Attempt) → (f a).seq ≡ a.seq) → (a : Attempt)
-    → (changed p f a).seq ≡ a.seq
+    → (with_change p f a).seq ≡ a.seq
 number_of_changed p f keeps a = at (nat_eq a.seq p)
   where
     at : (b : Bool) → (if b then f a else a).seq ≡ a.seq
@@ -83,9 +83,10 @@ number_of_changed p f keeps a = at (nat_eq a.seq p)
 
 -- a change that keeps the numbers
 pub attempt_of-changed : (p q : ℕ) (f : Attempt → Attempt) → ((a : Attempt) → (f a).seq ≡ a.seq) → (live : List Attempt)
-    → attempt_of (map (changed p f) live) q ≡ option_map (changed p f) (attempt_of live q)
+    → attempt_of (map (with_change p f) live) q ≡ option_map (with_change p f) (attempt_of live q)
 attempt_of-changed p q f keeps live =
-    found_mapped (λ a. nat_eq a.seq q) (changed p f) (λ a. ap (λ n. nat_eq n q) (number_of_changed p f keeps a)) live
+    found_mapped (λ a. nat_eq a.seq q) (with_change p f) (λ a. ap (λ n. nat_eq n q) (number_of_changed p f keeps a))
+    live
 
 -- the numbers rise
 abbrev pub rising : List Attempt → Bool
@@ -166,14 +167,14 @@ attempt_of-without_ended q [] h = refl
 attempt_of-without_ended q (a ∷ live) h =
     let p = both (list_all (λ b. nat_lt a.seq b.seq) live) (rising live) h in
     at (nat_eq a.seq q) (some_waits a.answers) refl refl
-        (λ e. attempt_of-lacks q (without_ended q live) (lacks-kept q (goes_on q) live (after_same q a.seq live e p.0)))
-        (attempt_of-without_ended q live p.1)
+    (λ e. attempt_of-lacks q (without_ended q live) (lacks-kept q (goes_on q) live (after_same q a.seq live e p.0)))
+    (attempt_of-without_ended q live p.1)
   where
     at : (b w : Bool) → nat_eq a.seq q ≡ b → some_waits a.answers ≡ w
         → (IsTrue b → attempt_of (without_ended q live) q ≡ None)
         → attempt_of (without_ended q live) q ≡ option_and_then if_open (attempt_of live q)
         → attempt_of (if not b || w then a ∷ without_ended q live else without_ended q live) q ≡ option_and_then if_open
-            (if b then Some a else attempt_of live q)
+        (if b then Some a else attempt_of live q)
     at true true n k f e = rw (n, k) refl
     at true false n k f e = rw k (f refl)
     at false w n k f e = rw n e
@@ -194,13 +195,13 @@ rising-mapped f keeps (a ∷ live) h =
     let p = both (list_all (λ b. nat_lt a.seq b.seq) live) (rising live) h in
     join (list_all (λ b. nat_lt (f a).seq b.seq) (map f live)) (rising (map f live))
     (rw (all_mapped (λ b. nat_lt (f a).seq b.seq) f live)
-        (all_from (λ b. nat_lt a.seq b.seq) (λ b. nat_lt (f a).seq (f b).seq) live (λ b k. rw (keeps a, keeps b) k)
-        p.0))
+    (all_from (λ b. nat_lt a.seq b.seq) (λ b. nat_lt (f a).seq (f b).seq) live (λ b k. rw (keeps a, keeps b) k)
+    p.0))
     (rising-mapped f keeps live p.1)
 
 pub rising-changed : (q : ℕ) (f : Attempt → Attempt) → ((a : Attempt) → (f a).seq ≡ a.seq) → (live : List Attempt)
-    → IsTrue (rising live) → IsTrue (rising (map (changed q f) live))
-rising-changed q f keeps live h = rising-mapped (changed q f) (number_of_changed q f keeps) live h
+    → IsTrue (rising live) → IsTrue (rising (map (with_change q f) live))
+rising-changed q f keeps live h = rising-mapped (with_change q f) (number_of_changed q f keeps) live h
 
 -- a test that holds of the attempt with a number holds of one that is there
 pub held : (test : Attempt → Bool) (o : Option Attempt) → IsTrue (option_map_or test o false)
@@ -216,9 +217,9 @@ found q test live r h = held test (attempt_of live q) (rw (← holds-found q tes
 -- the changed attempt is found in its place
 pub found-changed : (q : ℕ) (f : Attempt → Attempt) → ((a : Attempt) → (f a).seq ≡ a.seq)
     → (live : List Attempt) (a : Attempt) → attempt_of live q ≡ Some a
-    → attempt_of (map (changed q f) live) q ≡ Some (f a)
+    → attempt_of (map (with_change q f) live) q ≡ Some (f a)
 found-changed q f keeps live a e = attempt_of-changed q q f keeps live
-    ∙ (ap (λ o. option_map (changed q f) o) e
+    ∙ (ap (λ o. option_map (with_change q f) o) e
     ∙ ap (λ x. Some x) (at (nat_eq a.seq q) (found_passes (λ b. nat_eq b.seq q) live a e)))
   where
     at : (b : Bool) → IsTrue b → (if b then f a else a) ≡ f a
@@ -227,7 +228,7 @@ found-changed q f keeps live a e = attempt_of-changed q q f keeps live
 
 -- the attempt with another number stays
 pub found-others : (p q : ℕ) (f : Attempt → Attempt) → ((a : Attempt) → (f a).seq ≡ a.seq) → (live : List Attempt)
-    → nat_eq p q ≡ false → attempt_of (map (changed p f) live) q ≡ attempt_of live q
+    → nat_eq p q ≡ false → attempt_of (map (with_change p f) live) q ≡ attempt_of live q
 found-others p q f keeps live n = attempt_of-changed p q f keeps live
     ∙ same (attempt_of live q) (λ a e. found_passes (λ b. nat_eq b.seq q) live a e)
   where
@@ -236,7 +237,7 @@ found-others p q f keeps live n = attempt_of-changed p q f keeps live
     at a false e k = refl
 
     same : (o : Option Attempt) → ((a : Attempt) → o ≡ Some a → IsTrue (nat_eq a.seq q))
-        → option_map (changed p f) o ≡ o
+        → option_map (with_change p f) o ≡ o
     same None k = refl
     same (Some a) k = ap (λ x. Some x) (at a (nat_eq a.seq p) refl (k a refl))
 
@@ -261,13 +262,13 @@ found-closed q [] h = refl
 found-closed q (a ∷ live) h =
     let p = both (list_all (λ b. nat_lt a.seq b.seq) live) (rising live) h in
     at (nat_eq a.seq q) (some_waits a.answers) refl refl (λ e. goes_on-lacks q live (after_same q a.seq live e p.0))
-        (found-closed q live p.1)
+    (found-closed q live p.1)
   where
     at : (b w : Bool) → nat_eq a.seq q ≡ b → some_waits a.answers ≡ w
         → (IsTrue b → find (λ x. not (goes_on q x)) live ≡ None)
         → find (λ x. not (goes_on q x)) live ≡ option_and_then if_closed (attempt_of live q)
         → (if not (not b || w) then Some a else find (λ x. not (goes_on q x)) live) ≡ option_and_then if_closed
-            (if b then Some a else attempt_of live q)
+        (if b then Some a else attempt_of live q)
     at true true n k f e = rw k (f refl)
     at true false n k f e = rw k refl
     at false w n k f e = e

@@ -23,12 +23,14 @@ use Rattle.cue_exchange.specs.declared.attempt.Stage.TheVariants.{Decided, Cance
 use Rattle.cue_exchange.specs.declared.attempt.Attempt.{Attempt}
 use Rattle.cue_exchange.specs.declared.attempt.DeviceAnswer.{DeviceAnswer}
 use Rattle.cue_exchange.specs.declared.limits.TheConstants.{MAX_NUMBER}
-use Rattle.cue_exchange.specs.Answers.{stands, devices_of, first_answers, entered, with_answer, some_waits, is_decided}
+use Rattle.cue_exchange.specs.Answers.{stands, devices_of, first_answers, answers_on_entry, with_answer, some_waits}
+use Rattle.cue_exchange.specs.Answers.{is_decided}
 use Rattle.cue_exchange.specs.Answers.{is_cancelling, is_concluding}
 use Rattle.cue_exchange.specs.Live.{disjoint, attempt_of, attempt_of_cue, has_number, are_live, is_attempt, is_number}
 use Rattle.cue_exchange.specs.Live.{is_moment, have_sound_devices, goes_before}
 use Rattle.cue_exchange.specs.Live.{has_cue as is_of_cue}
-use Rattle.cue_exchange.specs.Steps.{holds, waits_in, changed, answers_as, moves_to, new_attempt, started, answered}
+use Rattle.cue_exchange.specs.Steps.{holds, waits_in, with_change, answers_as, moves_to, new_attempt, after_start}
+use Rattle.cue_exchange.specs.Steps.{after_answer}
 use Rattle.cue_exchange.specs.Steps.{goes_on, without_ended, ended_in, can_start}
 use Rattle.cue_exchange.proofs.LiveLemmas.{are_live-ready, are_live-go, are_live-cancel, are_live-done, are_live-let_go}
 use Rattle.cue_exchange.proofs.LiveLemmas.{are_live-failed, are_live-excused, are_live-started, order_of, attempts_of}
@@ -58,10 +60,10 @@ rules_of s h =
     let p = both (is_show s.show) (are_live s.live && are_tied s) h in
     let q = both (are_live s.live) (are_tied s) p.1 in
     let u = both (list_all (is_at_cue s.show) s.live)
-        (list_all (λ a. nat_le a.seq s.last_seq) s.live &&
-        (nat_le s.last_seq MAX_NUMBER && is_ended s.live s.last_seq s.ended)) q.1 in
+    (list_all (λ a. nat_le a.seq s.last_seq) s.live &&
+    (nat_le s.last_seq MAX_NUMBER && is_ended s.live s.last_seq s.ended)) q.1 in
     let w = both (list_all (λ a. nat_le a.seq s.last_seq) s.live)
-        (nat_le s.last_seq MAX_NUMBER && is_ended s.live s.last_seq s.ended) u.1 in
+    (nat_le s.last_seq MAX_NUMBER && is_ended s.live s.last_seq s.ended) u.1 in
     let x = both (nat_le s.last_seq MAX_NUMBER) (is_ended s.live s.last_seq s.ended) w.1 in
     record { show = p.0; live = q.0; at = u.0; within = w.0; last = x.0; ended = x.1 }
 
@@ -70,10 +72,10 @@ is_state-from s r =
     join (is_show s.show) (are_live s.live && are_tied s) r.show
     (join (are_live s.live) (are_tied s) r.live
     (join (list_all (is_at_cue s.show) s.live)
-        (list_all (λ a. nat_le a.seq s.last_seq) s.live &&
-        (nat_le s.last_seq MAX_NUMBER && is_ended s.live s.last_seq s.ended)) r.at
+    (list_all (λ a. nat_le a.seq s.last_seq) s.live &&
+    (nat_le s.last_seq MAX_NUMBER && is_ended s.live s.last_seq s.ended)) r.at
     (join (list_all (λ a. nat_le a.seq s.last_seq) s.live)
-        (nat_le s.last_seq MAX_NUMBER && is_ended s.live s.last_seq s.ended) r.within
+    (nat_le s.last_seq MAX_NUMBER && is_ended s.live s.last_seq s.ended) r.within
     (join (nat_le s.last_seq MAX_NUMBER) (is_ended s.live s.last_seq s.ended) r.last r.ended))))
 
 -- ---- the cue of each attempt
@@ -129,7 +131,7 @@ are_of_parts-with_answer (p ∷ ps) d given (x ∷ xs) =
     ap (λ b. is_of_part p x && b) (are_of_parts-with_answer ps d given xs)
 
 pub are_of_parts-entered : (parts : List Part) (stage : Stage) (xs : List DeviceAnswer)
-    → are_of_parts parts (entered stage xs) ≡ are_of_parts parts xs
+    → are_of_parts parts (answers_on_entry stage xs) ≡ are_of_parts parts xs
 are_of_parts-entered [] stage [] = refl
 are_of_parts-entered [] stage (x ∷ xs) = refl
 are_of_parts-entered (p ∷ ps) stage [] = refl
@@ -151,14 +153,18 @@ cue-answers_as d given =
     record { cue = λ a. refl; seq = λ a. refl; devices = λ parts a. are_of_parts-with_answer parts d given a.answers }
 
 cue-moves_to : (stage : Stage) → KeepsCue (moves_to stage)
-cue-moves_to stage = record { cue = λ a. refl; seq = λ a. refl; devices = λ parts a. are_of_parts-entered parts stage
-    a.answers }
+cue-moves_to stage = record {
+  cue = λ a. refl;
+  seq = λ a. refl;
+  devices = λ parts a. are_of_parts-entered parts stage
+      a.answers;
+}
 
 at-changed : (show : ShowLists) (q : ℕ) (f : Attempt → Attempt) → KeepsCue f → (live : List Attempt)
-    → IsTrue (list_all (is_at_cue show) live) → IsTrue (list_all (is_at_cue show) (map (changed q f) live))
+    → IsTrue (list_all (is_at_cue show) live) → IsTrue (list_all (is_at_cue show) (map (with_change q f) live))
 at-changed show q f k live h =
-    rw (all_mapped (is_at_cue show) (changed q f) live)
-    (all_from (is_at_cue show) (λ a. is_at_cue show (changed q f a)) live (λ a l. by a (nat_eq a.seq q) l) h)
+    rw (all_mapped (is_at_cue show) (with_change q f) live)
+    (all_from (is_at_cue show) (λ a. is_at_cue show (with_change q f a)) live (λ a l. by a (nat_eq a.seq q) l) h)
   where
     passes : (a : Attempt) (o : Option (List Part)) → IsTrue (is_at a o) → IsTrue (is_at (f a) o)
     passes a None l = l
@@ -170,9 +176,10 @@ at-changed show q f k live h =
 
 within-changed : (last q : ℕ) (f : Attempt → Attempt) → KeepsCue f → (live : List Attempt)
     → IsTrue (list_all (λ a. nat_le a.seq last) live)
-    → IsTrue (list_all (λ a. nat_le a.seq last) (map (changed q f) live))
-within-changed last q f k live h = rw (all_mapped (λ a. nat_le a.seq last) (changed q f) live)
-    (all_from (λ a. nat_le a.seq last) (λ a. nat_le (changed q f a).seq last) live (λ a l. by a (nat_eq a.seq q) l) h)
+    → IsTrue (list_all (λ a. nat_le a.seq last) (map (with_change q f) live))
+within-changed last q f k live h = rw (all_mapped (λ a. nat_le a.seq last) (with_change q f) live)
+    (all_from (λ a. nat_le a.seq last) (λ a. nat_le (with_change q f a).seq last) live (λ a l. by a (nat_eq a.seq q) l)
+    h)
   where
     by : (a : Attempt) (b : Bool) → IsTrue (nat_le a.seq last) → IsTrue (nat_le (if b then f a else a).seq last)
     by a true l = rw (k.seq a) l
@@ -190,7 +197,7 @@ ended-from live new last next grew (Some e) stays h =
     let q = both (nat_le e.seq last) (not (is_some (attempt_of live e.seq))) p.1 in
     join (is_number e.seq) (nat_le e.seq next && not (is_some (attempt_of new e.seq))) p.0
     (join (nat_le e.seq next) (not (is_some (attempt_of new e.seq))) (later e.seq q.0)
-        (rw (stays e.seq (below e.seq q.0) (none (attempt_of live e.seq) q.1)) refl))
+    (rw (stays e.seq (below e.seq q.0) (none (attempt_of live e.seq) q.1)) refl))
   where
     later : (n : ℕ) → IsTrue (nat_le n last) → IsTrue (nat_le n next)
     later n k = Prim.grind (arith, nat_tests, k, grew)
@@ -203,12 +210,12 @@ ended-from live new last next grew (Some e) stays h =
     none (Some a) k = cc
 
 none-changed : (p q : ℕ) (f : Attempt → Attempt) → KeepsCue f → (live : List Attempt) → attempt_of live q ≡ None
-    → attempt_of (map (changed p f) live) q ≡ None
-none-changed p q f k live n = attempt_of-changed p q f k.seq live ∙ ap (λ o. option_map (changed p f) o) n
+    → attempt_of (map (with_change p f) live) q ≡ None
+none-changed p q f k live n = attempt_of-changed p q f k.seq live ∙ ap (λ o. option_map (with_change p f) o) n
 
 ended-changed : (s : ShowState) (p : ℕ) (f : Attempt → Attempt) → KeepsCue f
-    → IsTrue (is_ended s.live s.last_seq s.ended) → IsTrue (is_ended (map (changed p f) s.live) s.last_seq s.ended)
-ended-changed s p f k h = ended-from s.live (map (changed p f) s.live) s.last_seq s.last_seq (omega arith) s.ended
+    → IsTrue (is_ended s.live s.last_seq s.ended) → IsTrue (is_ended (map (with_change p f) s.live) s.last_seq s.ended)
+ended-changed s p f k h = ended-from s.live (map (with_change p f) s.live) s.last_seq s.last_seq (omega arith) s.ended
     (λ q l n. none-changed p q f k s.live n) h
 
 rises_of : (live : List Attempt) → IsTrue (are_live live) → IsTrue (rising live)
@@ -222,8 +229,15 @@ rules-show : (s : ShowState) (show : ShowLists) → Rules s → IsTrue (is_show 
     → ((a : Attempt) → IsTrue (is_at_cue s.show a) → IsTrue (is_at_cue show a))
     → Rules (record { show = show; live = s.live; last_seq = s.last_seq; ended = s.ended })
 rules-show s show r h f =
-    record { show = h; live = r.live; at = all_from (is_at_cue s.show) (is_at_cue show) s.live f r.at; within =
-    r.within; last = r.last; ended = r.ended }
+    record {
+      show = h;
+      live = r.live;
+      at = all_from (is_at_cue s.show) (is_at_cue show) s.live f r.at;
+      within =
+          r.within;
+      last = r.last;
+      ended = r.ended;
+    }
 
 -- no live attempt is at the cue
 free_of : (s : ShowState) (c : List ℕ) → IsTrue (not (is_some (attempt_of_cue s.live c)))
@@ -249,8 +263,8 @@ rules-no_cue s c r g = record {
 
 -- a change of the attempts that keeps each at its cue
 rules-changed : (s : ShowState) (q : ℕ) (f : Attempt → Attempt) → KeepsCue f → Rules s
-    → IsTrue (are_live (map (changed q f) s.live))
-    → Rules (record { show = s.show; live = map (changed q f) s.live; last_seq = s.last_seq; ended = s.ended })
+    → IsTrue (are_live (map (with_change q f) s.live))
+    → Rules (record { show = s.show; live = map (with_change q f) s.live; last_seq = s.last_seq; ended = s.ended })
 rules-changed s q f k r h = record {
   show = r.show;
   live = h;
@@ -292,8 +306,13 @@ pub begins : (s : ShowState) (q : ℕ) (c : List ℕ) (t : ℕ) → IsTrue (can_
 begins s q c t g =
     let p = both (nat_eq q (s.last_seq + 1)) (has_cue s.show c && can_start q t (cue_parts s.show c) s.live) g in
     let u = both (has_cue s.show c) (can_start q t (cue_parts s.show c) s.live) p.1 in
-    record { next = same_number q (s.last_seq + 1) p.0; cue = u.0; start = u.1; number =
-        (can_start_parts q t (cue_parts s.show c) s.live u.1).number }
+    record {
+      next = same_number q (s.last_seq + 1) p.0;
+      cue = u.0;
+      start = u.1;
+      number =
+          (can_start_parts q t (cue_parts s.show c) s.live u.1).number;
+    }
 
 at-new : (show : ShowLists) (q : ℕ) (c : List ℕ) (t : ℕ) → IsTrue (has_cue show c)
     → IsTrue (is_at_cue show (new_attempt q c t (cue_parts show c)))
@@ -319,7 +338,8 @@ rules-start s q c t r g =
           (all_from (λ a. nat_le a.seq s.last_seq) (λ a. nat_le a.seq q) s.live (λ a k. later a.seq b.next k) r.within)
           (itself q);
       last = (both (nat_le 1 q) (nat_le q MAX_NUMBER) b.number).1;
-      ended = ended-from s.live (started q c t (cue_parts s.show c) s.live) s.last_seq q (let n = b.next in omega arith)
+      ended = ended-from s.live (after_start q c t (cue_parts s.show c) s.live) s.last_seq q
+          (let n = b.next in omega arith)
           s.ended (λ p l n. none-started p (new_attempt q c t (cue_parts s.show c)) s.live n (other p b.next l))
           r.ended;
     }
@@ -355,20 +375,20 @@ after_last_answer-ended s q live a rises e number most h = by (some_waits a.answ
         (join (nat_le q s.last_seq) (not (is_some (attempt_of (without_ended q live) q))) most (rw (gone w) refl)))
 
 rules-after_last_answer : (s : ShowState) (q d : ℕ) (given : Answer) (test : Attempt → Bool) → Rules s
-    → IsTrue (holds q test s.live) → IsTrue (are_live (without_ended q (answered q d given s.live)))
-    → Rules (after_last_answer s q (answered q d given s.live))
+    → IsTrue (holds q test s.live) → IsTrue (are_live (without_ended q (after_answer q d given s.live)))
+    → Rules (after_last_answer s q (after_answer q d given s.live))
 rules-after_last_answer s q d given test r g h =
     let f = found q test s.live (rises_of s.live r.live) g in
     let same = same_number f.0.seq q (found_passes (has_number q) s.live f.0 f.1) in
     record {
       show = r.show;
       live = h;
-      at = all_filter (is_at_cue s.show) (goes_on q) (answered q d given s.live)
+      at = all_filter (is_at_cue s.show) (goes_on q) (after_answer q d given s.live)
           (at-changed s.show q (answers_as d given) (cue-answers_as d given) s.live r.at);
-      within = all_filter (λ a. nat_le a.seq s.last_seq) (goes_on q) (answered q d given s.live)
+      within = all_filter (λ a. nat_le a.seq s.last_seq) (goes_on q) (after_answer q d given s.live)
           (within-changed s.last_seq q (answers_as d given) (cue-answers_as d given) s.live r.within);
       last = r.last;
-      ended = after_last_answer-ended s q (answered q d given s.live) (answers_as d given f.0)
+      ended = after_last_answer-ended s q (after_answer q d given s.live) (answers_as d given f.0)
           (rising-changed q (answers_as d given) (cue-answers_as d given).seq s.live (rises_of s.live r.live))
           (found-changed q (answers_as d given) (cue-answers_as d given).seq s.live f.0 f.1)
           (rw same at (number_of f.0 (found_has is_attempt (has_number q) s.live f.0 (attempts_of s.live r.live) f.1)))

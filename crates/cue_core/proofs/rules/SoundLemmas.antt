@@ -90,7 +90,7 @@ pub attempt_rules : (a : Attempt) → IsTrue (is_attempt a) → AttemptRules a
 attempt_rules a h =
     let p = both (is_sound a) (is_open a.stage a.answers) h in
     let q = both (is_number a.seq)
-        (is_moment a.deadline && (have_sound_devices a.answers && list_all (stands a.stage) a.answers)) p.0 in
+    (is_moment a.deadline && (have_sound_devices a.answers && list_all (stands a.stage) a.answers)) p.0 in
     let r = both (is_moment a.deadline) (have_sound_devices a.answers && list_all (stands a.stage) a.answers) q.1 in
     let t = both (have_sound_devices a.answers) (list_all (stands a.stage) a.answers) r.1 in
     let u = both (has_required a.answers) (distinct (devices_of a.answers)) t.0 in
@@ -100,7 +100,7 @@ pub sound_of : (s : ShowState) → IsTrue (is_state s) → IsSound s
 sound_of s h =
     let rules = rules_of s h in
     let few = both (nat_le (length s.live) MAX_LIVE) (list_all is_attempt s.live && pairwise goes_before s.live)
-        rules.live in
+    rules.live in
     let t = both (list_all is_attempt s.live) (pairwise goes_before s.live) few.1 in
     record {
       rises = pairwise_from goes_before (λ a b. nat_lt a.seq b.seq) s.live

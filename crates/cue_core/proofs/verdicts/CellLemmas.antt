@@ -13,14 +13,14 @@ use Rattle.cue_exchange.specs.declared.attempt.DeviceAnswer.{DeviceAnswer}
 use Rattle.cue_exchange.specs.declared.attempt.Attempt.{Attempt}
 use Rattle.cue_exchange.specs.Answers.{is_waiting, is_excused, is_preparing, device_answer}
 use Rattle.cue_exchange.specs.Live.{attempt_of, has_number}
-use Rattle.cue_exchange.specs.Steps.{answered, moved}
+use Rattle.cue_exchange.specs.Steps.{after_answer, after_move}
 use Rattle.cue_core.specs.declared.event.Event.TheVariants as event
 use Rattle.cue_core.specs.declared.command.Code.TheVariants as code
 use Rattle.cue_core.specs.declared.command.ReplyKind.{ReplyKind}
 use Rattle.cue_core.specs.declared.command.ReplyKind.TheVariants as reply
 use Rattle.cue_core.specs.State.{ShowState, with_live}
 use Rattle.cue_core.specs.Steps.{after_events, after_last_answer}
-use Rattle.cue_core.specs.Judge.{Judgement, made, refused, abort_early, on_reply, on_reply_to, on_reply_in}
+use Rattle.cue_core.specs.Judge.{Judgement, made_by, refused_with, abort_early, on_reply, on_reply_to, on_reply_in}
 use Rattle.cue_core.specs.Judge.{is_from_another}
 use Rattle.cue_core.specs.Replies.{Said, is_made, is_reply_made}
 use Rattle.cue_core.proofs.lists.ConditionLemmas.{both, same_number}
@@ -36,27 +36,30 @@ pub comes_made : (s : ShowState) (r : Said) → IsTrue (is_reply_made s r) → I
 comes_made s r h = at (has_device s.show r.device) (is_from_another s r.device r.from) (nat_lt s.last_seq r.number) h
   where
     at : (b p l : Bool) → IsTrue
-        (is_made (if not b then refused code.NoMethod else if p then refused code.WrongPort else if l then refused
+        (is_made (if not b then refused_with code.NoMethod else if p then refused_with code.WrongPort else if l then
+        refused_with
         code.Early else option_map_or (on_reply_to r.kind r.device) (attempt_of s.live r.number)
-        (refused code.Stale)).0) → IsTrue (b && (not p && not l))
+        (refused_with code.Stale)).0) → IsTrue (b && (not p && not l))
     at false p l k = cc
     at true true l k = cc
     at true false true k = cc
     at true false false k = refl
 
 pub reply_of : (s : ShowState) (r : Said) (o : Option Attempt) → IsTrue (comes s r) → attempt_of s.live r.number ≡ o
-    → on_reply s r.from r.kind r.device r.number ≡ option_map_or (on_reply_to r.kind r.device) o (refused code.Stale)
+    → on_reply s r.from r.kind r.device r.number ≡ option_map_or (on_reply_to r.kind r.device) o
+    (refused_with code.Stale)
 reply_of s r o h e =
     let p = both (has_device s.show r.device)
-        (not (is_from_another s r.device r.from) && not (nat_lt s.last_seq r.number)) h in
+    (not (is_from_another s r.device r.from) && not (nat_lt s.last_seq r.number)) h in
     let q = both (not (is_from_another s r.device r.from)) (not (nat_lt s.last_seq r.number)) p.1 in
     at (has_device s.show r.device) (is_from_another s r.device r.from) (nat_lt s.last_seq r.number) p.0 q.0 q.1
   where
     at : (b f l : Bool) → IsTrue b → IsTrue (not f) → IsTrue (not l)
-        → (if not b then refused code.NoMethod else if f then refused code.WrongPort else if l then refused code.Early
-        else option_map_or (on_reply_to r.kind r.device) (attempt_of s.live r.number) (refused code.Stale))
-        ≡ option_map_or (on_reply_to r.kind r.device) o (refused code.Stale)
-    at true false false j k m = ap (λ x. option_map_or (on_reply_to r.kind r.device) x (refused code.Stale)) e
+        → (if not b then refused_with code.NoMethod else if f then refused_with code.WrongPort else if l then
+        refused_with code.Early
+        else option_map_or (on_reply_to r.kind r.device) (attempt_of s.live r.number) (refused_with code.Stale))
+        ≡ option_map_or (on_reply_to r.kind r.device) o (refused_with code.Stale)
+    at true false false j k m = ap (λ x. option_map_or (on_reply_to r.kind r.device) x (refused_with code.Stale)) e
     at true false true j k m = cc
     at true true l j k m = cc
     at false f l j k m = cc
@@ -71,9 +74,9 @@ pub cell_at : (s : ShowState) (r : Said) (a : Attempt) (x : DeviceAnswer) → Is
     → on_reply s r.from r.kind r.device r.number ≡ on_reply_in r.kind r.number x a.stage x.answer
 cell_at s r a x h e g =
     reply_of s r (Some a) h e
-    ∙ (ap (λ o. option_map_or (λ w. on_reply_in r.kind a.seq w a.stage w.answer) o (refused code.NotPart)) g
+    ∙ (ap (λ o. option_map_or (λ w. on_reply_in r.kind a.seq w a.stage w.answer) o (refused_with code.NotPart)) g
     ∙ ap (λ n. on_reply_in r.kind n x a.stage x.answer)
-        (same_number a.seq r.number (found_passes (has_number r.number) s.live a e)))
+    (same_number a.seq r.number (found_passes (has_number r.number) s.live a e)))
 
 -- where it is made, there is an attempt with the device
 pub record Falls (s : ShowState) (r : Said) : Type 0 where
@@ -89,13 +92,14 @@ falls s r h = at (attempt_of s.live r.number) refl (let P : Judgement
   where
     within : (a : Attempt) (o : Option DeviceAnswer) → device_answer a.answers r.device ≡ o
         → attempt_of s.live r.number ≡ Some a
-        → IsTrue (is_made (option_map_or (λ w. on_reply_in r.kind a.seq w a.stage w.answer) o (refused code.NotPart)).0)
+        → IsTrue (is_made (option_map_or (λ w. on_reply_in r.kind a.seq w a.stage w.answer) o
+        (refused_with code.NotPart)).0)
         → Falls s r
     within a None g e k = absurd (cc)
     within a (Some x) g e k = record { attempt = a; found = e; given = x; answered = g }
 
     at : (o : Option Attempt) → attempt_of s.live r.number ≡ o
-        → IsTrue (is_made (option_map_or (on_reply_to r.kind r.device) o (refused code.Stale)).0) → Falls s r
+        → IsTrue (is_made (option_map_or (on_reply_to r.kind r.device) o (refused_with code.Stale)).0) → Falls s r
     at None e k = absurd (cc)
     at (Some a) e k = within a (device_answer a.answers r.device) refl e k
 
@@ -105,10 +109,12 @@ falls s r h = at (attempt_of s.live r.number) refl (let P : Judgement
 pub record Ends (q : ℕ) (x : DeviceAnswer) (given : Answer) (judgement_of : Judgement) : Type 0 where
   pub last : Answer
   pub waited : IsTrue (is_waiting given)
-  pub makes : (s : ShowState) → after_events s judgement_of.1 ≡ after_last_answer s q (answered q x.device last s.live)
+  pub makes : (s : ShowState)
+      → after_events s judgement_of.1 ≡ after_last_answer s q (after_answer q x.device last s.live)
 
 ends_late : (q : ℕ) (x : DeviceAnswer) (b : Bool)
-    → Ends q x answer.Waiting (if b then made (event.LetGo q x.device ∷ []) else made (event.Failed q x.device ∷ []))
+    → Ends q x answer.Waiting
+    (if b then made_by (event.LetGo q x.device ∷ []) else made_by (event.Failed q x.device ∷ []))
 ends_late q x true = record { last = answer.LetGo; waited = refl; makes = λ s. refl }
 ends_late q x false = record { last = answer.Failed; waited = refl; makes = λ s. refl }
 
@@ -174,33 +180,35 @@ anew x = record x { answer = answer.Waiting }
 -- the attempt goes on, and the device has answered
 pub record Stays (q : ℕ) (x : DeviceAnswer) (judgement_of : Judgement) : Type 0 where
   pub last : Answer
-  pub makes : (s : ShowState) → after_events s judgement_of.1 ≡ with_live s (answered q x.device last s.live)
+  pub makes : (s : ShowState) → after_events s judgement_of.1 ≡ with_live s (after_answer q x.device last s.live)
 
 -- the device stands by, and is too late once the attempt is given up
 pub record Readies (kind : ReplyKind) (q : ℕ) (x : DeviceAnswer) (given : Answer) (judgement_of : Judgement) : Type 0
-    where
-  pub makes : (s : ShowState) → after_events s judgement_of.1 ≡ with_live s (answered q x.device answer.Ready s.live)
-  pub asked : IsTrue (not (is_excused given))
-  pub late : (s : ShowState) (n : ℕ) (w : DeviceAnswer)
-      → after_events s (on_reply_in kind n w (Cancelling Abort) w.answer).1 ≡ s
+  where
+    pub makes : (s : ShowState)
+        → after_events s judgement_of.1 ≡ with_live s (after_answer q x.device answer.Ready s.live)
+    pub asked : IsTrue (not (is_excused given))
+    pub late : (s : ShowState) (n : ℕ) (w : DeviceAnswer)
+        → after_events s (on_reply_in kind n w (Cancelling Abort) w.answer).1 ≡ s
 
 -- the device is excused, and is let go of once the attempt is given up
 pub record Excuses (kind : ReplyKind) (q : ℕ) (x : DeviceAnswer) (given : Answer) (judgement_of : Judgement) : Type 0
-    where
-  pub makes : (s : ShowState) → after_events s judgement_of.1 ≡ with_live s (answered q x.device answer.Excused s.live)
-  pub asked : IsTrue (not (is_excused given))
-  pub later : (s : ShowState) → after_events s (on_reply_in kind q (anew x) (Cancelling Abort) answer.Waiting).1
-      ≡ after_last_answer s q (answered q x.device answer.LetGo s.live)
+  where
+    pub makes : (s : ShowState)
+        → after_events s judgement_of.1 ≡ with_live s (after_answer q x.device answer.Excused s.live)
+    pub asked : IsTrue (not (is_excused given))
+    pub later : (s : ShowState) → after_events s (on_reply_in kind q (anew x) (Cancelling Abort) answer.Waiting).1
+        ≡ after_last_answer s q (after_answer q x.device answer.LetGo s.live)
 
 -- the attempt is given up, and the device has failed, as it has where the attempt was given up before
 pub record Aborts (kind : ReplyKind) (q : ℕ) (x : DeviceAnswer) (given : Answer) (judgement_of : Judgement) : Type 0
-    where
-  pub makes : (s : ShowState)
-      → after_events s judgement_of.1 ≡ after_last_answer s q
-      (answered q x.device answer.Failed (moved q (Cancelling Abort) s.live))
-  pub asked : IsTrue (not (is_excused given))
-  pub later : (s : ShowState) → after_events s (on_reply_in kind q (anew x) (Cancelling Abort) answer.Waiting).1
-      ≡ after_last_answer s q (answered q x.device answer.Failed s.live)
+  where
+    pub makes : (s : ShowState)
+        → after_events s judgement_of.1 ≡ after_last_answer s q
+        (after_answer q x.device answer.Failed (after_move q (Cancelling Abort) s.live))
+    pub asked : IsTrue (not (is_excused given))
+    pub later : (s : ShowState) → after_events s (on_reply_in kind q (anew x) (Cancelling Abort) answer.Waiting).1
+        ≡ after_last_answer s q (after_answer q x.device answer.Failed s.live)
 
 -- what a reply may make
 abbrev pub Prepares : ReplyKind → ℕ → DeviceAnswer → Answer → Judgement → Type 0

@@ -14,14 +14,14 @@ use Rattle.cue_exchange.specs.declared.attempt.DeviceAnswer.{DeviceAnswer}
 use Rattle.cue_exchange.specs.declared.attempt.Attempt.{Attempt}
 use Rattle.cue_exchange.specs.declared.limits.TheConstants.{MAX_LIVE}
 use Rattle.cue_exchange.specs.Answers.{is_excused, is_preparing, some_waits, device_answer, with_answer, enters}
-use Rattle.cue_exchange.specs.Answers.{entered, devices_of}
+use Rattle.cue_exchange.specs.Answers.{answers_on_entry, devices_of}
 use Rattle.cue_exchange.specs.Live.{attempt_of, has_number, distinct, are_live, is_attempt, pairwise, goes_before}
-use Rattle.cue_exchange.specs.Steps.{answers_as, moves_to, answered, moved, without_ended}
+use Rattle.cue_exchange.specs.Steps.{answers_as, moves_to, after_answer, after_move, without_ended}
 use Rattle.cue_core.specs.declared.command.Code.TheVariants as code
 use Rattle.cue_core.specs.declared.command.ReplyKind.{ReplyKind}
 use Rattle.cue_core.specs.State.{ShowState, with_live, is_state, are_tied}
 use Rattle.cue_core.specs.Steps.{after_events, after_last_answer}
-use Rattle.cue_core.specs.Judge.{Judgement, refused, on_reply_to, on_reply_in}
+use Rattle.cue_core.specs.Judge.{Judgement, refused_with, on_reply_to, on_reply_in}
 use Rattle.cue_core.specs.Replies.{Said, is_made, is_reply_made, after_reply, RepliesCommute}
 use Rattle.cue_core.proofs.lists.ConditionLemmas.{both, same_number, number_sym}
 use Rattle.cue_core.proofs.live.FindingLemmas.{rising, rising-changed, found-changed, found_has}
@@ -82,7 +82,7 @@ module _ (s : ShowState) (q : ℕ) (a : Attempt) (rises : IsTrue (rising s.live)
 
   -- the attempts as the preparation is given up
   abbrev given_up : List Attempt
-  given_up = moved q (Cancelling Abort) s.live
+  given_up = after_move q (Cancelling Abort) s.live
 
   first_is : (r : Heard s q a) → heard s r ≡ after_events s (cell r).1
   first_is r = ap (λ (j : Judgement). after_events s j.1) (cell_at s (said r) a r.given r.comes here r.answered)
@@ -95,7 +95,7 @@ module _ (s : ShowState) (q : ℕ) (a : Attempt) (rises : IsTrue (rising s.live)
 
   -- the attempt, once the device of a reply has answered
   answered_here : (r : Heard s q a) (x : Answer)
-      → attempt_of (answered q r.given.device x s.live) q ≡ Some (answers_as r.given.device x a)
+      → attempt_of (after_answer q r.given.device x s.live) q ≡ Some (answers_as r.given.device x a)
   answered_here r x = found-changed q (answers_as r.given.device x) (given_number r.given.device x) s.live a here
 
   -- the device of the other reply is as it was
@@ -106,43 +106,45 @@ module _ (s : ShowState) (q : ℕ) (a : Attempt) (rises : IsTrue (rising s.live)
   -- the first reply, and then the second, where both are last answers
   ends_then : (r t : Heard s q a) → Differ r t → (u : Closes r) (v : Closes t)
       → heard (heard s r) t ≡ after_last_answer s q
-      (answered q t.given.device v.last (answered q r.given.device u.last s.live))
+      (after_answer q t.given.device v.last (after_answer q r.given.device u.last s.live))
   ends_then r t n u v =
       let d : ℕ = r.given.device in
-      let l : List Attempt = answered q d u.last s.live in
+      let l : List Attempt = after_answer q d u.last s.live in
       let b : Attempt = answers_as d u.last a in
       let eb : attempt_of l q ≡ Some b = answered_here r u.last in
       let gb : device_answer b.answers t.given.device ≡ Some t.given = other_answered r t u.last n in
       let first : heard s r ≡ with_live s l = first_is r
-          ∙ (u.makes s ∙ settled_open s q l b (rising-changed q (answers_as d u.last) (given_number d u.last) s.live
-          rises) eb (waiting_some t.given.device t.given b.answers gb v.waited)) in
+      ∙ (u.makes s ∙ settled_open s q l b (rising-changed q (answers_as d u.last) (given_number d u.last) s.live
+      rises) eb (waiting_some t.given.device t.given b.answers gb v.waited)) in
       ap (λ z. heard z t) first ∙ (second_is t l b t.given eb gb ∙ v.makes (with_live s l))
 
   -- where the attempt goes on after each
   stays_then : (r t : Heard s q a) → Differ r t → (u : GoesOn r) (v : GoesOn t)
-      → heard (heard s r) t ≡ with_live s (answered q t.given.device v.last (answered q r.given.device u.last s.live))
+      → heard (heard s r) t ≡ with_live s
+      (after_answer q t.given.device v.last (after_answer q r.given.device u.last s.live))
   stays_then r t n u v =
-      let l : List Attempt = answered q r.given.device u.last s.live in
+      let l : List Attempt = after_answer q r.given.device u.last s.live in
       ap (λ z. heard z t) (first_is r ∙ u.makes s)
-          ∙ (second_is t l (answers_as r.given.device u.last a) t.given (answered_here r u.last)
-          (other_answered r t u.last n) ∙ v.makes (with_live s l))
+      ∙ (second_is t l (answers_as r.given.device u.last a) t.given (answered_here r u.last)
+      (other_answered r t u.last n) ∙ v.makes (with_live s l))
 
   -- where the attempt goes on after the first, and the second aborts
   stays_then_abort : (r t : Heard s q a) → Differ r t → (u : GoesOn r) → GivesUp t
       → heard (heard s r) t ≡ after_last_answer s q
-      (answered q t.given.device answer.Failed (moved q (Cancelling Abort) (answered q r.given.device u.last s.live)))
+      (after_answer q t.given.device answer.Failed
+      (after_move q (Cancelling Abort) (after_answer q r.given.device u.last s.live)))
   stays_then_abort r t n u v =
-      let l : List Attempt = answered q r.given.device u.last s.live in
+      let l : List Attempt = after_answer q r.given.device u.last s.live in
       ap (λ z. heard z t) (first_is r ∙ u.makes s)
-          ∙ (second_is t l (answers_as r.given.device u.last a) t.given (answered_here r u.last)
-          (other_answered r t u.last n) ∙ v.makes (with_live s l))
+      ∙ (second_is t l (answers_as r.given.device u.last a) t.given (answered_here r u.last)
+      (other_answered r t u.last n) ∙ v.makes (with_live s l))
 
   -- the attempt as it is given up, and the device of a reply has failed
   abbrev failed_one : Heard s q a → Attempt
   failed_one r = answers_as r.given.device answer.Failed (moves_to (Cancelling Abort) a)
 
   abbrev failed_all : Heard s q a → List Attempt
-  failed_all r = answered q r.given.device answer.Failed given_up
+  failed_all r = after_answer q r.given.device answer.Failed given_up
 
   failed_here : (r : Heard s q a) → attempt_of (failed_all r) q ≡ Some (failed_one r)
   failed_here r = found-changed q (answers_as r.given.device answer.Failed) (given_number r.given.device answer.Failed)
@@ -158,16 +160,16 @@ module _ (s : ShowState) (q : ℕ) (a : Attempt) (rises : IsTrue (rising s.live)
       → heard (heard s r) t ≡ after_last_answer s q (failed_all r)
   abort_then_ready r t u v =
       let gone : attempt_of (without_ended q (failed_all r)) q ≡ if_open (failed_one r) =
-          attempt_of-without_ended q (failed_all r) (failed_rise r)
-          ∙ ap (λ o. option_and_then if_open o) (failed_here r) in
+      attempt_of-without_ended q (failed_all r) (failed_rise r)
+      ∙ ap (λ o. option_and_then if_open o) (failed_here r) in
       ap (λ z. heard z t) (first_is r ∙ u.makes s)
-          ∙ (ap (λ (j : Judgement). after_events (after_last_answer s q (failed_all r)) j.1)
-          (reply_of (after_last_answer s q (failed_all r)) (said t) (if_open (failed_one r)) t.comes gone)
-          ∙ at (failed_all r) (failed_one r) refl (some_waits (failed_one r).answers))
+      ∙ (ap (λ (j : Judgement). after_events (after_last_answer s q (failed_all r)) j.1)
+      (reply_of (after_last_answer s q (failed_all r)) (said t) (if_open (failed_one r)) t.comes gone)
+      ∙ at (failed_all r) (failed_one r) refl (some_waits (failed_one r).answers))
     where
       told : (l : List Attempt) (b : Attempt) (o : Option DeviceAnswer)
           → after_events (after_last_answer s q l)
-          (option_map_or (λ w. on_reply_in t.kind b.seq w (Cancelling Abort) w.answer) o (refused code.NotPart)).1
+          (option_map_or (λ w. on_reply_in t.kind b.seq w (Cancelling Abort) w.answer) o (refused_with code.NotPart)).1
           ≡ after_last_answer s q l
       told l b None = refl
       told l b (Some z) = v.late (after_last_answer s q l) b.seq z
@@ -176,11 +178,11 @@ module _ (s : ShowState) (q : ℕ) (a : Attempt) (rises : IsTrue (rising s.live)
           → after_events (after_last_answer s q l) (on_reply_to t.kind t.given.device b).1 ≡ after_last_answer s q l
       staged l b p = ap (λ (stage : Stage). after_events (after_last_answer s q l)
           (option_map_or (λ w. on_reply_in t.kind b.seq w stage w.answer) (device_answer b.answers t.given.device)
-          (refused code.NotPart)).1) p ∙ told l b (device_answer b.answers t.given.device)
+          (refused_with code.NotPart)).1) p ∙ told l b (device_answer b.answers t.given.device)
 
       at : (l : List Attempt) (b : Attempt) → b.stage ≡ Cancelling Abort → (w : Bool)
           → after_events (after_last_answer s q l)
-          (option_map_or (on_reply_to t.kind t.given.device) (if w then Some b else None) (refused code.Stale)).1
+          (option_map_or (on_reply_to t.kind t.given.device) (if w then Some b else None) (refused_with code.Stale)).1
           ≡ after_last_answer s q l
       at l b p true = staged l b p
       at l b p false = refl
@@ -188,20 +190,20 @@ module _ (s : ShowState) (q : ℕ) (a : Attempt) (rises : IsTrue (rising s.live)
   -- where the first aborts, and the second is the device's last answer
   abort_then : (r t : Heard s q a) → Differ r t → GivesUp r → IsTrue (not (is_excused t.given.answer))
       → (v : Ends q t.given answer.Waiting (on_reply_in t.kind q (anew t.given) (Cancelling Abort) answer.Waiting))
-      → heard (heard s r) t ≡ after_last_answer s q (answered q t.given.device v.last (failed_all r))
+      → heard (heard s r) t ≡ after_last_answer s q (after_answer q t.given.device v.last (failed_all r))
   abort_then r t n u k v =
       let e : ℕ = t.given.device in
       let l : List Attempt = failed_all r in
       let b : Attempt = failed_one r in
       let fresh : enters (Cancelling Abort) t.given ≡ anew t.given =
-          ap (λ (x : Answer). record t.given { answer = x }) (asked_anew (Cancelling Abort) t.given.answer k) in
+      ap (λ (x : Answer). record t.given { answer = x }) (asked_anew (Cancelling Abort) t.given.answer k) in
       let gb : device_answer b.answers e ≡ Some (anew t.given) =
-      device_answer-other r.given.device e answer.Failed (entered (Cancelling Abort) a.answers) n
-          ∙ (device_answer-entered (Cancelling Abort) e t.given a.answers t.answered
-          ∙ ap (λ (x : DeviceAnswer). Some x) fresh) in
+      device_answer-other r.given.device e answer.Failed (answers_on_entry (Cancelling Abort) a.answers) n
+      ∙ (device_answer-entered (Cancelling Abort) e t.given a.answers t.answered
+      ∙ ap (λ (x : DeviceAnswer). Some x) fresh) in
       let first : heard s r ≡ with_live s l = first_is r
-          ∙ (u.makes s ∙ settled_open s q l b (failed_rise r) (failed_here r)
-          (waiting_some e (anew t.given) b.answers gb refl)) in
+      ∙ (u.makes s ∙ settled_open s q l b (failed_rise r) (failed_here r)
+      (waiting_some e (anew t.given) b.answers gb refl)) in
       ap (λ z. heard z t) first ∙ (second_is t l b (anew t.given) (failed_here r) gb ∙ v.makes (with_live s l))
 
   -- ---- either order
@@ -223,19 +225,19 @@ module _ (s : ShowState) (q : ℕ) (a : Attempt) (rises : IsTrue (rising s.live)
   ready_and_abort : (r t : Heard s q a) → Differ r t → Stands r → GivesUp t → EitherOrder r t
   ready_and_abort r t n u v =
       stays_then_abort r t n (ready_stays u) v
-      ∙ (ap (λ (l : List Attempt). after_last_answer s q (answered q t.given.device answer.Failed l))
-          (moved_over q r.given.device (Cancelling Abort) answer.Ready a s.live rises here refl
-          (unexcused r.given a.answers apart r.answered u.asked))
+      ∙ (ap (λ (l : List Attempt). after_last_answer s q (after_answer q t.given.device answer.Failed l))
+      (moved_over q r.given.device (Cancelling Abort) answer.Ready a s.live rises here refl
+      (unexcused r.given a.answers apart r.answered u.asked))
       ∙ sym (abort_then_ready t r v u))
 
   -- a device is excused, and another gives the attempt up
   excuse_and_abort : (r t : Heard s q a) → Differ r t → Differ t r → LetsOff r → GivesUp t → EitherOrder r t
   excuse_and_abort r t n o u v =
       stays_then_abort r t n (excused_stays u) v
-      ∙ (ap (λ (l : List Attempt). after_last_answer s q (answered q t.given.device answer.Failed l))
-          (moved_excused q r.given.device Abort s.live)
+      ∙ (ap (λ (l : List Attempt). after_last_answer s q (after_answer q t.given.device answer.Failed l))
+      (moved_excused q r.given.device Abort s.live)
       ∙ (ap (λ (l : List Attempt). after_last_answer s q l)
-          (answered_both q t.given.device r.given.device answer.Failed answer.LetGo given_up o)
+      (answered_both q t.given.device r.given.device answer.Failed answer.LetGo given_up o)
       ∙ sym (abort_then t r o v u.asked (record { last = answer.LetGo; waited = refl; makes = u.later }))))
 
   -- each gives the attempt up
@@ -243,7 +245,7 @@ module _ (s : ShowState) (q : ℕ) (a : Attempt) (rises : IsTrue (rising s.live)
   aborting r t n o u v =
       abort_then r t n u v.asked (record { last = answer.Failed; waited = refl; makes = v.later })
       ∙ (ap (λ (l : List Attempt). after_last_answer s q l)
-          (answered_both q t.given.device r.given.device answer.Failed answer.Failed given_up o)
+      (answered_both q t.given.device r.given.device answer.Failed answer.Failed given_up o)
       ∙ sym (abort_then t r o v u.asked (record { last = answer.Failed; waited = refl; makes = u.later })))
 
   preparing : (r t : Heard s q a) → Differ r t → Differ t r → Prepares r.kind q r.given r.given.answer (cell r)
@@ -281,16 +283,16 @@ apart_in : (s : ShowState) (q : ℕ) (a : Attempt) → IsTrue (is_state s) → a
 apart_in s q a h e =
     let live : IsTrue (are_live s.live) = (rules_of s h).live in
     let each : IsTrue (list_all is_attempt s.live) =
-        (both (list_all is_attempt s.live) (pairwise goes_before s.live)
-        (both (nat_le (length s.live) MAX_LIVE) (list_all is_attempt s.live && pairwise goes_before s.live) live).1).0
-        in
+    (both (list_all is_attempt s.live) (pairwise goes_before s.live)
+    (both (nat_le (length s.live) MAX_LIVE) (list_all is_attempt s.live && pairwise goes_before s.live) live).1).0
+    in
     (attempt_rules a (found_has is_attempt (has_number q) s.live a each e)).distinct
 
 -- the two replies name one attempt
 one_number : (s : ShowState) (f g : ℕ) (k m : ReplyKind) (d e q : ℕ) → IsTrue (is_state s) → d ≢ e
     → IsTrue (is_reply_made s (says f k d q)) → IsTrue (is_reply_made s (says g m e q))
     → after_reply (after_reply s (says f k d q)) (says g m e q) ≡ after_reply (after_reply s (says g m e q))
-        (says f k d q)
+    (says f k d q)
 one_number s f g k m d e q h n hr ht =
     let r : Said = says f k d q in
     let t : Said = says g m e q in
@@ -302,27 +304,39 @@ one_number s f g k m d e q h n hr ht =
     let made_here : Judgement → Type 0 = λ j. IsTrue (is_made j.0) in
     let same : v.attempt ≡ a = some_same v.attempt a (sym v.found ∙ u.found) in
     let ge : device_answer a.answers e ≡ Some v.given = ap (λ (b : Attempt). device_answer b.answers e) (sym same)
-        ∙ v.answered in
+    ∙ v.answered in
     let pd : u.given.device ≡ d = device_found d a.answers u.given u.answered in
     let pe : v.given.device ≡ e = device_found e a.answers v.given ge in
-    let x : Heard s q a = record { from = f; kind = k; given = u.given; comes = subst
-        (λ (c : ℕ). IsTrue (comes s (says f k c q))) (sym pd) cr; answered =
-        ap (λ (c : ℕ). device_answer a.answers c) pd ∙ u.answered } in
-    let y : Heard s q a = record { from = g; kind = m; given = v.given; comes = subst
-        (λ (c : ℕ). IsTrue (comes s (says g m c q))) (sym pe) ct; answered =
-        ap (λ (c : ℕ). device_answer a.answers c) pe ∙ ge } in
+    let x : Heard s q a = record {
+      from = f;
+      kind = k;
+      given = u.given;
+      comes = subst
+          (λ (c : ℕ). IsTrue (comes s (says f k c q))) (sym pd) cr;
+      answered =
+          ap (λ (c : ℕ). device_answer a.answers c) pd ∙ u.answered;
+    } in
+    let y : Heard s q a = record {
+      from = g;
+      kind = m;
+      given = v.given;
+      comes = subst
+          (λ (c : ℕ). IsTrue (comes s (says g m c q))) (sym pe) ct;
+      answered =
+          ap (λ (c : ℕ). device_answer a.answers c) pe ∙ ge;
+    } in
     let apart : nat_eq u.given.device v.given.device ≡ false = ap (λ (c : ℕ). nat_eq c v.given.device) pd
-        ∙ (ap (λ (c : ℕ). nat_eq d c) pe ∙ unlike d e n) in
+    ∙ (ap (λ (c : ℕ). nat_eq d c) pe ∙ unlike d e n) in
     let apart_too : nat_eq v.given.device u.given.device ≡ false = number_sym v.given.device u.given.device ∙ apart in
     let both_ways : after_reply (after_reply s (says f k u.given.device q)) (says g m v.given.device q) ≡ after_reply
-        (after_reply s (says g m v.given.device q)) (says f k u.given.device q) =
+    (after_reply s (says g m v.given.device q)) (says f k u.given.device q) =
     either_order s q a (sound_of s h).rises (apart_in s q a h u.found) u.found x y apart apart_too
-        (subst made_here (cell_at s r a u.given cr u.found u.answered) hr)
-        (subst made_here (cell_at s t a v.given ct u.found ge) ht) in
+    (subst made_here (cell_at s r a u.given cr u.found u.answered) hr)
+    (subst made_here (cell_at s t a v.given ct u.found ge) ht) in
     subst (λ (c : ℕ). after_reply (after_reply s (says f k d q)) (says g m c q) ≡ after_reply
-        (after_reply s (says g m c q)) (says f k d q)) pe
+    (after_reply s (says g m c q)) (says f k d q)) pe
     (subst (λ (c : ℕ). after_reply (after_reply s (says f k c q)) (says g m v.given.device q) ≡ after_reply
-        (after_reply s (says g m v.given.device q)) (says f k c q)) pd both_ways)
+    (after_reply s (says g m v.given.device q)) (says f k c q)) pd both_ways)
   where
     some_same : (x y : Attempt) → Some x ≡ Some y → x ≡ y
     some_same x y p = cc
@@ -330,6 +344,6 @@ one_number s f g k m d e q h n hr ht =
 pub replies-commute : RepliesCommute
 replies-commute s r t h same n hr ht =
     let P : ℕ → Type 0 = λ q. IsTrue (is_reply_made s (says t.from t.kind t.device q))
-        → after_reply (after_reply s r) (says t.from t.kind t.device q) ≡ after_reply
-        (after_reply s (says t.from t.kind t.device q)) r in
+    → after_reply (after_reply s r) (says t.from t.kind t.device q) ≡ after_reply
+    (after_reply s (says t.from t.kind t.device q)) r in
     subst P same (one_number s r.from t.from r.kind t.kind r.device t.device r.number h n hr) ht

@@ -19,7 +19,7 @@ use Rattle.cue_core.specs.declared.command.ReplyKind.{ReplyKind}
 use Rattle.cue_core.specs.declared.command.ReplyKind.TheVariants as reply
 use Rattle.cue_core.specs.declared.command.Verdict.TheVariants.{Made, Known, No}
 use Rattle.cue_core.specs.State.{ShowState}
-use Rattle.cue_core.specs.Judge.{Judgement, judgement_of, made, abort_early, abort_late, release_early, on_reply_in}
+use Rattle.cue_core.specs.Judge.{Judgement, judgement_of, made_by, abort_early, abort_late, release_early, on_reply_in}
 use Rattle.cue_core.specs.Judge.{on_reply_to, on_release_in, on_release_of}
 
 pub record HasItsEvents (j : Judgement) : Type 0 where
@@ -109,11 +109,12 @@ cancelled-has q d (Cancelling r) answer.Failed = none-refused
 cancelled-has q d (Cancelling r) answer.Excused = none-refused
 
 abort_early-has : (q : ℕ) (d : DeviceAnswer) → HasItsEvents (abort_early q d)
-abort_early-has q d = if-has d.optional (made (event.Excuse q d.device ∷ []))
-    (made (event.Cancel q Abort ∷ event.Failed q d.device ∷ [])) one two
+abort_early-has q d = if-has d.optional (made_by (event.Excuse q d.device ∷ []))
+    (made_by (event.Cancel q Abort ∷ event.Failed q d.device ∷ [])) one two
 
 abort_late-has : (q : ℕ) (d : DeviceAnswer) → HasItsEvents (abort_late q d)
-abort_late-has q d = if-has d.optional (made (event.LetGo q d.device ∷ [])) (made (event.Failed q d.device ∷ [])) one
+abort_late-has q d = if-has d.optional (made_by (event.LetGo q d.device ∷ [])) (made_by (event.Failed q d.device ∷ []))
+    one
     one
 
 abort-has : (q : ℕ) (d : DeviceAnswer) (g : Stage) (x : Answer) → HasItsEvents (on_reply_in reply.Abort q d g x)
@@ -137,8 +138,8 @@ abort-has q d (Cancelling r) answer.Failed = none-known
 abort-has q d (Cancelling r) answer.Excused = none-refused
 
 release_early-has : (q : ℕ) (d : DeviceAnswer) → HasItsEvents (release_early q d)
-release_early-has q d = if-has d.optional (made (event.Excuse q d.device ∷ []))
-    (made (event.Cancel q Release ∷ event.LetGo q d.device ∷ [])) one two
+release_early-has q d = if-has d.optional (made_by (event.Excuse q d.device ∷ []))
+    (made_by (event.Cancel q Release ∷ event.LetGo q d.device ∷ [])) one two
 
 release_in-has : (q : ℕ) (d : DeviceAnswer) (g : Stage) (x : Answer) → HasItsEvents (on_release_in q d g x)
 release_in-has q d Preparing answer.Waiting = release_early-has q d

@@ -14,10 +14,10 @@ use Rattle.cue_exchange.specs.declared.attempt.DeviceAnswer.{DeviceAnswer}
 use Rattle.cue_exchange.specs.declared.attempt.Attempt.{Attempt}
 use Rattle.cue_exchange.specs.Answers.{is_waiting, is_preparing, is_decided, is_cancelling, is_concluding, is_ready}
 use Rattle.cue_exchange.specs.Answers.{is_excused, is_excusable, is_known_in, can_be_excused, is_required, stands}
-use Rattle.cue_exchange.specs.Answers.{entering, entered, answer_of, device_answer, answer_passes}
+use Rattle.cue_exchange.specs.Answers.{entering, answers_on_entry, answer_of, device_answer, answer_passes}
 use Rattle.cue_exchange.specs.Live.{attempt_of, attempt_of_cue, attempt_of_device, has_number}
 use Rattle.cue_exchange.specs.Live.{has_device as is_of_device, has_cue as is_of_cue, is_attempt}
-use Rattle.cue_exchange.specs.Steps.{holds, waits_in, changed, moves_to, moved, can_go_now}
+use Rattle.cue_exchange.specs.Steps.{holds, waits_in, with_change, moves_to, after_move, can_go_now}
 use Rattle.cue_exchange.proofs.AnswerLemmas.{is_waiting-entering}
 use Rattle.cue_exchange.proofs.LiveLemmas.{attempts_of, is_sound-of_attempt, sound_of}
 use Rattle.cue_core.specs.declared.event.Event.{Event}
@@ -29,7 +29,8 @@ use Rattle.cue_core.specs.declared.command.Command.{Command}
 use Rattle.cue_core.specs.declared.command.Command.TheVariants as command
 use Rattle.cue_core.specs.State.{ShowState, is_state}
 use Rattle.cue_core.specs.Steps.{acceptable, after, are_acceptable}
-use Rattle.cue_core.specs.Judge.{made, known, refused, judgement_of, is_fit, on_go, on_go_of, on_cancel, on_cancel_of}
+use Rattle.cue_core.specs.Judge.{made_by, known_already, refused_with, judgement_of, is_fit, on_go, on_go_of, on_cancel}
+use Rattle.cue_core.specs.Judge.{on_cancel_of}
 use Rattle.cue_core.specs.Judge.{on_release, on_release_of, on_release_in, release_early, abort_early, abort_late}
 use Rattle.cue_core.specs.Judge.{on_reply, on_reply_to, on_reply_in, is_from_another}
 use Rattle.cue_core.proofs.lists.ConditionLemmas.{both, join, same_number, same_self}
@@ -57,7 +58,7 @@ found_holds t test (x ∷ live) a e k = at (t x) e (found_holds t test live a)
     at true e f = let same : x ≡ a = cc in rw (same, same_self a.seq, k) refl
     at false e f = later (nat_eq x.seq a.seq && test x) (holds a.seq test live) (f e k)
 
-changed_itself : (f : Attempt → Attempt) (a : Attempt) → changed a.seq f a ≡ f a
+changed_itself : (f : Attempt → Attempt) (a : Attempt) → with_change a.seq f a ≡ f a
 changed_itself f a = at (nat_eq a.seq a.seq) (same_self a.seq)
   where
     at : (b : Bool) → b ≡ true → (if b then f a else a) ≡ f a
@@ -67,7 +68,7 @@ changed_itself f a = at (nat_eq a.seq a.seq) (same_self a.seq)
 -- and of the attempt as it is changed
 found_holds_changed : (t test : Attempt → Bool) (f : Attempt → Attempt) → ((b : Attempt) → (f b).seq ≡ b.seq)
     → (live : List Attempt) (a : Attempt) → find t live ≡ Some a → IsTrue (test (f a))
-    → IsTrue (holds a.seq test (map (changed a.seq f) live))
+    → IsTrue (holds a.seq test (map (with_change a.seq f) live))
 found_holds_changed t test f keeps [] a e k = cc
 found_holds_changed t test f keeps (x ∷ live) a e k = at (t x) e (found_holds_changed t test f keeps live a)
   where
@@ -75,21 +76,23 @@ found_holds_changed t test f keeps (x ∷ live) a e k = at (t x) e (found_holds_
     here y same = rw same (join (nat_eq (f a).seq a.seq) (test (f a)) (rw (keeps a) (same_self a.seq)) k)
 
     at : (b : Bool) → (if b then Some x else find t live) ≡ Some a
-        → (find t live ≡ Some a → IsTrue (test (f a)) → IsTrue (holds a.seq test (map (changed a.seq f) live)))
-        → IsTrue ((nat_eq (changed a.seq f x).seq a.seq && test (changed a.seq f x)) || holds a.seq test
-            (map (changed a.seq f) live))
-    at true e g = let same : x ≡ a = cc in or_left (nat_eq (changed a.seq f x).seq a.seq && test (changed a.seq f x))
-        (holds a.seq test (map (changed a.seq f) live))
-        (here (changed a.seq f x) (ap (changed a.seq f) same ∙ changed_itself f a))
-    at false e g = or_right (nat_eq (changed a.seq f x).seq a.seq && test (changed a.seq f x))
-        (holds a.seq test (map (changed a.seq f) live)) (g e k)
+        → (find t live ≡ Some a → IsTrue (test (f a)) → IsTrue (holds a.seq test (map (with_change a.seq f) live)))
+        → IsTrue ((nat_eq (with_change a.seq f x).seq a.seq && test (with_change a.seq f x)) || holds a.seq test
+        (map (with_change a.seq f) live))
+    at true e g = let same : x ≡ a = cc in
+        or_left (nat_eq (with_change a.seq f x).seq a.seq && test (with_change a.seq f x))
+        (holds a.seq test (map (with_change a.seq f) live))
+        (here (with_change a.seq f x) (ap (with_change a.seq f) same ∙ changed_itself f a))
+    at false e g = or_right (nat_eq (with_change a.seq f x).seq a.seq && test (with_change a.seq f x))
+        (holds a.seq test (map (with_change a.seq f) live)) (g e k)
 
 go_of_fits : (s : ShowState) (t : Attempt → Bool) (a : Attempt) → find t s.live ≡ Some a
     → IsTrue (are_acceptable s (on_go_of a).1)
 go_of_fits s t a e = by (is_decided a.stage) (can_go_now a) refl
   where
     by : (b g : Bool) → can_go_now a ≡ g
-        → IsTrue (are_acceptable s (if b then known else if g then made (event.Go a.seq ∷ []) else refused
+        → IsTrue (are_acceptable s (if b then known_already else if g then made_by (event.Go a.seq ∷ []) else
+        refused_with
         code.NotReady).1)
     by true g k = refl
     by false true k = one s (event.Go a.seq) (found_holds t can_go_now s.live a e k)
@@ -99,8 +102,8 @@ go_fits : (s : ShowState) (c : List ℕ) → IsTrue (are_acceptable s (on_go s c
 go_fits s c = by (has_cue s.show c) (attempt_of_cue s.live c) refl
   where
     by : (b : Bool) (o : Option Attempt) → attempt_of_cue s.live c ≡ o
-        → IsTrue (are_acceptable s (if not b then refused code.NoMethod else option_map_or on_go_of o
-        (refused code.NotLive)).1)
+        → IsTrue (are_acceptable s (if not b then refused_with code.NoMethod else option_map_or on_go_of o
+        (refused_with code.NotLive)).1)
     by false o e = refl
     by true None e = refl
     by true (Some a) e = go_of_fits s (is_of_cue c) a e
@@ -116,7 +119,8 @@ cancel_of_fits s t a e = by (is_decided a.stage) (is_cancelling a.stage) refl re
   where
     by : (b g : Bool) → is_decided a.stage ≡ b → is_cancelling a.stage ≡ g
         → IsTrue (are_acceptable s
-        (if b then refused code.Decided else if g then known else made (event.Cancel a.seq Operator ∷ [])).1)
+        (if b then refused_with code.Decided else if g then known_already else made_by
+        (event.Cancel a.seq Operator ∷ [])).1)
     by true g k l = refl
     by false true k l = refl
     by false false k l = one s (event.Cancel a.seq Operator)
@@ -126,21 +130,21 @@ cancel_fits : (s : ShowState) (c : List ℕ) → IsTrue (are_acceptable s (on_ca
 cancel_fits s c = by (has_cue s.show c) (attempt_of_cue s.live c) refl
   where
     by : (b : Bool) (o : Option Attempt) → attempt_of_cue s.live c ≡ o
-        → IsTrue (are_acceptable s (if not b then refused code.NoMethod else option_map_or on_cancel_of o
-        (refused code.NotLive)).1)
+        → IsTrue (are_acceptable s (if not b then refused_with code.NoMethod else option_map_or on_cancel_of o
+        (refused_with code.NotLive)).1)
     by false o e = refl
     by true None e = refl
     by true (Some a) e = cancel_of_fits s (is_of_cue c) a e
 
 -- a device of an attempt that is cancelled is asked anew, where it was not excused
 asked_anew : (stage : Stage) (d : ℕ) (x : Answer) (ys : List DeviceAnswer) → answer_of ys d ≡ Some x
-    → IsTrue (not (is_excused x)) → IsTrue (answer_passes is_waiting d (entered stage ys))
+    → IsTrue (not (is_excused x)) → IsTrue (answer_passes is_waiting d (answers_on_entry stage ys))
 asked_anew stage d x [] e n = absurd cc
 asked_anew stage d x (y ∷ ys) e n = at (nat_eq y.device d) e (λ f. asked_anew stage d x ys f n)
   where
     at : (b : Bool) → option_map (λ z. z.answer) (if b then Some y else find (λ z. nat_eq z.device d) ys) ≡ Some x
-        → (answer_of ys d ≡ Some x → IsTrue (answer_passes is_waiting d (entered stage ys)))
-            → IsTrue ((b && is_waiting (entering stage y.answer)) || answer_passes is_waiting d (entered stage ys))
+        → (answer_of ys d ≡ Some x → IsTrue (answer_passes is_waiting d (answers_on_entry stage ys)))
+        → IsTrue ((b && is_waiting (entering stage y.answer)) || answer_passes is_waiting d (answers_on_entry stage ys))
     at true e f = let same : y.answer ≡ x = cc in rw (same, is_waiting-entering stage x n) refl
     at false e f = f e
 
@@ -150,11 +154,11 @@ cancelled_then : (s : ShowState) (t : Attempt → Bool) (a : Attempt) (r : Reaso
     → IsTrue (not (is_excused x))
     → IsTrue (stage (Cancelling r))
     → IsTrue (acceptable s (event.Cancel a.seq r))
-        × IsTrue (holds a.seq (waits_in stage d) (moved a.seq (Cancelling r) s.live))
+    × IsTrue (holds a.seq (waits_in stage d) (after_move a.seq (Cancelling r) s.live))
 cancelled_then s t a r d x stage e p m n k = (
   found_holds t (λ b. is_preparing b.stage) s.live a e p,
   found_holds_changed t (waits_in stage d) (moves_to (Cancelling r)) (λ b. refl) s.live a e
-      (join (stage (Cancelling r)) (answer_passes is_waiting d (entered (Cancelling r) a.answers)) k
+      (join (stage (Cancelling r)) (answer_passes is_waiting d (answers_on_entry (Cancelling r) a.answers)) k
       (asked_anew (Cancelling r) d x a.answers m n)),
 )
 
@@ -168,7 +172,7 @@ answer_told d (y ∷ ys) x e test k = at (nat_eq y.device d) e (λ f. answer_tol
   where
     at : (b : Bool) → option_map (λ z. z.answer) (if b then Some y else find (λ z. nat_eq z.device d) ys) ≡ Some x
         → (answer_of ys d ≡ Some x → IsTrue (answer_passes test d ys))
-            → IsTrue ((b && test y.answer) || answer_passes test d ys)
+        → IsTrue ((b && test y.answer) || answer_passes test d ys)
     at true e f = let same : y.answer ≡ x = cc in rw (same, k) refl
     at false e f = f e
 
@@ -202,9 +206,9 @@ module _ (s : ShowState) (t : Attempt → Bool) (a : Attempt) (w : DeviceAnswer)
   -- Cancel, and then an answer of the device to it
   cancel_fits_then : (r : Reason) (x : Answer) (last : Event) (stage : Stage → Bool) → a.stage ≡ Preparing → Told a w x
       → IsTrue (not (is_excused x)) → IsTrue (stage (Cancelling r))
-      → (IsTrue (holds a.seq (waits_in stage w.device) (moved a.seq (Cancelling r) s.live))
-          → IsTrue (acceptable (after s (event.Cancel a.seq r)) last))
-          → IsTrue (are_acceptable s (event.Cancel a.seq r ∷ last ∷ []))
+      → (IsTrue (holds a.seq (waits_in stage w.device) (after_move a.seq (Cancelling r) s.live))
+      → IsTrue (acceptable (after s (event.Cancel a.seq r)) last))
+      → IsTrue (are_acceptable s (event.Cancel a.seq r ∷ last ∷ []))
   cancel_fits_then r x last stage f g n k fits = let h = cancelled_then s t a r w.device x stage e (rw f refl) g.answer
       n k in two s (event.Cancel a.seq r) last h.0 (fits h.1)
 
@@ -223,7 +227,7 @@ module _ (s : ShowState) (t : Attempt → Bool) (a : Attempt) (w : DeviceAnswer)
     where
       by : (b : Bool) → w.optional ≡ b
           → IsTrue (are_acceptable s
-          (if b then made (event.Excuse a.seq w.device ∷ []) else made
+          (if b then made_by (event.Excuse a.seq w.device ∷ []) else made_by
           (event.Cancel a.seq Release ∷ event.LetGo a.seq w.device ∷ [])).1)
       by true o = excuse_fits x f g k o
       by false o = cancel_fits_then Release x (event.LetGo a.seq w.device) is_cancelling f g n refl (λ h. h)
@@ -234,7 +238,7 @@ module _ (s : ShowState) (t : Attempt → Bool) (a : Attempt) (w : DeviceAnswer)
     where
       by : (b : Bool) → w.optional ≡ b
           → IsTrue (are_acceptable s
-          (if b then made (event.Excuse a.seq w.device ∷ []) else made
+          (if b then made_by (event.Excuse a.seq w.device ∷ []) else made_by
           (event.Cancel a.seq Abort ∷ event.Failed a.seq w.device ∷ [])).1)
       by true o = excuse_fits x f g k o
       by false o = cancel_fits_then Abort x (event.Failed a.seq w.device) is_concluding f g n refl (λ h. h)
@@ -244,7 +248,7 @@ module _ (s : ShowState) (t : Attempt → Bool) (a : Attempt) (w : DeviceAnswer)
   abort_late_fits r f g = by w.optional
     where
       by : (b : Bool) → IsTrue
-          (are_acceptable s (if b then made (event.LetGo a.seq w.device ∷ []) else made
+          (are_acceptable s (if b then made_by (event.LetGo a.seq w.device ∷ []) else made_by
           (event.Failed a.seq w.device ∷ [])).1)
       by true = one s (event.LetGo a.seq w.device)
           (waits_fits (Cancelling r) is_cancelling answer.Waiting f g refl refl)
@@ -371,7 +375,7 @@ found_known d s t a w r e g =
     let attempt = found_has is_attempt t s.live a (attempts_of s.live r.live) e in
     let stand = (sound_of a (is_sound-of_attempt a attempt)).stand in
     (both (is_known_in a.stage w.answer) (not (is_required w && is_excused w.answer))
-        (found_has (stands a.stage) (λ x. nat_eq x.device d) a.answers w stand g)).0
+    (found_has (stands a.stage) (λ x. nat_eq x.device d) a.answers w stand g)).0
 
 release_of_fits : (s : ShowState) (d : ℕ) (a : Attempt) → Rules s → attempt_of_device s.live d ≡ Some a
     → IsTrue (are_acceptable s (on_release_of d a).1)
@@ -379,7 +383,7 @@ release_of_fits s d a r e = by (device_answer a.answers d) refl
   where
     by : (o : Option DeviceAnswer) → device_answer a.answers d ≡ o
         → IsTrue (are_acceptable s
-        (option_map_or (λ x. on_release_in a.seq x a.stage x.answer) o (refused code.NotLive)).1)
+        (option_map_or (λ x. on_release_in a.seq x a.stage x.answer) o (refused_with code.NotLive)).1)
     by None g = refl
     by (Some w) g = release_in_fits s (is_of_device d) a w e a.stage w.answer refl (found_told d a w g)
         (found_known d s (is_of_device d) a w r e g)
@@ -390,7 +394,7 @@ reply_to_fits s q d a r e kind = by (device_answer a.answers d) refl
   where
     by : (o : Option DeviceAnswer) → device_answer a.answers d ≡ o
         → IsTrue (are_acceptable s
-        (option_map_or (λ x. on_reply_in kind a.seq x a.stage x.answer) o (refused code.NotPart)).1)
+        (option_map_or (λ x. on_reply_in kind a.seq x a.stage x.answer) o (refused_with code.NotPart)).1)
     by None g = refl
     by (Some w) g = reply_in_fits s (has_number q) a w e kind a.stage w.answer refl (found_told d a w g)
         (found_known d s (has_number q) a w r e g)
@@ -399,8 +403,8 @@ release_fits : (s : ShowState) (d : ℕ) → Rules s → IsTrue (are_acceptable 
 release_fits s d r = by (has_device s.show d) (attempt_of_device s.live d) refl
   where
     by : (b : Bool) (o : Option Attempt) → attempt_of_device s.live d ≡ o
-        → IsTrue (are_acceptable s (if not b then refused code.NoMethod else option_map_or (on_release_of d) o
-        (refused code.NotLive)).1)
+        → IsTrue (are_acceptable s (if not b then refused_with code.NoMethod else option_map_or (on_release_of d) o
+        (refused_with code.NotLive)).1)
     by false o e = refl
     by true None e = refl
     by true (Some a) e = release_of_fits s d a r e
@@ -411,8 +415,9 @@ reply_fits s from kind d q r = by (has_device s.show d) (is_from_another s d fro
     (attempt_of s.live q) refl
   where
     by : (b p l : Bool) (o : Option Attempt) → attempt_of s.live q ≡ o
-        → IsTrue (are_acceptable s (if not b then refused code.NoMethod else if p then refused code.WrongPort else if l
-            then refused code.Early else option_map_or (on_reply_to kind d) o (refused code.Stale)).1)
+        → IsTrue (are_acceptable s (if not b then refused_with code.NoMethod else if p then refused_with code.WrongPort
+        else if l
+        then refused_with code.Early else option_map_or (on_reply_to kind d) o (refused_with code.Stale)).1)
     by false p l o e = refl
     by true true l o e = refl
     by true false true o e = refl

@@ -21,7 +21,7 @@ use Rattle.cue_core.specs.declared.command.ReplyKind.{ReplyKind}
 use Rattle.cue_core.specs.declared.command.ReplyKind.TheVariants as reply
 use Rattle.cue_core.specs.State.{ShowState}
 use Rattle.cue_core.specs.Steps.{after, after_events}
-use Rattle.cue_core.specs.Judge.{made, refused, on_reply, on_reply_to, on_reply_in, is_from_another}
+use Rattle.cue_core.specs.Judge.{made_by, refused_with, on_reply, on_reply_to, on_reply_in, is_from_another}
 use Rattle.cue_core.specs.Replies.{Said, LeavesOthers, RepliesLeaveOthers}
 use Rattle.cue_core.proofs.lists.ConditionLemmas.{both, join, same_number, same_self}
 use Rattle.cue_core.proofs.live.FindingLemmas.{found_passes}
@@ -58,24 +58,48 @@ leaves_one s q (event.NoCue c) h = absurd (cc)
 leaves_one s q (event.Place c) h = absurd (cc)
 leaves_one s q (event.Start n c t) h = absurd (cc)
 leaves_one s q (event.Ready n d) h =
-    record { show = refl; last = refl; others =
-    λ p k. attempt_of-after_other s p (event.Ready n d) (other_number n q p h k) }
+    record {
+      show = refl;
+      last = refl;
+      others =
+          λ p k. attempt_of-after_other s p (event.Ready n d) (other_number n q p h k);
+    }
 leaves_one s q (event.Go n) h = absurd (cc)
 leaves_one s q (event.Done n d) h =
-    record { show = refl; last = refl; others =
-    λ p k. attempt_of-after_other s p (event.Done n d) (other_number n q p h k) }
+    record {
+      show = refl;
+      last = refl;
+      others =
+          λ p k. attempt_of-after_other s p (event.Done n d) (other_number n q p h k);
+    }
 leaves_one s q (event.Cancel n r) h =
-    record { show = refl; last = refl; others =
-    λ p k. attempt_of-after_other s p (event.Cancel n r) (other_number n q p h k) }
+    record {
+      show = refl;
+      last = refl;
+      others =
+          λ p k. attempt_of-after_other s p (event.Cancel n r) (other_number n q p h k);
+    }
 leaves_one s q (event.LetGo n d) h =
-    record { show = refl; last = refl; others =
-    λ p k. attempt_of-after_other s p (event.LetGo n d) (other_number n q p h k) }
+    record {
+      show = refl;
+      last = refl;
+      others =
+          λ p k. attempt_of-after_other s p (event.LetGo n d) (other_number n q p h k);
+    }
 leaves_one s q (event.Failed n d) h =
-    record { show = refl; last = refl; others =
-    λ p k. attempt_of-after_other s p (event.Failed n d) (other_number n q p h k) }
+    record {
+      show = refl;
+      last = refl;
+      others =
+          λ p k. attempt_of-after_other s p (event.Failed n d) (other_number n q p h k);
+    }
 leaves_one s q (event.Excuse n d) h =
-    record { show = refl; last = refl; others =
-    λ p k. attempt_of-after_other s p (event.Excuse n d) (other_number n q p h k) }
+    record {
+      show = refl;
+      last = refl;
+      others =
+          λ p k. attempt_of-after_other s p (event.Excuse n d) (other_number n q p h k);
+    }
 
 leaves_all : (q : ℕ) (es : List Event) (s : ShowState) → IsTrue (list_all (of_reply q) es)
     → LeavesOthers q s (after_events s es)
@@ -84,8 +108,12 @@ leaves_all q (e ∷ es) s h =
     let p = both (of_reply q e) (list_all (of_reply q) es) h in
     let first = leaves_one s q e p.0 in
     let rest = leaves_all q es (after s e) p.1 in
-    record { show = rest.show ∙ first.show; last = rest.last ∙ first.last; others = λ n k. rest.others n k
-        ∙ first.others n k }
+    record {
+      show = rest.show ∙ first.show;
+      last = rest.last ∙ first.last;
+      others = λ n k. rest.others n k
+          ∙ first.others n k;
+    }
 
 itself : (q : ℕ) → IsTrue (nat_eq q q && true)
 itself q = join (nat_eq q q) true (same_self q) refl
@@ -95,13 +123,14 @@ itself_twice q = join (nat_eq q q) (nat_eq q q && true) (same_self q) (itself q)
 
 early_of : (q : ℕ) (d : DeviceAnswer) (b : Bool)
     → IsTrue (list_all (of_reply q)
-    (if b then made (event.Excuse q d.device ∷ []) else made (event.Cancel q Abort ∷ event.Failed q d.device ∷ [])).1)
+    (if b then made_by (event.Excuse q d.device ∷ []) else made_by
+    (event.Cancel q Abort ∷ event.Failed q d.device ∷ [])).1)
 early_of q d true = itself q
 early_of q d false = itself_twice q
 
 late_of : (q : ℕ) (d : DeviceAnswer) (b : Bool)
     → IsTrue (list_all (of_reply q)
-    (if b then made (event.LetGo q d.device ∷ []) else made (event.Failed q d.device ∷ [])).1)
+    (if b then made_by (event.LetGo q d.device ∷ []) else made_by (event.Failed q d.device ∷ [])).1)
 late_of q d true = itself q
 late_of q d false = itself q
 
@@ -187,7 +216,7 @@ to_attempt kind d q a e = rw (← e) (at (device_answer a.answers d))
   where
     at : (o : Option DeviceAnswer)
         → IsTrue (list_all (of_reply a.seq)
-        (option_map_or (λ x. on_reply_in kind a.seq x a.stage x.answer) o (refused code.NotPart)).1)
+        (option_map_or (λ x. on_reply_in kind a.seq x a.stage x.answer) o (refused_with code.NotPart)).1)
     at None = refl
     at (Some x) = cell_of kind a.seq x a.stage x.answer
 
@@ -198,8 +227,9 @@ of_attempt s r = at (has_device s.show r.device) (is_from_another s r.device r.f
   where
     at : (b p l : Bool) (o : Option Attempt) → attempt_of s.live r.number ≡ o
         → IsTrue (list_all (of_reply r.number)
-            (if not b then refused code.NoMethod else if p then refused code.WrongPort else if l then refused code.Early
-            else option_map_or (on_reply_to r.kind r.device) o (refused code.Stale)).1)
+        (if not b then refused_with code.NoMethod else if p then refused_with code.WrongPort else if l then refused_with
+        code.Early
+        else option_map_or (on_reply_to r.kind r.device) o (refused_with code.Stale)).1)
     at false p l o e = refl
     at true true l o e = refl
     at true false true o e = refl

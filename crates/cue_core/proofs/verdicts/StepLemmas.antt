@@ -19,7 +19,7 @@ steps-acceptable s now from (c ∷ cs) h f =
     let made : List Event = (judgement_of s now from c).1 in
     let ok = judgement_of-acceptable s now from c h w.0 in
     acceptable-append s made (events_of (steps (after_events s made) now from cs)) ok
-        (steps-acceptable (after_events s made) now from cs (is_state-after_events s made h ok) w.1)
+    (steps-acceptable (after_events s made) now from cs (is_state-after_events s made h ok) w.1)
 
 pub steps-go-on : StepsGoOn
 steps-go-on s now from [] others = refl
@@ -28,7 +28,7 @@ steps-go-on s now from (c ∷ cs) others =
     ap (λ xs. step_of s now from c ∷ xs)
     (steps-go-on (after_events s made) now from cs others
     ∙ ap (λ t. steps (after_events s made) now from cs ++ steps t now from others)
-        (sym (after_events-append s made (events_of (steps (after_events s made) now from cs)))))
+    (sym (after_events-append s made (events_of (steps (after_events s made) now from cs)))))
 
 pub steps-make-histories : StepsMakeHistories
 steps-make-histories before now from [] = refl

@@ -2,7 +2,7 @@
 ghost use Rattle.std.specs.Prelude.{◌≡◌, [], ◌∷◌};
 ghost use Rattle.cue_exchange.specs.declared.attempt.Reason.TheVariants as reason;
 ghost use Rattle.cue_core.specs.declared.event.Event.TheVariants as event;
-ghost use Rattle.cue_core.specs.Judge.{made, prepares, on_standby, on_standby_of, on_go, on_go_of, on_cancel};
+ghost use Rattle.cue_core.specs.Judge.{made_by, prepares, on_standby, on_standby_of, on_go, on_go_of, on_cancel};
 ghost use Rattle.cue_core.specs.Judge.{on_cancel_of, on_release, on_release_of, on_release_in, release_early};
 
 use crate::command::{Code, Verdict};
@@ -156,7 +156,7 @@ fn release_early(seq: u32, told: DeviceAnswer) -> (Verdict, Events)
 
 // The preparation is given up, and the device with it.
 fn given_up(seq: u32, told: DeviceAnswer) -> (Verdict, Events)
-    ensures { result ≡ made (event.Cancel seq reason.Release ∷ event.LetGo seq told.device ∷ []) }
+    ensures { result ≡ made_by (event.Cancel seq reason.Release ∷ event.LetGo seq told.device ∷ []) }
 {
     made_by_two(
         Event::Cancel(seq, Reason::Release),

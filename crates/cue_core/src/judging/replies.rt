@@ -3,7 +3,7 @@ ghost use Rattle.std.specs.Prelude.{◌≡◌, [], ◌∷◌};
 ghost use Rattle.cue_exchange.specs.declared.attempt.Reason.TheVariants as reason;
 ghost use Rattle.cue_core.specs.declared.event.Event.TheVariants as event;
 ghost use Rattle.cue_core.specs.declared.command.Code.TheVariants as code;
-ghost use Rattle.cue_core.specs.Judge.{made, refused, on_reply, on_reply_to, on_reply_in, is_from_another};
+ghost use Rattle.cue_core.specs.Judge.{made_by, refused_with, on_reply, on_reply_to, on_reply_in, is_from_another};
 ghost use Rattle.cue_core.specs.Judge.{on_standing_by, on_complete, on_cancelled, on_abort, abort_early, abort_late};
 
 use crate::command::{Code, ReplyKind, Verdict};
@@ -155,7 +155,7 @@ fn abort_late(seq: u32, told: DeviceAnswer) -> (Verdict, Events)
 
 // The preparation is given up, since the device cannot go on.
 fn given_up(seq: u32, told: DeviceAnswer) -> (Verdict, Events)
-    ensures { result ≡ made (event.Cancel seq reason.Abort ∷ event.Failed seq told.device ∷ []) }
+    ensures { result ≡ made_by (event.Cancel seq reason.Abort ∷ event.Failed seq told.device ∷ []) }
 {
     made_by_two(
         Event::Cancel(seq, Reason::Abort),
@@ -165,21 +165,21 @@ fn given_up(seq: u32, told: DeviceAnswer) -> (Verdict, Events)
 
 // The attempt has not come as far as the answer says.
 fn early() -> (Verdict, Events)
-    ensures { result ≡ refused code.Early }
+    ensures { result ≡ refused_with code.Early }
 {
     refused(Code::Early)
 }
 
 // The attempt was decided, and that is not taken back.
 fn decided() -> (Verdict, Events)
-    ensures { result ≡ refused code.Decided }
+    ensures { result ≡ refused_with code.Decided }
 {
     refused(Code::Decided)
 }
 
 // The attempt has gone past what the answer says.
 fn stale() -> (Verdict, Events)
-    ensures { result ≡ refused code.Stale }
+    ensures { result ≡ refused_with code.Stale }
 {
     refused(Code::Stale)
 }

@@ -1,7 +1,7 @@
 // The device calls of a memory disk.
 ghost use Rattle.std.specs.Prelude.{◌≡◌, ◌≤◌, ◌+◌, ◌&&◌, ℕ, not, List, length, is_ok, is_err, take, drop, OnErr, IfOk};
 ghost use Rattle.std.specs.Prelude.{OnOk};
-ghost use Rattle.cue_disk.specs.Disk.{IsImage, IsStable, Writes, AllTouched, overwritten, Elapses, CountsFailure};
+ghost use Rattle.cue_disk.specs.Disk.{IsImage, IsStable, Writes, AllTouched, overwritten_bytes, Elapses, CountsFailure};
 ghost use Rattle.cue_disk.specs.Memory.{
   memory_held,
   memory_moment,
@@ -107,7 +107,7 @@ impl Disk for MemDisk {
     fn write_at(&mut self, at: u64, bytes: &[u8]) -> Result<(), DiskFault>
         requires { at ≤ length (memory_held self.old).bytes }
         ensures written { OnOk result ((memory_held self.new).bytes
-            ≡ overwritten (memory_held self.old).bytes at bytes.now) }
+            ≡ overwritten_bytes (memory_held self.old).bytes at bytes.now) }
         ensures touched { OnOk result (AllTouched at (length bytes.now) (memory_held self.new)) }
         ensures crash { Writes at (length bytes.now) (memory_held self.old) (memory_held self.new) }
         ensures time { Elapses (memory_moment self.old) (memory_moment self.new)

@@ -9,7 +9,7 @@ ghost use Rattle.cue_keeper.specs.Stands.{Stands, StandsEither, StandsAs, first_
 ghost use Rattle.cue_keeper.specs.Refusals.{HasOtherVersion, StandsForNone};
 ghost use Rattle.cue_keeper.specs.Observed as kept;
 ghost use Rattle.cue_outbox.specs.Sending.{datagrams, all_pending};
-ghost use Rattle.cue_core.specs.Batches.{closed};
+ghost use Rattle.cue_core.specs.Batches.{closed_state};
 ghost use Rattle.cue_engine.specs.Recovery.{ClosedFrom, IsLeftOrStands, MustBeRefusedAs, NoGenerationLeft, NoRoomLeft};
 ghost use Rattle.cue_engine.specs.Recovery.{RefusedBut};
 ghost use Rattle.cue_engine.specs.Taking.{IsOffered};
@@ -155,7 +155,7 @@ impl<D: Disk> Engine<D> {
 // Closes the state that was opened.
 fn close_opened<D: Disk>(alloc: Global, keeper: Keeper<D>) -> Result<Engine<D>, (StoreFault, D, D)>
     requires works { kept.is_broken keeper ≡ false }
-    ensures state { IfOk result (λ engine. state_of engine ≡ closed (kept.state_of keeper)) }
+    ensures state { IfOk result (λ engine. state_of engine ≡ closed_state (kept.state_of keeper)) }
     ensures queue { IfOk result (λ engine. queue_of engine ≡ datagrams (all_pending (state_of engine))) }
     ensures offered { IfOk result (IsOffered []) }
     ensures works { IfOk result (λ engine. kept.is_broken (keeper_of engine) ≡ false) }
@@ -180,7 +180,7 @@ fn close_opened<D: Disk>(alloc: Global, keeper: Keeper<D>) -> Result<Engine<D>, 
     ensures any_moment { D.is_honest (kept.first_of keeper) → D.is_honest (kept.second_of keeper)
         → LeavesPairsAtEachMoment D.moment D.held_at (kept.first_of keeper) (kept.second_of keeper)
         (first_after first_of result) (second_after second_of result)
-        (StandsEither (kept.state_of keeper) (closed (kept.state_of keeper))) }
+        (StandsEither (kept.state_of keeper) (closed_state (kept.state_of keeper))) }
     ensures unwritten { RefusedBut StoreFault.Disk ((first_after first_of result ≡ kept.first_of keeper)
         × (second_after second_of result ≡ kept.second_of keeper)) result }
     ensures stands { D.is_honest (kept.first_of keeper) → D.is_honest (kept.second_of keeper)

@@ -5,7 +5,7 @@ ghost use Rattle.std.specs.Result.{result_err};
 ghost use Rattle.cue_keeper.specs.Accepting.{AcceptsTogether};
 ghost use Rattle.cue_keeper.specs.Groups.{batches_view};
 ghost use Rattle.cue_keeper.specs.Observed as kept;
-ghost use Rattle.cue_engine.specs.Given.{given};
+ghost use Rattle.cue_engine.specs.Given.{given_of};
 ghost use Rattle.cue_engine.specs.Inputs.{input_view};
 
 use super::{Engine, discard, drop_offered};
@@ -27,7 +27,7 @@ impl<D: Disk> Engine<D> {
     /// it answers Broken or Memory, what was offered before stays as it was.
     pub fn offer(&mut self, now: u64, input: Input<'_>) -> Result<Taken, Fault>
         ensures offers { IfOk result
-            (λ counts. Offers (given (latest_of self.old) now (input_view input.entry)) counts self.old self.new) }
+            (λ counts. Offers (given_of (latest_of self.old) now (input_view input.entry)) counts self.old self.new) }
         ensures keeper { keeper_of self.new ≡ keeper_of self.old }
         ensures queue { queue_of self.new ≡ queue_of self.old }
         ensures refused { OnErr result ((offered_of self.new ≡ offered_of self.old)

@@ -2,7 +2,7 @@
 ghost use Rattle.std.specs.Prelude.{◌≡◌, List, Option, length, IfOk};
 ghost use Rattle.cue_run.specs.Sources.{IsWithin};
 ghost use Rattle.cue_run.specs.Udp.{NextWithin};
-ghost use Rattle.cue_run.specs.Tries.{Try, tried, Tried, GaveFirst};
+ghost use Rattle.cue_run.specs.Tries.{Try, try_of, Tried, GaveFirst};
 ghost use Rattle.cue_run.specs.declared.udp.tries.TheConstants.{MOST_DROPPED};
 
 use crate::source::{SourceFault, Turn};
@@ -19,7 +19,7 @@ pub trait Tries {
     /// What comes next, or None where that is passed over.
     fn try_next(&mut self, buffer: &mut [u8]) -> io::Result<Option<Turn>>
         ensures within { IfOk result (λ next. NextWithin next (length buffer.old)) }
-        ensures tried { Tried (left self.old) (tried result) (left self.new) };
+        ensures tried { Tried (left self.old) (try_of result) (left self.new) };
 }
 
 /// The first turn of so many tries. It is a fault where all of them are passed over, or one fails before that turn.

@@ -1,6 +1,6 @@
 // A disk that promises nothing, as one over a real file: nobody can prove that a file keeps to the contract.
 ghost use Rattle.std.specs.Prelude.{◌≡◌, ◌+◌, ◌-◌, ◌^◌, [], min, OnErr};
-ghost use Rattle.cue_disk.specs.Effect.{settled};
+ghost use Rattle.cue_disk.specs.Effect.{settled_contents};
 
 use cue_disk::{Disk, DiskFault};
 
@@ -33,11 +33,11 @@ impl UnprovenDisk {
 }
 
 impl Disk for UnprovenDisk {
-    ghost held = { λ _. settled [] };
+    ghost held = { λ _. settled_contents [] };
 
     ghost moment = { λ _. 0 };
 
-    ghost held_at = { λ _ _. settled [] };
+    ghost held_at = { λ _ _. settled_contents [] };
 
     ghost failures = { λ disk. disk.failures };
 

@@ -8,4 +8,4 @@ pub read_grown-requires-in-loop-clause-front : goal.read_grown-requires-in-loop-
 read_grown-requires-in-loop-clause-front g c = λ honest.
     let then = c.loop.invariant.honest.0 honest in
     front_of c.loop.bytes.items (g.D.Disk.held c.loop.disk).bytes AREA_LIMIT (c.loop.invariant.copy then
-        ∙ ap copy_of (sym (c.loop.invariant.kept then)))
+    ∙ ap copy_of (sym (c.loop.invariant.kept then)))

@@ -16,7 +16,7 @@ returns-clause-copy g c = λ honest.
     let same = c.len.ensures.same honest in
     let read = c.in_ok-read_on.ensures.read (c.len.ensures.honest.1 honest) in
     front_on c.args.bytes.now.items c.read_on.new.bytes.items held.bytes AREA_LIMIT c.min-len.result
-        (c.requires.front honest)
+    (c.requires.front honest)
     (omega (arith, c.if-len.false, c.len-2.ensures))
     (c.min-len.ensures ∙ ap (λ (n : ℕ). min n AREA_LIMIT) (c.in-Ok.ensures.len honest))
     (rw same at read) c.in_ok-read_on.ensures.len

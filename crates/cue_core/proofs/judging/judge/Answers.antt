@@ -11,20 +11,20 @@ use Rattle.cue_core.proofs.judging.judge.Goals as goal
 pub returns-clause-acceptable : goal.returns-clause-acceptable
 returns-clause-acceptable c =
     if_ok_from (λ (r : Verdict × List Event). r ≡ judgement_of c.args.state.now c.args.now c.args.from
-        c.args.command.now) (λ r. IsTrue (are_acceptable c.args.state.now r.1)) c.judgement_of.result
+    c.args.command.now) (λ r. IsTrue (are_acceptable c.args.state.now r.1)) c.judgement_of.result
     (λ r same. rw same (judgement_of-acceptable c.args.state.now c.args.now c.args.from c.args.command.now
-        c.last_seq-last.ensures.rules c.requires)) c.judgement_of.ensures
+    c.last_seq-last.ensures.rules c.requires)) c.judgement_of.ensures
 
 pub returns-clause-few : goal.returns-clause-few
 returns-clause-few c =
     if_ok_from (λ (r : Verdict × List Event). r ≡ judgement_of c.args.state.now c.args.now c.args.from
-        c.args.command.now) (λ r. length r.1 ≤ 2) c.judgement_of.result
+    c.args.command.now) (λ r. length r.1 ≤ 2) c.judgement_of.result
     (λ r same. rw same (judgement_of-has c.args.state.now c.args.now c.args.from c.args.command.now).few)
-        c.judgement_of.ensures
+    c.judgement_of.ensures
 
 pub returns-clause-made : goal.returns-clause-made
 returns-clause-made c =
     if_ok_from (λ (r : Verdict × List Event). r ≡ judgement_of c.args.state.now c.args.now c.args.from
-        c.args.command.now) (λ r. (r.0 ≡ Made) ↔ (r.1 ≢ [])) c.judgement_of.result
+    c.args.command.now) (λ r. (r.0 ≡ Made) ↔ (r.1 ≢ [])) c.judgement_of.result
     (λ r same. rw same (judgement_of-has c.args.state.now c.args.now c.args.from c.args.command.now).made)
-        c.judgement_of.ensures
+    c.judgement_of.ensures

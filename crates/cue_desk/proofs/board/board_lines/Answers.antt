@@ -9,5 +9,5 @@ returns c =
     ok-weaker c.texts.result (λ texts. map string_bytes texts.items ≡ map text_of c.deref.result.now)
     (λ texts. EachBegins (board_said c.args.state.now c.args.now) (map string_bytes texts.items))
     (λ texts e. begins-all (board_said c.args.state.now c.args.now) (map string_bytes texts.items)
-        c.in_ok-lines.lines.items c.in_ok-lines.ensures (e ∙ ap (map text_of) c.deref.ensures.value))
+    c.in_ok-lines.lines.items c.in_ok-lines.ensures (e ∙ ap (map text_of) c.deref.ensures.value))
     c.texts.ensures

@@ -9,7 +9,7 @@ loop-sent-preserved g c =
     let l = c.loop-sent in
     let f = c.send_first.result in
     handed_step (told c.args.wire.now) (told l.wire) (told c.send_first.new.wire) c.args.queue.now l.queue
-        c.send_first.new.queue l.refused c.if-send_first.refused l.sent (length c.args.queue.now) f
+    c.send_first.new.queue l.refused c.if-send_first.refused l.sent (length c.args.queue.now) f
     (elim c.if-send_first.branch [
       | then-send_first w ↦ counted l.refused c.if-send_first.refused f w.if-send_first.true w.refused-is
       | else-send_first w ↦ not_counted l.refused c.if-send_first.refused f w.if-send_first.false w.refused-is
@@ -20,7 +20,7 @@ returns-clause-left g c =
     let told = g.W.Wire.told in
     let l = c.loop-sent in
     let long : length l.queue + min c.args.most (length c.args.queue.now) ≡ length c.args.queue.now =
-        omega (arith, l.invariant.1) in
+    omega (arith, l.invariant.1) in
     left_first (told c.args.wire.now) (told l.wire) c.args.queue.now l.queue l.refused c.args.most long l.invariant.0
 
 pub returns-clause-handed : goal.returns-clause-handed
@@ -28,5 +28,5 @@ returns-clause-handed g c =
     let told = g.W.Wire.told in
     let l = c.loop-sent in
     let long : length l.queue + min c.args.most (length c.args.queue.now) ≡ length c.args.queue.now =
-        omega (arith, l.invariant.1) in
+    omega (arith, l.invariant.1) in
     handed_first (told c.args.wire.now) (told l.wire) c.args.queue.now l.queue l.refused c.args.most long l.invariant.0

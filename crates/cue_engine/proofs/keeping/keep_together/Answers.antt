@@ -12,7 +12,7 @@ returns-in_err-push_all-clause-accepts g c =
     let bs = c.args.offered.group in
     refuses_together bs c.from_residual.result fault.Memory old old c.from_residual.ensures.1 refl
     (memory_together (state_of old) bs (pair_of old) g.met.D.Disk.held_now
-        (λ h k. c.is_broken-broken.ensures.stands h k c.requires.works) c.requires.works)
+    (λ h k. c.is_broken-broken.ensures.stands h k c.requires.works) c.requires.works)
 
 pub returns-in-Ok-clause-accepts : goal.returns-in-Ok-clause-accepts
 returns-in-Ok-clause-accepts g c = c.in-Ok.ensures.accepts

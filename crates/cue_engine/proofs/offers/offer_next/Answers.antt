@@ -18,27 +18,27 @@ pub follow-requires-clause-in_turn : goal.follow-requires-clause-in_turn
 follow-requires-clause-in_turn c = λ _.
     let batch : List Event = c.in_ok-heard.heard.batch.items in
     let last : c.last_batch.result.now ≡ batch = c.last_batch.ensures
-        ∙ ap last_of (c.batches.ensures ∙ c.in_ok-counts.ensures.group) ∙ last_more c.args.offered.now.group batch in
+    ∙ ap last_of (c.batches.ensures ∙ c.in_ok-counts.ensures.group) ∙ last_more c.args.offered.now.group batch in
     let before : folded_all c.set_missing.new.draft.state (batches_view c.set_missing.new.draft.missing.items)
-        ≡ c.args.draft.now.state =
+    ≡ c.args.draft.now.state =
     ap (λ (l : List (List Event)). folded_all c.set_missing.new.draft.state l)
-        (ap batches_view (c.set_missing.ensures.missing ∙ c.new.ensures.items)) ∙ c.set_missing.ensures.state
-        ∙ c.swap.ensures.y_after in
+    (ap batches_view (c.set_missing.ensures.missing ∙ c.new.ensures.items)) ∙ c.set_missing.ensures.state
+    ∙ c.swap.ensures.y_after in
     rw (last, before) c.in_ok-heard.ensures.acceptable
 
 pub returns-clause-spare : goal.returns-clause-spare
 returns-clause-spare c =
     let batch : List Event = c.in_ok-heard.heard.batch.items in
     let last : c.last_batch.result.now ≡ batch = c.last_batch.ensures
-        ∙ ap last_of (c.batches.ensures ∙ c.in_ok-counts.ensures.group) ∙ last_more c.args.offered.now.group batch in
+    ∙ ap last_of (c.batches.ensures ∙ c.in_ok-counts.ensures.group) ∙ last_more c.args.offered.now.group batch in
     let before : folded_all c.set_missing.new.draft.state (batches_view c.set_missing.new.draft.missing.items)
-        ≡ c.args.draft.now.state =
+    ≡ c.args.draft.now.state =
     ap (λ (l : List (List Event)). folded_all c.set_missing.new.draft.state l)
-        (ap batches_view (c.set_missing.ensures.missing ∙ c.new.ensures.items)) ∙ c.set_missing.ensures.state
-        ∙ c.swap.ensures.y_after in
+    (ap batches_view (c.set_missing.ensures.missing ∙ c.new.ensures.items)) ∙ c.set_missing.ensures.state
+    ∙ c.swap.ensures.y_after in
     let follows : Follows c.args.draft.now.state c.set_missing.new.draft = λ _. before in
     let ahead : after_events c.args.draft.now.state c.last_batch.result.now ≡ c.swap.new.x =
     ap (after_events c.args.draft.now.state) (last ∙ c.in_ok-heard.ensures.gives.batch)
-        ∙ sym (c.swap.ensures.x_after ∙ c.in_ok-heard.ensures.draft) in
+    ∙ sym (c.swap.ensures.x_after ∙ c.in_ok-heard.ensures.draft) in
     subst (λ (s : ShowState). InStep s c.follow.new.draft) ahead
-        (c.follow.ensures.in_step c.args.draft.now.state follows)
+    (c.follow.ensures.in_step c.args.draft.now.state follows)

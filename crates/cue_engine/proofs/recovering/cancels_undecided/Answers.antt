@@ -12,17 +12,17 @@ use Rattle.cue_engine.proofs.recovering.cancels_undecided.Goals as goal
 pub returns-clause-batch : goal.returns-clause-batch
 returns-clause-batch c =
     on_items c.cancels.result (λ v. v.items) (λ (es : List Event). es ≡ events_at c.args.kept.now recovered)
-        (map (λ (q : ℕ). event.Cancel q reason.Power) c.deref.result.now) c.cancels.ensures
+    (map (λ (q : ℕ). event.Cancel q reason.Power) c.deref.result.now) c.cancels.ensures
     (cancels_are is_undecided reason.Power c.args.kept.now c.deref.result.now (c.deref.ensures.value
-        ∙ c.in_ok-seqs.ensures))
+    ∙ c.in_ok-seqs.ensures))
 
 pub returns-clause-acceptable : goal.returns-clause-acceptable
 returns-clause-acceptable c =
     on_items c.cancels.result (λ v. v.items) (λ (es : List Event). IsTrue (are_acceptable c.args.kept.now es))
-        (events_at c.args.kept.now recovered) (returns-clause-batch c)
-        (recovery-ok c.args.kept.now c.last_seq-last.ensures.rules)
+    (events_at c.args.kept.now recovered) (returns-clause-batch c)
+    (recovery-ok c.args.kept.now c.last_seq-last.ensures.rules)
 
 pub returns-clause-fits : goal.returns-clause-fits
 returns-clause-fits c =
     on_items c.cancels.result (λ v. v.items) FitsRecord (events_at c.args.kept.now recovered) (returns-clause-batch c)
-        (cancels_fit is_undecided reason.Power c.args.kept.now c.last_seq-last.ensures.rules)
+    (cancels_fit is_undecided reason.Power c.args.kept.now c.last_seq-last.ensures.rules)

@@ -17,7 +17,7 @@ returns-in_err-batch-clause-accepts g c =
     let es = events_at s recovered in
     refuses es c.from_residual.result fault.Memory old old c.from_residual.ensures.1 refl
     (out_of_memory s es (pair_of old) g.met.D.Disk.held_now
-        (λ h k. c.is_broken-broken.ensures.stands h k c.requires.works) c.requires.works)
+    (λ h k. c.is_broken-broken.ensures.stands h k c.requires.works) c.requires.works)
 
 pub returns-in_err-accept_batch-clause-accepts : goal.returns-in_err-accept_batch-clause-accepts
 returns-in_err-accept_batch-clause-accepts g c =
@@ -25,9 +25,9 @@ returns-in_err-accept_batch-clause-accepts g c =
     let new = c.accept_batch.new.keeper in
     let f = c.in_err-accept_batch.field-0.0 in
     let same : c.in_ok-batch.batch.items ≡ events_at (state_of old) recovered = c.in_ok-batch.ensures.batch
-        ∙ ap (λ (t : ShowState). events_at t recovered) c.state.ensures in
+    ∙ ap (λ (t : ShowState). events_at t recovered) c.state.ensures in
     refuses_too (events_at (state_of old) recovered) c.from_residual-in_err-accept_batch.result f old new
-        c.from_residual-in_err-accept_batch.ensures.1
+    c.from_residual-in_err-accept_batch.ensures.1
     (subst (λ (es : List Event). Accepts es (Some f) old new) same c.in_err-accept_batch.ensures.accepts)
 
 pub returns-clause-accepts : goal.returns-clause-accepts
@@ -35,5 +35,5 @@ returns-clause-accepts g c =
     let old = c.args.keeper.now in
     let new = c.accept_batch.new.keeper in
     let same : c.in_ok-batch.batch.items ≡ events_at (state_of old) recovered = c.in_ok-batch.ensures.batch
-        ∙ ap (λ (t : ShowState). events_at t recovered) c.state.ensures in
+    ∙ ap (λ (t : ShowState). events_at t recovered) c.state.ensures in
     subst (λ (es : List Event). Accepts es None old new) same c.in_ok-accept_batch.ensures.accepts

@@ -7,5 +7,5 @@ pub loop-event-preserved : goal.loop-event-preserved
 loop-event-preserved c =
     c.has_applied.ensures c.if-not-has_applied.false
     ∙ (ap (λ s. after s c.event-item.result) c.loop-event.invariant
-        ∙ sym (after_events-more _ c.args.batch.now c.loop-event.event-index c.event-item.result c.loop-event-test.true
-        c.event-item.is))
+    ∙ sym (after_events-more _ c.args.batch.now c.loop-event.event-index c.event-item.result c.loop-event-test.true
+    c.event-item.is))

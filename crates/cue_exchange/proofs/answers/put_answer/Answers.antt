@@ -7,5 +7,5 @@ pub loop-item-preserved : goal.loop-item-preserved
 loop-item-preserved c =
     rw (c.answer_for.ensures, ← c.item-item.is)
     (map_over_more (answers_with c.args.device c.args.answer) c.deref_mut-item-items.result.now c.loop-item.item-items
-        c.loop-item.item-index c.item-item.result
+    c.loop-item.item-index c.item-item.result
     (omega arith) c.loop-item.invariant c.item-item.is)

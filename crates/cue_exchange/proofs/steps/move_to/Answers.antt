@@ -1,11 +1,11 @@
 use Rattle.std.proofs.Common.{arith}
 use Rattle.std.proofs.lemmas.List.Edits.{map_over_more}
-use Rattle.cue_exchange.specs.Steps.{changed, moves_to}
+use Rattle.cue_exchange.specs.Steps.{with_change, moves_to}
 use Rattle.cue_exchange.proofs.steps.move_to.Goals as goal
 
 pub loop-attempt-preserved : goal.loop-attempt-preserved
 loop-attempt-preserved c =
     rw (c.move_in.ensures, ← c.attempt-item.is)
-    (map_over_more (changed c.args.seq (moves_to c.args.stage)) c.deref_mut-attempt-items.result.now
-        c.loop-attempt.attempt-items c.loop-attempt.attempt-index c.attempt-item.result
+    (map_over_more (with_change c.args.seq (moves_to c.args.stage)) c.deref_mut-attempt-items.result.now
+    c.loop-attempt.attempt-items c.loop-attempt.attempt-index c.attempt-item.result
     (omega arith) c.loop-attempt.invariant c.attempt-item.is)

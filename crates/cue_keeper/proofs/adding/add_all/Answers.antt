@@ -13,10 +13,10 @@ returns-in-Ok-clause-moves g c =
     let before = live_area_of d.held old in
     let after = with_payloads before c.args.added.now in
     live_written d.moment d.held d.held_at d.failures d.is_honest (PairIsEither before after)
-        (either_swapped before after) (is_first_live old) (is_first_live new) (live_of old) (spare_of old) (live_of new)
-        (spare_of new)
+    (either_swapped before after) (is_first_live old) (is_first_live new) (live_of old) (spare_of old) (live_of new)
+    (spare_of new)
     c.append_all.ensures.appends.sides c.append_all.ensures.appends.spare (g.met.D.Disk.held_now (spare_of old))
-        (g.met.D.Disk.reads_as_image (spare_of old))
+    (g.met.D.Disk.reads_as_image (spare_of old))
     (record {
       failures_ = c.append_all.ensures.appends.failures;
       honest = c.append_all.ensures.appends.honest;
@@ -34,10 +34,10 @@ returns-in-Err-Disk-clause-moves g c =
     let before = live_area_of d.held old in
     let after = with_payloads before c.args.added.now in
     live_written d.moment d.held d.held_at d.failures d.is_honest (PairIsEither before after)
-        (either_swapped before after) (is_first_live old) (is_first_live new) (live_of old) (spare_of old) (live_of new)
-        (spare_of new)
+    (either_swapped before after) (is_first_live old) (is_first_live new) (live_of old) (spare_of old) (live_of new)
+    (spare_of new)
     c.append_all.ensures.appends.sides c.append_all.ensures.appends.spare (g.met.D.Disk.held_now (spare_of old))
-        (g.met.D.Disk.reads_as_image (spare_of old))
+    (g.met.D.Disk.reads_as_image (spare_of old))
     (record {
       failures_ = c.append_all.ensures.appends.failures;
       honest = c.append_all.ensures.appends.honest;

@@ -31,18 +31,18 @@ returns-in-0-clause-commits g c =
     let bs = c.args.group.now in
     let old = c.args.snap.now in
     let none : length (with_events bs) ≡ 0 = sym (length-map (with_events bs) batch_text)
-        ∙ ap length (sym c.records.ensures.records) ∙ sym c.count.ensures ∙ c.in-0.is in
+    ∙ ap length (sym c.records.ensures.records) ∙ sym c.count.ensures ∙ c.in-0.is in
     none_together s bs old g.met.D.Disk.held_now (stands_as s old c.is_broken-broken.ensures.reads c.requires.stands
-        c.requires.works) c.requires.works (no_events bs none)
+    c.requires.works) c.requires.works (no_events bs none)
 
 pub returns-in-0-clause-stands : goal.returns-in-0-clause-stands
 returns-in-0-clause-stands g c = λ live spare.
     let s = c.args.state.now in
     let bs = c.args.group.now in
     let none : length (with_events bs) ≡ 0 = sym (length-map (with_events bs) batch_text)
-        ∙ ap length (sym c.records.ensures.records) ∙ sym c.count.ensures ∙ c.in-0.is in
+    ∙ ap length (sym c.records.ensures.records) ∙ sym c.count.ensures ∙ c.in-0.is in
     subst (λ (t : ShowState). StandsFor (live_area_of g.D.Disk.held c.args.snap.now) t)
-        (folded_none s bs (no_events bs none)) (c.requires.stands live spare)
+    (folded_none s bs (no_events bs none)) (c.requires.stands live spare)
 
 pub returns-in-1-clause-commits : goal.returns-in-1-clause-commits
 returns-in-1-clause-commits g c = one_together c.args.state.now c.args.group.now c.only.result.now
@@ -53,4 +53,4 @@ returns-in-1-clause-stands g c = λ live spare.
     let s = c.args.state.now in
     let bs = c.args.group.now in
     subst (λ (t : ShowState). OnOk c.commit.result (StandsFor (live_area_of g.D.Disk.held c.commit.new.snap) t))
-        (sym (folded_only s bs c.only.result.now c.only.ensures.only)) (c.commit.ensures.stands live spare)
+    (sym (folded_only s bs c.only.result.now c.only.ensures.only)) (c.commit.ensures.stands live spare)

@@ -14,7 +14,7 @@ returns-in_err-write_at g c =
       writes = failed d (payloads_in text) c.from_residual.result c.args.end old c.write_at.new.self
           c.from_residual.ensures.0
           (λ honest. body_leaves d text c.args.end r.framed r.some r.room old (r.settled honest)
-              (g.met.D.Disk.held_now old honest)
+          (g.met.D.Disk.held_now old honest)
           c.write_at.new.self (c.write_at.ensures.crash honest) (c.write_at.ensures.time honest))
           c.in_err-write_at.ensures.count c.write_at.ensures.honest;
     }
@@ -35,9 +35,11 @@ returns-in_err-sync g c =
           c.write_at.new.self (c.write_at.ensures.crash honest) (c.write_at.ensures.time honest)
           new (c.sync.ensures.crash honest1) (c.sync.ensures.time honest1))
           (subst (λ (n : ℕ). MoreFailures n (d.failures new) × (n ≤ d.failures new)) c.in_ok-write_at.ensures.count
-              c.in_err-sync.ensures.count)
-          (λ honest. c.write_at.ensures.honest.0 (c.sync.ensures.honest.0 honest), λ honest. c.sync.ensures.honest.1
-              (c.write_at.ensures.honest.1 honest));
+          c.in_err-sync.ensures.count) (
+            λ honest. c.write_at.ensures.honest.0 (c.sync.ensures.honest.0 honest),
+            λ honest. c.sync.ensures.honest.1
+                (c.write_at.ensures.honest.1 honest),
+          );
     }
 
 pub returns-in_err-write_at-2 : goal.returns-in_err-write_at-2
@@ -57,12 +59,13 @@ returns-in_err-write_at-2 g c =
           c.write_at.new.self (c.write_at.ensures.crash honest) (c.write_at.ensures.time honest)
           c.sync.new.self (c.sync.ensures.crash honest1) (c.sync.ensures.time honest1)
           new (c.in_ok-write_at.ensures.written honest) (c.sync.ensures.bytes honest1)
-              (c.in_ok-sync.ensures.stable honest1) (c.write_at-2.ensures.crash honest2)
-              (c.write_at-2.ensures.time honest2))
+          (c.in_ok-sync.ensures.stable honest1) (c.write_at-2.ensures.crash honest2)
+          (c.write_at-2.ensures.time honest2))
           (subst (λ (n : ℕ). MoreFailures n (d.failures new) × (n ≤ d.failures new)) (c.in_ok-sync.ensures.count
-              ∙ c.in_ok-write_at.ensures.count) c.in_err-write_at-2.ensures.count)
-          (λ honest. c.write_at.ensures.honest.0 (c.sync.ensures.honest.0 (c.write_at-2.ensures.honest.0 honest)),
-              λ honest. c.write_at-2.ensures.honest.1 (c.sync.ensures.honest.1 (c.write_at.ensures.honest.1 honest)));
+          ∙ c.in_ok-write_at.ensures.count) c.in_err-write_at-2.ensures.count) (
+            λ honest. c.write_at.ensures.honest.0 (c.sync.ensures.honest.0 (c.write_at-2.ensures.honest.0 honest)),
+            λ honest. c.write_at-2.ensures.honest.1 (c.sync.ensures.honest.1 (c.write_at.ensures.honest.1 honest)),
+          );
     }
 
 pub returns : goal.returns
@@ -80,10 +83,10 @@ returns g c =
     c.write_at.new.self (c.write_at.ensures.crash honest) (c.write_at.ensures.time honest)
     c.sync.new.self (c.sync.ensures.crash honest1) (c.sync.ensures.time honest1)
     c.write_at-2.new.self (c.in_ok-write_at.ensures.written honest) (c.sync.ensures.bytes honest1)
-        (c.in_ok-sync.ensures.stable honest1) (c.write_at-2.ensures.crash honest2) (c.write_at-2.ensures.time honest2)
+    (c.in_ok-sync.ensures.stable honest1) (c.write_at-2.ensures.crash honest2) (c.write_at-2.ensures.time honest2)
     new (c.sync-2.ensures.crash honest3) (c.sync-2.ensures.time honest3)
     (c.in_ok-write_at-2.ensures.written honest2) (c.sync-2.ensures.bytes honest3) c.sync-2.result
-        (c.sync-2.ensures.stable honest3) in
+    (c.sync-2.ensures.stable honest3) in
     record {
       writes = record {
         any_moment = λ honest. (all honest).any_moment;
@@ -92,7 +95,7 @@ returns g c =
         bytes = λ honest. (all honest).bytes;
         count =
             subst (λ (n : ℕ). CountsFailure c.sync-2.result n (d.failures new)) (c.in_ok-write_at-2.ensures.count
-                ∙ c.in_ok-sync.ensures.count ∙ c.in_ok-write_at.ensures.count) c.sync-2.ensures.count;
+            ∙ c.in_ok-sync.ensures.count ∙ c.in_ok-write_at.ensures.count) c.sync-2.ensures.count;
         honest = (
           λ honest. c.write_at.ensures.honest.0
               (c.sync.ensures.honest.0 (c.write_at-2.ensures.honest.0 (c.sync-2.ensures.honest.0 honest))),

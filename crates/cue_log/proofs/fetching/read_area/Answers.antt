@@ -19,4 +19,4 @@ pub returns-clause-damaged : goal.returns-clause-damaged
 returns-clause-damaged g c = λ honest damaged.
     let none = rw (c.in-None.is, c.deref.ensures.value) at c.in_ok-parts.ensures.area in
     front_missing c.in_ok-text.text.items (g.D.Disk.held c.args.disk.now).bytes (c.in_ok-text.ensures.front honest)
-        (sym none)
+    (sym none)

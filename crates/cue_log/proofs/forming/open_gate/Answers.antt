@@ -9,7 +9,7 @@ pub returns-in_err-write_at-clause-any_moment : goal.returns-in_err-write_at-cla
 returns-in_err-write_at-clause-any_moment g c = λ honest.
     let r = c.requires in
     gate_leaves (g.D.Disk.held c.args.disk.now) c.args.generation c.args.snapshot.now (r.filled honest)
-        c.ranges.generation.fits r.room
+    c.ranges.generation.fits r.room
     g.D.Disk.moment g.D.Disk.held g.D.Disk.held_at c.args.disk.now (g.met.D.Disk.held_now c.args.disk.now honest)
     c.write_at.new.self (c.write_at.ensures.crash honest) (c.write_at.ensures.time honest)
 
@@ -18,7 +18,7 @@ returns-clause-any_moment g c = λ honest.
     let r = c.requires in
     let honest1 = c.write_at.ensures.honest.1 honest in
     last_leaves (g.D.Disk.held c.args.disk.now) c.args.generation c.args.snapshot.now (r.filled honest)
-        c.ranges.generation.fits r.room
+    c.ranges.generation.fits r.room
     g.D.Disk.moment g.D.Disk.held g.D.Disk.held_at c.args.disk.now (g.met.D.Disk.held_now c.args.disk.now honest)
     c.write_at.new.self (c.write_at.ensures.crash honest) (c.write_at.ensures.time honest)
     c.sync.new.self (c.sync.ensures.crash honest1) (c.sync.ensures.time honest1)
@@ -30,10 +30,10 @@ returns-clause-settled g c = λ honest.
     let filled = r.filled honest in
     if_ok c.sync.result
     (settled_area (g.D.Disk.held c.args.disk.now) c.args.generation c.args.snapshot.now filled c.ranges.generation.fits
-        r.room (g.D.Disk.held c.sync.new.self)
+    r.room (g.D.Disk.held c.sync.new.self)
     (gate_written (g.D.Disk.held c.args.disk.now) c.args.generation c.args.snapshot.now filled c.ranges.generation.fits
-        r.room (g.D.Disk.held c.sync.new.self).bytes (c.sync.ensures.bytes honest1
-        ∙ c.in_ok-write_at.ensures.written honest)))
+    r.room (g.D.Disk.held c.sync.new.self).bytes (c.sync.ensures.bytes honest1
+    ∙ c.in_ok-write_at.ensures.written honest)))
     (c.sync.ensures.stable honest1)
 
 pub returns-clause-area : goal.returns-clause-area
@@ -44,5 +44,5 @@ returns-clause-area g c = λ honest.
     at_ok c.sync.result
     (area_in_is (fresh c.args.generation c.args.snapshot.now) (g.D.Disk.held c.sync.new.self).bytes
     (gate_written (g.D.Disk.held c.args.disk.now) c.args.generation c.args.snapshot.now filled c.ranges.generation.fits
-        r.room (g.D.Disk.held c.sync.new.self).bytes (c.sync.ensures.bytes honest1
-        ∙ c.in_ok-write_at.ensures.written honest)))
+    r.room (g.D.Disk.held c.sync.new.self).bytes (c.sync.ensures.bytes honest1
+    ∙ c.in_ok-write_at.ensures.written honest)))

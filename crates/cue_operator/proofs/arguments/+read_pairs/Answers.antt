@@ -21,12 +21,12 @@ returns-in-Some t c =
     let part : c.in_ok-part_by-in-Int.field-0 ≡ part_by device (pos 0) c.in-Int.bytes.now =
     c.in_ok-part_by-in-Int.ensures ∙ ap (λ d. part_by d (pos 0) c.in-Int.bytes.now) (to_z-of_z w32 device fits) in
     let more : option_map (λ (m : List Part). c.in-Some.parts ++ m)
-        (pairs_in (map arg_view (take (length now - 2) (drop 2 now)))) ≡ option_map
-        (λ (m : List Part). c.args.parts ++ m) (pairs_in (map arg_view now)) =
+    (pairs_in (map arg_view (take (length now - 2) (drop 2 now)))) ≡ option_map
+    (λ (m : List Part). c.args.parts ++ m) (pairs_in (map arg_view now)) =
     ap (λ xs. option_map (λ (m : List Part). c.in-Some.parts ++ m) (pairs_in (map arg_view xs))) (take_rest now 2)
     ∙ (behind_one c.args.parts c.in-Some.parts c.in_ok-part_by-in-Int.field-0 (pairs_in (map arg_view (drop 2 now)))
-        (sym c.in-Some.is ∙ c.in_ok-parts-in-Int.ensures)
+    (sym c.in-Some.is ∙ c.in_ok-parts-in-Int.ensures)
     ∙ (ap (λ p. option_map (λ (m : List Part). c.args.parts ++ m) (with_part p (pairs_in (map arg_view (drop 2 now)))))
-        part
+    part
     ∙ ap (λ xs. option_map (λ (m : List Part). c.args.parts ++ m) (pairs_in xs)) (sym shape))) in
     subst (λ (r : Option (List Part)). IfOk c.read_pairs.result (λ read. read ≡ r)) more c.read_pairs.ensures

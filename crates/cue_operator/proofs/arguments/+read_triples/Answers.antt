@@ -17,20 +17,20 @@ returns-in-Some t c =
     let device = c.in-Int.device in
     let flag = c.in-Int.flag in
     let shape : map arg_view now ≡ int device ∷ int flag ∷ blob c.in-Int.bytes.now ∷ map arg_view (drop 3 now) =
-        search rules in
+    search rules in
     let fits : SFits w32 device = search rules in
     let flag_fits : SFits w32 flag = search rules in
     let part : c.in_ok-part_by-in-Int.field-0 ≡ part_by device flag c.in-Int.bytes.now =
     c.in_ok-part_by-in-Int.ensures
-        ∙ (ap (λ d. part_by d (to_z w32 (of_z w32 flag)) c.in-Int.bytes.now) (to_z-of_z w32 device fits)
-        ∙ ap (λ f. part_by device f c.in-Int.bytes.now) (to_z-of_z w32 flag flag_fits)) in
+    ∙ (ap (λ d. part_by d (to_z w32 (of_z w32 flag)) c.in-Int.bytes.now) (to_z-of_z w32 device fits)
+    ∙ ap (λ f. part_by device f c.in-Int.bytes.now) (to_z-of_z w32 flag flag_fits)) in
     let more : option_map (λ (m : List Part). c.in-Some.parts ++ m)
-        (triples_in (map arg_view (take (length now - 3) (drop 3 now)))) ≡ option_map
-        (λ (m : List Part). c.args.parts ++ m) (triples_in (map arg_view now)) =
+    (triples_in (map arg_view (take (length now - 3) (drop 3 now)))) ≡ option_map
+    (λ (m : List Part). c.args.parts ++ m) (triples_in (map arg_view now)) =
     ap (λ xs. option_map (λ (m : List Part). c.in-Some.parts ++ m) (triples_in (map arg_view xs))) (take_rest now 3)
     ∙ (behind_one c.args.parts c.in-Some.parts c.in_ok-part_by-in-Int.field-0 (triples_in (map arg_view (drop 3 now)))
-        (sym c.in-Some.is ∙ c.in_ok-parts-in-Int.ensures)
+    (sym c.in-Some.is ∙ c.in_ok-parts-in-Int.ensures)
     ∙ (ap (λ p. option_map (λ (m : List Part). c.args.parts ++ m)
-        (with_part p (triples_in (map arg_view (drop 3 now))))) part
+    (with_part p (triples_in (map arg_view (drop 3 now))))) part
     ∙ ap (λ xs. option_map (λ (m : List Part). c.args.parts ++ m) (triples_in xs)) (sym shape))) in
     subst (λ (r : Option (List Part)). IfOk c.read_triples.result (λ read. read ≡ r)) more c.read_triples.ensures

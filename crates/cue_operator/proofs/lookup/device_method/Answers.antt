@@ -16,8 +16,8 @@ pub returns-in_err-verb : goal.returns-in_err-verb
 returns-in_err-verb c =
     ap option_to_list c.from_residual-in_err-verb.ensures
     ∙ device_found c.args.show.now c.args.name.now c.args.verb.now c.in_ok-device.device None c.requires
-        (sym c.device_named.ensures ∙ c.in_ok-device.was) (sym c.has_device.ensures ∙ c.if-not-has_device.false)
-        (sym c.in_err-verb.was ∙ c.of.ensures)
+    (sym c.device_named.ensures ∙ c.in_ok-device.was) (sym c.has_device.ensures ∙ c.if-not-has_device.false)
+    (sym c.in_err-verb.was ∙ c.of.ensures)
 
 pub returns : goal.returns
 returns c = device_found c.args.show.now c.args.name.now c.args.verb.now c.in_ok-device.device (Some c.in_ok-verb.verb)

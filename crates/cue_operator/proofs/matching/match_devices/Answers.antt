@@ -11,14 +11,14 @@ pub returns-then-is_empty : goal.returns-then-is_empty
 returns-then-is_empty c =
     let none : c.in_ok-verbs.verbs.items ≡ [] = grind (arith, common_steps) in
     devices_no_verb (map arg_view c.args.args.now) c.args.front.now c.args.name.now c.args.verb.now
-        c.args.found.now.items (keys_of c.args.show.now.devices) (sym c.in_ok-verbs.ensures ∙ none)
+    c.args.found.now.items (keys_of c.args.show.now.devices) (sym c.in_ok-verbs.ensures ∙ none)
 
 pub returns : goal.returns
 returns c =
     let P : List Command → Type 0 =
-        λ cs. OnOk c.push_devices.result (c.push_devices.new.found.items ≡ c.args.found.now.items ++ cs) in
+    λ cs. OnOk c.push_devices.result (c.push_devices.new.found.items ≡ c.args.found.now.items ++ cs) in
     subst P
     (devices_found (map arg_view c.args.args.now) c.args.front.now c.args.name.now c.args.verb.now c.deref.result.now
-        c.args.show.now.devices (c.deref.ensures.value ∙ c.in_ok-verbs.ensures) (sym c.matches_short.ensures
-        ∙ c.if-not-matches_short.false))
+    c.args.show.now.devices (c.deref.ensures.value ∙ c.in_ok-verbs.ensures) (sym c.matches_short.ensures
+    ∙ c.if-not-matches_short.false))
     c.push_devices.ensures

@@ -16,18 +16,18 @@ returns-then-not-is_address c = no-address c.args.show.now c.args.asked.now.addr
 pub returns-in_default : goal.returns-in_default
 returns-in_default c =
     literal-asks c.args.show.now c.args.asked.now.address.now c.args.asked.now.args c.requires.show c.requires.literal
-        (sym c.is_address.ensures ∙ c.if-not-is_address.false)
+    (sym c.is_address.ensures ∙ c.if-not-is_address.false)
     ∙ ap (λ (ms : List Method). unless_none (map (command_by c.args.asked.now.args) ms)) (sym c.look_up.ensures
-        ∙ ap option_to_list c.in_default.is)
+    ∙ ap option_to_list c.in_default.is)
 
 pub returns : goal.returns
 returns c =
     let ok : List Command → Result (List Command) Code = λ cs. Ok cs in
     literal-asks c.args.show.now c.args.asked.now.address.now c.args.asked.now.args c.requires.show c.requires.literal
-        (sym c.is_address.ensures ∙ c.if-not-is_address.false)
+    (sym c.is_address.ensures ∙ c.if-not-is_address.false)
     ∙ (ap (λ (ms : List Method). unless_none (map (command_by c.args.asked.now.args) ms)) (sym c.look_up.ensures
-        ∙ ap option_to_list c.in-Some.is)
+    ∙ ap option_to_list c.in-Some.is)
     ∙ ap ok (sym (c.in_ok-push.ensures.items
-        ∙ (ap (λ (cs : List Command). cs ++ (c.in_ok-asks.asks ∷ [])) c.in_ok-found.ensures.items
+    ∙ (ap (λ (cs : List Command). cs ++ (c.in_ok-asks.asks ∷ [])) c.in_ok-found.ensures.items
     ∙ ap (λ (a : Command). a ∷ []) (c.in_ok-asks.ensures
-        ∙ ap (λ (xs : List Argument). command_by xs c.in-Some.method) c.as_slice.ensures)))))
+    ∙ ap (λ (xs : List Argument). command_by xs c.in-Some.method) c.as_slice.ensures)))))

@@ -15,9 +15,11 @@ returns-clause-too_long c =
     (long_if c.args.bytes.now c.datagram.result c.datagram.ensures.exact, c.datagram.ensures.too_long)
 
 pub returns-clause-not_multiple : goal.returns-clause-not_multiple
-returns-clause-not_multiple c =
-    (no_multiple_if c.args.bytes.now c.datagram.result c.datagram.ensures.exact, λ h. c.datagram.ensures.not_multiple
-    h.0 h.1)
+returns-clause-not_multiple c = (
+  no_multiple_if c.args.bytes.now c.datagram.result c.datagram.ensures.exact,
+  λ h. c.datagram.ensures.not_multiple
+      h.0 h.1,
+)
 
 pub returns-clause-addresses : goal.returns-clause-addresses
 returns-clause-addresses c = has_addresses c.args.bytes.now c.datagram.result (λ i. omega (arith, c.type_inv.bytes i))

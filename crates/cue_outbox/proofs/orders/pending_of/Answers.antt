@@ -14,32 +14,32 @@ use Rattle.cue_outbox.proofs.orders.pending_of.Goals.{then-is_among+in_ok-push_o
 pub loop-attempt-preserved : goal.loop-attempt-preserved
 loop-attempt-preserved c =
     let live : c.as_slice-attempt-items.result.now ≡ c.args.state.now.live = c.as_slice-attempt-items.ensures.value
-        ∙ c.live.ensures.value in
+    ∙ c.live.ensures.value in
     let P : List Attempt → Type 0 = λ xs. c.loop-attempt.attempt-index < length xs in
     let Q : List Attempt → Type 0 = λ xs. c.attempt-item.result ≡ get_or xs c.loop-attempt.attempt-index
-        c.attempt-item.result in
+    c.attempt-item.result in
     let new : outs_view c.if-is_among.asked.items ≡ outs_view c.loop-attempt.asked.items ++ cond
-        (is_among c.attempt-item.result.seq c.args.numbers.now)
-        (datagrams_for c.args.state.now c.attempt-item.result c.attempt-item.result.answers) [] =
+    (is_among c.attempt-item.result.seq c.args.numbers.now)
+    (datagrams_for c.args.state.now c.attempt-item.result c.attempt-item.result.answers) [] =
     elim c.if-is_among.branch [
       | then-is_among+in_ok-push_orders w ↦
           let yes : true ≡ is_among c.attempt-item.result.seq c.args.numbers.now = sym w.if-is_among.true
-              ∙ c.is_among.ensures in
+          ∙ c.is_among.ensures in
           let more : outs_view w.push_orders.new.outs.items ≡ outs_view c.loop-attempt.asked.items ++ datagrams_for
-              c.args.state.now c.attempt-item.result c.attempt-item.result.answers = w.in_ok-push_orders.ensures in
+          c.args.state.now c.attempt-item.result c.attempt-item.result.answers = w.in_ok-push_orders.ensures in
           ap (λ (v : Vec Out Global). outs_view v.items) w.asked-is
-              ∙ (more ∙ ap (λ b. outs_view c.loop-attempt.asked.items ++ cond b
-              (datagrams_for c.args.state.now c.attempt-item.result c.attempt-item.result.answers) []) yes)
+          ∙ (more ∙ ap (λ b. outs_view c.loop-attempt.asked.items ++ cond b
+          (datagrams_for c.args.state.now c.attempt-item.result c.attempt-item.result.answers) []) yes)
       | else-is_among w ↦
           let no : false ≡ is_among c.attempt-item.result.seq c.args.numbers.now = sym w.if-is_among.false
-              ∙ c.is_among.ensures in
+          ∙ c.is_among.ensures in
           ap (λ (v : Vec Out Global). outs_view v.items) w.asked-is
-              ∙ (sym (append-nil (outs_view c.loop-attempt.asked.items))
-              ∙ ap (λ b. outs_view c.loop-attempt.asked.items ++ cond b
-              (datagrams_for c.args.state.now c.attempt-item.result c.attempt-item.result.answers) []) no)
+          ∙ (sym (append-nil (outs_view c.loop-attempt.asked.items))
+          ∙ ap (λ b. outs_view c.loop-attempt.asked.items ++ cond b
+          (datagrams_for c.args.state.now c.attempt-item.result c.attempt-item.result.answers) []) no)
     ]
     in
     owed-more c.args.state.now c.args.numbers.now c.args.state.now.live c.loop-attempt.attempt-index
-        c.attempt-item.result (outs_view c.loop-attempt.asked.items) (outs_view c.if-is_among.asked.items)
+    c.attempt-item.result (outs_view c.loop-attempt.asked.items) (outs_view c.if-is_among.asked.items)
     (datagrams (pending_of c.args.numbers.now c.args.state.now)) (subst P live c.loop-attempt-test.true)
-        (subst Q live c.attempt-item.is) new c.loop-attempt.invariant
+    (subst Q live c.attempt-item.is) new c.loop-attempt.invariant

@@ -7,4 +7,4 @@ use Rattle.cue_outbox.proofs.orders.push_orders.Given as goal
 abbrev pub invariant-loop-answer : goal.invariant-loop-answer
 invariant-loop-answer l =
     outs_view l.outs.items ++ datagrams_for l.state l.attempt (drop l.answer-index l.attempt.answers) ≡ outs_view
-        l.initial.outs.items ++ datagrams_for l.state l.attempt l.attempt.answers
+    l.initial.outs.items ++ datagrams_for l.state l.attempt l.attempt.answers

@@ -10,7 +10,7 @@ use Rattle.cue_pattern.proofs.pattern.count_parts.Goals as goal
 pub returns-in_err-first : goal.returns-in_err-first
 returns-in_err-first c =
     c.from_residual.ensures ∙ sym
-        (ap (option_map {U = ℕ} (length {A = List Piece})) (pattern_at-no_slash _ c.in_err-first.ensures.parts))
+    (ap (option_map {U = ℕ} (length {A = List Piece})) (pattern_at-no_slash _ c.in_err-first.ensures.parts))
 
 pub loop-left-init : goal.loop-left-init
 loop-left-init c = record {
@@ -25,21 +25,25 @@ returns-in_err-count_pieces c =
     let m = c.loop-left.count in
     c.from_residual-in_err-count_pieces.ensures
     ∙ (sym (ap (option_map (λ (ps : List (List Piece)). m + length ps))
-        (parts-uncounted _ _ _ c.cut_first.ensures c.in_err-count_pieces.ensures))
+    (parts-uncounted _ _ _ c.cut_first.ensures c.in_err-count_pieces.ensures))
     ∙ (ap (λ (o : Option (Bor (List ℕ))). option_map {U = ℕ} (λ ps. m + length ps)
-        (pieces_of (cut_left 47 (option_copied o)))) (sym c.in-Some.is)
+    (pieces_of (cut_left 47 (option_copied o)))) (sym c.in-Some.is)
     ∙ c.loop-left.invariant.all))
 
 pub loop-left-preserved : goal.loop-left-preserved
 loop-left-preserved c =
     let m = c.loop-left.count in
     record {
-      few = omega (arith, cut-shorter _ _ _ c.cut_first.ensures,
-          ap (λ (o : Option (Bor (List ℕ))). left_len (option_copied o)) c.in-Some.is, c.loop-left.invariant.few);
+      few = omega (
+        arith,
+        cut-shorter _ _ _ c.cut_first.ensures,
+        ap (λ (o : Option (Bor (List ℕ))). left_len (option_copied o)) c.in-Some.is,
+        c.loop-left.invariant.few,
+      );
       all =
           parts-counted m _ _ _ _ c.cut_first.ensures c.in_ok-count_pieces.ensures
           ∙ (ap (λ (o : Option (Bor (List ℕ))). option_map {U = ℕ} (λ ps. m + length ps)
-              (pieces_of (cut_left 47 (option_copied o)))) (sym c.in-Some.is)
+          (pieces_of (cut_left 47 (option_copied o)))) (sym c.in-Some.is)
           ∙ c.loop-left.invariant.all);
     }
 
@@ -48,5 +52,5 @@ returns c =
     let m = c.loop-left.count in
     parts-counted_all m
     ∙ (ap (λ (o : Option (Bor (List ℕ))). option_map {U = ℕ} (λ ps. m + length ps)
-        (pieces_of (cut_left 47 (option_copied o)))) (sym c.in_default.is)
+    (pieces_of (cut_left 47 (option_copied o)))) (sym c.in_default.is)
     ∙ c.loop-left.invariant.all)

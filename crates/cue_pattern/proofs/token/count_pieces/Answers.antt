@@ -8,7 +8,7 @@ pub returns-in_err-after : goal.returns-in_err-after
 returns-in_err-after c =
     let none = none-at c.loop-rest.rest.now c.in-len1-up.len_at_least c.in_err-after.ensures in
     c.from_residual.ensures ∙ (ap (option_map (λ (ps : List Piece). c.loop-rest.count + length ps)) (sym none)
-        ∙ c.loop-rest.invariant.all)
+    ∙ c.loop-rest.invariant.all)
 
 pub loop-rest-preserved : goal.loop-rest-preserved
 loop-rest-preserved c =

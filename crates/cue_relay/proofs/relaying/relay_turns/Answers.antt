@@ -20,7 +20,7 @@ loop-taken-preserved g c =
       relayed_more c.args.relay (length c.args.buffer.now) (left c.args.source.now) (left c.loop-taken.source)
           (left c.turn_once.new.source)
           (told c.args.wire.now) (told c.loop-taken.wire) (told c.turn_once.new.wire) c.loop-taken.taken
-              c.loop-taken.counts c.after-counts.result
+          c.loop-taken.counts c.after-counts.result
           turn.0 c.in-Ok-Some.what now.0 (rw now.1 at turn.1) turn.2 c.after-counts.ensures,
       c.turn_once.auto.buffer ∙ now.1,
       omega (arith, c.loop-taken-test.true),

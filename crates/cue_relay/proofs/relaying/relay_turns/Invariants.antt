@@ -6,7 +6,7 @@ use Rattle.cue_relay.proofs.relaying.relay_turns.Given as goal
 abbrev pub invariant-loop-taken : goal.invariant-loop-taken
 invariant-loop-taken g l =
     HasRelayed l.relay (length l.fn.buffer) (g.S.Source.left l.fn.source) (g.W.Wire.told l.fn.wire) l.taken l.counts
-        (g.S.Source.left l.source) (g.W.Wire.told l.wire)
+    (g.S.Source.left l.source) (g.W.Wire.told l.wire)
     × (length l.buffer ≡ length l.fn.buffer)
     × (l.taken ≤ l.turns)
     × (total l.counts ≤ l.taken)

@@ -27,14 +27,17 @@ loop-taken-init g c =
           (begun (length c.args.buffer.now) left (state_of old) (state_of new) (queue_of old) (told c.args.wire.now)
           (told handed.new.wire) handed.result (omega (arith, handed.type_inv)) state
           (subst (λ (owed : List (ℕ × List ℕ)). AllHanded (told c.args.wire.now) owed handed.result
-              (told handed.new.wire)) c.withdraw.ensures.queue handed.ensures.handed))
+          (told handed.new.wire)) c.withdraw.ensures.queue handed.ensures.handed))
           refl c.look.ensures.told,
       refl,
       refl,
       omega arith,
       handed.ensures.emptied,
-      record { batches = handed.ensures.offered.0 ∙ c.withdraw.ensures.dropped.batches; sends = handed.ensures.offered.1
-          ∙ c.withdraw.ensures.dropped.sends },
+      record {
+        batches = handed.ensures.offered.0 ∙ c.withdraw.ensures.dropped.batches;
+        sends = handed.ensures.offered.1
+            ∙ c.withdraw.ensures.dropped.sends;
+      },
       begins (keeper_of old) (keeper_of new) same (rw same at c.state.ensures.stands),
       λ _. refl,
     )
@@ -50,7 +53,7 @@ loop-taken-preserved g c =
     let size = length c.args.buffer.now in
     let room = c.min-room.result in
     let one = subst (λ (n : ℕ). HasRound n room r.result l.engine r.new.engine (left l.source) (left r.new.source)
-        (told l.wire) (told r.new.wire)) now.1 r.ensures.round in (
+    (told l.wire) (told r.new.wire)) now.1 r.ensures.round in (
       round_more size room l.taken l.unsent c.saturating_add-unsent.result r.result old l.engine r.new.engine
           (left c.args.source.now) (left l.source) (left r.new.source) (told c.args.wire.now) (told l.wire)
           (told r.new.wire)
@@ -76,12 +79,12 @@ returns-in-Some g c =
     let size = length c.args.buffer.now in
     let room = c.min-room.result in
     let one = subst (λ (n : ℕ). HasRound n room r.result l.engine r.new.engine (left l.source) (left r.new.source)
-        (told l.wire) (told r.new.wire)) now.1 r.ensures.round in
+    (told l.wire) (told r.new.wire)) now.1 r.ensures.round in
     round_last size room c.args.turns l.taken l.unsent c.saturating_add-unsent.result r.result c.in-Some.stop
-        c.fault_of.result old l.engine r.new.engine (left c.args.source.now) (left l.source) (left r.new.source)
-        (told c.args.wire.now) (told l.wire) (told r.new.wire)
+    c.fault_of.result old l.engine r.new.engine (left c.args.source.now) (left l.source) (left r.new.source)
+    (told c.args.wire.now) (told l.wire) (told r.new.wire)
     c.saturating_add-unsent.ensures c.in-Some.is c.fault_of.ensures
-        (omega (arith, c.min-room.ensures, c.loop-taken-test.true)) r.ensures.emptied now.6 now.7 now.0 one
+    (omega (arith, c.min-room.ensures, c.loop-taken-test.true)) r.ensures.emptied now.6 now.7 now.0 one
 
 pub returns : goal.returns
 returns g c =

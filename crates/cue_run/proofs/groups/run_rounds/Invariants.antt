@@ -8,7 +8,7 @@ use Rattle.cue_run.proofs.groups.run_rounds.Given as goal
 abbrev pub invariant-loop-taken : goal.invariant-loop-taken
 invariant-loop-taken g l =
     HasRun (length l.fn.buffer) (g.S.Source.left l.fn.source) (state_of l.fn.engine) (queue_of l.fn.engine)
-        (g.W.Wire.told l.fn.wire) l.taken l.unsent (g.S.Source.left l.source) (state_of l.engine) (g.W.Wire.told l.wire)
+    (g.W.Wire.told l.fn.wire) l.taken l.unsent (g.S.Source.left l.source) (state_of l.engine) (g.W.Wire.told l.wire)
     × (length l.buffer ≡ length l.fn.buffer)
     × (vec_capacity l.ends ≡ vec_capacity l.fn.ends)
     × (l.taken ≤ l.turns)

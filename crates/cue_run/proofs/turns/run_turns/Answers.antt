@@ -1,6 +1,6 @@
 use Rattle.std.proofs.Common.{◌≡◌, ◌+◌, length, refl, sym, ◌∙◌, ap, inl, arith, true≢false}
 use Rattle.cue_keeper.specs.Observed as kept
-use Rattle.cue_engine.specs.Given.{given}
+use Rattle.cue_engine.specs.Given.{given_of}
 use Rattle.cue_engine.specs.Words.{keeper_of, state_of, queue_of}
 use Rattle.cue_run.proofs.RunLemmas.{begun, still, run_more, ended_there, ended_by, keeps_after, works_after}
 use Rattle.cue_run.proofs.RunLemmas.{state_after}
@@ -69,7 +69,7 @@ returns-in-Err g c =
     let why = c.in-Err.fault in
     let turn = c.in-Err.ensures.turned in
     let same = state_after size why (keeper_of mid) (keeper_of new) (left c.loop-taken.source)
-        (left c.turn_once.new.source) (told c.loop-taken.wire) (told c.turn_once.new.wire) turn in
+    (left c.turn_once.new.source) (told c.loop-taken.wire) (told c.turn_once.new.wire) turn in
     record {
       mid = left c.loop-taken.source;
       taken = still (length c.args.buffer.now) (left c.args.source.now) (left c.loop-taken.source) (state_of old)
@@ -99,18 +99,18 @@ loop-taken-preserved g c =
     let now = c.loop-taken.invariant in
     let turn = rw c.in-Ok-Some.field-0-is at c.in-Ok-Some.ensures.turned in
     let next = turn.0 in
-    let batch = (given (state_of mid) next.now next.input).batch in (
+    let batch = (given_of (state_of mid) next.now next.input).batch in (
       still (length c.args.buffer.now) (left c.args.source.now) (left c.turn_once.new.source) (state_of old)
           (state_of new)
           (state_of new) (queue_of old) (told c.args.wire.now) (told c.turn_once.new.wire)
-              (told c.look-in-Ok-Some.new.wire)
+          (told c.look-in-Ok-Some.new.wire)
           (c.loop-taken.taken + 1) c.saturating_add-unsent.result
           (run_more (length c.args.buffer.now) (length c.loop-taken.buffer) (left c.args.source.now)
-              (left c.loop-taken.source)
+          (left c.loop-taken.source)
           (left c.turn_once.new.source) (state_of old) (state_of mid) (state_of new) (queue_of old)
-              (told c.args.wire.now)
+          (told c.args.wire.now)
           (told c.loop-taken.wire) (told c.turn_once.new.wire) c.loop-taken.taken c.loop-taken.unsent
-              c.saturating_add-unsent.result
+          c.saturating_add-unsent.result
           c.in-Ok-Some.refused now.1 c.saturating_add-unsent.ensures now.0
           ((next.now, next.input), next.came, record { state = next.accepts.state; handed = turn.1 }))
           refl c.look-in-Ok-Some.ensures.told,

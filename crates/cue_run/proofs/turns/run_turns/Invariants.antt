@@ -7,7 +7,7 @@ use Rattle.cue_run.proofs.turns.run_turns.Given as goal
 abbrev pub invariant-loop-taken : goal.invariant-loop-taken
 invariant-loop-taken g l =
     HasRun (length l.fn.buffer) (g.S.Source.left l.fn.source) (state_of l.fn.engine) (queue_of l.fn.engine)
-        (g.W.Wire.told l.fn.wire) l.taken l.unsent (g.S.Source.left l.source) (state_of l.engine) (g.W.Wire.told l.wire)
+    (g.W.Wire.told l.fn.wire) l.taken l.unsent (g.S.Source.left l.source) (state_of l.engine) (g.W.Wire.told l.wire)
     × (length l.buffer ≡ length l.fn.buffer)
     × (l.taken ≤ l.turns)
     × (queue_of l.engine ≡ [])

@@ -12,11 +12,11 @@ use Rattle.cue_script.proofs.entry.play_all.Goals as goal
 pub returns-in-Ok-Some-clause-wrote : goal.returns-in-Ok-Some-clause-wrote
 returns-in-Ok-Some-clause-wrote g c =
     let P : List ℕ → Type 0 =
-        λ text. Wrote c.play_anew.result empty_state text [] (g.W.Write.contents c.args.writer.now)
-        (g.W.Write.contents c.play_anew.new.writer) in
+    λ text. Wrote c.play_anew.result empty_state text [] (g.W.Write.contents c.args.writer.now)
+    (g.W.Write.contents c.play_anew.new.writer) in
     of_known (g.R.Read.remaining c.args.reader.now) SCRIPT_LIMIT c.in-Ok-Some.text.items P
-        (rw c.in-Ok-Some.field-0-is at c.in-Ok-Some.ensures.read)
-        (subst P c.as_slice.ensures.value c.play_anew.ensures.wrote)
+    (rw c.in-Ok-Some.field-0-is at c.in-Ok-Some.ensures.read)
+    (subst P c.as_slice.ensures.value c.play_anew.ensures.wrote)
 
 pub returns-in-Ok-Some-clause-cause : goal.returns-in-Ok-Some-clause-cause
 returns-in-Ok-Some-clause-cause g c =
@@ -26,12 +26,12 @@ returns-in-Ok-Some-clause-cause g c =
 pub returns-in-Ok-None-clause-wrote : goal.returns-in-Ok-None-clause-wrote
 returns-in-Ok-None-clause-wrote g c =
     too_long (g.R.Read.remaining c.args.reader.now) empty_state (g.W.Write.contents c.args.writer.now)
-        (rw c.in-Ok-None.field-0-is at c.in-Ok-None.ensures.read)
+    (rw c.in-Ok-None.field-0-is at c.in-Ok-None.ensures.read)
 
 pub returns-in-Err-clause-wrote : goal.returns-in-Err-clause-wrote
 returns-in-Err-clause-wrote g c =
     stopped_known (g.R.Read.remaining c.args.reader.now) c.of.result empty_state (g.W.Write.contents c.args.writer.now)
-        (g.W.Write.contents c.args.writer.now)
+    (g.W.Write.contents c.args.writer.now)
 
 pub returns-in-Err-clause-cause : goal.returns-in-Err-clause-cause
 returns-in-Err-clause-cause g c =

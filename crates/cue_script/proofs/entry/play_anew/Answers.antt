@@ -9,14 +9,14 @@ use Rattle.cue_script.proofs.entry.play_anew.Goals as goal
 pub returns-in-Ok-clause-wrote : goal.returns-in-Ok-clause-wrote
 returns-in-Ok-clause-wrote g c =
     let P : ShowState → Type 0 =
-        λ s. Wrote c.play_lines.result s c.args.text.now [] (g.W.Write.contents c.args.writer.now)
-        (g.W.Write.contents c.play_lines.new.writer) in
+    λ s. Wrote c.play_lines.result s c.args.text.now [] (g.W.Write.contents c.args.writer.now)
+    (g.W.Write.contents c.play_lines.new.writer) in
     subst P c.in-Ok.ensures.state c.play_lines.ensures.wrote
 
 pub returns-clause-wrote : goal.returns-clause-wrote
 returns-clause-wrote g c =
     let other = c.in-Err.ensures.no_other in
     let empty : c.in-Err.fault ≡ StoreFault.NotEmpty
-        → ⊥ = λ is. no_area _ _ c.new.ensures.held c.new-2.ensures.held (c.in-Err.ensures.not_empty tt tt is) in
+    → ⊥ = λ is. no_area _ _ c.new.ensures.held c.new-2.ensures.held (c.in-Err.ensures.not_empty tt tt is) in
     not_formed c.in-Err.fault empty_state c.args.text.now (g.W.Write.contents c.args.writer.now) c.requires
     (comes_of_recovery c.in-Err.fault empty other.0 other.1 other.2 other.3)

@@ -8,7 +8,7 @@ returns-in-Ok g c = record {
   ran = has_run (g.R.Read.remaining c.args.reader.now) c.play_all-ending.result empty_state c.line.result.now
       c.status.result
       (g.W.Write.contents c.args.writer.now) (g.W.Write.contents c.play_all-ending.new.writer)
-          (g.W.Write.contents c.write_last.new.writer)
+      (g.W.Write.contents c.write_last.new.writer)
       c.play_all-ending.ensures.wrote c.line.ensures c.in-Ok.ensures c.status.ensures;
   statuses = small_status c.play_all-ending.result c.status.result c.status.ensures;
 }
@@ -17,6 +17,6 @@ pub returns-in-Err : goal.returns-in-Err
 returns-in-Err g c = record {
   ran = has_stopped (g.R.Read.remaining c.args.reader.now) c.of.result empty_state c.status-in-Err.result
       (g.W.Write.contents c.args.writer.now) (g.W.Write.contents c.write_last-in-Err.new.writer)
-          c.status-in-Err.ensures;
+      c.status-in-Err.ensures;
   statuses = small_status (Stopped c.of.result) c.status-in-Err.result c.status-in-Err.ensures;
 }

@@ -8,8 +8,11 @@ use Rattle.cue_script.proofs.ScriptLemmas.{running_first, running_more, ran, ran
 use Rattle.cue_script.proofs.play.play_lines.Goals as goal
 
 pub loop-rest-init : goal.loop-rest-init
-loop-rest-init g c = (running_first (state_of c.args.engine) c.args.text.now (g.W.Write.contents c.args.writer.now),
-    c.requires.ready, refl)
+loop-rest-init g c = (
+  running_first (state_of c.args.engine) c.args.text.now (g.W.Write.contents c.args.writer.now),
+  c.requires.ready,
+  refl,
+)
 
 pub play_line-requires : goal.play_line-requires
 play_line-requires g c = c.loop-rest.invariant.1
@@ -19,7 +22,7 @@ loop-rest-preserved g c = (
   running_more (state_of c.args.engine) c.args.text.now c.loop-rest.rest.now c.first_line.result.1.now
       c.first_line.result.0.now (state_of c.loop-rest.engine) (state_of c.in-Ok.next)
       (g.W.Write.contents c.args.writer.now) (g.W.Write.contents c.loop-rest.writer)
-          (g.W.Write.contents c.play_line.new.writer)
+      (g.W.Write.contents c.play_line.new.writer)
       c.loop-rest.invariant.0 c.first_line.ensures.line c.in-Ok.ensures.goes,
   c.in-Ok.ensures.ready,
   c.in-Ok.ensures.no_failure ∙ c.loop-rest.invariant.2,
@@ -28,9 +31,9 @@ loop-rest-preserved g c = (
 pub returns-in-Err-clause-wrote : goal.returns-in-Err-clause-wrote
 returns-in-Err-clause-wrote g c =
     ran_until c.in-Err.ending (state_of c.args.engine) c.args.text.now c.loop-rest.rest.now c.first_line.result.1.now
-        c.first_line.result.0.now (state_of c.loop-rest.engine)
+    c.first_line.result.0.now (state_of c.loop-rest.engine)
     (g.W.Write.contents c.args.writer.now) (g.W.Write.contents c.loop-rest.writer)
-        (g.W.Write.contents c.play_line.new.writer)
+    (g.W.Write.contents c.play_line.new.writer)
     c.loop-rest.invariant.0 c.first_line.ensures.line c.requires.short c.in-Err.ensures.ends
 
 pub returns-in-Err-clause-cause : goal.returns-in-Err-clause-cause
@@ -41,7 +44,7 @@ returns-in-Err-clause-cause g c =
 pub returns-clause-wrote : goal.returns-clause-wrote
 returns-clause-wrote g c =
     ran (state_of c.args.engine) c.args.text.now c.loop-rest.rest.now [] (state_of c.loop-rest.engine)
-        (g.W.Write.contents c.args.writer.now) (g.W.Write.contents c.loop-rest.writer)
+    (g.W.Write.contents c.args.writer.now) (g.W.Write.contents c.loop-rest.writer)
     c.loop-rest.invariant.0 (lines-none c.loop-rest.rest.now c.loop-rest-test.ensures) c.requires.short
 
 pub returns-clause-cause : goal.returns-clause-cause

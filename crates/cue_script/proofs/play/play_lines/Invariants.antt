@@ -7,7 +7,7 @@ use Rattle.cue_script.proofs.play.play_lines.Given as goal
 abbrev pub invariant-loop-rest : goal.invariant-loop-rest
 invariant-loop-rest g l =
     IsRunning (state_of l.initial.engine) l.text l.rest (state_of l.engine) (g.W.Write.contents l.initial.writer)
-        (g.W.Write.contents l.writer)
+    (g.W.Write.contents l.writer)
     × IsReady l.engine × (l.streams ≡ l.initial.streams)
 
 abbrev pub decreases-loop-rest : goal.decreases-loop-rest

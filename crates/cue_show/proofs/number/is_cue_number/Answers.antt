@@ -9,7 +9,7 @@ returns-else-byte-eq46 c =
     sym (is_cue_number-short c.args.text.now c.if-text-gt-MAX_CUE_BYTES.false
     ∙ sym c.loop-byte.invariant
     ∙ runs_from-stops c.loop-byte.after_digit c.args.text.now c.loop-byte.byte-index c.loop-byte-test.true
-        (sym c.if-is_ascii_digit.ensures.value) c.else-byte-eq46.either)
+    (sym c.if-is_ascii_digit.ensures.value) c.else-byte-eq46.either)
 
 -- all bytes were read
 pub returns : goal.returns

@@ -19,11 +19,11 @@ returns-in-Area-clause-chosen g c =
     let area = log.area_read c.in-Area.second in
     let generation = generation_of c.in-Area.second.log in
     let opened = subst (λ (found : _). g.D.Disk.is_honest (disk_in found) → IsFound g.D.Disk.held found) c.in-Area.is
-        c.requires.second_found in
+    c.requires.second_found in
     subst (λ (found : _). g.D.Disk.is_honest a → g.D.Disk.is_honest (disk_in found)
-        → IsChosen held a (disk_in found) c.pair_of.result) (sym c.in-Area.is)
+    → IsChosen held a (disk_in found) c.pair_of.result) (sym c.in-Area.is)
     (λ honest_a honest_b. chosen held a b b c.pair_of.result area
     (leaves_swapped (held b) (held a) area (pair_leaves (held b) (held a) area generation (opened honest_b).0 refl
-        (absent_leaves_older (held a) generation (c.requires.first_absent honest_a))))
+    (absent_leaves_older (held a) generation (c.requires.first_absent honest_a))))
     (g.met.D.Disk.reads_as_image a honest_a) (g.met.D.Disk.reads_as_image b honest_b)
     c.pair_of.ensures.read c.pair_of.ensures.snap.live (opened honest_b).1)

@@ -20,15 +20,15 @@ returns-in-Area-clause-works g c = c.beside_area.ensures.works
 pub returns-in-Area-clause-chosen : goal.returns-in-Area-clause-chosen
 returns-in-Area-clause-chosen g c =
     subst (λ (found : _). g.D.Disk.is_honest (disk_in found) → g.D.Disk.is_honest (disk_in c.args.second)
-        → IfOk c.beside_area.result (IsChosen g.D.Disk.held (disk_in found) (disk_in c.args.second))) (sym c.in-Area.is)
-        c.beside_area.ensures.chosen
+    → IfOk c.beside_area.result (IsChosen g.D.Disk.held (disk_in found) (disk_in c.args.second))) (sym c.in-Area.is)
+    c.beside_area.ensures.chosen
 
 pub returns-in-Area-clause-damaged : goal.returns-in-Area-clause-damaged
 returns-in-Area-clause-damaged g c =
     subst (λ (found : _). g.D.Disk.is_honest (disk_in found) → g.D.Disk.is_honest (disk_in c.args.second)
-        → RefusedAs Damaged (IsSpoiled (g.D.Disk.held (disk_in found)).bytes
-        (g.D.Disk.held (disk_in c.args.second)).bytes) c.beside_area.result) (sym c.in-Area.is)
-        c.beside_area.ensures.damaged
+    → RefusedAs Damaged (IsSpoiled (g.D.Disk.held (disk_in found)).bytes
+    (g.D.Disk.held (disk_in c.args.second)).bytes) c.beside_area.result) (sym c.in-Area.is)
+    c.beside_area.ensures.damaged
 
 pub returns-in-Absent-clause-first : goal.returns-in-Absent-clause-first
 returns-in-Absent-clause-first g c =
@@ -44,12 +44,12 @@ returns-in-Absent-clause-works g c = c.beside_none.ensures.works
 pub returns-in-Absent-clause-chosen : goal.returns-in-Absent-clause-chosen
 returns-in-Absent-clause-chosen g c =
     subst (λ (found : _). g.D.Disk.is_honest (disk_in found) → g.D.Disk.is_honest (disk_in c.args.second)
-        → IfOk c.beside_none.result (IsChosen g.D.Disk.held (disk_in found) (disk_in c.args.second)))
-        (sym c.in-Absent.is) c.beside_none.ensures.chosen
+    → IfOk c.beside_none.result (IsChosen g.D.Disk.held (disk_in found) (disk_in c.args.second)))
+    (sym c.in-Absent.is) c.beside_none.ensures.chosen
 
 pub returns-in-Absent-clause-unformed : goal.returns-in-Absent-clause-unformed
 returns-in-Absent-clause-unformed g c =
     subst (λ (found : _). g.D.Disk.is_honest (disk_in found) → g.D.Disk.is_honest (disk_in c.args.second)
-        → RefusedAs Unformed (NeitherHas (g.D.Disk.held (disk_in found)).bytes
-        (g.D.Disk.held (disk_in c.args.second)).bytes) c.beside_none.result) (sym c.in-Absent.is)
-        c.beside_none.ensures.unformed
+    → RefusedAs Unformed (NeitherHas (g.D.Disk.held (disk_in found)).bytes
+    (g.D.Disk.held (disk_in c.args.second)).bytes) c.beside_none.result) (sym c.in-Absent.is)
+    c.beside_none.ensures.unformed

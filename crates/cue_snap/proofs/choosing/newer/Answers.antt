@@ -11,8 +11,12 @@ pair_of-requires-clause-older g c = λ honest.
     let held = g.D.Disk.held in
     let same = c.retire.ensures.disk in
     let lower : generation_of c.args.second.log < generation_of c.args.first.log =
-    omega (arith, c.if-first_generation-second_generation.true, c.generation-first_generation.ensures.number,
-        c.generation-second_generation.ensures.number) in
+    omega (
+      arith,
+      c.if-first_generation-second_generation.true,
+      c.generation-first_generation.ensures.number,
+      c.generation-second_generation.ensures.number,
+    ) in
     subst (λ (disk : _). LeavesOlder (held disk) (generation_of c.args.first.log)) (sym same)
     (area_leaves_older (held (disk_of c.args.second.log)) (log.area_read c.args.second) (generation_of c.args.first.log)
     (c.requires.second_opened (subst (λ (disk : _). g.D.Disk.is_honest disk) same honest)).0 lower)
@@ -23,8 +27,12 @@ pair_of-requires-then-first_generation-second_generation-2-clause-older g c = λ
     let held = g.D.Disk.held in
     let same = c.retire-then-first_generation-second_generation-2.ensures.disk in
     let lower : generation_of c.args.first.log < generation_of c.args.second.log =
-    omega (arith, c.if-first_generation-second_generation-2.true, c.generation-first_generation.ensures.number,
-        c.generation-second_generation.ensures.number) in
+    omega (
+      arith,
+      c.if-first_generation-second_generation-2.true,
+      c.generation-first_generation.ensures.number,
+      c.generation-second_generation.ensures.number,
+    ) in
     subst (λ (disk : _). LeavesOlder (held disk) (generation_of c.args.second.log)) (sym same)
     (area_leaves_older (held (disk_of c.args.first.log)) (log.area_read c.args.first) (generation_of c.args.second.log)
     (c.requires.first_opened (subst (λ (disk : _). g.D.Disk.is_honest disk) same honest)).0 lower)
@@ -38,16 +46,20 @@ returns-then-first_generation-second_generation-2-clause-chosen g c = λ honest_
     let b = disk_of c.args.second.log in
     let area = log.area_read c.args.second in
     let lower : generation_of c.args.first.log < generation_of c.args.second.log =
-    omega (arith, c.if-first_generation-second_generation-2.true, c.generation-first_generation.ensures.number,
-        c.generation-second_generation.ensures.number) in
+    omega (
+      arith,
+      c.if-first_generation-second_generation-2.true,
+      c.generation-first_generation.ensures.number,
+      c.generation-second_generation.ensures.number,
+    ) in
     let older = area_leaves_older (held a) (log.area_read c.args.first) (generation_of c.args.second.log)
-        (c.requires.first_opened honest_a).0 lower in
+    (c.requires.first_opened honest_a).0 lower in
     chosen held a b b c.pair_of-then-first_generation-second_generation-2.result area
     (leaves_swapped (held b) (held a) area (pair_leaves (held b) (held a) area (generation_of c.args.second.log)
-        (c.requires.second_opened honest_b).0 refl older))
+    (c.requires.second_opened honest_b).0 refl older))
     (g.met.D.Disk.reads_as_image a honest_a) (g.met.D.Disk.reads_as_image b honest_b)
     c.pair_of-then-first_generation-second_generation-2.ensures.read
-        c.pair_of-then-first_generation-second_generation-2.ensures.snap.live (c.requires.second_opened honest_b).1
+    c.pair_of-then-first_generation-second_generation-2.ensures.snap.live (c.requires.second_opened honest_b).1
 
 -- the first disk has the newer area
 pub returns-then-first_generation-second_generation-clause-chosen :
@@ -58,12 +70,16 @@ returns-then-first_generation-second_generation-clause-chosen g c = λ honest_a 
     let b = disk_of c.args.second.log in
     let area = log.area_read c.args.first in
     let lower : generation_of c.args.second.log < generation_of c.args.first.log =
-    omega (arith, c.if-first_generation-second_generation.true, c.generation-first_generation.ensures.number,
-        c.generation-second_generation.ensures.number) in
+    omega (
+      arith,
+      c.if-first_generation-second_generation.true,
+      c.generation-first_generation.ensures.number,
+      c.generation-second_generation.ensures.number,
+    ) in
     let older = area_leaves_older (held b) (log.area_read c.args.second) (generation_of c.args.first.log)
-        (c.requires.second_opened honest_b).0 lower in
+    (c.requires.second_opened honest_b).0 lower in
     chosen held a b a c.pair_of.result area
     (pair_leaves (held a) (held b) area (generation_of c.args.first.log) (c.requires.first_opened honest_a).0 refl
-        older)
+    older)
     (g.met.D.Disk.reads_as_image a honest_a) (g.met.D.Disk.reads_as_image b honest_b)
     c.pair_of.ensures.read c.pair_of.ensures.snap.live (c.requires.first_opened honest_a).1

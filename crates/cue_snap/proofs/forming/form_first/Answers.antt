@@ -14,7 +14,7 @@ pub returns-in-Err-clause-any_moment : goal.returns-in-Err-clause-any_moment
 returns-in-Err-clause-any_moment g c = λ honest.
     let held = g.D.Disk.held c.args.disk in
     weaker g.D.Disk.moment g.D.Disk.held_at c.args.disk c.close.new.disk (IsOldOrAbsent held)
-        (IsNoneOr (fresh 1 c.args.snapshot.now))
+    (IsNoneOr (fresh 1 c.args.snapshot.now))
     (λ image left. inl (old_absent held (c.requires.absent honest) image left)) (c.close.ensures.any_moment honest)
 
 pub returns-in-Ok-clause-bytes : goal.returns-in-Ok-clause-bytes
@@ -22,7 +22,7 @@ returns-in-Ok-clause-bytes g c = λ honest.
     let held = g.D.Disk.held in
     at_made c.form.result
     (λ log. over_closed (held c.args.disk).bytes (held c.close.new.disk).bytes (held (disk_of log)).bytes
-        (body_text 1 c.args.snapshot.now ++ 0 ∷ []) (c.in-Ok.ensures.bytes honest))
+    (body_text 1 c.args.snapshot.now ++ 0 ∷ []) (c.in-Ok.ensures.bytes honest))
     (c.form.ensures.bytes (c.close.ensures.honest.1 honest))
 
 pub returns-in-Ok-clause-formed : goal.returns-in-Ok-clause-formed
@@ -37,7 +37,7 @@ returns-in-Ok-clause-any_moment g c = λ honest.
     let held = g.D.Disk.held c.args.disk in
     let area = fresh 1 c.args.snapshot.now in
     and_then g.D.Disk.moment g.D.Disk.held_at c.args.disk c.close.new.disk (disk_after disk_of c.form.result)
-        (IsNoneOr area)
+    (IsNoneOr area)
     (weaker g.D.Disk.moment g.D.Disk.held_at c.args.disk c.close.new.disk (IsOldOrAbsent held) (IsNoneOr area)
     (λ image left. inl (old_absent held (c.requires.absent honest) image left)) (c.close.ensures.any_moment honest))
     (c.form.ensures.any_moment (c.close.ensures.honest.1 honest))
@@ -48,6 +48,8 @@ returns-in-Ok-clause-count g c =
     c.in-Ok.ensures.count c.form.ensures.count
 
 pub returns-in-Ok-clause-honest : goal.returns-in-Ok-clause-honest
-returns-in-Ok-clause-honest g c =
-    (λ honest. c.close.ensures.honest.0 (c.form.ensures.honest.0 honest), λ honest. c.form.ensures.honest.1
-    (c.close.ensures.honest.1 honest))
+returns-in-Ok-clause-honest g c = (
+  λ honest. c.close.ensures.honest.0 (c.form.ensures.honest.0 honest),
+  λ honest. c.form.ensures.honest.1
+      (c.close.ensures.honest.1 honest),
+)

@@ -15,7 +15,7 @@ returns-clause-bytes g c = λ honest.
     let held = g.D.Disk.held in
     if_ok c.renew.result
     (over_closed (held c.args.spare.now).bytes (held c.close.new.disk).bytes (held (disk_of c.renew.new.self)).bytes
-        (body_text c.args.generation c.args.snapshot.now ++ 0 ∷ []) (c.in_ok-close.ensures.bytes honest))
+    (body_text c.args.generation c.args.snapshot.now ++ 0 ∷ []) (c.in_ok-close.ensures.bytes honest))
     (c.renew.ensures.bytes (c.close.ensures.honest.1 honest))
 
 pub returns-clause-formed : goal.returns-clause-formed
@@ -32,9 +32,9 @@ returns-clause-any_moment g c = λ honest.
     let new = formed_disk c.renew.result (disk_of c.renew.new.self) c.renew.new.spare in
     and_then g.D.Disk.moment g.D.Disk.held_at c.args.spare.now c.close.new.disk new (IsOldOrNew held area)
     (weaker g.D.Disk.moment g.D.Disk.held_at c.args.spare.now c.close.new.disk (IsOldOrAbsent held)
-        (IsOldOrNew held area) (λ image left. inl left) (c.close.ensures.any_moment honest))
+    (IsOldOrNew held area) (λ image left. inl left) (c.close.ensures.any_moment honest))
     (weaker g.D.Disk.moment g.D.Disk.held_at c.close.new.disk new (IsNoneOr area) (IsOldOrNew held area)
-        (none_or_new held area) (c.renew.ensures.any_moment (c.close.ensures.honest.1 honest)))
+    (none_or_new held area) (c.renew.ensures.any_moment (c.close.ensures.honest.1 honest)))
 
 pub returns-clause-count : goal.returns-clause-count
 returns-clause-count g c =
@@ -43,6 +43,8 @@ returns-clause-count g c =
     c.in_ok-close.ensures.count c.renew.ensures.count
 
 pub returns-clause-honest : goal.returns-clause-honest
-returns-clause-honest g c =
-    (λ honest. c.close.ensures.honest.0 (c.renew.ensures.honest.0 honest), λ honest. c.renew.ensures.honest.1
-    (c.close.ensures.honest.1 honest))
+returns-clause-honest g c = (
+  λ honest. c.close.ensures.honest.0 (c.renew.ensures.honest.0 honest),
+  λ honest. c.renew.ensures.honest.1
+      (c.close.ensures.honest.1 honest),
+)

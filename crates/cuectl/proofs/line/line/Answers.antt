@@ -25,9 +25,9 @@ returns-clause-help c =
     let is : app_of c.in_ok-command.command ≡ cuectl_app = c.in_ok-command.ensures in
     let has = c.in-Err.ensures.kinds (ap is_simple_and_free is ∙ is_plain) in
     asks (fault_of cuectl_app (map string_bytes c.args.words.now)) (kind_of c.in-Err.error) c.fault_of.result
-        c.fault_of.ensures
+    c.fault_of.ensures
     (subst (λ (a : App). (kind_of c.in-Err.error ≡ OutOfMemory)
-        ⊎ IsAmong (kind_of c.in-Err.error) (fault_of a (map string_bytes c.args.words.now))) is has)
+    ⊎ IsAmong (kind_of c.in-Err.error) (fault_of a (map string_bytes c.args.words.now))) is has)
 
 pub returns-clause-usage : goal.returns-clause-usage
 returns-clause-usage c = λ h.
@@ -35,9 +35,9 @@ returns-clause-usage c = λ h.
     let has = c.in-Err.ensures.kinds (ap is_simple_and_free is ∙ is_plain) in
     let usage : c.fault_of.result ≡ Usage = cc in
     inl (refused (fault_of cuectl_app (map string_bytes c.args.words.now)) (kind_of c.in-Err.error) c.fault_of.result
-        c.fault_of.ensures
+    c.fault_of.ensures
     (subst (λ (a : App). (kind_of c.in-Err.error ≡ OutOfMemory)
-        ⊎ IsAmong (kind_of c.in-Err.error) (fault_of a (map string_bytes c.args.words.now))) is has) usage)
+    ⊎ IsAmong (kind_of c.in-Err.error) (fault_of a (map string_bytes c.args.words.now))) is has) usage)
 
 pub returns-in-Some-clause-usage : goal.returns-in-Some-clause-usage
 returns-in-Some-clause-usage c = λ h.
@@ -46,7 +46,7 @@ returns-in-Some-clause-usage c = λ h.
     let words = map string_bytes c.args.words.now in
     let taken : fault_of cuectl_app words ≡ [] = ap (λ (a : App). fault_of a words) (sym is) ∙ none in
     let matched : subcommand_of cuectl_app words ≡ Some (c.in-Some.name.now, rows_of (found_of c.in-Some.found.now)) =
-        search rules in
+    search rules in
     inr (inr (subst HasPortZero (sym matched)
-        (but_port_zero words (c.in-Some.name.now, rows_of (found_of c.in-Some.found.now)) taken matched
-        (c.line_in.ensures.usage h))))
+    (but_port_zero words (c.in-Some.name.now, rows_of (found_of c.in-Some.found.now)) taken matched
+    (c.line_in.ensures.usage h))))

@@ -8,15 +8,15 @@ use Rattle.cuectl.proofs.line.port_in.Goals as goal
 pub returns-in-Some-clause-port : goal.returns-in-Some-clause-port
 returns-in-Some-clause-port c =
     let read = number_in (λ bs r. ParsesUnsigned 16 10 bs r × ExplainsUnsignedError 10 bs r
-        × HasUnsignedDigitsIfOk bs r) 16 (found_of c.args.found.now) (codes "port") c.get_one.result c.in-Some.port
+    × HasUnsignedDigitsIfOk bs r) 16 (found_of c.args.found.now) (codes "port") c.get_one.result c.in-Some.port
     (λ t x g. g.0) c.get_one.ensures.none c.get_one.ensures.value c.in-Some.is in
     (read.0, omega arith, read.1)
 
 pub returns-in_default-clause-usage : goal.returns-in_default-clause-usage
 returns-in_default-clause-usage c = λ h port is.
     let read : c.get_one.result ≡ Some port =
-        number_read (λ bs r. ParsesUnsigned 16 10 bs r × ExplainsUnsignedError 10 bs r × HasUnsignedDigitsIfOk bs r) 16
-        (found_of c.args.found.now) (codes "port") c.get_one.result port
+    number_read (λ bs r. ParsesUnsigned 16 10 bs r × ExplainsUnsignedError 10 bs r × HasUnsignedDigitsIfOk bs r) 16
+    (found_of c.args.found.now) (codes "port") c.get_one.result port
     (λ t x g. g.0) c.get_one.ensures.value is.0 is.2 in
     elim c.in_default.branch [
       | in_default-via-in-Some+else-port-ge1 w ↦

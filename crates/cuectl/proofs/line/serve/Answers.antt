@@ -9,12 +9,19 @@ returns-clause-app c =
     let dir = c.in_ok-arg.ensures.shape c.dir.ensures.local ∙ ap₂ with_rule bare c.dir.ensures.rule in
     let port = c.in_ok-arg-2.ensures.shape c.port.ensures.local ∙ ap₂ with_rule dir c.port.ensures.rule in
     IfOk-weaker c.arg-3.result _ _ (λ r h. h.shape c.turns.ensures.local ∙ ap₂ with_rule port c.turns.ensures.rule)
-        c.arg-3.ensures
+    c.arg-3.ensures
 
 pub returns-clause-fits : goal.returns-clause-fits
 returns-clause-fits c =
     IfOk-weaker c.arg-3.result _ _
     (λ r h old new adds. adds.shape
-        (rw (c.in_ok-arg-2.ensures.globals, c.in_ok-arg.ensures.globals, c.about.ensures, c.new.ensures.local,
-        c.dir.ensures.local, c.port.ensures.local, c.turns.ensures.local) at h.globals))
+    (rw (
+      c.in_ok-arg-2.ensures.globals,
+      c.in_ok-arg.ensures.globals,
+      c.about.ensures,
+      c.new.ensures.local,
+      c.dir.ensures.local,
+      c.port.ensures.local,
+      c.turns.ensures.local,
+    ) at h.globals))
     c.arg-3.ensures

@@ -18,14 +18,14 @@ returns-in-Ok-clause-done g c = λ zero. inr (record {
 pub returns-in-Ok-clause-script : goal.returns-in-Ok-clause-script
 returns-in-Ok-clause-script g c = λ taken named.
     let is = is_script (subcommand_of cuectl_app (map string_bytes c.args.words.now)) c.in-Ok.line c.in-Ok.ensures.line
-        named in
+    named in
     ends_so c.in-Ok.line c.carry_out.result (g.I.Read.remaining c.args.reader.now)
-        (g.W.Write.contents c.args.writer.now) (g.W.Write.contents c.carry_out.new.writer) is c.carry_out.ensures.ends
+    (g.W.Write.contents c.args.writer.now) (g.W.Write.contents c.carry_out.new.writer) is c.carry_out.ensures.ends
 
 pub returns-in-Err-clause-script : goal.returns-in-Err-clause-script
 returns-in-Err-clause-script g c = λ taken named.
     let is = only_memory (map string_bytes c.args.words.now) c.in-Err.fault taken named c.in-Err.ensures.help
-        (λ same. c.in-Err.ensures.usage (ap Err same)) in
+    (λ same. c.in-Err.ensures.usage (ap Err same)) in
     has_stopped (g.I.Read.remaining c.args.reader.now) Memory empty_state c.refused_line.result
     (g.W.Write.contents c.args.writer.now) (g.W.Write.contents c.refused_line.new.writer)
-        (c.refused_line.ensures.memory is)
+    (c.refused_line.ensures.memory is)

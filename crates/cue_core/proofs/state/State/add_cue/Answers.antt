@@ -7,8 +7,13 @@ use Rattle.cue_core.proofs.state.State.add_cue.Goals as goal
 
 pub invariant_of-self-2 : goal.invariant_of-self-2
 invariant_of-self-2 c =
-    let s : ShowState = record { show = c.self.inside.show; live = c.self.inside.live; last_seq =
-        c.self.inside.last_seq; ended = c.self.inside.ended } in
+    let s : ShowState = record {
+      show = c.self.inside.show;
+      live = c.self.inside.live;
+      last_seq =
+          c.self.inside.last_seq;
+      ended = c.self.inside.ended;
+    } in
     kept_as s c.args.self.now (with_show s c.add_cue.new.self) (event.Cue c.args.cue c.args.parts.now)
-        (ap (λ x. with_show s x) (c.in_ok-add_cue.ensures.ok
-        ∙ ap (λ p. with_cue s.show c.args.cue p) c.in_ok-parts.ensures)) c.self.view_is c.self.invariant c.requires
+    (ap (λ x. with_show s x) (c.in_ok-add_cue.ensures.ok
+    ∙ ap (λ p. with_cue s.show c.args.cue p) c.in_ok-parts.ensures)) c.self.view_is c.self.invariant c.requires

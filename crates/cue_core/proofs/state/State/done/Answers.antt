@@ -5,7 +5,12 @@ use Rattle.cue_core.proofs.state.State.done.Goals as goal
 
 pub invariant_of-self : goal.invariant_of-self
 invariant_of-self c =
-    let s : ShowState = record { show = c.self.inside.show; live = c.self.inside.live; last_seq =
-        c.self.inside.last_seq; ended = c.self.inside.ended } in
+    let s : ShowState = record {
+      show = c.self.inside.show;
+      live = c.self.inside.live;
+      last_seq =
+          c.self.inside.last_seq;
+      ended = c.self.inside.ended;
+    } in
     rw (c.ended_as-self-inside.ensures, c.done-outcome.ensures.outcome, c.done-outcome.ensures.live)
-        (kept s c.args.self.now (event.Done c.args.seq c.args.device) c.self.view_is c.self.invariant c.requires)
+    (kept s c.args.self.now (event.Done c.args.seq c.args.device) c.self.view_is c.self.invariant c.requires)

@@ -12,12 +12,17 @@ set_place-requires c = rw c.place_after-place.ensures
 
 pub invariant_of-self : goal.invariant_of-self
 invariant_of-self c =
-    let s : ShowState = record { show = c.self.inside.show; live = c.self.inside.live; last_seq =
-        c.self.inside.last_seq; ended = c.self.inside.ended } in
+    let s : ShowState = record {
+      show = c.self.inside.show;
+      live = c.self.inside.live;
+      last_seq =
+          c.self.inside.last_seq;
+      ended = c.self.inside.ended;
+    } in
     kept_as s c.args.self.now
-        (record { show = c.set_place.new.self; live = c.go.new.self; last_seq = s.last_seq; ended = s.ended })
-        (event.Go c.args.seq)
+    (record { show = c.set_place.new.self; live = c.go.new.self; last_seq = s.last_seq; ended = s.ended })
+    (event.Go c.args.seq)
     (ap (λ x. record s { show = x; live = c.go.new.self }) (c.set_place.ensures
-        ∙ ap (λ p. with_place s.show p) c.place_after-place.ensures)
-        ∙ ap (λ x. record s { show = with_place s.show (place_after s.show s.live c.args.seq); live = x }) c.go.ensures)
+    ∙ ap (λ p. with_place s.show p) c.place_after-place.ensures)
+    ∙ ap (λ x. record s { show = with_place s.show (place_after s.show s.live c.args.seq); live = x }) c.go.ensures)
     c.self.view_is c.self.invariant c.requires

@@ -6,7 +6,12 @@ use Rattle.cue_core.proofs.state.State.remove_device.Goals as goal
 
 pub invariant_of-self : goal.invariant_of-self
 invariant_of-self c =
-    let s : ShowState = record { show = c.self.inside.show; live = c.self.inside.live; last_seq =
-        c.self.inside.last_seq; ended = c.self.inside.ended } in
+    let s : ShowState = record {
+      show = c.self.inside.show;
+      live = c.self.inside.live;
+      last_seq =
+          c.self.inside.last_seq;
+      ended = c.self.inside.ended;
+    } in
     kept_as s c.args.self.now (with_show s c.remove_device.new.self) (event.NoDevice c.args.device)
-        (ap (λ x. with_show s x) c.remove_device.ensures) c.self.view_is c.self.invariant c.requires
+    (ap (λ x. with_show s x) c.remove_device.ensures) c.self.view_is c.self.invariant c.requires

@@ -7,6 +7,6 @@ use Rattle.cue_desk.proofs.show_file.writing.push_devices.Goals as goal
 pub loop-entry-preserved : goal.loop-entry-preserved
 loop-entry-preserved c =
     one-more device_text c.args.entries.now c.loop-entry.entry-index c.entry-item.result
-        (string_bytes c.loop-entry.text) (string_bytes c.push_device.new.text)
+    (string_bytes c.loop-entry.text) (string_bytes c.push_device.new.text)
     (string_bytes c.args.text.now ++ flat_map device_text c.args.entries.now) c.loop-entry-test.true c.entry-item.is
-        c.in_ok-push_device.ensures c.loop-entry.invariant
+    c.in_ok-push_device.ensures c.loop-entry.invariant

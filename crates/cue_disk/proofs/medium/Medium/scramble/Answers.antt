@@ -20,7 +20,7 @@ loop-i-preserved c = record {
   few = search rules;
   done =
       below_more (λ k. get_or c.if-may_change.image k 0 ≡ crashed_byte (medium_held c.args.self.now) c.args.junk.now k)
-          c.loop-i.i
+      c.loop-i.i
       (λ k low. same c k low ∙ c.loop-i.invariant.done k low)
       (here c);
   left = search rules;

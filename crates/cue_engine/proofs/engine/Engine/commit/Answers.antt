@@ -13,7 +13,7 @@ returns-in-None-clause-accepts g c =
     let s = kept.state_of old in
     let works = sym c.is_broken.ensures.broken ∙ c.if-is_broken.false in
     let none : offered_batches c.args.self.now.offered ≡ [] = ap offered_batches (sym c.take-offered.ensures.value
-        ∙ c.in-None.is) in
+    ∙ c.in-None.is) in
     subst (λ (bs : List (List Event)). AcceptsTogether bs None old old) (sym none)
     (record {
       state = refl;

@@ -3,7 +3,7 @@ use Rattle.cue_core.specs.State.{ShowState}
 use Rattle.cue_keeper.specs.Observed as kept
 use Rattle.cue_records.proofs.TakingLemmas.{some_is}
 use Rattle.cue_engine.specs.declared.offers.Offered.{Offered}
-use Rattle.cue_engine.specs.Given.{given}
+use Rattle.cue_engine.specs.Given.{given_of}
 use Rattle.cue_engine.specs.Inputs.{input_view}
 use Rattle.cue_engine.specs.Takes.{InStep, IsAhead}
 use Rattle.cue_engine.proofs.AssembledLemmas.{ahead_next}
@@ -16,8 +16,8 @@ invariant_of-self g c =
     let new = c.offer_next.new in
     let said = c.offer_next.ensures in
     let ahead : IsAhead s new.draft new.offered = ahead_next c.offer_next.result s old.draft new.draft c.in-Some.offered
-        new.offered (given old.draft.state c.args.now (input_view c.args.input)).batch
-        (old.ahead c.in-Some.offered c.in-Some.is) said.marked said.draft said.in_turn said.group said.same in
+    new.offered (given_of old.draft.state c.args.now (input_view c.args.input)).batch
+    (old.ahead c.in-Some.offered c.in-Some.is) said.marked said.draft said.in_turn said.group said.same in
     record {
       can_follow = λ valid. absurd (true≢false (sym valid ∙ said.marked));
       follows = λ valid. absurd (true≢false (sym valid ∙ said.marked));

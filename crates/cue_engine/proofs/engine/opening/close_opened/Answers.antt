@@ -18,7 +18,7 @@ pub store_fault-requires : goal.store_fault-requires
 store_fault-requires g c = λ broken.
     let keeper = c.args.keeper in
     let why = subst (λ (f : Fault). HasCause (state_of keeper) (events_at (state_of keeper) recovered) (pair_of keeper)
-        (pair_of c.close_undecided.new.keeper) f) broken c.in-Err.ensures.accepts.pair.cause in
+    (pair_of c.close_undecided.new.keeper) f) broken c.in-Err.ensures.accepts.pair.cause in
     absurd (true≢false (sym why ∙ c.requires.works))
 
 pub returns-in-Err-clause-exhausted : goal.returns-in-Err-clause-exhausted
@@ -26,39 +26,39 @@ returns-in-Err-clause-exhausted g c = λ first second refused.
     let d = g.D.Disk in
     let keeper = c.args.keeper in
     let told = subst (λ (f : Fault). HasCause (state_of keeper) (events_at (state_of keeper) recovered) (pair_of keeper)
-        (pair_of c.close_undecided.new.keeper) f) (c.store_fault.ensures.exhausted.0 refused)
-        c.in-Err.ensures.accepts.pair.cause in
+    (pair_of c.close_undecided.new.keeper) f) (c.store_fault.ensures.exhausted.0 refused)
+    c.in-Err.ensures.accepts.pair.cause in
     no_generation (d.held (first_of keeper)) (d.held (second_of keeper)) (state_of keeper) (generation_of keeper)
-        (count_of keeper) (end_of keeper)
+    (count_of keeper) (end_of keeper)
     (c.is_broken-broken.ensures.kept first second c.requires.works)
-        (g.met.D.Disk.reads_as_image (first_of keeper) first) (g.met.D.Disk.reads_as_image (second_of keeper) second)
-        told.0.0 told.0.1 told.1
+    (g.met.D.Disk.reads_as_image (first_of keeper) first) (g.met.D.Disk.reads_as_image (second_of keeper) second)
+    told.0.0 told.0.1 told.1
 
 pub returns-in-Err-clause-full : goal.returns-in-Err-clause-full
 returns-in-Err-clause-full g c = λ first second refused.
     let d = g.D.Disk in
     let keeper = c.args.keeper in
     let told = subst (λ (f : Fault). HasCause (state_of keeper) (events_at (state_of keeper) recovered) (pair_of keeper)
-        (pair_of c.close_undecided.new.keeper) f) (c.store_fault.ensures.full.0 refused)
-        c.in-Err.ensures.accepts.pair.cause in
+    (pair_of c.close_undecided.new.keeper) f) (c.store_fault.ensures.full.0 refused)
+    c.in-Err.ensures.accepts.pair.cause in
     no_room (d.held (first_of keeper)) (d.held (second_of keeper)) (state_of keeper) (generation_of keeper)
-        (count_of keeper) (end_of keeper)
+    (count_of keeper) (end_of keeper)
     (c.is_broken-broken.ensures.kept first second c.requires.works)
-        (g.met.D.Disk.reads_as_image (first_of keeper) first) (g.met.D.Disk.reads_as_image (second_of keeper) second)
-        told.0.0 told.0.1 told.1
+    (g.met.D.Disk.reads_as_image (first_of keeper) first) (g.met.D.Disk.reads_as_image (second_of keeper) second)
+    told.0.0 told.0.1 told.1
 
 pub returns-in-Err-clause-disk : goal.returns-in-Err-clause-disk
 returns-in-Err-clause-disk g c = λ refused.
     let keeper = c.args.keeper in
     rw (c.close-first.ensures.first, c.close-first.ensures.second)
     (subst (λ (f : Fault). HasCause (state_of keeper) (events_at (state_of keeper) recovered) (pair_of keeper)
-        (pair_of c.close_undecided.new.keeper) f) (c.store_fault.ensures.disk.0 refused)
-        c.in-Err.ensures.accepts.pair.cause)
+    (pair_of c.close_undecided.new.keeper) f) (c.store_fault.ensures.disk.0 refused)
+    c.in-Err.ensures.accepts.pair.cause)
 
 pub returns-in-Err-clause-unwritten : goal.returns-in-Err-clause-unwritten
 returns-in-Err-clause-unwritten g c = λ other.
     let same = unless_disk (pair_of c.args.keeper) (pair_of c.close_undecided.new.keeper) c.in-Err.fault
-        c.in-Err.ensures.accepts.pair.after (λ is. other (c.store_fault.ensures.disk.1 is)) in
+    c.in-Err.ensures.accepts.pair.after (λ is. other (c.store_fault.ensures.disk.1 is)) in
     (c.close-first.ensures.first ∙ ap snap.first_of same, c.close-first.ensures.second ∙ ap snap.second_of same)
 
 pub returns-in-Err-clause-any_moment : goal.returns-in-Err-clause-any_moment
@@ -67,9 +67,9 @@ returns-in-Err-clause-any_moment g c = λ first second.
     let keeper = c.args.keeper in
     rw (c.close-first.ensures.first, c.close-first.ensures.second)
     (closed_so (state_of keeper) (λ t. LeavesPairsAtEachMoment d.moment d.held_at (first_of keeper) (second_of keeper)
-        (first_of c.close_undecided.new.keeper) (second_of c.close_undecided.new.keeper)
-        (StandsEither (state_of keeper) t))
-        (c.close_undecided.ensures.accepts.pair.any_moment first second c.requires.works))
+    (first_of c.close_undecided.new.keeper) (second_of c.close_undecided.new.keeper)
+    (StandsEither (state_of keeper) t))
+    (c.close_undecided.ensures.accepts.pair.any_moment first second c.requires.works))
 
 pub returns-in-Err-clause-first_failures : goal.returns-in-Err-clause-first_failures
 returns-in-Err-clause-first_failures g c =
@@ -94,7 +94,7 @@ returns-in-Ok-clause-state g c = closed_so (state_of c.args.keeper) (λ t. state
 pub returns-in-Ok-clause-queue : goal.returns-in-Ok-clause-queue
 returns-in-Ok-clause-queue g c =
     let now = closed_so (state_of c.args.keeper) (λ t. state_of c.close_undecided.new.keeper ≡ t)
-        c.in-Ok.ensures.accepts.state in
+    c.in-Ok.ensures.accepts.state in
     rw now c.in-Ok.ensures.queue
 
 pub returns-in-Ok-clause-works : goal.returns-in-Ok-clause-works
@@ -105,16 +105,16 @@ returns-in-Ok-clause-any_moment g c = λ first second.
     let d = g.D.Disk in
     let keeper = c.args.keeper in
     closed_so (state_of keeper) (λ t. LeavesPairsAtEachMoment d.moment d.held_at (first_of keeper) (second_of keeper)
-        (first_of c.close_undecided.new.keeper) (second_of c.close_undecided.new.keeper)
-        (StandsEither (state_of keeper) t))
-        (c.close_undecided.ensures.accepts.pair.any_moment first second c.requires.works)
+    (first_of c.close_undecided.new.keeper) (second_of c.close_undecided.new.keeper)
+    (StandsEither (state_of keeper) t))
+    (c.close_undecided.ensures.accepts.pair.any_moment first second c.requires.works)
 
 pub returns-in-Ok-clause-stands : goal.returns-in-Ok-clause-stands
 returns-in-Ok-clause-stands g c = λ first second.
     let d = g.D.Disk in
     let new = c.close_undecided.new.keeper in
     subst (λ (t : ShowState). StandsAs (d.held (first_of new)) (d.held (second_of new)) t)
-        (sym c.in-Ok.ensures.accepts.state) (c.in-Ok.ensures.accepts.stands first second)
+    (sym c.in-Ok.ensures.accepts.state) (c.in-Ok.ensures.accepts.stands first second)
 
 pub returns-in-Ok-clause-first_failures : goal.returns-in-Ok-clause-first_failures
 returns-in-Ok-clause-first_failures g c = c.close_undecided.ensures.accepts.pair.first_failures
@@ -138,12 +138,12 @@ returns-in-Err-clause-due_at_the_last g c = λ first second none.
     let image_one = g.met.D.Disk.reads_as_image (first_of keeper) first in
     let image_other = g.met.D.Disk.reads_as_image (second_of keeper) second in
     let needs = needs_new_area one other (state_of keeper) (generation_of keeper) (count_of keeper) (end_of keeper) kept
-        image_one image_other none.area none.state none.needs in
+    image_one image_other none.area none.state none.needs in
     let last = generation_is one other (state_of keeper) (generation_of keeper) (count_of keeper) (end_of keeper) kept
-        image_one image_other none.area none.state none.needs ∙ none.last in
+    image_one image_other none.area none.state none.needs ∙ none.last in
     told_one c.in-Err.fault fault.Memory fault.Exhausted c.store_fault.result store.Memory store.Exhausted
-        (c.in-Err.ensures.accepts.pair.due_at_the_last c.requires.works needs last) c.store_fault.ensures.memory.1
-        c.store_fault.ensures.exhausted.1
+    (c.in-Err.ensures.accepts.pair.due_at_the_last c.requires.works needs last) c.store_fault.ensures.memory.1
+    c.store_fault.ensures.exhausted.1
 
 pub returns-in-Err-clause-due_without_room : goal.returns-in-Err-clause-due_without_room
 returns-in-Err-clause-due_without_room g c = λ first second none below.
@@ -155,15 +155,15 @@ returns-in-Err-clause-due_without_room g c = λ first second none below.
     let image_one = g.met.D.Disk.reads_as_image (first_of keeper) first in
     let image_other = g.met.D.Disk.reads_as_image (second_of keeper) second in
     let needs = needs_new_area one other (state_of keeper) (generation_of keeper) (count_of keeper) (end_of keeper) kept
-        image_one image_other none.area none.state none.needs in
+    image_one image_other none.area none.state none.needs in
     let same = generation_is one other (state_of keeper) (generation_of keeper) (count_of keeper) (end_of keeper) kept
-        image_one image_other none.area none.state none.needs in
+    image_one image_other none.area none.state none.needs in
     let long = has_no_room one other (state_of keeper) (generation_of keeper) (count_of keeper) (end_of keeper) kept
-        image_one image_other none.area none.state none.needs none.long in
+    image_one image_other none.area none.state none.needs none.long in
     told_one c.in-Err.fault fault.Memory fault.Full c.store_fault.result store.Memory store.Full
-        (c.in-Err.ensures.accepts.pair.due_without_room c.requires.works needs
-        (subst (λ (n : ℕ). n < 2 ^ 64 - 1) (sym same) below) long) c.store_fault.ensures.memory.1
-        c.store_fault.ensures.full.1
+    (c.in-Err.ensures.accepts.pair.due_without_room c.requires.works needs
+    (subst (λ (n : ℕ). n < 2 ^ 64 - 1) (sym same) below) long) c.store_fault.ensures.memory.1
+    c.store_fault.ensures.full.1
 
 pub returns-in-Ok-clause-due_at_the_last : goal.returns-in-Ok-clause-due_at_the_last
 returns-in-Ok-clause-due_at_the_last g c = λ first second none.
@@ -175,9 +175,9 @@ returns-in-Ok-clause-due_at_the_last g c = λ first second none.
     let image_one = g.met.D.Disk.reads_as_image (first_of keeper) first in
     let image_other = g.met.D.Disk.reads_as_image (second_of keeper) second in
     let needs = needs_new_area one other (state_of keeper) (generation_of keeper) (count_of keeper) (end_of keeper) kept
-        image_one image_other none.area none.state none.needs in
+    image_one image_other none.area none.state none.needs in
     let last = generation_is one other (state_of keeper) (generation_of keeper) (count_of keeper) (end_of keeper) kept
-        image_one image_other none.area none.state none.needs ∙ none.last in
+    image_one image_other none.area none.state none.needs ∙ none.last in
     none_told fault.Memory fault.Exhausted (c.in-Ok.ensures.accepts.pair.due_at_the_last c.requires.works needs last)
 
 pub returns-in-Ok-clause-due_without_room : goal.returns-in-Ok-clause-due_without_room
@@ -190,10 +190,10 @@ returns-in-Ok-clause-due_without_room g c = λ first second none below.
     let image_one = g.met.D.Disk.reads_as_image (first_of keeper) first in
     let image_other = g.met.D.Disk.reads_as_image (second_of keeper) second in
     let needs = needs_new_area one other (state_of keeper) (generation_of keeper) (count_of keeper) (end_of keeper) kept
-        image_one image_other none.area none.state none.needs in
+    image_one image_other none.area none.state none.needs in
     let same = generation_is one other (state_of keeper) (generation_of keeper) (count_of keeper) (end_of keeper) kept
-        image_one image_other none.area none.state none.needs in
+    image_one image_other none.area none.state none.needs in
     let long = has_no_room one other (state_of keeper) (generation_of keeper) (count_of keeper) (end_of keeper) kept
-        image_one image_other none.area none.state none.needs none.long in
+    image_one image_other none.area none.state none.needs none.long in
     none_told fault.Memory fault.Full (c.in-Ok.ensures.accepts.pair.due_without_room c.requires.works needs
-        (subst (λ (n : ℕ). n < 2 ^ 64 - 1) (sym same) below) long)
+    (subst (λ (n : ℕ). n < 2 ^ 64 - 1) (sym same) below) long)

@@ -7,5 +7,5 @@ returns g c = record {
   stopped = λ first second works s store is.
       let d = g.D.Disk in
       rests_closed d.held c.close.result.0 c.close.result.1 s store is (state_of c.args.engine) (queue_of c.args.engine)
-          (c.close.ensures.stands first second works);
+      (c.close.ensures.stands first second works);
 }

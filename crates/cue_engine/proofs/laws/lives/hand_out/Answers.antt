@@ -9,4 +9,4 @@ returns-clause-handed_out g c = λ s store is.
     let old = c.args.engine.now in
     let new = c.hand_out.new.self in
     lives_handed s store is (state_of old) (state_of new) (queue_of old) (queue_of new)
-        (ap keeper.state_of c.hand_out.ensures.keeper) c.hand_out.ensures.emptied
+    (ap keeper.state_of c.hand_out.ensures.keeper) c.hand_out.ensures.emptied

@@ -11,12 +11,12 @@ returns-clause-next g c = λ inputs offered.
     let old = c.args.engine.now in
     let new = c.offer.new.self in
     from_answer c.offer.result c.offer.ensures.offers
-        (λ counts offers. offered_next inputs c.args.now (input_view c.args.input) counts old new
-        (ap kept.state_of c.offer.ensures.keeper) offered offers)
+    (λ counts offers. offered_next inputs c.args.now (input_view c.args.input) counts old new
+    (ap kept.state_of c.offer.ensures.keeper) offered offers)
 
 pub returns-clause-lives : goal.returns-clause-lives
 returns-clause-lives g c = λ s store is.
     let old = c.args.engine.now in
     let new = c.offer.new.self in
     lives_as_before s store is (state_of old) (state_of new) (queue_of old) (queue_of new)
-        (ap kept.state_of c.offer.ensures.keeper) c.offer.ensures.queue
+    (ap kept.state_of c.offer.ensures.keeper) c.offer.ensures.queue

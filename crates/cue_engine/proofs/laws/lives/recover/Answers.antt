@@ -10,7 +10,7 @@ returns-clause-promised g c = λ first second s store is.
     let a = c.args.first in
     let b = c.args.second in
     given_back state_of queue_of s store is (d.held a) (d.held b) c.recover.result (g.met.D.Disk.reads_as_image a first)
-        (g.met.D.Disk.reads_as_image b second) (c.recover.ensures.stood first second) c.recover.ensures.queue
+    (g.met.D.Disk.reads_as_image b second) (c.recover.ensures.stood first second) c.recover.ensures.queue
 
 pub returns-clause-recovered : goal.returns-clause-recovered
 returns-clause-recovered g c = λ first second s store is.
@@ -18,8 +18,8 @@ returns-clause-recovered g c = λ first second s store is.
     let a = c.args.first in
     let b = c.args.second in
     lives_recovered state_of queue_of s store is (d.held a) (d.held b) c.recover.result
-        (g.met.D.Disk.reads_as_image a first) (g.met.D.Disk.reads_as_image b second)
-        (c.recover.ensures.stood first second) c.recover.ensures.queue
+    (g.met.D.Disk.reads_as_image a first) (g.met.D.Disk.reads_as_image b second)
+    (c.recover.ensures.stood first second) c.recover.ensures.queue
 
 pub returns-clause-readable : goal.returns-clause-readable
 returns-clause-readable g c = λ first second s store is at.
@@ -27,19 +27,19 @@ returns-clause-readable g c = λ first second s store is at.
     let a = c.args.first in
     let b = c.args.second in
     let stands = rests_stand s store is (d.held a) (d.held b) (g.met.D.Disk.reads_as_image a first)
-        (g.met.D.Disk.reads_as_image b second) at in
+    (g.met.D.Disk.reads_as_image b second) at in
     c.recover.ensures.readable first second stands.0 stands.1
 
 pub returns-clause-refused : goal.returns-clause-refused
 returns-clause-refused g c = λ first second s store is.
     let d = g.D.Disk in
     lives_refused d.moment d.held d.held_at d.is_honest g.met.D.Disk.held_now Disk first_of second_of c.args.first
-        c.args.second s store is c.recover.result (c.recover.ensures.first_honest.1 first)
-        (c.recover.ensures.second_honest.1 second) (c.recover.ensures.unwritten first second)
+    c.args.second s store is c.recover.result (c.recover.ensures.first_honest.1 first)
+    (c.recover.ensures.second_honest.1 second) (c.recover.ensures.unwritten first second)
 
 pub returns-clause-stopped : goal.returns-clause-stopped
 returns-clause-stopped g c = λ first second s store is.
     let d = g.D.Disk in
     rests_in_recovery d.moment d.held d.held_at d.is_honest g.met.D.Disk.held_now c.args.first c.args.second
-        (first_after first_of c.recover.result) (second_after second_of c.recover.result) s store is first second
-        (c.recover.ensures.any_moment first second)
+    (first_after first_of c.recover.result) (second_after second_of c.recover.result) s store is first second
+    (c.recover.ensures.any_moment first second)

@@ -8,9 +8,9 @@ returns-clause-taken g c = λ s store is.
     let old = c.args.engine.now in
     let new = c.take.new.self in
     lives_taken s store is c.args.now (input_view c.args.input) (state_of old) (state_of new) (queue_of old)
-        (queue_of new) c.take.result
+    (queue_of new) c.take.result
     (from_answer c.take.result c.take.ensures.gives (λ t h. h.state))
-        (from_answer c.take.result c.take.ensures.gives (λ t h. h.queue))
+    (from_answer c.take.result c.take.ensures.gives (λ t h. h.queue))
 
 pub returns-clause-not_taken : goal.returns-clause-not_taken
 returns-clause-not_taken g c = λ s store is.
@@ -24,8 +24,8 @@ returns-clause-promised g c = λ first second works s store is.
     let old = c.args.engine.now in
     let new = c.take.new.self in
     promised_in_take d.moment d.held_at (first_of old) (second_of old) (first_of new) (second_of new) s store is
-        c.args.now (input_view c.args.input) (state_of old) (queue_of old)
-        (c.take.ensures.accepts.pair.any_moment first second works)
+    c.args.now (input_view c.args.input) (state_of old) (queue_of old)
+    (c.take.ensures.accepts.pair.any_moment first second works)
 
 pub returns-clause-stopped : goal.returns-clause-stopped
 returns-clause-stopped g c = λ first second works s store is.
@@ -33,5 +33,5 @@ returns-clause-stopped g c = λ first second works s store is.
     let old = c.args.engine.now in
     let new = c.take.new.self in
     rests_in_take d.moment d.held_at (first_of old) (second_of old) (first_of new) (second_of new) s store is c.args.now
-        (input_view c.args.input) (state_of old) (queue_of old)
-        (c.take.ensures.accepts.pair.any_moment first second works)
+    (input_view c.args.input) (state_of old) (queue_of old)
+    (c.take.ensures.accepts.pair.any_moment first second works)

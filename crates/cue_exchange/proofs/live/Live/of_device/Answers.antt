@@ -10,9 +10,9 @@ returns c =
     let at : c.from.result ≡ c.args.device = c.from.ensures ∙ c.number.ensures.value in
     let below : c.args.device ≤ MAX_DEVICE_NUMBER = omega (arith, c.number.ensures.value, c.number.ensures.range) in
     let seq : slice_index c.self.inside.holders c.from.result ≡ holder c.self.inside.attempts.items c.args.device =
-        ap (λ n. slice_index c.self.inside.holders n) at ∙ c.self.invariant.holders c.args.device below in
+    ap (λ n. slice_index c.self.inside.holders n) at ∙ c.self.invariant.holders c.args.device below in
     let one : attempt_of c.args.self.now (holder c.self.inside.attempts.items c.args.device) ≡ attempt_of_device
-        c.args.self.now c.args.device =
+    c.args.self.now c.args.device =
     rw (← c.self.view_is) (held-by c.self.inside.attempts.items c.args.device c.self.invariant.live)
     in
     c.of_seq.ensures ∙ (ap (attempt_of c.args.self.now) seq ∙ one)

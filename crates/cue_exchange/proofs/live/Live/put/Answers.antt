@@ -7,7 +7,7 @@ invariant_of-self-2 c = record {
   live =
       rw (c.in_ok-insert.ensures.items, c.place_of-place.ensures.place, insert-place)
       (are_live-with_attempt c.args.attempt c.self.inside.attempts.items c.self.invariant.live
-          (rw (← c.self.view_is) at c.requires));
+      (rw (← c.self.view_is) at c.requires));
   holders = rw (← c.deref.ensures.value) c.holders_of-self-inside.ensures;
 }
 

@@ -18,22 +18,22 @@ invariant_of-self-2 c =
           let some : 1 ≤ length batch.items = grind (arith, common_steps) in
           let items : batches_view c.push_reserved.new.self.items ≡ before ++ batch.items ∷ [] =
           ap batches_view c.push_reserved.ensures.items
-              ∙ ap (λ (i : Inside). batches_view (i.batches.items ++ batch ∷ [])) w.self-inside-is
+          ∙ ap (λ (i : Inside). batches_view (i.batches.items ++ batch ∷ [])) w.self-inside-is
           ∙ ap (λ (l : List (Vec Event Global)). batches_view (l ++ batch ∷ [])) c.in_ok-reserve.ensures.items
-              ∙ view_more c.self.inside.batches.items batch in
+          ∙ view_more c.self.inside.batches.items batch in
           subst P (sym items)
           (grown before batch.items c.self.inside.records inside.records c.self.inside.bytes inside.bytes
-              c.self.invariant (c.requires.batch some) c.requires.short some
+          c.self.invariant (c.requires.batch some) c.requires.short some
           (ap (λ (i : Inside). i.records) w.self-inside-is ∙ grind (arith, common_steps))
-              (ap (λ (i : Inside). i.bytes) w.self-inside-is ∙ grind (arith, common_steps)))
+          (ap (λ (i : Inside). i.bytes) w.self-inside-is ∙ grind (arith, common_steps)))
       | else-not-is_empty w ↦
           let none : length batch.items ≡ 0 = grind (arith, common_steps) in
           let items : batches_view c.push_reserved.new.self.items ≡ before ++ batch.items ∷ [] =
           ap batches_view c.push_reserved.ensures.items
-              ∙ ap (λ (i : Inside). batches_view (i.batches.items ++ batch ∷ [])) w.self-inside-is
+          ∙ ap (λ (i : Inside). batches_view (i.batches.items ++ batch ∷ [])) w.self-inside-is
           ∙ ap (λ (l : List (Vec Event Global)). batches_view (l ++ batch ∷ [])) c.in_ok-reserve.ensures.items
-              ∙ view_more c.self.inside.batches.items batch in
+          ∙ view_more c.self.inside.batches.items batch in
           subst P (sym items)
           (rw w.self-inside-is (not_grown before batch.items c.self.inside.records c.self.inside.bytes c.self.invariant
-              none))
+          none))
     ]

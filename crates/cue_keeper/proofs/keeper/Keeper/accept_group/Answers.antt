@@ -10,16 +10,16 @@ use Rattle.cue_keeper.proofs.keeper.Keeper.accept_group.Goals as goal
 pub commit_together-requires-clause-stands : goal.commit_together-requires-clause-stands
 commit_together-requires-clause-stands g c = λ live spare.
     taken (live_area_of g.D.Disk.held c.args.self.now.snap) c.args.self.now.state
-        (c.args.self.now.stands live spare (sym c.is_broken.ensures.broken ∙ c.if-is_broken.false))
+    (c.args.self.now.stands live spare (sym c.is_broken.ensures.broken ∙ c.if-is_broken.false))
 
 pub invariant_of-self-2 : goal.invariant_of-self-2
 invariant_of-self-2 g c = record {
   stands = λ live spare works.
       let now : c.swap.new.y ≡ folded_all c.args.self.now.state c.args.group.now = c.swap.ensures.y_after
-          ∙ c.requires.drafted in
+      ∙ c.requires.drafted in
       found (live_area_of g.D.Disk.held c.commit_together.new.snap) c.swap.new.y
-          (subst (λ (t : ShowState). StandsFor (live_area_of g.D.Disk.held c.commit_together.new.snap) t) (sym now)
-          (c.in_ok-commit_together.ensures.stands live spare));
+      (subst (λ (t : ShowState). StandsFor (live_area_of g.D.Disk.held c.commit_together.new.snap) t) (sym now)
+      (c.in_ok-commit_together.ensures.stands live spare));
 }
 
 pub returns-then-is_broken-clause-accepts : goal.returns-then-is_broken-clause-accepts
@@ -34,7 +34,7 @@ returns-then-is_broken-clause-accepts g c =
 pub returns-in_err-commit_together-clause-accepts : goal.returns-in_err-commit_together-clause-accepts
 returns-in_err-commit_together-clause-accepts g c =
     refuses_together c.args.group.now c.from_residual.result c.in_err-commit_together.field-0.0 c.args.self.now _
-        c.from_residual.ensures.1 refl c.in_err-commit_together.ensures.commits
+    c.from_residual.ensures.1 refl c.in_err-commit_together.ensures.commits
 
 pub returns-clause-accepts : goal.returns-clause-accepts
 returns-clause-accepts g c =
@@ -48,10 +48,10 @@ returns-clause-accepts g c =
       state = c.swap.ensures.y_after ∙ c.requires.drafted;
       stands = λ first second.
           let h = of_sides d.moment d.held d.held_at d.failures d.is_honest (is_first_live new) (live_of new)
-              (spare_of new) (commits.first_honest.1 first) (commits.second_honest.1 second) in
+          (spare_of new) (commits.first_honest.1 first) (commits.second_honest.1 second) in
           stands_in_order d.held t (is_first_live new) (live_of new) (spare_of new)
           (leaves_stands (d.held (live_of new)) (d.held (spare_of new)) area t
-              (c.is_broken-broken.ensures.reads h.0 h.1 commits.works)
-              (c.in_ok-commit_together.ensures.stands h.0 h.1));
+          (c.is_broken-broken.ensures.reads h.0 h.1 commits.works)
+          (c.in_ok-commit_together.ensures.stands h.0 h.1));
       pair = commits;
     }

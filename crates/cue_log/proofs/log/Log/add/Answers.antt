@@ -21,8 +21,13 @@ returns-then-text-self g c =
     let log = c.args.self.now in
     record {
       appends = no_room (payloads_in c.args.text.now) log c.if-self.false (g.met.D.Disk.held_now log.disk)
-          (omega (arith, log.fits, c.if-text-self.true, length-framed_group c.args.text.now c.args.count
-              c.requires.framed));
+          (omega (
+            arith,
+            log.fits,
+            c.if-text-self.true,
+            length-framed_group c.args.text.now c.args.count
+                c.requires.framed,
+          ));
     }
 
 pub returns-in-Err : goal.returns-in-Err
@@ -34,8 +39,14 @@ returns-in-Err g c =
         after = (refl, refl, refl);
         broken = λ is. absurd (both_ways c.args.self.now.broken c.if-self.false is);
         full = λ _ lacks. absurd
-            (omega (arith, c.args.self.now.fits, lacks, c.if-text-self.false, length-framed_group c.args.text.now
-            c.args.count c.requires.framed));
+            (omega (
+              arith,
+              c.args.self.now.fits,
+              lacks,
+              c.if-text-self.false,
+              length-framed_group c.args.text.now
+                  c.args.count c.requires.framed,
+            ));
         quiet = some_counted (payloads_in c.args.text.now) _
             (λ none. c.if-count-eq0.false (c.requires.framed.counted ∙ none));
         appended = λ _. tt;
@@ -54,8 +65,15 @@ returns-in-Err g c =
 pub overflow_add-self-2 : goal.overflow_add-self-2
 overflow_add-self-2 g c =
     let log = c.args.self.now in
-    record { fits = omega (arith, log.fits, log.few, few_framed c.args.text.now c.args.count c.requires.framed,
-        c.if-text-self.false) }
+    record {
+      fits = omega (
+        arith,
+        log.fits,
+        log.few,
+        few_framed c.args.text.now c.args.count c.requires.framed,
+        c.if-text-self.false,
+      );
+    }
 
 pub invariant_of-self-2 : goal.invariant_of-self-2
 invariant_of-self-2 g c =
@@ -68,7 +86,7 @@ invariant_of-self-2 g c =
       few = omega (arith, log.few, few_framed c.args.text.now c.args.count c.requires.framed);
       settled = λ honest works.
           subst (λ (n : ℕ). IsSettled (g.D.Disk.held c.commit.new.disk) n) (omega (arith, long))
-              (writes.settled (writes.honest.0 honest));
+          (writes.settled (writes.honest.0 honest));
       counted = λ honest works.
           let before = writes.honest.0 honest in
           let numbered = log.counted before works in

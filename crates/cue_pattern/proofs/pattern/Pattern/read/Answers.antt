@@ -19,6 +19,8 @@ pub returns-in_default-clause-refused : goal.returns-in_default-clause-refused
 returns-in_default-clause-refused c = (λ _. no-pattern _ (uncounted-read _ c.in_default.ensures), λ _. refl)
 
 pub returns-clause-refused : goal.returns-clause-refused
-returns-clause-refused c =
-    (λ h. no-pattern _ (c.read_parts.ensures.bad h), λ none.
-        absurd (some-pattern _ c.in-Some.count c.in-Some.ensures none))
+returns-clause-refused c = (
+  λ h. no-pattern _ (c.read_parts.ensures.bad h),
+  λ none.
+      absurd (some-pattern _ c.in-Some.count c.in-Some.ensures none),
+)

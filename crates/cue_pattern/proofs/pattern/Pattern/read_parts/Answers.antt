@@ -28,7 +28,7 @@ returns-in_err-read-clause-bad c = λ h.
     let none = c.in_err-read.ensures.bad (ap (λ (f : Fault). Err f) fault) in
     sym c.loop-left.invariant
     ∙ (ap (λ (o : Option (Bor (List ℕ))). with_front front (pieces_of (cut_left 47 (option_copied o))))
-        c.in-Some-left.is
+    c.in-Some-left.is
     ∙ ap (with_front front) (parts-bad _ _ _ c.cut_first.ensures none))
 
 pub loop-left-preserved : goal.loop-left-preserved
@@ -38,7 +38,7 @@ loop-left-preserved c =
     ap (λ (ps : List (List Piece)). with_front ps (pieces_of (cut_left 47 (option_copied c.cut_first.result.1)))) items
     ∙ (parts-fronted front c.in_ok-read.field-0 _ _ _ c.cut_first.ensures c.in_ok-read.ensures.found
     ∙ (ap (λ (o : Option (Bor (List ℕ))). with_front front (pieces_of (cut_left 47 (option_copied o))))
-        (sym c.in-Some-left.is)
+    (sym c.in-Some-left.is)
     ∙ c.loop-left.invariant))
 
 pub returns-clause-found : goal.returns-clause-found
@@ -46,5 +46,5 @@ returns-clause-found c =
     let front = c.loop-left.parts.items in
     sym c.loop-left.invariant
     ∙ (ap (λ (o : Option (Bor (List ℕ))). with_front front (pieces_of (cut_left 47 (option_copied o))))
-        c.in_default-left.is
+    c.in_default-left.is
     ∙ parts-fronted_all front)

@@ -25,5 +25,5 @@ returns-clause-handed g c =
     let told = g.W.Wire.told in
     let l = c.loop-place in
     so_far_all (told c.args.wire.now) (told l.wire) (told c.hand_out.new.wire) (queue_of c.args.engine.now)
-        (queue_of l.engine) l.unsent c.hand_out.result c.saturating_add.result c.saturating_add.ensures l.invariant.0
-        c.hand_out.ensures.handed
+    (queue_of l.engine) l.unsent c.hand_out.result c.saturating_add.result c.saturating_add.ensures l.invariant.0
+    c.hand_out.ensures.handed

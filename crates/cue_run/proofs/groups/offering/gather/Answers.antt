@@ -3,8 +3,13 @@ use Rattle.cue_run.proofs.OfferLemmas.{offers_none, offers_join, gathered_all}
 use Rattle.cue_run.proofs.groups.offering.gather.Goals as goal
 
 pub loop-count-init : goal.loop-count-init
-loop-count-init g c = (offers_none (length c.args.buffer.now) (vec_len c.args.ends.now) c.args.engine.now
-    (g.S.Source.left c.args.source.now), c.requires.one, refl, refl)
+loop-count-init g c = (
+  offers_none (length c.args.buffer.now) (vec_len c.args.ends.now) c.args.engine.now
+      (g.S.Source.left c.args.source.now),
+  c.requires.one,
+  refl,
+  refl,
+)
 
 pub loop-count-preserved : goal.loop-count-preserved
 loop-count-preserved g c =
@@ -25,4 +30,4 @@ returns-then-not-has_room-clause-gathered g c =
     let left = g.S.Source.left in
     let l = c.loop-count in
     gathered_all (length c.args.buffer.now) (vec_len c.args.ends.now) (vec_len l.ends) c.args.engine.now l.engine
-        (left c.args.source.now) (left l.source) l.invariant.0
+    (left c.args.source.now) (left l.source) l.invariant.0

@@ -12,9 +12,9 @@ returns-in-Ok-Datagram-clause-offered g c =
       subst (λ (n : ℕ). Gathered size n (vec_len c.gather.new.ends) c.gather.result c.args.engine.now
           c.gather.new.engine (left c.args.source.now) (left c.gather.new.source)) c.requires.none
           (gathered_after size (length c.offer_first.new.buffer) (vec_len c.args.ends.now)
-              (vec_len c.offer_first.new.ends) (vec_len c.gather.new.ends) c.gather.result c.args.engine.now
-              c.offer_first.new.engine c.gather.new.engine (left c.args.source.now) (left c.offer_first.new.source)
-              (left c.gather.new.source)
+          (vec_len c.offer_first.new.ends) (vec_len c.gather.new.ends) c.gather.result c.args.engine.now
+          c.offer_first.new.engine c.gather.new.engine (left c.args.source.now) (left c.offer_first.new.source)
+          (left c.gather.new.source)
           c.offer_first.auto.buffer first.0 more),
       omega (arith, c.requires.none, first.1, more.offered.number),
       c.gather.ensures.at_most,

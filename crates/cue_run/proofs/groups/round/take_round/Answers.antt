@@ -16,10 +16,10 @@ returns-in-Ok-clause-round g c =
     let told = g.W.Wire.told in
     let old = c.args.engine.now in
     closed_round (length c.args.buffer.now) c.args.room (vec_len c.offer_group.new.ends) (length c.deref.result.now)
-        c.in-Ok.cut c.close_round.result old c.offer_group.new.engine c.close_round.new.engine (left c.args.source.now)
-        (left c.offer_group.new.source) (told c.args.wire.now) (told c.close_round.new.wire)
+    c.in-Ok.cut c.close_round.result old c.offer_group.new.engine c.close_round.new.engine (left c.args.source.now)
+    (left c.offer_group.new.source) (told c.args.wire.now) (told c.close_round.new.wire)
     g.met.D.Disk.held_now (begins (keeper_of old) (keeper_of old) refl c.state-state.ensures.stands) c.requires.none
-        c.deref.ensures.len c.in-Ok.ensures.offered c.close_round.ensures.closed
+    c.deref.ensures.len c.in-Ok.ensures.offered c.close_round.ensures.closed
 
 pub returns-in-Err-clause-round : goal.returns-in-Err-clause-round
 returns-in-Err-clause-round g c =
@@ -29,10 +29,10 @@ returns-in-Err-clause-round g c =
     let new = c.offer_group.new.engine in
     let size = length c.args.buffer.now in
     subst (λ (r : Round). HasRound size c.args.room r old new (left c.args.source.now) (left c.offer_group.new.source)
-        (told c.args.wire.now) (told c.args.wire.now)) (sym c.none.ensures)
+    (told c.args.wire.now) (told c.args.wire.now)) (sym c.none.ensures)
     (stopped_round size c.args.room (vec_len c.offer_group.new.ends) c.in-Err.stop old new (left c.args.source.now)
-        (left c.offer_group.new.source) (told c.args.wire.now) (told c.args.wire.now) g.met.D.Disk.held_now
-        (begins (keeper_of old) (keeper_of old) refl c.state-state.ensures.stands) refl c.in-Err.ensures.offered)
+    (left c.offer_group.new.source) (told c.args.wire.now) (told c.args.wire.now) g.met.D.Disk.held_now
+    (begins (keeper_of old) (keeper_of old) refl c.state-state.ensures.stands) refl c.in-Err.ensures.offered)
 
 pub returns-in-Err-clause-emptied : goal.returns-in-Err-clause-emptied
 returns-in-Err-clause-emptied g c = c.in-Err.ensures.offered.0.queue ∙ c.requires.emptied

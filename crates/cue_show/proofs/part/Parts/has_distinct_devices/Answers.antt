@@ -10,14 +10,14 @@ loop-part-init c = IsSeen-none
 pub returns-then-seen-device : goal.returns-then-seen-device
 returns-then-seen-device c =
     sym (distinct-marked c.loop-part.seen c.as_slice-part-items.result.now c.loop-part.part-index c.part-item.result
-        c.from-device.result
+    c.from-device.result
     c.loop-part.invariant c.loop-part-test.true c.part-item.is (c.from-device.ensures ∙ c.number.ensures.value)
-        (omega arith) c.if-seen-device.true)
+    (omega arith) c.if-seen-device.true)
     ∙ ap (λ ps. distinct (devices_in ps)) c.as_slice-part-items.ensures
 
 pub loop-part-preserved : goal.loop-part-preserved
 loop-part-preserved c =
     IsSeen-next c.loop-part.seen c.as_slice-part-items.result.now c.loop-part.part-index c.part-item.result
-        c.from-device.result
+    c.from-device.result
     c.loop-part.invariant c.loop-part-test.true c.part-item.is (c.from-device.ensures ∙ c.number.ensures.value)
-        (omega arith) c.if-seen-device.false
+    (omega arith) c.if-seen-device.false

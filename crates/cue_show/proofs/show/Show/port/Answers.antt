@@ -5,6 +5,10 @@ use Rattle.cue_show.proofs.show.Show.port.Goals as goal
 
 pub returns-clause-entry : goal.returns-clause-entry
 returns-clause-entry c =
-    let s : ShowLists = record { devices = c.self.inside.devices.entries; cues = c.self.inside.cues.entries; place =
-        c.self.inside.place } in
+    let s : ShowLists = record {
+      devices = c.self.inside.devices.entries;
+      cues = c.self.inside.cues.entries;
+      place =
+          c.self.inside.place;
+    } in
     found_port s c.args.device c.copied.result c.self.invariant (c.copied.ensures ∙ c.get.ensures.value)

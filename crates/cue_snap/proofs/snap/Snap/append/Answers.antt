@@ -9,8 +9,11 @@ returns-then-not-has_room g c =
     let pair = c.args.self.now in
     record {
       appends = no_room (c.args.added.now ∷ []) pair c.if-self.false (g.met.D.Disk.held_now pair.log.disk)
-          (omega (arith, too_long c.has_room.result (end_of pair + 6 + length c.args.added.now) AREA_LIMIT
-              c.has_room.ensures c.if-not-has_room.true));
+          (omega (
+            arith,
+            too_long c.has_room.result (end_of pair + 6 + length c.args.added.now) AREA_LIMIT
+                c.has_room.ensures c.if-not-has_room.true,
+          ));
     }
 
 pub returns : goal.returns
@@ -20,6 +23,6 @@ returns g c =
       appends = handed_on (c.args.added.now ∷ []) pair c.if-self.false _ refl refl c.is_broken-self.ensures.broken
           (λ none. absurd (cc (none)))
           (λ lacks. not_too_long c.has_room.result (end_of pair + 6 + length c.args.added.now) AREA_LIMIT
-              c.has_room.ensures c.if-not-has_room.false (omega (arith, lacks)))
+          c.has_room.ensures c.if-not-has_room.false (omega (arith, lacks)))
           c.append-appended.result c.append-appended.ensures.appends;
     }

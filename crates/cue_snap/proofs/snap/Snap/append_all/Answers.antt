@@ -10,8 +10,10 @@ pub returns-then-count-eq0 : goal.returns-then-count-eq0
 returns-then-count-eq0 g c =
     let pair = c.args.self.now in
     let payloads = c.args.added.now in
-    record { appends = nothing_added payloads pair c.if-self.false (g.met.D.Disk.held_now pair.log.disk)
-        (none_counted payloads (omega (arith, c.count.ensures, c.if-count-eq0.true))) }
+    record {
+      appends = nothing_added payloads pair c.if-self.false (g.met.D.Disk.held_now pair.log.disk)
+          (none_counted payloads (omega (arith, c.count.ensures, c.if-count-eq0.true)));
+    }
 
 pub returns-then-not-has_room_for_all : goal.returns-then-not-has_room_for_all
 returns-then-not-has_room_for_all g c =
@@ -20,7 +22,7 @@ returns-then-not-has_room_for_all g c =
     record {
       appends = no_room payloads pair c.if-self.false (g.met.D.Disk.held_now pair.log.disk)
           (too_long c.has_room_for_all.result (end_of pair + 1 + room_of payloads) AREA_LIMIT c.has_room_for_all.ensures
-              c.if-not-has_room_for_all.true);
+          c.if-not-has_room_for_all.true);
     }
 
 pub returns : goal.returns
@@ -31,6 +33,6 @@ returns g c =
       appends = handed_on payloads pair c.if-self.false _ refl refl c.is_broken-self.ensures.broken
           (some_counted payloads _ (λ none. c.if-count-eq0.false (c.count.ensures ∙ none)))
           (not_too_long c.has_room_for_all.result (end_of pair + 1 + room_of payloads) AREA_LIMIT
-              c.has_room_for_all.ensures c.if-not-has_room_for_all.false)
+          c.has_room_for_all.ensures c.if-not-has_room_for_all.false)
           c.append_all-appended.result c.append_all-appended.ensures.appends;
     }

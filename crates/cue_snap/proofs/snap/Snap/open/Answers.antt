@@ -10,31 +10,31 @@ returns-in-Err-Damaged-default-default-clause-damaged g c = λ honest_a honest_b
     let held = g.D.Disk.held in
     let refused = c.in-Err-Damaged-default-default in
     let spoiled = refused.ensures.damaged (c.in-Ok.ensures.honest.1 honest_a) (c.in-Ok-find.ensures.honest.1 honest_b)
-        refused.field-0-0-is in
+    refused.field-0-0-is in
     subst (λ (l : List ℕ). IsSpoiled l (held c.args.second).bytes) (c.in-Ok.ensures.bytes honest_a)
     (subst (λ (l : List ℕ). IsSpoiled (held (disk_in c.in-Ok.found)).bytes l) (c.in-Ok-find.ensures.bytes honest_b)
-        spoiled)
+    spoiled)
 
 pub returns-in-Ok-choose-clause-stood : goal.returns-in-Ok-choose-clause-stood
 returns-in-Ok-choose-clause-stood g c = λ honest_a honest_b.
     let held = g.D.Disk.held in
     let area = live_area_read c.in-Ok-choose.opened in
     let chosen = c.in-Ok-choose.ensures.chosen (c.in-Ok.ensures.honest.1 honest_a)
-        (c.in-Ok-find.ensures.honest.1 honest_b) in
+    (c.in-Ok-find.ensures.honest.1 honest_b) in
     subst (λ (l : List ℕ). PairReads area l (held c.args.second).bytes) (c.in-Ok.ensures.bytes honest_a)
     (subst (λ (l : List ℕ). PairReads area (held (disk_in c.in-Ok.found)).bytes l) (c.in-Ok-find.ensures.bytes honest_b)
-        chosen.stood)
+    chosen.stood)
 
 pub returns-in-Ok-choose-clause-reads : goal.returns-in-Ok-choose-clause-reads
 returns-in-Ok-choose-clause-reads g c = λ honest_a honest_b.
     let held = g.D.Disk.held in
     let area = live_area_read c.in-Ok-choose.opened in
     let chosen = c.in-Ok-choose.ensures.chosen (c.in-Ok.ensures.honest.1 honest_a)
-        (c.in-Ok-find.ensures.honest.1 honest_b) in
+    (c.in-Ok-find.ensures.honest.1 honest_b) in
     subst (λ (disk : _). PairLeaves (held disk) (held (second_opened c.in-Ok-choose.opened)) area)
-        (sym c.in-Ok-choose.ensures.first)
+    (sym c.in-Ok-choose.ensures.first)
     (subst (λ (disk : _). PairLeaves (held (disk_in c.in-Ok.found)) (held disk) area)
-        (sym c.in-Ok-choose.ensures.second) chosen.reads)
+    (sym c.in-Ok-choose.ensures.second) chosen.reads)
 
 pub returns-in-Ok-choose-clause-area : goal.returns-in-Ok-choose-clause-area
 returns-in-Ok-choose-clause-area g c =
@@ -42,55 +42,57 @@ returns-in-Ok-choose-clause-area g c =
     (c.in-Ok-find.ensures.honest.1 honest_b)).same_area
 
 pub returns-in-Ok-choose-clause-went_through : goal.returns-in-Ok-choose-clause-went_through
-returns-in-Ok-choose-clause-went_through g c =
-    (ap g.D.Disk.failures c.in-Ok-choose.ensures.first
-        ∙ c.in-Ok.ensures.memory, ap g.D.Disk.failures c.in-Ok-choose.ensures.second ∙ c.in-Ok-find.ensures.memory)
+returns-in-Ok-choose-clause-went_through g c = (
+  ap g.D.Disk.failures c.in-Ok-choose.ensures.first
+      ∙ c.in-Ok.ensures.memory,
+  ap g.D.Disk.failures c.in-Ok-choose.ensures.second ∙ c.in-Ok-find.ensures.memory,
+)
 
 pub returns-in-Ok-choose-clause-first_moments : goal.returns-in-Ok-choose-clause-first_moments
 returns-in-Ok-choose-clause-first_moments g c = λ honest.
     let now = c.args.first in
     subst (λ (disk : _). LeavesAtEachMoment g.D.Disk.moment g.D.Disk.held_at now disk (IsImage (g.D.Disk.held now)))
-        (sym c.in-Ok-choose.ensures.first) (c.in-Ok.ensures.any_moment honest)
+    (sym c.in-Ok-choose.ensures.first) (c.in-Ok.ensures.any_moment honest)
 
 pub returns-in-Ok-choose-clause-second_moments : goal.returns-in-Ok-choose-clause-second_moments
 returns-in-Ok-choose-clause-second_moments g c = λ honest.
     let now = c.args.second in
     subst (λ (disk : _). LeavesAtEachMoment g.D.Disk.moment g.D.Disk.held_at now disk (IsImage (g.D.Disk.held now)))
-        (sym c.in-Ok-choose.ensures.second) (c.in-Ok-find.ensures.any_moment honest)
+    (sym c.in-Ok-choose.ensures.second) (c.in-Ok-find.ensures.any_moment honest)
 
 pub returns-in-Err-Damaged-default-default-clause-first_moments :
     goal.returns-in-Err-Damaged-default-default-clause-first_moments
 returns-in-Err-Damaged-default-default-clause-first_moments g c = λ honest.
     let now = c.args.first in
     subst (λ (disk : _). LeavesAtEachMoment g.D.Disk.moment g.D.Disk.held_at now disk (IsImage (g.D.Disk.held now)))
-        (sym c.in-Err-Damaged-default-default.ensures.first) (c.in-Ok.ensures.any_moment honest)
+    (sym c.in-Err-Damaged-default-default.ensures.first) (c.in-Ok.ensures.any_moment honest)
 
 pub returns-in-Err-Damaged-default-default-clause-second_moments :
     goal.returns-in-Err-Damaged-default-default-clause-second_moments
 returns-in-Err-Damaged-default-default-clause-second_moments g c = λ honest.
     let now = c.args.second in
     subst (λ (disk : _). LeavesAtEachMoment g.D.Disk.moment g.D.Disk.held_at now disk (IsImage (g.D.Disk.held now)))
-        (sym c.in-Err-Damaged-default-default.ensures.second) (c.in-Ok-find.ensures.any_moment honest)
+    (sym c.in-Err-Damaged-default-default.ensures.second) (c.in-Ok-find.ensures.any_moment honest)
 
 pub returns-in-Err-Unformed-default-default-clause-first_moments :
     goal.returns-in-Err-Unformed-default-default-clause-first_moments
 returns-in-Err-Unformed-default-default-clause-first_moments g c = λ honest.
     let now = c.args.first in
     subst (λ (disk : _). LeavesAtEachMoment g.D.Disk.moment g.D.Disk.held_at now disk (IsImage (g.D.Disk.held now)))
-        (sym c.in-Err-Unformed-default-default.ensures.first) (c.in-Ok.ensures.any_moment honest)
+    (sym c.in-Err-Unformed-default-default.ensures.first) (c.in-Ok.ensures.any_moment honest)
 
 pub returns-in-Err-Unformed-default-default-clause-second_moments :
     goal.returns-in-Err-Unformed-default-default-clause-second_moments
 returns-in-Err-Unformed-default-default-clause-second_moments g c = λ honest.
     let now = c.args.second in
     subst (λ (disk : _). LeavesAtEachMoment g.D.Disk.moment g.D.Disk.held_at now disk (IsImage (g.D.Disk.held now)))
-        (sym c.in-Err-Unformed-default-default.ensures.second) (c.in-Ok-find.ensures.any_moment honest)
+    (sym c.in-Err-Unformed-default-default.ensures.second) (c.in-Ok-find.ensures.any_moment honest)
 
 pub returns-in-Err-find-clause-first_moments : goal.returns-in-Err-find-clause-first_moments
 returns-in-Err-find-clause-first_moments g c = λ honest.
     let now = c.args.first in
     subst (λ (disk : _). LeavesAtEachMoment g.D.Disk.moment g.D.Disk.held_at now disk (IsImage (g.D.Disk.held now)))
-        (sym c.into_disk.ensures) (c.in-Ok.ensures.any_moment honest)
+    (sym c.into_disk.ensures) (c.in-Ok.ensures.any_moment honest)
 
 pub returns-in-Ok-choose-clause-first_bytes : goal.returns-in-Ok-choose-clause-first_bytes
 returns-in-Ok-choose-clause-first_bytes g c =

@@ -15,17 +15,17 @@ held c =
     ap medium_held c.end.ensures.ended.medium
     ∙ c.write_as-done.ensures.held
     ∙ ap (λ (m : Medium). written_as c.begin-fate.result (is_err c.write_as-done.result) c.args.at c.args.bytes.now
-        (medium_held m)) c.begin-fate.ensures.begun.medium
+    (medium_held m)) c.begin-fate.ensures.begun.medium
 
 pub returns-clause-touched : goal.returns-clause-touched
 returns-clause-touched c =
     subst (λ (now : Contents). OnOk c.end.result (AllTouched c.args.at (length c.args.bytes.now) now)) (sym (held c))
     (written_as_touched c.end.result c.begin-fate.result (is_err c.write_as-done.result) c.args.at c.args.bytes.now
-        (memory_held c.args.self.now) c.end.ensures.succeeds)
+    (memory_held c.args.self.now) c.end.ensures.succeeds)
 
 pub returns-clause-crash : goal.returns-clause-crash
 returns-clause-crash c =
     subst (λ (now : Contents). Writes c.args.at (length c.args.bytes.now) (memory_held c.args.self.now) now)
-        (sym (held c))
+    (sym (held c))
     (written_as_writes c.begin-fate.result (is_err c.write_as-done.result) c.args.at c.args.bytes.now
-        (memory_held c.args.self.now) c.requires)
+    (memory_held c.args.self.now) c.requires)

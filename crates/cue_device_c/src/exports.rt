@@ -2,19 +2,16 @@
 ghost use Rattle.std.specs.Prelude.{◌≡◌, ◌≤◌, ◌<◌};
 ghost use Rattle.cue_show.specs.declared.limits.TheConstants.{MAX_DEVICE_NUMBER};
 ghost use Rattle.cue_device.specs.declared.hearing.Told.TheVariants.{Prepared, Moved, GaveUp, Cannot};
+ghost use Rattle.cue_device.specs.declared.reading.TheConstants.{MAX_NUMBER};
 ghost use Rattle.cue_device.specs.Hearing.{device_at_rest};
 ghost use Rattle.cue_device_c.specs.Calls.{Hears, Tells, Ticks};
 ghost use Rattle.cue_device_c.specs.State.{numbers_of};
 ghost use Rattle.cue_device_c.specs.declared.codes.TheConstants.{BAD_CALL};
-ghost use Rattle.cue_device_c.specs.declared.exports.TheConstants.{MAX_NUMBER};
 
 use crate::answer::CueAnswer;
 use crate::codes::{BAD_CALL, order_code};
 use crate::state::{CueDevice, device_number};
-use cue_device::{Device, MAX_ANSWER};
-
-/// The highest number of an attempt.
-pub const MAX_NUMBER: u32 = 2147483647;
+use cue_device::{Device, MAX_ANSWER, MAX_NUMBER};
 
 /// Makes a device of this number, 0 to 111, whose attempts up to `over` are over, 0 to 2,147,483,647. Gives 0, or
 /// `BAD_CALL` where either is out of range.

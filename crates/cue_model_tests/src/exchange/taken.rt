@@ -137,12 +137,14 @@ fn an_attempt_ends_in_the_middle(rt: HostRuntime) {
             (
                 Step::Start(3, &[3], &[]),
                 None,
-                "1 until 11000 Preparing: 1 Waiting\n2 until 11000 Preparing: 2 Waiting\n3 until 11000 Preparing: 3 Waiting\n",
+                "1 until 11000 Preparing: 1 Waiting\n2 until 11000 Preparing: 2 Waiting\n\
+                    3 until 11000 Preparing: 3 Waiting\n",
             ),
             (
                 Step::Cancel(2, Reason::Deadline),
                 None,
-                "1 until 11000 Preparing: 1 Waiting\n2 until 11000 Cancelling(Deadline): 2 Waiting\n3 until 11000 Preparing: 3 Waiting\n",
+                "1 until 11000 Preparing: 1 Waiting\n2 until 11000 Cancelling(Deadline): 2 Waiting\n\
+                    3 until 11000 Preparing: 3 Waiting\n",
             ),
             (
                 Step::Failed(2, 2),
@@ -152,7 +154,8 @@ fn an_attempt_ends_in_the_middle(rt: HostRuntime) {
             (
                 Step::Start(4, &[2], &[]),
                 None,
-                "1 until 11000 Preparing: 1 Waiting\n3 until 11000 Preparing: 3 Waiting\n4 until 11000 Preparing: 2 Waiting\n",
+                "1 until 11000 Preparing: 1 Waiting\n3 until 11000 Preparing: 3 Waiting\n\
+                    4 until 11000 Preparing: 2 Waiting\n",
             ),
         ],
     );
@@ -178,12 +181,14 @@ fn attempts_of_a_stored_state_are_put(rt: HostRuntime) {
             (
                 Step::Put(9, 90, Stage::Cancelling(Reason::Power), Answer::Waiting),
                 None,
-                "2 until 11000 Decided: 20 Waiting\n5 until 11000 Preparing: 50 Ready\n9 until 11000 Cancelling(Power): 90 Waiting\n",
+                "2 until 11000 Decided: 20 Waiting\n5 until 11000 Preparing: 50 Ready\n\
+                    9 until 11000 Cancelling(Power): 90 Waiting\n",
             ),
             (
                 Step::Put(7, 70, Stage::Preparing, Answer::Waiting),
                 None,
-                "2 until 11000 Decided: 20 Waiting\n5 until 11000 Preparing: 50 Ready\n7 until 11000 Preparing: 70 Waiting\n9 until 11000 Cancelling(Power): 90 Waiting\n",
+                "2 until 11000 Decided: 20 Waiting\n5 until 11000 Preparing: 50 Ready\n\
+                    7 until 11000 Preparing: 70 Waiting\n9 until 11000 Cancelling(Power): 90 Waiting\n",
             ),
         ],
     );

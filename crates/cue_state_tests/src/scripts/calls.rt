@@ -173,7 +173,8 @@ fn events_are_kept_in_order(rt: HostRuntime) -> Result<(), Fail> {
 }
 
 const RELEASED: &str = "\
-state = devices 3:9001 4:9002 | cue 1 3:up 4: | cue 2 3: | place - | last 1 | ended - | attempt 1 1 until 11000 Cancelling(Release) 3 Waiting 4 LetGo";
+state = devices 3:9001 4:9002 | cue 1 3:up 4: | cue 2 3: | place - | last 1 | ended - \
+    | attempt 1 1 until 11000 Cancelling(Release) 3 Waiting 4 LetGo";
 
 // Applies two events together.
 fn apply_both(

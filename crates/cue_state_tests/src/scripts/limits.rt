@@ -64,13 +64,20 @@ fn add_all_devices(rt: &impl Abort, alloc: Global, state: &mut State) -> Result<
 
 const WIDE_CUES: &str = "\
 add_cue 1 0: 1: 2: 3: 4: 5: 6: 7: 8: 9: 10: 11: 12: = made Cue 1 0: 1: 2: 3: 4: 5: 6: 7: 8: 9: 10: 11: 12:
-add_cue 2 13: 14: 15: 16: 17: 18: 19: 20: 21: 22: 23: 24: 25: = made Cue 2 13: 14: 15: 16: 17: 18: 19: 20: 21: 22: 23: 24: 25:
-add_cue 3 26: 27: 28: 29: 30: 31: 32: 33: 34: 35: 36: 37: 38: = made Cue 3 26: 27: 28: 29: 30: 31: 32: 33: 34: 35: 36: 37: 38:
-add_cue 4 39: 40: 41: 42: 43: 44: 45: 46: 47: 48: 49: 50: 51: = made Cue 4 39: 40: 41: 42: 43: 44: 45: 46: 47: 48: 49: 50: 51:
-add_cue 5 52: 53: 54: 55: 56: 57: 58: 59: 60: 61: 62: 63: 64: = made Cue 5 52: 53: 54: 55: 56: 57: 58: 59: 60: 61: 62: 63: 64:
-add_cue 6 65: 66: 67: 68: 69: 70: 71: 72: 73: 74: 75: 76: 77: = made Cue 6 65: 66: 67: 68: 69: 70: 71: 72: 73: 74: 75: 76: 77:
-add_cue 7 78: 79: 80: 81: 82: 83: 84: 85: 86: 87: 88: 89: 90: = made Cue 7 78: 79: 80: 81: 82: 83: 84: 85: 86: 87: 88: 89: 90:
-add_cue 8 91: 92: 93: 94: 95: 96: 97: 98: 99: 100: 101: 102: 103: = made Cue 8 91: 92: 93: 94: 95: 96: 97: 98: 99: 100: 101: 102: 103:
+add_cue 2 13: 14: 15: 16: 17: 18: 19: 20: 21: 22: 23: 24: 25: \
+    = made Cue 2 13: 14: 15: 16: 17: 18: 19: 20: 21: 22: 23: 24: 25:
+add_cue 3 26: 27: 28: 29: 30: 31: 32: 33: 34: 35: 36: 37: 38: \
+    = made Cue 3 26: 27: 28: 29: 30: 31: 32: 33: 34: 35: 36: 37: 38:
+add_cue 4 39: 40: 41: 42: 43: 44: 45: 46: 47: 48: 49: 50: 51: \
+    = made Cue 4 39: 40: 41: 42: 43: 44: 45: 46: 47: 48: 49: 50: 51:
+add_cue 5 52: 53: 54: 55: 56: 57: 58: 59: 60: 61: 62: 63: 64: \
+    = made Cue 5 52: 53: 54: 55: 56: 57: 58: 59: 60: 61: 62: 63: 64:
+add_cue 6 65: 66: 67: 68: 69: 70: 71: 72: 73: 74: 75: 76: 77: \
+    = made Cue 6 65: 66: 67: 68: 69: 70: 71: 72: 73: 74: 75: 76: 77:
+add_cue 7 78: 79: 80: 81: 82: 83: 84: 85: 86: 87: 88: 89: 90: \
+    = made Cue 7 78: 79: 80: 81: 82: 83: 84: 85: 86: 87: 88: 89: 90:
+add_cue 8 91: 92: 93: 94: 95: 96: 97: 98: 99: 100: 101: 102: 103: \
+    = made Cue 8 91: 92: 93: 94: 95: 96: 97: 98: 99: 100: 101: 102: 103:
 add_cue 9 111: = made Cue 9 111:
 add_cue 10 0: = made Cue 10 0:";
 
@@ -87,9 +94,39 @@ standby 8 1000 = made Start 8 8 11000
 standby 9 1000 = 7 Full
 standby 8 1000 = known
 standby 10 1000 = 11 Busy
-live = live | attempt 1 1 until 11000 Preparing 0 Waiting 1 Waiting 2 Waiting 3 Waiting 4 Waiting 5 Waiting 6 Waiting 7 Waiting 8 Waiting 9 Waiting 10 Waiting 11 Waiting 12 Waiting | attempt 2 2 until 11000 Preparing 13 Waiting 14 Waiting 15 Waiting 16 Waiting 17 Waiting 18 Waiting 19 Waiting 20 Waiting 21 Waiting 22 Waiting 23 Waiting 24 Waiting 25 Waiting | attempt 3 3 until 11000 Preparing 26 Waiting 27 Waiting 28 Waiting 29 Waiting 30 Waiting 31 Waiting 32 Waiting 33 Waiting 34 Waiting 35 Waiting 36 Waiting 37 Waiting 38 Waiting | attempt 4 4 until 11000 Preparing 39 Waiting 40 Waiting 41 Waiting 42 Waiting 43 Waiting 44 Waiting 45 Waiting 46 Waiting 47 Waiting 48 Waiting 49 Waiting 50 Waiting 51 Waiting | attempt 5 5 until 11000 Preparing 52 Waiting 53 Waiting 54 Waiting 55 Waiting 56 Waiting 57 Waiting 58 Waiting 59 Waiting 60 Waiting 61 Waiting 62 Waiting 63 Waiting 64 Waiting | attempt 6 6 until 11000 Preparing 65 Waiting 66 Waiting 67 Waiting 68 Waiting 69 Waiting 70 Waiting 71 Waiting 72 Waiting 73 Waiting 74 Waiting 75 Waiting 76 Waiting 77 Waiting | attempt 7 7 until 11000 Preparing 78 Waiting 79 Waiting 80 Waiting 81 Waiting 82 Waiting 83 Waiting 84 Waiting 85 Waiting 86 Waiting 87 Waiting 88 Waiting 89 Waiting 90 Waiting | attempt 8 8 until 11000 Preparing 91 Waiting 92 Waiting 93 Waiting 94 Waiting 95 Waiting 96 Waiting 97 Waiting 98 Waiting 99 Waiting 100 Waiting 101 Waiting 102 Waiting 103 Waiting
+live = live | attempt 1 1 until 11000 Preparing 0 Waiting 1 Waiting 2 Waiting 3 Waiting 4 Waiting 5 Waiting 6 Waiting \
+    7 Waiting 8 Waiting 9 Waiting 10 Waiting 11 Waiting 12 Waiting \
+    | attempt 2 2 until 11000 Preparing 13 Waiting 14 Waiting 15 Waiting 16 Waiting 17 Waiting 18 Waiting 19 Waiting \
+    20 Waiting 21 Waiting 22 Waiting 23 Waiting 24 Waiting 25 Waiting \
+    | attempt 3 3 until 11000 Preparing 26 Waiting 27 Waiting 28 Waiting 29 Waiting 30 Waiting 31 Waiting 32 Waiting \
+    33 Waiting 34 Waiting 35 Waiting 36 Waiting 37 Waiting 38 Waiting \
+    | attempt 4 4 until 11000 Preparing 39 Waiting 40 Waiting 41 Waiting 42 Waiting 43 Waiting 44 Waiting 45 Waiting \
+    46 Waiting 47 Waiting 48 Waiting 49 Waiting 50 Waiting 51 Waiting \
+    | attempt 5 5 until 11000 Preparing 52 Waiting 53 Waiting 54 Waiting 55 Waiting 56 Waiting 57 Waiting 58 Waiting \
+    59 Waiting 60 Waiting 61 Waiting 62 Waiting 63 Waiting 64 Waiting \
+    | attempt 6 6 until 11000 Preparing 65 Waiting 66 Waiting 67 Waiting 68 Waiting 69 Waiting 70 Waiting 71 Waiting \
+    72 Waiting 73 Waiting 74 Waiting 75 Waiting 76 Waiting 77 Waiting \
+    | attempt 7 7 until 11000 Preparing 78 Waiting 79 Waiting 80 Waiting 81 Waiting 82 Waiting 83 Waiting 84 Waiting \
+    85 Waiting 86 Waiting 87 Waiting 88 Waiting 89 Waiting 90 Waiting \
+    | attempt 8 8 until 11000 Preparing 91 Waiting 92 Waiting 93 Waiting 94 Waiting 95 Waiting 96 Waiting 97 Waiting \
+    98 Waiting 99 Waiting 100 Waiting 101 Waiting 102 Waiting 103 Waiting
 power = numbers 1 2 3 4 5 6 7 8
-live = live | attempt 1 1 until 11000 Cancelling(Power) 0 Waiting 1 Waiting 2 Waiting 3 Waiting 4 Waiting 5 Waiting 6 Waiting 7 Waiting 8 Waiting 9 Waiting 10 Waiting 11 Waiting 12 Waiting | attempt 2 2 until 11000 Cancelling(Power) 13 Waiting 14 Waiting 15 Waiting 16 Waiting 17 Waiting 18 Waiting 19 Waiting 20 Waiting 21 Waiting 22 Waiting 23 Waiting 24 Waiting 25 Waiting | attempt 3 3 until 11000 Cancelling(Power) 26 Waiting 27 Waiting 28 Waiting 29 Waiting 30 Waiting 31 Waiting 32 Waiting 33 Waiting 34 Waiting 35 Waiting 36 Waiting 37 Waiting 38 Waiting | attempt 4 4 until 11000 Cancelling(Power) 39 Waiting 40 Waiting 41 Waiting 42 Waiting 43 Waiting 44 Waiting 45 Waiting 46 Waiting 47 Waiting 48 Waiting 49 Waiting 50 Waiting 51 Waiting | attempt 5 5 until 11000 Cancelling(Power) 52 Waiting 53 Waiting 54 Waiting 55 Waiting 56 Waiting 57 Waiting 58 Waiting 59 Waiting 60 Waiting 61 Waiting 62 Waiting 63 Waiting 64 Waiting | attempt 6 6 until 11000 Cancelling(Power) 65 Waiting 66 Waiting 67 Waiting 68 Waiting 69 Waiting 70 Waiting 71 Waiting 72 Waiting 73 Waiting 74 Waiting 75 Waiting 76 Waiting 77 Waiting | attempt 7 7 until 11000 Cancelling(Power) 78 Waiting 79 Waiting 80 Waiting 81 Waiting 82 Waiting 83 Waiting 84 Waiting 85 Waiting 86 Waiting 87 Waiting 88 Waiting 89 Waiting 90 Waiting | attempt 8 8 until 11000 Cancelling(Power) 91 Waiting 92 Waiting 93 Waiting 94 Waiting 95 Waiting 96 Waiting 97 Waiting 98 Waiting 99 Waiting 100 Waiting 101 Waiting 102 Waiting 103 Waiting";
+live = live | attempt 1 1 until 11000 Cancelling(Power) 0 Waiting 1 Waiting 2 Waiting 3 Waiting 4 Waiting 5 Waiting \
+    6 Waiting 7 Waiting 8 Waiting 9 Waiting 10 Waiting 11 Waiting 12 Waiting \
+    | attempt 2 2 until 11000 Cancelling(Power) 13 Waiting 14 Waiting 15 Waiting 16 Waiting 17 Waiting 18 Waiting \
+    19 Waiting 20 Waiting 21 Waiting 22 Waiting 23 Waiting 24 Waiting 25 Waiting \
+    | attempt 3 3 until 11000 Cancelling(Power) 26 Waiting 27 Waiting 28 Waiting 29 Waiting 30 Waiting 31 Waiting \
+    32 Waiting 33 Waiting 34 Waiting 35 Waiting 36 Waiting 37 Waiting 38 Waiting \
+    | attempt 4 4 until 11000 Cancelling(Power) 39 Waiting 40 Waiting 41 Waiting 42 Waiting 43 Waiting 44 Waiting \
+    45 Waiting 46 Waiting 47 Waiting 48 Waiting 49 Waiting 50 Waiting 51 Waiting \
+    | attempt 5 5 until 11000 Cancelling(Power) 52 Waiting 53 Waiting 54 Waiting 55 Waiting 56 Waiting 57 Waiting \
+    58 Waiting 59 Waiting 60 Waiting 61 Waiting 62 Waiting 63 Waiting 64 Waiting \
+    | attempt 6 6 until 11000 Cancelling(Power) 65 Waiting 66 Waiting 67 Waiting 68 Waiting 69 Waiting 70 Waiting \
+    71 Waiting 72 Waiting 73 Waiting 74 Waiting 75 Waiting 76 Waiting 77 Waiting \
+    | attempt 7 7 until 11000 Cancelling(Power) 78 Waiting 79 Waiting 80 Waiting 81 Waiting 82 Waiting 83 Waiting \
+    84 Waiting 85 Waiting 86 Waiting 87 Waiting 88 Waiting 89 Waiting 90 Waiting \
+    | attempt 8 8 until 11000 Cancelling(Power) 91 Waiting 92 Waiting 93 Waiting 94 Waiting 95 Waiting 96 Waiting \
+    97 Waiting 98 Waiting 99 Waiting 100 Waiting 101 Waiting 102 Waiting 103 Waiting";
 
 fn prepare_eight(rt: &impl Abort, alloc: Global, state: &mut State) -> Result<(), Fail> {
     add_all_devices(rt, alloc, state)?;
@@ -134,7 +171,8 @@ state = devices 3:9001 4:9002 | cue 1 3:up 4: | cue 2 3: | place - | last 214748
 
 const LAST_NUMBER: &str = "\
 standby 1 1000 = made Start 2147483647 1 11000
-state = devices 3:9001 4:9002 | cue 1 3:up 4: | cue 2 3: | place - | last 2147483647 | ended - | attempt 2147483647 1 until 11000 Preparing 3 Waiting 4 Waiting";
+state = devices 3:9001 4:9002 | cue 1 3:up 4: | cue 2 3: | place - | last 2147483647 | ended - \
+    | attempt 2147483647 1 until 11000 Preparing 3 Waiting 4 Waiting";
 
 fn count_to_the_end(rt: &impl Abort, alloc: Global, state: &mut State) -> Result<(), Fail> {
     run(rt, alloc, state, SHOW)?;

@@ -116,7 +116,8 @@ cancelled 4 1 9002 = made LetGo 1 4
 cancelled 3 1 9001 = made LetGo 1 3
 cancel 1 = 12 NotLive
 standby 2 2000 = made Start 2 2 12000
-state = devices 3:9001 4:9002 | cue 1 3:up 4: | cue 2 3: | place - | last 2 | ended 1 Cancelled | attempt 2 2 until 12000 Preparing 3 Waiting",
+state = devices 3:9001 4:9002 | cue 1 3:up 4: | cue 2 3: | place - | last 2 | ended 1 Cancelled \
+    | attempt 2 2 until 12000 Preparing 3 Waiting",
     // A decided cue is not taken back.
     "\
 standby 1 1000 = made Start 1 1 11000
@@ -130,7 +131,8 @@ cancel 1 = 14 Decided
 standby 1 2000 = 11 Busy
 standby 2 2000 = 11 Busy
 remove_cue 1 = 11 Busy
-state = devices 3:9001 4:9002 | cue 1 3:up 4: | cue 2 3: | place 2 | last 1 | ended - | attempt 1 1 until 11000 Decided 3 Waiting 4 Waiting",
+state = devices 3:9001 4:9002 | cue 1 3:up 4: | cue 2 3: | place 2 | last 1 | ended - \
+    | attempt 1 1 until 11000 Decided 3 Waiting 4 Waiting",
     // Devices are released from preparations.
     "\
 release 5 = 3 NoMethod
@@ -147,7 +149,8 @@ abort 4 2 9002 = made Failed 2 4
 standby 2 3000 = made Start 3 2 13000
 standing_by 3 3 9001 = made Ready 3 3
 release 4 = 12 NotLive
-state = devices 3:9001 4:9002 | cue 1 3:up 4: | cue 2 3: | place - | last 3 | ended 2 Cancelled | attempt 3 2 until 13000 Preparing 3 Ready",
+state = devices 3:9001 4:9002 | cue 1 3:up 4: | cue 2 3: | place - | last 3 | ended 2 Cancelled \
+    | attempt 3 2 until 13000 Preparing 3 Ready",
     // A device is released from a decided cue.
     "\
 standby 1 1000 = made Start 1 1 11000
@@ -183,7 +186,8 @@ state = devices 3:9001 4:9002 5:9002 | cue 1 3:up 4: | cue 2 3: | place - | last
 standby 1 18446744073709551615 = 18 Clock
 standby 1 18446744073709541616 = 18 Clock
 standby 1 18446744073709541615 = made Start 1 1 18446744073709551615
-state = devices 3:9001 4:9002 | cue 1 3:up 4: | cue 2 3: | place - | last 1 | ended - | attempt 1 1 until 18446744073709551615 Preparing 3 Waiting 4 Waiting",
+state = devices 3:9001 4:9002 | cue 1 3:up 4: | cue 2 3: | place - | last 1 | ended - \
+    | attempt 1 1 until 18446744073709551615 Preparing 3 Waiting 4 Waiting",
 ];
 
 #[test]

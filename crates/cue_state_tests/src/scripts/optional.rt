@@ -128,10 +128,12 @@ standing_by 3 1 9001 = made Ready 1 3
 go 1 = 13 NotReady
 release 4 = made Excuse 1 4
 release 4 = known
-state = devices 3:9001 4:9002 | cue 1 3:up 4? | cue 2 4: | place - | last 1 | ended - | attempt 1 1 until 11000 Preparing 3 Ready 4? Excused
+state = devices 3:9001 4:9002 | cue 1 3:up 4? | cue 2 4: | place - | last 1 | ended - \
+    | attempt 1 1 until 11000 Preparing 3 Ready 4? Excused
 go 1 = made Go 1
 standby 2 1000 = 11 Busy
-state = devices 3:9001 4:9002 | cue 1 3:up 4? | cue 2 4: | place 2 | last 1 | ended - | attempt 1 1 until 11000 Decided 3 Waiting 4? Excused
+state = devices 3:9001 4:9002 | cue 1 3:up 4? | cue 2 4: | place 2 | last 1 | ended - \
+    | attempt 1 1 until 11000 Decided 3 Waiting 4? Excused
 complete 3 1 9001 = made Done 1 3
 state = devices 3:9001 4:9002 | cue 1 3:up 4? | cue 2 4: | place 2 | last 1 | ended 1 Complete
 standby 2 2000 = made Start 2 2 12000",
@@ -152,7 +154,8 @@ release 4 = made Excuse 1 4
 release 3 = made Cancel 1 Release LetGo 1 3
 state = devices 3:9001 4:9002 | cue 1 3:up 4? | cue 2 4: | place - | last 1 | ended 1 Cancelled
 standby 1 2000 = made Start 2 1 12000
-state = devices 3:9001 4:9002 | cue 1 3:up 4? | cue 2 4: | place - | last 2 | ended 1 Cancelled | attempt 2 1 until 12000 Preparing 3 Waiting 4? Waiting",
+state = devices 3:9001 4:9002 | cue 1 3:up 4? | cue 2 4: | place - | last 2 | ended 1 Cancelled \
+    | attempt 2 1 until 12000 Preparing 3 Waiting 4? Waiting",
     // A device that was not excused counts fully.
     "\
 standby 1 1000 = made Start 1 1 11000
@@ -160,7 +163,8 @@ standing_by 3 1 9001 = made Ready 1 3
 standing_by 4 1 9002 = made Ready 1 4
 go 1 = made Go 1
 complete 3 1 9001 = made Done 1 3
-state = devices 3:9001 4:9002 | cue 1 3:up 4? | cue 2 4: | place 2 | last 1 | ended - | attempt 1 1 until 11000 Decided 3 Done 4? Waiting
+state = devices 3:9001 4:9002 | cue 1 3:up 4? | cue 2 4: | place 2 | last 1 | ended - \
+    | attempt 1 1 until 11000 Decided 3 Done 4? Waiting
 abort 4 1 9002 = made Failed 1 4
 state = devices 3:9001 4:9002 | cue 1 3:up 4? | cue 2 4: | place 2 | last 1 | ended 1 Failed",
 ];
@@ -178,7 +182,8 @@ standby 1 1000 = made Start 1 1 11000
 standing_by 3 1 9001 = made Ready 1 3
 release 4 = made Excuse 1 4
 cancel 1 = made Cancel 1 Operator
-state = devices 3:9001 4:9002 | cue 1 3:up 4? | cue 2 4: | place - | last 1 | ended - | attempt 1 1 until 11000 Cancelling(Operator) 3 Waiting 4? LetGo
+state = devices 3:9001 4:9002 | cue 1 3:up 4? | cue 2 4: | place - | last 1 | ended - \
+    | attempt 1 1 until 11000 Cancelling(Operator) 3 Waiting 4? LetGo
 cancelled 4 1 9002 = known
 abort 4 1 9002 = 15 Stale
 release 4 = known
@@ -188,14 +193,16 @@ state = devices 3:9001 4:9002 | cue 1 3:up 4? | cue 2 4: | place - | last 1 | en
     "\
 standby 1 1000 = made Start 1 1 11000
 abort 4 1 9002 = made Excuse 1 4
-state = devices 3:9001 4:9002 | cue 1 3:up 4? | cue 2 4: | place - | last 1 | ended - | attempt 1 1 until 11000 Preparing 3 Waiting 4? Excused
+state = devices 3:9001 4:9002 | cue 1 3:up 4? | cue 2 4: | place - | last 1 | ended - \
+    | attempt 1 1 until 11000 Preparing 3 Waiting 4? Excused
 abort 3 1 9001 = made Cancel 1 Abort Failed 1 3
 state = devices 3:9001 4:9002 | cue 1 3:up 4? | cue 2 4: | place - | last 1 | ended 1 Cancelled",
     // The required device aborts, and then the optional one.
     "\
 standby 1 1000 = made Start 1 1 11000
 abort 3 1 9001 = made Cancel 1 Abort Failed 1 3
-state = devices 3:9001 4:9002 | cue 1 3:up 4? | cue 2 4: | place - | last 1 | ended - | attempt 1 1 until 11000 Cancelling(Abort) 3 Failed 4? Waiting
+state = devices 3:9001 4:9002 | cue 1 3:up 4? | cue 2 4: | place - | last 1 | ended - \
+    | attempt 1 1 until 11000 Cancelling(Abort) 3 Failed 4? Waiting
 abort 4 1 9002 = made LetGo 1 4
 state = devices 3:9001 4:9002 | cue 1 3:up 4? | cue 2 4: | place - | last 1 | ended 1 Cancelled",
     // The deadline passes.
@@ -203,13 +210,15 @@ state = devices 3:9001 4:9002 | cue 1 3:up 4? | cue 2 4: | place - | last 1 | en
 standby 1 1000 = made Start 1 1 11000
 release 4 = made Excuse 1 4
 tick 11000 = numbers 1
-state = devices 3:9001 4:9002 | cue 1 3:up 4? | cue 2 4: | place - | last 1 | ended - | attempt 1 1 until 11000 Cancelling(Deadline) 3 Waiting 4? LetGo",
+state = devices 3:9001 4:9002 | cue 1 3:up 4? | cue 2 4: | place - | last 1 | ended - \
+    | attempt 1 1 until 11000 Cancelling(Deadline) 3 Waiting 4? LetGo",
     // The power is lost.
     "\
 standby 1 1000 = made Start 1 1 11000
 release 4 = made Excuse 1 4
 power = numbers 1
-state = devices 3:9001 4:9002 | cue 1 3:up 4? | cue 2 4: | place - | last 1 | ended - | attempt 1 1 until 11000 Cancelling(Power) 3 Waiting 4? LetGo",
+state = devices 3:9001 4:9002 | cue 1 3:up 4? | cue 2 4: | place - | last 1 | ended - \
+    | attempt 1 1 until 11000 Cancelling(Power) 3 Waiting 4? LetGo",
 ];
 
 #[test]

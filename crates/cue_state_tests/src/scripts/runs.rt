@@ -9,10 +9,12 @@ const RUNS: [&str; 7] = [
 standby 1 1000 = made Start 1 1 11000
 standing_by 3 1 9001 = made Ready 1 3
 standing_by 4 1 9002 = made Ready 1 4
-state = devices 3:9001 4:9002 | cue 1 3:up 4: | cue 2 3: | place - | last 1 | ended - | attempt 1 1 until 11000 Preparing 3 Ready 4 Ready
+state = devices 3:9001 4:9002 | cue 1 3:up 4: | cue 2 3: | place - | last 1 | ended - \
+    | attempt 1 1 until 11000 Preparing 3 Ready 4 Ready
 go 1 = made Go 1
 complete 3 1 9001 = made Done 1 3
-state = devices 3:9001 4:9002 | cue 1 3:up 4: | cue 2 3: | place 2 | last 1 | ended - | attempt 1 1 until 11000 Decided 3 Done 4 Waiting
+state = devices 3:9001 4:9002 | cue 1 3:up 4: | cue 2 3: | place 2 | last 1 | ended - \
+    | attempt 1 1 until 11000 Decided 3 Done 4 Waiting
 complete 4 1 9002 = made Done 1 4
 status = known
 state = devices 3:9001 4:9002 | cue 1 3:up 4: | cue 2 3: | place 2 | last 1 | ended 1 Complete
@@ -23,11 +25,13 @@ standby 1 1000 = made Start 1 1 11000
 standing_by 3 1 9001 = made Ready 1 3
 go 1 = 13 NotReady
 standing_by 3 1 9001 = known
-state = devices 3:9001 4:9002 | cue 1 3:up 4: | cue 2 3: | place - | last 1 | ended - | attempt 1 1 until 11000 Preparing 3 Ready 4 Waiting",
+state = devices 3:9001 4:9002 | cue 1 3:up 4: | cue 2 3: | place - | last 1 | ended - \
+    | attempt 1 1 until 11000 Preparing 3 Ready 4 Waiting",
     // An abort gives the preparation up.
     "\
 standby 2 1000 = made Start 1 2 11000
-state = devices 3:9001 4:9002 | cue 1 3:up 4: | cue 2 3: | place - | last 1 | ended - | attempt 1 2 until 11000 Preparing 3 Waiting
+state = devices 3:9001 4:9002 | cue 1 3:up 4: | cue 2 3: | place - | last 1 | ended - \
+    | attempt 1 2 until 11000 Preparing 3 Waiting
 abort 3 1 9001 = made Cancel 1 Abort Failed 1 3
 status = known
 state = devices 3:9001 4:9002 | cue 1 3:up 4: | cue 2 3: | place - | last 1 | ended 1 Cancelled",
@@ -38,7 +42,8 @@ standing_by 4 1 9002 = made Ready 1 4
 standing_by 3 1 9001 = made Ready 1 3
 go 1 = made Go 1
 abort 3 1 9001 = made Failed 1 3
-state = devices 3:9001 4:9002 | cue 1 3:up 4: | cue 2 3: | place 2 | last 1 | ended - | attempt 1 1 until 11000 Decided 3 Failed 4 Waiting
+state = devices 3:9001 4:9002 | cue 1 3:up 4: | cue 2 3: | place 2 | last 1 | ended - \
+    | attempt 1 1 until 11000 Decided 3 Failed 4 Waiting
 complete 4 1 9002 = made Done 1 4
 state = devices 3:9001 4:9002 | cue 1 3:up 4: | cue 2 3: | place 2 | last 1 | ended 1 Failed",
     // A reply of another port or attempt changes nothing.
@@ -46,14 +51,17 @@ state = devices 3:9001 4:9002 | cue 1 3:up 4: | cue 2 3: | place 2 | last 1 | en
 standby 1 1000 = made Start 1 1 11000
 standing_by 3 1 8000 = 17 WrongPort
 standing_by 3 2 9001 = 16 Early
-state = devices 3:9001 4:9002 | cue 1 3:up 4: | cue 2 3: | place - | last 1 | ended - | attempt 1 1 until 11000 Preparing 3 Waiting 4 Waiting",
+state = devices 3:9001 4:9002 | cue 1 3:up 4: | cue 2 3: | place - | last 1 | ended - \
+    | attempt 1 1 until 11000 Preparing 3 Waiting 4 Waiting",
     // A preparation ends at its deadline.
     "\
 standby 1 1000 = made Start 1 1 11000
 tick 10999 = numbers
-state = devices 3:9001 4:9002 | cue 1 3:up 4: | cue 2 3: | place - | last 1 | ended - | attempt 1 1 until 11000 Preparing 3 Waiting 4 Waiting
+state = devices 3:9001 4:9002 | cue 1 3:up 4: | cue 2 3: | place - | last 1 | ended - \
+    | attempt 1 1 until 11000 Preparing 3 Waiting 4 Waiting
 tick 11000 = numbers 1
-state = devices 3:9001 4:9002 | cue 1 3:up 4: | cue 2 3: | place - | last 1 | ended - | attempt 1 1 until 11000 Cancelling(Deadline) 3 Waiting 4 Waiting
+state = devices 3:9001 4:9002 | cue 1 3:up 4: | cue 2 3: | place - | last 1 | ended - \
+    | attempt 1 1 until 11000 Cancelling(Deadline) 3 Waiting 4 Waiting
 tick 11001 = numbers",
     // A preparation ends with the power.
     "\
@@ -61,7 +69,8 @@ undecided = numbers
 standby 1 1000 = made Start 1 1 11000
 undecided = numbers 1
 power = numbers 1
-state = devices 3:9001 4:9002 | cue 1 3:up 4: | cue 2 3: | place - | last 1 | ended - | attempt 1 1 until 11000 Cancelling(Power) 3 Waiting 4 Waiting
+state = devices 3:9001 4:9002 | cue 1 3:up 4: | cue 2 3: | place - | last 1 | ended - \
+    | attempt 1 1 until 11000 Cancelling(Power) 3 Waiting 4 Waiting
 undecided = numbers",
 ];
 

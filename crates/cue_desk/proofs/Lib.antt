@@ -2,6 +2,7 @@ pub mod AskLemmas
 pub mod BoardLemmas
 pub mod DefinedLemmas
 pub mod ReadLemmas
+pub mod ReadingLemmas
 pub mod SaidLemmas
 pub mod StepLemmas
 pub mod TakenLemmas

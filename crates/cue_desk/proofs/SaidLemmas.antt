@@ -1,10 +1,12 @@
 -- The table of a show says this very show.
 use Rattle.std.proofs.Common.{◌≡◌, ◌∙◌, ℕ, zero, suc, ◌<◌, Bool, true, false, ◌&&◌, List, [], ◌∷◌, map, codes, length}
-use Rattle.std.proofs.Common.{IsTrue, Option, Some, nat_le, refl, ap, arith}
-use Rattle.std.specs.Prelude.{Ok, option_and_then}
+use Rattle.std.proofs.Common.{IsTrue, Option, Some, None, is_some, nat_le, refl, ap, arith}
+use Rattle.std.specs.Prelude.{IfOk, Result, Ok, Err, option_and_then}
 use Rattle.std.specs.List.{list_all}
 use Rattle.std.specs.Map.{keys_of}
+use Rattle.std.proofs.lemmas.Bool.{false≢true}
 use Rattle.std.proofs.lemmas.Bool.Decides.{nat_tests}
+use Rattle.std.specs.declared.alloc.AllocError.{AllocError}
 use Rattle.hex.specs.Hex.{IsBytes, decode_of, encode_lower}
 use Rattle.hex.proofs.HexLemmas.{decode_of-encode_lower}
 use Rattle.toml.specs.Data.{Members, get_member, no_members}
@@ -19,9 +21,14 @@ use Rattle.cue_show.specs.Parts.{are_parts, is_part}
 use Rattle.cue_show.specs.Show.{Cues, ShowLists, are_known, is_cue_of, is_entry, is_show}
 use Rattle.cue_show.proofs.TestLemmas.{both}
 use Rattle.cue_operator.proofs.FindingLemmas.{stack_of, table_of}
-use Rattle.cue_desk.specs.Said.{ExportSaysTheShow, cue_said, device_said, each_said, file_said, list_or_none, part_said}
-use Rattle.cue_desk.specs.Written.{bare_cue, bare_device, cue_members, device_members, part_members, show_members}
-use Rattle.cue_desk.specs.Written.{tables_of, with_tables}
+use Rattle.cue_desk.specs.Reading.{ExportNamesNoPlace, names_no_place, no_place_in, no_places_in, said_of, said_without}
+use Rattle.cue_desk.specs.Said.{ExportSaysTheShow, cue_said, device_said, each_said, file_said, is_of_file}
+use Rattle.cue_desk.specs.Said.{list_or_none, part_said, text_said}
+use Rattle.cue_desk.specs.Written.{IsFileOf, bare_cue, bare_device, cue_members, device_members, file_text}
+use Rattle.cue_desk.specs.Written.{part_members, show_members, tables_of, with_tables}
+use Rattle.cue_desk.specs.declared.show_file.ShowFile.{ShowFile}
+use Rattle.cue_desk.specs.declared.show_file.mistake.Finding.{Finding}
+use Rattle.cue_desk.specs.declared.show_file.reading.Draft.{Draft}
 use Rattle.cue_desk.proofs.AskLemmas.{are_parts-each}
 use Rattle.cue_desk.proofs.DefinedLemmas.{export-is_read}
 
@@ -66,10 +73,18 @@ cue-said s c h =
     let parts = are_parts-each c.1 (both (are_parts c.1) (are_known s c.1) k.1).0 in
     rw (k.0, each-said part_said part_members is_part part-said c.1 parts) refl
 
-both-said : (ds : List (ℕ × ℕ)) (cs : Cues) (ms : Members)
+both-said : (ds : List (ℕ × ℕ)) (cs : Cues) (ms : Members) → is_of_file ms ≡ true
     → list_or_none device_said (get_member (codes "device") ms) ≡ Some ds
     → list_or_none cue_said (get_member (codes "cue") ms) ≡ Some cs → file_said ms ≡ Some (ds, cs)
-both-said ds cs ms e f = rw (e, f) refl
+both-said ds cs ms fit e f = rw (fit, e, f) refl
+
+-- the table has the keys of a file alone
+of-file : (devices cues : List Members)
+    → is_of_file (with_tables (codes "cue") cues (with_tables (codes "device") devices no_members)) ≡ true
+of-file [] [] = refl
+of-file (d ∷ devices) [] = refl
+of-file [] (c ∷ cues) = refl
+of-file (d ∷ devices) (c ∷ cues) = refl
 
 -- the lists at their keys, where one of them may not be there
 devices-at : (ds : List (ℕ × ℕ)) (devices cues : List Members) → each_said device_said (tables_of devices) ≡ Some ds
@@ -94,7 +109,7 @@ all-said : (ds : List (ℕ × ℕ)) (cs : Cues) (devices cues : List Members)
     → file_said (with_tables (codes "cue") cues (with_tables (codes "device") devices no_members)) ≡ Some (ds, cs)
 all-said ds cs devices cues e f =
     both-said ds cs (with_tables (codes "cue") cues (with_tables (codes "device") devices no_members))
-    (devices-at ds devices cues e) (cues-at cs devices cues f)
+    (of-file devices cues) (devices-at ds devices cues e) (cues-at cs devices cues f)
 
 bare-map : {A B C : Type 0} (f : B → C) (g : A → B) (xs : List A) → map f (map g xs) ≡ map (λ x. f (g x)) xs
 bare-map f g [] = refl
@@ -113,3 +128,61 @@ show-said s h =
 
 pub export-says_the_show : ExportSaysTheShow
 export-says_the_show s f h is = ap (option_and_then file_said) (export-is_read s f h is) ∙ show-said s h
+
+-- ---- no place on the network
+
+no-places : (ds : List (ℕ × ℕ)) → no_places_in (tables_of (map device_members (map bare_device ds))) ≡ true
+no-places [] = refl
+no-places (d ∷ ds) = no-places ds
+
+no-place : (devices cues : List Members) → no_places_in (tables_of devices) ≡ true
+    → no_place_in (with_tables (codes "cue") cues (with_tables (codes "device") devices no_members)) ≡ true
+no-place [] [] e = refl
+no-place (d ∷ devices) [] e = e
+no-place [] (c ∷ cues) e = refl
+no-place (d ∷ devices) (c ∷ cues) e = e
+
+pub export-names_no_place : ExportNamesNoPlace
+export-names_no_place s f h is =
+    rw (export-is_read s f h is)
+    (no-place (map device_members (map bare_device s.devices)) (map cue_members (map bare_cue s.cues))
+    (no-places s.devices))
+
+-- ---- read back
+
+read-back : (s : ShowLists) (f : ShowFile) (t : List ℕ) (found : List Finding) (back : ShowFile) → IsTrue (is_show s)
+    → IsFileOf s f → t ≡ file_text f
+    → (IsTrue (names_no_place t) → said_without found back ≡ text_said t)
+    → said_without found back ≡ Some (s.devices, s.cues)
+read-back s f t found back h is e whole = whole (rw e (export-names_no_place s f h is))
+    ∙ rw e (export-says_the_show s f h is)
+
+clean-of : (found : List Finding) (back : ShowFile) (said : List (ℕ × ℕ) × Cues) → said_without found back ≡ Some said
+    → found ≡ []
+clean-of [] back said e = refl
+clean-of (x ∷ found) back said e = absurd (false≢true (ap is_some e))
+
+same-of : (found : List Finding) (back : ShowFile) (said : List (ℕ × ℕ) × Cues) → said_without found back ≡ Some said
+    → said_of back ≡ said
+same-of [] back said e = ap (λ o. get_some o said) e
+  where
+    get_some : Option (List (ℕ × ℕ) × Cues) → List (ℕ × ℕ) × Cues → List (ℕ × ℕ) × Cues
+    get_some None d = d
+    get_some (Some x) d = x
+same-of (x ∷ found) back said e = absurd (false≢true (ap is_some e))
+
+pub reads-clean : (s : ShowLists) (f : ShowFile) (t : List ℕ) → IsTrue (is_show s) → IsFileOf s f → t ≡ file_text f
+    → (r : Result Draft AllocError)
+    → IfOk r (λ draft. IsTrue (names_no_place t) → said_without draft.findings.items draft.file ≡ text_said t)
+    → IfOk r (λ draft. draft.findings.items ≡ [])
+reads-clean s f t h is e (Ok draft) whole = clean-of draft.findings.items draft.file (s.devices, s.cues)
+    (read-back s f t draft.findings.items draft.file h is e whole)
+reads-clean s f t h is e (Err x) whole = tt
+
+pub reads-same : (s : ShowLists) (f : ShowFile) (t : List ℕ) → IsTrue (is_show s) → IsFileOf s f → t ≡ file_text f
+    → (r : Result Draft AllocError)
+    → IfOk r (λ draft. IsTrue (names_no_place t) → said_without draft.findings.items draft.file ≡ text_said t)
+    → IfOk r (λ draft. said_of draft.file ≡ (s.devices, s.cues))
+reads-same s f t h is e (Ok draft) whole = same-of draft.findings.items draft.file (s.devices, s.cues)
+    (read-back s f t draft.findings.items draft.file h is e whole)
+reads-same s f t h is e (Err x) whole = tt

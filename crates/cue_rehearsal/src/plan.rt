@@ -31,8 +31,6 @@ pub struct Plan {
 /// What is wrong with a table `[rehearse]`.
 #[derive(Debug, Drop, PartialEq, Eq)]
 pub enum PlanFault {
-    /// The text is no TOML.
-    NotToml,
     /// `rehearse` is no table.
     NoTable,
     /// The table has no such key.
@@ -55,7 +53,6 @@ impl From<AllocError> for PlanFault {
 impl fmt::Display for PlanFault {
     fn fmt<W: fmt::Write>(&self, f: &mut fmt::Formatter<W>) -> fmt::Result {
         match self {
-            PlanFault::NotToml => f.write_str("the file is no TOML"),
             PlanFault::NoTable => f.write_str("it is written as one table, [rehearse]"),
             PlanFault::UnknownKey(key) => write!(
                 f,
@@ -213,13 +210,9 @@ fn plan_in(alloc: Global, table: &Table) -> Result<Plan, PlanFault> {
     })
 }
 
-/// The plan of a show file: that of its table `[rehearse]`, and the usual one where it has none.
-pub fn read_plan(alloc: Global, text: &str) -> Result<Plan, PlanFault> {
-    let file = match toml::table_from_str(alloc, text) {
-        Ok(file) => file,
-        Err(error) if error.is_memory() => return Err(PlanFault::Memory),
-        Err(_) => return Err(PlanFault::NotToml),
-    };
+/// The plan of a show file, of which this is all that TOML reads: that of its table `[rehearse]`, and the usual one where
+/// it has none.
+pub fn read_plan(alloc: Global, file: &Table) -> Result<Plan, PlanFault> {
     match file.get("rehearse") {
         None => Ok(Plan::new(alloc)),
         Some(Value::Table(table)) => plan_in(alloc, table),

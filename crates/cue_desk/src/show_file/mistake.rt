@@ -240,8 +240,13 @@ pub(crate) struct Findings {
 }
 
 impl Findings {
+    ghost use Rattle.std.specs.Prelude.{◌≡◌, IfOk, false, length, true};
+    ghost use Rattle.cue_desk.specs.Reading.{is_clean};
+
     /// None yet; the file as a whole is looked at.
-    pub(crate) fn new(alloc: Global) -> Findings {
+    pub(crate) fn new(alloc: Global) -> Findings
+        ensures { is_clean result ≡ true }
+    {
         Findings {
             found: Vec::new(alloc),
             line: None,
@@ -250,18 +255,24 @@ impl Findings {
     }
 
     /// How many there are.
-    pub(crate) fn len(&self) -> usize {
+    pub(crate) fn len(&self) -> usize
+        ensures { result ≡ length self.now.found.items }
+    {
         self.found.len()
     }
 
     /// From now on this is looked at.
-    pub(crate) fn look_at(&mut self, line: Option<usize>, subject: Subject) {
+    pub(crate) fn look_at(&mut self, line: Option<usize>, subject: Subject)
+        ensures { self.new.found ≡ self.old.found }
+    {
         self.line = line;
         self.subject = subject;
     }
 
     /// One more.
-    pub(crate) fn note(&mut self, mistake: Mistake) -> Result<(), AllocError> {
+    pub(crate) fn note(&mut self, mistake: Mistake) -> Result<(), AllocError>
+        ensures { IfOk result (λ _. is_clean self.new ≡ false) }
+    {
         self.found.push(Finding {
             line: self.line,
             subject: self.subject,
@@ -271,7 +282,9 @@ impl Findings {
     }
 
     /// All of them, in the order in which they were found.
-    pub(crate) fn into_vec(self) -> Vec<Finding> {
+    pub(crate) fn into_vec(self) -> Vec<Finding>
+        ensures { result ≡ self.found }
+    {
         let Findings { found, .. } = self;
         found
     }

@@ -1,13 +1,21 @@
 //! The keys of a show file that say where devices are on the stage's network.
+ghost use Rattle.std.specs.Prelude.{◌≡◌, IfOk, IsOk, IsTrue, None, codes};
+ghost use Rattle.toml.specs.Data.{get_member};
+ghost use Rattle.toml.specs.View.{table_view};
+ghost use Rattle.cue_desk.specs.Reading.{is_clean};
+
 use super::mistake::{Findings, Key, Mistake};
+use super::reading::value_at;
 use cue_relay::Address;
 use std::alloc::AllocError;
 use std::net::Ipv4Addr;
 use toml::{Table, Value};
 
 // The address at the key `address`, or what is wrong with it.
-fn address_in(table: &Table) -> Result<Option<Address>, Mistake> {
-    match table.get("address") {
+fn address_in(table: &Table) -> Result<Option<Address>, Mistake>
+    ensures { get_member (codes "address") (table_view table.now) ≡ None → IsOk result }
+{
+    match value_at(table, "address") {
         None => Ok(None),
         Some(Value::String(text)) => match Address::read(text.as_str()) {
             Some(address) => Ok(Some(address)),
@@ -28,8 +36,10 @@ fn listen_of(text: &str) -> Option<u32> {
 }
 
 // The address at the key `listen`, or what is wrong with it.
-fn listen_in(table: &Table) -> Result<Option<u32>, Mistake> {
-    match table.get("listen") {
+fn listen_in(table: &Table) -> Result<Option<u32>, Mistake>
+    ensures { get_member (codes "listen") (table_view table.now) ≡ None → IsOk result }
+{
+    match value_at(table, "listen") {
         None => Ok(None),
         Some(Value::String(text)) => match listen_of(text.as_str()) {
             Some(host) => Ok(Some(host)),
@@ -44,7 +54,11 @@ fn listen_in(table: &Table) -> Result<Option<u32>, Mistake> {
 pub(crate) fn read_address(
     findings: &mut Findings,
     table: &Table,
-) -> Result<Option<Address>, AllocError> {
+) -> Result<Option<Address>, AllocError>
+    ensures clean { IfOk result (λ _. IsTrue (is_clean findings.new) → IsTrue (is_clean findings.old)) }
+    ensures same { IfOk result (λ _. get_member (codes "address") (table_view table.now) ≡ None
+        → is_clean findings.new ≡ is_clean findings.old) }
+{
     match address_in(table) {
         Ok(address) => Ok(address),
         Err(mistake) => {
@@ -56,10 +70,11 @@ pub(crate) fn read_address(
 
 /// Where this machine is on the stage's network; none where the file does not say so, or where that is wrong, which is
 /// noted.
-pub(crate) fn read_listen(
-    findings: &mut Findings,
-    table: &Table,
-) -> Result<Option<u32>, AllocError> {
+pub(crate) fn read_listen(findings: &mut Findings, table: &Table) -> Result<Option<u32>, AllocError>
+    ensures clean { IfOk result (λ _. IsTrue (is_clean findings.new) → IsTrue (is_clean findings.old)) }
+    ensures same { IfOk result (λ _. get_member (codes "listen") (table_view table.now) ≡ None
+        → is_clean findings.new ≡ is_clean findings.old) }
+{
     match listen_in(table) {
         Ok(host) => Ok(host),
         Err(mistake) => {

@@ -229,8 +229,8 @@ fn push_cues(alloc: Global, text: &mut String, entries: &[CueEntry]) -> Result<(
 }
 
 /// The text of a show file: its port, its devices and its cues. By the grammar of TOML it is read as exactly that
-/// (`laws::written_is_read`); that `read` makes the same file of it is tested. Where this machine and its devices are
-/// on the stage's network is left out: no store has it.
+/// (`laws::written_is_read`), and of a show `read` makes the same file of it (`laws::export_reads_back`). Where this
+/// machine and its devices are on the stage's network is left out: no store has it.
 pub fn written(alloc: Global, file: &ShowFile) -> Result<String, AllocError>
     ensures { IfOk result (λ text. string_bytes text ≡ written.file_text file.now) }
 {

@@ -1,19 +1,20 @@
 //! Show files and stores, as the commands read them.
 use super::ending::{Ending, print, say};
-use super::rehearsing::{knows_plan, read_plan_of};
+use super::rehearsing::{knows_plan, plan_of};
 use cue_copies::{Seen, look_again};
-use cue_desk::show_file::{Finding, ShowFile, check, of_show, read, written};
+use cue_desk::show_file::{Draft, Finding, ShowFile, check, of_show, read, written};
 use cue_disk::{FileDisk, MemDisk};
 use cue_keeper::Keeper;
 use std::alloc::Global;
 use std::fs::{self, File, Files};
 use std::io::{Eprint, Write};
 
-/// Reads a show file that has no mistake; else each mistake is on standard error, with the file and the line.
-pub fn read_file<R: Files<File = File> + Eprint + AllocGlobal>(
+/// Reads a show file that has no mistake, with all that TOML reads from it; else each mistake is on standard error, with
+/// the file and the line.
+pub fn read_draft<R: Files<File = File> + Eprint + AllocGlobal>(
     rt: &R,
     path: &str,
-) -> Result<ShowFile, Ending> {
+) -> Result<Draft, Ending> {
     let text = match fs::read_to_string(rt, path) {
         Ok(text) => text,
         Err(why) => {
@@ -24,11 +25,20 @@ pub fn read_file<R: Files<File = File> + Eprint + AllocGlobal>(
     let draft = read(rt.alloc(), text.as_str())?;
     let trial = check(rt.alloc(), &draft.file)?;
     if draft.findings.is_empty() && trial.show.is_some() {
-        return Ok(draft.file);
+        return Ok(draft);
     }
     say_findings(rt, path, &draft.findings);
     say_findings(rt, path, &trial.findings);
     Err(Ending::Refused)
+}
+
+/// Reads a show file that has no mistake, as `read_draft` does.
+pub fn read_file<R: Files<File = File> + Eprint + AllocGlobal>(
+    rt: &R,
+    path: &str,
+) -> Result<ShowFile, Ending> {
+    let Draft { file, .. } = read_draft(rt, path)?;
+    Ok(file)
 }
 
 // Says each mistake.
@@ -44,9 +54,9 @@ pub fn check_file<R: Files<File = File> + Eprint + AllocGlobal, W: Write>(
     path: &str,
     writer: &mut W,
 ) -> Result<(), Ending> {
-    let file = read_file(rt, path)?;
-    knows_plan(rt, &file, &read_plan_of(rt, path)?)?;
-    let (devices, cues) = (file.devices.len(), file.cues.len());
+    let draft = read_draft(rt, path)?;
+    knows_plan(rt, &draft.file, &plan_of(rt, path, &draft.table)?)?;
+    let (devices, cues) = (draft.file.devices.len(), draft.file.cues.len());
     let text = format!(in rt.alloc(); "no mistake: {devices} devices, {cues} cues\n")?;
     print(writer, text.as_str())
 }

@@ -2,17 +2,18 @@
 ghost use Rattle.std.specs.Prelude.{◌≤◌, IfSome, length};
 
 use super::ending::{Ending, print, say};
-use super::files::read_file;
+use super::files::read_draft;
 use crate::line::rehearsing::{Rehearsal, with_flags};
 use cue_desk::show_file::{DeviceEntry, ShowFile};
 use cue_device::{Answer, MAX_ANSWER, Order};
 use cue_rehearsal::{Chance, Deed, Line, Plan, Player, read_plan};
 use cue_show::DeviceNo;
-use std::fs::{self, File, Files};
+use std::fs::{File, Files};
 use std::io::{Eprint, Write};
 use std::net::{IpAddr, Ipv4Addr, Net, SocketAddr, UdpSocket};
 use std::thread;
 use std::time::{Clock, Duration, Instant};
+use toml::Table;
 
 /// The time between two rounds over the sockets, in milliseconds.
 const PAUSE: u64 = 4;
@@ -139,19 +140,9 @@ impl Seat {
     }
 }
 
-/// The plan of a show file, which is read already; else what is wrong with it is on standard error.
-pub fn read_plan_of<R: Files<File = File> + Eprint + AllocGlobal>(
-    rt: &R,
-    path: &str,
-) -> Result<Plan, Ending> {
-    let text = match fs::read_to_string(rt, path) {
-        Ok(text) => text,
-        Err(why) => {
-            say(rt, format_args!("{path}: {why}"));
-            return Err(Ending::Failed);
-        }
-    };
-    match read_plan(rt.alloc(), text.as_str()) {
+/// The plan of a show file, of which this is all that TOML reads; else what is wrong with it is on standard error.
+pub fn plan_of<R: Eprint + AllocGlobal>(rt: &R, path: &str, table: &Table) -> Result<Plan, Ending> {
+    match read_plan(rt.alloc(), table) {
         Ok(plan) => Ok(plan),
         Err(why) => {
             let _ = rt.eprintln(format_args!("{path}: [rehearse]: {why}"));
@@ -284,11 +275,11 @@ pub fn rehearse<R: Files<File = File> + Net + Clock + Eprint + AllocGlobal, W: W
     rehearsal: &Rehearsal,
     writer: &mut W,
 ) -> Result<(), Ending> {
-    let file = read_file(rt, rehearsal.file.as_str())?;
-    let mut plan = read_plan_of(rt, rehearsal.file.as_str())?;
+    let draft = read_draft(rt, rehearsal.file.as_str())?;
+    let mut plan = plan_of(rt, rehearsal.file.as_str(), &draft.table)?;
     with_flags(rt.alloc(), &mut plan, &rehearsal.flags)?;
-    knows_plan(rt, &file, &plan)?;
-    let mut seats = seats_of(rt, &file, &plan)?;
+    knows_plan(rt, &draft.file, &plan)?;
+    let mut seats = seats_of(rt, &draft.file, &plan)?;
     let count = seats.len();
     print(
         writer,

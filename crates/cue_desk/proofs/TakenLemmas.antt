@@ -17,7 +17,8 @@ use Rattle.cue_core.specs.declared.command.Command.TheVariants as command
 use Rattle.cue_core.specs.declared.command.Verdict.TheVariants.{Made}
 use Rattle.cue_core.specs.declared.event.Event.TheVariants as event
 use Rattle.cue_core.specs.Judge.{Judgement, is_fit, judgement_of, known_already, made_by, on_add_cue, on_add_device}
-use Rattle.cue_core.specs.Judge.{on_new_cue, refused_with}
+use Rattle.cue_core.specs.Judge.{on_new_cue}
+use Rattle.cue_core.specs.Judge.{refused_with}
 use Rattle.cue_core.specs.State.{ShowState, with_show}
 use Rattle.cue_core.specs.Steps.{after_events}
 use Rattle.cue_operator.specs.declared.method.CueVerb.TheVariants as on_cue

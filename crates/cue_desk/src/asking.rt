@@ -1,4 +1,4 @@
-//! What the desk asks of the controller: each as exactly one message of the protocol.
+//! What the desk asks of the controller: each as exactly one message of the protocol, by itself or with others.
 ghost use Rattle.std.specs.Prelude.{◌≡◌, ◌++◌, ◌∷◌, [], IsTrue, Ok, IfOk, OnOk, map, codes};
 ghost use Rattle.std.specs.Fmt.{decimal};
 ghost use Rattle.cue_osc.specs.Argument.{arg_view, text};
@@ -10,6 +10,9 @@ ghost use Rattle.cue_desk.specs.Asks.{AsksFor, arguments_of, ask_fault, command_
 ghost use Rattle.cue_desk.specs.Asks.{is_askable, method_of};
 ghost use Rattle.cue_desk.specs.Loading.{message_of};
 
+mod bundling;
+
+pub use bundling::{bundle, count_that_fits};
 use cue_operator::CueVerb;
 use cue_osc::{Arg, Args, Message, Packet, WriteFault};
 use cue_show::{CueNo, DeviceNo, Part, Parts};

@@ -5,6 +5,9 @@ use Rattle.cue_page.specs.declared.answering.Kind.{Kind}
 use Rattle.cue_page.specs.declared.answering.Kind.TheVariants as kind
 use Rattle.cue_page.specs.declared.answering.Outcome.{Outcome}
 use Rattle.cue_page.specs.declared.answering.Outcome.TheVariants as outcome
+use Rattle.cue_page.specs.declared.replying.Told.{Told}
+use Rattle.cue_page.specs.declared.replying.Told.TheVariants as told
+use Rattle.cue_page.specs.declared.request.Refusal.{Refusal}
 use Rattle.cue_page.specs.declared.request.Refusal.TheVariants as refusal
 
 -- the status and its reason, as RFC 9110 has them
@@ -18,6 +21,24 @@ status_of (outcome.Refused refusal.Late) = codes "408 Request Timeout"
 status_of (outcome.Refused refusal.LongBody) = codes "413 Content Too Large"
 status_of (outcome.Refused refusal.LongHead) = codes "431 Request Header Fields Too Large"
 status_of outcome.Unavailable = codes "503 Service Unavailable"
+
+-- why a request is refused
+abbrev pub refusal_words : Refusal → List ℕ
+refusal_words refusal.Unreadable = codes "this is no request that the page reads"
+refusal_words refusal.Foreign = codes "only the page itself may ask, on this machine"
+refusal_words refusal.Unknown = codes "there is nothing here"
+refusal_words refusal.Method = codes "this cannot be asked so"
+refusal_words refusal.Late = codes "the request did not come whole within a second"
+refusal_words refusal.LongBody = codes "the body is longer than 256 bytes"
+refusal_words refusal.LongHead = codes "the head is longer than 8192 bytes"
+
+-- what became of a press, as one word: refused also where it was none
+abbrev pub outcome_word : Told → List ℕ
+outcome_word told.Made = codes "made"
+outcome_word told.Known = codes "known"
+outcome_word (told.Refused code) = codes "refused"
+outcome_word told.Silent = codes "silent"
+outcome_word told.Unread = codes "refused"
 
 -- the type of a body
 abbrev pub type_of : Kind → List ℕ

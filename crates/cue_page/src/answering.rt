@@ -1,6 +1,6 @@
 //! Answers: a status, the fields that each carries, and a body.
 ghost use Rattle.std.specs.Prelude.{◌≡◌, IfOk, string_bytes};
-ghost use Rattle.cue_page.specs.Answers.{answer_of, status_of, type_of};
+ghost use Rattle.cue_page.specs.Answers.{answer_of, refusal_words, status_of, type_of};
 
 use crate::request::Refusal;
 use std::alloc::{AllocError, Global};
@@ -48,7 +48,9 @@ pub fn status_of(outcome: Outcome) -> &'static str
 }
 
 /// Why a request is refused, in words.
-pub fn refusal_words(refusal: Refusal) -> &'static str {
+pub fn refusal_words(refusal: Refusal) -> &'static str
+    ensures { result.now ≡ refusal_words refusal }
+{
     match refusal {
         Refusal::Unreadable => "this is no request that the page reads",
         Refusal::Foreign => "only the page itself may ask, on this machine",

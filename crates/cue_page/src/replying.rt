@@ -1,4 +1,7 @@
 //! What the page is told of a press: what became of it, in words.
+ghost use Rattle.std.specs.Prelude.{◌≡◌};
+ghost use Rattle.cue_page.specs.Answers.{outcome_word};
+
 use cue_words::code_words;
 use serde_json::json;
 use std::alloc::{AllocError, Global};
@@ -19,12 +22,15 @@ pub enum Told {
 }
 
 // What became of it, as one word.
-fn outcome_word(told: Told) -> &'static str {
+fn outcome_word(told: Told) -> &'static str
+    ensures { result.now ≡ outcome_word told }
+{
     match told {
         Told::Made => "made",
         Told::Known => "known",
-        Told::Refused(_) | Told::Unread => "refused",
+        Told::Refused(_) => "refused",
         Told::Silent => "silent",
+        Told::Unread => "refused",
     }
 }
 

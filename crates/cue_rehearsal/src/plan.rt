@@ -45,6 +45,11 @@ pub enum PlanFault {
 }
 
 impl From<AllocError> for PlanFault {
+    ghost use Rattle.std.specs.Prelude.{◌≡◌};
+    ghost use Rattle.cue_rehearsal.specs.declared.plan.PlanFault.TheVariants.{Memory};
+
+    ghost from_gives = { λ _ fault. fault ≡ Memory };
+
     fn from(_: AllocError) -> PlanFault {
         PlanFault::Memory
     }
@@ -210,7 +215,8 @@ fn plan_in(alloc: Global, table: &Table) -> Result<Plan, PlanFault> {
     })
 }
 
-/// The plan of a show file, of which this is all that TOML reads: that of its table `[rehearse]`, and the usual one where
+/// The plan of a show file, of which this is all that TOML reads: that of its table `[rehearse]`, and the usual one
+/// where
 /// it has none.
 pub fn read_plan(alloc: Global, file: &Table) -> Result<Plan, PlanFault> {
     match file.get("rehearse") {

@@ -1,4 +1,5 @@
 pub mod Endings
+pub mod Lines
 pub mod Readings
 pub mod Replies
 pub mod Sockets

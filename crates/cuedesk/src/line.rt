@@ -1,4 +1,7 @@
 //! The command line, read over `clap`.
+ghost use Rattle.clap.specs.Words.{kind_of};
+ghost use Rattle.cuedesk.specs.Lines.{IsFaultOf};
+
 pub mod rehearsing;
 pub mod web;
 pub mod words;
@@ -337,7 +340,9 @@ fn line_in(alloc: Global, name: &str, found: &ArgMatches<'_>) -> Result<Line, Li
 }
 
 // Why there is no match: the text of the help and of the version is clap's.
-fn fault_of(alloc: Global, error: &Error) -> LineFault {
+fn fault_of(alloc: Global, error: &Error) -> LineFault
+    ensures { IsFaultOf (kind_of error.now) result }
+{
     match error.kind() {
         ErrorKind::DisplayHelp | ErrorKind::DisplayVersion => match error.to_string(alloc) {
             Ok(text) => LineFault::Help(text),

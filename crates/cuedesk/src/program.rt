@@ -1,4 +1,8 @@
 //! The program: what each command does, prints and answers.
+ghost use Rattle.std.specs.Prelude.{◌≡◌, ◌↔◌};
+ghost use Rattle.cuedesk.specs.Lines.{IsHelp};
+ghost use Rattle.cuedesk.specs.declared.line.words.LineFault.TheVariants.{Memory, Usage};
+
 mod answered;
 mod board;
 mod ending;
@@ -31,7 +35,11 @@ use web::serve_page;
 const PORT: u16 = 9100;
 
 // The exit status where there is no command, or where help was asked for.
-fn refused_line<R: Eprint, W: Write>(rt: &R, fault: LineFault, writer: &mut W) -> u8 {
+fn refused_line<R: Eprint, W: Write>(rt: &R, fault: LineFault, writer: &mut W) -> u8
+    ensures help { result ≡ 0 → IsHelp fault }
+    ensures usage { (result ≡ 2) ↔ (fault ≡ Usage) }
+    ensures memory { fault ≡ Memory → result ≡ 3 }
+{
     match fault {
         LineFault::Help(text) => match print(writer, text.as_str()) {
             Ok(()) => 0,

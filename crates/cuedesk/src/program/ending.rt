@@ -30,6 +30,10 @@ impl Ending {
 }
 
 impl From<AllocError> for Ending {
+    ghost use Rattle.cuedesk.specs.declared.program.ending.Ending.TheVariants.{Failed};
+
+    ghost from_gives = { λ _ ending. ending ≡ Failed };
+
     fn from(_: AllocError) -> Ending {
         Ending::Failed
     }

@@ -1,7 +1,7 @@
 //! The commands of an evening: one message each.
-use super::answered::Answered;
+use super::answered::{Answered, ending_of};
 use super::ending::{Ending, print, say};
-use super::wire::{Heard, Sendings, Wire};
+use super::wire::{Sendings, Wire, reply_in};
 use crate::line::words::Order;
 use cue_desk::asking::Asked;
 use cue_desk::replying::{Replied, Status};
@@ -48,15 +48,16 @@ fn tell_reply<R: Eprint, W: Write>(
     writer: &mut W,
 ) -> Result<(), Ending> {
     match answered {
-        Answered::Made => print(writer, "made\n"),
-        Answered::Known => print(writer, "known: it was so already\n"),
-        Answered::Refused(code) => {
-            say(
-                rt,
-                format_args!("refused, code {code}: {}", code_words(code)),
-            );
-            Err(Ending::Refused)
-        }
+        Answered::Made => print(writer, "made\n")?,
+        Answered::Known => print(writer, "known: it was so already\n")?,
+        Answered::Refused(code) => say(
+            rt,
+            format_args!("refused, code {code}: {}", code_words(code)),
+        ),
+    }
+    match ending_of(answered) {
+        None => Ok(()),
+        Some(ending) => Err(ending),
     }
 }
 
@@ -80,9 +81,9 @@ pub fn carry_order<R: Net + Eprint + AllocGlobal, W: Write>(
     writer: &mut W,
 ) -> Result<(), Ending> {
     let wire = Wire::new(rt, port)?;
-    match wire.ask(rt.alloc(), &asked_by(order), Sendings::One)? {
-        Heard::Replied(replied) => tell(rt, replied, writer),
-        Heard::Silence | Heard::Noise => {
+    match reply_in(wire.ask(rt.alloc(), &asked_by(order), Sendings::One)?) {
+        Some(replied) => tell(rt, replied, writer),
+        None => {
             say(
                 rt,
                 "not acknowledged: it was carried out whole, or not at all",

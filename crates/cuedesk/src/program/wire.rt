@@ -1,7 +1,10 @@
-//! The socket of the desk: one message, and what the controller replies to it.
-use super::answered::Answered;
+//! The socket of the desk: one datagram, and what the controller replies to each of its messages.
+ghost use Rattle.std.specs.Prelude.{◌≡◌};
+ghost use Rattle.cuedesk.specs.Replies.{reply_in, unheard};
+
+use super::answered::{Answered, push};
 use super::ending::{Ending, say};
-use cue_desk::asking::{Asked, address, datagram};
+use cue_desk::asking::{Asked, address, bundle, datagram};
 use cue_desk::replying::{Replied, read_reply};
 use std::alloc::{AllocError, Global};
 use std::io::{Eprint, ErrorKind};
@@ -52,12 +55,27 @@ fn said(alloc: Global, asked: &[u8], datagram: &[u8]) -> Result<Heard, Ending> {
     }
 }
 
-// What it means that no datagram was heard.
-fn unheard(kind: ErrorKind) -> Result<Heard, Ending> {
+/// What it means that no datagram was heard; none where the socket failed.
+pub fn unheard(kind: ErrorKind) -> Option<Heard>
+    ensures { result ≡ unheard kind }
+{
     match kind {
-        ErrorKind::WouldBlock | ErrorKind::TimedOut => Ok(Heard::Silence),
-        ErrorKind::ConnectionRefused | ErrorKind::Interrupted => Ok(Heard::Noise),
-        _ => Err(Ending::Failed),
+        ErrorKind::WouldBlock => Some(Heard::Silence),
+        ErrorKind::TimedOut => Some(Heard::Silence),
+        ErrorKind::ConnectionRefused => Some(Heard::Noise),
+        ErrorKind::Interrupted => Some(Heard::Noise),
+        _ => None,
+    }
+}
+
+/// What the controller replied; none where it did not.
+pub fn reply_in(heard: Heard) -> Option<Replied>
+    ensures { result ≡ reply_in heard }
+{
+    match heard {
+        Heard::Replied(replied) => Some(replied),
+        Heard::Silence => None,
+        Heard::Noise => None,
     }
 }
 
@@ -97,7 +115,7 @@ impl Wire {
                     Ok(Heard::Noise)
                 }
             }
-            Err(error) => unheard(error.kind()),
+            Err(error) => unheard(error.kind()).ok_or(Ending::Failed),
         }
     }
 
@@ -129,11 +147,43 @@ impl Wire {
 
     /// Asks a command, once: what became of it; none where nobody replied.
     pub fn ask_once(&self, alloc: Global, asked: &Asked<'_>) -> Result<Option<Answered>, Ending> {
-        match self.ask(alloc, asked, Sendings::One) {
-            Ok(Heard::Replied(replied)) => Ok(Some(Answered::of(replied))),
-            Ok(Heard::Silence | Heard::Noise) => Ok(None),
-            Err(ending) => Err(ending),
+        let heard = self.ask(alloc, asked, Sendings::One)?;
+        Ok(reply_in(heard).map(Answered::of))
+    }
+
+    /// Asks some commands by one datagram, once: what became of each, in order; none where one of the replies did not
+    /// come, or no datagram asks for these.
+    pub fn ask_together(
+        &self,
+        alloc: Global,
+        asked: &[Asked<'_>],
+    ) -> Result<Option<Vec<Answered>>, Ending> {
+        match bundle(alloc, asked) {
+            Ok(datagram) => {
+                self.send(&datagram);
+                self.hear_each(alloc, asked)
+            }
+            Err(_) => Ok(None),
         }
+    }
+
+    // Hears the reply to each of these, in order; none where one did not come.
+    fn hear_each(
+        &self,
+        alloc: Global,
+        asked: &[Asked<'_>],
+    ) -> Result<Option<Vec<Answered>>, Ending> {
+        let silences = Sendings::OfSome.silences();
+        let mut answers = Vec::new(alloc);
+        for one in asked {
+            let whole = address(alloc, one)?;
+            let shown = &whole[..whole.len().min(SHOWN)];
+            match reply_in(self.wait(alloc, shown, false, silences)?) {
+                Some(replied) => push(&mut answers, Answered::of(replied))?,
+                None => return Ok(None),
+            }
+        }
+        Ok(Some(answers))
     }
 
     // Hears until what is wanted came, or none did so many times.

@@ -22,8 +22,8 @@ fn read_cue(
     at: Place,
     table: &Table,
 ) -> Result<(), AllocError>
-    ensures { IfOk result (λ _. if_clean findings.new (Some (cues_of cues.new.items)) ≡ if_clean findings.old
-        (then_one (cues_of cues.old.items) (cue_said (table_view table.now)))) }
+    ensures { IfOk result (λ _. if_clean findings.new (Some (cues_of cues.new.items))
+        ≡ if_clean findings.old (then_one (cues_of cues.old.items) (cue_said (table_view table.now)))) }
 {
     let number = match cue_in(table) {
         Ok(number) => number,
@@ -59,8 +59,8 @@ fn read_value(
     at: Place,
     value: &Value,
 ) -> Result<(), AllocError>
-    ensures { IfOk result (λ _. if_clean findings.new (Some (cues_of cues.new.items)) ≡ if_clean findings.old
-        (then_one (cues_of cues.old.items) (table_said cue_said (view value.now)))) }
+    ensures { IfOk result (λ _. if_clean findings.new (Some (cues_of cues.new.items))
+        ≡ if_clean findings.old (then_one (cues_of cues.old.items) (table_said cue_said (view value.now)))) }
 {
     match value {
         Value::Table(table) => read_cue(alloc, findings, cues, at, table),
@@ -78,8 +78,8 @@ fn read_each(
     lines: &[usize],
     values: &[Value],
 ) -> Result<Vec<CueEntry>, AllocError>
-    ensures { IfOk result (λ cues. if_clean findings.new (Some (cues_of cues.items)) ≡ if_clean findings.old
-        (each_said cue_said (items_view values.now))) }
+    ensures { IfOk result (λ cues. if_clean findings.new (Some (cues_of cues.items))
+        ≡ if_clean findings.old (each_said cue_said (items_view values.now))) }
 {
     let mut cues = Vec::new(alloc);
     for (index, value) in values.iter().enumerate() {
@@ -95,8 +95,8 @@ pub(super) fn read_cues(
     text: &str,
     table: &Table,
 ) -> Result<Vec<CueEntry>, AllocError>
-    ensures { IfOk result (λ cues. if_clean findings.new (Some (cues_of cues.items)) ≡ if_clean findings.old
-        (list_or_none cue_said (get_member (codes "cue") (table_view table.now)))) }
+    ensures { IfOk result (λ cues. if_clean findings.new (Some (cues_of cues.items))
+        ≡ if_clean findings.old (list_or_none cue_said (get_member (codes "cue") (table_view table.now)))) }
 {
     let values = tables_in(findings, table, "cue")?;
     let lines = header_lines(alloc, text, "[[cue]]", values.len())?;

@@ -25,11 +25,11 @@ fn read_device(
     table: &Table,
 ) -> Result<(), AllocError>
     ensures said { IfOk result (λ _. IsTrue (is_clean findings.new)
-        → if_clean findings.old (then_one (devices_of devices.old.items) (device_said (table_view table.now))) ≡ Some
-        (devices_of devices.new.items)) }
+        → if_clean findings.old (then_one (devices_of devices.old.items) (device_said (table_view table.now)))
+        ≡ Some (devices_of devices.new.items)) }
     ensures whole { IfOk result (λ _. get_member (codes "address") (table_view table.now) ≡ None
-        → if_clean findings.new (Some (devices_of devices.new.items)) ≡ if_clean findings.old
-        (then_one (devices_of devices.old.items) (device_said (table_view table.now)))) }
+        → if_clean findings.new (Some (devices_of devices.new.items))
+        ≡ if_clean findings.old (then_one (devices_of devices.old.items) (device_said (table_view table.now)))) }
 {
     let number = match device_in(table, "number", Key::Number) {
         Ok(number) => number,
@@ -76,8 +76,8 @@ fn read_value(
         → if_clean findings.old (then_one (devices_of devices.old.items) (table_said device_said (view value.now)))
         ≡ Some (devices_of devices.new.items)) }
     ensures whole { IfOk result (λ _. IsTrue (is_without_place (view value.now))
-        → if_clean findings.new (Some (devices_of devices.new.items)) ≡ if_clean findings.old
-        (then_one (devices_of devices.old.items) (table_said device_said (view value.now)))) }
+        → if_clean findings.new (Some (devices_of devices.new.items))
+        ≡ if_clean findings.old (then_one (devices_of devices.old.items) (table_said device_said (view value.now)))) }
 {
     match value {
         Value::Table(table) => read_device(alloc, findings, devices, at, table),
@@ -98,8 +98,8 @@ fn read_each(
     ensures said { IfOk result (λ devices. IsTrue (is_clean findings.new)
         → if_clean findings.old (each_said device_said (items_view values.now)) ≡ Some (devices_of devices.items)) }
     ensures whole { IfOk result (λ devices. IsTrue (no_places_in (items_view values.now))
-        → if_clean findings.new (Some (devices_of devices.items)) ≡ if_clean findings.old
-        (each_said device_said (items_view values.now))) }
+        → if_clean findings.new (Some (devices_of devices.items))
+        ≡ if_clean findings.old (each_said device_said (items_view values.now))) }
 {
     let mut devices = Vec::new(alloc);
     for (index, value) in values.iter().enumerate() {
@@ -116,11 +116,11 @@ pub(super) fn read_devices(
     table: &Table,
 ) -> Result<Vec<DeviceEntry>, AllocError>
     ensures said { IfOk result (λ devices. IsTrue (is_clean findings.new)
-        → if_clean findings.old (list_or_none device_said (get_member (codes "device") (table_view table.now))) ≡ Some
-        (devices_of devices.items)) }
+        → if_clean findings.old (list_or_none device_said (get_member (codes "device") (table_view table.now)))
+        ≡ Some (devices_of devices.items)) }
     ensures whole { IfOk result (λ devices. IsTrue (no_places_at (get_member (codes "device") (table_view table.now)))
-        → if_clean findings.new (Some (devices_of devices.items)) ≡ if_clean findings.old
-        (list_or_none device_said (get_member (codes "device") (table_view table.now)))) }
+        → if_clean findings.new (Some (devices_of devices.items))
+        ≡ if_clean findings.old (list_or_none device_said (get_member (codes "device") (table_view table.now)))) }
 {
     let values = tables_in(findings, table, "device")?;
     let lines = header_lines(alloc, text, "[[device]]", values.len())?;

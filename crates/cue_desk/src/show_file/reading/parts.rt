@@ -78,8 +78,8 @@ fn read_part(
     parts: &mut Parts,
     value: &Value,
 ) -> Result<(), AllocError>
-    ensures { IfOk result (λ _. if_clean findings.new (Some parts.new) ≡ if_clean findings.old
-        (then_one parts.old (table_said part_said (view value.now)))) }
+    ensures { IfOk result (λ _. if_clean findings.new (Some parts.new)
+        ≡ if_clean findings.old (then_one parts.old (table_said part_said (view value.now)))) }
 {
     let Value::Table(table) = value else {
         return findings.note(Mistake::Wanted(Key::Parts));
@@ -98,8 +98,8 @@ fn read_part(
 
 // The part that each value is.
 fn read_each(alloc: Global, findings: &mut Findings, values: &[Value]) -> Result<Parts, AllocError>
-    ensures { IfOk result (λ parts. if_clean findings.new (Some parts) ≡ if_clean findings.old
-        (each_said part_said (items_view values.now))) }
+    ensures { IfOk result (λ parts. if_clean findings.new (Some parts)
+        ≡ if_clean findings.old (each_said part_said (items_view values.now))) }
 {
     let mut parts = Parts::new(alloc);
     for value in values {
@@ -114,8 +114,8 @@ pub(super) fn read_parts(
     findings: &mut Findings,
     table: &Table,
 ) -> Result<Parts, AllocError>
-    ensures { IfOk result (λ parts. if_clean findings.new (Some parts) ≡ if_clean findings.old
-        (list_said part_said (get_member (codes "parts") (table_view table.now)))) }
+    ensures { IfOk result (λ parts. if_clean findings.new (Some parts)
+        ≡ if_clean findings.old (list_said part_said (get_member (codes "parts") (table_view table.now)))) }
 {
     match value_at(table, "parts") {
         Some(Value::Array(values)) => read_each(alloc, findings, values),

@@ -33,8 +33,8 @@ pub(super) fn tables_in<'a>(
     table: &'a Table,
     name: &str,
 ) -> Result<&'a [Value], AllocError>
-    ensures { IfOk result (λ values. if_clean findings.new (Some (items_view values.now)) ≡ if_clean findings.old
-        (tables_at (get_member name.now (table_view table.now)))) }
+    ensures { IfOk result (λ values. if_clean findings.new (Some (items_view values.now))
+        ≡ if_clean findings.old (tables_at (get_member name.now (table_view table.now)))) }
 {
     match value_at(table, name) {
         None => Ok(&[]),

@@ -1,7 +1,7 @@
-//! One thing asked while a show file is loaded: again where no reply came, with words where it is refused.
-use super::super::answered::Answered;
+//! What is asked while a show file is loaded: again where no reply came, with words where it is refused.
+use super::super::answered::{Answered, push};
 use super::super::ending::{Ending, say};
-use super::super::wire::{Heard, Sendings, Wire};
+use super::super::wire::{Sendings, Wire, reply_in};
 use cue_desk::asking::Asked;
 use cue_desk::replying::{Replied, Status};
 use cue_desk::show_file::Subject;
@@ -11,6 +11,17 @@ use std::net::Net;
 
 /// How many times a message is sent at most.
 const SENDINGS: u32 = 4;
+
+/// What is asked about.
+pub fn subject_of(asked: &Asked<'_>) -> Subject {
+    match asked {
+        Asked::Status => Subject::File,
+        Asked::AddDevice(device, _) | Asked::Release(device) | Asked::RemoveDevice(device) => {
+            Subject::Device(*device)
+        }
+        Asked::AddCue(cue, _) | Asked::OfCue(_, cue) => Subject::Cue(*cue),
+    }
+}
 
 /// Asks one thing after the other.
 #[derive(Drop)]
@@ -31,10 +42,11 @@ impl<'a, R: Net + Eprint + AllocGlobal> Asker<'a, R> {
     // late reply to an earlier one is not taken for the reply to another message.
     fn hear(&mut self, asked: &Asked<'_>) -> Result<Option<Replied>, Ending> {
         for _ in 0..SENDINGS {
-            match self.wire.ask(self.rt.alloc(), asked, Sendings::OfSome)? {
-                Heard::Replied(replied) => return Ok(Some(replied)),
-                Heard::Silence | Heard::Noise => self.wire = Wire::new(self.rt, self.port)?,
+            let heard = self.wire.ask(self.rt.alloc(), asked, Sendings::OfSome)?;
+            if let Some(replied) = reply_in(heard) {
+                return Ok(Some(replied));
             }
+            self.wire = Wire::new(self.rt, self.port)?;
         }
         Ok(None)
     }
@@ -55,6 +67,26 @@ impl<'a, R: Net + Eprint + AllocGlobal> Asker<'a, R> {
         }
     }
 
+    /// Asks these by one datagram, and each by itself where a reply to that did not come: what became of each.
+    pub fn ask_together(&mut self, asked: &[Asked<'_>]) -> Result<Vec<Answered>, Ending> {
+        match self.wire.ask_together(self.rt.alloc(), asked)? {
+            Some(answers) => Ok(answers),
+            None => {
+                self.wire = Wire::new(self.rt, self.port)?;
+                self.ask_each(asked)
+            }
+        }
+    }
+
+    // Asks one after the other.
+    fn ask_each(&mut self, asked: &[Asked<'_>]) -> Result<Vec<Answered>, Ending> {
+        let mut answers = Vec::new(self.rt.alloc());
+        for one in asked {
+            push(&mut answers, self.ask(subject_of(one), one)?)?;
+        }
+        Ok(answers)
+    }
+
     /// Asks how the show stands.
     pub fn status(&mut self) -> Result<Status, Ending> {
         match self.hear(&Asked::Status)? {
@@ -64,6 +96,11 @@ impl<'a, R: Net + Eprint + AllocGlobal> Asker<'a, R> {
                 Err(Ending::Silent)
             }
         }
+    }
+
+    /// Says something.
+    pub fn say(&self, what: &str) {
+        say(self.rt, what);
     }
 
     /// Says that something was refused.

@@ -1,4 +1,8 @@
 //! What became of the devices, or of the cues, of a show file.
+ghost use Rattle.std.specs.Prelude.{◌≡◌};
+ghost use Rattle.cuedesk.specs.Replies.{became_of, replaced};
+
+use super::super::answered::Answered;
 use std::alloc::{AllocError, Global};
 
 /// What became of a device or of a cue.
@@ -10,6 +14,27 @@ pub enum Became {
     Replaced,
     /// With this code.
     Refused(i32),
+}
+
+/// What became of one that was to be added.
+pub fn became_of(answered: Answered) -> Became
+    ensures { result ≡ became_of answered }
+{
+    match answered {
+        Answered::Made => Became::New,
+        Answered::Known => Became::Known,
+        Answered::Refused(code) => Became::Refused(code),
+    }
+}
+
+/// What became of one that was added after it had been removed.
+pub fn replaced(became: Became) -> Became
+    ensures { result ≡ replaced became }
+{
+    match became {
+        Became::New => Became::Replaced,
+        other => other,
+    }
 }
 
 /// How many became what.

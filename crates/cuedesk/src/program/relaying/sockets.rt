@@ -1,8 +1,10 @@
 //! The sockets of the relay: two for each route, all waited at in one loop.
-ghost use Rattle.std.specs.Prelude.{None, IfOk, length};
+ghost use Rattle.std.specs.Prelude.{◌≡◌, None, IfOk, length};
+ghost use Rattle.cuedesk.specs.declared.program.relaying.sockets.Try.TheVariants.{Passes};
 ghost use Rattle.cuedesk.specs.Sockets.{IsTryWithin};
 
 use super::super::ending::{Ending, say};
+use super::super::wire::{Heard, unheard};
 use super::ready::Ready;
 use cue_relay::{Address, Opening, Route, Side, Source, SourceFault, Turn, Way, Wire, WireFault};
 use mio::net::UdpSocket;
@@ -200,15 +202,21 @@ impl<'a, C: Clock> NetSource<'a, C> {
                     None => Ok(Try::Passes),
                 }
             }
-            Err(error) => match error.kind() {
-                ErrorKind::WouldBlock => Ok(Try::Passes),
-                ErrorKind::Interrupted | ErrorKind::ConnectionRefused => {
-                    self.ready.add(place)?;
-                    Ok(Try::Passes)
-                }
-                _ => Err(error),
-            },
+            Err(error) => self.passes(place, error),
         }
+    }
+
+    // What it means that the socket of this place gave no datagram. Where another call may, it stays in turn.
+    fn passes(&mut self, place: usize, error: io::Error) -> io::Result<Try>
+        ensures { IfOk result (λ brought. brought ≡ Passes) }
+    {
+        let Some(heard) = unheard(error.kind()) else {
+            return Err(error);
+        };
+        if heard == Heard::Noise {
+            self.ready.add(place)?;
+        }
+        Ok(Try::Passes)
     }
 
     // One try: a tick that is due, or the next datagram of a socket in its turn.

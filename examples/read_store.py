@@ -26,7 +26,8 @@ class Reader:
 
     def parts(self, flagged):
         """For each part its device, whether it is optional, and its bytes."""
-        return [(self.number(1), flagged and self.number(1) == 1, self.take(self.number(1))) for _ in range(self.number(1))]
+        count = self.number(1)
+        return [(self.number(1), flagged and self.number(1) == 1, self.take(self.number(1))) for _ in range(count)]
 
 
 def area(data):

@@ -23,7 +23,7 @@ def free_tcp():
 
 
 class Evening:
-    """A served store with the show of a file, its devices rehearsed, and its page; `relay`: the file that a relay writes."""
+    """A served store with the show of a file, its devices rehearsed, and its page. `relay` is the file of a relay."""
 
     def __init__(self, desk, cuectl, folder, text, relay=None):
         self.desk, self.cuectl, self.folder = desk, cuectl, folder / "show"
@@ -153,7 +153,7 @@ def full_text():
 
 
 def write_status(path, devices, now=None):
-    """What a relay tells of these devices: for each the seconds since it was heard, or none, and whether it is silent."""
+    """What a relay says of these devices: for each the seconds since it was heard, or none, and whether it is silent."""
     now = time.time_ns() // 10**6 if now is None else now
     lines = [f"relay 1 {now}", "passed 7 lost 0 dropped 2"]
     for number, (ago, silent) in devices.items():

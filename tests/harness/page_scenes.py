@@ -94,7 +94,8 @@ def keys(page, evening):
     live = evening.board()["live"]
     page.key(" ")
     time.sleep(0.7)
-    check("GO where nothing is ready sends nothing", evening.board()["live"] == live and evening.serve.child.poll() is None)
+    check("GO where nothing is ready sends nothing",
+          evening.board()["live"] == live and evening.serve.child.poll() is None)
 
 
 def fails(page, evening, pictures):
@@ -136,7 +137,8 @@ def second_tab(page, evening):
     page.click("standby")
     check("GO lights there", page.waits_for(lambda: page.find("go").is_enabled()))
     page.driver.switch_to.window(first)
-    check("and in the first one", page.waits_for(lambda: page.find("go").is_enabled() and "cue 8" in page.text("go-cue")))
+    check("and in the first one",
+          page.waits_for(lambda: page.find("go").is_enabled() and "cue 8" in page.text("go-cue")))
     page.click("go")
     check("GO by the first one is given", page.shows("last", "complete"))
     page.driver.switch_to.window(page.driver.window_handles[-1])
@@ -217,8 +219,10 @@ def is_readable(page, evening):
                      " && document.documentElement.lang === 'en' && document.title !== ''")
     check("there are landmarks, headings, a language and a title", found)
     roles = page.run("return [document.querySelector('#words').getAttribute('role'), document.querySelector('#spoken')"
-                     ".getAttribute('aria-live'), document.querySelector('[role=progressbar]').getAttribute('aria-label')]")
-    check("refusals, stages and seconds are told to a screen reader", roles == ["alert", "polite", "Seconds left for cue 5"])
+                     ".getAttribute('aria-live'), "
+                     "document.querySelector('[role=progressbar]').getAttribute('aria-label')]")
+    check("refusals, stages and seconds are told to a screen reader",
+          roles == ["alert", "polite", "Seconds left for cue 5"])
     least = page.run(CONTRAST)
     print(f"     the least contrast is {least[0]:.1f} to 1 ({least[1]})")
     check("contrast is at least 7 to 1", least[0] >= 7)
@@ -248,7 +252,8 @@ def terminal_picture(page, text, path):
     """What the board prints, as a terminal shows it."""
     style = "background:#0b0d10;color:#eceff2;font:16px/1.3 'DejaVu Sans Mono',monospace;padding:14px;margin:0"
     page.driver.set_window_size(860, 560)
-    page.open("data:text/html;charset=utf-8," + quote(f"<body style='margin:0'><pre style=\"{style}\">{html.escape(text)}</pre>"))
+    body = f"<body style='margin:0'><pre style=\"{style}\">{html.escape(text)}</pre>"
+    page.open("data:text/html;charset=utf-8," + quote(body))
     page.picture(path)
 
 

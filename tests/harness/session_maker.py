@@ -11,9 +11,12 @@ CUES = ["1", "2", "1.1", "1.2", "21", "01", "10.4.7", "1234567890123456"]
 LONG_CUES = [f"{n}.34567890123456" for n in range(1, 9)]  # of 16 bytes: the batch text of many of them is too long
 COUNTS = [254, 255, 256, 257, 606, 607, 910, 911, 1023, 1024]  # of cues in a large show
 DEVICES = [0, 1, 2, 3, 4, 7, 11, 110, 111]
-PATTERNS = ["/cue/*/{verb}", "/cue/{cue}/*", "/*/*/{verb}", "/cue/[0-9]/{verb}", "/cue/1*/{verb}", "/cue/?/{{go,cancel}}",
-            "/device/*/{dverb}", "/device/{device}/*", "/device/[!0-2]/{dverb}", "/{{cue,device}}/*/{{remove,go}}", "/*", "/show/*",
-            "/show/c?e", "/status", "//status", "/status/", "/cue/[/go", "/cue/{{a*}}/go", "/cue/[]/go", "/cue/0{cue}/go",
+PATTERNS = ["/cue/*/{verb}", "/cue/{cue}/*", "/*/*/{verb}", "/cue/[0-9]/{verb}", "/cue/1*/{verb}",
+            "/cue/?/{{go,cancel}}",
+            "/device/*/{dverb}", "/device/{device}/*", "/device/[!0-2]/{dverb}", "/{{cue,device}}/*/{{remove,go}}",
+            "/*", "/show/*",
+            "/show/c?e", "/status", "//status", "/status/", "/cue/[/go", "/cue/{{a*}}/go", "/cue/[]/go",
+            "/cue/0{cue}/go",
             "/device/0{device}/release", "/**/*/*", "/cue/{cue}/{{stand,go}}*", "/c*e/{cue}/s*y", "/show/{{cue,mixed}}",
             "/show/[!d]*"]
 VERBS = ["standby", "go", "cancel", "goto", "remove"]
@@ -149,7 +152,8 @@ class Session:
         if kind == "again":
             return self.cue_again()
         if kind == "reply":
-            number = self.state.last + r.choice([0, 0, 0, -1, -2, 1]) if r.random() < 0.9 else r.choice([0, -1, 2**31 - 1])
+            number = (self.state.last + r.choice([0, 0, 0, -1, -2, 1]) if r.random() < 0.9
+                      else r.choice([0, -1, 2**31 - 1]))
             answer = self.fitting_answer()
             if answer and r.random() < 0.5:
                 return answer
@@ -157,21 +161,26 @@ class Session:
         if kind in ("standby", "goto"):
             return model.message(f"/cue/{cue}/{kind}")
         if kind == "verb":
-            return model.message(f"/cue/{cue}/{r.choice(VERBS[1:] if self.kind == 'usual' or r.random() < 0.2 else VERBS[1:4])}")
+            verbs = VERBS[1:] if self.kind == "usual" or r.random() < 0.2 else VERBS[1:4]
+            return model.message(f"/cue/{cue}/{r.choice(verbs)}")
         if kind == "status":
             return r.choice([b"/status\0", model.message("/status"), model.message("/status", 1)])
         if kind == "release":
             return model.message(f"/device/{device}/{r.choice(['release', 'release', 'remove'])}")
         if kind == "pattern":
             return self.pattern_message(cue, device)
-        return r.choice([model.padded(b"/x\0") + b",f\0\0\x3f\x80\0\0", model.message("/cue/1/go", 1), model.message("/show/cue", b"1", 3),
-                         model.message("/show/device", 3), model.padded(b"/status\0") + b"abcd", model.message("/" + "a" * 70),
-                         model.message("/show/mixed", b"1", 3, model.Blob(b"")), model.message("/show/mixed", b"1", 3, 0),
+        return r.choice([model.padded(b"/x\0") + b",f\0\0\x3f\x80\0\0", model.message("/cue/1/go", 1),
+                         model.message("/show/cue", b"1", 3),
+                         model.message("/show/device", 3), model.padded(b"/status\0") + b"abcd",
+                         model.message("/" + "a" * 70),
+                         model.message("/show/mixed", b"1", 3, model.Blob(b"")),
+                         model.message("/show/mixed", b"1", 3, 0),
                          model.message("/show/mixed", b"1"), model.message("/show/mixed")])
 
     def pattern_message(self, cue, device):
         r = self.r
-        address = r.choice(PATTERNS).format(verb=r.choice(VERBS), cue=cue, device=device, dverb=r.choice(REPLIES + ["release"]))
+        address = r.choice(PATTERNS).format(verb=r.choice(VERBS), cue=cue, device=device,
+                                            dverb=r.choice(REPLIES + ["release"]))
         if address.startswith("/show") and r.random() < 0.5:
             arguments = r.choice([show_cue(b"1", self.some_parts()), self.mixed_message()])[12:]  # behind their address
             return model.padded(address.encode() + b"\0") + arguments
@@ -180,7 +189,8 @@ class Session:
     def many_gotos(self):
         """So many that they are near one of the limits of a datagram: its commands, or its batch text."""
         r, count = self.r, max(len(self.state.cues), 1)
-        near = r.choice([model.MAX_COMMANDS // count, model.MAX_PAYLOAD // 18 // count, r.randrange(1, 255)]) + r.choice([-1, 0, 0, 1])
+        most = r.choice([model.MAX_COMMANDS // count, model.MAX_PAYLOAD // 18 // count, r.randrange(1, 255)])
+        near = most + r.choice([-1, 0, 0, 1])
         elements = [goto()] * max(1, min(near, 255))
         elements += [goto(r.choice(list(self.state.cues) or self.cues)) for _ in range(r.choice([0, 0, 1, 2, 10]))]
         return bundle(elements[:255])
@@ -199,7 +209,8 @@ class Session:
             data = bundle(elements, r.choice([1, 1, 1, 0, 2208988800 << 32, exactly + r.choice([0, 1, 2**32])]))
         if r.random() < 0.04:
             at = r.randrange(len(data) + 1)
-            data = r.choice([data[:at], data[:at] + bytes([r.randrange(256)]) + data[at + 1:], data + b"\0" * r.choice([1, 4, 4096])])
+            data = r.choice([data[:at], data[:at] + bytes([r.randrange(256)]) + data[at + 1:],
+                             data + b"\0" * r.choice([1, 4, 4096])])
         return data
 
     # ---- the lines

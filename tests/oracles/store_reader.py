@@ -73,7 +73,7 @@ class Text:
 # ---- areas
 
 def area(data):
-    """None where the file has no area; else generation, snapshot, payloads. Damaged where it is none behind an open gate."""
+    """None where the file has no area; else generation, snapshot, payloads. Damaged where its gate is open on none."""
     if len(data) < 2 or data[0] != 1:
         return None
     text = Text(data[:AREA_LIMIT], Damaged)

@@ -4,7 +4,8 @@ A second reading of docs/FORMAT.md for the writing side, beside store_reader.py 
 """
 
 RECORDS = 256  # an area with so many of them is turned over before the next one
-KINDS = ["device", "no_device", "cue", "no_cue", "place", "start", "ready", "go", "done", "cancel", "let_go", "failed", None,
+KINDS = ["device", "no_device", "cue", "no_cue", "place", "start", "ready", "go", "done", "cancel", "let_go", "failed",
+         None,
          "excuse"]
 ANSWERS = ["waiting", "ready", "done", "let_go", "failed", "excused"]
 EMPTY = b"\2" + bytes(14)
@@ -19,9 +20,10 @@ def cue(text):
 
 
 def parts(some, flags=True):
-    """With a flag byte for each part, or as a cue without optional parts has them in a batch and in a version 1 text."""
+    """With a flag byte for each part, or as a cue without optional parts has them in a batch and in version 1."""
     flag = (lambda part: number(part.optional, 1)) if flags else (lambda part: b"")
-    return number(len(some), 1) + b"".join(number(p.device, 1) + flag(p) + number(len(p.data), 1) + p.data for p in some)
+    each = (number(p.device, 1) + flag(p) + number(len(p.data), 1) + p.data for p in some)
+    return number(len(some), 1) + b"".join(each)
 
 
 # ---- batches

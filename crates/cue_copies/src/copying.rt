@@ -26,12 +26,12 @@ ghost use Rattle.cue_copies.specs.Copies.{IsFront, copy_of, fault_in_memory, is_
 use cue_disk::{Disk, MemDisk};
 use cue_engine::Engine;
 use cue_keeper::{Keeper, StoreFault};
-use cue_log::AREA_LIMIT;
+use cue_log::{AREA_LIMIT, HEAD_LEN};
 use std::alloc::{AllocError, Global};
 
 /// How many bytes at the front of a file say which area it has: the head gate, the generation, and the length of the
 /// snapshot. A file with an area is changed without a change there in one way: records are added at its end.
-const HEAD: usize = 13;
+const HEAD: usize = HEAD_LEN as usize;
 
 /// How many times a file is read on at most, because it has grown meanwhile.
 const GROWTHS: u32 = 100;

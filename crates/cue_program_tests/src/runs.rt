@@ -143,6 +143,7 @@ fn answers(alloc: Global) -> Result<Vec<MemAnswer>, AllocError> {
 struct Played {
     ended: Ended,
     looks: usize,
+    events: usize,
     wire: MemWire,
     disks: (MemDisk, MemDisk),
 }
@@ -175,6 +176,7 @@ fn play(
     Played {
         ended,
         looks: count.looks,
+        events: count.events,
         wire,
         disks: engine.close(),
     }
@@ -205,6 +207,7 @@ fn are_same(one: &MemWire, other: &MemWire) -> bool {
 fn expect_same(rt: &impl Abort, one: &Played, other: &Played) {
     assert_eq!(rt; one.ended, other.ended);
     assert_eq!(rt; one.looks, other.looks);
+    assert_eq!(rt; one.events, other.events);
     assert!(rt; are_same(&one.wire, &other.wire), "the wire");
     assert!(rt;
         one.disks.0.bytes() == other.disks.0.bytes(),
@@ -216,12 +219,22 @@ fn expect_same(rt: &impl Abort, one: &Played, other: &Played) {
     );
 }
 
-/// What waits together leaves the same replies, turns and files as one by one, and is looked at as often. The run has 5
-/// turns, so the last group has one of the two that wait.
+/// What waits together leaves the same replies, turns and files as one by one, and is looked at as often, with the same
+/// events. The run has 5 turns, so the last group has one of the two that wait.
 #[test]
 fn a_run_by_groups(rt: HostRuntime) -> Result<(), Fail> {
     let alone = make_played(&rt, rt.alloc(), None);
     assert_eq!(rt; alone.ended.turns, 5);
+    assert_eq!(rt;
+        alone.looks,
+        6,
+        "one look at first, and one after each input"
+    );
+    assert_eq!(rt;
+        alone.events,
+        3,
+        "three devices, one of them asked for twice"
+    );
     for most in [0, 2, 128] {
         expect_same(&rt, &alone, &make_played(&rt, rt.alloc(), Some(most)));
     }

@@ -22,7 +22,7 @@ is_read_again store.Exhausted = false
 is_read_again store.Memory = false
 is_read_again store.Disk = false
 
--- a disk in memory fails for want of memory alone
+-- a disk in memory fails only where memory runs out
 abbrev pub fault_in_memory : StoreFault → StoreFault
 fault_in_memory store.Disk = store.Memory
 fault_in_memory store.NotEmpty = store.NotEmpty

@@ -74,7 +74,7 @@ pub fn is_read_again(fault: StoreFault) -> bool
     }
 }
 
-// What a fault over disks in memory is: these fail for want of memory alone.
+// What a fault over disks in memory is: these fail only where memory runs out.
 fn fault_in_memory(fault: StoreFault) -> StoreFault
     ensures { result ≡ fault_in_memory fault }
 {

@@ -94,7 +94,8 @@ fn a_run_in_memory(rt: HostRuntime) -> Result<(), Fail> {
     }
 }
 
-/// Of a source in memory a datagram is given that is the next answer; a tick, a fault and the end stay for the next turn.
+/// Of a source in memory a datagram is given that is the next answer; a tick, a fault and the end stay for the next
+/// turn.
 #[test]
 fn what_waits_in_memory(rt: HostRuntime) -> Result<(), Fail> {
     let alloc = rt.alloc();
@@ -194,7 +195,7 @@ fn is_same(one: &Sent, other: &Sent) -> bool {
     one.to == other.to && one.bytes == other.bytes && one.refused == other.refused
 }
 
-// Whether both wires tell the same.
+// Whether both wires report the same.
 fn are_same(one: &MemWire, other: &MemWire) -> bool {
     match (one.sent(), other.sent()) {
         (Some(one), Some(other)) => {

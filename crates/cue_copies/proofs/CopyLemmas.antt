@@ -1,11 +1,14 @@
 -- What an answer over disks in memory says of the fault that it was made of.
 use Rattle.std.proofs.Common.{◌≡◌, ◌≤◌, ◌+◌, ◌-◌, ◌++◌, ◌∙◌, ℕ, List, length, take, drop, min, sym, refl, ap, subst}
-use Rattle.std.proofs.Common.{arith}
+use Rattle.std.proofs.Common.{arith, inl, inr}
 use Rattle.std.proofs.lemmas.List.{length-take, take-append-drop, take-take, drop-take, take_min}
 use Rattle.std.specs.Prelude.{Option, Some, None, IfSome, Err, IsErrOf}
 use Rattle.cue_keeper.specs.declared.fault.StoreFault.{StoreFault}
 use Rattle.cue_keeper.specs.declared.fault.StoreFault.TheVariants as store
-use Rattle.cue_copies.specs.Copies.{IsFront, fault_in_memory}
+use Rattle.cue_snap.specs.Pair.{IsSpoiled, NeitherHas}
+use Rattle.cue_keeper.specs.Refusals.{HasOtherVersion, StandsForNone}
+use Rattle.cue_engine.specs.Recovery.{NoGenerationLeft, NoRoomLeft}
+use Rattle.cue_copies.specs.Copies.{CannotBeRecovered, IsFront, IsOfMachine, fault_in_memory}
 use Rattle.cue_copies.specs.declared.copying.Copies.{Copies}
 
 -- two refusals that are the same have the same fault
@@ -84,3 +87,24 @@ pub some_copies : (found : Option Copies) (copies : Copies) (F : Copies → Type
     → IfSome found (λ taken. taken ≡ copies) → F copies → IfSome found F
 some_copies None copies F same holds = tt
 some_copies (Some taken) copies F same holds = subst F (sym same) holds
+
+-- what is answered of a recovery over disks in memory says why the two cannot be recovered
+pub refused_in_memory : (fault : StoreFault) (x y : List ℕ)
+    → (fault ≡ store.NotEmpty → ⊥) → (fault ≡ store.Unformed → NeitherHas x y) → (fault ≡ store.Damaged → IsSpoiled x y)
+    → (fault ≡ store.Version → HasOtherVersion x y) → (fault ≡ store.Malformed → StandsForNone x y)
+    → (fault ≡ store.Full → NoRoomLeft x y) → (fault ≡ store.Exhausted → NoGenerationLeft x y)
+    → CannotBeRecovered (fault_in_memory fault) x y
+refused_in_memory store.NotEmpty x y not_empty unformed damaged version malformed full exhausted = not_empty refl
+refused_in_memory store.Unformed x y not_empty unformed damaged version malformed full exhausted = unformed refl
+refused_in_memory store.Damaged x y not_empty unformed damaged version malformed full exhausted = damaged refl
+refused_in_memory store.Version x y not_empty unformed damaged version malformed full exhausted = version refl
+refused_in_memory store.Malformed x y not_empty unformed damaged version malformed full exhausted = malformed refl
+refused_in_memory store.Full x y not_empty unformed damaged version malformed full exhausted = full refl
+refused_in_memory store.Exhausted x y not_empty unformed damaged version malformed full exhausted = exhausted refl
+refused_in_memory store.Memory x y not_empty unformed damaged version malformed full exhausted = tt
+refused_in_memory store.Disk x y not_empty unformed damaged version malformed full exhausted = tt
+
+-- a fault of the machine says nothing of the two
+pub of_machine : (fault : StoreFault) (x y : List ℕ) → IsOfMachine fault → CannotBeRecovered fault x y
+of_machine fault x y (inl same) = subst (λ (f : StoreFault). CannotBeRecovered f x y) (sym same) tt
+of_machine fault x y (inr same) = subst (λ (f : StoreFault). CannotBeRecovered f x y) (sym same) tt

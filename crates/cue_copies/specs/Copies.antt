@@ -1,7 +1,12 @@
 -- What is read of a store that another process may serve.
-use Rattle.std.specs.Prelude.{◌≡◌, ℕ, Bool, true, false, List, length, take}
+use Rattle.std.specs.Prelude.{◌≡◌, ◌⊎◌, ℕ, Bool, true, false, List, length, take, Option, Some, None}
 use Rattle.cue_disk.specs.Disk.{Contents}
 use Rattle.cue_log.specs.declared.area.TheConstants.{AREA_LIMIT}
+use Rattle.cue_snap.specs.Pair.{IsSpoiled, NeitherHas}
+use Rattle.cue_core.specs.State.{ShowState}
+use Rattle.cue_keeper.specs.Stands.{Stands}
+use Rattle.cue_keeper.specs.Refusals.{HasOtherVersion, StandsForNone}
+use Rattle.cue_engine.specs.Recovery.{NoGenerationLeft, NoRoomLeft}
 use Rattle.cue_keeper.specs.declared.fault.StoreFault.{StoreFault}
 use Rattle.cue_keeper.specs.declared.fault.StoreFault.TheVariants as store
 
@@ -17,7 +22,7 @@ is_read_again store.Exhausted = false
 is_read_again store.Memory = false
 is_read_again store.Disk = false
 
--- a disk in memory fails for want of memory alone
+-- a disk in memory fails only where memory runs out
 abbrev pub fault_in_memory : StoreFault → StoreFault
 fault_in_memory store.Disk = store.Memory
 fault_in_memory store.NotEmpty = store.NotEmpty
@@ -28,6 +33,32 @@ fault_in_memory store.Malformed = store.Malformed
 fault_in_memory store.Full = store.Full
 fault_in_memory store.Exhausted = store.Exhausted
 fault_in_memory store.Memory = store.Memory
+
+-- what a call of a disk, or of memory, fails as
+abbrev pub IsOfMachine : StoreFault → Type 0
+IsOfMachine fault = (fault ≡ store.Disk) ⊎ (fault ≡ store.Memory)
+
+-- The two stand for a state.
+pub record StandForSome (x y : List ℕ) : Type 0 where
+  pub state : ShowState
+  pub stand : Stands x y state
+
+-- why the two cannot be recovered; where memory or a device failed, nothing is said of them
+abbrev pub CannotBeRecovered : StoreFault → List ℕ → List ℕ → Type 0
+CannotBeRecovered store.NotEmpty x y = ⊥
+CannotBeRecovered store.Unformed x y = NeitherHas x y
+CannotBeRecovered store.Damaged x y = IsSpoiled x y
+CannotBeRecovered store.Version x y = HasOtherVersion x y
+CannotBeRecovered store.Malformed x y = StandsForNone x y
+CannotBeRecovered store.Full x y = NoRoomLeft x y
+CannotBeRecovered store.Exhausted x y = NoGenerationLeft x y
+CannotBeRecovered store.Memory x y = Unit {0}
+CannotBeRecovered store.Disk x y = Unit {0}
+
+-- it is said why the two cannot be recovered, or none is said and they stand for a state
+abbrev pub IsRefusalOf : Option StoreFault → List ℕ → List ℕ → Type 0
+IsRefusalOf None x y = StandForSome x y
+IsRefusalOf (Some fault) x y = CannotBeRecovered fault x y
 
 -- a copy of what a disk holds: as much of it as an area may have
 abbrev pub copy_of : Contents → List ℕ

@@ -10,28 +10,36 @@ ghost use Rattle.std.specs.Prelude.{
   drop,
   Some,
   None,
+  IfErr,
   IfOk,
   IfSome,
   OnOk,
   IsErrOf,
 };
 ghost use Rattle.cue_log.specs.declared.area.TheConstants.{AREA_LIMIT};
-ghost use Rattle.cue_disk.specs.Memory.{IsNew};
+ghost use Rattle.cue_disk.specs.Memory.{IsNew, memory_bytes};
 ghost use Rattle.cue_snap.specs.Pair.{IsSpoiled, NeitherHas};
 ghost use Rattle.cue_keeper.specs.Stands.{Stands};
 ghost use Rattle.cue_keeper.specs.Refusals.{HasOtherVersion, StandsForNone};
 ghost use Rattle.cue_keeper.specs.Observed.{state_of};
-ghost use Rattle.cue_copies.specs.Copies.{IsFront, copy_of, fault_in_memory, is_read_again};
+ghost use Rattle.cue_copies.specs.Copies.{
+  IsFront,
+  IsOfMachine,
+  IsRefusalOf,
+  copy_of,
+  fault_in_memory,
+  is_read_again,
+};
 
 use cue_disk::{Disk, MemDisk};
 use cue_engine::Engine;
 use cue_keeper::{Keeper, StoreFault};
-use cue_log::AREA_LIMIT;
+use cue_log::{AREA_LIMIT, HEAD_LEN};
 use std::alloc::{AllocError, Global};
 
 /// How many bytes at the front of a file say which area it has: the head gate, the generation, and the length of the
 /// snapshot. A file with an area is changed without a change there in one way: records are added at its end.
-const HEAD: usize = 13;
+const HEAD: usize = HEAD_LEN as usize;
 
 /// How many times a file is read on at most, because it has grown meanwhile.
 const GROWTHS: u32 = 100;
@@ -66,7 +74,7 @@ pub fn is_read_again(fault: StoreFault) -> bool
     }
 }
 
-// What a fault over disks in memory is: these fail for want of memory alone.
+// What a fault over disks in memory is: these fail only where memory runs out.
 fn fault_in_memory(fault: StoreFault) -> StoreFault
     ensures { result ≡ fault_in_memory fault }
 {
@@ -112,6 +120,7 @@ fn read_on<D: Disk>(disk: &mut D, bytes: &mut Vec<u8>, len: usize) -> Result<(),
     requires longer { length bytes.old.items ≤ len }
     requires within { D.is_honest disk.old → len ≤ length (D.held disk.old).bytes }
     ensures len { OnOk result (length bytes.new.items ≡ len) }
+    ensures fault { IfErr result IsOfMachine }
     ensures read { D.is_honest disk.old → OnOk result (bytes.new.items ≡ bytes.old.items
         ++ take (len - length bytes.old.items) (drop (length bytes.old.items) (D.held disk.old).bytes)) }
     ensures kept { D.is_honest disk.old → D.held disk.new ≡ D.held disk.old }
@@ -128,6 +137,7 @@ fn read_grown<D: Disk>(disk: &mut D, bytes: &mut Vec<u8>) -> Result<bool, StoreF
     requires short { length bytes.old.items ≤ AREA_LIMIT }
     requires front { D.is_honest disk.old → IsFront bytes.old.items (D.held disk.old).bytes }
     ensures short { OnOk result (length bytes.new.items ≤ AREA_LIMIT) }
+    ensures fault { IfErr result IsOfMachine }
     ensures copy { D.is_honest disk.old → OnOk result (bytes.new.items ≡ copy_of (D.held disk.old)) }
     ensures kept { D.is_honest disk.old → D.held disk.new ≡ D.held disk.old }
     ensures honest { D.is_honest disk.new ↔ D.is_honest disk.old }
@@ -147,6 +157,7 @@ fn read_grown<D: Disk>(disk: &mut D, bytes: &mut Vec<u8>) -> Result<bool, StoreF
 // open is then there in whole.
 fn bytes_of<D: Disk>(alloc: Global, disk: &mut D) -> Result<Vec<u8>, StoreFault>
     ensures copy { D.is_honest disk.old → IfOk result (λ bytes. bytes.items ≡ copy_of (D.held disk.old)) }
+    ensures fault { IfErr result IsOfMachine }
     ensures kept { D.is_honest disk.old → D.held disk.new ≡ D.held disk.old }
     ensures honest { D.is_honest disk.new ↔ D.is_honest disk.old }
 {
@@ -162,9 +173,11 @@ fn bytes_of<D: Disk>(alloc: Global, disk: &mut D) -> Result<Vec<u8>, StoreFault>
 
 /// Copies both files as they are read, the first one first. It makes no write and no sync of them.
 pub fn copied<D: Disk>(alloc: Global, first: &mut D, second: &mut D) -> Result<Copies, StoreFault>
-    ensures first { D.is_honest first.old → IfOk result (λ copies. copies.first.items ≡ copy_of (D.held first.old)) }
+    ensures first { D.is_honest first.old → IfOk result
+        (λ copies. copies.first.items ≡ copy_of (D.held first.old)) }
     ensures second { D.is_honest second.old → IfOk result
         (λ copies. copies.second.items ≡ copy_of (D.held second.old)) }
+    ensures fault { IfErr result IsOfMachine }
     ensures first_kept { D.is_honest first.old → D.held first.new ≡ D.held first.old }
     ensures second_kept { D.is_honest second.old → D.held second.new ≡ D.held second.old }
     ensures first_honest { D.is_honest first.new ↔ D.is_honest first.old }
@@ -234,6 +247,19 @@ fn open_bytes(alloc: Global, first: &[u8], second: &[u8]) -> Result<Keeper<MemDi
     }
 }
 
+// Why the store of two disks in memory cannot be recovered; `None` where it can.
+fn recovery_refusal(alloc: Global, first: MemDisk, second: MemDisk) -> Option<StoreFault>
+    ensures { IsRefusalOf result (memory_bytes first) (memory_bytes second) }
+{
+    match Engine::recover(alloc, first, second) {
+        Ok(engine) => {
+            discard(engine);
+            None
+        }
+        Err((fault, _, _)) => Some(fault_in_memory(fault)),
+    }
+}
+
 impl Copies {
     /// Opens a store of them.
     pub fn open(&self, alloc: Global) -> Result<Keeper<MemDisk>, StoreFault>
@@ -243,22 +269,20 @@ impl Copies {
     }
 
     // Why a store of them cannot be recovered; `None` where it can.
-    fn refusal(&self, alloc: Global) -> Option<StoreFault> {
+    fn refusal(&self, alloc: Global) -> Option<StoreFault>
+        ensures { IsRefusalOf result self.now.first.items self.now.second.items }
+    {
         let Ok((first, second)) = disks(alloc, &self.first, &self.second) else {
             return Some(StoreFault::Memory);
         };
-        match Engine::recover(alloc, first, second) {
-            Ok(engine) => {
-                discard(engine);
-                None
-            }
-            Err((fault, _, _)) => Some(fault_in_memory(fault)),
-        }
+        recovery_refusal(alloc, first, second)
     }
 }
 
 /// Why a store of two files cannot be recovered; `None` where it can. It makes no write and no sync of them.
 pub fn refusal_of<D: Disk>(alloc: Global, first: &mut D, second: &mut D) -> Option<StoreFault>
+    ensures answered { D.is_honest first.old → D.is_honest second.old
+        → IsRefusalOf result (copy_of (D.held first.old)) (copy_of (D.held second.old)) }
     ensures first_kept { D.is_honest first.old → D.held first.new ≡ D.held first.old }
     ensures second_kept { D.is_honest second.old → D.held second.new ≡ D.held second.old }
 {

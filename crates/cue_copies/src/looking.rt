@@ -40,7 +40,7 @@ pub fn look<D: Disk>(alloc: Global, first: &mut D, second: &mut D) -> Seen
 }
 
 /// Reads both files until they give a store or a fault that another reading would not mend, `READINGS` times at most.
-/// For who does not ask whether the store is served.
+/// For whoever does not ask whether the store is served.
 pub fn look_again<D: Disk>(alloc: Global, first: &mut D, second: &mut D) -> Seen
     ensures first_kept { D.is_honest first.old → D.held first.new ≡ D.held first.old }
     ensures second_kept { D.is_honest second.old → D.held second.new ≡ D.held second.old }

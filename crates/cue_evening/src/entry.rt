@@ -1,10 +1,13 @@
 //! What the log may say of a datagram that is sent.
+ghost use Rattle.std.specs.Prelude.{◌≡◌};
+ghost use Rattle.cue_evening.specs.Entries.{is_out_of_memory, order_words};
+
 use cue_osc::{Arg, Fault, Message, Packet, read};
 use cue_show::{CueNo, DeviceNo};
 use std::alloc::{AllocError, Global};
-use std::fmt::{self, Write};
+use std::fmt::Write;
 
-/// What a device is told to do.
+/// What a device is sent.
 #[derive(Clone, Copy, Debug, PartialEq, Eq)]
 pub enum Order {
     Standby,
@@ -25,15 +28,16 @@ impl Order {
             None
         }
     }
-}
 
-impl fmt::Display for Order {
-    fn fmt<W: fmt::Write>(&self, f: &mut fmt::Formatter<W>) -> fmt::Result {
-        f.write_str(match self {
+    // The word for the order.
+    fn words(self) -> &'static str
+        ensures { result.now ≡ order_words self }
+    {
+        match self {
             Order::Standby => "STANDBY",
             Order::Go => "GO",
             Order::Cancel => "CANCEL",
-        })
+        }
     }
 }
 
@@ -54,7 +58,8 @@ impl Command {
         cue: Option<CueNo>,
         is_sent: bool,
     ) -> Result<String, AllocError> {
-        let mut text = format!(in alloc; "{} attempt {}", self.order, self.attempt)?;
+        let order = self.order.words();
+        let mut text = format!(in alloc; "{order} attempt {}", self.attempt)?;
         if let Some(cue) = cue {
             write!(text, " cue {}", cue.text().escape_ascii())?;
         }
@@ -84,7 +89,7 @@ pub struct Reply {
 pub enum Entry {
     /// What becomes of a message that was asked.
     Answered(Reply),
-    /// A device is told to do something.
+    /// A device is sent an order.
     Ordered(Command),
 }
 
@@ -134,12 +139,29 @@ fn entry_in(alloc: Global, port: u16, message: &Message<'_>) -> Result<Option<En
     }
 }
 
+// Whether a datagram was not read because memory ran out, and not for its bytes.
+fn is_out_of_memory(fault: Fault) -> bool
+    ensures { result ≡ is_out_of_memory fault }
+{
+    match fault {
+        Fault::Memory => true,
+        Fault::TooLong
+        | Fault::NotMultiple
+        | Fault::BadStart
+        | Fault::BadString
+        | Fault::BadBlob
+        | Fault::BadSize
+        | Fault::TooDeep
+        | Fault::Trailing => false,
+    }
+}
+
 /// What the log may say of a datagram that is sent to a port. None where it says nothing: a status. It fails only where
 /// memory ran out.
 pub fn entry_of(alloc: Global, port: u16, datagram: &[u8]) -> Result<Option<Entry>, AllocError> {
     match read(alloc, datagram) {
         Ok(Packet::Message(message)) => entry_in(alloc, port, &message),
-        Err(Fault::Memory) => Err(AllocError),
+        Err(fault) if is_out_of_memory(fault) => Err(AllocError),
         _ => Ok(None),
     }
 }

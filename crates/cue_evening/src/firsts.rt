@@ -12,7 +12,7 @@ impl Latest {
         Latest([0; MAX_DEVICES])
     }
 
-    // Keeps the attempt, and tells whether it is a new one.
+    // Keeps the attempt; answers whether it is a new one.
     fn is_new(&mut self, device: DeviceNo, attempt: u32) -> bool {
         let place = usize::from(device.number());
         let is_new = attempt > self.0[place];

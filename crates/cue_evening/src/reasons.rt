@@ -1,4 +1,7 @@
 //! The lines of attempts: what was recovered, why a preparation was given up, and how an attempt ended.
+ghost use Rattle.std.specs.Prelude.{◌≡◌};
+ghost use Rattle.cue_evening.specs.AttemptWords.{cause_words, recovered_words};
+
 use crate::course::{Cause, Failure, Followed};
 use cue_core::Event;
 use cue_exchange::{Attempt, Reason, Stage};
@@ -8,7 +11,9 @@ use std::alloc::{AllocError, Global};
 use std::fmt::Write;
 
 // What a recovery found an attempt at, and what becomes of it.
-fn recovered_words(stage: Stage) -> &'static str {
+fn recovered_words(stage: Stage) -> &'static str
+    ensures { result.now ≡ recovered_words stage }
+{
     match stage {
         Stage::Preparing => "is preparing",
         Stage::Decided => "was given, GO is sent again",
@@ -65,7 +70,10 @@ pub fn cancel_line(
     Ok(text)
 }
 
-fn cause_words(cause: Cause) -> &'static str {
+// How a device failed.
+fn cause_words(cause: Cause) -> &'static str
+    ensures { result.now ≡ cause_words cause }
+{
     match cause {
         Cause::Aborted => "aborted",
         Cause::Released => "was released",

@@ -94,7 +94,8 @@ fn a_run_in_memory(rt: HostRuntime) -> Result<(), Fail> {
     }
 }
 
-/// Of a source in memory a datagram is given that is the next answer; a tick, a fault and the end stay for the next turn.
+/// Of a source in memory a datagram is given that is the next answer; a tick, a fault and the end stay for the next
+/// turn.
 #[test]
 fn what_waits_in_memory(rt: HostRuntime) -> Result<(), Fail> {
     let alloc = rt.alloc();
@@ -143,6 +144,7 @@ fn answers(alloc: Global) -> Result<Vec<MemAnswer>, AllocError> {
 struct Played {
     ended: Ended,
     looks: usize,
+    events: usize,
     wire: MemWire,
     disks: (MemDisk, MemDisk),
 }
@@ -175,6 +177,7 @@ fn play(
     Played {
         ended,
         looks: count.looks,
+        events: count.events,
         wire,
         disks: engine.close(),
     }
@@ -192,7 +195,7 @@ fn is_same(one: &Sent, other: &Sent) -> bool {
     one.to == other.to && one.bytes == other.bytes && one.refused == other.refused
 }
 
-// Whether both wires tell the same.
+// Whether both wires report the same.
 fn are_same(one: &MemWire, other: &MemWire) -> bool {
     match (one.sent(), other.sent()) {
         (Some(one), Some(other)) => {
@@ -205,6 +208,7 @@ fn are_same(one: &MemWire, other: &MemWire) -> bool {
 fn expect_same(rt: &impl Abort, one: &Played, other: &Played) {
     assert_eq!(rt; one.ended, other.ended);
     assert_eq!(rt; one.looks, other.looks);
+    assert_eq!(rt; one.events, other.events);
     assert!(rt; are_same(&one.wire, &other.wire), "the wire");
     assert!(rt;
         one.disks.0.bytes() == other.disks.0.bytes(),
@@ -216,12 +220,22 @@ fn expect_same(rt: &impl Abort, one: &Played, other: &Played) {
     );
 }
 
-/// What waits together leaves the same replies, turns and files as one by one, and is looked at as often. The run has 5
-/// turns, so the last group has one of the two that wait.
+/// What waits together leaves the same replies, turns and files as one by one, and is looked at as often, with the same
+/// events. The run has 5 turns, so the last group has one of the two that wait.
 #[test]
 fn a_run_by_groups(rt: HostRuntime) -> Result<(), Fail> {
     let alone = make_played(&rt, rt.alloc(), None);
     assert_eq!(rt; alone.ended.turns, 5);
+    assert_eq!(rt;
+        alone.looks,
+        6,
+        "one look at first, and one after each input"
+    );
+    assert_eq!(rt;
+        alone.events,
+        3,
+        "three devices, one of them asked for twice"
+    );
     for most in [0, 2, 128] {
         expect_same(&rt, &alone, &make_played(&rt, rt.alloc(), Some(most)));
     }

@@ -152,7 +152,7 @@ const AT_SECOND: &str =
     "> 8000 2f7265706c7900002c736969696900002f7374617475730000000000000000010000000000000000\n\
 > 8000 2f737461747573002c697369696900000000000032000000000000000000000000000000\n";
 
-/// 517 records fill two areas and begin a third. Power loss then finds the state behind the last of them.
+/// 517 records fill two areas and begin a third. Power loss then finds the state after the last of them.
 #[test]
 fn new_areas(rt: HostRuntime) -> Result<(), Fail> {
     let alloc = rt.alloc();
@@ -286,7 +286,7 @@ fn expect_unread(rt: &impl Abort, alloc: Global, kind: ErrorKind, line: &[u8]) {
     assert!(rt; written.as_slice() == line);
 }
 
-/// A reader that fails runs no line, and one that lacks memory is told of as such.
+/// A reader that fails runs no line, and one that runs out of memory is reported as such.
 #[test]
 fn failing_readers(rt: HostRuntime) {
     let alloc = rt.alloc();

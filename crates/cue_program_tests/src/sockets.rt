@@ -158,8 +158,8 @@ fn tries(rt: HostRuntime) -> Result<(), Fail> {
     Ok(())
 }
 
-/// What is there at a moment, and the datagram that a look finds then; None where the look is a fault. The source begins
-/// at 1,000.
+/// What is there at a moment, and the datagram that a look finds then; None where the look is a fault. The source
+/// begins at 1,000.
 const LOOKS: [(u64, Comes, Option<Option<Waiting>>); 6] = [
     (
         1_010,

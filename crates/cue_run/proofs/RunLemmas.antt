@@ -132,8 +132,8 @@ run_more size now_size left mid left_then s now_s s_then owed told mid_told told
     }
   where
     sends_are : (t : ℕ × Input)
-        → (owed ++ datagrams (story s h.inputs).sends) ++ datagrams (given_of now_s t.0 t.1).sends
-        ≡ owed ++ datagrams (story s (h.inputs ++ t ∷ [])).sends
+        → (owed ++ datagrams (story s h.inputs).sends) ++ datagrams (given_of now_s t.0 t.1).sends ≡ owed ++ datagrams
+        (story s (h.inputs ++ t ∷ [])).sends
     sends_are t =
         append_assoc owed (datagrams (story s h.inputs).sends) (datagrams (given_of now_s t.0 t.1).sends)
         ∙ ap (λ (os : List (ℕ × List ℕ)). owed ++ os)

@@ -57,7 +57,7 @@ EndedByGroup size asked turns (Some (fault.Engine f)) old new left left_then =
     EndedBy size asked turns (Some (fault.Engine f)) old new left left_then
     ⊎ RefusesTogether size f old new left left_then
 
--- A whole run by groups: what was taken is told in the words of a run, in which there are no groups; why it ended, and
+-- A whole run by groups: what was taken is said in the words of a run, in which there are no groups; why it ended, and
 -- what it leaves.
 pub record RanByGroups {D : Type 0} {disk : Ghosts D} (size asked : ℕ) (ended : Ended) (old new : Engine D disk)
     (left left_then : Option (List Answer)) (told told_then : Option (List Handed)) : Type 0 where

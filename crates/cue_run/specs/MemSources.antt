@@ -1,4 +1,4 @@
--- What a source in memory tells.
+-- What a source in memory says of itself.
 use Rattle.std.specs.Prelude.{List, map, drop, Option, Some}
 use Rattle.cue_engine.specs.Given.{datagram, tick}
 use Rattle.cue_run.specs.Sources.{Answer, comes, ends, fails}
@@ -17,6 +17,6 @@ answer_view mem.Fault = fails
 abbrev pub answers_view : List MemAnswer → List Answer
 answers_view = map answer_view
 
--- the answers behind those that it has given
+-- the answers after those that it has given
 abbrev pub left_by : MemSource → Option (List Answer)
 left_by source = Some (answers_view (drop source.given source.answers.items))

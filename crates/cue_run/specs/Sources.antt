@@ -1,4 +1,4 @@
--- What a source gives, and what it tells.
+-- What a source gives, and what it says is left.
 use Rattle.std.specs.Prelude.{◌≡◌, ◌≤◌, ℕ, List, [], ◌∷◌, take, Option, Some, None, Result, Ok, Err}
 use Rattle.cue_run.specs.declared.source.Turn.{Turn}
 use Rattle.cue_run.specs.declared.source.Turn.TheVariants as turn
@@ -33,7 +33,7 @@ cut size (comes now tick) = comes now tick
 cut size ends = ends
 cut size fails = fails
 
--- the first of the answers that are left; behind them a source ends
+-- the first of the answers that are left; after them a source ends
 abbrev pub first_left : List Answer → Answer
 first_left [] = ends
 first_left (a ∷ more) = a
@@ -47,7 +47,7 @@ abbrev pub GaveInTurn : ℕ → List Answer → List Answer → List Answer → 
 GaveInTurn size old [] new = new ≡ old
 GaveInTurn size old (g ∷ gs) new = (g ≡ cut size (first_left old)) × GaveInTurn size (others_left old) gs new
 
--- the same of what is told; None: nothing is told, for good
+-- the same of what a source says is left; None: it says nothing, for good
 abbrev pub GaveAll : ℕ → Option (List Answer) → List Answer → Option (List Answer) → Type 0
 GaveAll size old gs None = Unit {0}
 GaveAll size None gs (Some new) = ⊥

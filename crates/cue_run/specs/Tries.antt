@@ -26,7 +26,7 @@ abbrev pub others : List Try → List Try
 others [] = []
 others (t ∷ more) = more
 
--- a try brought this, and those are left; None: nothing is told, for good
+-- a try brought this, and those are left; None: nothing is said, for good
 abbrev pub Tried : Option (List Try) → Try → Option (List Try) → Type 0
 Tried old brought None = Unit {0}
 Tried None brought (Some new) = ⊥

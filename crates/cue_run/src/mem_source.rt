@@ -50,7 +50,7 @@ impl MemAnswer {
     }
 }
 
-/// A source that gives the answers of a list in turn, and then ends. It tells the answers that are left.
+/// A source that gives the answers of a list in turn, and then ends. It says which answers are left.
 #[derive(Drop)]
 pub struct MemSource {
     answers: Vec<MemAnswer>,

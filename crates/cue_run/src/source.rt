@@ -38,7 +38,7 @@ impl Error for SourceFault {}
 
 /// Where datagrams and ticks come from.
 pub trait Source {
-    /// The answers that are left; None for a source that does not tell.
+    /// The answers that are left; None for a source that does not say.
     ghost left: { Self → Option (List Answer) };
 
     /// The next datagram or tick. A datagram goes into the buffer, cut to its length.

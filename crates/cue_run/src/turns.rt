@@ -164,9 +164,7 @@ pub fn run_watched<D: Disk, S: Source, W: Wire, V: Watch<W>>(
     }
 }
 
-/// Hands out what is owed, and then takes at most so many inputs, handing out after each what it owes. It ends at its
-/// turns, where the source ends, or at the first fault; nothing is handed out for an input that was not taken. Nobody
-/// looks on.
+/// The run of `run_watched`, with nobody looking on.
 pub fn run<D: Disk, S: Source, W: Wire>(
     alloc: Global,
     engine: &mut Engine<D>,

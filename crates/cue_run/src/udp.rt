@@ -32,7 +32,7 @@ fn moment<C: Clock>(clock: &C) -> io::Result<u64> {
 }
 
 /// The datagrams of a receiver, and ticks between them: one where the clock shows 250 ms since the last tick or was put
-/// back, or where the receiver waited and no datagram came. It tells nothing.
+/// back, or where the receiver waited and no datagram came. It reports nothing.
 #[derive(Drop)]
 pub struct UdpSource<'a, C: Clock, R: Receive + Drop> {
     clock: &'a C,
@@ -53,7 +53,7 @@ impl<'a, C: Clock, R: Receive + Drop> UdpSource<'a, C, R> {
         })
     }
 
-    // Waits for a datagram, and tells what came, and when the wait was over.
+    // Waits for a datagram. Answers what came, and when the wait was over.
     fn wait(&mut self, buffer: &mut [u8]) -> io::Result<(Came, u64)>
         ensures within { IfOk result (λ waited. CameWithin waited.0 (length buffer.old)) }
         ensures ticks { self.new.ticks ≡ self.old.ticks }
@@ -63,7 +63,7 @@ impl<'a, C: Clock, R: Receive + Drop> UdpSource<'a, C, R> {
         Ok((came, now))
     }
 
-    // Looks whether a datagram is there, and tells what came, and when.
+    // Looks whether a datagram is there. Answers what came, and when.
     fn look(&mut self, buffer: &mut [u8]) -> io::Result<(Came, u64)>
         ensures within { IfOk result (λ looked. CameWithin looked.0 (length buffer.old)) }
         ensures ticks { self.new.ticks ≡ self.old.ticks }
@@ -112,7 +112,7 @@ fn is_whole(sent: io::Result<usize>, len: usize) -> bool
     }
 }
 
-/// Sends to ports of this machine. It tells nothing.
+/// Sends to ports of this machine. It reports nothing.
 #[derive(Drop)]
 pub struct UdpWire<'a> {
     socket: &'a UdpSocket,

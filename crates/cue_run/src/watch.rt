@@ -9,7 +9,7 @@ use cue_engine::Wire;
 pub trait Watch<W: Wire> {
     /// Looks at the state, at the events of the input that was taken (none at the first look), and at the wire, which
     /// may have kept notes of what was sent. Where inputs are committed together, the state is the one after all of
-    /// them, also at the look for the first. Who needs the state after each input lets its events happen to a copy.
+    /// them, also at the look for the first. Whoever needs the state after each input lets its events happen to a copy.
     fn look(&mut self, state: &State, batch: &[Event], wire: &mut W)
         ensures told { W.told wire.new ≡ W.told wire.old };
 }

@@ -102,9 +102,9 @@ can_come (Store store.Exhausted) = true
 can_come (Store store.Memory) = true
 can_come (Store store.Disk) = true
 
--- digits were not decoded for want of memory, and not for their form
-abbrev pub is_want_of_memory : FromHexError → Bool
-is_want_of_memory (digits.InvalidHexCharacter c index) = false
-is_want_of_memory digits.OddLength = false
-is_want_of_memory digits.InvalidStringLength = false
-is_want_of_memory digits.OutOfMemory = true
+-- digits were not decoded because memory ran out, and not for their form
+abbrev pub is_out_of_memory : FromHexError → Bool
+is_out_of_memory (digits.InvalidHexCharacter c index) = false
+is_out_of_memory digits.OddLength = false
+is_out_of_memory digits.InvalidStringLength = false
+is_out_of_memory digits.OutOfMemory = true

@@ -25,7 +25,7 @@ pub record IsAfter {D : Type 0} {disk : _} (s : ShowState) (h : Happening) (engi
   pub is : state_of engine ≡ after_events s (given_at s h).batch
   pub owes : queue_of engine ≡ datagrams (given_at s h).sends
 
--- A line told of what happened, the state is the one after it, and what is sent then was written.
+-- A line stands for what happened, the state is the one after it, and what is sent then was written.
 pub record Goes (line : List ℕ) (s t : ShowState) (old new : Option (List ℕ)) : Type 0 where
   pub happening : Happening
   pub tells : happening_in line ≡ Some happening

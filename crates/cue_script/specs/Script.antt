@@ -25,7 +25,7 @@ printed_lines sent = flat_map line_of sent
 unfoldable pub output : ShowState → List Happening → List ℕ
 output first hs = printed_lines (datagrams (run first hs).sends)
 
--- The first lines of a text told of what happened, and the others are left; what is written is the output, and behind
+-- The first lines of a text stand for what happened, and the others are left; what is written is the output, and after
 -- it this last line.
 pub record Ran (first : ShowState) (text : List ℕ) (left : List (List ℕ)) (last : List ℕ)
     (old new : Option (List ℕ)) : Type 0 where

@@ -1,4 +1,4 @@
--- The text of a script: its lines, and what a line tells of.
+-- The text of a script: its lines, and what a line stands for.
 use Rattle.std.specs.Prelude.{ℕ, ◌&&◌, ◌==◌, not, nat_le, if◌then◌else◌, List, [], ◌∷◌, length}
 use Rattle.std.specs.Prelude.{take, drop, Option}
 use Rattle.std.specs.Prelude.{Some, None, codes}
@@ -20,7 +20,7 @@ lines_of (byte ∷ bytes) = if byte == 10 then [] ∷ lines_of bytes else onto_f
 abbrev pub before_front : ℕ → List ℕ × List ℕ → List ℕ × List ℕ
 before_front byte cut = (byte ∷ cut.0, cut.1)
 
--- what stands before the first such byte, and what stands behind it; none where there is no such byte
+-- what stands before the first such byte, and what stands after it; none where there is no such byte
 abbrev pub cut_at : ℕ → List ℕ → Option (List ℕ × List ℕ)
 cut_at mark [] = None
 cut_at mark (byte ∷ bytes) =
@@ -42,11 +42,11 @@ infixl 10 ◌>>=◌
 abbrev pub ◌>>=◌ : {A B : Type 0} → Option A → (A → Option B) → Option B
 found >>= f = option_and_then f found
 
--- what stands behind this text at the front
+-- what stands after this text at the front
 abbrev pub behind : List ℕ → List ℕ → Option (List ℕ)
 behind front line = if bytes_eq (take (length front) line) front then Some (drop (length front) line) else None
 
--- the words in front of a line `d NOW FROM HEX`, with a single space behind each: the moment, the port, and what is
+-- the words in front of a line `d NOW FROM HEX`, with a single space after each: the moment, the port, and what is
 -- left
 abbrev pub heading_in : List ℕ → Option (ℕ × ℕ × List ℕ)
 heading_in line = do
@@ -78,8 +78,8 @@ arrives a = took a.now (datagram a.from a.bytes)
 abbrev pub ticks : ℕ → Happening
 ticks now = took now tick
 
--- what a line tells of: `x` of power loss, `t NOW` of a tick of the clock, `d NOW FROM HEX` of a datagram; none for a
--- line of another form
+-- what a line stands for: `x` for power loss, `t NOW` for a tick of the clock, `d NOW FROM HEX` for a datagram; none
+-- for a line of another form
 unfoldable pub happening_in : List ℕ → Option Happening
 happening_in line =
     if bytes_eq line (codes "x") then Some recovered else option_or (option_map ticks (tick_in line))

@@ -20,7 +20,7 @@ heading_view heading = (heading.0, heading.1, heading.2.now)
 abbrev pub arrival_view : Arrival → Arrived
 arrival_view a = record { now = a.now; from = a.from; bytes = a.bytes.items }
 
--- what a line tells of
+-- what a line stands for
 abbrev pub line_view : ScriptLine → Happening
 line_view (Datagram a) = arrives (arrival_view a)
 line_view (Tick now) = ticks now

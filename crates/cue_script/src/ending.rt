@@ -29,7 +29,7 @@ pub enum Ending {
     Stopped(StreamFailure),
 }
 
-/// Why a line is not carried out, whatever it tells of.
+/// Why a line is not carried out, whatever it stands for.
 #[derive(Clone, Copy, Debug, PartialEq, Eq)]
 pub enum Failure {
     /// A device call failed before.

@@ -1,4 +1,4 @@
-//! Scripts: lines of text that tell of datagrams, ticks and power loss, and what is sent for them.
+//! Scripts: lines of text that stand for datagrams, ticks and power losses, and what is sent for them.
 ghost use Rattle.std.specs.Prelude.{◌≡◌, ◌≢◌, ◌≤◌, IfOk, IfErr, OnOk, IfSome, MatchOption, []};
 ghost use Rattle.std.specs.Prelude.{length, ◌<◌, ◌-◌, ◌^◌};
 ghost use Rattle.std.specs.Io.KnownBytes.{Appends};
@@ -43,7 +43,7 @@ fn read_at_most<R: Read>(
 }
 
 // Runs a text on two new disks in memory.
-fn play_anew<W: Write>(alloc: Global, text: &[u8], streams: &mut Streams, writer: &mut W) -> Ending
+fn play_text<W: Write>(alloc: Global, text: &[u8], streams: &mut Streams, writer: &mut W) -> Ending
     requires { length text.now ≤ SCRIPT_LIMIT }
     ensures wrote { Wrote result empty_state text.now [] (W.contents writer.old) (W.contents writer.new) }
     ensures cause { HasCause result streams.old streams.new }
@@ -66,7 +66,7 @@ fn play_all<R: Read, W: Write>(
     ensures cause { HasCause result streams.old streams.new }
 {
     match read_at_most(alloc, streams, reader, SCRIPT_LIMIT) {
-        Ok(Some(text)) => play_anew(alloc, text.as_slice(), streams, writer),
+        Ok(Some(text)) => play_text(alloc, text.as_slice(), streams, writer),
         Ok(None) => Ending::BadInput,
         Err(error) => Ending::Stopped(StreamFailure::of(&error)),
     }

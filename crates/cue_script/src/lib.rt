@@ -1,4 +1,4 @@
-//! Scripts: lines of text that tell of datagrams, ticks and power loss, and what is sent for them.
+//! Scripts: lines of text that stand for datagrams, ticks and power losses, and what is sent for them.
 #![tactic(auto)]
 
 mod ending;

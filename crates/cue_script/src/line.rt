@@ -1,7 +1,7 @@
-// The lines of a script, and what each tells of.
+// The lines of a script, and what each stands for.
 ghost use Rattle.std.specs.Prelude.{◌≡◌, ℕ, ◌<◌, ◌≤◌, ◌^◌, ◌∷◌, length, IfOk, IfSome};
 ghost use Rattle.std.specs.Option.{option_map};
-ghost use Rattle.cue_script.specs.Endings.{is_want_of_memory};
+ghost use Rattle.cue_script.specs.Endings.{is_out_of_memory};
 ghost use Rattle.cue_script.specs.ScriptLines.{
   lines_of,
   cut_at,
@@ -25,7 +25,7 @@ pub struct Arrival {
     pub bytes: Vec<u8>,
 }
 
-/// What a line of a script tells of.
+/// What a line of a script stands for.
 #[derive(Debug, Drop)]
 pub enum ScriptLine {
     /// A datagram arrives.
@@ -98,9 +98,9 @@ fn port_in(digits: &[u8]) -> Option<u16>
     }
 }
 
-// Whether digits were not decoded for want of memory, and not for their form.
-fn is_want_of_memory(error: FromHexError) -> bool
-    ensures { result ≡ is_want_of_memory error }
+// Whether digits were not decoded because memory ran out, and not for their form.
+fn is_out_of_memory(error: FromHexError) -> bool
+    ensures { result ≡ is_out_of_memory error }
 {
     match error {
         FromHexError::OutOfMemory => true,
@@ -119,7 +119,7 @@ fn read_arrival(alloc: Global, line: &[u8]) -> Result<Option<Arrival>, AllocErro
     };
     match hex::decode(alloc, digits) {
         Ok(bytes) => Ok(Some(Arrival { now, from, bytes })),
-        Err(error) if is_want_of_memory(error) => Err(AllocError),
+        Err(error) if is_out_of_memory(error) => Err(AllocError),
         Err(_) => Ok(None),
     }
 }

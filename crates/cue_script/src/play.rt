@@ -30,7 +30,7 @@ use std::io::Write;
 fn discard(_engine: Engine<MemDisk>) {}
 
 // Drops the engine of a line that is not carried out.
-fn refused(engine: Engine<MemDisk>, failure: Failure) -> Result<Engine<MemDisk>, Failure>
+fn refuse(engine: Engine<MemDisk>, failure: Failure) -> Result<Engine<MemDisk>, Failure>
     ensures { result ≡ Err failure }
 {
     discard(engine);
@@ -46,7 +46,7 @@ fn stopped(engine: Engine<MemDisk>, ending: Ending) -> Result<Engine<MemDisk>, E
 }
 
 // Takes what came at a moment.
-fn taken(
+fn take_input(
     mut engine: Engine<MemDisk>,
     now: u64,
     input: Input<'_>,
@@ -57,7 +57,7 @@ fn taken(
 {
     match engine.take(now, input) {
         Ok(_) => Ok(engine),
-        Err(fault) => refused(engine, Failure::from(fault)),
+        Err(fault) => refuse(engine, Failure::from(fault)),
     }
 }
 
@@ -87,7 +87,7 @@ fn recovered(alloc: Global, engine: Engine<MemDisk>) -> Result<Engine<MemDisk>, 
     }
 }
 
-// Lets what a line tells of happen.
+// Carries out what a line stands for.
 fn carry_out(
     alloc: Global,
     engine: Engine<MemDisk>,
@@ -103,9 +103,9 @@ fn carry_out(
                 from: arrival.from,
                 bytes: arrival.bytes.as_slice(),
             };
-            taken(engine, arrival.now, input)
+            take_input(engine, arrival.now, input)
         }
-        ScriptLine::Tick(now) => taken(engine, *now, Input::Tick),
+        ScriptLine::Tick(now) => take_input(engine, *now, Input::Tick),
         ScriptLine::PowerLoss => recovered(alloc, engine),
     }
 }
@@ -134,7 +134,8 @@ fn print_owed<W: Write>(
     requires works { is_broken (keeper_of engine) ≡ false }
     ensures ready { IfOk result (λ next. IsReady next) }
     ensures state { IfOk result (λ next. state_of next ≡ state_of engine) }
-    ensures wrote { OnOk result (Appends (W.contents writer.old) (W.contents writer.new) (printed_lines (queue_of engine))) }
+    ensures wrote { OnOk result
+        (Appends (W.contents writer.old) (W.contents writer.new) (printed_lines (queue_of engine))) }
     ensures ends { IfErr result (λ ending. EndsUnheard ending (W.contents writer.old) (W.contents writer.new)) }
     ensures no_failure { OnOk result (streams.new ≡ streams.old) }
     ensures cause { IfErr result (λ ending. HasCause ending streams.old streams.new) }
@@ -196,7 +197,7 @@ fn play_line<W: Write>(
     }
 }
 
-/// Runs the lines of a script, and tells how it ends. The last line of the output is left to the caller.
+/// Runs the lines of a script, and answers how it ends. The last line of the output is left to the caller.
 pub fn play_lines<W: Write>(
     alloc: Global,
     engine: Engine<MemDisk>,

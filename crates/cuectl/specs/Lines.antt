@@ -54,7 +54,7 @@ show_app = with_rule (new_app (codes "show")) dir_rule
 abbrev pub script_app : App
 script_app = new_app (codes "script")
 
--- a command line without commands, which tells its version
+-- a command line without commands, which says its version
 abbrev pub bare_app : App
 bare_app = let bare = new_app (codes "cuectl") in record bare { top = record bare.top { has_version = true } }
 
@@ -64,7 +64,7 @@ cuectl_app =
     with_subcommand (with_subcommand (with_subcommand
     (with_subcommand bare_app form_app.top) serve_app.top) show_app.top) script_app.top
 
--- the decimal number that stands behind an option
+-- the decimal number that stands after an option
 pub record IsNumberIn (id : Text) (rows : List Row) (n : ℕ) : Type 0 where
   pub text : Text
   pub stands : one_of id rows ≡ Some text

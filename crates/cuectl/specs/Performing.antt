@@ -18,14 +18,14 @@ formed_text = codes "formed" ++ (10 ∷ [])
 abbrev pub turns_text : ℕ → ℕ → List ℕ
 turns_text turns unsent = codes "turns " ++ (decimal turns ++ (codes " unsent " ++ (decimal unsent ++ (10 ∷ []))))
 
--- A run of at most so many inputs is told.
+-- A run of at most so many inputs is reported.
 pub record IsRunTold (most : ℕ) (old new : Option (List ℕ)) : Type 0 where
   pub turns : ℕ
   pub unsent : ℕ
   pub at_most : turns ≤ most
   pub printed : Appends old new (turns_text turns unsent)
 
--- A state is told.
+-- A state is printed.
 pub record IsStateTold (old new : Option (List ℕ)) : Type 0 where
   pub state : ShowState
   pub printed : Appends old new (show_text state)

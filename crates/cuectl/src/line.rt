@@ -208,7 +208,7 @@ fn fault_of(alloc: Global, error: &Error) -> LineFault
 pub fn line(alloc: Global, words: &[String]) -> Result<words::Line, LineFault>
     // The line is the command that the words name, with what stands after it there.
     ensures line { IfOk result (λ line. IsLineOf (subcommand_of cuectl_app (map string_bytes words.now)) line) }
-    // Words at which clap stops are no command, and words that ask for help or for the version are told apart.
+    // Words at which clap stops are no command, and words that ask for help or for the version are kept apart.
     ensures taken { OnOk result (fault_of cuectl_app (map string_bytes words.now) ≡ []) }
     // They are refused only where clap stops for another reason, where they name no command, or where the port is 0.
     ensures usage { IsErrOf result Usage → IsNoCommand (map string_bytes words.now) }

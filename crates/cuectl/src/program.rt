@@ -139,7 +139,7 @@ fn show<R: Files<File = File> + Eprint, W: Write>(
 }
 
 // Runs the show over a socket.
-fn serve_on<'a, R: Clock + Eprint>(
+pub(crate) fn serve_on<'a, R: Clock + Eprint>(
     rt: &'a R,
     alloc: Global,
     engine: &mut Engine<FileDisk>,

@@ -1,4 +1,6 @@
 //! The program on files of its own. The table is written by hand.
+mod sockets;
+
 use crate::program::perform;
 use std::fs::{self, File, Files};
 use std::io::Eprint;

@@ -13,7 +13,7 @@ pub const MOST_DROPPED: u32 = 65_536;
 
 /// One call of a source is made of tries.
 pub trait Tries {
-    /// What the tries to come bring; None for one that does not tell.
+    /// What the tries to come bring; None for one that does not say.
     ghost left: { Self → Option (List Try) };
 
     /// What comes next, or None where that is passed over.

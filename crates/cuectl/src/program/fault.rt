@@ -103,7 +103,7 @@ pub fn run_fault(fault: RunFault) -> ProgramFault
     }
 }
 
-/// Prints a line of a refusal. Where that cannot be written, the status alone tells of it.
+/// Prints a line of a refusal. Where that cannot be written, the status alone reports it.
 pub fn print_fault<W: Write>(writer: &mut W, line: &[u8]) {
     let _ = writer.write_all(line);
     let _ = writer.flush();

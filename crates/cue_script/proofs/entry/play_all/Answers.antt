@@ -12,16 +12,16 @@ use Rattle.cue_script.proofs.entry.play_all.Goals as goal
 pub returns-in-Ok-Some-clause-wrote : goal.returns-in-Ok-Some-clause-wrote
 returns-in-Ok-Some-clause-wrote g c =
     let P : List ℕ → Type 0 =
-    λ text. Wrote c.play_anew.result empty_state text [] (g.W.Write.contents c.args.writer.now)
-    (g.W.Write.contents c.play_anew.new.writer) in
+    λ text. Wrote c.play_text.result empty_state text [] (g.W.Write.contents c.args.writer.now)
+    (g.W.Write.contents c.play_text.new.writer) in
     of_known (g.R.Read.remaining c.args.reader.now) SCRIPT_LIMIT c.in-Ok-Some.text.items P
     (rw c.in-Ok-Some.field-0-is at c.in-Ok-Some.ensures.read)
-    (subst P c.as_slice.ensures.value c.play_anew.ensures.wrote)
+    (subst P c.as_slice.ensures.value c.play_text.ensures.wrote)
 
 pub returns-in-Ok-Some-clause-cause : goal.returns-in-Ok-Some-clause-cause
 returns-in-Ok-Some-clause-cause g c =
-    let P : Streams → Type 0 = λ streams. HasCause c.play_anew.result streams c.play_anew.new.streams in
-    subst P c.in-Ok-Some.ensures.no_failure c.play_anew.ensures.cause
+    let P : Streams → Type 0 = λ streams. HasCause c.play_text.result streams c.play_text.new.streams in
+    subst P c.in-Ok-Some.ensures.no_failure c.play_text.ensures.cause
 
 pub returns-in-Ok-None-clause-wrote : goal.returns-in-Ok-None-clause-wrote
 returns-in-Ok-None-clause-wrote g c =

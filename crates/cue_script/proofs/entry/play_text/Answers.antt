@@ -4,7 +4,7 @@ use Rattle.std.proofs.Common.{subst}
 use Rattle.cue_core.specs.State.{ShowState, empty_state}
 use Rattle.cue_script.specs.Script.{Wrote}
 use Rattle.cue_script.proofs.ScriptLemmas.{not_formed, no_area, comes_of_recovery}
-use Rattle.cue_script.proofs.entry.play_anew.Goals as goal
+use Rattle.cue_script.proofs.entry.play_text.Goals as goal
 
 pub returns-in-Ok-clause-wrote : goal.returns-in-Ok-clause-wrote
 returns-in-Ok-clause-wrote g c =

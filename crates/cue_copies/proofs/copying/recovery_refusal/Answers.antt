@@ -1,0 +1,20 @@
+use Rattle.std.proofs.Common.{sym, subst}
+use Rattle.cue_disk.specs.Memory.{memory_bytes}
+use Rattle.cue_keeper.specs.declared.fault.StoreFault.{StoreFault}
+use Rattle.cue_copies.specs.Copies.{CannotBeRecovered}
+use Rattle.cue_copies.proofs.CopyLemmas.{refused_in_memory}
+use Rattle.cue_copies.proofs.copying.recovery_refusal.Goals as goal
+
+pub returns-in-Ok : goal.returns-in-Ok
+returns-in-Ok c =
+    let closed = c.in-Ok.ensures.stood tt tt in
+    record { state = closed.before; stand = closed.stood }
+
+pub returns : goal.returns
+returns c =
+    let x = memory_bytes c.args.first in
+    let y = memory_bytes c.args.second in
+    let why = c.in-Err.ensures in
+    subst (λ (fault : StoreFault). CannotBeRecovered fault x y) (sym c.fault_in_memory.ensures)
+    (refused_in_memory c.in-Err.fault x y why.no_other (why.unformed tt tt) (why.damaged tt tt) (why.version tt tt)
+    (why.malformed tt tt) (why.full tt tt) (why.exhausted tt tt))

@@ -119,15 +119,37 @@ fn bundle_of(alloc: Global, items: Vec<Packet<'_>>) -> Result<Vec<u8>, AskFault>
     Ok(cue_osc::write(alloc, &packet)?)
 }
 
+// The message of each of these.
+fn messages_of<'a>(
+    alloc: Global,
+    addresses: &'a [Vec<u8>],
+    asked: &'a [Asked<'a>],
+) -> Result<Vec<Packet<'a>>, AllocError>
+    requires { map (λ a. a.items) addresses.now ≡ map (λ a. address_of (method_of a)) asked.now }
+    ensures { IfOk result (λ messages. map view messages.items ≡ map message_of asked.now) }
+{
+    let mut messages = Vec::new(alloc);
+    push_messages(alloc, &mut messages, addresses, asked)?;
+    Ok(messages)
+}
+
+// Where each of these is asked.
+fn addresses_of(alloc: Global, asked: &[Asked<'_>]) -> Result<Vec<Vec<u8>>, AllocError>
+    ensures { IfOk result (λ addresses. map (λ a. a.items) addresses.items ≡ map (λ a. address_of (method_of a))
+        asked.now) }
+{
+    let mut addresses = Vec::new(alloc);
+    push_addresses(alloc, &mut addresses, asked)?;
+    Ok(addresses)
+}
+
 /// The datagram that asks for these, in order, and for nothing else: a bundle of the message of each, to be carried out
 /// at once. `Unwritable` where it would be longer than a datagram: `count_that_fits` says how many are not.
 pub fn bundle(alloc: Global, asked: &[Asked<'_>]) -> Result<Vec<u8>, AskFault>
     ensures { let said = contents_of (map message_of asked.now) in
         IfOk result (λ bytes. datagram_at bytes.items ≡ Ok (bundle 1 said)) }
 {
-    let mut addresses = Vec::new(alloc);
-    push_addresses(alloc, &mut addresses, asked)?;
-    let mut messages = Vec::new(alloc);
-    push_messages(alloc, &mut messages, &addresses, asked)?;
+    let addresses = addresses_of(alloc, asked)?;
+    let messages = messages_of(alloc, &addresses, asked)?;
     bundle_of(alloc, messages)
 }

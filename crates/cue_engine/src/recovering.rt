@@ -39,8 +39,8 @@ fn queue_pending(alloc: Global, state: &State) -> Result<Queue, AllocError>
     Ok(queue)
 }
 
-// Closes the state on the draft: the cancels, and what is owed then. From here on the draft is of no use, until it is
-// put in step again.
+// Closes the state on the draft: the cancels, and what is owed then. From here on the draft is not valid, until it
+// follows the kept state again.
 #[tactic(auto, unfolding(cue_core::specs::Batches::closed))]
 fn close_on(
     alloc: Global,

@@ -109,7 +109,7 @@ impl BatchGroup {
     }
 }
 
-// Frames a batch behind the records, and answers how long their payloads are together then.
+// Frames a batch after the records, and answers how long their payloads are together then.
 fn add_framed(
     alloc: Global,
     records: &mut RecordGroup,

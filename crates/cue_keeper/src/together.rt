@@ -1,4 +1,4 @@
-// How batches that are accepted together come onto the disks: several behind the records of the live area, with two
+// How batches that are accepted together come onto the disks: several after the records of the live area, with two
 // writes and two syncs; one as it comes alone.
 ghost use Rattle.std.specs.Prelude.{◌≡◌, ◌≤◌, false, true, length, IsTrue, OnOk, IsErrOf};
 ghost use Rattle.std.specs.Result.{result_err};

@@ -119,7 +119,7 @@ impl<D: Disk> Snap<D> {
         ensures disk { RefusedAs OpenFault.Disk (MoreFailures (D.failures first)
             (D.failures (first_after first_opened result))
             ⊎ MoreFailures (D.failures second) (D.failures (second_after second_opened result))) result }
-        // Want of memory hides no fault of a device: each call went through.
+        // Out of memory hides no fault of a device: each call went through.
         ensures memory { RefusedAs OpenFault.Memory ((D.failures (first_after first_opened result) ≡ D.failures first)
             × (D.failures (second_after second_opened result) ≡ D.failures second)) result }
 

@@ -113,7 +113,7 @@ impl<D: Disk> Engine<D> {
         ensures disk { RefusedAs StoreFault.Disk (MoreFailures (D.failures first)
             (D.failures (first_after first_of result))
             ⊎ MoreFailures (D.failures second) (D.failures (second_after second_of result))) result }
-        // Want of memory hides no fault of a device: each call went through.
+        // Out of memory hides no fault of a device: each call went through.
         ensures memory { RefusedAs StoreFault.Memory ((D.failures (first_after first_of result) ≡ D.failures first)
             × (D.failures (second_after second_of result) ≡ D.failures second)) result }
         ensures no_other { RefusedAs StoreFault.NotEmpty ⊥ result }

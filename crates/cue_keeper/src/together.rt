@@ -58,6 +58,7 @@ fn commit_several<D: Disk>(
         → OnOk result (StandsFor (live_area_of D.held snap.new) (folded_all state.now group.now)) }
     ensures no_memory { IsErrOf result Fault.Memory → ⊥ }
 {
+    // Called for its clause that a pair that is not broken reads as its live area.
     let _broken = snap.is_broken();
     if lacks_room(snap, group) {
         return Err(Fault::Full);
@@ -83,6 +84,7 @@ pub(crate) fn commit_together<D: Disk>(
         → OnOk result (StandsFor (live_area_of D.held snap.new) (folded_all state.now group.now)) }
     ensures no_memory { AreSeveral group.now → IsErrOf result Fault.Memory → ⊥ }
 {
+    // Called for its clause that a pair that is not broken reads as its live area.
     let _broken = snap.is_broken();
     match group.records().count() {
         0 => Ok(()),

@@ -190,6 +190,7 @@ fn close_opened<D: Disk>(alloc: Global, keeper: Keeper<D>) -> Result<Engine<D>, 
     ensures first_honest { D.is_honest (first_after first_of result) ↔ D.is_honest (kept.first_of keeper) }
     ensures second_honest { D.is_honest (second_after second_of result) ↔ D.is_honest (kept.second_of keeper) }
 {
+    // Called for its clause that a keeper that is not broken stands for its state.
     let _broken = keeper.is_broken();
     let mut keeper = keeper;
     let mut draft = Draft::new(alloc);

@@ -6,6 +6,7 @@ ghost use Rattle.cue_records.specs.Batch.{is_batch, batch_text};
 ghost use Rattle.cue_keeper.specs.Groups.{with_events, records_of, are_records, is_record, batches_view};
 
 use crate::framing::framed;
+use crate::keeper::discard;
 use cue_core::Event;
 use cue_log::RecordGroup;
 use std::alloc::{AllocError, Global};
@@ -142,6 +143,3 @@ fn only_one(batches: &[Vec<Event>]) -> &[Event]
     }
     &[]
 }
-
-// Drops records. It stands apart, since what is dropped fills the goals of the function around it.
-fn discard(_records: RecordGroup) {}

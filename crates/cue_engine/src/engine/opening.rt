@@ -222,9 +222,10 @@ fn store_fault(fault: Fault) -> StoreFault
         ⊎ (result ≡ StoreFault.Disk) }
 {
     match fault {
-        Fault::Broken | Fault::Disk => StoreFault::Disk,
+        Fault::Broken => unreachable!(),
         Fault::Memory => StoreFault::Memory,
         Fault::Exhausted => StoreFault::Exhausted,
         Fault::Full => StoreFault::Full,
+        Fault::Disk => StoreFault::Disk,
     }
 }

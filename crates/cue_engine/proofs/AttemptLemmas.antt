@@ -294,8 +294,7 @@ asked_before test past (x ∷ hs) h =
     let rest : P next = subst P (state-onto past g.batch) (asked_before test (onto g.batch past) hs) in
     let Q : ShowState → Type 0 = λ s. asks test s ≡ true in
     let first : list_any p g.sends ≡ true
-    → ever (asks test) (onto (joined_list (run next hs).batches) (onto g.batch past))
-    ≡ true =
+    → ever (asks test) (onto (joined_list (run next hs).batches) (onto g.batch past)) ≡ true =
     λ k. ever_onto (asks test) (joined_list (run next hs).batches) (onto g.batch past)
     (ever_now (asks test) (onto g.batch past)
     (subst Q (sym (state-onto past g.batch)) (sent_asks test (state_of past) x k))) in

@@ -45,7 +45,8 @@ found_whole s es store i is x y first second on f =
     let batch : List Event = batch_of (after_events s es) i in
     let P : ShowState → Type 0 = λ u. AreKept u is f.kept in
     let same : (es ++ batch) ++ joined_list f.kept ≡ es ++ joined_list (with_batch batch f.kept) =
-    append_assoc es batch (joined_list f.kept) ∙ ap (λ (xs : List Event). es ++ xs) (sym (joined-with batch f.kept)) in
+    append_assoc es batch (joined_list f.kept)
+    ∙ ap (λ (xs : List Event). es ++ xs) (sym (joined-with batch f.kept)) in
     let Q : List Event → Type 0 = λ xs. HasOn (left_by_all (left_by store i) is) x y (after_events s xs) in
     let R : List Event → Type 0 = λ xs. list_all (rests s xs) (all_handed (left_by store i) is) ≡ true in
     record {
@@ -55,8 +56,7 @@ found_whole s es store i is x y first second on f =
       decided = all-append (rests s (es ++ joined_list (with_batch batch f.kept))) (handed_in store i)
           (all_handed (left_by store i) is)
           (all_more s es (joined_list (with_batch batch f.kept)) (handed_in store i)
-          (handed_rests s es store i on.owed))
-          (subst R same f.decided);
+          (handed_rests s es store i on.owed)) (subst R same f.decided);
       readable = each_append (λ (m : ℕ × Send). IsReadable m.1) (handed_in store i) (all_handed (left_by store i) is)
           (handed_readable store i on.readable) f.readable;
     }

@@ -289,8 +289,8 @@ in_front-rests s g rest h k =
     (all_implied (rests s g.batch) (rests s (g.batch ++ joined_list rest.batches))
     (λ m e. more s g.batch (joined_list rest.batches) m.1 e) g.sends h)
     (all_implied (rests (after_events s g.batch) (joined_list rest.batches))
-    (rests s (g.batch ++ joined_list rest.batches))
-    (λ m e. earlier s g.batch (joined_list rest.batches) m.1 e) rest.sends k))
+    (rests s (g.batch ++ joined_list rest.batches)) (λ m e. earlier s g.batch (joined_list rest.batches) m.1 e)
+    rest.sends k))
 
 pub each_rests : EachRests
 each_rests s [] = refl

@@ -89,7 +89,8 @@ impl Wire for MemWire {
     ghost told = { told_by };
 
     fn send(&mut self, to: u16, bytes: &[u8]) -> Result<(), WireFault>
-        ensures told { Grew (told_by self.old) (handed_as ((to, bytes.now) ∷ []) (is_err result ∷ [])) (told_by self.new) }
+        ensures told { Grew (told_by self.old) (handed_as ((to, bytes.now) ∷ []) (is_err result ∷ []))
+            (told_by self.new) }
         ensures refused { IsAsPlanned (refuse_in_of self.old) (is_err result) (told_by self.new) }
         ensures counted { refuse_in_of self.new ≡ refuse_in_of self.old - 1 }
     {

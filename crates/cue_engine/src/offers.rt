@@ -89,6 +89,7 @@ pub(crate) fn offer_first(
     ensures counts { IfOk result (λ first. first.1 ≡ (given_of kept.now now (input_view input.entry)).counts) }
     ensures spare { MatchResult result (λ _. InStep draft.new.state spare.new) (λ _. InStep kept.now spare.new) }
 {
+    // Called for its clause that the state keeps its rules.
     let _last = kept.last_seq();
     let heard = judge_input(alloc, now, kept, draft, input)?;
     let mut first = Offered::new(alloc)?;
@@ -126,6 +127,7 @@ pub(crate) fn offer_next(
         × (outs_view offered.new.sends.items ≡ outs_view offered.old.sends.items)) }
     ensures spare { InStep draft.new.state spare.new }
 {
+    // Called for its clause that the state keeps its rules.
     let _last = draft.state.last_seq();
     let heard = judge_input(alloc, now, &draft.state, spare, input)?;
     let counts = offered.add(heard)?;

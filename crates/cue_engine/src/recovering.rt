@@ -25,6 +25,7 @@ fn cancels_undecided(alloc: Global, kept: &State) -> Result<Vec<Event>, AllocErr
     ensures acceptable { IfOk result (λ batch. IsTrue (are_acceptable kept.now batch.items)) }
     ensures fits { IfOk result (λ batch. FitsRecord batch.items) }
 {
+    // Called for its clause that the state keeps its rules.
     let _last = kept.last_seq();
     let seqs = undecided(alloc, kept)?;
     cancels(alloc, &seqs, Reason::Power)
@@ -39,8 +40,8 @@ fn queue_pending(alloc: Global, state: &State) -> Result<Queue, AllocError>
     Ok(queue)
 }
 
-// Closes the state on the draft: the cancels, and what is owed then. From here on the draft is of no use, until it is
-// put in step again.
+// Closes the state on the draft: the cancels, and what is owed then. From here on the draft is not valid, until it
+// follows the kept state again.
 #[tactic(auto, unfolding(cue_core::specs::Batches::closed))]
 fn close_on(
     alloc: Global,
@@ -79,6 +80,7 @@ pub(crate) fn close_undecided<D: Disk>(
     ensures queue { IfOk result (λ queue. queue ≡ datagrams (all_pending (closed_state (state_of keeper.old)))) }
     ensures draft { InStep (state_of keeper.new) draft.new }
 {
+    // Called for its clause that a keeper that is not broken stands for its state.
     let _broken = keeper.is_broken();
     let (batch, queue) = close_on(alloc, keeper.state(), draft)?;
     accept_batch(alloc, keeper, draft, batch)?;

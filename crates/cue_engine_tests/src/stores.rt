@@ -45,7 +45,7 @@ const SHOW: [u8; 37] = [
     1, 0, 0, 0, 8, 0, 1, 3, 1, 0x32, 1, 3, 0, // a cue
 ];
 
-// An area with this generation, the first state in this version, that show, and so many moves behind it, to cue 1 first
+// An area with this generation, the first state in this version, that show, and so many moves after it, to cue 1 first
 // and to the two in turn.
 fn area_in(alloc: Global, version: u8, generation: u64, moves: u32) -> Result<Vec<u8>, AllocError> {
     let mut bytes = Vec::new(alloc);

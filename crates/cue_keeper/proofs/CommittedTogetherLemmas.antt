@@ -19,7 +19,7 @@ use Rattle.cue_keeper.specs.Pairs.{Moves, LeavesPairsAtEachMoment}
 use Rattle.cue_keeper.specs.Stands.{StandsEither, StandsAs, folded_all}
 use Rattle.cue_keeper.proofs.MovingLemmas.{rests}
 use Rattle.cue_keeper.proofs.GroupLemmas.{folded_only}
-use Rattle.cue_keeper.proofs.CommittedLemmas.{still_broken, out_of_memory}
+use Rattle.cue_keeper.proofs.CommittedLemmas.{still_broken, none_given, out_of_memory}
 
 -- the fault of a result that has just this one
 told_as : {T : Type 0} (r : Result T Fault) (f : Fault) → IsErrAnd r (λ g. g ≡ f) → result_err r ≡ Some f
@@ -83,7 +83,7 @@ module _ {D : Type 0} {disk : Ghosts D} where
       → CommitsTogether s batches (Some fault.Full) pair pair
   without_room s batches pair now stands works several lacks = record {
     alone = λ batch one. absurd (not_several batches batch several one);
-    quiet = λ _. refl;
+    quiet = λ none. absurd (not_none batches several none);
     cause = λ _. lacks;
     full = λ _ _ _. inr refl;
     after = refl;
@@ -112,7 +112,7 @@ module _ {D : Type 0} {disk : Ghosts D} where
       → CommitsTogether s batches None pair pair
   none_together s batches pair now stands works none = record {
     alone = λ batch one. absurd (no_batch batch (sym one ∙ none));
-    quiet = λ _. refl;
+    quiet = λ _. none_given s [] pair now stands works refl;
     cause = λ _. tt;
     full = λ _ several _. absurd (not_none batches several none);
     after = tt;
@@ -143,7 +143,7 @@ module _ {D : Type 0} {disk : Ghosts D} where
       → CommitsTogether s batches (Some fault.Memory) pair pair
   memory_together s batches pair now stands works = record {
     alone = λ batch one. out_of_memory s batch pair now stands works;
-    quiet = λ _. refl;
+    quiet = λ _. out_of_memory s [] pair now stands works;
     cause = λ _. tt;
     full = λ _ _ _. inl refl;
     after = refl;
@@ -167,7 +167,7 @@ module _ {D : Type 0} {disk : Ghosts D} where
       → CommitsTogether s batches (Some fault.Broken) pair pair
   broken_together s batches pair is = record {
     alone = λ batch one. still_broken s batch pair is;
-    quiet = λ _. refl;
+    quiet = λ _. still_broken s [] pair is;
     cause = λ _. is;
     full = λ works. absurd (true≢false (sym is ∙ works));
     after = refl;

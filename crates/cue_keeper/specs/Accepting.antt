@@ -137,8 +137,8 @@ pub record CommitsTogether {D : Type 0} {disk : Ghosts D} (s : ShowState) (batch
     (refused : Option Fault) (old new : Snap D disk) : Type 0 where
   -- where one of them has an event, it is accepted as one that comes alone
   pub alone : (batch : List Event) → with_events batches ≡ batch ∷ [] → Commits s batch refused old new
-  -- where none has, there is no device call
-  pub quiet : with_events batches ≡ [] → new ≡ old
+  -- where none has, it is as for a batch without an event: no device call, and only Broken and Memory refuse it
+  pub quiet : with_events batches ≡ [] → Commits s [] refused old new
   -- several: each fault has its reason, and where memory is there Full comes wherever it can
   pub cause : AreSeveral batches → IfSome refused (HasCauseTogether batches old new)
   pub full :

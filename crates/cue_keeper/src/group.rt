@@ -6,6 +6,7 @@ ghost use Rattle.cue_records.specs.Batch.{is_batch, batch_text};
 ghost use Rattle.cue_keeper.specs.Groups.{with_events, records_of, are_records, is_record, batches_view};
 
 use crate::framing::framed;
+use crate::keeper::discard;
 use cue_core::Event;
 use cue_log::RecordGroup;
 use std::alloc::{AllocError, Global};
@@ -109,7 +110,7 @@ impl BatchGroup {
     }
 }
 
-// Frames a batch behind the records, and answers how long their payloads are together then.
+// Frames a batch after the records, and answers how long their payloads are together then.
 fn add_framed(
     alloc: Global,
     records: &mut RecordGroup,
@@ -142,6 +143,3 @@ fn only_one(batches: &[Vec<Event>]) -> &[Event]
     }
     &[]
 }
-
-// Drops records. It stands apart, since what is dropped fills the goals of the function around it.
-fn discard(_records: RecordGroup) {}

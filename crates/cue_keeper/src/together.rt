@@ -1,4 +1,4 @@
-// How batches that are accepted together come onto the disks: several behind the records of the live area, with two
+// How batches that are accepted together come onto the disks: several after the records of the live area, with two
 // writes and two syncs; one as it comes alone.
 ghost use Rattle.std.specs.Prelude.{◌≡◌, ◌≤◌, false, true, length, IsTrue, OnOk, IsErrOf};
 ghost use Rattle.std.specs.Result.{result_err};
@@ -58,6 +58,7 @@ fn commit_several<D: Disk>(
         → OnOk result (StandsFor (live_area_of D.held snap.new) (folded_all state.now group.now)) }
     ensures no_memory { IsErrOf result Fault.Memory → ⊥ }
 {
+    // Called for its clause that a pair that is not broken reads as its live area.
     let _broken = snap.is_broken();
     if lacks_room(snap, group) {
         return Err(Fault::Full);
@@ -83,6 +84,7 @@ pub(crate) fn commit_together<D: Disk>(
         → OnOk result (StandsFor (live_area_of D.held snap.new) (folded_all state.now group.now)) }
     ensures no_memory { AreSeveral group.now → IsErrOf result Fault.Memory → ⊥ }
 {
+    // Called for its clause that a pair that is not broken reads as its live area.
     let _broken = snap.is_broken();
     match group.records().count() {
         0 => Ok(()),

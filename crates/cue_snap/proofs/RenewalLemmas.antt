@@ -5,8 +5,8 @@ use Rattle.std.specs.Prelude.{IfOk}
 use Rattle.cue_disk.specs.Disk.{overwritten_bytes}
 use Rattle.cue_log.specs.Log.{closed_bytes}
 
-pub closed-overwritten : (old body : List ℕ)
-    → overwritten_bytes (closed_bytes old) 0 (1 ∷ body) ≡ overwritten_bytes old 0 (1 ∷ body)
+pub closed-overwritten : (old body : List ℕ) → overwritten_bytes (closed_bytes old) 0 (1 ∷ body) ≡ overwritten_bytes old
+    0 (1 ∷ body)
 closed-overwritten [] body = refl
 closed-overwritten (gate ∷ bytes) body =
     let shut : ℕ = if gate == 1 then 0 else gate in

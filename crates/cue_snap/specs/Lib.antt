@@ -5,4 +5,5 @@ pub mod Observed
 pub mod Appending
 pub mod Opened
 pub mod Found
+pub mod Refusals
 pub mod Laws

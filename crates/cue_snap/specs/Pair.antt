@@ -26,7 +26,7 @@ abbrev pub LeavesOlder : Contents → ℕ → Type 0
 LeavesOlder held generation = (image : List ℕ) → IsImage held image → (IsAbsent image → ⊥)
     → IsArea (area_in image) image × ((area_in image).generation < generation)
 
--- a spare disk while it is formed anew: an image of then, absent, or this area
+-- a spare disk while it is formed again: an image of then, absent, or this area
 abbrev pub IsOldOrNew : Contents → Area → List ℕ → Type 0
 IsOldOrNew held area image = IsOldOrAbsent held image ⊎ IsArea area image
 

@@ -1,4 +1,4 @@
-//! Two areas of `cue_log` on two disks, live in turn. While the one is formed anew with a higher generation the other
+//! Two areas of `cue_log` on two disks, live in turn. While the one is formed again with a higher generation the other
 //! still counts: at any moment a stop leaves the old area or the new one.
 #![tactic(auto)]
 

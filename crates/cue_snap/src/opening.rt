@@ -1,9 +1,10 @@
 // How a pair is read: each disk for itself, and then the one that counts.
-ghost use Rattle.std.specs.Prelude.{◌≡◌, ◌≤◌, ◌↔◌, IfOk};
+ghost use Rattle.std.specs.Prelude.{◌≡◌, ◌⊎◌, ◌≤◌, ◌↔◌, IfOk};
 ghost use Rattle.cue_disk.specs.Disk.{LeavesAtEachMoment, IsImage, MoreFailures};
 ghost use Rattle.cue_log.specs.Observed.{disk_after};
 ghost use Rattle.cue_snap.specs.Found.{disk_in, IsFound, FoundWorks};
 ghost use Rattle.cue_snap.specs.Observed.{FailsAs, CountsOnlyAs};
+ghost use Rattle.cue_snap.specs.Refusals.{found_by, open_fault};
 
 use crate::choosing::{Found, Unfit, choose};
 use crate::snap::Snap;
@@ -54,10 +55,36 @@ fn find<D: Disk>(alloc: Global, disk: D) -> Result<Found<D>, (OpenFault, D)>
 {
     match Log::open(alloc, disk) {
         Ok(opened) => Ok(Found::Area(opened)),
-        Err((AreaFault::Absent, disk)) => Ok(Found::Absent(disk)),
-        Err((AreaFault::Damaged, disk)) => Ok(Found::Damaged(disk)),
-        Err((AreaFault::Disk, disk)) => Err((OpenFault::Disk, disk)),
-        Err((AreaFault::Memory, disk)) => Err((OpenFault::Memory, disk)),
+        Err((fault, disk)) => found_by(fault, disk),
+    }
+}
+
+// What a disk has whose area is not opened: no area and a damaged one are no fault of the pair yet.
+fn found_by<D: Disk>(fault: AreaFault, disk: D) -> Result<Found<D>, (OpenFault, D)>
+    ensures table { result ≡ found_by fault disk }
+    ensures disk { disk_after disk_in result ≡ disk }
+    ensures works { IfOk result FoundWorks }
+    ensures damaged { FailsAs OpenFault.Damaged ⊥ result }
+    ensures unformed { FailsAs OpenFault.Unformed ⊥ result }
+{
+    match fault {
+        AreaFault::Absent => Ok(Found::Absent(disk)),
+        AreaFault::Damaged => Ok(Found::Damaged(disk)),
+        AreaFault::Disk => Err((OpenFault::Disk, disk)),
+        AreaFault::Memory => Err((OpenFault::Memory, disk)),
+    }
+}
+
+// Why neither area is chosen, as a fault of the pair.
+fn open_fault(unfit: Unfit) -> OpenFault
+    ensures table { result ≡ open_fault unfit }
+    ensures damaged { result ≡ OpenFault.Damaged → unfit ≡ Unfit.Damaged }
+    ensures unformed { result ≡ OpenFault.Unformed → unfit ≡ Unfit.Unformed }
+    ensures no_other { (result ≡ OpenFault.Damaged) ⊎ (result ≡ OpenFault.Unformed) }
+{
+    match unfit {
+        Unfit::Damaged => OpenFault::Damaged,
+        Unfit::Unformed => OpenFault::Unformed,
     }
 }
 
@@ -92,7 +119,7 @@ impl<D: Disk> Snap<D> {
         ensures disk { RefusedAs OpenFault.Disk (MoreFailures (D.failures first)
             (D.failures (first_after first_opened result))
             ⊎ MoreFailures (D.failures second) (D.failures (second_after second_opened result))) result }
-        // Want of memory hides no fault of a device: each call went through.
+        // Out of memory hides no fault of a device: each call went through.
         ensures memory { RefusedAs OpenFault.Memory ((D.failures (first_after first_opened result) ≡ D.failures first)
             × (D.failures (second_after second_opened result) ≡ D.failures second)) result }
 
@@ -117,8 +144,7 @@ impl<D: Disk> Snap<D> {
         match find(alloc, second) {
             Ok(second) => match choose(first, second) {
                 Ok(opened) => Ok(opened),
-                Err((Unfit::Damaged, first, second)) => Err((OpenFault::Damaged, first, second)),
-                Err((Unfit::Unformed, first, second)) => Err((OpenFault::Unformed, first, second)),
+                Err((unfit, first, second)) => Err((open_fault(unfit), first, second)),
             },
             Err((fault, second)) => Err((fault, first.into_disk(), second)),
         }

@@ -1,4 +1,4 @@
-// How the other area comes to count: the spare disk is closed and formed anew, and the log goes on there.
+// How the other area comes to count: the spare disk is closed and formed again, and the log goes on there.
 ghost use Rattle.std.specs.Prelude.{◌≡◌, ◌<◌, ◌+◌, ◌↔◌, false, length, OnOk, OnErr};
 ghost use Rattle.cue_disk.specs.Disk.{LeavesAtEachMoment, CountsFailure, overwritten_bytes};
 ghost use Rattle.cue_log.specs.Area.{fresh, formed_text};
@@ -10,7 +10,7 @@ ghost use Rattle.cue_snap.specs.Pair.{IsOldOrNew};
 use cue_disk::{Disk, DiskFault};
 use cue_log::{Log, close};
 
-/// Closes the area of the spare disk, forms it anew and moves the log there. The disk that the log leaves is not
+/// Closes the area of the spare disk, forms it again and moves the log there. The disk that the log leaves is not
 /// touched.
 pub(crate) fn turn<D: Disk>(
     log: &mut Log<D>,

@@ -113,7 +113,7 @@ impl<D: Disk> Engine<D> {
         ensures disk { RefusedAs StoreFault.Disk (MoreFailures (D.failures first)
             (D.failures (first_after first_of result))
             ⊎ MoreFailures (D.failures second) (D.failures (second_after second_of result))) result }
-        // Want of memory hides no fault of a device: each call went through.
+        // Out of memory hides no fault of a device: each call went through.
         ensures memory { RefusedAs StoreFault.Memory ((D.failures (first_after first_of result) ≡ D.failures first)
             × (D.failures (second_after second_of result) ≡ D.failures second)) result }
         ensures no_other { RefusedAs StoreFault.NotEmpty ⊥ result }
@@ -190,6 +190,7 @@ fn close_opened<D: Disk>(alloc: Global, keeper: Keeper<D>) -> Result<Engine<D>, 
     ensures first_honest { D.is_honest (first_after first_of result) ↔ D.is_honest (kept.first_of keeper) }
     ensures second_honest { D.is_honest (second_after second_of result) ↔ D.is_honest (kept.second_of keeper) }
 {
+    // Called for its clause that a keeper that is not broken stands for its state.
     let _broken = keeper.is_broken();
     let mut keeper = keeper;
     let mut draft = Draft::new(alloc);
@@ -221,9 +222,10 @@ fn store_fault(fault: Fault) -> StoreFault
         ⊎ (result ≡ StoreFault.Disk) }
 {
     match fault {
-        Fault::Broken | Fault::Disk => StoreFault::Disk,
+        Fault::Broken => unreachable!(),
         Fault::Memory => StoreFault::Memory,
         Fault::Exhausted => StoreFault::Exhausted,
         Fault::Full => StoreFault::Full,
+        Fault::Disk => StoreFault::Disk,
     }
 }

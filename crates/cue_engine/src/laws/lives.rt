@@ -12,7 +12,7 @@ ghost use Rattle.cue_keeper.specs.Stands.{first_area};
 ghost use Rattle.cue_engine.specs.Taking.{IsOffered, WhateverWasOffered};
 ghost use Rattle.cue_engine.specs.Words.{keeper_of, state_of, queue_of, first_of, second_of};
 ghost use Rattle.cue_engine.specs.Inputs.{input_view};
-ghost use Rattle.cue_engine.specs.Wires.{AllHanded};
+ghost use Rattle.cue_engine.specs.Wires.{AllHanded, AreHanded};
 ghost use Rattle.cue_engine.specs.Recovery.{IsLeftOrStands, RefusedBut};
 ghost use Rattle.cue_engine.specs.Incidents.{
   formed,
@@ -131,6 +131,21 @@ pub fn hand_out<D: Disk, W: Wire>(engine: &mut Engine<D>, wire: &mut W) -> u64
         (W.told wire.new)) }
 {
     engine.hand_out(wire)
+}
+
+/// `Engine::hand_out_first` with each of these numbers in turn, and then `Engine::hand_out`, in the life of a store:
+/// together they are the one incident that `hand_out` alone is, and what the wire reports grew by the same.
+pub fn hand_out_in_parts<D: Disk, W: Wire>(engine: &mut Engine<D>, wire: &mut W, parts: &[usize])
+    ensures handed_out { InEachLifeWith (state_of engine.old) (queue_of engine.old)
+        (λ s store is. RunsWith s store (is ++ handed_out ∷ []) (state_of engine.new) (queue_of engine.new)) }
+    ensures handed { InEachLifeWith (state_of engine.old) (queue_of engine.old)
+        (λ s store is. AreHanded (W.told wire.old) (datagrams (handed_in (left_by_all store is) handed_out))
+        (W.told wire.new)) }
+{
+    for most in parts {
+        let _refused = engine.hand_out_first(wire, *most);
+    }
+    let _refused = engine.hand_out(wire);
 }
 
 /// `Engine::recover` in the life of a store: where it answers Ok it gives what is promised, and is the next incident.

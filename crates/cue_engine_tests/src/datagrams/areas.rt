@@ -75,7 +75,7 @@ pub(super) fn stored(alloc: Global, first: &[u8], second: &[u8]) -> Result<Disks
     })
 }
 
-// An area of this generation: a snapshot, and the records behind it.
+// An area of this generation: a snapshot, and the records after it.
 pub(super) fn area(
     alloc: Global,
     generation: u64,
@@ -95,8 +95,8 @@ pub(super) fn area(
 fn cues_of(alloc: Global, first: u64, count: u16) -> Result<Vec<u8>, Fail> {
     let mut text = Vec::from_slice(alloc, &[2, 1, 3, 0x23, 0x29])?;
     text.extend_from_slice(&count.to_be_bytes())?;
-    for behind in 0..count {
-        let number = first.wrapping_add(u64::from(behind));
+    for later in 0..count {
+        let number = first.wrapping_add(u64::from(later));
         let name = format!(in alloc; "{number}")?;
         text.push(u8::try_from(name.len())?)?;
         text.extend_from_slice(name.as_bytes())?;

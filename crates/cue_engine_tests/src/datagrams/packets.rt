@@ -40,7 +40,7 @@ const LATER: [Step; 2] = [
     Step::Answers(8000, b"", [0, 0, 1, 32]),
 ];
 
-// What is no packet: an address that is not padded with zeros, a blob of a negative length, and bytes behind the
+// What is no packet: an address that is not padded with zeros, a blob of a negative length, and bytes after the
 // arguments.
 const NO_PACKETS: [Step; 6] = [
     Step::Hears(0, 8000, b"/a\0a", [0, 0, 1]),

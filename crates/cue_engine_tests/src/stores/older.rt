@@ -41,7 +41,7 @@ fn an_older_store_turns_over_into_this_version(rt: HostRuntime) -> Result<(), Fa
     Ok(())
 }
 
-// Device 4, and cue 3 with device 3 required and device 4 optional, behind the older area.
+// Device 4, and cue 3 with device 3 required and device 4 optional, after the older area.
 const MIXED: [u8; 30] = [
     1, 0, 0, 0, 6, 0, 1, 1, 4, 0x23, 0x2a, // the device
     1, 0, 0, 0, 13, 0, 1, 0x0d, 1, 0x33, 2, 3, 0, 1, 10, 4, 1, 0, // the cue

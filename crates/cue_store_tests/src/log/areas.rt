@@ -42,7 +42,7 @@ fn with_four(
     Ok(log.retire())
 }
 
-// Its bytes, and those of another area behind them.
+// Its bytes, and those of another area after them.
 fn followed(alloc: Global, disk: &MemDisk) -> Result<Vec<u8>, AllocError> {
     let mut bytes = disk.bytes().to_vec(alloc)?;
     bytes.extend_from_slice(&APPENDED)?;
@@ -149,7 +149,7 @@ fn closes(rt: &impl Abort, disk: &mut MemDisk, bytes: &[u8], calls: u64) {
     assert_eq!(rt; (disk.bytes(), disk.calls()), (bytes, calls));
 }
 
-// A new area is formed over a closed one: what stands behind the new text stays.
+// A new area is formed over a closed one: what stands after the new text stays.
 fn is_formed_over(rt: &impl Abort, disk: MemDisk) -> Result<(), DiskFault> {
     let mut want = APPENDED;
     want[8] = 2;

@@ -102,7 +102,7 @@ fn records_that_do_not_fit_together(rt: HostRuntime) -> Result<(), Fail> {
     Ok(())
 }
 
-// A file longer than an area may be: the head of an area with a snapshot of so many bytes 7, and zeros behind it.
+// A file longer than an area may be: the head of an area with a snapshot of so many bytes 7, and zeros after it.
 fn long_file(alloc: Global, len: u32) -> Result<Vec<u8>, AllocError> {
     let mut bytes = [1, 0, 0, 0, 0, 0, 0, 0, 1].to_vec(alloc)?;
     bytes.extend_from_slice(&len.to_be_bytes())?;

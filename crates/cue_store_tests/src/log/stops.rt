@@ -43,7 +43,7 @@ fn is_left(rt: &impl Abort, alloc: Global, disk: MemDisk, is_there: bool) -> Res
 fn leaves(rt: &impl Abort, alloc: Global, disk: &MemDisk, k: u64) -> Result<(), Fail> {
     for junk in 0..=255u8 {
         for extra in [0, 1, u64::MAX] {
-            // Only the write of the gate, and the sync behind it, can leave the record.
+            // Only the write of the gate, and the sync after it, can leave the record.
             let is_there = k >= 3 && junk == 1;
             is_left(rt, alloc, disk.crash(extra, &[junk])?, is_there)?;
         }

@@ -55,7 +55,7 @@ fn a_pair_is_turned_over(rt: HostRuntime) -> Result<(), Fail> {
     assert!(rt; !snap.is_broken());
     holds(&rt, snap, &APPENDED, &TURNED);
 
-    // A second one writes the first disk, and what stands behind the new text stays.
+    // A second one writes the first disk, and what stands after the new text stays.
     let mut snap = opened_bytes(alloc, &APPENDED, &TURNED)?.snap;
     assert_eq!(rt; (snap.generation(), snap.count()), (2, 0));
     assert_eq!(rt; snap.turn_over(&SNAPSHOT), Ok(()));

@@ -246,7 +246,7 @@ const FIRST: Turn = Turn {
     after: TURNED_ONCE,
 };
 
-// The first turn-over behind one that a crash tore: a body behind a gate that is not open.
+// The first turn-over after one that a crash tore: a body behind a gate that is not open.
 const BEHIND_TORN: Turn = Turn {
     spare: &[0, 1, 1, 1, 1, 0xff, 0xff, 0, 1, 1, 0, 0, 0, 0, 1, 1],
     ..FIRST

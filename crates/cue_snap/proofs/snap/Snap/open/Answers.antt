@@ -5,12 +5,12 @@ use Rattle.cue_snap.specs.Found.{disk_in}
 use Rattle.cue_snap.specs.Opened.{live_area_read, second_opened}
 use Rattle.cue_snap.proofs.snap.Snap.open.Goals as goal
 
-pub returns-in-Err-Damaged-default-default-clause-damaged : goal.returns-in-Err-Damaged-default-default-clause-damaged
-returns-in-Err-Damaged-default-default-clause-damaged g c = λ honest_a honest_b same.
+pub returns-in-Err-choose-clause-damaged : goal.returns-in-Err-choose-clause-damaged
+returns-in-Err-choose-clause-damaged g c = λ honest_a honest_b same.
     let held = g.D.Disk.held in
-    let refused = c.in-Err-Damaged-default-default in
+    let refused = c.in-Err-choose in
     let spoiled = refused.ensures.damaged (c.in-Ok.ensures.honest.1 honest_a) (c.in-Ok-find.ensures.honest.1 honest_b)
-    refused.field-0-0-is in
+    (c.open_fault.ensures.damaged same) in
     subst (λ (l : List ℕ). IsSpoiled l (held c.args.second).bytes) (c.in-Ok.ensures.bytes honest_a)
     (subst (λ (l : List ℕ). IsSpoiled (held (disk_in c.in-Ok.found)).bytes l) (c.in-Ok-find.ensures.bytes honest_b)
     spoiled)
@@ -60,33 +60,17 @@ returns-in-Ok-choose-clause-second_moments g c = λ honest.
     subst (λ (disk : _). LeavesAtEachMoment g.D.Disk.moment g.D.Disk.held_at now disk (IsImage (g.D.Disk.held now)))
     (sym c.in-Ok-choose.ensures.second) (c.in-Ok-find.ensures.any_moment honest)
 
-pub returns-in-Err-Damaged-default-default-clause-first_moments :
-    goal.returns-in-Err-Damaged-default-default-clause-first_moments
-returns-in-Err-Damaged-default-default-clause-first_moments g c = λ honest.
+pub returns-in-Err-choose-clause-first_moments : goal.returns-in-Err-choose-clause-first_moments
+returns-in-Err-choose-clause-first_moments g c = λ honest.
     let now = c.args.first in
     subst (λ (disk : _). LeavesAtEachMoment g.D.Disk.moment g.D.Disk.held_at now disk (IsImage (g.D.Disk.held now)))
-    (sym c.in-Err-Damaged-default-default.ensures.first) (c.in-Ok.ensures.any_moment honest)
+    (sym c.in-Err-choose.ensures.first) (c.in-Ok.ensures.any_moment honest)
 
-pub returns-in-Err-Damaged-default-default-clause-second_moments :
-    goal.returns-in-Err-Damaged-default-default-clause-second_moments
-returns-in-Err-Damaged-default-default-clause-second_moments g c = λ honest.
+pub returns-in-Err-choose-clause-second_moments : goal.returns-in-Err-choose-clause-second_moments
+returns-in-Err-choose-clause-second_moments g c = λ honest.
     let now = c.args.second in
     subst (λ (disk : _). LeavesAtEachMoment g.D.Disk.moment g.D.Disk.held_at now disk (IsImage (g.D.Disk.held now)))
-    (sym c.in-Err-Damaged-default-default.ensures.second) (c.in-Ok-find.ensures.any_moment honest)
-
-pub returns-in-Err-Unformed-default-default-clause-first_moments :
-    goal.returns-in-Err-Unformed-default-default-clause-first_moments
-returns-in-Err-Unformed-default-default-clause-first_moments g c = λ honest.
-    let now = c.args.first in
-    subst (λ (disk : _). LeavesAtEachMoment g.D.Disk.moment g.D.Disk.held_at now disk (IsImage (g.D.Disk.held now)))
-    (sym c.in-Err-Unformed-default-default.ensures.first) (c.in-Ok.ensures.any_moment honest)
-
-pub returns-in-Err-Unformed-default-default-clause-second_moments :
-    goal.returns-in-Err-Unformed-default-default-clause-second_moments
-returns-in-Err-Unformed-default-default-clause-second_moments g c = λ honest.
-    let now = c.args.second in
-    subst (λ (disk : _). LeavesAtEachMoment g.D.Disk.moment g.D.Disk.held_at now disk (IsImage (g.D.Disk.held now)))
-    (sym c.in-Err-Unformed-default-default.ensures.second) (c.in-Ok-find.ensures.any_moment honest)
+    (sym c.in-Err-choose.ensures.second) (c.in-Ok-find.ensures.any_moment honest)
 
 pub returns-in-Err-find-clause-first_moments : goal.returns-in-Err-find-clause-first_moments
 returns-in-Err-find-clause-first_moments g c = λ honest.
@@ -124,77 +108,35 @@ returns-in-Ok-choose-clause-second_honest g c =
     subst (λ (disk : _). g.D.Disk.is_honest disk ↔ g.D.Disk.is_honest c.args.second) (sym c.in-Ok-choose.ensures.second)
     c.in-Ok-find.ensures.honest
 
-pub returns-in-Err-Damaged-default-default-clause-first_bytes :
-    goal.returns-in-Err-Damaged-default-default-clause-first_bytes
-returns-in-Err-Damaged-default-default-clause-first_bytes g c =
+pub returns-in-Err-choose-clause-first_bytes : goal.returns-in-Err-choose-clause-first_bytes
+returns-in-Err-choose-clause-first_bytes g c =
     λ honest. subst (λ (disk : _). (g.D.Disk.held disk).bytes ≡ (g.D.Disk.held c.args.first).bytes)
-    (sym c.in-Err-Damaged-default-default.ensures.first) (c.in-Ok.ensures.bytes honest)
+    (sym c.in-Err-choose.ensures.first) (c.in-Ok.ensures.bytes honest)
 
-pub returns-in-Err-Damaged-default-default-clause-first_failures :
-    goal.returns-in-Err-Damaged-default-default-clause-first_failures
-returns-in-Err-Damaged-default-default-clause-first_failures g c =
-    subst (λ (disk : _). g.D.Disk.failures c.args.first ≤ g.D.Disk.failures disk)
-    (sym c.in-Err-Damaged-default-default.ensures.first) c.in-Ok.ensures.failures
+pub returns-in-Err-choose-clause-first_failures : goal.returns-in-Err-choose-clause-first_failures
+returns-in-Err-choose-clause-first_failures g c =
+    subst (λ (disk : _). g.D.Disk.failures c.args.first ≤ g.D.Disk.failures disk) (sym c.in-Err-choose.ensures.first)
+    c.in-Ok.ensures.failures
 
-pub returns-in-Err-Damaged-default-default-clause-first_honest :
-    goal.returns-in-Err-Damaged-default-default-clause-first_honest
-returns-in-Err-Damaged-default-default-clause-first_honest g c =
-    subst (λ (disk : _). g.D.Disk.is_honest disk ↔ g.D.Disk.is_honest c.args.first)
-    (sym c.in-Err-Damaged-default-default.ensures.first) c.in-Ok.ensures.honest
+pub returns-in-Err-choose-clause-first_honest : goal.returns-in-Err-choose-clause-first_honest
+returns-in-Err-choose-clause-first_honest g c =
+    subst (λ (disk : _). g.D.Disk.is_honest disk ↔ g.D.Disk.is_honest c.args.first) (sym c.in-Err-choose.ensures.first)
+    c.in-Ok.ensures.honest
 
-pub returns-in-Err-Damaged-default-default-clause-second_bytes :
-    goal.returns-in-Err-Damaged-default-default-clause-second_bytes
-returns-in-Err-Damaged-default-default-clause-second_bytes g c =
+pub returns-in-Err-choose-clause-second_bytes : goal.returns-in-Err-choose-clause-second_bytes
+returns-in-Err-choose-clause-second_bytes g c =
     λ honest. subst (λ (disk : _). (g.D.Disk.held disk).bytes ≡ (g.D.Disk.held c.args.second).bytes)
-    (sym c.in-Err-Damaged-default-default.ensures.second) (c.in-Ok-find.ensures.bytes honest)
+    (sym c.in-Err-choose.ensures.second) (c.in-Ok-find.ensures.bytes honest)
 
-pub returns-in-Err-Damaged-default-default-clause-second_failures :
-    goal.returns-in-Err-Damaged-default-default-clause-second_failures
-returns-in-Err-Damaged-default-default-clause-second_failures g c =
-    subst (λ (disk : _). g.D.Disk.failures c.args.second ≤ g.D.Disk.failures disk)
-    (sym c.in-Err-Damaged-default-default.ensures.second) c.in-Ok-find.ensures.failures
+pub returns-in-Err-choose-clause-second_failures : goal.returns-in-Err-choose-clause-second_failures
+returns-in-Err-choose-clause-second_failures g c =
+    subst (λ (disk : _). g.D.Disk.failures c.args.second ≤ g.D.Disk.failures disk) (sym c.in-Err-choose.ensures.second)
+    c.in-Ok-find.ensures.failures
 
-pub returns-in-Err-Damaged-default-default-clause-second_honest :
-    goal.returns-in-Err-Damaged-default-default-clause-second_honest
-returns-in-Err-Damaged-default-default-clause-second_honest g c =
+pub returns-in-Err-choose-clause-second_honest : goal.returns-in-Err-choose-clause-second_honest
+returns-in-Err-choose-clause-second_honest g c =
     subst (λ (disk : _). g.D.Disk.is_honest disk ↔ g.D.Disk.is_honest c.args.second)
-    (sym c.in-Err-Damaged-default-default.ensures.second) c.in-Ok-find.ensures.honest
-
-pub returns-in-Err-Unformed-default-default-clause-first_bytes :
-    goal.returns-in-Err-Unformed-default-default-clause-first_bytes
-returns-in-Err-Unformed-default-default-clause-first_bytes g c =
-    λ honest. subst (λ (disk : _). (g.D.Disk.held disk).bytes ≡ (g.D.Disk.held c.args.first).bytes)
-    (sym c.in-Err-Unformed-default-default.ensures.first) (c.in-Ok.ensures.bytes honest)
-
-pub returns-in-Err-Unformed-default-default-clause-first_failures :
-    goal.returns-in-Err-Unformed-default-default-clause-first_failures
-returns-in-Err-Unformed-default-default-clause-first_failures g c =
-    subst (λ (disk : _). g.D.Disk.failures c.args.first ≤ g.D.Disk.failures disk)
-    (sym c.in-Err-Unformed-default-default.ensures.first) c.in-Ok.ensures.failures
-
-pub returns-in-Err-Unformed-default-default-clause-first_honest :
-    goal.returns-in-Err-Unformed-default-default-clause-first_honest
-returns-in-Err-Unformed-default-default-clause-first_honest g c =
-    subst (λ (disk : _). g.D.Disk.is_honest disk ↔ g.D.Disk.is_honest c.args.first)
-    (sym c.in-Err-Unformed-default-default.ensures.first) c.in-Ok.ensures.honest
-
-pub returns-in-Err-Unformed-default-default-clause-second_bytes :
-    goal.returns-in-Err-Unformed-default-default-clause-second_bytes
-returns-in-Err-Unformed-default-default-clause-second_bytes g c =
-    λ honest. subst (λ (disk : _). (g.D.Disk.held disk).bytes ≡ (g.D.Disk.held c.args.second).bytes)
-    (sym c.in-Err-Unformed-default-default.ensures.second) (c.in-Ok-find.ensures.bytes honest)
-
-pub returns-in-Err-Unformed-default-default-clause-second_failures :
-    goal.returns-in-Err-Unformed-default-default-clause-second_failures
-returns-in-Err-Unformed-default-default-clause-second_failures g c =
-    subst (λ (disk : _). g.D.Disk.failures c.args.second ≤ g.D.Disk.failures disk)
-    (sym c.in-Err-Unformed-default-default.ensures.second) c.in-Ok-find.ensures.failures
-
-pub returns-in-Err-Unformed-default-default-clause-second_honest :
-    goal.returns-in-Err-Unformed-default-default-clause-second_honest
-returns-in-Err-Unformed-default-default-clause-second_honest g c =
-    subst (λ (disk : _). g.D.Disk.is_honest disk ↔ g.D.Disk.is_honest c.args.second)
-    (sym c.in-Err-Unformed-default-default.ensures.second) c.in-Ok-find.ensures.honest
+    (sym c.in-Err-choose.ensures.second) c.in-Ok-find.ensures.honest
 
 pub returns-in-Err-find-clause-first_bytes : goal.returns-in-Err-find-clause-first_bytes
 returns-in-Err-find-clause-first_bytes g c =

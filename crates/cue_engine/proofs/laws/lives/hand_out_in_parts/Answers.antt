@@ -1,0 +1,50 @@
+use Rattle.std.proofs.Common.{◌+◌, List, ℕ, Option, refl, ◌∙◌, ap, subst}
+use Rattle.cue_keeper.specs.Observed as keeper
+use Rattle.cue_engine.specs.Wires.{AreHanded}
+use Rattle.cue_engine.specs.Words.{state_of, queue_of}
+use Rattle.cue_engine.proofs.LifeLemmas.{lives_handed, handed_what_is_owed}
+use Rattle.cue_engine.proofs.WireLemmas.{handed_none, part_more, parts_all}
+use Rattle.cue_engine.proofs.laws.lives.hand_out_in_parts.Goals as goal
+
+pub loop-most-init : goal.loop-most-init
+loop-most-init g c = record {
+  keeper = refl;
+  so_far = (0, handed_none (g.W.Wire.told c.args.wire.now) (queue_of c.args.engine.now));
+}
+
+pub loop-most-preserved : goal.loop-most-preserved
+loop-most-preserved g c =
+    let told = g.W.Wire.told in
+    let l = c.loop-most in
+    let part = c.hand_out_first-refused in
+    let before = l.invariant.so_far in
+    record {
+      keeper = part.ensures.keeper ∙ l.invariant.keeper;
+      so_far = (
+        before.0 + part.result,
+        part_more (told c.args.wire.now) (told l.wire) (told part.new.wire)
+            (queue_of c.args.engine.now) (queue_of l.engine) (queue_of part.new.self) _ before.0 part.result
+            part.ensures.left before.1 part.ensures.handed,
+      );
+    }
+
+pub returns-clause-handed_out : goal.returns-clause-handed_out
+returns-clause-handed_out g c = λ s store is.
+    let old = c.args.engine.now in
+    let last = c.hand_out-refused in
+    lives_handed s store is (state_of old) (state_of last.new.self) (queue_of old) (queue_of last.new.self)
+    (ap keeper.state_of (last.ensures.keeper ∙ c.loop-most.invariant.keeper)) last.ensures.emptied
+
+pub returns-clause-handed : goal.returns-clause-handed
+returns-clause-handed g c = λ s store is runs.
+    let told = g.W.Wire.told in
+    let old = c.args.engine.now in
+    let l = c.loop-most in
+    let last = c.hand_out-refused in
+    let before = l.invariant.so_far in
+    subst (λ (os : List (ℕ × List ℕ)). AreHanded (told c.args.wire.now) os (told last.new.wire))
+    (handed_what_is_owed s store is (state_of old) (queue_of old) runs) (
+      before.0 + last.result,
+      parts_all (told c.args.wire.now) (told l.wire) (told last.new.wire) (queue_of old)
+          (queue_of l.engine) before.0 last.result before.1 last.ensures.handed,
+    )

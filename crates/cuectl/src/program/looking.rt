@@ -1,6 +1,7 @@
 //! How `show` reads a store that another process may serve meanwhile: again, where what it read may be of two moments.
 ghost use Rattle.std.specs.Prelude.{◌≡◌, ◌↔◌};
 ghost use Rattle.cue_copies.specs.Looking.{StandsAsSeen};
+ghost use Rattle.cuectl.specs.declared.program.fault.ProgramFault.TheVariants.{Io};
 
 use super::fault::ProgramFault;
 use super::files::{open_both, refused_store, say};
@@ -38,6 +39,14 @@ fn look_again<R: Files<File = File>, D: Disk>(
     look(alloc, first, second)
 }
 
+// Says that the files did not stand still; this is the fault.
+fn say_changing<R: Eprint>(rt: &R, dir: &str) -> ProgramFault
+    ensures { result ≡ Io }
+{
+    say(rt, dir, "the files change while they are read; ask again");
+    ProgramFault::Io
+}
+
 /// Opens the store of a folder in memory. Nothing is written to its files, and no sync is sent to them. `Io` where they
 /// were turned over at each reading.
 pub fn opened<R: Files<File = File> + Eprint>(
@@ -49,9 +58,6 @@ pub fn opened<R: Files<File = File> + Eprint>(
     match look_again(rt, alloc, dir, &mut first, &mut second) {
         Seen::Whole(keeper) => Ok(keeper),
         Seen::Refused(fault) => Err(refused_store(rt, dir, (fault, first, second))),
-        Seen::Changing => {
-            say(rt, dir, "the files change while they are read; ask again");
-            Err(ProgramFault::Io)
-        }
+        Seen::Changing => Err(say_changing(rt, dir)),
     }
 }

@@ -33,7 +33,7 @@ use Rattle.cue_outbox.specs.New.{newly_pending, is_new}
 use Rattle.cue_engine.specs.Runs.{Story, run, joined_list, with_batch, Happening, took, given_at, is_cancelling_in}
 use Rattle.cue_engine.specs.Runs.{order_rests, send_rests, rests, PendingRests, EachRests}
 use Rattle.cue_engine.specs.Runs as runs
-use Rattle.cue_core.proofs.lists.AnyLemmas.{or_left, or_right, either, gives, given_of as given_that, any-append}
+use Rattle.cue_core.proofs.lists.AnyLemmas.{or_left, or_right, either, gives, given as given_that, any-append}
 use Rattle.cue_core.proofs.lists.AnyLemmas.{all-append, all-flat, all_implied, all_mapped, all_true}
 use Rattle.cue_core.proofs.live.CancelLemmas.{each-holds}
 use Rattle.cue_core.proofs.history.RestLemmas.{live-by-start, decided-by-go}

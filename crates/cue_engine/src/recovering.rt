@@ -42,7 +42,7 @@ fn queue_pending(alloc: Global, state: &State) -> Result<Queue, AllocError>
 
 // Closes the state on the draft: the cancels, and what is owed then. From here on the draft is not valid, until it
 // follows the kept state again.
-#[tactic(auto, unfolding(cue_core::specs::Batches::closed))]
+#[tactic(auto, unfolding(cue_core::specs::Batches::closed_state))]
 fn close_on(
     alloc: Global,
     kept: &State,
@@ -66,7 +66,7 @@ fn close_on(
 
 /// Cancels what is undecided, and answers what is owed then. All memory is taken before the first device call; where
 /// nothing is undecided none is made.
-#[tactic(auto, unfolding(cue_core::specs::Batches::closed))]
+#[tactic(auto, unfolding(cue_core::specs::Batches::closed_state))]
 pub(crate) fn close_undecided<D: Disk>(
     alloc: Global,
     keeper: &mut Keeper<D>,

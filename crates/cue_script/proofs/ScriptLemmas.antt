@@ -127,10 +127,10 @@ output-more s hs h =
     ∙ printed-append (datagrams (run s hs).sends) (datagrams (given_at (run s hs).state h).sends)
 
 -- what recovery makes of bytes that stand for a state
-pub closed_state : (s t : ShowState) (x y : List ℕ) → Stands x y s → ClosedFrom x y t
+pub closed_by_recovery : (s t : ShowState) (x y : List ℕ) → Stands x y s → ClosedFrom x y t
     → t ≡ after_events s (given_at s recovered).batch
 unfolding closed_state
-closed_state s t x y stands from = from.is ∙ ap closed_state (one_state x y from.before s from.stood stands)
+closed_by_recovery s t x y stands from = from.is ∙ ap closed_state (one_state x y from.before s from.stood stands)
 
 pub closed_sends : (s t : ShowState) (x y : List ℕ) (queue : List (ℕ × List ℕ)) → Stands x y s → ClosedFrom x y t
     → queue ≡ datagrams (all_pending t) → queue ≡ datagrams (given_at s recovered).sends

@@ -1,10 +1,10 @@
-use Rattle.cue_script.proofs.ScriptLemmas.{closed_state, closed_sends, comes_of_recovery}
+use Rattle.cue_script.proofs.ScriptLemmas.{closed_by_recovery, closed_sends, comes_of_recovery}
 use Rattle.cue_script.proofs.play.recovered.Goals as goal
 
 pub returns-in-Ok-recover-clause-after : goal.returns-in-Ok-recover-clause-after
 returns-in-Ok-recover-clause-after c = record {
   works = c.in-Ok-recover.ensures.works;
-  is = closed_state _ _ _ _ c.in-Ok.ensures (c.in-Ok-recover.ensures.stood tt tt);
+  is = closed_by_recovery _ _ _ _ c.in-Ok.ensures (c.in-Ok-recover.ensures.stood tt tt);
   owes = closed_sends _ _ _ _ _ c.in-Ok.ensures (c.in-Ok-recover.ensures.stood tt tt) c.in-Ok-recover.ensures.queue;
 }
 

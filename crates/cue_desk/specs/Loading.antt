@@ -1,6 +1,7 @@
 -- What a controller reads from what the desk asks, and what it makes of a show file that is loaded.
-use Rattle.std.specs.Prelude.{◌≡◌, ℕ, Bool, true, List, [], ◌∷◌, ◌++◌, map, Some, Result, Ok, IsTrue}
+use Rattle.std.specs.Prelude.{◌≡◌, ℕ, pos, Bool, true, List, [], ◌∷◌, ◌++◌, map, Some, Result, Ok, IsTrue}
 use Rattle.cue_show.specs.Show.{ShowLists, has_cue, has_device, is_show}
+use Rattle.cue_osc.specs.Argument.{int, text}
 use Rattle.cue_osc.specs.Content.{Content, message}
 use Rattle.cue_core.specs.declared.command.Code.{Code}
 use Rattle.cue_core.specs.declared.command.Command.{Command}
@@ -11,13 +12,14 @@ use Rattle.cue_core.specs.Steps.{after_events}
 use Rattle.cue_core.specs.Judge.{judgement_of}
 use Rattle.cue_operator.specs.Methods.{address_of}
 use Rattle.cue_operator.specs.Commands.{commands_of}
+use Rattle.cue_operator.specs.declared.method.Method.TheVariants as method
 use Rattle.cue_desk.specs.declared.asking.Asked.{Asked}
 use Rattle.cue_desk.specs.declared.asking.Asked.TheVariants as asked
 use Rattle.cue_desk.specs.declared.show_file.CueEntry.{CueEntry}
 use Rattle.cue_desk.specs.declared.show_file.DeviceEntry.{DeviceEntry}
 use Rattle.cue_desk.specs.declared.show_file.ShowFile.{ShowFile}
 use Rattle.cue_desk.specs.Accepted.{after_file}
-use Rattle.cue_desk.specs.Asks.{arguments_of, command_of, is_askable, method_of}
+use Rattle.cue_desk.specs.Asks.{arguments_of, command_of, flagged_parts, is_askable, method_of}
 
 -- ---- one message
 
@@ -52,6 +54,13 @@ device_command e = command.AddDevice e.number e.port
 
 abbrev pub cue_command : CueEntry → Command
 cue_command e = command.AddCue e.number e.parts
+
+-- the message of each: at the address of the method, with its number and its port, or with its number and its parts
+abbrev pub device_message : DeviceEntry → Content
+device_message e = message (address_of method.AddDevice) (int (pos e.number) ∷ int (pos e.port) ∷ [])
+
+abbrev pub cue_message : CueEntry → Content
+cue_message e = message (address_of method.AddMixedCue) (text e.number ∷ flagged_parts e.parts)
 
 -- those that add all that a file has: its devices, then its cues, in order
 abbrev pub commands_in : ShowFile → List Command

@@ -12,7 +12,7 @@ ghost use Rattle.cue_desk.specs.Loading.{message_of};
 
 mod bundling;
 
-pub use bundling::{bundle, count_that_fits};
+pub use bundling::{bundle_of_cues, bundle_of_devices, cues_that_fit, devices_that_fit};
 use cue_operator::CueVerb;
 use cue_osc::{Arg, Args, Message, Packet, WriteFault};
 use cue_show::{CueNo, DeviceNo, Part, Parts};

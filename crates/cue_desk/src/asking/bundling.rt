@@ -1,13 +1,16 @@
-//! Several things asked by one datagram: carried out whole, or not at all, and each replied to by itself.
-ghost use Rattle.std.specs.Prelude.{◌≡◌, ◌++◌, ◌≤◌, ◌<◌, IfOk, OnOk, Ok, length, map};
+//! What a show file adds, asked by few datagrams: each is carried out whole or not at all, and each of its messages is
+//! replied to by itself.
+ghost use Rattle.std.specs.Prelude.{◌≡◌, ◌++◌, ◌∷◌, ◌≤◌, ◌<◌, [], IfOk, OnOk, Ok, length, map, pos};
+ghost use Rattle.cue_osc.specs.Argument.{arg_view, int};
 ghost use Rattle.cue_osc.specs.Content.{bundle, contents_of, view};
 ghost use Rattle.cue_osc.specs.Reading.{datagram_at};
 ghost use Rattle.cue_operator.specs.Methods.{address_of};
-ghost use Rattle.cue_desk.specs.Asks.{method_of};
-ghost use Rattle.cue_desk.specs.Loading.{message_of};
+ghost use Rattle.cue_operator.specs.declared.method.Method.TheVariants.{AddDevice, AddMixedCue};
+ghost use Rattle.cue_desk.specs.Loading.{cue_message, device_message};
 
-use super::{AskFault, Asked, address, args_of};
-use cue_osc::{Args, MAX_LEN, Message, Packet};
+use super::{AskFault, cue_args};
+use crate::show_file::{CueEntry, DeviceEntry};
+use cue_osc::{Arg, Args, MAX_LEN, Message, Packet};
 use cue_show::Part;
 use std::alloc::{AllocError, Global};
 
@@ -40,67 +43,101 @@ fn parts_len(parts: &[Part]) -> usize {
     len
 }
 
-// About how many bytes of a bundle a message takes, with its size: for a cue up to five more than it does.
-fn message_len(asked: &Asked<'_>) -> usize {
-    match asked {
-        Asked::AddCue(cue, parts) => text_len(cue.text())
-            .saturating_add(parts_len(parts.as_slice()))
-            .saturating_add(24),
-        _ => 44,
-    }
+// About how many bytes of a bundle the message of a cue takes, with its size: up to five more than it does.
+fn cue_len(entry: &CueEntry) -> usize {
+    text_len(entry.number.text())
+        .saturating_add(parts_len(entry.parts.as_slice()))
+        .saturating_add(24)
 }
 
-/// How many of the first of these one bundle asks for: those that fit into a datagram, and at least one.
-pub fn count_that_fits(asked: &[Asked<'_>]) -> usize
-    ensures at_most { result ≤ length asked.now }
-    ensures at_least { 0 < length asked.now → 0 < result }
+/// How many of the first of these devices one bundle adds: those that fit into a datagram, and at least one.
+pub fn devices_that_fit(entries: &[DeviceEntry]) -> usize
+    ensures at_most { result ≤ length entries.now }
+    ensures at_least { 0 < length entries.now → 0 < result }
+{
+    entries.len().min(MAX_TOGETHER)
+}
+
+/// How many of the first of these cues one bundle adds: those that fit into a datagram, and at least one.
+pub fn cues_that_fit(entries: &[CueEntry]) -> usize
+    ensures at_most { result ≤ length entries.now }
+    ensures at_least { 0 < length entries.now → 0 < result }
 {
     let mut room = MAX_LEN - BUNDLE_FRAME_LEN;
-    for (index, asked) in asked.iter().enumerate() {
-        let len = message_len(asked);
+    for (index, entry) in entries.iter().enumerate() {
+        let len = cue_len(entry);
         if index > 0 && (len > room || index >= MAX_TOGETHER) {
             return index;
         }
         room = room.saturating_sub(len);
     }
-    asked.len()
+    entries.len()
 }
 
-// Where each of these is asked, after what stands already.
-fn push_addresses(
-    alloc: Global,
-    addresses: &mut Vec<Vec<u8>>,
-    asked: &[Asked<'_>],
-) -> Result<(), AllocError>
-    ensures { OnOk result (map (λ a. a.items) addresses.new.items ≡ map (λ a. a.items) addresses.old.items ++ map
-        (λ a. address_of (method_of a)) asked.now) }
+// Where a device is added.
+fn device_address() -> &'static [u8]
+    ensures { result.now ≡ address_of AddDevice }
 {
-    match asked {
+    b"/show/device"
+}
+
+// Where a cue is added.
+fn cue_address() -> &'static [u8]
+    ensures { result.now ≡ address_of AddMixedCue }
+{
+    b"/show/mixed"
+}
+
+// The arguments of a device that is added.
+fn device_args<'a>(alloc: Global, entry: &DeviceEntry) -> Result<Vec<Arg<'a>>, AllocError>
+    ensures { IfOk result (λ args. map arg_view args.items ≡ int (pos entry.now.number) ∷ int (pos entry.now.port) ∷ []) }
+{
+    Ok(vec![in alloc;
+        Arg::Int(i32::from(entry.number.number())),
+        Arg::Int(i32::from(entry.port)),
+    ]?)
+}
+
+// The message of each device, after what stands already.
+fn push_devices<'a>(
+    alloc: Global,
+    messages: &mut Vec<Packet<'a>>,
+    entries: &'a [DeviceEntry],
+) -> Result<(), AllocError>
+    ensures { OnOk result (map view messages.new.items
+        ≡ map view messages.old.items ++ map device_message entries.now) }
+{
+    match entries {
         [] => Ok(()),
         [first, rest @ ..] => {
-            addresses.push(address(alloc, first)?)?;
-            push_addresses(alloc, addresses, rest)
+            let args = Args::from_vec(device_args(alloc, first)?);
+            messages.push(Packet::Message(Message {
+                address: device_address(),
+                args,
+            }))?;
+            push_devices(alloc, messages, rest)
         }
     }
 }
 
-// The message of each of these, after what stands already.
-fn push_messages<'a>(
+// The message of each cue, after what stands already.
+fn push_cues<'a>(
     alloc: Global,
     messages: &mut Vec<Packet<'a>>,
-    addresses: &'a [Vec<u8>],
-    asked: &'a [Asked<'a>],
+    entries: &'a [CueEntry],
 ) -> Result<(), AllocError>
-    requires { map (λ a. a.items) addresses.now ≡ map (λ a. address_of (method_of a)) asked.now }
-    ensures { OnOk result (map view messages.new.items ≡ map view messages.old.items ++ map message_of asked.now) }
+    ensures { OnOk result (map view messages.new.items ≡ map view messages.old.items ++ map cue_message entries.now) }
 {
-    match (addresses, asked) {
-        ([address, addresses @ ..], [first, rest @ ..]) => {
-            let args = Args::from_vec(args_of(alloc, first)?);
-            messages.push(Packet::Message(Message { address, args }))?;
-            push_messages(alloc, messages, addresses, rest)
+    match entries {
+        [] => Ok(()),
+        [first, rest @ ..] => {
+            let args = Args::from_vec(cue_args(alloc, &first.number, &first.parts)?);
+            messages.push(Packet::Message(Message {
+                address: cue_address(),
+                args,
+            }))?;
+            push_cues(alloc, messages, rest)
         }
-        _ => Ok(()),
     }
 }
 
@@ -119,37 +156,24 @@ fn bundle_of(alloc: Global, items: Vec<Packet<'_>>) -> Result<Vec<u8>, AskFault>
     Ok(cue_osc::write(alloc, &packet)?)
 }
 
-// The message of each of these.
-fn messages_of<'a>(
-    alloc: Global,
-    addresses: &'a [Vec<u8>],
-    asked: &'a [Asked<'a>],
-) -> Result<Vec<Packet<'a>>, AllocError>
-    requires { map (λ a. a.items) addresses.now ≡ map (λ a. address_of (method_of a)) asked.now }
-    ensures { IfOk result (λ messages. map view messages.items ≡ map message_of asked.now) }
-{
-    let mut messages = Vec::new(alloc);
-    push_messages(alloc, &mut messages, addresses, asked)?;
-    Ok(messages)
-}
-
-// Where each of these is asked.
-fn addresses_of(alloc: Global, asked: &[Asked<'_>]) -> Result<Vec<Vec<u8>>, AllocError>
-    ensures { IfOk result (λ addresses. map (λ a. a.items) addresses.items ≡ map (λ a. address_of (method_of a))
-        asked.now) }
-{
-    let mut addresses = Vec::new(alloc);
-    push_addresses(alloc, &mut addresses, asked)?;
-    Ok(addresses)
-}
-
-/// The datagram that asks for these, in order, and for nothing else: a bundle of the message of each, to be carried out
-/// at once. `Unwritable` where it would be longer than a datagram: `count_that_fits` says how many are not.
-pub fn bundle(alloc: Global, asked: &[Asked<'_>]) -> Result<Vec<u8>, AskFault>
-    ensures { let said = contents_of (map message_of asked.now) in
+/// The datagram that asks for these devices to be added, in order, and for nothing else: a bundle of the message of each,
+/// to be carried out at once. `Unwritable` where it would be longer than a datagram: `devices_that_fit` says how many
+/// are not.
+pub fn bundle_of_devices(alloc: Global, entries: &[DeviceEntry]) -> Result<Vec<u8>, AskFault>
+    ensures { let said = contents_of (map device_message entries.now) in
         IfOk result (λ bytes. datagram_at bytes.items ≡ Ok (bundle 1 said)) }
 {
-    let addresses = addresses_of(alloc, asked)?;
-    let messages = messages_of(alloc, &addresses, asked)?;
+    let mut messages = Vec::new(alloc);
+    push_devices(alloc, &mut messages, entries)?;
+    bundle_of(alloc, messages)
+}
+
+/// The datagram that asks for these cues to be added, as `bundle_of_devices` has it for devices.
+pub fn bundle_of_cues(alloc: Global, entries: &[CueEntry]) -> Result<Vec<u8>, AskFault>
+    ensures { let said = contents_of (map cue_message entries.now) in
+        IfOk result (λ bytes. datagram_at bytes.items ≡ Ok (bundle 1 said)) }
+{
+    let mut messages = Vec::new(alloc);
+    push_cues(alloc, &mut messages, entries)?;
     bundle_of(alloc, messages)
 }

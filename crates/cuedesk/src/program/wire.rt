@@ -4,7 +4,7 @@ ghost use Rattle.cuedesk.specs.Replies.{reply_in, unheard};
 
 use super::answered::{Answered, push};
 use super::ending::{Ending, say};
-use cue_desk::asking::{Asked, address, bundle, datagram};
+use cue_desk::asking::{Asked, address, datagram};
 use cue_desk::replying::{Replied, read_reply};
 use std::alloc::{AllocError, Global};
 use std::io::{Eprint, ErrorKind};
@@ -151,34 +151,20 @@ impl Wire {
         Ok(reply_in(heard).map(Answered::of))
     }
 
-    /// Asks some commands by one datagram, once: what became of each, in order; none where one of the replies did not
-    /// come, or no datagram asks for these.
+    /// Sends a datagram that asks so many commands at one address, once: what became of each, in order; none where one of
+    /// the replies did not come.
     pub fn ask_together(
         &self,
         alloc: Global,
-        asked: &[Asked<'_>],
-    ) -> Result<Option<Vec<Answered>>, Ending> {
-        match bundle(alloc, asked) {
-            Ok(datagram) => {
-                self.send(&datagram);
-                self.hear_each(alloc, asked)
-            }
-            Err(_) => Ok(None),
-        }
-    }
-
-    // Hears the reply to each of these, in order; none where one did not come.
-    fn hear_each(
-        &self,
-        alloc: Global,
-        asked: &[Asked<'_>],
+        datagram: &[u8],
+        address: &[u8],
+        count: usize,
     ) -> Result<Option<Vec<Answered>>, Ending> {
         let silences = Sendings::OfSome.silences();
+        self.send(datagram);
         let mut answers = Vec::new(alloc);
-        for one in asked {
-            let whole = address(alloc, one)?;
-            let shown = &whole[..whole.len().min(SHOWN)];
-            match reply_in(self.wait(alloc, shown, false, silences)?) {
+        for _ in 0..count {
+            match reply_in(self.wait(alloc, address, false, silences)?) {
                 Some(replied) => push(&mut answers, Answered::of(replied))?,
                 None => return Ok(None),
             }

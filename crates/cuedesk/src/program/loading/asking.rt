@@ -2,26 +2,15 @@
 use super::super::answered::{Answered, push};
 use super::super::ending::{Ending, say};
 use super::super::wire::{Sendings, Wire, reply_in};
-use cue_desk::asking::Asked;
+use cue_desk::asking::{Asked, bundle_of_cues, bundle_of_devices};
 use cue_desk::replying::{Replied, Status};
-use cue_desk::show_file::Subject;
+use cue_desk::show_file::{CueEntry, DeviceEntry, Subject};
 use cue_words::code_words;
 use std::io::Eprint;
 use std::net::Net;
 
 /// How many times a message is sent at most.
 const SENDINGS: u32 = 4;
-
-/// What is asked about.
-pub fn subject_of(asked: &Asked<'_>) -> Subject {
-    match asked {
-        Asked::Status => Subject::File,
-        Asked::AddDevice(device, _) | Asked::Release(device) | Asked::RemoveDevice(device) => {
-            Subject::Device(*device)
-        }
-        Asked::AddCue(cue, _) | Asked::OfCue(_, cue) => Subject::Cue(*cue),
-    }
-}
 
 /// Asks one thing after the other.
 #[derive(Drop)]
@@ -67,24 +56,64 @@ impl<'a, R: Net + Eprint + AllocGlobal> Asker<'a, R> {
         }
     }
 
-    /// Asks these by one datagram, and each by itself where a reply to that did not come: what became of each.
-    pub fn ask_together(&mut self, asked: &[Asked<'_>]) -> Result<Vec<Answered>, Ending> {
-        match self.wire.ask_together(self.rt.alloc(), asked)? {
+    // Asks by one datagram; none where one of so many replies did not come.
+    fn ask_together(
+        &mut self,
+        datagram: &[u8],
+        address: &[u8],
+        count: usize,
+    ) -> Result<Option<Vec<Answered>>, Ending> {
+        let alloc = self.rt.alloc();
+        let answers = self.wire.ask_together(alloc, datagram, address, count)?;
+        if answers.is_none() {
+            self.wire = Wire::new(self.rt, self.port)?;
+        }
+        Ok(answers)
+    }
+
+    // Adds each of these devices by itself.
+    fn add_each_device(&mut self, entries: &[DeviceEntry]) -> Result<Vec<Answered>, Ending> {
+        let mut answers = Vec::new(self.rt.alloc());
+        for entry in entries {
+            let asked = Asked::AddDevice(entry.number, entry.port);
+            push(
+                &mut answers,
+                self.ask(Subject::Device(entry.number), &asked)?,
+            )?;
+        }
+        Ok(answers)
+    }
+
+    // Adds each of these cues by itself.
+    fn add_each_cue(&mut self, entries: &[CueEntry]) -> Result<Vec<Answered>, Ending> {
+        let mut answers = Vec::new(self.rt.alloc());
+        for entry in entries {
+            let asked = Asked::AddCue(entry.number, &entry.parts);
+            push(&mut answers, self.ask(Subject::Cue(entry.number), &asked)?)?;
+        }
+        Ok(answers)
+    }
+
+    /// Adds these devices by one datagram, and each by itself where a reply to that did not come: what became of each.
+    pub fn add_devices(&mut self, entries: &[DeviceEntry]) -> Result<Vec<Answered>, Ending> {
+        let Ok(datagram) = bundle_of_devices(self.rt.alloc(), entries) else {
+            return self.add_each_device(entries);
+        };
+        match self.ask_together(&datagram, b"/show/device", entries.len())? {
             Some(answers) => Ok(answers),
-            None => {
-                self.wire = Wire::new(self.rt, self.port)?;
-                self.ask_each(asked)
-            }
+            None => self.add_each_device(entries),
         }
     }
 
-    // Asks one after the other.
-    fn ask_each(&mut self, asked: &[Asked<'_>]) -> Result<Vec<Answered>, Ending> {
-        let mut answers = Vec::new(self.rt.alloc());
-        for one in asked {
-            push(&mut answers, self.ask(subject_of(one), one)?)?;
+    /// Adds these cues likewise.
+    pub fn add_cues(&mut self, entries: &[CueEntry]) -> Result<Vec<Answered>, Ending> {
+        let Ok(datagram) = bundle_of_cues(self.rt.alloc(), entries) else {
+            return self.add_each_cue(entries);
+        };
+        match self.ask_together(&datagram, b"/show/mixed", entries.len())? {
+            Some(answers) => Ok(answers),
+            None => self.add_each_cue(entries),
         }
-        Ok(answers)
     }
 
     /// Asks how the show stands.
@@ -96,11 +125,6 @@ impl<'a, R: Net + Eprint + AllocGlobal> Asker<'a, R> {
                 Err(Ending::Silent)
             }
         }
-    }
-
-    /// Says something.
-    pub fn say(&self, what: &str) {
-        say(self.rt, what);
     }
 
     /// Says that something was refused.

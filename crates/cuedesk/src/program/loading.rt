@@ -195,17 +195,49 @@ impl<'a, R: Net + Eprint + AllocGlobal, W: Write> Loading<'a, R, W> {
         Ok(())
     }
 
+    // Adds the devices from this place on that fit into one datagram; the place after them.
+    fn add_devices_from(
+        &mut self,
+        counts: &mut Counts,
+        entries: &[DeviceEntry],
+        from: usize,
+    ) -> Result<usize, Ending> {
+        let Some(rest) = entries.get(from..) else {
+            return Ok(from);
+        };
+        let count = devices_that_fit(rest);
+        if let Some(first) = rest.get(..count) {
+            self.add_devices(counts, first)?;
+        }
+        Ok(from.saturating_add(count))
+    }
+
+    // Adds the cues from this place on that fit into one datagram; the place after them.
+    fn add_cues_from(
+        &mut self,
+        counts: &mut Counts,
+        entries: &[CueEntry],
+        from: usize,
+    ) -> Result<usize, Ending> {
+        let Some(rest) = entries.get(from..) else {
+            return Ok(from);
+        };
+        let count = cues_that_fit(rest);
+        if let Some(first) = rest.get(..count) {
+            self.add_cues(counts, first)?;
+        }
+        Ok(from.saturating_add(count))
+    }
+
     // Adds all devices, as many by one datagram as fit into it.
     fn load_devices(&mut self, entries: &[DeviceEntry]) -> Result<Counts, Ending> {
         let mut counts = Counts::NONE;
-        let mut rest = entries;
+        let mut from = 0usize;
         for _ in 0..entries.len() {
-            if rest.is_empty() {
+            if from >= entries.len() {
                 break;
             }
-            let (first, others) = rest.split_at(devices_that_fit(rest));
-            self.add_devices(&mut counts, first)?;
-            rest = others;
+            from = self.add_devices_from(&mut counts, entries, from)?;
         }
         Ok(counts)
     }
@@ -214,14 +246,12 @@ impl<'a, R: Net + Eprint + AllocGlobal, W: Write> Loading<'a, R, W> {
     // the order of the file also where the datagram was lost and each is asked again.
     fn load_cues(&mut self, entries: &[CueEntry]) -> Result<Counts, Ending> {
         let mut counts = Counts::NONE;
-        let mut rest = entries;
+        let mut from = 0usize;
         for _ in 0..entries.len() {
-            if rest.is_empty() {
+            if from >= entries.len() {
                 break;
             }
-            let (first, others) = rest.split_at(cues_that_fit(rest));
-            self.add_cues(&mut counts, first)?;
-            rest = others;
+            from = self.add_cues_from(&mut counts, entries, from)?;
         }
         Ok(counts)
     }

@@ -147,8 +147,20 @@ impl Wire {
 
     /// Asks a command, once: what became of it; none where nobody replied.
     pub fn ask_once(&self, alloc: Global, asked: &Asked<'_>) -> Result<Option<Answered>, Ending> {
-        let heard = self.ask(alloc, asked, Sendings::One)?;
-        Ok(reply_in(heard).map(Answered::of))
+        match self.ask(alloc, asked, Sendings::One) {
+            Ok(Heard::Replied(replied)) => Ok(Some(Answered::of(replied))),
+            Ok(Heard::Silence | Heard::Noise) => Ok(None),
+            Err(ending) => Err(ending),
+        }
+    }
+
+    // What became of the next command that was asked at this address; none where no reply came.
+    fn next_answer(&self, alloc: Global, address: &[u8]) -> Result<Option<Answered>, Ending> {
+        match self.wait(alloc, address, false, Sendings::OfSome.silences()) {
+            Ok(Heard::Replied(replied)) => Ok(Some(Answered::of(replied))),
+            Ok(Heard::Silence | Heard::Noise) => Ok(None),
+            Err(ending) => Err(ending),
+        }
     }
 
     /// Sends a datagram that asks so many commands at one address, once: what became of each, in order; none where one of
@@ -160,12 +172,11 @@ impl Wire {
         address: &[u8],
         count: usize,
     ) -> Result<Option<Vec<Answered>>, Ending> {
-        let silences = Sendings::OfSome.silences();
         self.send(datagram);
         let mut answers = Vec::new(alloc);
         for _ in 0..count {
-            match reply_in(self.wait(alloc, address, false, silences)?) {
-                Some(replied) => push(&mut answers, Answered::of(replied))?,
+            match self.next_answer(alloc, address)? {
+                Some(answered) => push(&mut answers, answered)?,
                 None => return Ok(None),
             }
         }

@@ -4,12 +4,12 @@ use Rattle.std.specs.IoError.{error_kind}
 use Rattle.std.specs.declared.io.Error.{Error}
 use Rattle.std.specs.declared.io.ErrorKind.{ErrorKind}
 use Rattle.std.specs.declared.io.ErrorKind.TheVariants as kind
-use Rattle.cue_disk.specs.declared.file.FileDisk.{FileDisk}
+use Rattle.cue_disk.specs.declared.file.DiskOver.{DiskOver}
 use Rattle.cue_disk.specs.declared.file.FileFault.{FileFault}
 use Rattle.cue_disk.specs.declared.file.FileFault.TheVariants.{NotFound, Io}
 
 -- the number of calls that failed, up to the last number of 64 bits
-abbrev pub file_failures : FileDisk → ℕ
+abbrev pub file_failures : {F : Type 0} → DiskOver F → ℕ
 file_failures disk = disk.failures
 
 -- there is no such file

@@ -7,7 +7,7 @@ ghost use Rattle.cue_disk.specs.File.{file_failures, opening_fault};
 use crate::{Disk, DiskFault};
 use std::error::Error;
 use std::fmt;
-use std::fs::{File, Files, OpenOptions};
+use std::fs::{File, Files, OpenFile, OpenOptions};
 use std::io::{self, ErrorKind};
 use std::os::unix::fs::FileExt;
 use std::path::Path;
@@ -42,25 +42,37 @@ fn opening_fault(error: io::Error) -> FileFault
     }
 }
 
-/// A disk over a file. Nothing of a real file can be proved. That the file is honest, that nobody else writes it and
-/// that it stays where it was made are premises of whoever serves a show from it.
+/// A disk over an open file. Nothing of a real file can be proved. That the file is honest, that nobody else writes it
+/// and that it stays where it was made are premises of whoever serves a show from it.
 ///
 /// It tests the bounds of `Disk` itself, by the length that it knows from its opening, its own writes and `len`. A
 /// write goes on until the file has taken all of it. A sync is one sync of its data, which takes its length along.
 #[derive(Drop)]
-pub struct FileDisk {
-    file: File,
+pub struct DiskOver<F: Drop> {
+    file: F,
     len: u64,
     failures: u64,
     last_failure: Option<io::Error>,
 }
 
-impl FileDisk {
+/// A disk over a file of the system.
+pub type FileDisk = DiskOver<File>;
+
+impl DiskOver<File> {
     /// Opens a file that is there, to read and to write it.
     pub fn open<R: Files<File = File>>(rt: &R, path: &str) -> Result<FileDisk, FileFault>
         ensures { IfOk result (λ disk. file_failures disk ≡ 0) }
     {
         let opened = OpenOptions::new().read(true).write(true).open(rt, path);
+        opened.and_then(FileDisk::over).map_err(opening_fault)
+    }
+
+    /// Opens a file that is there, to read it alone: the system refuses each write. For whoever looks at a store, and so
+    /// cannot change it, and needs no permission to.
+    pub fn open_to_read<R: Files<File = File>>(rt: &R, path: &str) -> Result<FileDisk, FileFault>
+        ensures { IfOk result (λ disk. file_failures disk ≡ 0) }
+    {
+        let opened = OpenOptions::new().read(true).open(rt, path);
         opened.and_then(FileDisk::over).map_err(opening_fault)
     }
 
@@ -73,18 +85,25 @@ impl FileDisk {
             .and_then(FileDisk::over)
             .map_err(FileFault::Io)
     }
+}
 
-    // A disk over an open file, on which nothing has failed.
-    fn over(file: File) -> io::Result<FileDisk>
+impl<F: OpenFile + FileExt + Drop> DiskOver<F> {
+    /// A disk over an open file, on which nothing has failed. The error is that the file does not say its length.
+    pub fn over(file: F) -> io::Result<DiskOver<F>>
         ensures { IfOk result (λ disk. file_failures disk ≡ 0) }
     {
         let len = file.metadata()?.len();
-        Ok(FileDisk {
+        Ok(DiskOver {
             file,
             len,
             failures: 0,
             last_failure: None,
         })
+    }
+
+    /// The file.
+    pub fn file(&self) -> &F {
+        &self.file
     }
 
     /// Why the last call that failed did so, for the person who reads it. `None`: none has failed.
@@ -133,7 +152,7 @@ fn outside() -> io::Error {
     io::Error::new(ErrorKind::InvalidInput, "outside of the file")
 }
 
-impl Disk for FileDisk {
+impl<F: OpenFile + FileExt + Drop> Disk for DiskOver<F> {
     ghost held = { λ _. settled_contents [] };
 
     ghost moment = { λ _. 0 };

@@ -14,5 +14,5 @@ mod memory;
 mod plan;
 
 pub use disk::{Disk, DiskFault};
-pub use file::{FileDisk, FileFault};
+pub use file::{DiskOver, FileDisk, FileFault};
 pub use memory::MemDisk;

@@ -4,6 +4,7 @@ use std::alloc::Global;
 use std::process::Abort;
 use std::test::Fail;
 
+mod files;
 mod unproven;
 
 use unproven::UnprovenDisk;

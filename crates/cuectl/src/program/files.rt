@@ -45,6 +45,14 @@ fn open_one<R: Files<File = File> + Eprint>(rt: &R, path: &str) -> Result<FileDi
     FileDisk::open(rt, path).map_err(|fault| refused_file(rt, path, fault))
 }
 
+// A file that is only looked at.
+fn open_one_to_read<R: Files<File = File> + Eprint>(
+    rt: &R,
+    path: &str,
+) -> Result<FileDisk, ProgramFault> {
+    FileDisk::open_to_read(rt, path).map_err(|fault| refused_file(rt, path, fault))
+}
+
 fn create_one<R: Files<File = File> + Eprint>(
     rt: &R,
     path: &str,
@@ -73,6 +81,15 @@ pub fn open_both<R: Files<File = File> + Eprint>(
     dir: &str,
 ) -> Result<(FileDisk, FileDisk), ProgramFault> {
     both(alloc, dir, |path| open_one(rt, path))
+}
+
+/// Opens both files of a folder to look at them: the system refuses each write.
+pub fn open_both_to_read<R: Files<File = File> + Eprint>(
+    rt: &R,
+    alloc: Global,
+    dir: &str,
+) -> Result<(FileDisk, FileDisk), ProgramFault> {
+    both(alloc, dir, |path| open_one_to_read(rt, path))
 }
 
 /// Opens both files of a folder, and makes those that are missing.

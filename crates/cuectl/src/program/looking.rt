@@ -4,7 +4,7 @@ ghost use Rattle.cue_copies.specs.Looking.{StandsAsSeen};
 ghost use Rattle.cuectl.specs.declared.program.fault.ProgramFault.TheVariants.{Io};
 
 use super::fault::ProgramFault;
-use super::files::{open_both, refused_store, say};
+use super::files::{open_both_to_read, refused_store, say};
 use super::lock::is_served;
 use cue_copies::{READINGS, Seen, is_read_again, look};
 use cue_disk::{Disk, MemDisk};
@@ -54,7 +54,7 @@ pub fn opened<R: Files<File = File> + Eprint>(
     alloc: Global,
     dir: &str,
 ) -> Result<Keeper<MemDisk>, ProgramFault> {
-    let (mut first, mut second) = open_both(rt, alloc, dir)?;
+    let (mut first, mut second) = open_both_to_read(rt, alloc, dir)?;
     match look_again(rt, alloc, dir, &mut first, &mut second) {
         Seen::Whole(keeper) => Ok(keeper),
         Seen::Refused(fault) => Err(refused_store(rt, dir, (fault, first, second))),

@@ -70,7 +70,7 @@ fn open_one<R: Files<File = File> + AllocGlobal>(
 ) -> Result<FileDisk, String> {
     let alloc = rt.alloc();
     let path = format!(in alloc; "{dir}/{name}").map_err(|_| String::new(alloc))?;
-    FileDisk::open(rt, path.as_str()).map_err(|why| words(alloc, path.as_str(), why))
+    FileDisk::open_to_read(rt, path.as_str()).map_err(|why| words(alloc, path.as_str(), why))
 }
 
 /// What failed, and why, as one text; empty where there is no memory for it.

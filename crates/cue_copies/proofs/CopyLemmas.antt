@@ -1,49 +1,16 @@
 -- What an answer over disks in memory says of the fault that it was made of.
-use Rattle.std.proofs.Common.{◌≡◌, ◌≤◌, ◌+◌, ◌-◌, ◌++◌, ◌∙◌, ℕ, List, length, take, drop, min, sym, refl, ap, subst}
-use Rattle.std.proofs.Common.{arith, inl, inr}
-use Rattle.std.proofs.lemmas.List.{length-take, take-append-drop, take-take, drop-take, take_min}
-use Rattle.std.specs.Prelude.{Option, Some, None, IfSome, Err, IsErrOf}
+use Rattle.std.proofs.Common.{◌≡◌, ◌≤◌, ◌+◌, ◌-◌, ◌++◌, ◌∙◌, ℕ, List, length, take, drop, min, sym, refl, ap}
+use Rattle.std.proofs.Common.{arith, inl, inr, subst}
+use Rattle.std.proofs.lemmas.List.{length-take, length-replicate, take-append-drop, take-take, drop-take}
+use Rattle.std.proofs.lemmas.List.{drop-replicate, take_min}
+use Rattle.std.specs.Prelude.{Option, Some, None, IfSome, replicate}
 use Rattle.cue_keeper.specs.declared.fault.StoreFault.{StoreFault}
 use Rattle.cue_keeper.specs.declared.fault.StoreFault.TheVariants as store
 use Rattle.cue_snap.specs.Pair.{IsSpoiled, NeitherHas}
 use Rattle.cue_keeper.specs.Refusals.{HasOtherVersion, StandsForNone}
 use Rattle.cue_engine.specs.Recovery.{NoGenerationLeft, NoRoomLeft}
-use Rattle.cue_copies.specs.Copies.{CannotBeRecovered, IsFront, IsOfMachine, fault_in_memory}
+use Rattle.cue_copies.specs.Copies.{CannotBeOpened, CannotBeRecovered, IsFront, IsOfMachine, fault_in_memory, filled}
 use Rattle.cue_copies.specs.declared.copying.Copies.{Copies}
-
--- two refusals that are the same have the same fault
-pub fault_of_same : {T E : Type 0} (one other : E) → IsErrOf {T = T} {E = E} (Err one) other → one ≡ other
-fault_of_same one other same = cc
-
--- only another version is answered as such
-pub version_in_memory : (fault answer : StoreFault) → answer ≡ fault_in_memory fault → answer ≡ store.Version
-    → fault ≡ store.Version
-version_in_memory store.NotEmpty answer is same = sym is ∙ same
-version_in_memory store.Unformed answer is same = sym is ∙ same
-version_in_memory store.Damaged answer is same = sym is ∙ same
-version_in_memory store.Version answer is same = refl
-version_in_memory store.Malformed answer is same = sym is ∙ same
-version_in_memory store.Full answer is same = sym is ∙ same
-version_in_memory store.Exhausted answer is same = sym is ∙ same
-version_in_memory store.Memory answer is same = sym is ∙ same
-version_in_memory store.Disk answer is same =
-    let bad : store.Memory ≡ store.Version = sym is ∙ same in
-    cc
-
--- only what stands for no state is answered as such
-pub malformed_in_memory : (fault answer : StoreFault) → answer ≡ fault_in_memory fault → answer ≡ store.Malformed
-    → fault ≡ store.Malformed
-malformed_in_memory store.NotEmpty answer is same = sym is ∙ same
-malformed_in_memory store.Unformed answer is same = sym is ∙ same
-malformed_in_memory store.Damaged answer is same = sym is ∙ same
-malformed_in_memory store.Version answer is same = sym is ∙ same
-malformed_in_memory store.Malformed answer is same = refl
-malformed_in_memory store.Full answer is same = sym is ∙ same
-malformed_in_memory store.Exhausted answer is same = sym is ∙ same
-malformed_in_memory store.Memory answer is same = sym is ∙ same
-malformed_in_memory store.Disk answer is same =
-    let bad : store.Memory ≡ store.Malformed = sym is ∙ same in
-    cc
 
 -- a part of the front is a front
 pub front_of : (bytes whole : List ℕ) (n : ℕ) → bytes ≡ take n whole → IsFront bytes whole
@@ -82,11 +49,52 @@ front_on bytes next whole limit len front longer is read long =
     ∙ sym (take_both (length bytes) (len - length bytes) whole) ∙ ap (λ (n : ℕ). take n whole) sum in
     front_whole next whole limit (front_of next whole len more) (long ∙ is)
 
+-- what was read into so many zeros is the front
+pub filled_up : (n len : ℕ) (read whole : List ℕ) → len ≡ min (length whole) n
+    → read ≡ take (length (take len (replicate {A = ℕ} n 0))) whole
+    → read ++ drop len (replicate {A = ℕ} n 0) ≡ filled n whole
+unfolding filled
+filled_up n len read whole is same =
+    let all : length (replicate {A = ℕ} n 0) ≡ n = length-replicate n 0 in
+    let least : min len (length (replicate {A = ℕ} n 0)) ≡ min n (length whole) = omega (arith, is, all) in
+    let long : length (take len (replicate {A = ℕ} n 0)) ≡ min n (length whole) =
+    length-take len (replicate n 0) ∙ least in
+    let most : take (length (take len (replicate {A = ℕ} n 0))) whole ≡ take (min n (length whole)) whole =
+    ap (λ (k : ℕ). take k whole) long in
+    let taken : read ≡ take n whole = same ∙ most ∙ take_min n whole in
+    let rest : n - len ≡ n - length whole = omega (arith, is) in
+    let fewer : replicate {A = ℕ} (n - len) 0 ≡ replicate {A = ℕ} (n - length whole) 0 =
+    ap (λ (k : ℕ). replicate {A = ℕ} k 0) rest in
+    let zeros : drop len (replicate {A = ℕ} n 0) ≡ replicate {A = ℕ} (n - length whole) 0 =
+    drop-replicate len n 0 ∙ fewer in
+    λ i. taken i ++ zeros i
+
 -- what is said of the copies is said of those that were taken
 pub some_copies : (found : Option Copies) (copies : Copies) (F : Copies → Type 0)
     → IfSome found (λ taken. taken ≡ copies) → F copies → IfSome found F
 some_copies None copies F same holds = tt
 some_copies (Some taken) copies F same holds = subst F (sym same) holds
+
+-- what is answered of an opening over disks in memory says why the two are not opened
+pub opened_in_memory : (fault : StoreFault) (x y : List ℕ)
+    → (fault ≡ store.NotEmpty → ⊥) × (fault ≡ store.Full → ⊥) × (fault ≡ store.Exhausted → ⊥)
+    → (fault ≡ store.Unformed → NeitherHas x y) → (fault ≡ store.Damaged → IsSpoiled x y)
+    → (fault ≡ store.Version → HasOtherVersion x y) → (fault ≡ store.Malformed → StandsForNone x y)
+    → CannotBeOpened (fault_in_memory fault) x y
+opened_in_memory store.NotEmpty x y never unformed damaged version malformed = never.0 refl
+opened_in_memory store.Unformed x y never unformed damaged version malformed = unformed refl
+opened_in_memory store.Damaged x y never unformed damaged version malformed = damaged refl
+opened_in_memory store.Version x y never unformed damaged version malformed = version refl
+opened_in_memory store.Malformed x y never unformed damaged version malformed = malformed refl
+opened_in_memory store.Full x y never unformed damaged version malformed = never.1 refl
+opened_in_memory store.Exhausted x y never unformed damaged version malformed = never.2 refl
+opened_in_memory store.Memory x y never unformed damaged version malformed = tt
+opened_in_memory store.Disk x y never unformed damaged version malformed = tt
+
+-- a fault of the machine says nothing of why the two are not opened
+pub unread : (fault : StoreFault) (x y : List ℕ) → IsOfMachine fault → CannotBeOpened fault x y
+unread fault x y (inl same) = subst (λ (f : StoreFault). CannotBeOpened f x y) (sym same) tt
+unread fault x y (inr same) = subst (λ (f : StoreFault). CannotBeOpened f x y) (sym same) tt
 
 -- what is answered of a recovery over disks in memory says why the two cannot be recovered
 pub refused_in_memory : (fault : StoreFault) (x y : List ℕ)

@@ -1,7 +1,8 @@
 -- What is read of a store that another process may serve.
-use Rattle.std.specs.Prelude.{◌≡◌, ◌⊎◌, ℕ, Bool, true, false, List, length, take, Option, Some, None}
+use Rattle.std.specs.Prelude.{◌≡◌, ◌⊎◌, ◌-◌, ◌++◌, ℕ, Bool, true, false, List, length, take, replicate, Option, Some}
+use Rattle.std.specs.Prelude.{None}
 use Rattle.cue_disk.specs.Disk.{Contents}
-use Rattle.cue_log.specs.declared.area.TheConstants.{AREA_LIMIT}
+use Rattle.cue_log.specs.declared.area.TheConstants.{AREA_LIMIT, HEAD_LEN}
 use Rattle.cue_snap.specs.Pair.{IsSpoiled, NeitherHas}
 use Rattle.cue_core.specs.State.{ShowState}
 use Rattle.cue_keeper.specs.Stands.{Stands}
@@ -38,6 +39,18 @@ fault_in_memory store.Memory = store.Memory
 abbrev pub IsOfMachine : StoreFault → Type 0
 IsOfMachine fault = (fault ≡ store.Disk) ⊎ (fault ≡ store.Memory)
 
+-- why a store of the two is not opened; where memory or a device failed, nothing is said of them
+abbrev pub CannotBeOpened : StoreFault → List ℕ → List ℕ → Type 0
+CannotBeOpened store.NotEmpty x y = ⊥
+CannotBeOpened store.Unformed x y = NeitherHas x y
+CannotBeOpened store.Damaged x y = IsSpoiled x y
+CannotBeOpened store.Version x y = HasOtherVersion x y
+CannotBeOpened store.Malformed x y = StandsForNone x y
+CannotBeOpened store.Full x y = ⊥
+CannotBeOpened store.Exhausted x y = ⊥
+CannotBeOpened store.Memory x y = Unit {0}
+CannotBeOpened store.Disk x y = Unit {0}
+
 -- The two stand for a state.
 pub record StandForSome (x y : List ℕ) : Type 0 where
   pub state : ShowState
@@ -67,3 +80,11 @@ copy_of held = take AREA_LIMIT held.bytes
 -- the bytes are the front of these
 abbrev pub IsFront : List ℕ → List ℕ → Type 0
 IsFront bytes whole = bytes ≡ take (length bytes) whole
+
+-- the first so many bytes, with zeros for what is missing
+unfoldable pub filled : ℕ → List ℕ → List ℕ
+filled n bytes = take n bytes ++ replicate (n - length bytes) 0
+
+-- the front of what a disk holds, as much of it as says which area it has
+abbrev pub head_of : Contents → List ℕ
+head_of held = filled HEAD_LEN held.bytes

@@ -1,7 +1,9 @@
 //! Copies of both files of a store, in memory: what they stand for is known without a write or a sync of the files.
 ghost use Rattle.std.specs.Prelude.{
   ◌≡◌,
+  ◌≢◌,
   ◌≤◌,
+  ◌⊎◌,
   ◌-◌,
   ◌++◌,
   ◌↔◌,
@@ -13,21 +15,23 @@ ghost use Rattle.std.specs.Prelude.{
   IfErr,
   IfOk,
   IfSome,
+  IsSome,
   OnOk,
   IsErrOf,
 };
 ghost use Rattle.cue_log.specs.declared.area.TheConstants.{AREA_LIMIT};
+ghost use Rattle.cue_disk.specs.Disk.{MoreFailures};
 ghost use Rattle.cue_disk.specs.Memory.{IsNew, memory_bytes};
-ghost use Rattle.cue_snap.specs.Pair.{IsSpoiled, NeitherHas};
 ghost use Rattle.cue_keeper.specs.Stands.{Stands};
-ghost use Rattle.cue_keeper.specs.Refusals.{HasOtherVersion, StandsForNone};
 ghost use Rattle.cue_keeper.specs.Observed.{state_of};
 ghost use Rattle.cue_copies.specs.Copies.{
+  CannotBeOpened,
   IsFront,
   IsOfMachine,
   IsRefusalOf,
   copy_of,
   fault_in_memory,
+  head_of,
   is_read_again,
 };
 
@@ -92,18 +96,33 @@ fn fault_in_memory(fault: StoreFault) -> StoreFault
 
 // The front of a file.
 fn head<D: Disk>(disk: &mut D) -> Result<[u8; HEAD], StoreFault>
+    ensures head { D.is_honest disk.old → IfOk result (λ head. head ≡ head_of (D.held disk.old)) }
+    ensures fault { IfErr result IsOfMachine }
+    ensures disk { IsErrOf result StoreFault.Disk → MoreFailures (D.failures disk.old) (D.failures disk.new) }
+    ensures through { (IsErrOf result StoreFault.Disk → ⊥) → D.failures disk.new ≡ D.failures disk.old }
     ensures kept { D.is_honest disk.old → D.held disk.new ≡ D.held disk.old }
     ensures honest { D.is_honest disk.new ↔ D.is_honest disk.old }
 {
+    let Ok(present) = disk.len() else {
+        return Err(StoreFault::Disk);
+    };
+    let len = present.min(HEAD as u64) as usize;
     let mut head = [0; HEAD];
-    let len = disk.len().map_err(|_| StoreFault::Disk)?.min(HEAD as u64) as usize;
-    disk.read_at(0, &mut head[..len])
-        .map_err(|_| StoreFault::Disk)?;
-    Ok(head)
+    match disk.read_at(0, &mut head[..len]) {
+        Ok(()) => Ok(head),
+        Err(_) => Err(StoreFault::Disk),
+    }
 }
 
 // The front of both files.
 fn heads_of<D: Disk>(first: &mut D, second: &mut D) -> Result<Heads, StoreFault>
+    ensures first { D.is_honest first.old → IfOk result (λ heads. heads.first ≡ head_of (D.held first.old)) }
+    ensures second { D.is_honest second.old → IfOk result (λ heads. heads.second ≡ head_of (D.held second.old)) }
+    ensures fault { IfErr result IsOfMachine }
+    ensures disk { IsErrOf result StoreFault.Disk → MoreFailures (D.failures first.old) (D.failures first.new)
+        ⊎ MoreFailures (D.failures second.old) (D.failures second.new) }
+    ensures through { (IsErrOf result StoreFault.Disk → ⊥)
+        → (D.failures first.new ≡ D.failures first.old) × (D.failures second.new ≡ D.failures second.old) }
     ensures first_kept { D.is_honest first.old → D.held first.new ≡ D.held first.old }
     ensures second_kept { D.is_honest second.old → D.held second.new ≡ D.held second.old }
     ensures first_honest { D.is_honest first.new ↔ D.is_honest first.old }
@@ -121,6 +140,8 @@ fn read_on<D: Disk>(disk: &mut D, bytes: &mut Vec<u8>, len: usize) -> Result<(),
     requires within { D.is_honest disk.old → len ≤ length (D.held disk.old).bytes }
     ensures len { OnOk result (length bytes.new.items ≡ len) }
     ensures fault { IfErr result IsOfMachine }
+    ensures disk { IsErrOf result StoreFault.Disk → MoreFailures (D.failures disk.old) (D.failures disk.new) }
+    ensures through { (IsErrOf result StoreFault.Disk → ⊥) → D.failures disk.new ≡ D.failures disk.old }
     ensures read { D.is_honest disk.old → OnOk result (bytes.new.items ≡ bytes.old.items
         ++ take (len - length bytes.old.items) (drop (length bytes.old.items) (D.held disk.old).bytes)) }
     ensures kept { D.is_honest disk.old → D.held disk.new ≡ D.held disk.old }
@@ -138,6 +159,8 @@ fn read_grown<D: Disk>(disk: &mut D, bytes: &mut Vec<u8>) -> Result<bool, StoreF
     requires front { D.is_honest disk.old → IsFront bytes.old.items (D.held disk.old).bytes }
     ensures short { OnOk result (length bytes.new.items ≤ AREA_LIMIT) }
     ensures fault { IfErr result IsOfMachine }
+    ensures disk { IsErrOf result StoreFault.Disk → MoreFailures (D.failures disk.old) (D.failures disk.new) }
+    ensures through { (IsErrOf result StoreFault.Disk → ⊥) → D.failures disk.new ≡ D.failures disk.old }
     ensures copy { D.is_honest disk.old → OnOk result (bytes.new.items ≡ copy_of (D.held disk.old)) }
     ensures kept { D.is_honest disk.old → D.held disk.new ≡ D.held disk.old }
     ensures honest { D.is_honest disk.new ↔ D.is_honest disk.old }
@@ -158,6 +181,8 @@ fn read_grown<D: Disk>(disk: &mut D, bytes: &mut Vec<u8>) -> Result<bool, StoreF
 fn bytes_of<D: Disk>(alloc: Global, disk: &mut D) -> Result<Vec<u8>, StoreFault>
     ensures copy { D.is_honest disk.old → IfOk result (λ bytes. bytes.items ≡ copy_of (D.held disk.old)) }
     ensures fault { IfErr result IsOfMachine }
+    ensures disk { IsErrOf result StoreFault.Disk → MoreFailures (D.failures disk.old) (D.failures disk.new) }
+    ensures through { (IsErrOf result StoreFault.Disk → ⊥) → D.failures disk.new ≡ D.failures disk.old }
     ensures kept { D.is_honest disk.old → D.held disk.new ≡ D.held disk.old }
     ensures honest { D.is_honest disk.new ↔ D.is_honest disk.old }
 {
@@ -178,6 +203,10 @@ pub fn copied<D: Disk>(alloc: Global, first: &mut D, second: &mut D) -> Result<C
     ensures second { D.is_honest second.old → IfOk result
         (λ copies. copies.second.items ≡ copy_of (D.held second.old)) }
     ensures fault { IfErr result IsOfMachine }
+    ensures disk { IsErrOf result StoreFault.Disk → MoreFailures (D.failures first.old) (D.failures first.new)
+        ⊎ MoreFailures (D.failures second.old) (D.failures second.new) }
+    ensures through { (IsErrOf result StoreFault.Disk → ⊥)
+        → (D.failures first.new ≡ D.failures first.old) × (D.failures second.new ≡ D.failures second.old) }
     ensures first_kept { D.is_honest first.old → D.held first.new ≡ D.held first.old }
     ensures second_kept { D.is_honest second.old → D.held second.new ≡ D.held second.old }
     ensures first_honest { D.is_honest first.new ↔ D.is_honest first.old }
@@ -209,6 +238,13 @@ pub fn copied_at_once<D: Disk>(
         → IfOk result (λ found. IfSome found (λ copies. copies.first.items ≡ copy_of (D.held first.old))) }
     ensures second { D.is_honest second.old
         → IfOk result (λ found. IfSome found (λ copies. copies.second.items ≡ copy_of (D.held second.old))) }
+    // Of disks that nobody else writes, the heads stay.
+    ensures some { D.is_honest first.old → D.is_honest second.old → IfOk result (λ found. IsSome found) }
+    ensures fault { IfErr result IsOfMachine }
+    ensures disk { IsErrOf result StoreFault.Disk → MoreFailures (D.failures first.old) (D.failures first.new)
+        ⊎ MoreFailures (D.failures second.old) (D.failures second.new) }
+    ensures through { (IsErrOf result StoreFault.Disk → ⊥)
+        → (D.failures first.new ≡ D.failures first.old) × (D.failures second.new ≡ D.failures second.old) }
     ensures first_kept { D.is_honest first.old → D.held first.new ≡ D.held first.old }
     ensures second_kept { D.is_honest second.old → D.held second.new ≡ D.held second.old }
     ensures first_honest { D.is_honest first.new ↔ D.is_honest first.old }
@@ -233,10 +269,8 @@ fn disks(alloc: Global, first: &[u8], second: &[u8]) -> Result<(MemDisk, MemDisk
 /// Opens a store of these bytes: what they stand for, or why they stand for nothing.
 fn open_bytes(alloc: Global, first: &[u8], second: &[u8]) -> Result<Keeper<MemDisk>, StoreFault>
     ensures stood { IfOk result (λ keeper. Stands first.now second.now (state_of keeper)) }
-    ensures damaged { IsErrOf result StoreFault.Damaged → IsSpoiled first.now second.now }
-    ensures unformed { IsErrOf result StoreFault.Unformed → NeitherHas first.now second.now }
-    ensures version { IsErrOf result StoreFault.Version → HasOtherVersion first.now second.now }
-    ensures malformed { IsErrOf result StoreFault.Malformed → StandsForNone first.now second.now }
+    ensures refused { IfErr result (λ fault. CannotBeOpened fault first.now second.now) }
+    ensures memory { IsErrOf result StoreFault.Disk → ⊥ }
 {
     let Ok((first, second)) = disks(alloc, first, second) else {
         return Err(StoreFault::Memory);
@@ -249,7 +283,8 @@ fn open_bytes(alloc: Global, first: &[u8], second: &[u8]) -> Result<Keeper<MemDi
 
 // Why the store of two disks in memory cannot be recovered; `None` where it can.
 fn recovery_refusal(alloc: Global, first: MemDisk, second: MemDisk) -> Option<StoreFault>
-    ensures { IsRefusalOf result (memory_bytes first) (memory_bytes second) }
+    ensures refusal { IsRefusalOf result (memory_bytes first) (memory_bytes second) }
+    ensures memory { result ≢ Some StoreFault.Disk }
 {
     match Engine::recover(alloc, first, second) {
         Ok(engine) => {
@@ -261,16 +296,19 @@ fn recovery_refusal(alloc: Global, first: MemDisk, second: MemDisk) -> Option<St
 }
 
 impl Copies {
-    /// Opens a store of them.
+    /// Opens a store of them: what they stand for, or why they stand for nothing.
     pub fn open(&self, alloc: Global) -> Result<Keeper<MemDisk>, StoreFault>
         ensures stood { IfOk result (λ keeper. Stands self.now.first.items self.now.second.items (state_of keeper)) }
+        ensures refused { IfErr result (λ fault. CannotBeOpened fault self.now.first.items self.now.second.items) }
+        ensures memory { IsErrOf result StoreFault.Disk → ⊥ }
     {
         open_bytes(alloc, &self.first, &self.second)
     }
 
     // Why a store of them cannot be recovered; `None` where it can.
     fn refusal(&self, alloc: Global) -> Option<StoreFault>
-        ensures { IsRefusalOf result self.now.first.items self.now.second.items }
+        ensures refusal { IsRefusalOf result self.now.first.items self.now.second.items }
+        ensures memory { result ≢ Some StoreFault.Disk }
     {
         let Ok((first, second)) = disks(alloc, &self.first, &self.second) else {
             return Some(StoreFault::Memory);
@@ -283,6 +321,11 @@ impl Copies {
 pub fn refusal_of<D: Disk>(alloc: Global, first: &mut D, second: &mut D) -> Option<StoreFault>
     ensures answered { D.is_honest first.old → D.is_honest second.old
         → IsRefusalOf result (copy_of (D.held first.old)) (copy_of (D.held second.old)) }
+    // A device is named only where one of its calls failed.
+    ensures disk { result ≡ Some StoreFault.Disk → MoreFailures (D.failures first.old) (D.failures first.new)
+        ⊎ MoreFailures (D.failures second.old) (D.failures second.new) }
+    ensures through { result ≢ Some StoreFault.Disk
+        → (D.failures first.new ≡ D.failures first.old) × (D.failures second.new ≡ D.failures second.old) }
     ensures first_kept { D.is_honest first.old → D.held first.new ≡ D.held first.old }
     ensures second_kept { D.is_honest second.old → D.held second.new ≡ D.held second.old }
 {

@@ -1,5 +1,7 @@
 //! Looking at a store: once, or again where what was read may be of two moments.
-ghost use Rattle.std.specs.Prelude.{◌≡◌, ◌↔◌};
+ghost use Rattle.std.specs.Prelude.{◌≡◌, ◌≢◌, ◌⊎◌, ◌↔◌};
+ghost use Rattle.cue_disk.specs.Disk.{MoreFailures};
+ghost use Rattle.cue_copies.specs.declared.looking.Seen.TheVariants.{Refused};
 ghost use Rattle.cue_copies.specs.Looking.{StandsAsSeen};
 
 use crate::copying::{copied_at_once, is_read_again};
@@ -26,6 +28,11 @@ pub fn look<D: Disk>(alloc: Global, first: &mut D, second: &mut D) -> Seen
     ensures second_kept { D.is_honest second.old → D.held second.new ≡ D.held second.old }
     ensures first_honest { D.is_honest first.new ↔ D.is_honest first.old }
     ensures second_honest { D.is_honest second.new ↔ D.is_honest second.old }
+    // A device is named only where one of its calls failed.
+    ensures disk { result ≡ Refused StoreFault.Disk → MoreFailures (D.failures first.old) (D.failures first.new)
+        ⊎ MoreFailures (D.failures second.old) (D.failures second.new) }
+    ensures through { result ≢ Refused StoreFault.Disk
+        → (D.failures first.new ≡ D.failures first.old) × (D.failures second.new ≡ D.failures second.old) }
     ensures stood { D.is_honest first.old → D.is_honest second.old
         → StandsAsSeen (D.held first.old) (D.held second.old) result }
 {
@@ -46,6 +53,11 @@ pub fn look_again<D: Disk>(alloc: Global, first: &mut D, second: &mut D) -> Seen
     ensures second_kept { D.is_honest second.old → D.held second.new ≡ D.held second.old }
     ensures first_honest { D.is_honest first.new ↔ D.is_honest first.old }
     ensures second_honest { D.is_honest second.new ↔ D.is_honest second.old }
+    // A device is named only where one of its calls failed.
+    ensures disk { result ≡ Refused StoreFault.Disk → MoreFailures (D.failures first.old) (D.failures first.new)
+        ⊎ MoreFailures (D.failures second.old) (D.failures second.new) }
+    ensures through { result ≢ Refused StoreFault.Disk
+        → (D.failures first.new ≡ D.failures first.old) × (D.failures second.new ≡ D.failures second.old) }
     ensures stood { D.is_honest first.old → D.is_honest second.old
         → StandsAsSeen (D.held first.old) (D.held second.old) result }
 {

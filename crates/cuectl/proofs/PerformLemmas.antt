@@ -10,13 +10,14 @@ use Rattle.cuectl.specs.declared.line.words.Line.TheVariants.{Form, Serve, Show,
 use Rattle.cuectl.specs.declared.line.words.LineFault.{LineFault}
 use Rattle.cuectl.specs.declared.line.words.LineFault.TheVariants.{Help, Usage, Memory}
 use Rattle.cuectl.specs.Lines.{AsksForText, HasPortZero, IsHelp, IsLineOf, IsNoCommand, IsRefused, cuectl_app}
+use Rattle.cue_keeper.specs.Stands.{Stands}
 use Rattle.cue_keeper.specs.declared.fault.StoreFault.{StoreFault}
 use Rattle.cue_keeper.specs.declared.fault.StoreFault.TheVariants as store
 use Rattle.cuectl.specs.declared.program.fault.ProgramFault.{ProgramFault}
 use Rattle.cuectl.specs.declared.program.fault.ProgramFault.TheVariants as program
 use Rattle.cue_script.specs.declared.ending.Failure.TheVariants.{Broken, Store}
 use Rattle.cuectl.specs.Endings.{done_status, program_status}
-use Rattle.cuectl.specs.Performing.{EndsSo, IsStateTold, NamesScript}
+use Rattle.cuectl.specs.Performing.{EndsSo, IsStateShown, IsStateTold, NamesScript}
 use Rattle.cuectl.specs.ShowText.{show_text}
 use Rattle.cue_script.specs.declared.ending.Ending.TheVariants.{Stopped}
 use Rattle.cue_script.specs.declared.ending.StreamFailure.{StreamFailure}
@@ -75,6 +76,12 @@ pub state_told : {T E : Type 0} (result : Result T E) (s : ShowState) (old new :
     → OnOk result (Appends old new (show_text s)) → OnOk result (IsStateTold old new)
 state_told (Ok done) s old new told = record { state = s; printed = told }
 state_told (Err fault) s old new told = tt
+
+-- a state that was printed and that the two stand for is shown
+pub state_shown : {T E : Type 0} (result : Result T E) (s : ShowState) (x y : List ℕ) (old new : Option (List ℕ))
+    → Stands x y s → OnOk result (Appends old new (show_text s)) → OnOk result (IsStateShown x y old new)
+state_shown (Ok done) s x y old new stand told = record { state = s; stand = stand; printed = told }
+state_shown (Err fault) s x y old new stand told = tt
 
 -- no fault has the status 0
 never_zero : (fault : ProgramFault) → program_status fault ≡ 0 → ⊥

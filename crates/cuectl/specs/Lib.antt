@@ -5,4 +5,5 @@ pub mod Lines
 pub mod Locking
 pub mod Performing
 pub mod ShowText
+pub mod Showing
 pub mod Unread

@@ -4,6 +4,7 @@ use Rattle.std.specs.Prelude.{None, IfSome}
 use Rattle.std.specs.Io.KnownBytes.{Appends}
 use Rattle.clap.specs.Words.{Row, Text, fault_of, subcommand_of}
 use Rattle.cue_core.specs.State.{ShowState, empty_state}
+use Rattle.cue_keeper.specs.Stands.{Stands}
 use Rattle.cuectl.specs.declared.line.words.Line.{Line}
 use Rattle.cuectl.specs.declared.line.words.Line.TheVariants.{Form, Serve, Show, Script}
 use Rattle.cuectl.specs.Lines.{IsLineOf, cuectl_app}
@@ -28,6 +29,12 @@ pub record IsRunTold (most : ℕ) (old new : Option (List ℕ)) : Type 0 where
 -- A state is printed.
 pub record IsStateTold (old new : Option (List ℕ)) : Type 0 where
   pub state : ShowState
+  pub printed : Appends old new (show_text state)
+
+-- A state is printed that the two stand for.
+pub record IsStateShown (x y : List ℕ) (old new : Option (List ℕ)) : Type 0 where
+  pub state : ShowState
+  pub stand : Stands x y state
   pub printed : Appends old new (show_text state)
 
 -- How a command ends: what is printed where its status is 0, and for a script all that is written. The text is what the

@@ -25,13 +25,11 @@ ghost use Rattle.cuectl.specs.Performing.{
   EndsSo,
   HasEnded,
   IsRunTold,
-  IsStateTold,
   NamesScript,
   formed_text,
   turns_text,
 };
 ghost use Rattle.cue_script.specs.Script.{HasRun};
-ghost use Rattle.cuectl.specs.ShowText.{show_text};
 ghost use Rattle.cuectl.specs.declared.line.words.LineFault.TheVariants.{Memory, Usage};
 ghost use Rattle.cuectl.specs.declared.program.fault.ProgramFault.TheVariants.{Io, Net};
 
@@ -42,9 +40,7 @@ mod looking;
 
 use crate::line::line;
 use crate::line::words::{Line, LineFault};
-use crate::show_text::show_text;
 use cue_copies::refusal_of;
-use cue_core::State;
 use cue_disk::FileDisk;
 use cue_engine::Engine;
 use cue_evening::{EveningLog, LoggedWire, say_ready};
@@ -56,7 +52,7 @@ use cue_script::script;
 use fault::{ProgramFault, print_fault, run_fault, status_of};
 use files::{create_both, open_both, refused_store, say, say_failures};
 use lock::lock_store;
-use looking::opened;
+use looking::show;
 use std::alloc::Global;
 use std::fs::{File, Files};
 use std::io::{self, Eprint, Read, Write};
@@ -115,27 +111,6 @@ fn form<R: Files<File = File> + Eprint, W: Write>(
             Err(fault)
         }
     }
-}
-
-// Prints a state.
-fn print_state<W: Write>(alloc: Global, state: &State, writer: &mut W) -> Result<(), ProgramFault>
-    ensures { OnOk result (Appends (W.contents writer.old) (W.contents writer.new) (show_text state.now)) }
-{
-    let text = show_text(alloc, state)?;
-    print(writer, &text)
-}
-
-// Prints the show of a folder.
-fn show<R: Files<File = File> + Eprint, W: Write>(
-    rt: &R,
-    alloc: Global,
-    dir: &str,
-    writer: &mut W,
-) -> Result<(), ProgramFault>
-    ensures { OnOk result (IsStateTold (W.contents writer.old) (W.contents writer.new)) }
-{
-    let keeper = opened(rt, alloc, dir)?;
-    print_state(alloc, keeper.state(), writer)
 }
 
 // Runs the show over a socket.

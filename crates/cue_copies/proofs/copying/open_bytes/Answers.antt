@@ -1,26 +1,21 @@
-use Rattle.std.proofs.Common.{ℕ, List, ap, subst}
+use Rattle.std.proofs.Common.{ℕ, List, ap, sym, subst}
 use Rattle.cue_disk.specs.Disk.{Contents}
-use Rattle.cue_keeper.specs.Refusals.{HasOtherVersion, StandsForNone}
-use Rattle.cue_keeper.specs.declared.fault.StoreFault.TheVariants.{Version, Malformed}
-use Rattle.cue_copies.proofs.CopyLemmas.{fault_of_same, version_in_memory, malformed_in_memory}
+use Rattle.cue_keeper.specs.declared.fault.StoreFault.{StoreFault}
+use Rattle.cue_copies.specs.Copies.{CannotBeOpened}
+use Rattle.cue_copies.proofs.CopyLemmas.{opened_in_memory}
 use Rattle.cue_copies.proofs.copying.open_bytes.Goals as goal
 
-pub returns-clause-version : goal.returns-clause-version
-returns-clause-version c = λ same.
-    let first = ap (λ (held : Contents). held.bytes) c.in-Ok.ensures.0.held in
-    let second = ap (λ (held : Contents). held.bytes) c.in-Ok.ensures.1.held in
-    let found = c.in-Err.ensures.version tt tt
-    (version_in_memory c.in-Err.fault c.fault_in_memory.result c.fault_in_memory.ensures
-    (fault_of_same c.fault_in_memory.result Version same)) in
-    subst (λ (x : List ℕ). HasOtherVersion x c.args.second.now) first
-    (subst (λ (y : List ℕ). HasOtherVersion c.in-Ok.first.medium.bytes.items y) second found)
-
-pub returns-clause-malformed : goal.returns-clause-malformed
-returns-clause-malformed c = λ same.
-    let first = ap (λ (held : Contents). held.bytes) c.in-Ok.ensures.0.held in
-    let second = ap (λ (held : Contents). held.bytes) c.in-Ok.ensures.1.held in
-    let found = c.in-Err.ensures.malformed tt tt
-    (malformed_in_memory c.in-Err.fault c.fault_in_memory.result c.fault_in_memory.ensures
-    (fault_of_same c.fault_in_memory.result Malformed same)) in
-    subst (λ (x : List ℕ). StandsForNone x c.args.second.now) first
-    (subst (λ (y : List ℕ). StandsForNone c.in-Ok.first.medium.bytes.items y) second found)
+pub returns-clause-refused : goal.returns-clause-refused
+returns-clause-refused c =
+    let x = c.in-Ok.first.medium.bytes.items in
+    let y = c.in-Ok.second.medium.bytes.items in
+    let why = c.in-Err.ensures in
+    let fault = c.fault_in_memory.result in
+    let found : CannotBeOpened fault x y = subst (λ (f : StoreFault). CannotBeOpened f x y)
+    (sym c.fault_in_memory.ensures)
+    (opened_in_memory c.in-Err.fault x y why.no_other (why.unformed tt tt) (why.damaged tt tt) (why.version tt tt)
+    (why.malformed tt tt)) in
+    subst (λ (x : List ℕ). CannotBeOpened fault x c.args.second.now)
+    (ap (λ (held : Contents). held.bytes) c.in-Ok.ensures.0.held)
+    (subst (λ (y : List ℕ). CannotBeOpened fault x y) (ap (λ (held : Contents). held.bytes) c.in-Ok.ensures.1.held)
+    found)

@@ -5,13 +5,13 @@ use Rattle.cue_copies.specs.Copies.{CannotBeRecovered}
 use Rattle.cue_copies.proofs.CopyLemmas.{refused_in_memory}
 use Rattle.cue_copies.proofs.copying.recovery_refusal.Goals as goal
 
-pub returns-in-Ok : goal.returns-in-Ok
-returns-in-Ok c =
+pub returns-in-Ok-clause-refusal : goal.returns-in-Ok-clause-refusal
+returns-in-Ok-clause-refusal c =
     let closed = c.in-Ok.ensures.stood tt tt in
     record { state = closed.before; stand = closed.stood }
 
-pub returns : goal.returns
-returns c =
+pub returns-clause-refusal : goal.returns-clause-refusal
+returns-clause-refusal c =
     let x = memory_bytes c.args.first in
     let y = memory_bytes c.args.second in
     let why = c.in-Err.ensures in

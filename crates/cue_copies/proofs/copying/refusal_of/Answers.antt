@@ -8,7 +8,7 @@ returns-in-Ok-clause-answered g c = λ first second.
     let one = c.in-Ok.ensures.first first in
     let other = c.in-Ok.ensures.second second in
     subst (λ (x : List ℕ). IsRefusalOf c.refusal.result x (copy_of (g.D.Disk.held c.args.second.now))) one
-    (subst (λ (y : List ℕ). IsRefusalOf c.refusal.result c.in-Ok.copies.first.items y) other c.refusal.ensures)
+    (subst (λ (y : List ℕ). IsRefusalOf c.refusal.result c.in-Ok.copies.first.items y) other c.refusal.ensures.refusal)
 
 pub returns-in-Err-clause-answered : goal.returns-in-Err-clause-answered
 returns-in-Err-clause-answered g c = λ first second.

@@ -2,4 +2,5 @@
 //! is written from the description of the protocol, and the lines by hand.
 mod evenings;
 mod lines;
+mod names;
 mod texts;

@@ -10,7 +10,7 @@ use std::process::Abort;
 use std::test::Fail;
 
 /// `/show/device` with 3 and 9001.
-const DEVICE: [u8; 28] = [
+pub const DEVICE: [u8; 28] = [
     0x2f, 0x73, 0x68, 0x6f, 0x77, 0x2f, 0x64, 0x65, 0x76, 0x69, 0x63, 0x65, 0, 0, 0, 0, 0x2c, 0x69,
     0x69, 0, 0, 0, 0, 3, 0, 0, 0x23, 0x29,
 ];
@@ -141,19 +141,20 @@ fn answers(alloc: Global) -> Result<Vec<MemAnswer>, AllocError> {
 
 /// What a run left.
 #[derive(Drop)]
-struct Played {
-    ended: Ended,
-    looks: usize,
-    events: usize,
-    wire: MemWire,
-    disks: (MemDisk, MemDisk),
+pub struct Played {
+    pub ended: Ended,
+    pub looks: usize,
+    pub events: usize,
+    pub wire: MemWire,
+    pub disks: (MemDisk, MemDisk),
 }
 
-// Runs over the answers, by groups of so many at most, or one input at a time.
+// Runs over the answers for so many turns, by groups of so many at most, or one input at a time.
 fn play(
     alloc: Global,
     mut engine: Engine<MemDisk>,
     answers: Vec<MemAnswer>,
+    turns: u64,
     most: Option<u64>,
 ) -> Played {
     let mut source = MemSource::new(answers);
@@ -168,11 +169,18 @@ fn play(
             &mut engine,
             &mut source,
             &mut wire,
-            5,
+            turns,
             most,
             &mut count,
         ),
-        None => run_watched(alloc, &mut engine, &mut source, &mut wire, 5, &mut count),
+        None => run_watched(
+            alloc,
+            &mut engine,
+            &mut source,
+            &mut wire,
+            turns,
+            &mut count,
+        ),
     };
     Played {
         ended,
@@ -183,12 +191,23 @@ fn play(
     }
 }
 
-fn make_played(rt: &impl Abort, alloc: Global, most: Option<u64>) -> Played {
-    let answers = answers(alloc).expect(rt, "no memory");
+/// Runs over the answers on an empty show, for so many turns, by groups of so many at most, or one input at a time.
+pub fn play_empty(
+    rt: &impl Abort,
+    alloc: Global,
+    answers: Vec<MemAnswer>,
+    turns: u64,
+    most: Option<u64>,
+) -> Played {
     match Engine::form(alloc, MemDisk::new(alloc), MemDisk::new(alloc)) {
-        Ok(engine) => play(alloc, engine, answers, most),
+        Ok(engine) => play(alloc, engine, answers, turns, most),
         Err(_) => panic!(rt; "no engine"),
     }
+}
+
+fn make_played(rt: &impl Abort, alloc: Global, most: Option<u64>) -> Played {
+    let answers = answers(alloc).expect(rt, "no memory");
+    play_empty(rt, alloc, answers, 5, most)
 }
 
 fn is_same(one: &Sent, other: &Sent) -> bool {
@@ -205,7 +224,8 @@ fn are_same(one: &MemWire, other: &MemWire) -> bool {
     }
 }
 
-fn expect_same(rt: &impl Abort, one: &Played, other: &Played) {
+/// Both runs left the same: the end, the looks and their events, the wire, and the bytes of both files.
+pub fn expect_same(rt: &impl Abort, one: &Played, other: &Played) {
     assert_eq!(rt; one.ended, other.ended);
     assert_eq!(rt; one.looks, other.looks);
     assert_eq!(rt; one.events, other.events);

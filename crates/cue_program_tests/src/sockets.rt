@@ -1,9 +1,11 @@
-//! The source of a socket, over a receiver and a clock that stand in for a socket and the machine's clock.
-use cue_run::{Receive, Source, Tries, Turn, UdpSource, Waiting};
+//! The source of a socket, over a receiver and a clock that stand in for a socket and the machine's clock; and the
+//! receiver of a socket at which nothing comes.
+use cue_run::{Receive, Source, Tries, Turn, UdpReceiver, UdpSource, Waiting, local};
 use std::cell::Cell;
 use std::io::{self, ErrorKind};
+use std::net::UdpSocket;
 use std::test::Fail;
-use std::time::{Clock, Duration};
+use std::time::{Clock, Duration, Instant};
 
 /// The port of the source.
 const OWN: u16 = 9100;
@@ -15,7 +17,7 @@ enum Comes {
     Fails(ErrorKind),
 }
 
-/// A clock that a test sets, and what the next wait brings.
+/// A clock that a test sets, and what the next wait brings. Its time is the one of the day: it has no other.
 #[derive(Drop)]
 struct StandIn {
     now: Cell<u64>,
@@ -27,7 +29,7 @@ struct StandIn {
 
 impl Clock for StandIn {
     fn monotonic(&self) -> io::Result<Duration> {
-        Ok(Duration::from_millis(self.now.get()))
+        Err(io::Error::from(ErrorKind::Unsupported))
     }
 
     fn since_1970(&self) -> io::Result<Duration> {
@@ -217,5 +219,46 @@ fn own_datagrams(rt: HostRuntime) -> Result<(), Fail> {
     let turn = source.next(&mut buffer);
     assert!(rt; turn.is_err(), "a turn");
     assert_eq!(rt; stand_in.waits.get(), 65_536);
+    Ok(())
+}
+
+/// How many looks are timed together.
+const TIMED: u32 = 8;
+
+// How many milliseconds `TIMED` looks at a silent socket take.
+fn looks_last(clock: &impl Clock, receiver: &mut UdpReceiver<'_>) -> io::Result<u128> {
+    let mut buffer = [0; 8];
+    let start = Instant::now(clock)?;
+    for _ in 0..TIMED {
+        if receiver.receive_waiting(&mut buffer).is_ok() {
+            return Err(io::Error::from(ErrorKind::InvalidData));
+        }
+    }
+    Ok(start.elapsed(clock)?.as_millis())
+}
+
+// How many milliseconds one wait at a silent socket takes.
+fn wait_lasts(clock: &impl Clock, receiver: &mut UdpReceiver<'_>) -> io::Result<u128> {
+    let mut buffer = [0; 8];
+    let start = Instant::now(clock)?;
+    if receiver.receive(&mut buffer).is_ok() {
+        return Err(io::Error::from(ErrorKind::InvalidData));
+    }
+    Ok(start.elapsed(clock)?.as_millis())
+}
+
+/// At a socket at which nothing comes a look does not wait, and a wait lasts some 250 ms, whichever came before. The
+/// bounds are wide, since other work of the machine makes each call longer, and none shorter: looks that wait take 2
+/// seconds together, and a call that does not wait takes less than one millisecond.
+#[test]
+fn a_silent_socket(rt: HostRuntime) -> Result<(), Fail> {
+    let socket = UdpSocket::bind(&rt, local(0))?;
+    let mut receiver = UdpReceiver::new(&socket)?;
+    for _ in 0..2 {
+        let looks = looks_last(&rt, &mut receiver)?;
+        assert!(rt; looks < 1_500, "{looks} ms for {TIMED} looks");
+        let wait = wait_lasts(&rt, &mut receiver)?;
+        assert!(rt; wait >= 200, "{wait} ms for a wait");
+    }
     Ok(())
 }

@@ -1,6 +1,9 @@
 -- Helper: what a call at a socket means: whether something came, when a tick is due, and what was sent whole.
 use Rattle.std.specs.Prelude.{◌≤◌, ◌-◌, ◌||◌, ◌==◌, if◌then◌else◌, ℕ, Bool, false, nat_le, nat_lt, Option, Some, None}
-use Rattle.std.specs.Prelude.{Result, Ok, Err}
+use Rattle.std.specs.Prelude.{◌≡◌, List, [], ◌∷◌, Result, Ok, Err}
+use Rattle.std.specs.Net.Addr.{ipv4_octets}
+use Rattle.std.specs.declared.net.ip_addr.IpAddr.{IpAddr}
+use Rattle.std.specs.declared.net.ip_addr.IpAddr.TheVariants as ip
 use Rattle.std.specs.IoError.{error_kind}
 use Rattle.std.specs.declared.io.Error.{Error}
 use Rattle.std.specs.declared.io.ErrorKind.{ErrorKind}
@@ -11,6 +14,11 @@ use Rattle.cue_run.specs.declared.source.Turn.{Turn}
 use Rattle.cue_run.specs.declared.source.Waiting.{Waiting}
 use Rattle.cue_run.specs.declared.source.Turn.TheVariants as turn
 use Rattle.cue_run.specs.Sources.{IsWithin}
+
+-- 127.0.0.1: no other machine sends to it, and it reaches none
+abbrev pub IsThisMachine : IpAddr → Type 0
+IsThisMachine (ip.V4 address) = ipv4_octets address ≡ 127 ∷ 0 ∷ 0 ∷ 1 ∷ []
+IsThisMachine (ip.V6 address) = ⊥
 
 -- a datagram that came lies within the buffer
 abbrev pub CameWithin : Came → ℕ → Type 0

@@ -1,6 +1,7 @@
 //! The network: one UDP socket on 127.0.0.1.
 ghost use Rattle.std.specs.Prelude.{◌≡◌, ◌≤◌, None, length, IfOk};
-ghost use Rattle.cue_run.specs.Udp.{CameWithin, is_whole};
+ghost use Rattle.std.specs.Net.Socket.{socket_ip, socket_port};
+ghost use Rattle.cue_run.specs.Udp.{CameWithin, IsThisMachine, is_whole};
 
 mod came;
 mod receive;
@@ -19,7 +20,10 @@ use tries::MOST_DROPPED;
 pub use tries::{Tries, first_turn, udp_limits};
 
 /// A port of this machine.
-pub fn local(port: u16) -> SocketAddr {
+pub fn local(port: u16) -> SocketAddr
+    ensures machine { IsThisMachine (socket_ip result) }
+    ensures port { socket_port result ≡ port }
+{
     SocketAddr::new(IpAddr::V4(Ipv4Addr::LOCALHOST), port)
 }
 

@@ -41,7 +41,7 @@ mod looking;
 use crate::line::line;
 use crate::line::words::{Line, LineFault};
 use cue_copies::refusal_of;
-use cue_disk::FileDisk;
+use cue_disk::{Disk, FileDisk};
 use cue_engine::Engine;
 use cue_evening::{EveningLog, LoggedWire, say_ready};
 use cue_keeper::{Fault, StoreFault};
@@ -51,7 +51,7 @@ use cue_run::{
 use cue_script::script;
 use fault::{ProgramFault, print_fault, run_fault, status_of};
 use files::{create_both, open_both, refused_store, say, say_failures};
-use lock::lock_store;
+use lock::{StoreLock, lock_store};
 use looking::show;
 use std::alloc::Global;
 use std::fs::{File, Files};
@@ -114,10 +114,10 @@ fn form<R: Files<File = File> + Eprint, W: Write>(
 }
 
 // Runs the show over a socket.
-pub(crate) fn serve_on<'a, R: Clock + Eprint>(
+pub(crate) fn serve_on<'a, R: Clock + Eprint, D: Disk>(
     rt: &'a R,
     alloc: Global,
-    engine: &mut Engine<FileDisk>,
+    engine: &mut Engine<D>,
     socket: &'a UdpSocket,
     port: u16,
     turns: u64,
@@ -139,7 +139,7 @@ fn refused_port<R: Eprint>(rt: &R, port: u16, why: io::Error) -> ProgramFault
     ProgramFault::Net
 }
 
-// Says that it is ready, and runs the show.
+// Says that it is ready, and runs the show. The lock of its store is asked for, so that it is held all the while.
 fn serve_at<R: Net + Clock + Eprint>(
     rt: &R,
     alloc: Global,
@@ -148,6 +148,7 @@ fn serve_at<R: Net + Clock + Eprint>(
     socket: &UdpSocket,
     port: u16,
     turns: u64,
+    _lock: &StoreLock,
 ) -> Result<Ended, ProgramFault>
     ensures { IfOk result (λ ended. ended.turns ≤ turns) }
 {
@@ -274,9 +275,9 @@ fn serve<R: Files<File = File> + Net + Clock + Eprint, W: Write>(
     ensures { OnOk result (IsRunTold turns (W.contents writer.old) (W.contents writer.new)) }
 {
     let disks = open_both(rt, alloc, dir)?;
-    let _lock = lock_store(rt, alloc, dir)?;
+    let lock = lock_store(rt, alloc, dir)?;
     let (socket, mut engine) = bound(rt, alloc, dir, port, disks)?;
-    match serve_at(rt, alloc, dir, &mut engine, &socket, port, turns) {
+    match serve_at(rt, alloc, dir, &mut engine, &socket, port, turns, &lock) {
         Ok(ended) => finish(rt, alloc, dir, engine, ended, writer),
         Err(fault) => {
             discard(engine);

@@ -1,5 +1,7 @@
-//! The program on files of its own. The table is written by hand.
+//! The program on files of its own. The tables are written by hand.
+mod serving;
 mod sockets;
+mod stores;
 
 use crate::program::perform;
 use std::fs::{self, File, Files};
@@ -32,35 +34,52 @@ fn expect<R: Files<File = File> + Net + Clock + Eprint + AllocGlobal + Abort>(
     Ok(())
 }
 
+/// Makes an empty folder, also where an earlier test left one.
+fn make_folder<R: Files + Alloc>(rt: &R, dir: &str) -> Result<(), Fail> {
+    let _ = fs::remove_dir_all(rt, dir);
+    fs::create_dir(rt, dir)?;
+    Ok(())
+}
+
+/// Compares the bytes of a file.
+fn expect_bytes<R: Files + AllocGlobal + Abort>(
+    rt: &R,
+    path: &str,
+    bytes: &[u8],
+) -> Result<(), Fail> {
+    let read = fs::read(rt, path)?;
+    assert!(rt; read.as_slice() == bytes, "the bytes of {path}");
+    Ok(())
+}
+
+/// Each command line with its status and what it prints, in a folder that is there and empty at first.
+const LINES: [(&str, u8, &str); 13] = [
+    ("cuectl form table", 0, "formed\n"),
+    ("cuectl form table", 1, "! NotEmpty\n"),
+    ("cuectl show table", 0, "last 0\nplace -\nended 0 0\n"),
+    ("cuectl serve table --port 0 --turns 1", 2, "! Usage\n"),
+    ("cuectl serve table --port 65536 --turns 1", 2, "! Usage\n"),
+    ("cuectl serve table --turns 1", 2, "! Usage\n"),
+    ("cuectl --version", 0, "cuectl 1.1\n"),
+    ("cuectl", 2, "! Usage\n"),
+    ("cuectl strike table", 2, "! Usage\n"),
+    ("cuectl show missing", 3, "! NotFound\n"),
+    (
+        "cuectl serve missing --port 9100 --turns 1",
+        3,
+        "! NotFound\n",
+    ),
+    ("cuectl form missing", 3, "! Io\n"),
+    ("cuectl script", 0, ""),
+];
+
 /// Each command with what it prints and answers.
 #[test]
 fn command_lines(rt: HostRuntime) -> Result<(), Fail> {
-    let _ = fs::remove_dir_all(&rt, "table");
-    fs::create_dir(&rt, "table")?;
-    expect(&rt, "cuectl form table", 0, "formed\n")?;
-    expect(&rt, "cuectl form table", 1, "! NotEmpty\n")?;
-    expect(&rt, "cuectl show table", 0, "last 0\nplace -\nended 0 0\n")?;
-    expect(
-        &rt,
-        "cuectl serve table --port 9100 --turns 0",
-        0,
-        "turns 0 unsent 0\n",
-    )?;
-    expect(&rt, "cuectl serve table --port 0 --turns 1", 2, "! Usage\n")?;
-    expect(
-        &rt,
-        "cuectl serve table --port 65536 --turns 1",
-        2,
-        "! Usage\n",
-    )?;
-    expect(&rt, "cuectl serve table --turns 1", 2, "! Usage\n")?;
-    expect(&rt, "cuectl --version", 0, "cuectl 1.1\n")?;
-    expect(&rt, "cuectl", 2, "! Usage\n")?;
-    expect(&rt, "cuectl strike table", 2, "! Usage\n")?;
-    expect(&rt, "cuectl show missing", 3, "! NotFound\n")?;
-    expect(&rt, "cuectl form missing", 3, "! Io\n")?;
-    fs::write(&rt, "table/a.area", [1u8, 0, 0, 0, 0].as_slice())?;
-    expect(&rt, "cuectl show table", 1, "! Damaged\n")?;
+    make_folder(&rt, "table")?;
+    for (line, status, output) in LINES {
+        expect(&rt, line, status, output)?;
+    }
     fs::remove_dir_all(&rt, "table")?;
     Ok(())
 }

@@ -23,7 +23,7 @@ const START: u64 = 1_795_548_600_000;
 /// How many bytes the date and time take at the head of a line.
 const DATE: usize = 21;
 
-/// A clock that a test sets, and the lines that were written.
+/// A clock that a test sets, and the lines that were written. Its time is the one of the day: it has no other.
 #[derive(Drop)]
 struct Paper {
     alloc: Global,
@@ -72,7 +72,7 @@ impl Paper {
 
 impl Clock for Paper {
     fn monotonic(&self) -> io::Result<Duration> {
-        Ok(Duration::from_millis(self.now.get()))
+        Err(io::Error::from(ErrorKind::Unsupported))
     }
 
     fn since_1970(&self) -> io::Result<Duration> {

@@ -1,19 +1,22 @@
 -- The board: what each line says of the state, from its front on. Names and notes of the show file follow after that.
-use Rattle.std.specs.Prelude.{◌≡◌, ℕ, suc, ◌-◌, ◌/◌, ◌%◌, List, [], ◌∷◌, ◌++◌, map, take, drop, codes}
+use Rattle.std.specs.Prelude.{◌≡◌, ℕ, suc, Bool, true, false, ◌||◌, ◌==◌, length, ◌-◌, ◌/◌, ◌%◌, List, [], ◌∷◌, ◌++◌, map, take, drop, codes}
 use Rattle.std.specs.Prelude.{string_bytes}
 use Rattle.std.specs.Prelude.{Option, None, Some, if◌then◌else◌}
 use Rattle.std.specs.Fmt.{decimal}
-use Rattle.std.specs.List.{flat_map}
+use Rattle.std.specs.List.{flat_map, list_any}
 use Rattle.std.specs.Map.{keys_of}
 use Rattle.cue_core.specs.State.{ShowState}
 use Rattle.cue_core.specs.declared.event.Ended.{Ended}
+use Rattle.cue_exchange.specs.Answers.{is_decided}
 use Rattle.cue_exchange.specs.Steps.{can_go_now}
+use Rattle.cue_exchange.specs.declared.attempt.Outcome.{Outcome}
+use Rattle.cue_exchange.specs.declared.attempt.Outcome.TheVariants as outcome
 use Rattle.cue_exchange.specs.declared.attempt.Attempt.{Attempt}
 use Rattle.cue_exchange.specs.declared.attempt.DeviceAnswer.{DeviceAnswer}
 use Rattle.cue_exchange.specs.declared.attempt.Stage.{Stage}
 use Rattle.cue_exchange.specs.declared.attempt.Stage.TheVariants as stage
 use Rattle.cue_show.specs.Number.{same_text}
-use Rattle.cue_show.specs.Show.{ShowLists, is_place}
+use Rattle.cue_show.specs.Show.{first_cue, is_place}
 use Rattle.cue_words.specs.Answered.{answer_words, outcome_words, reason_words}
 use Rattle.cue_desk.specs.declared.board.line.BoardLine.{BoardLine}
 use Rattle.cue_desk.specs.declared.board.stack.TheConstants.{BEFORE, SHOWN}
@@ -54,16 +57,35 @@ live_said now (a ∷ more) = flat_map (attempt_lines now) (a ∷ more)
 
 -- ---- the stack
 
--- the cue that is next: that of the place, or the first one
-abbrev pub next_of : Option (List ℕ) → List (List ℕ) → Option (List ℕ)
-next_of (Some cue) cues = Some cue
-next_of None [] = None
-next_of None (cue ∷ cues) = Some cue
+-- an attempt that has ended so was given
+abbrev pub was_given : Outcome → Bool
+was_given outcome.Complete = true
+was_given outcome.Cancelled = false
+was_given outcome.Failed = true
 
--- which one that is
-unfoldable pub next_said : Option (List ℕ) → List ℕ
-next_said (Some cue) = codes "NEXT   cue " ++ cue
-next_said None = codes "NEXT   the stack has no cue after the place"
+-- an attempt is decided
+abbrev pub is_giving : List Attempt → Bool
+is_giving live = list_any (λ a. is_decided a.stage) live
+
+-- the attempt that ended last was given
+abbrev pub gave_last : Option Ended → Bool
+gave_last None = false
+gave_last (Some e) = was_given e.outcome
+
+-- that of the place; without a place the first one, and none where a cue was given
+abbrev pub next_by : Option (List ℕ) → Bool → Option (List ℕ) → Option (List ℕ)
+next_by (Some cue) given first = Some cue
+next_by None given first = if given then None else first
+
+-- the cue that is next
+abbrev pub next_of : ShowState → Option (List ℕ)
+next_of s = next_by s.show.place (is_giving s.live || gave_last s.ended) (first_cue s.show.cues)
+
+-- which one that is; where there is none, whether the stack has a cue
+unfoldable pub next_said : Option (List ℕ) → List (List ℕ) → List ℕ
+next_said (Some cue) cues = codes "NEXT   cue " ++ cue
+next_said None cues =
+    if length cues == 0 then codes "NEXT   the stack has no cue" else codes "NEXT   no cue: the stack is at its end"
 
 -- how many cues stand before this one
 abbrev pub cues_before : List ℕ → List (List ℕ) → ℕ
@@ -84,10 +106,10 @@ unfoldable pub cue_said : Option (List ℕ) → List ℕ → List ℕ
 cue_said place cue = if is_place cue place then codes " -->   " ++ cue else codes "       " ++ cue
 
 -- the next cue, room for its note, and the stack around the place
-abbrev pub stack_said : ShowLists → List (List ℕ)
+abbrev pub stack_said : ShowState → List (List ℕ)
 stack_said s =
-    next_said (next_of s.place (keys_of s.cues)) ∷ codes "       " ∷ codes "STACK"
-    ∷ map (cue_said s.place) (around s.place (keys_of s.cues))
+    next_said (next_of s) (keys_of s.show.cues) ∷ codes "       " ∷ codes "STACK"
+    ∷ map (cue_said s.show.place) (around s.show.place (keys_of s.show.cues))
 
 -- ---- the whole
 
@@ -98,7 +120,7 @@ ended_said (Some e) = codes "LAST   attempt " ++ (decimal e.seq ++ (codes ": " +
 
 -- the stack, each live attempt with its devices, and the last attempt
 abbrev pub board_said : ShowState → ℕ → List (List ℕ)
-board_said s now = stack_said s.show ++ (live_said now s.live ++ (ended_said s.ended ∷ []))
+board_said s now = stack_said s ++ (live_said now s.live ++ (ended_said s.ended ∷ []))
 
 -- what a line says of the state
 unfoldable pub said_of : BoardLine → List ℕ

@@ -8,6 +8,7 @@ mod beside;
 mod columns;
 mod line;
 mod live;
+mod next;
 mod stack;
 
 use crate::show_file::ShowFile;
@@ -18,6 +19,7 @@ use cue_words::outcome_words;
 pub(crate) use line::cue_text;
 use line::{BoardLine, texts};
 use live::push_live;
+pub use next::next_cue;
 use stack::push_stack;
 use std::alloc::{AllocError, Global};
 
@@ -45,7 +47,7 @@ fn lines_of(
     ensures { IfOk result (λ lines. map said_of lines.items ≡ board.board_said state.now now) }
 {
     let mut lines = Vec::new(alloc);
-    push_stack(alloc, &mut lines, state.show(), file)?;
+    push_stack(alloc, &mut lines, state, file)?;
     push_live(alloc, &mut lines, state.live().as_slice(), file, now)?;
     let ended = ended_said(alloc, state.ended())?;
     lines.push(BoardLine::bare(alloc, ended))?;

@@ -5,7 +5,9 @@ ghost use Rattle.cue_desk.specs.Board as board;
 ghost use Rattle.cue_desk.specs.Board.{said_of};
 
 use super::line::{BoardLine, cue_text, push_spaces};
+use super::next::next_cue;
 use crate::show_file::{CueEntry, ShowFile};
+use cue_core::State;
 use cue_show::{CueNo, Show};
 use std::alloc::{AllocError, Global};
 
@@ -53,17 +55,6 @@ fn cues_of(alloc: Global, show: &Show) -> Result<Vec<CueNo>, AllocError>
     Ok(cues)
 }
 
-// The cue that is next: that of the place, or the first one.
-fn next_of(place: Option<CueNo>, cues: &[CueNo]) -> Option<CueNo>
-    ensures { result ≡ board.next_of place cues.now }
-{
-    match (place, cues) {
-        (Some(cue), _) => Some(cue),
-        (None, []) => None,
-        (None, [first, ..]) => Some(*first),
-    }
-}
-
 // How many cues stand before this one.
 fn cues_before(cue: CueNo, cues: &[CueNo]) -> usize
     ensures { result ≡ board.cues_before cue cues.now }
@@ -101,15 +92,16 @@ fn around(place: Option<CueNo>, cues: &[CueNo]) -> &[CueNo]
 
 // What is said of the cue that is next.
 #[tactic(auto, unfolding(crate::specs::Board::next_said))]
-fn next_said(alloc: Global, next: Option<CueNo>) -> Result<String, AllocError>
-    ensures { IfOk result (λ text. string_bytes text ≡ board.next_said next) }
+fn next_said(alloc: Global, next: Option<CueNo>, cues: &[CueNo]) -> Result<String, AllocError>
+    ensures { IfOk result (λ text. string_bytes text ≡ board.next_said next cues.now) }
 {
     match next {
         Some(cue) => {
             let cue = cue_text(&cue);
             Ok(format!(in alloc; "NEXT   cue {cue}")?)
         }
-        None => String::from_str(alloc, "NEXT   the stack has no cue after the place"),
+        None if cues.is_empty() => String::from_str(alloc, "NEXT   the stack has no cue"),
+        None => String::from_str(alloc, "NEXT   no cue: the stack is at its end"),
     }
 }
 
@@ -117,11 +109,12 @@ fn next_said(alloc: Global, next: Option<CueNo>) -> Result<String, AllocError>
 fn next_line(
     alloc: Global,
     next: Option<CueNo>,
+    cues: &[CueNo],
     entry: Option<&CueEntry>,
 ) -> Result<BoardLine, AllocError>
-    ensures { IfOk result (λ line. said_of line ≡ board.next_said next) }
+    ensures { IfOk result (λ line. said_of line ≡ board.next_said next cues.now) }
 {
-    let said = next_said(alloc, next)?;
+    let said = next_said(alloc, next, cues)?;
     let mut rest = String::from_str(alloc, "  ")?;
     rest.push_str(name_of(entry))?;
     BoardLine::with_rest(alloc, said, rest.as_str())
@@ -177,16 +170,17 @@ fn push_cues(
 pub(super) fn push_stack(
     alloc: Global,
     lines: &mut Vec<BoardLine>,
-    show: &Show,
+    state: &State,
     file: Option<&ShowFile>,
 ) -> Result<(), AllocError>
     ensures { OnOk result
-        (map said_of lines.new.items ≡ map said_of lines.old.items ++ board.stack_said show.now) }
+        (map said_of lines.new.items ≡ map said_of lines.old.items ++ board.stack_said state.now) }
 {
+    let show = state.show();
     let (place, cues) = (show.place(), cues_of(alloc, show)?);
-    let next = next_of(place, &cues);
+    let next = next_cue(state);
     let entry = entry_of(file, next);
-    lines.push(next_line(alloc, next, entry)?)?;
+    lines.push(next_line(alloc, next, &cues, entry)?)?;
     let margin = String::from_str(alloc, "       ")?;
     lines.push(BoardLine::with_rest(alloc, margin, note_of(entry))?)?;
     lines.push(BoardLine::bare(alloc, String::from_str(alloc, "STACK")?))?;

@@ -1,9 +1,11 @@
 //! The board of a show that is at rest.
-use crate::board::{board_lines, heard_lines, log_lines};
+use crate::board::{board_lines, heard_lines, log_lines, next_cue};
 use crate::show_file::{Checked, check, read};
-use cue_core::State;
-use cue_exchange::Live;
+use cue_core::{Ended, State};
+use cue_exchange::{Live, Outcome};
 use cue_relay::status;
+use cue_show::CueNo;
+use std::alloc::{AllocError, Global};
 
 /// A show of two cues; the second one has no name.
 const FILE: &str = "[[device]]\nnumber = 3\nport = 9001\n\n\
@@ -38,6 +40,51 @@ fn board_of_a_show_at_rest(rt: HostRuntime) {
     for (line, wanted) in lines.iter().zip(BOARD.iter()) {
         assert!(rt; line.as_str() == *wanted, "{}", line.as_str());
     }
+}
+
+/// How attempt 1 ended, and which cue is next then, where the operator stands at none.
+const ENDED: [(Option<Outcome>, Option<&[u8]>); 4] = [
+    (None, Some(b"1")),
+    (Some(Outcome::Cancelled), Some(b"1")),
+    (Some(Outcome::Complete), None),
+    (Some(Outcome::Failed), None),
+];
+
+// The state of the show after attempt 1 ended so.
+fn state_after(alloc: Global, outcome: Option<Outcome>) -> Result<Option<State>, AllocError> {
+    let draft = read(alloc, FILE)?;
+    let Checked { show, .. } = check(alloc, &draft.file)?;
+    let Some(show) = show else {
+        return Ok(None);
+    };
+    let ended = outcome.map(|outcome| Ended { seq: 1, outcome });
+    Ok(State::of(show, Live::new(alloc), 1, ended))
+}
+
+#[test]
+fn none_is_next_after_the_last_cue(rt: HostRuntime) {
+    for (outcome, wanted) in ENDED {
+        let state = state_after(rt.alloc(), outcome).expect(&rt, "memory");
+        let Some(state) = state else {
+            panic!(rt; "no state");
+        };
+        assert!(rt; next_cue(&state) == wanted.and_then(|number| CueNo::read(number)));
+        let lines = board_lines(rt.alloc(), &state, None, 0).expect(&rt, "memory");
+        let wanted = match wanted {
+            Some(_) => "NEXT   cue 1  ",
+            None => "NEXT   no cue: the stack is at its end  ",
+        };
+        assert!(rt; lines.first().is_some_and(|line| line.as_str() == wanted));
+    }
+}
+
+#[test]
+fn an_empty_stack_has_no_next_cue(rt: HostRuntime) {
+    let state = State::empty(rt.alloc());
+    assert!(rt; next_cue(&state).is_none());
+    let lines = board_lines(rt.alloc(), &state, None, 0).expect(&rt, "memory");
+    let wanted = "NEXT   the stack has no cue  ";
+    assert!(rt; lines.first().is_some_and(|line| line.as_str() == wanted));
 }
 
 /// What a relay says of two devices.

@@ -4,5 +4,6 @@ pub mod Board
 pub mod Loading
 pub mod Routes
 pub mod Reading
+pub mod Replies
 pub mod Said
 pub mod Written

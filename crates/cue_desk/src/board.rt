@@ -5,20 +5,24 @@ ghost use Rattle.cue_desk.specs.Board as board;
 ghost use Rattle.cue_desk.specs.Board.{EachBegins, said_of};
 
 mod beside;
+mod brief;
 mod columns;
 mod line;
 mod live;
+mod next;
 mod stack;
 
 use crate::show_file::ShowFile;
 pub use beside::{heard_lines, log_lines};
+use brief::push_live_brief;
 pub use columns::{COLUMNS, fitted};
 use cue_core::{Ended, State};
 use cue_words::outcome_words;
 pub(crate) use line::cue_text;
 use line::{BoardLine, texts};
 use live::push_live;
-use stack::push_stack;
+pub use next::next_cue;
+use stack::{SHOWN, cues_within, push_stack};
 use std::alloc::{AllocError, Global};
 
 // How the last attempt ended.
@@ -35,17 +39,18 @@ fn ended_said(alloc: Global, ended: Option<Ended>) -> Result<String, AllocError>
     }
 }
 
-// The lines of the board.
+// The lines of the board, with so many cues.
 fn lines_of(
     alloc: Global,
     state: &State,
     file: Option<&ShowFile>,
     now: u64,
+    shown: usize,
 ) -> Result<Vec<BoardLine>, AllocError>
-    ensures { IfOk result (λ lines. map said_of lines.items ≡ board.board_said state.now now) }
+    ensures { IfOk result (λ lines. map said_of lines.items ≡ board.board_with shown state.now now) }
 {
     let mut lines = Vec::new(alloc);
-    push_stack(alloc, &mut lines, state.show(), file)?;
+    push_stack(alloc, &mut lines, state, file, shown)?;
     push_live(alloc, &mut lines, state.live().as_slice(), file, now)?;
     let ended = ended_said(alloc, state.ended())?;
     lines.push(BoardLine::bare(alloc, ended))?;
@@ -64,7 +69,58 @@ pub fn board_lines(
 ) -> Result<Vec<String>, AllocError>
     ensures { IfOk result (λ lines. EachBegins (board.board_said state.now now) (map string_bytes lines.items)) }
 {
-    let lines = lines_of(alloc, state, file, now)?;
+    let lines = lines_of(alloc, state, file, now, SHOWN)?;
+    texts(alloc, &lines)
+}
+
+// The lines of the board without cues, with a line for each answer.
+fn brief_lines(
+    alloc: Global,
+    state: &State,
+    file: Option<&ShowFile>,
+    now: u64,
+) -> Result<Vec<BoardLine>, AllocError>
+    ensures { IfOk result (λ lines. map said_of lines.items ≡ board.board_brief state.now now) }
+{
+    let mut lines = Vec::new(alloc);
+    push_stack(alloc, &mut lines, state, file, 0)?;
+    push_live_brief(alloc, &mut lines, state.live().as_slice(), now)?;
+    let ended = ended_said(alloc, state.ended())?;
+    lines.push(BoardLine::bare(alloc, ended))?;
+    Ok(lines)
+}
+
+// The lines of the board where there are so many.
+fn lines_within(
+    alloc: Global,
+    state: &State,
+    file: Option<&ShowFile>,
+    now: u64,
+    room: usize,
+) -> Result<Vec<BoardLine>, AllocError>
+    ensures { IfOk result (λ lines. map said_of lines.items ≡ board.board_within room state.now now) }
+{
+    let shown = cues_within(room, state.live().as_slice());
+    if shown == 0 {
+        brief_lines(alloc, state, file, now)
+    } else {
+        lines_of(alloc, state, file, now, shown)
+    }
+}
+
+/// The same where there are so many lines: the stack has fewer cues where the live attempts need the room. So a cue of
+/// 16 devices has its place in 22 lines, with the cue that is next and the last attempt. Where no cue has room any more,
+/// the devices of an attempt that have answered the same share a line, by their numbers.
+pub fn board_lines_within(
+    alloc: Global,
+    state: &State,
+    file: Option<&ShowFile>,
+    now: u64,
+    room: usize,
+) -> Result<Vec<String>, AllocError>
+    ensures { IfOk result (λ lines. EachBegins (board.board_within room state.now now) (map string_bytes lines.items)) }
+{
+    let lines = lines_within(alloc, state, file, now, room)?;
     texts(alloc, &lines)
 }
 

@@ -1,4 +1,8 @@
 //! What the controller replies to the desk.
+ghost use Rattle.std.specs.Prelude.{◌≡◌, map};
+ghost use Rattle.cue_osc.specs.Argument.{arg_view};
+ghost use Rattle.cue_desk.specs.Replies.{reply_in, status_in};
+
 use cue_osc::{Arg, Fault, Message, Packet, read};
 use cue_show::CueNo;
 use std::alloc::{AllocError, Global};
@@ -32,7 +36,9 @@ pub enum Replied {
 }
 
 // The reply that these arguments are, where its address, cut at 64 bytes, is the one that was asked.
-fn reply_in(asked: &[u8], args: &[Arg<'_>]) -> Option<Replied> {
+fn reply_in(asked: &[u8], args: &[Arg<'_>]) -> Option<Replied>
+    ensures { result ≡ reply_in asked.now (map arg_view args.now) }
+{
     match args {
         [
             Arg::Text(address),
@@ -50,7 +56,10 @@ fn reply_in(asked: &[u8], args: &[Arg<'_>]) -> Option<Replied> {
     }
 }
 
-fn status_in(args: &[Arg<'_>]) -> Option<Replied> {
+// The status that these arguments are.
+fn status_in(args: &[Arg<'_>]) -> Option<Replied>
+    ensures { result ≡ status_in (map arg_view args.now) }
+{
     match args {
         [
             Arg::Int(last),

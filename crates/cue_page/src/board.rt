@@ -5,6 +5,7 @@ ghost use Rattle.cue_page.specs.Board.{device_data};
 
 use crate::relay::{Relay, relay_value};
 use cue_core::{Ended, State};
+use cue_desk::board::next_cue;
 use cue_desk::show_file::ShowFile;
 use cue_exchange::{Attempt, DeviceAnswer, Stage};
 use cue_show::{CueNo, DeviceNo, Show};
@@ -147,19 +148,9 @@ fn stack_value(alloc: Global, show: &Show, file: Option<&ShowFile>) -> Result<Va
     Ok(Value::Array(cues))
 }
 
-// The cue that is next: that of the place, or the first one.
-fn next_cue(show: &Show) -> Option<CueNo> {
-    match show.place() {
-        Some(cue) => Some(cue),
-        None => {
-            let (first, _) = show.cues().next()?;
-            Some(*first)
-        }
-    }
-}
-
-fn next_value(alloc: Global, show: &Show, file: Option<&ShowFile>) -> Result<Value, AllocError> {
-    match next_cue(show) {
+// The cue that is next.
+fn next_value(alloc: Global, state: &State, file: Option<&ShowFile>) -> Result<Value, AllocError> {
+    match next_cue(state) {
         Some(cue) => cue_value(alloc, cue, file),
         None => Ok(Value::Null),
     }
@@ -179,7 +170,7 @@ fn ended_value(alloc: Global, ended: Option<Ended>) -> Result<Value, AllocError>
 /// ended, what a relay tells, and how old all that is.
 pub fn board_text(alloc: Global, state: &State, around: &Around<'_>) -> Result<String, AllocError> {
     let (show, file) = (state.show(), around.file);
-    let next = next_value(alloc, show, file)?;
+    let next = next_value(alloc, state, file)?;
     let stack = stack_value(alloc, show, file)?;
     let live = live_value(alloc, state.live().as_slice(), file, around.now)?;
     let last = ended_value(alloc, state.ended())?;

@@ -7,6 +7,7 @@ ghost use Rattle.cue_osc.specs.Reading.{datagram_at};
 ghost use Rattle.cue_operator.specs.Methods.{address_of};
 ghost use Rattle.cue_operator.specs.declared.method.Method.TheVariants.{AddDevice, AddMixedCue};
 ghost use Rattle.cue_desk.specs.Loading.{cue_message, device_message};
+ghost use Rattle.cue_desk.specs.declared.asking.bundling.TheConstants.{MAX_TOGETHER};
 
 use super::{AskFault, cue_args};
 use crate::show_file::{CueEntry, DeviceEntry};
@@ -54,6 +55,7 @@ fn cue_len(entry: &CueEntry) -> usize {
 pub fn devices_that_fit(entries: &[DeviceEntry]) -> usize
     ensures at_most { result ≤ length entries.now }
     ensures at_least { 0 < length entries.now → 0 < result }
+    ensures most { result < length entries.now → result ≡ MAX_TOGETHER }
 {
     entries.len().min(MAX_TOGETHER)
 }

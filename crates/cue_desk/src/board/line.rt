@@ -1,5 +1,5 @@
 //! A line of the board.
-ghost use Rattle.std.specs.Prelude.{◌≡◌, IfOk, map, string_bytes};
+ghost use Rattle.std.specs.Prelude.{◌≡◌, ◌++◌, IfOk, OnOk, map, replicate, string_bytes};
 ghost use Rattle.cue_desk.specs.Board.{said_of, text_of};
 
 use super::columns::{COLUMNS, fitted};
@@ -66,7 +66,9 @@ pub(crate) fn cue_text(cue: &CueNo) -> &str
 }
 
 /// So many spaces.
-pub(super) fn push_spaces(text: &mut String, count: usize) -> Result<(), AllocError> {
+pub(super) fn push_spaces(text: &mut String, count: usize) -> Result<(), AllocError>
+    ensures { OnOk result (string_bytes text.new ≡ string_bytes text.old ++ replicate count 32) }
+{
     for _ in 0..count {
         text.push(' ')?;
     }

@@ -11,7 +11,7 @@ use cue_show::DeviceNo;
 use cue_words::{answer_words, reason_words};
 use std::alloc::{AllocError, Global};
 
-/// The column at which the line of a device goes on after its answer.
+/// The column at which the line of a device says whether it is optional.
 const NAME_AT: usize = 30;
 
 // Seconds with one digit after the point.
@@ -52,9 +52,13 @@ fn stage_at(alloc: Global, attempt: &Attempt, now: u64) -> Result<String, AllocE
     }
 }
 
-// The line of an attempt.
+/// The line of an attempt.
 #[tactic(auto, unfolding(crate::specs::Board::attempt_said))]
-fn attempt_line(alloc: Global, attempt: &Attempt, now: u64) -> Result<BoardLine, AllocError>
+pub(super) fn attempt_line(
+    alloc: Global,
+    attempt: &Attempt,
+    now: u64,
+) -> Result<BoardLine, AllocError>
     ensures { IfOk result (λ line. said_of line ≡ board.attempt_said now attempt.now) }
 {
     let cue = cue_text(&attempt.cue);
@@ -73,32 +77,32 @@ fn name_of<'a>(file: Option<&'a ShowFile>, device: DeviceNo) -> &'a str {
     }
 }
 
+// Whether the cue may go without the device.
+fn kind_words(optional: bool) -> &'static str
+    ensures { result.now ≡ board.kind_words optional }
+{
+    if optional { "optional  " } else { "          " }
+}
+
 // Which device it is, and what it has answered.
-#[tactic(auto, unfolding(crate::specs::Board::device_said))]
-fn device_said(alloc: Global, answer: &DeviceAnswer) -> Result<String, AllocError>
-    ensures { IfOk result (λ text. string_bytes text ≡ board.device_said answer.now) }
+fn device_answered(alloc: Global, answer: &DeviceAnswer) -> Result<String, AllocError>
+    ensures { IfOk result (λ text. string_bytes text ≡ board.device_answered answer.now) }
 {
     let device = answer.device.number();
     let words = answer_words(answer.answer);
     Ok(format!(in alloc; "         device {device}: {words}")?)
 }
 
-// What follows: from so many columns on, whether the device is optional, and what it is called.
-fn device_rest(
-    alloc: Global,
-    file: Option<&ShowFile>,
-    answer: &DeviceAnswer,
-    columns: usize,
-) -> Result<String, AllocError> {
-    let mut rest = String::new(alloc);
-    push_spaces(&mut rest, NAME_AT.saturating_sub(columns))?;
-    rest.push_str(if answer.optional {
-        "optional  "
-    } else {
-        "          "
-    })?;
-    rest.push_str(name_of(file, answer.device))?;
-    Ok(rest)
+// The same, and whether it is optional.
+#[tactic(auto, unfolding(crate::specs::Board::device_said))]
+fn device_said(alloc: Global, answer: &DeviceAnswer) -> Result<String, AllocError>
+    ensures { IfOk result (λ text. string_bytes text ≡ board.device_said answer.now) }
+{
+    let mut said = device_answered(alloc, answer)?;
+    let missing = NAME_AT.saturating_sub(said.len());
+    push_spaces(&mut said, missing)?;
+    said.push_str(kind_words(answer.optional))?;
+    Ok(said)
 }
 
 // The line of a device.
@@ -110,8 +114,7 @@ fn device_line(
     ensures { IfOk result (λ line. said_of line ≡ board.device_said answer.now) }
 {
     let said = device_said(alloc, answer)?;
-    let rest = device_rest(alloc, file, answer, said.len())?;
-    BoardLine::with_rest(alloc, said, rest.as_str())
+    BoardLine::with_rest(alloc, said, name_of(file, answer.device))
 }
 
 // Puts the line of each device after the lines.

@@ -5,15 +5,19 @@ ghost use Rattle.cue_desk.specs.Board as board;
 ghost use Rattle.cue_desk.specs.Board.{said_of};
 
 use super::line::{BoardLine, cue_text, push_spaces};
+use super::next::next_cue;
 use crate::show_file::{CueEntry, ShowFile};
+use cue_core::State;
+use cue_exchange::Attempt;
 use cue_show::{CueNo, Show};
 use std::alloc::{AllocError, Global};
 
-/// How many cues are shown before the place.
-const BEFORE: usize = 3;
+/// How many cues are shown at most.
+pub(super) const SHOWN: usize = 9;
 
-/// How many cues are shown in all.
-const SHOWN: usize = 9;
+/// How many lines a board has beside cues and live attempts: the next cue, its note, the heading of the stack, and the
+/// last attempt. The line that nothing is stood by is one more.
+const ALWAYS: usize = 4;
 
 /// The column at which the name of a cue of the stack stands.
 const NAME_AT: usize = 25;
@@ -53,17 +57,6 @@ fn cues_of(alloc: Global, show: &Show) -> Result<Vec<CueNo>, AllocError>
     Ok(cues)
 }
 
-// The cue that is next: that of the place, or the first one.
-fn next_of(place: Option<CueNo>, cues: &[CueNo]) -> Option<CueNo>
-    ensures { result ≡ board.next_of place cues.now }
-{
-    match (place, cues) {
-        (Some(cue), _) => Some(cue),
-        (None, []) => None,
-        (None, [first, ..]) => Some(*first),
-    }
-}
-
 // How many cues stand before this one.
 fn cues_before(cue: CueNo, cues: &[CueNo]) -> usize
     ensures { result ≡ board.cues_before cue cues.now }
@@ -88,28 +81,50 @@ fn before_place(place: Option<CueNo>, cues: &[CueNo]) -> usize
     }
 }
 
-// The cues around the place.
-fn around(place: Option<CueNo>, cues: &[CueNo]) -> &[CueNo]
-    ensures { result.now ≡ board.around place cues.now }
+// So many cues around the place.
+fn around(shown: usize, place: Option<CueNo>, cues: &[CueNo]) -> &[CueNo]
+    ensures { result.now ≡ board.around shown place cues.now }
 {
     let first = before_place(place, cues)
-        .saturating_sub(BEFORE)
+        .saturating_sub(shown / 3)
         .min(cues.len());
     let rest = &cues[first..];
-    &rest[..SHOWN.min(rest.len())]
+    &rest[..shown.min(rest.len())]
+}
+
+// The lines that the live attempts leave of so many.
+fn room_after(room: usize, live: &[Attempt]) -> usize
+    ensures { result ≡ board.room_after room live.now }
+{
+    let mut left = room;
+    for attempt in live {
+        left = left
+            .saturating_sub(1)
+            .saturating_sub(attempt.answers.as_slice().len());
+    }
+    left
+}
+
+/// How many cues have room beside the live attempts, where a board has so many lines.
+pub(super) fn cues_within(room: usize, live: &[Attempt]) -> usize
+    ensures { result ≡ board.cues_within room live.now }
+{
+    let left = room_after(room.saturating_sub(ALWAYS), live);
+    if left >= SHOWN { SHOWN } else { left }
 }
 
 // What is said of the cue that is next.
 #[tactic(auto, unfolding(crate::specs::Board::next_said))]
-fn next_said(alloc: Global, next: Option<CueNo>) -> Result<String, AllocError>
-    ensures { IfOk result (λ text. string_bytes text ≡ board.next_said next) }
+fn next_said(alloc: Global, next: Option<CueNo>, cues: &[CueNo]) -> Result<String, AllocError>
+    ensures { IfOk result (λ text. string_bytes text ≡ board.next_said next cues.now) }
 {
     match next {
         Some(cue) => {
             let cue = cue_text(&cue);
             Ok(format!(in alloc; "NEXT   cue {cue}")?)
         }
-        None => String::from_str(alloc, "NEXT   the stack has no cue after the place"),
+        None if cues.is_empty() => String::from_str(alloc, "NEXT   the stack has no cue"),
+        None => String::from_str(alloc, "NEXT   no cue: the stack is at its end"),
     }
 }
 
@@ -117,11 +132,12 @@ fn next_said(alloc: Global, next: Option<CueNo>) -> Result<String, AllocError>
 fn next_line(
     alloc: Global,
     next: Option<CueNo>,
+    cues: &[CueNo],
     entry: Option<&CueEntry>,
 ) -> Result<BoardLine, AllocError>
-    ensures { IfOk result (λ line. said_of line ≡ board.next_said next) }
+    ensures { IfOk result (λ line. said_of line ≡ board.next_said next cues.now) }
 {
-    let said = next_said(alloc, next)?;
+    let said = next_said(alloc, next, cues)?;
     let mut rest = String::from_str(alloc, "  ")?;
     rest.push_str(name_of(entry))?;
     BoardLine::with_rest(alloc, said, rest.as_str())
@@ -173,22 +189,24 @@ fn push_cues(
     Ok(())
 }
 
-/// Puts the next cue, its note and the stack around the place after the lines.
+/// Puts the next cue, its note and so many cues around the place after the lines.
 pub(super) fn push_stack(
     alloc: Global,
     lines: &mut Vec<BoardLine>,
-    show: &Show,
+    state: &State,
     file: Option<&ShowFile>,
+    shown: usize,
 ) -> Result<(), AllocError>
     ensures { OnOk result
-        (map said_of lines.new.items ≡ map said_of lines.old.items ++ board.stack_said show.now) }
+        (map said_of lines.new.items ≡ map said_of lines.old.items ++ board.stack_said shown state.now) }
 {
+    let show = state.show();
     let (place, cues) = (show.place(), cues_of(alloc, show)?);
-    let next = next_of(place, &cues);
+    let next = next_cue(state);
     let entry = entry_of(file, next);
-    lines.push(next_line(alloc, next, entry)?)?;
+    lines.push(next_line(alloc, next, &cues, entry)?)?;
     let margin = String::from_str(alloc, "       ")?;
     lines.push(BoardLine::with_rest(alloc, margin, note_of(entry))?)?;
     lines.push(BoardLine::bare(alloc, String::from_str(alloc, "STACK")?))?;
-    push_cues(alloc, lines, place, around(place, &cues), file)
+    push_cues(alloc, lines, place, around(shown, place, &cues), file)
 }

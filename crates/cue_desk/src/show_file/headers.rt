@@ -1,29 +1,29 @@
 //! Where the tables of a file begin: TOML's values know nothing of lines.
 use std::alloc::{AllocError, Global};
 
-/// The lines, from 1, that begin with this header.
-fn lines_of(alloc: Global, text: &str, header: &str) -> Result<Vec<usize>, AllocError> {
-    let mut lines = Vec::new(alloc);
-    for (index, line) in text.lines().enumerate() {
-        if line.trim_start().starts_with(header) {
-            lines.push(index.saturating_add(1))?;
-        }
-    }
-    Ok(lines)
+/// The lines, from 1, that begin with each header.
+#[derive(Drop)]
+pub(crate) struct Headers {
+    pub(crate) devices: Vec<usize>,
+    pub(crate) cues: Vec<usize>,
 }
 
-/// The lines at which so many tables with this header begin. None where there are more or fewer such lines, as where
-/// the tables are written in one line, or where a text holds a header.
-pub(crate) fn header_lines(
-    alloc: Global,
-    text: &str,
-    header: &str,
-    count: usize,
-) -> Result<Vec<usize>, AllocError> {
-    let lines = lines_of(alloc, text, header)?;
-    if lines.len() == count {
-        Ok(lines)
-    } else {
-        Ok(Vec::new(alloc))
+/// The headers of a text, found in one pass.
+pub(crate) fn headers_of(alloc: Global, text: &str) -> Result<Headers, AllocError> {
+    let (mut devices, mut cues) = (Vec::new(alloc), Vec::new(alloc));
+    for (index, line) in text.lines().enumerate() {
+        let line = line.trim_start();
+        if line.starts_with("[[device]]") {
+            devices.push(index.saturating_add(1))?;
+        } else if line.starts_with("[[cue]]") {
+            cues.push(index.saturating_add(1))?;
+        }
     }
+    Ok(Headers { devices, cues })
+}
+
+/// The lines at which so many tables begin. None where there are more or fewer such lines, as where the tables are
+/// written in one line, or where a text holds a header.
+pub(crate) fn lines_for(lines: &[usize], count: usize) -> &[usize] {
+    if lines.len() == count { lines } else { &[] }
 }

@@ -90,8 +90,8 @@ pub enum Mistake {
     BadCue,
     /// The bytes of a part are no hexadecimal digits in pairs.
     BadHex,
-    /// The part for this device has both `hex` and `text`.
-    TwoBytes(DeviceNo),
+    /// The part for this device has both `hex` and `text`; the device is none where it cannot be read.
+    TwoBytes(Option<DeviceNo>),
     /// An earlier device of the file has the number.
     DeviceTwice,
     /// An earlier cue of the file has the number.
@@ -110,6 +110,20 @@ pub enum Mistake {
     TooLong(DeviceNo),
     /// A part is for this device, and the file has none with the number.
     UnknownDevice(DeviceNo),
+    /// A show would refuse the cue, and none of the others says why. No file is known that has it.
+    Refused,
+}
+
+// Writes that a part has both.
+fn write_two_bytes<W: fmt::Write>(
+    f: &mut fmt::Formatter<W>,
+    device: Option<DeviceNo>,
+) -> fmt::Result {
+    f.write_str("the part ")?;
+    if let Some(device) = device {
+        write!(f, "for device {} ", device.number())?;
+    }
+    f.write_str("has hex and text: take one of them out")
 }
 
 // Writes a mistake that names a device.
@@ -120,12 +134,6 @@ fn write_of_device<W: fmt::Write>(
 ) -> fmt::Result {
     let device = device.number();
     match mistake {
-        Mistake::TwoBytes(_) => {
-            write!(
-                f,
-                "the part for device {device} has hex and text: take one of them out"
-            )
-        }
         Mistake::PartTwice(_) => {
             write!(f, "two parts are for device {device}: take one of them out")
         }
@@ -181,8 +189,8 @@ fn write_of_key<W: fmt::Write>(f: &mut fmt::Formatter<W>, mistake: &Mistake) -> 
 impl fmt::Display for Mistake {
     fn fmt<W: fmt::Write>(&self, f: &mut fmt::Formatter<W>) -> fmt::Result {
         match self {
-            Mistake::TwoBytes(device)
-            | Mistake::PartTwice(device)
+            Mistake::TwoBytes(device) => write_two_bytes(f, *device),
+            Mistake::PartTwice(device)
             | Mistake::TooLong(device)
             | Mistake::UnknownDevice(device) => write_of_device(f, self, *device),
             Mistake::DeviceTwice => {
@@ -199,6 +207,7 @@ impl fmt::Display for Mistake {
                 write!(f, "a show has {MAX_CUES} cues at most: take this one out")
             }
             Mistake::NoPart => f.write_str("it has no part: give it one at least"),
+            Mistake::Refused => f.write_str("a show would refuse it: write it again"),
             Mistake::NoRequiredPart => {
                 f.write_str("all its parts are optional: one at least has to be required")
             }

@@ -12,6 +12,7 @@ mod parts;
 mod tables;
 
 use super::ShowFile;
+use super::headers::headers_of;
 use super::mistake::{Finding, Findings, Mistake, Subject};
 use super::network::read_listen;
 use cues::read_cues;
@@ -89,11 +90,16 @@ fn read_table(
         table,
         &["port", "listen", "device", "cue", "rehearse"],
     )?;
+    let headers = headers_of(alloc, text)?;
+    let port = read_port(findings, table)?;
+    let listen = read_listen(findings, table)?;
+    let devices = read_devices(alloc, findings, &headers.devices, table)?;
+    let cues = read_cues(alloc, findings, &devices, &headers.cues, table)?;
     Ok(ShowFile {
-        port: read_port(findings, table)?,
-        listen: read_listen(findings, table)?,
-        devices: read_devices(alloc, findings, text, table)?,
-        cues: read_cues(alloc, findings, text, table)?,
+        port,
+        listen,
+        devices,
+        cues,
     })
 }
 

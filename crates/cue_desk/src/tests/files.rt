@@ -1,5 +1,6 @@
 //! A small show file, read, checked and written.
-use crate::show_file::{Checked, check, of_show, read, written};
+use crate::show_file::{Checked, Finding, check, of_show, read, written};
+use std::alloc::{AllocError, Global};
 
 /// A file with nothing wrong.
 const GOOD: &str = "port = 9100\n\n\
@@ -49,4 +50,60 @@ fn mistake_is_told_with_its_line(rt: HostRuntime) {
     let said = format!(in alloc; "{finding}").expect(&rt, "memory");
     let wanted = "3: the 1. device: no device has that number: take one of 0 to 111";
     assert!(rt; said.as_str() == wanted, "{}", said.as_str());
+}
+
+/// A file with several slips in one entry.
+const SLIPS: &str = "\
+[[device]]\nnumber = 112\nport = 0\nname = 3\n\n\
+[[device]]\nnumber = 3\nport = 9001\n\n\
+[[cue]]\nnumber = \"1..2\"\nnames = \"Drop\"\nparts = [\n  { device = 3, hex = \"0\", optional = 1 },\n\
+  { device = 3 },\n  { device = 4 },\n]\n\n\
+[[cue]]\nnumber = \"2\"\nnote = 1\nparts = [\n  { device = 5 },\n]\n\n\
+[[cue]]\nnumber = \"2\"\nparts = [\n  { device = 200, hex = \"0a\", text = \"a\", optional = 2 },\n\
+  { device = 6 },\n]\n";
+
+/// What is wrong with each entry by itself.
+const READ: [&str; 14] = [
+    "1: the 1. device: no device has that number: take one of 0 to 111",
+    "1: the 1. device: a line as `name = \"Winch 3\"` is missing, or its value is of another kind",
+    "1: the 1. device: that is no port: take one of 1 to 65535",
+    "10: the 1. cue: that is no cue number: write digits with single points, as \"12.5\", 16 characters at most",
+    "10: the 1. cue: `names` is no key that stands here: look for a slip",
+    "10: the 1. cue: a line as `optional = true` is missing, or its value is of another kind",
+    "10: the 1. cue: hex is no pairs of hexadecimal digits: write them as \"0a0b\"",
+    "10: the 1. cue: two parts are for device 3: take one of them out",
+    "10: the 1. cue: a part is for device 4, which the file does not have: add a [[device]] with that number",
+    "19: cue 2: a line as `note = \"wait for the lamp\"` is missing, or its value is of another kind",
+    "26: cue 2: no device has that number: take one of 0 to 111",
+    "26: cue 2: a line as `optional = true` is missing, or its value is of another kind",
+    "26: cue 2: the part has hex and text: take one of them out",
+    "26: cue 2: a part is for device 6, which the file does not have: add a [[device]] with that number",
+];
+
+/// What a controller would not take of it.
+const REFUSED: [&str; 1] = [
+    "19: cue 2: a part is for device 5, which the file does not have: add a [[device]] with that number",
+];
+
+// Whether the findings are said so.
+fn are_said(alloc: Global, findings: &[Finding], wanted: &[&str]) -> Result<bool, AllocError> {
+    if findings.len() != wanted.len() {
+        return Ok(false);
+    }
+    for (finding, wanted) in findings.iter().zip(wanted.iter()) {
+        let said = format!(in alloc; "{finding}")?;
+        if said.as_str() != *wanted {
+            return Ok(false);
+        }
+    }
+    Ok(true)
+}
+
+#[test]
+fn all_slips_of_an_entry_are_said(rt: HostRuntime) {
+    let alloc = rt.alloc();
+    let draft = read(alloc, SLIPS).expect(&rt, "memory");
+    assert!(rt; are_said(alloc, &draft.findings, &READ).expect(&rt, "memory"));
+    let trial = check(alloc, &draft.file).expect(&rt, "memory");
+    assert!(rt; are_said(alloc, &trial.findings, &REFUSED).expect(&rt, "memory"));
 }

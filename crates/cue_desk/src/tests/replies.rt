@@ -6,9 +6,13 @@ use cue_show::CueNo;
 const REFUSED: &[u8] = b"/reply\0\0,siiii\0\0/cue/1/go\0\0\0\
 \0\0\0\0\0\0\0\0\0\0\0\x01\0\0\0\x0d";
 
-/// `/status` after attempt 2, which is complete, with the place at cue 1.5.
-const STATUS: &[u8] = b"/status\0,isiii\0\0\0\0\0\x02\x31.5\0\
-\0\0\0\0\0\0\0\x02\0\0\0\x01";
+/// `/reply` to `/cue/*/cancel`: one made, two known, three refused, the first of them with code 12.
+const MIXED: &[u8] = b"/reply\0\0,siiii\0\0/cue/*/cancel\0\0\0\
+\0\0\0\x01\0\0\0\x02\0\0\0\x03\0\0\0\x0c";
+
+/// `/status` where attempt 7 was started last, two are live, and 5 ended last, as failed; the place is cue 1.5.
+const STATUS: &[u8] = b"/status\0,isiii\0\0\0\0\0\x07\x31.5\0\
+\0\0\0\x02\0\0\0\x05\0\0\0\x03";
 
 #[test]
 fn refusal_is_read(rt: HostRuntime) {
@@ -23,14 +27,26 @@ fn refusal_is_read(rt: HostRuntime) {
 }
 
 #[test]
+fn each_number_of_a_reply_is_read(rt: HostRuntime) {
+    let heard = read_reply(rt.alloc(), b"/cue/*/cancel", MIXED).expect(&rt, "memory");
+    let wanted = Replied::Reply {
+        made: 1,
+        known: 2,
+        refused: 3,
+        code: 12,
+    };
+    assert!(rt; heard == Some(wanted));
+}
+
+#[test]
 fn status_is_read(rt: HostRuntime) {
     let heard = read_reply(rt.alloc(), b"/status", STATUS).expect(&rt, "memory");
     let wanted = Status {
-        last: 2,
+        last: 7,
         place: CueNo::read(b"1.5"),
-        live: 0,
-        ended: 2,
-        outcome: 1,
+        live: 2,
+        ended: 5,
+        outcome: 3,
     };
     assert!(rt; heard == Some(Replied::Status(wanted)));
     let other = read_reply(rt.alloc(), b"/cue/2/go", REFUSED).expect(&rt, "memory");

@@ -39,7 +39,7 @@ function button(id, text, label, command) {
 
 function cueLine(cue) {
   const line = make("li");
-  const here = board.next && board.next.cue === cue.cue;
+  const here = board.next !== null && board.next.cue === cue.cue;
   if (here) line.setAttribute("aria-current", "step");
   line.append(make("span", "", here ? "\u25b6" : ""), make("span", "number", cue.cue), make("span", "", cue.name));
   const move = button("goto-" + cue.cue, "Move here", "Move the place to cue " + cue.cue, "goto " + cue.cue);
@@ -50,7 +50,8 @@ function cueLine(cue) {
 }
 
 function nextCard() {
-  if (!board.next) return [make("p", "empty", "The stack has no cue.")];
+  if (!board.next) return [make("p", "empty", board.stack.length
+    ? "No cue is next: the stack is at its end. To give a cue again, move to it." : "The stack has no cue.")];
   const title = make("strong");
   title.append(make("span", "number", board.next.cue), " " + board.next.name);
   return [title, make("span", "note", board.next.note)];
@@ -216,7 +217,7 @@ function showButtons() {
 function show() {
   if (board) {
     place("stack", () => board.stack.map(cueLine), JSON.stringify([board.stack, board.next]));
-    place("next", nextCard, JSON.stringify(board.next));
+    place("next", nextCard, JSON.stringify([board.next, board.stack.length > 0]));
     const live = board.live.map((attempt) => ({ ...attempt, left: 0 }));
     place("live", liveCards, JSON.stringify([live, chosen, board.relay !== null]));
     showBars();

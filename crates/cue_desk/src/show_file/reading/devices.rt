@@ -1,19 +1,58 @@
 //! The devices of a show file.
-ghost use Rattle.std.specs.Prelude.{◌≡◌, IfOk, IsTrue, None, Some, codes};
+ghost use Rattle.std.specs.Prelude.{◌≡◌, ◌&&◌, IfOk, IsTrue, None, Some, codes, is_some, unwrap_or};
 ghost use Rattle.toml.specs.Data.{get_member};
 ghost use Rattle.toml.specs.View.{items_view, table_view, view};
 ghost use Rattle.cue_desk.specs.Reading.{devices_of, if_clean, is_clean, is_without_place, no_places_at, no_places_in};
 ghost use Rattle.cue_desk.specs.Reading.{then_one};
-ghost use Rattle.cue_desk.specs.Said.{device_said, each_said, list_or_none, table_said};
+ghost use Rattle.cue_desk.specs.Said.{device_at, device_said, each_said, list_or_none, port_at, table_said};
 
 use super::super::DeviceEntry;
-use super::super::headers::header_lines;
+use super::super::headers::lines_for;
 use super::super::mistake::{Findings, Key, Mistake, Subject};
 use super::super::network::read_address;
 use super::keys::{device_in, note_unknown, port_in, text_in};
 use super::tables::{Place, place_of, tables_in};
+use cue_show::DeviceNo;
 use std::alloc::{AllocError, Global};
 use toml::{Table, Value};
+
+// The number of a device; none where it is wrong, which is noted. From then on this device is looked at.
+fn read_number(
+    findings: &mut Findings,
+    at: Place,
+    table: &Table,
+) -> Result<Option<DeviceNo>, AllocError>
+    ensures value { IfOk result (λ number. number ≡ device_at (codes "number") (table_view table.now)) }
+    ensures clean { IfOk result (λ _. is_clean findings.new
+        ≡ (is_clean findings.old && is_some (device_at (codes "number") (table_view table.now)))) }
+{
+    match device_in(table, "number", Key::Number) {
+        Ok(number) => {
+            findings.look_at(at.line, Subject::Device(number));
+            Ok(Some(number))
+        }
+        Err(mistake) => {
+            findings.look_at(at.line, Subject::DeviceAt(at.place));
+            findings.note(mistake)?;
+            Ok(None)
+        }
+    }
+}
+
+// The port of a device; 1 where it is wrong, which is noted.
+fn read_port(findings: &mut Findings, table: &Table) -> Result<u16, AllocError>
+    ensures value { IfOk result (λ port. port ≡ unwrap_or (port_at (table_view table.now)) 1) }
+    ensures clean { IfOk result (λ _. is_clean findings.new
+        ≡ (is_clean findings.old && is_some (port_at (table_view table.now)))) }
+{
+    match port_in(table) {
+        Ok(port) => Ok(port),
+        Err(mistake) => {
+            findings.note(mistake)?;
+            Ok(1)
+        }
+    }
+}
 
 // Reads a device, and puts it after the others. One with a number is kept also where its port is wrong, so that a cue
 // may still name it.
@@ -31,14 +70,7 @@ fn read_device(
         → if_clean findings.new (Some (devices_of devices.new.items))
         ≡ if_clean findings.old (then_one (devices_of devices.old.items) (device_said (table_view table.now)))) }
 {
-    let number = match device_in(table, "number", Key::Number) {
-        Ok(number) => number,
-        Err(mistake) => {
-            findings.look_at(at.line, Subject::DeviceAt(at.place));
-            return findings.note(mistake);
-        }
-    };
-    findings.look_at(at.line, Subject::Device(number));
+    let number = read_number(findings, at, table)?;
     note_unknown(
         alloc,
         findings,
@@ -46,21 +78,17 @@ fn read_device(
         &["number", "port", "address", "name"],
     )?;
     let name = text_in(findings, table, "name", Key::Name)?;
-    let port = match port_in(table) {
-        Ok(port) => port,
-        Err(mistake) => {
-            findings.note(mistake)?;
-            1
-        }
-    };
+    let port = read_port(findings, table)?;
     let address = read_address(findings, table)?;
-    devices.push(DeviceEntry {
-        line: at.line,
-        number,
-        port,
-        address,
-        name,
-    })?;
+    if let Some(number) = number {
+        devices.push(DeviceEntry {
+            line: at.line,
+            number,
+            port,
+            address,
+            name,
+        })?;
+    }
     Ok(())
 }
 
@@ -108,11 +136,11 @@ fn read_each(
     Ok(devices)
 }
 
-// The devices of a file.
+// The devices of a file. Each is at one of these lines, where there are as many.
 pub(super) fn read_devices(
     alloc: Global,
     findings: &mut Findings,
-    text: &str,
+    lines: &[usize],
     table: &Table,
 ) -> Result<Vec<DeviceEntry>, AllocError>
     ensures said { IfOk result (λ devices. IsTrue (is_clean findings.new)
@@ -123,6 +151,5 @@ pub(super) fn read_devices(
         ≡ if_clean findings.old (list_or_none device_said (get_member (codes "device") (table_view table.now)))) }
 {
     let values = tables_in(findings, table, "device")?;
-    let lines = header_lines(alloc, text, "[[device]]", values.len())?;
-    read_each(alloc, findings, &lines, values)
+    read_each(alloc, findings, lines_for(lines, values.len()), values)
 }

@@ -1,4 +1,4 @@
-use Rattle.std.proofs.Common.{length, vec_len, refl, ◌∙◌, arith}
+use Rattle.std.proofs.Common.{length, vec_len, refl, sym, ◌∙◌, arith}
 use Rattle.cue_run.proofs.OfferLemmas.{offers_none, offers_join, gathered_all}
 use Rattle.cue_run.proofs.groups.offering.gather.Goals as goal
 
@@ -9,6 +9,7 @@ loop-count-init g c = (
   c.requires.one,
   refl,
   refl,
+  λ fits. fits,
 )
 
 pub loop-count-preserved : goal.loop-count-preserved
@@ -23,6 +24,7 @@ loop-count-preserved g c =
       omega (arith, next.1, l.invariant.1),
       c.offer_waiting.ensures.capacity ∙ l.invariant.2,
       c.offer_waiting.auto.buffer ∙ l.invariant.3,
+      λ _. next.2 (sym c.has_room.ensures ∙ c.if-not-has_room.false),
     )
 
 pub returns-then-not-has_room-clause-gathered : goal.returns-then-not-has_room-clause-gathered

@@ -81,6 +81,25 @@ fn offer_waiting<D: Disk, S: Source>(
     }
 }
 
+// Offers a datagram that waits, unless the live area may lack room for it; answers whether one was offered.
+fn offer_beside<D: Disk, S: Source>(
+    engine: &mut Engine<D>,
+    source: &mut S,
+    buffer: &mut [u8],
+    ends: &mut Vec<usize>,
+) -> Result<bool, RunFault>
+    requires room { vec_len ends.old < vec_capacity ends.old }
+    ensures offered { OfferedNext (length buffer.old) (vec_len ends.old) (vec_len ends.new) result
+        engine.old engine.new (S.left source.old) (S.left source.new) }
+    ensures fits { FitsTogether engine.old → FitsTogether engine.new }
+    ensures capacity { vec_capacity ends.new ≡ vec_capacity ends.old }
+{
+    if !engine.has_room() {
+        return Ok(false);
+    }
+    offer_waiting(engine, source, buffer, ends)
+}
+
 // Waits for the first input of a group, and offers it.
 fn offer_first<D: Disk, S: Source>(
     engine: &mut Engine<D>,
@@ -125,15 +144,12 @@ fn gather<D: Disk, S: Source>(
     ensures gathered { Gathered (length buffer.old) (vec_len ends.old) (vec_len ends.new) result
         engine.old engine.new (S.left source.old) (S.left source.new) }
     // What is offered in the end can be committed together.
-    ensures room { FitsTogether engine.old → FitsTogether engine.new }
+    ensures fits { FitsTogether engine.old → FitsTogether engine.new }
     ensures at_most { vec_len ends.new ≤ most }
     ensures capacity { vec_capacity ends.new ≡ vec_capacity ends.old }
 {
     for count in 1..most {
-        if !engine.has_room() {
-            return None;
-        }
-        match offer_waiting(engine, source, buffer, ends) {
+        match offer_beside(engine, source, buffer, ends) {
             Ok(true) => {}
             Ok(false) => return None,
             Err(fault) => return Some(fault),

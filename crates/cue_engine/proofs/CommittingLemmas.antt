@@ -1,12 +1,18 @@
--- What a commit says of the inputs that were offered before it.
+-- What a commit says of the inputs that were offered before it, and that they have room together.
 use Rattle.std.specs.Prelude.{OnOk}
-use Rattle.std.proofs.Common.{◌≡◌, ℕ, [], ◌∷◌, ◌++◌, List, Result, Ok, Err, ap, sym, ◌∙◌, subst}
+use Rattle.std.proofs.Common.{◌≡◌, ℕ, [], ◌∷◌, ◌++◌, false, List, Result, Ok, Err, ap, sym, ◌∙◌, subst}
+use Rattle.std.proofs.Common.{IsTrue, true≢false}
 use Rattle.std.proofs.lemmas.List.{map-append}
 use Rattle.cue_disk.specs.declared.disk.Disk.{Ghosts}
 use Rattle.cue_disk.specs.Disk.{Contents}
 use Rattle.cue_core.specs.declared.event.Event.{Event}
 use Rattle.cue_core.specs.State.{ShowState}
 use Rattle.cue_core.specs.Steps.{after_events}
+use Rattle.cue_keeper.specs.Accepting.{HaveRoom}
+use Rattle.cue_keeper.specs.Due.{lacks_room}
+use Rattle.cue_keeper.specs.Groups.{records_of}
+use Rattle.cue_keeper.specs.Observed as kept
+use Rattle.cue_keeper.proofs.FittingLemmas.{room_beside}
 use Rattle.cue_keeper.specs.Pairs.{LeavesPairsAtEachMoment}
 use Rattle.cue_keeper.specs.Stands.{StandsEither, folded_all}
 use Rattle.cue_outbox.specs.Sending.{datagram, datagrams}
@@ -15,10 +21,23 @@ use Rattle.cue_engine.specs.declared.taken.Taken.{Taken}
 use Rattle.cue_engine.specs.Given.{Input, given_of}
 use Rattle.cue_engine.specs.Groups.{batches_given, sends_given}
 use Rattle.cue_engine.specs.Taking.{Offers, IsOffered, TakesTogether}
-use Rattle.cue_engine.specs.Words.{state_of, queue_of, offered_of, latest_of}
+use Rattle.cue_engine.specs.Takes.{FitsRecord}
+use Rattle.cue_engine.specs.Words.{keeper_of, state_of, queue_of, offered_of, latest_of, has_room}
 use Rattle.cue_engine.proofs.GroupLemmas.{batches_more, sends_more}
 
 module _ {D : Type 0} {disk : Ghosts D} where
+  -- a batch for which there was room beside those before it has room
+  pub next_fits : (old : Engine D disk) (batches : List (List Event)) (batch : List Event)
+      → batches ≡ offered_of old ++ batch ∷ [] → FitsRecord batch → IsTrue (has_room old)
+      → HaveRoom (kept.pair_of (keeper_of old)) batches
+  next_fits old batches batch is fits room =
+      subst (λ (bs : List (List Event)). HaveRoom (kept.pair_of (keeper_of old)) bs) (sym is) (λ several lacks.
+      let free : lacks_room (kept.count_of (keeper_of old)) (kept.end_of (keeper_of old))
+      (records_of (offered_of old ++ batch ∷ [])) ≡ false =
+      room_beside (kept.count_of (keeper_of old)) (kept.end_of (keeper_of old)) (offered_of old) batch room fits.short
+      several in
+      absurd (true≢false (sym lacks ∙ free)))
+
   pub state_taken : {T E : Type 0} (inputs : List (ℕ × Input)) (old new : Engine D disk) (r : Result T E)
       → IsOffered inputs old → OnOk r (TakesTogether old new)
       → OnOk r (state_of new ≡ folded_all (state_of old) (batches_given (state_of old) inputs))

@@ -1,12 +1,13 @@
 -- What a store that is opened and then closed comes to.
 use Rattle.std.proofs.Common.{◌≡◌, ◌⊎◌, inl, inr, ℕ, ◌+◌, ◌-◌, ◌^◌, ◌<◌, ◌≤◌, List, length, Some, None, Result, Ok, Err}
-use Rattle.std.proofs.Common.{refl, ◌∙◌, ap, sym, subst, IsTrue}
+use Rattle.std.proofs.Common.{[], ◌∷◌, refl, ◌∙◌, ap, sym, subst, IsTrue}
 use Rattle.std.specs.Prelude.{IfOk}
 use Rattle.cue_disk.specs.Disk.{Contents, IsImage}
 use Rattle.cue_log.specs.Area.{Area, area_text}
 use Rattle.cue_log.specs.declared.area.TheConstants.{AREA_LIMIT}
 use Rattle.cue_snap.specs.Observed.{first_after, second_after, RefusedAs}
 use Rattle.cue_snap.proofs.ReaderLemmas.{one_of_a_pair}
+use Rattle.cue_core.specs.declared.event.Event.{Event}
 use Rattle.cue_core.specs.State.{ShowState}
 use Rattle.cue_core.specs.Steps.{after_events}
 use Rattle.cue_core.specs.Happenings.{events_at, recovered}
@@ -179,3 +180,11 @@ pub closed_from : {T E : Type 0} (state_in : T → ShowState) (x y : List ℕ) (
     → Stands x y s → IfOk r (λ made. state_in made ≡ closed_state s) → IfOk r (λ made. ClosedFrom x y (state_in made))
 closed_from state_in x y s (Ok made) stood is = record { before = s; stood = stood; is = is }
 closed_from state_in x y s (Err refused) stood is = tt
+
+-- what was made has the cancels of that one as its last batch
+pub cancels_of : {T E : Type 0} (last_in : T → List (List Event)) (x y : List ℕ) (s t : ShowState) (r : Result T E)
+    → Stands x y s → Stands x y t → IfOk r (λ made. last_in made ≡ events_at s recovered ∷ [])
+    → IfOk r (λ made. last_in made ≡ events_at t recovered ∷ [])
+cancels_of last_in x y s t (Ok made) stood stands is =
+    is ∙ ap (λ (u : ShowState). events_at u recovered ∷ []) (one_state x y s t stood stands)
+cancels_of last_in x y s t (Err refused) stood stands is = tt

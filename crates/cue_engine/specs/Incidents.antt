@@ -68,7 +68,7 @@ pub record RecoversAs (one other : Contents) (s : ShowState) : Type 0 where
   pub left : AreLeft one other first second
   pub closed : ClosedFrom first second s
 
--- While an engine runs and no call writes, whatever a crash leaves stands for the state (`accepted` of `take`,
+-- While an engine runs and no call writes, whatever a crash leaves stands for the state (`accepts` of `take`,
 -- `stands` of `recover` and `close`, `formed` of `form`). A stop within `take` leaves the state from before or the one
 -- after the whole batch, one within `commit` the state from before or the one after all of its batches (`any_moment`).
 abbrev pub PermitsRunning : ShowState → Incident → Type 0

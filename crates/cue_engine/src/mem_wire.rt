@@ -1,5 +1,5 @@
 //! A wire in memory, for tests and for scripts: it tells all that was handed to it, and it can be told to refuse.
-ghost use Rattle.std.specs.Prelude.{◌≡◌, ◌-◌, [], ◌∷◌, Some, None, is_err, nat_eq, IsSome, MatchOption, OnOk};
+ghost use Rattle.std.specs.Prelude.{◌≡◌, ◌-◌, [], ◌∷◌, Some, None, is_err, nat_eq, true, IsSome, MatchOption, OnOk};
 ghost use Rattle.cue_engine.specs.Told.{sents_view, told_by, refuse_in_of, IsAsPlanned};
 ghost use Rattle.cue_engine.specs.Wires.{Grew, handed_as};
 
@@ -93,6 +93,8 @@ impl Wire for MemWire {
             (told_by self.new) }
         ensures refused { IsAsPlanned (refuse_in_of self.old) (is_err result) (told_by self.new) }
         ensures counted { refuse_in_of self.new ≡ refuse_in_of self.old - 1 }
+        // Where there is no memory for the datagram the send is refused.
+        ensures lost { IsSome (told_by self.old) → told_by self.new ≡ None → is_err result ≡ true }
     {
         let refused = self.refuse_in == 1;
         self.refuse_in = self.refuse_in.saturating_sub(1);

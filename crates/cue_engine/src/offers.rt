@@ -123,6 +123,7 @@ pub(crate) fn offer_next(
         ≡ outs_view offered.old.sends.items
         ++ datagrams (given_of draft.old.state now (input_view input.entry)).sends) }
     ensures counts { IfOk result (λ counts. counts ≡ (given_of draft.old.state now (input_view input.entry)).counts) }
+    ensures fits { OnOk result (FitsRecord (given_of draft.old.state now (input_view input.entry)).batch) }
     ensures same { OnErr result ((offered.new.group ≡ offered.old.group)
         × (outs_view offered.new.sends.items ≡ outs_view offered.old.sends.items)) }
     ensures spare { InStep draft.new.state spare.new }

@@ -1,9 +1,10 @@
 // What a recovery from power loss gives up: each attempt that is undecided is cancelled, in one batch.
-ghost use Rattle.std.specs.Prelude.{◌≡◌, false, IsTrue, IfOk, OnOk};
+ghost use Rattle.std.specs.Prelude.{◌≡◌, [], ◌∷◌, false, IsTrue, IfOk, OnOk, IsErrOf};
 ghost use Rattle.std.specs.Result.{result_err};
 ghost use Rattle.cue_core.specs.Happenings.{events_at, recovered};
 ghost use Rattle.cue_core.specs.Steps.{are_acceptable};
 ghost use Rattle.cue_keeper.specs.Accepting.{Accepts};
+ghost use Rattle.cue_keeper.specs.Groups.{batches_view};
 ghost use Rattle.cue_keeper.specs.Observed.{state_of, is_broken};
 ghost use Rattle.cue_outbox.specs.Sending.{datagrams, all_pending};
 ghost use Rattle.cue_core.specs.Batches.{closed_state};
@@ -79,6 +80,9 @@ pub(crate) fn close_undecided<D: Disk>(
     ensures accepts { Accepts (events_at (state_of keeper.old) recovered) (result_err result) keeper.old keeper.new }
     ensures queue { IfOk result (λ queue. queue ≡ datagrams (all_pending (closed_state (state_of keeper.old)))) }
     ensures draft { InStep (state_of keeper.new) draft.new }
+    ensures last { OnOk result
+        (batches_view draft.new.missing.items ≡ events_at (state_of keeper.old) recovered ∷ []) }
+    ensures no_full { IsErrOf result Fault.Full → ⊥ }
 {
     // Called for its clause that a keeper that is not broken stands for its state.
     let _broken = keeper.is_broken();

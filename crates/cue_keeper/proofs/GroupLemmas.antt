@@ -18,7 +18,7 @@ use Rattle.cue_keeper.proofs.StandingLemmas.{in_turn, into_turn}
 
 -- ---- one batch more
 
-with_more : (batches : List (List Event)) (batch : List Event) → 1 ≤ length batch
+pub with_more : (batches : List (List Event)) (batch : List Event) → 1 ≤ length batch
     → with_events (batches ++ batch ∷ []) ≡ with_events batches ++ batch ∷ []
 with_more [] [] some = absurd (omega (arith, some))
 with_more [] (e ∷ es) some = refl
@@ -26,7 +26,7 @@ with_more ([] ∷ batches) batch some = with_more batches batch some
 with_more ((f ∷ fs) ∷ batches) batch some =
     ap (λ (rest : List (List Event)). (f ∷ fs) ∷ rest) (with_more batches batch some)
 
-with_none : (batches : List (List Event)) (batch : List Event) → length batch ≡ 0
+pub with_none : (batches : List (List Event)) (batch : List Event) → length batch ≡ 0
     → with_events (batches ++ batch ∷ []) ≡ with_events batches
 with_none [] [] none = refl
 with_none [] (e ∷ es) none = absurd (omega (arith, none))

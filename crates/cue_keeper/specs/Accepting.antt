@@ -122,6 +122,10 @@ AreSeveral batches = 2 ≤ length (with_events batches)
 abbrev pub LackRoom : {D : Type 0} {disk : Ghosts D} → Snap D disk → List (List Event) → Type 0
 LackRoom snap batches = IsTrue (lacks_room (count_of snap) (end_of snap) (records_of batches))
 
+-- where several have an event, the live area has room for all of them
+abbrev pub HaveRoom : {D : Type 0} {disk : Ghosts D} → Snap D disk → List (List Event) → Type 0
+HaveRoom snap batches = AreSeveral batches → LackRoom snap batches → ⊥
+
 -- why several batches are refused with this fault: they never turn over
 abbrev pub HasCauseTogether :
     {D : Type 0} {disk : Ghosts D} → List (List Event) → (old new : Snap D disk) → Fault → Type 0

@@ -7,7 +7,7 @@ use Rattle.cue_core.specs.declared.event.Event.{Event}
 use Rattle.cue_core.specs.State.{ShowState}
 use Rattle.cue_core.specs.Steps.{after_events}
 use Rattle.cue_keeper.specs.declared.fault.Fault.{Fault}
-use Rattle.cue_keeper.specs.declared.fault.Fault.TheVariants.{Broken, Memory, Disk}
+use Rattle.cue_keeper.specs.declared.fault.Fault.TheVariants.{Broken, Memory, Disk, Full}
 use Rattle.cue_keeper.specs.declared.keeper.Keeper.{Keeper}
 use Rattle.cue_keeper.specs.Accepting.{Commits, Accepts, AcceptsTogether}
 use Rattle.cue_keeper.specs.Stands.{StandsAs, folded_all}
@@ -26,6 +26,11 @@ use Rattle.cue_run.specs.Grouping.{stop_of, fault_of}
 use Rattle.cue_run.proofs.GroupLemmas.{gave_none}
 use Rattle.cue_run.proofs.RunLemmas.{gave_all_more}
 use Rattle.cue_run.proofs.StandLemmas.{left_now}
+
+-- Broken and Memory are not Full
+neither : (f : Fault) → (f ≡ Broken) ⊎ (f ≡ Memory) → f ≡ Full → ⊥
+neither f (inl broken) full = cc
+neither f (inr memory) full = cc
 
 -- no fault is none of these
 no_fault : {P : Type 0} (f : Fault) → None ≡ Some f → P
@@ -56,6 +61,7 @@ module _ {D : Type 0} {disk : Ghosts D} where
     met = refuses.met;
     works = works_join a b refuses.met works refuses.works;
     next = refuses.next;
+    not_full = refuses.not_full;
     leaves = λ first second working. refuses.leaves (works.keeps.first_honest.1 first)
         (works.keeps.second_honest.1 second) (works.broken ∙ working);
   }
@@ -71,6 +77,7 @@ module _ {D : Type 0} {disk : Ghosts D} where
     few = refuses.few;
     came = refuses.came;
     accepts = refuses.accepts;
+    not_full = refuses.not_full;
     leaves = λ first second working. refuses.leaves (works.keeps.first_honest.1 first)
         (works.keeps.second_honest.1 second) (works.broken ∙ working);
   }
@@ -143,8 +150,9 @@ module _ {D : Type 0} {disk : Ghosts D} where
       → GaveAll size left (given_answers inputs) mid
       → CutShort size why old mid left_then
       → AcceptsTogether (batches_given (kept.state_of old) inputs) (Some f) old new
+      → (f ≡ Full → ⊥)
       → RefusesTogether size f old new left left_then
-  refuses_together size f old new inputs why left mid left_then now works some gave cut accepts =
+  refuses_together size f old new inputs why left mid left_then now works some gave cut accepts not_full =
       let pair = accepts.pair in
       let s = kept.state_of old in
       let answers = after_them why cut in
@@ -157,6 +165,7 @@ module _ {D : Type 0} {disk : Ghosts D} where
         few = answers.1;
         came = gave_all_more size left (given_answers inputs) mid answers.0 left_then gave answers.2;
         accepts = accepts;
+        not_full = not_full;
         leaves = λ first second working.
             left_now disk.moment disk.held disk.held_at (kept.first_of old) (kept.second_of old) (kept.first_of new)
             (kept.second_of new) s (folded_all s (batches_given s inputs))
@@ -240,6 +249,7 @@ module _ {D : Type 0} {disk : Ghosts D} where
         met = met;
         works = works;
         next = record { now = t.0; input = t.1; came = came.1; accepts = accepts };
+        not_full = neither f down.1;
         leaves = λ first second working.
             let first = works.keeps.first_honest.1 first in
             let second = works.keeps.second_honest.1 second in

@@ -1,19 +1,21 @@
 -- One input more is offered, and none.
 use Rattle.std.proofs.Common.{◌≡◌, ℕ, ◌+◌, List, [], ◌∷◌, ◌++◌, Option, None, refl, sym, ap, ◌∙◌, subst, arith}
-use Rattle.std.proofs.Common.{length-append, append_assoc, append-nil}
+use Rattle.std.proofs.Common.{length-append, append_assoc, append-nil, Bool, true, false, Result, Ok, Err, IsTrue}
 use Rattle.cue_disk.specs.declared.disk.Disk.{Ghosts}
+use Rattle.cue_core.specs.declared.event.Event.{Event}
 use Rattle.cue_keeper.specs.declared.keeper.Keeper.{Keeper}
+use Rattle.cue_keeper.specs.Accepting.{HaveRoom}
 use Rattle.cue_keeper.specs.Observed as kept
 use Rattle.cue_outbox.specs.Sending.{datagrams}
 use Rattle.cue_engine.specs.declared.engine.Engine.{Engine}
 use Rattle.cue_engine.specs.Given.{Input}
 use Rattle.cue_engine.specs.Groups.{batches_given, sends_given}
 use Rattle.cue_engine.specs.Taking.{IsOffered, WhateverWasOffered}
-use Rattle.cue_engine.specs.Words.{keeper_of, queue_of}
+use Rattle.cue_engine.specs.Words.{keeper_of, queue_of, offered_of, has_room, FitsTogether}
 use Rattle.cue_run.specs.Sources.{Answer, comes, GaveAll}
 use Rattle.cue_run.specs.declared.turns.RunFault.{RunFault}
 use Rattle.cue_run.specs.Running.{given_answers}
-use Rattle.cue_run.specs.Grouping.{StaysOffered, HasOffered, CutShort, Gathered}
+use Rattle.cue_run.specs.Grouping.{StaysOffered, HasOffered, CutShort, Gathered, OfferedNext}
 use Rattle.cue_run.proofs.GroupLemmas.{gave_none, gave_join}
 
 module _ {D : Type 0} {disk : Ghosts D} where
@@ -26,6 +28,20 @@ module _ {D : Type 0} {disk : Ghosts D} where
     sends = stays.sends ∙ (is.sends ∙ ap (λ (k : Keeper D disk). datagrams (sends_given (kept.state_of k) inputs))
         (sym stays.keeper));
   }
+
+  -- and still fits
+  still_fits : (old new : Engine D disk) → StaysOffered old new → FitsTogether old → FitsTogether new
+  still_fits old new stays fits = subst (λ (k : Keeper D disk). HaveRoom (kept.pair_of k) (offered_of new))
+      (sym stays.keeper) (subst (λ (bs : List (List Event)). HaveRoom (kept.pair_of (keeper_of old)) bs)
+      (sym stays.batches) fits)
+
+  -- the next input was offered where there was room for it, or nothing was
+  pub fits_after : (size a b : ℕ) (r : Result Bool RunFault) (old new : Engine D disk)
+      (left left_then : Option (List Answer)) → IsTrue (has_room old)
+      → OfferedNext size a b r old new left left_then → FitsTogether old → FitsTogether new
+  fits_after size a b (Ok true) old new left left_then room next fits = next.2 room
+  fits_after size a b (Ok false) old new left left_then room next fits = still_fits old new next.0 fits
+  fits_after size a b (Err why) old new left left_then room next fits = still_fits old new next.0 fits
 
   pub offers_none : (size count : ℕ) (engine : Engine D disk) (left : Option (List Answer))
       → HasOffered size count count engine engine left left

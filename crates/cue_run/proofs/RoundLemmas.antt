@@ -1,20 +1,22 @@
 -- One round, and a run of rounds.
 use Rattle.std.specs.Prelude.{◌⊎◌}
 use Rattle.std.proofs.Common.{◌≡◌, ℕ, ◌+◌, ◌-◌, ◌^◌, ◌≤◌, true, List, [], min, Option, Some, None, Ok, Err, refl, sym}
-use Rattle.std.proofs.Common.{ap, ◌∙◌, subst, inl, inr, arith, true≢false}
+use Rattle.std.proofs.Common.{ap, ◌∙◌, subst, inl, inr, arith, true≢false, IsTrue}
 use Rattle.cue_disk.specs.declared.disk.Disk.{Ghosts}
 use Rattle.cue_core.specs.declared.event.Event.{Event}
 use Rattle.cue_keeper.specs.declared.fault.Fault.{Fault}
 use Rattle.cue_keeper.specs.declared.fault.Fault.TheVariants.{Disk}
 use Rattle.cue_keeper.specs.declared.keeper.Keeper.{Keeper}
 use Rattle.cue_keeper.specs.Accepting.{AcceptsTogether}
+use Rattle.cue_keeper.specs.Due.{has_room_beside}
+use Rattle.cue_keeper.specs.Groups.{records_of}
 use Rattle.cue_keeper.specs.Observed as kept
 use Rattle.cue_outbox.specs.Sending.{datagrams}
 use Rattle.cue_engine.specs.declared.engine.Engine.{Engine}
 use Rattle.cue_engine.specs.Given.{Input}
 use Rattle.cue_engine.specs.Groups.{batches_given, sends_given}
 use Rattle.cue_engine.specs.Taking.{IsOffered}
-use Rattle.cue_engine.specs.Words.{keeper_of, state_of, queue_of, offered_of, offered_sends_of}
+use Rattle.cue_engine.specs.Words.{keeper_of, state_of, queue_of, offered_of, offered_sends_of, has_room}
 use Rattle.cue_engine.specs.Wires.{Handed}
 use Rattle.cue_run.specs.Sources.{Answer}
 use Rattle.cue_run.specs.declared.turns.RunFault.{RunFault}
@@ -48,6 +50,13 @@ module _ {D : Type 0} {disk : Ghosts D} where
       → IsOffered inputs mid → offered_sends_of mid ≡ datagrams (sends_given (state_of old) inputs)
   sends_as inputs old mid same offered = offered.sends
       ∙ ap (λ (k : Keeper D disk). datagrams (sends_given (kept.state_of k) inputs)) same
+
+  -- there is room for one input where none was offered
+  has_room_first : (engine : Engine D disk) → IsOffered [] engine → IsTrue (has_room engine)
+  has_room_first engine none =
+      let keeper : Keeper D disk = keeper_of engine in
+      subst (λ (bs : List (List Event)). IsTrue (has_room_beside (kept.count_of keeper) (kept.end_of keeper)
+      (records_of bs))) (sym none.batches) refl
 
   -- a group was taken
   pub took_round : (size room count : ℕ) (cut : Option RunFault) (round : Round) (old mid new : Engine D disk)
@@ -106,7 +115,8 @@ module _ {D : Type 0} {disk : Ghosts D} where
         why = subst (λ (st : Option Stop). StoppedBy size st (keeper_of old) (keeper_of new) left left_then)
             (sym lost.stop)
             (inr (refuses_together size lost.why (keeper_of old) (keeper_of new) inputs cut left gathered.mid left_then
-            now works (omega (arith, offered.number, group.1)) offered.gave gathered.cut accepts));
+            now works (omega (arith, offered.number, group.1)) offered.gave gathered.cut accepts
+            (lost.not_full (group.3 (has_room_first old none)))));
         at_most = omega (arith, lost.turns);
         some = λ is. goes_on (stop.Fault (fault.Engine lost.why)) (sym is ∙ lost.stop);
         none_taken = λ _. lost.turns;

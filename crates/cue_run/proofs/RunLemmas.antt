@@ -176,6 +176,7 @@ module _ {D : Type 0} {disk : Ghosts D} where
         met = met;
         works = works;
         next = turn.0;
+        not_full = turn.2;
         leaves = λ first second working.
             let first = works.keeps.first_honest.1 first in
             let second = works.keeps.second_honest.1 second in

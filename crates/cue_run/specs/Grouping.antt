@@ -1,9 +1,9 @@
 -- What a run by groups comes to: the same as a run, and a commit may refuse several inputs together.
-use Rattle.std.specs.Prelude.{◌≡◌, ◌≤◌, ◌+◌, ◌⊎◌, ◌↔◌, ◌^◌, ◌-◌, ℕ, Bool, true, false, length, min}
+use Rattle.std.specs.Prelude.{◌≡◌, ◌≤◌, ◌+◌, ◌⊎◌, ◌↔◌, ◌^◌, ◌-◌, ℕ, Bool, true, false, length, min, IsTrue}
 use Rattle.std.specs.Prelude.{List, [], ◌∷◌, ◌++◌, Option, Some, None, Result, Ok, Err}
 use Rattle.cue_disk.specs.declared.disk.Disk.{Ghosts}
 use Rattle.cue_keeper.specs.declared.fault.Fault.{Fault}
-use Rattle.cue_keeper.specs.declared.fault.Fault.TheVariants.{Broken, Memory, Disk}
+use Rattle.cue_keeper.specs.declared.fault.Fault.TheVariants.{Broken, Memory, Disk, Full}
 use Rattle.cue_keeper.specs.declared.keeper.Keeper.{Keeper}
 use Rattle.cue_keeper.specs.Accepting.{AcceptsTogether}
 use Rattle.cue_keeper.specs.Stands.{folded_all}
@@ -12,7 +12,8 @@ use Rattle.cue_engine.specs.declared.engine.Engine.{Engine}
 use Rattle.cue_engine.specs.Given.{Input}
 use Rattle.cue_engine.specs.Groups.{batches_given}
 use Rattle.cue_engine.specs.Taking.{IsOffered, WhateverWasOffered}
-use Rattle.cue_engine.specs.Words.{keeper_of, state_of, queue_of, offered_of, offered_sends_of}
+use Rattle.cue_engine.specs.Words.{keeper_of, state_of, queue_of, offered_of, offered_sends_of, has_room}
+use Rattle.cue_engine.specs.Words.{FitsTogether}
 use Rattle.cue_engine.specs.Wires.{Handed, AllHanded}
 use Rattle.cue_run.specs.declared.turns.Ended.{Ended}
 use Rattle.cue_run.specs.declared.turns.RunFault.{RunFault}
@@ -38,6 +39,8 @@ pub record RefusesTogether {D : Type 0} {disk : Ghosts D} (size : ℕ) (f : Faul
   pub few : length after ≤ 1
   pub came : GaveAll size left (given_answers inputs ++ after) left_then
   pub accepts : AcceptsTogether (batches_given (kept.state_of met) inputs) (Some f) met new
+  -- what is offered together has room in the live area
+  pub not_full : f ≡ Full → ⊥
   -- even where a device failed a crash leaves the state, or the one after all of the inputs
   pub leaves :
       disk.is_honest (kept.first_of old)
@@ -104,11 +107,15 @@ CutShort size (Some fault.Source) keeper left left_then = GaveAll size left (fai
 CutShort size (Some (fault.Engine f)) keeper left left_then =
     ((t : ℕ × Input) × GaveAll size left (comes t.0 t.1 ∷ []) left_then) × IsTurnedDown f keeper
 
+-- what is offered now can be committed together, if there was room for one input more
+abbrev pub StillFits : {D : Type 0} {disk : Ghosts D} → (old new : Engine D disk) → Type 0
+StillFits old new = IsTrue (has_room old) → FitsTogether new
+
 -- the next input was offered, or nothing was there
 abbrev pub OfferedNext : {D : Type 0} {disk : Ghosts D} → (size count count_then : ℕ) → Result Bool RunFault
     → (old new : Engine D disk) → (left left_then : Option (List Answer)) → Type 0
 OfferedNext size count count_then (Ok true) old new left left_then =
-    HasOffered size count count_then old new left left_then × (count_then ≡ count + 1)
+    HasOffered size count count_then old new left left_then × (count_then ≡ count + 1) × StillFits old new
 OfferedNext size count count_then (Ok false) old new left left_then =
     StaysOffered old new × (count_then ≡ count) × (left_then ≡ left)
 OfferedNext size count count_then (Err why) old new left left_then =
@@ -124,7 +131,7 @@ StoppedAtFirst size (stop.Fault why) keeper left left_then = CutShort size (Some
 abbrev pub OfferedFirst : {D : Type 0} {disk : Ghosts D} → (size count count_then : ℕ) → Result First Stop
     → (old new : Engine D disk) → (left left_then : Option (List Answer)) → Type 0
 OfferedFirst size count count_then (Ok first) old new left left_then =
-    HasOffered size count count_then old new left left_then × (count_then ≡ count + 1)
+    HasOffered size count count_then old new left left_then × (count_then ≡ count + 1) × StillFits old new
 OfferedFirst size count count_then (Err stop) old new left left_then =
     StaysOffered old new × StoppedAtFirst size stop (keeper_of old) left left_then
 
@@ -139,7 +146,7 @@ pub record Gathered {D : Type 0} {disk : Ghosts D} (size count count_then : ℕ)
 abbrev pub OfferedGroup : {D : Type 0} {disk : Ghosts D} → (size room count : ℕ) → Result (Option RunFault) Stop
     → (old new : Engine D disk) → (left left_then : Option (List Answer)) → Type 0
 OfferedGroup size room count (Ok cut) old new left left_then =
-    Gathered size 0 count cut old new left left_then × (1 ≤ count) × (count ≤ room)
+    Gathered size 0 count cut old new left left_then × (1 ≤ count) × (count ≤ room) × StillFits old new
 OfferedGroup size room count (Err stop) old new left left_then =
     StaysOffered old new × StoppedAtFirst size stop (keeper_of old) left left_then
 
@@ -185,6 +192,7 @@ pub record LostGroup {D : Type 0} {disk : Ghosts D} (round : Round) (old new : E
   pub unsent : round.unsent ≡ 0
   pub stop : round.stop ≡ Some (stop.Fault (fault.Engine why))
   pub accepts : AcceptsTogether (offered_of old) (Some why) (keeper_of old) (keeper_of new)
+  pub not_full : FitsTogether old → why ≡ Full → ⊥
   pub told_same : told_then ≡ told
 
 -- why no round follows

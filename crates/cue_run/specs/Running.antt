@@ -6,7 +6,7 @@ use Rattle.cue_core.specs.Steps.{after_events}
 use Rattle.cue_disk.specs.declared.disk.Disk.{Ghosts}
 use Rattle.cue_disk.specs.Disk.{Contents, IsImage}
 use Rattle.cue_keeper.specs.declared.fault.Fault.{Fault}
-use Rattle.cue_keeper.specs.declared.fault.Fault.TheVariants.{Memory, Disk}
+use Rattle.cue_keeper.specs.declared.fault.Fault.TheVariants.{Memory, Disk, Full}
 use Rattle.cue_keeper.specs.declared.keeper.Keeper.{Keeper}
 use Rattle.cue_keeper.specs.Accepting.{Accepts}
 use Rattle.cue_keeper.specs.Stands.{StandsEither, StandsAs}
@@ -88,7 +88,7 @@ Turned size (Ok None) old new left left_then told told_then =
 Turned size (Err fault.Source) old new left left_then told told_then =
     GaveAll size left (fails ∷ []) left_then × (new ≡ old) × (told_then ≡ told)
 Turned size (Err (fault.Engine f)) old new left left_then told told_then =
-    TakesNext size (Some f) old new left left_then × (told_then ≡ told)
+    TakesNext size (Some f) old new left left_then × (told_then ≡ told) × (f ≡ Full → ⊥)
 
 -- The input that came last was not taken: the keeper that met it refused its batch with this fault.
 pub record Refuses {D : Type 0} {disk : Ghosts D} (size : ℕ) (f : Fault) (old new : Keeper D disk)
@@ -96,6 +96,8 @@ pub record Refuses {D : Type 0} {disk : Ghosts D} (size : ℕ) (f : Fault) (old 
   pub met : Keeper D disk
   pub works : Works old met
   pub next : TakesNext size (Some f) met new left left_then
+  -- a new area has room for any state and batch
+  pub not_full : f ≡ Full → ⊥
   -- even where a device failed a crash leaves the state, or the one after the whole batch
   pub leaves :
       disk.is_honest (kept.first_of old)

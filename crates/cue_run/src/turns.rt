@@ -1,5 +1,5 @@
 //! The run of a show: it takes what a source gives, and hands out what that owes.
-ghost use Rattle.std.specs.Prelude.{◌≡◌, [], length, MatchResult};
+ghost use Rattle.std.specs.Prelude.{◌≡◌, [], length, MatchResult, IsErrOf};
 ghost use Rattle.std.specs.Result.{result_err};
 ghost use Rattle.cue_keeper.specs.Accepting.{Accepts};
 ghost use Rattle.cue_outbox.specs.Sending.{datagrams};
@@ -54,6 +54,7 @@ fn take_one<D: Disk, W: Wire>(
         (datagrams (given_of (state_of engine.old) now (input_view input.entry)).sends) refused (W.told wire.new))
         (λ _. W.told wire.new ≡ W.told wire.old) }
     ensures emptied { queue_of engine.new ≡ [] }
+    ensures no_full { IsErrOf result Fault.Full → ⊥ }
 {
     match engine.take(now, input) {
         Ok(_) => Ok(engine.hand_out(wire)),

@@ -383,16 +383,16 @@ pub no_area : (one two : Contents) → one ≡ settled_contents [] → two ≡ s
 no_area one two first second (inl there) = there (absent one first)
 no_area one two first second (inr there) = there (absent two second)
 
--- a recovery of what stands for a state is refused for want of room, of a generation or of memory, or by a disk
+-- a recovery of what stands for a state is refused for want of a generation or of memory, or by a disk
 pub comes_of_recovery : (fault : StoreFault) → (fault ≡ store.NotEmpty → ⊥) → (fault ≡ store.Unformed → ⊥)
     → (fault ≡ store.Damaged → ⊥) → (fault ≡ store.Version → ⊥) → (fault ≡ store.Malformed → ⊥)
-    → can_come (Store fault) ≡ true
-comes_of_recovery store.NotEmpty empty unformed damaged version malformed = absurd (empty refl)
-comes_of_recovery store.Unformed empty unformed damaged version malformed = absurd (unformed refl)
-comes_of_recovery store.Damaged empty unformed damaged version malformed = absurd (damaged refl)
-comes_of_recovery store.Version empty unformed damaged version malformed = absurd (version refl)
-comes_of_recovery store.Malformed empty unformed damaged version malformed = absurd (malformed refl)
-comes_of_recovery store.Full empty unformed damaged version malformed = refl
-comes_of_recovery store.Exhausted empty unformed damaged version malformed = refl
-comes_of_recovery store.Memory empty unformed damaged version malformed = refl
-comes_of_recovery store.Disk empty unformed damaged version malformed = refl
+    → (fault ≡ store.Full → ⊥) → can_come (Store fault) ≡ true
+comes_of_recovery store.NotEmpty empty unformed damaged version malformed full = absurd (empty refl)
+comes_of_recovery store.Unformed empty unformed damaged version malformed full = absurd (unformed refl)
+comes_of_recovery store.Damaged empty unformed damaged version malformed full = absurd (damaged refl)
+comes_of_recovery store.Version empty unformed damaged version malformed full = absurd (version refl)
+comes_of_recovery store.Malformed empty unformed damaged version malformed full = absurd (malformed refl)
+comes_of_recovery store.Full empty unformed damaged version malformed full = absurd (full refl)
+comes_of_recovery store.Exhausted empty unformed damaged version malformed full = refl
+comes_of_recovery store.Memory empty unformed damaged version malformed full = refl
+comes_of_recovery store.Disk empty unformed damaged version malformed full = refl

@@ -1,5 +1,5 @@
 // How an engine comes to be: over a store that is formed, or over one that is recovered.
-ghost use Rattle.std.specs.Prelude.{◌≡◌, ◌≤◌, ◌<◌, ◌-◌, ◌^◌, ◌⊎◌, ◌↔◌, [], false, IfOk, OnOk};
+ghost use Rattle.std.specs.Prelude.{◌≡◌, ◌≤◌, ◌<◌, ◌-◌, ◌^◌, ◌⊎◌, ◌↔◌, [], ◌∷◌, false, IfOk, OnOk};
 ghost use Rattle.cue_disk.specs.Disk.{LeavesAtEachMoment, IsImage, MoreFailures};
 ghost use Rattle.cue_snap.specs.Pair.{NeitherHas, SomeIsThere, IsSpoiled, IsUnformedOr, PairLeaves, AfterBarrier};
 ghost use Rattle.cue_snap.specs.Observed.{first_after, second_after, RefusedAs};
@@ -10,10 +10,11 @@ ghost use Rattle.cue_keeper.specs.Refusals.{HasOtherVersion, StandsForNone};
 ghost use Rattle.cue_keeper.specs.Observed as kept;
 ghost use Rattle.cue_outbox.specs.Sending.{datagrams, all_pending};
 ghost use Rattle.cue_core.specs.Batches.{closed_state};
+ghost use Rattle.cue_core.specs.Happenings.{events_at, recovered};
 ghost use Rattle.cue_engine.specs.Recovery.{ClosedFrom, IsLeftOrStands, MustBeRefusedAs, NoGenerationLeft, NoRoomLeft};
 ghost use Rattle.cue_engine.specs.Recovery.{RefusedBut};
 ghost use Rattle.cue_engine.specs.Taking.{IsOffered};
-ghost use Rattle.cue_engine.specs.Words.{keeper_of, state_of, queue_of, first_of, second_of};
+ghost use Rattle.cue_engine.specs.Words.{keeper_of, state_of, queue_of, first_of, second_of, last_batches_of};
 
 use super::{Engine, discard};
 use crate::drafts::Draft;
@@ -31,6 +32,7 @@ impl<D: Disk> Engine<D> {
         ensures queue { IfOk result (λ engine. queue_of engine ≡ []) }
         ensures offered { IfOk result (IsOffered []) }
         ensures works { IfOk result (λ engine. kept.is_broken (keeper_of engine) ≡ false) }
+        ensures last { IfOk result (λ engine. last_batches_of engine ≡ []) }
         ensures formed { D.is_honest first → D.is_honest second
             → IfOk result (λ engine. PairLeaves (D.held (first_of engine)) (D.held (second_of engine)) first_area) }
         ensures numbers { IfOk result (λ engine. (kept.generation_of (keeper_of engine) ≡ 1)
@@ -96,6 +98,10 @@ impl<D: Disk> Engine<D> {
         ensures queue { IfOk result (λ engine. queue_of engine ≡ datagrams (all_pending (state_of engine))) }
         ensures offered { IfOk result (IsOffered []) }
         ensures works { IfOk result (λ engine. kept.is_broken (keeper_of engine) ≡ false) }
+        // The batch that was accepted last is that of the cancels.
+        ensures last { D.is_honest first → D.is_honest second → (s : ShowState)
+            → Stands (D.held first).bytes (D.held second).bytes s
+            → IfOk result (λ engine. last_batches_of engine ≡ events_at s recovered ∷ []) }
 
         // Each refusal has its reason.
         ensures damaged { D.is_honest first → D.is_honest second
@@ -116,7 +122,7 @@ impl<D: Disk> Engine<D> {
         // Out of memory hides no fault of a device: each call went through.
         ensures memory { RefusedAs StoreFault.Memory ((D.failures (first_after first_of result) ≡ D.failures first)
             × (D.failures (second_after second_of result) ≡ D.failures second)) result }
-        ensures no_other { RefusedAs StoreFault.NotEmpty ⊥ result }
+        ensures no_other { RefusedAs StoreFault.NotEmpty ⊥ result × RefusedAs StoreFault.Full ⊥ result }
         // Exhausted and Full come wherever they can.
         ensures due_at_the_last { D.is_honest first → D.is_honest second
             → NoGenerationLeft (D.held first).bytes (D.held second).bytes
@@ -159,6 +165,7 @@ fn close_opened<D: Disk>(alloc: Global, keeper: Keeper<D>) -> Result<Engine<D>, 
     ensures queue { IfOk result (λ engine. queue_of engine ≡ datagrams (all_pending (state_of engine))) }
     ensures offered { IfOk result (IsOffered []) }
     ensures works { IfOk result (λ engine. kept.is_broken (keeper_of engine) ≡ false) }
+    ensures last { IfOk result (λ engine. last_batches_of engine ≡ events_at (kept.state_of keeper) recovered ∷ []) }
     ensures exhausted { D.is_honest (kept.first_of keeper) → D.is_honest (kept.second_of keeper)
         → RefusedAs StoreFault.Exhausted (NoGenerationLeft (D.held (kept.first_of keeper)).bytes
         (D.held (kept.second_of keeper)).bytes) result }
@@ -170,7 +177,7 @@ fn close_opened<D: Disk>(alloc: Global, keeper: Keeper<D>) -> Result<Engine<D>, 
         (D.failures (second_after second_of result))) result }
     ensures no_other { RefusedAs StoreFault.NotEmpty ⊥ result × RefusedAs StoreFault.Unformed ⊥ result
         × RefusedAs StoreFault.Damaged ⊥ result × RefusedAs StoreFault.Version ⊥ result
-        × RefusedAs StoreFault.Malformed ⊥ result }
+        × RefusedAs StoreFault.Malformed ⊥ result × RefusedAs StoreFault.Full ⊥ result }
     ensures due_at_the_last { D.is_honest (kept.first_of keeper) → D.is_honest (kept.second_of keeper)
         → NoGenerationLeft (D.held (kept.first_of keeper)).bytes (D.held (kept.second_of keeper)).bytes
         → MustBeRefusedAs StoreFault.Exhausted result }

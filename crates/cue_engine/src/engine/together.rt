@@ -1,6 +1,6 @@
 // Inputs that are offered one after the other and then committed together, with the two writes and two syncs of one.
 ghost use Rattle.std.specs.Prelude.{◌≡◌, ◌⊎◌, ◌↔◌, [], true, length};
-ghost use Rattle.std.specs.Prelude.{IfOk, IfErr, OnOk, OnErr, IsErrOf};
+ghost use Rattle.std.specs.Prelude.{IfOk, IfErr, OnOk, OnErr, IsErrOf, IsTrue};
 ghost use Rattle.std.specs.Result.{result_err};
 ghost use Rattle.cue_keeper.specs.Accepting.{AcceptsTogether};
 ghost use Rattle.cue_keeper.specs.Groups.{batches_view};
@@ -20,7 +20,7 @@ use cue_keeper::Fault;
 impl<D: Disk> Engine<D> {
     ghost use Rattle.cue_engine.specs.Taking.{Offers, IsOffered, TakesTogether};
     ghost use Rattle.cue_engine.specs.Words.{keeper_of, state_of, queue_of, latest_of, has_room, last_batches_of};
-    ghost use Rattle.cue_engine.specs.Words.{offered_of, offered_sends_of};
+    ghost use Rattle.cue_engine.specs.Words.{offered_of, offered_sends_of, FitsTogether};
 
     /// Judges what came after all that was offered before, and keeps what it gives until `commit`; it answers how many
     /// commands are made, known and refused then. It makes no device call, and state and queue stay as they are. Where
@@ -34,6 +34,8 @@ impl<D: Disk> Engine<D> {
             × (offered_sends_of self.new ≡ offered_sends_of self.old)) }
         ensures broken { IsErrOf result Fault.Broken ↔ (kept.is_broken (keeper_of self.old) ≡ true) }
         ensures memory { IfErr result (λ fault. (fault ≡ Fault.Broken) ⊎ (fault ≡ Fault.Memory)) }
+        // Where `has_room` was asked before, `commit` has room for all of them.
+        ensures room { IsTrue (has_room self.old) → OnOk result (FitsTogether self.new) }
     {
         if self.keeper.is_broken() {
             return Err(Fault::Broken);
@@ -106,6 +108,8 @@ impl<D: Disk> Engine<D> {
         // Their batches are on both disks, each whole, or the fault says why not.
         ensures accepts { AcceptsTogether (offered_of self.old) (result_err result)
             (keeper_of self.old) (keeper_of self.new) }
+        // It answers Full only where several inputs change something and the live area lacks room for them.
+        ensures no_full { FitsTogether self.old → IsErrOf result Fault.Full → ⊥ }
         ensures dropped { IsOffered [] self.new }
     {
         let offered = self.offered.take();

@@ -3,8 +3,8 @@ ghost use Rattle.std.specs.Prelude.{◌≡◌, ◌≤◌, ◌<◌, ◌+◌, ◌+
 ghost use Rattle.std.specs.Prelude.{vec_len, vec_capacity, OnOk, IfErr};
 ghost use Rattle.cue_engine.specs.Inputs.{input_view};
 ghost use Rattle.cue_engine.specs.Taking.{IsOffered, WhateverWasOffered};
-ghost use Rattle.cue_engine.specs.Words.{keeper_of, queue_of};
-ghost use Rattle.cue_run.specs.Grouping.{StaysOffered, IsTurnedDown, OfferedNext};
+ghost use Rattle.cue_engine.specs.Words.{keeper_of, queue_of, FitsTogether};
+ghost use Rattle.cue_run.specs.Grouping.{StaysOffered, StillFits, IsTurnedDown, OfferedNext};
 ghost use Rattle.cue_run.specs.Grouping.{OfferedFirst, OfferedGroup, Gathered};
 
 use crate::source::{Source, Turn, Waiting};
@@ -40,6 +40,7 @@ fn offer_one<D: Disk>(
     ensures offered { OnOk result (WhateverWasOffered engine.old
         (λ inputs. IsOffered (inputs ++ (now, input_view input.entry) ∷ []) engine.new)) }
     ensures number { OnOk result (vec_len ends.new ≡ vec_len ends.old + 1) }
+    ensures room { OnOk result (StillFits engine.old engine.new) }
     ensures keeper { keeper_of engine.new ≡ keeper_of engine.old }
     ensures queue { queue_of engine.new ≡ queue_of engine.old }
     ensures refused { IfErr result (λ fault. StaysOffered engine.old engine.new
@@ -78,6 +79,25 @@ fn offer_waiting<D: Disk, S: Source>(
         Ok(None) => Ok(false),
         Err(_) => Err(RunFault::Source),
     }
+}
+
+// Offers a datagram that waits, unless the live area may lack room for it; answers whether one was offered.
+fn offer_beside<D: Disk, S: Source>(
+    engine: &mut Engine<D>,
+    source: &mut S,
+    buffer: &mut [u8],
+    ends: &mut Vec<usize>,
+) -> Result<bool, RunFault>
+    requires room { vec_len ends.old < vec_capacity ends.old }
+    ensures offered { OfferedNext (length buffer.old) (vec_len ends.old) (vec_len ends.new) result
+        engine.old engine.new (S.left source.old) (S.left source.new) }
+    ensures fits { FitsTogether engine.old → FitsTogether engine.new }
+    ensures capacity { vec_capacity ends.new ≡ vec_capacity ends.old }
+{
+    if !engine.has_room() {
+        return Ok(false);
+    }
+    offer_waiting(engine, source, buffer, ends)
 }
 
 // Waits for the first input of a group, and offers it.
@@ -123,14 +143,13 @@ fn gather<D: Disk, S: Source>(
     requires room { most ≤ vec_capacity ends.old }
     ensures gathered { Gathered (length buffer.old) (vec_len ends.old) (vec_len ends.new) result
         engine.old engine.new (S.left source.old) (S.left source.new) }
+    // What is offered in the end can be committed together.
+    ensures fits { FitsTogether engine.old → FitsTogether engine.new }
     ensures at_most { vec_len ends.new ≤ most }
     ensures capacity { vec_capacity ends.new ≡ vec_capacity ends.old }
 {
     for count in 1..most {
-        if !engine.has_room() {
-            return None;
-        }
-        match offer_waiting(engine, source, buffer, ends) {
+        match offer_beside(engine, source, buffer, ends) {
             Ok(true) => {}
             Ok(false) => return None,
             Err(fault) => return Some(fault),

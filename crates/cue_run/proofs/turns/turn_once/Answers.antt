@@ -1,4 +1,4 @@
-use Rattle.std.proofs.Common.{take}
+use Rattle.std.proofs.Common.{take, Err, ap}
 use Rattle.cue_engine.specs.Given.{datagram, tick}
 use Rattle.cue_run.proofs.turns.turn_once.Goals as goal
 
@@ -25,6 +25,7 @@ returns-in-Err-take_one-clause-turned g c =
         accepts = fault.accepts;
       },
       fault.handed,
+      λ is. fault.no_full (ap Err is),
     )
 
 pub returns-in-Ok-take_one-clause-turned : goal.returns-in-Ok-take_one-clause-turned
@@ -52,4 +53,5 @@ returns-in-Err-take_one-2-clause-turned g c =
         accepts = fault.accepts;
       },
       fault.handed,
+      λ is. fault.no_full (ap Err is),
     )

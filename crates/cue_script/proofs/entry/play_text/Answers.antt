@@ -19,4 +19,4 @@ returns-clause-wrote g c =
     let empty : c.in-Err.fault ≡ StoreFault.NotEmpty
     → ⊥ = λ is. no_area _ _ c.new.ensures.held c.new-2.ensures.held (c.in-Err.ensures.not_empty tt tt is) in
     not_formed c.in-Err.fault empty_state c.args.text.now (g.W.Write.contents c.args.writer.now) c.requires
-    (comes_of_recovery c.in-Err.fault empty other.0 other.1 other.2 other.3)
+    (comes_of_recovery c.in-Err.fault empty other.0 other.1 other.2 other.3 other.4)

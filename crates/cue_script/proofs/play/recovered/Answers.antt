@@ -11,5 +11,5 @@ returns-in-Ok-recover-clause-after c = record {
 pub returns-in-Ok-clause-failure : goal.returns-in-Ok-clause-failure
 returns-in-Ok-clause-failure c =
     let readable = c.in-Err-recover.ensures.readable tt tt _ c.in-Ok.ensures in
-    comes_of_recovery c.in-Err-recover.fault c.in-Err-recover.ensures.no_other readable.0 readable.1 readable.2
-    readable.3
+    let other = c.in-Err-recover.ensures.no_other in
+    comes_of_recovery c.in-Err-recover.fault other.0 readable.0 readable.1 readable.2 readable.3 other.1

@@ -1,12 +1,15 @@
-use Rattle.std.proofs.Common.{◌≡◌, false, sym, ◌∙◌, subst, true≢false}
+use Rattle.std.proofs.Common.{◌≡◌, [], ◌∷◌, ◌++◌, false, List, sym, ◌∙◌, ap, subst, true≢false}
+use Rattle.cue_core.specs.declared.event.Event.{Event}
 use Rattle.cue_core.specs.State.{ShowState}
 use Rattle.cue_keeper.specs.Observed as kept
 use Rattle.cue_records.proofs.TakingLemmas.{some_is}
 use Rattle.cue_engine.specs.declared.offers.Offered.{Offered}
 use Rattle.cue_engine.specs.Given.{given_of}
+use Rattle.cue_engine.specs.Groups.{offered_batches}
 use Rattle.cue_engine.specs.Inputs.{input_view}
 use Rattle.cue_engine.specs.Takes.{InStep, IsAhead}
 use Rattle.cue_engine.proofs.AssembledLemmas.{ahead_next}
+use Rattle.cue_engine.proofs.CommittingLemmas.{next_fits}
 use Rattle.cue_engine.proofs.engine.Engine.offer.Goals as goal
 
 pub invariant_of-self : goal.invariant_of-self
@@ -24,3 +27,11 @@ invariant_of-self g c =
       ahead = λ some is. subst (λ (o : Offered). IsAhead s new.draft o) (some_is new.offered some is) ahead;
       spare_follows = subst (λ (t : ShowState). InStep t new.spare) ahead.drafted said.spare;
     }
+
+pub returns-in_ok-offer_next-in-Some-clause-room : goal.returns-in_ok-offer_next-in-Some-clause-room
+returns-in_ok-offer_next-in-Some-clause-room g c =
+    let old = c.args.self.now in
+    let said = c.in_ok-offer_next-in-Some.ensures in
+    let batch = (given_of old.draft.state c.args.now (input_view c.args.input)).batch in
+    next_fits old c.offer_next.new.offered.group batch
+    (said.group ∙ ap (λ (bs : List (List Event)). bs ++ batch ∷ []) (sym (ap offered_batches c.in-Some.is))) said.fits

@@ -9,8 +9,8 @@ use Rattle.cue_keeper.proofs.MovingLemmas.{opened_then, leaves_weaker}
 use Rattle.cue_keeper.proofs.RefusedLemmas.{is_opened}
 use Rattle.cue_core.specs.Batches.{closed_state}
 use Rattle.cue_engine.specs.Recovery.{IsLeftOrStands}
-use Rattle.cue_engine.specs.Words.{state_of, first_of, second_of}
-use Rattle.cue_engine.proofs.ReopenedLemmas.{closed_from, left_or_stands, unwritten, went_through, left_over}
+use Rattle.cue_engine.specs.Words.{state_of, first_of, second_of, last_batches_of}
+use Rattle.cue_engine.proofs.ReopenedLemmas.{closed_from, left_or_stands, unwritten, went_through, left_over, cancels_of}
 use Rattle.cue_engine.proofs.engine.Engine.recover.Goals as goal
 
 pub returns-in-Ok-clause-any_moment : goal.returns-in-Ok-clause-any_moment
@@ -120,3 +120,9 @@ returns-in-Err-clause-due_without_room g c = λ first second none below.
     left_over c.in-Err.refused.0 store.Full told.no_other.0 (λ is. never.0 (told.unformed first second is))
     (λ is. never.1 (told.damaged first second is)) (λ is. never.2 (told.version first second is))
     (λ is. never.3 (told.malformed first second is)) told.no_other.1 told.no_other.2
+
+pub returns-in-Ok-clause-last : goal.returns-in-Ok-clause-last
+returns-in-Ok-clause-last g c = λ first second s stands.
+    let d = g.D.Disk in
+    cancels_of last_batches_of (d.held c.args.first).bytes (d.held c.args.second).bytes (kept.state_of c.in-Ok.keeper) s
+    c.close_opened.result (c.in-Ok.ensures.stood first second) stands c.close_opened.ensures.last

@@ -13,6 +13,7 @@ returns-in-Ok-clause-offered g c =
           (left c.next.new.self)
           said.number came said.offered said.keeper said.queue,
       said.number,
+      said.room,
     )
 
 pub returns-in-Err-offer_one-clause-offered : goal.returns-in-Err-offer_one-clause-offered
@@ -32,6 +33,7 @@ returns-in-Ok-offer_one-clause-offered g c =
           c.offer_one-in-Ok-Datagram.new.engine (left c.args.source.now) (left c.next.new.self)
           said.number came said.offered said.keeper said.queue,
       said.number,
+      said.room,
     )
 
 pub returns-in-Err-offer_one-2-clause-offered : goal.returns-in-Err-offer_one-2-clause-offered

@@ -18,4 +18,5 @@ returns-in-Ok-Datagram-clause-offered g c =
           c.offer_first.auto.buffer first.0 more),
       omega (arith, c.requires.none, first.1, more.offered.number),
       c.gather.ensures.at_most,
+      λ room. c.gather.ensures.fits (first.2 room),
     )

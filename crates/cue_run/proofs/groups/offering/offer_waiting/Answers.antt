@@ -14,6 +14,7 @@ returns-in-Ok-clause-offered g c =
           (left c.args.source.now) (left c.waiting.new.self)
           said.number came said.offered said.keeper said.queue,
       said.number,
+      said.room,
     )
 
 pub returns-in-Err-offer_one-clause-offered : goal.returns-in-Err-offer_one-clause-offered

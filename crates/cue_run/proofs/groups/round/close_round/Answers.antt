@@ -1,4 +1,4 @@
-use Rattle.std.proofs.Common.{inl, inr, ap, refl}
+use Rattle.std.proofs.Common.{inl, inr, Err, ap, refl}
 use Rattle.cue_run.specs.declared.groups.round.Round.{Round}
 use Rattle.cue_run.proofs.groups.round.close_round.Goals as goal
 
@@ -17,5 +17,6 @@ returns-in-Err-clause-closed g c = inr (record {
   unsent = ap (λ (r : Round). r.unsent) c.none.ensures;
   stop = ap (λ (r : Round). r.stop) c.none.ensures;
   accepts = c.in-Err.ensures.accepts;
+  not_full = λ fits is. c.in-Err.ensures.no_full fits (ap Err is);
   told_same = c.in-Err.ensures.handed;
 })

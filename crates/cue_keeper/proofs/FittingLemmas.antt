@@ -1,0 +1,106 @@
+-- What has room in an area: batches together with one more, and a state with a batch in a new one.
+use Rattle.std.proofs.Common.{◌≡◌, ℕ, ◌+◌, ◌*◌, ◌≤◌, Bool, true, false, ◌&&◌, ◌||◌, List, [], ◌∷◌, ◌++◌, length, map}
+use Rattle.std.proofs.Common.{sum_by, nat_le, nat_lt, ◌<◌, IsTrue, refl, sym, ◌∙◌, ap, subst, arith, length-append}
+use Rattle.std.proofs.lemmas.Bool.Decides.{nat_tests}
+use Rattle.std.proofs.lemmas.List.{map-append, length-map}
+use Rattle.std.proofs.lemmas.List.Sums.{sum_by_push}
+use Rattle.cue_log.specs.declared.area.TheConstants.{AREA_LIMIT, FRAME_LEN, PAYLOAD_LIMIT}
+use Rattle.cue_log.specs.Area.{room_of}
+use Rattle.cue_core.specs.declared.event.Event.{Event}
+use Rattle.cue_core.proofs.lists.ConditionLemmas.{both}
+use Rattle.cue_records.specs.Batch.{batch_text}
+use Rattle.cue_records.specs.State.{state_text}
+use Rattle.cue_records.specs.declared.limits.TheConstants.{MAX_STATE_BYTES}
+use Rattle.cue_records.proofs.LongestLemmas.{state_short}
+use Rattle.cue_records.proofs.StateLemmas.{written}
+use Rattle.cue_keeper.specs.declared.committing.TheConstants.{MAX_RECORDS}
+use Rattle.cue_keeper.specs.Due.{lacks_room, has_room_beside}
+use Rattle.cue_keeper.specs.Groups.{with_events, records_of}
+use Rattle.cue_keeper.specs.Laws.{RoomBesideIsRoom, ANewAreaHasRoom}
+use Rattle.cue_keeper.proofs.GroupLemmas.{with_more, with_none}
+
+-- ---- several together
+
+-- neither too many nor too long
+no_lack : (most limit many long : ℕ) → many ≤ most → long ≤ limit → (nat_lt most many || nat_lt limit long) ≡ false
+no_lack most limit many long few short =
+    let a : nat_lt most many ≡ false = Prim.grind (arith, nat_tests, few) in
+    let b : nat_lt limit long ≡ false = Prim.grind (arith, nat_tests, short) in
+    rw (a, b) refl
+
+below : (m n : ℕ) → nat_lt m n ≡ true → m + 1 ≤ n
+below m n is = Prim.grind (arith, nat_tests, is)
+
+within : (m n : ℕ) → nat_le m n ≡ true → m ≤ n
+within m n is = Prim.grind (arith, nat_tests, is)
+
+-- what room beside one record or more comes to
+has_beside : (count end : ℕ) (payloads : List (List ℕ)) → 1 ≤ length payloads
+    → IsTrue (has_room_beside count end payloads)
+    → (count + length payloads + 1 ≤ MAX_RECORDS)
+    × (end + 1 + room_of payloads + FRAME_LEN + PAYLOAD_LIMIT ≤ AREA_LIMIT)
+has_beside count end [] some room = absurd (omega (arith, some))
+has_beside count end (payload ∷ payloads) some room =
+    let long : ℕ = end + 1 + room_of (payload ∷ payloads) + FRAME_LEN + PAYLOAD_LIMIT in
+    let many : ℕ = count + length (payload ∷ payloads) in
+    let k = both (nat_lt many MAX_RECORDS) (nat_le long AREA_LIMIT) room in
+    (below many MAX_RECORDS k.0, within long AREA_LIMIT k.1)
+
+-- they have room themselves
+room_for_these : (count end : ℕ) (payloads : List (List ℕ)) → 1 ≤ length payloads
+    → IsTrue (has_room_beside count end payloads) → lacks_room count end payloads ≡ false
+room_for_these count end payloads some room =
+    let k = has_beside count end payloads some room in
+    no_lack MAX_RECORDS AREA_LIMIT (count + length payloads) (end + 1 + room_of payloads) (omega (arith, k.0))
+    (omega (arith, k.1))
+
+-- how long one more makes them
+one_longer : (payloads : List (List ℕ)) (payload : List ℕ)
+    → room_of (payloads ++ payload ∷ []) ≡ room_of payloads + FRAME_LEN + length payload
+one_longer payloads payload = omega (
+  arith,
+  length-append payloads (payload ∷ []),
+  sum_by_push length payloads payload,
+)
+
+-- and with one more
+room_for_one : (count end : ℕ) (payloads : List (List ℕ)) (payload : List ℕ) → 1 ≤ length payloads
+    → length payload ≤ PAYLOAD_LIMIT → IsTrue (has_room_beside count end payloads)
+    → lacks_room count end (payloads ++ payload ∷ []) ≡ false
+room_for_one count end payloads payload some short room =
+    let k = has_beside count end payloads some room in
+    let all : List (List ℕ) = payloads ++ payload ∷ [] in
+    no_lack MAX_RECORDS AREA_LIMIT (count + length all) (end + 1 + room_of all)
+    (omega (arith, k.0, length-append payloads (payload ∷ [])))
+    (omega (arith, k.1, short, one_longer payloads payload))
+
+-- as many batches have an event as there are records
+as_many : (batches : List (List Event)) → length (records_of batches) ≡ length (with_events batches)
+as_many batches = length-map (with_events batches) batch_text
+
+pub room_beside : RoomBesideIsRoom
+room_beside count end batches [] room short several =
+    let same : with_events (batches ++ [] ∷ []) ≡ with_events batches = with_none batches [] refl in
+    let some : 1 ≤ length (records_of batches) = omega (arith, several, ap length same, as_many batches) in
+    subst (λ (bs : List (List Event)). lacks_room count end (map batch_text bs) ≡ false) (sym same)
+    (room_for_these count end (records_of batches) some room)
+room_beside count end batches (e ∷ es) room short several =
+    let next : List Event = e ∷ es in
+    let more : with_events (batches ++ next ∷ []) ≡ with_events batches ++ next ∷ [] = with_more batches next
+    (omega arith) in
+    let records : records_of (batches ++ next ∷ []) ≡ records_of batches ++ batch_text next ∷ [] =
+    ap (map batch_text) more ∙ map-append batch_text (with_events batches) (next ∷ []) in
+    let some : 1 ≤ length (records_of batches) =
+    omega (arith, several, ap length more, length-append (with_events batches) (next ∷ []), as_many batches) in
+    subst (λ (rs : List (List ℕ)). lacks_room count end rs ≡ false) (sym records)
+    (room_for_one count end (records_of batches) (batch_text next) some short room)
+
+-- ---- a new area
+
+fits_anew : (text batch : ℕ) → text ≤ 592607 → batch ≤ 32768 → 16777216 < 19 + text + batch → ⊥
+fits_anew text batch few short over = omega (arith, few, short, over)
+
+pub new_area : ANewAreaHasRoom
+new_area s batch rules short over =
+    fits_anew (length (state_text s)) (length (batch_text batch)) (state_short (state_text s) s rules (written s)) short
+    over

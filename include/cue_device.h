@@ -1,12 +1,12 @@
 /* cue_device.h: a device's half of the exchange with the cue controller.
  *
  * Your program has the socket, the clock and the motor. It hands each datagram to `cue_hear`, carries out the order
- * that comes back, and tells the end of each order. After each call it sends the answer, where there is one. The calls
- * keep the duties of docs/DEVICES.md. They take no memory, wait for nothing, and need nothing of the C library but
- * memcpy.
+ * that comes back, and reports the end of each order. After each call it sends the answer, where there is one. The
+ * calls keep the duties of docs/DEVICES.md. They take no memory, wait for nothing, and need nothing of the C library
+ * but memcpy.
  *
- * One `struct cue_device` is one device. Give it to one call at a time: where an interrupt tells of the motor, let it
- * set a flag, and tell from your loop. Each call answers a null pointer and a state that no call has left with
+ * One `struct cue_device` is one device. Give it to one call at a time: where an interrupt reports of the motor, let
+ * it set a flag, and report from your loop. Each call answers a null pointer and a state that no call has left with
  * CUE_BAD_CALL, and then changes nothing and has nothing to send. */
 #ifndef CUE_DEVICE_H
 #define CUE_DEVICE_H
@@ -45,7 +45,7 @@ struct cue_device {
     uint32_t number;       /* the device's number, 0 to 111 */
     uint32_t last;         /* the highest number of an attempt that it has heard of, 0 at first */
     uint32_t phase;        /* enum cue_phase, of the attempt `last` */
-    uint32_t doing;        /* enum cue_order: the order whose end the machine has not told; 0 where it is free */
+    uint32_t doing;        /* enum cue_order: the order whose end the machine has not reported; 0 where it is free */
     uint32_t doing_number; /* the attempt of that order; 0 where it is free */
     uint32_t unheard;      /* 1 while cue_tick repeats an abort, otherwise 0 */
     uint32_t cue_length;   /* 1 to 16; 0 where it has heard no standby of its last number */
@@ -78,7 +78,7 @@ static inline uint32_t cue_bad_call(struct cue_answer *answer)
 }
 
 /* Makes a device whose machine is at rest and holds nothing. Call it once, before any other call, and again when the
- * show is set up anew. `number` is the device's, 0 to 111. The attempts up to the number `over` are over, 0 to
+ * show is set up again. `number` is the device's, 0 to 111. The attempts up to the number `over` are over, 0 to
  * 2147483647: 0 for a new store. If you keep `device.last` on the device, hand it in here after a restart: it is never
  * moved twice for one number then, whatever is still under way. Gives CUE_NO_ORDER, or CUE_BAD_CALL for a number out of
  * range. */

@@ -8,7 +8,7 @@ use std::alloc::Global;
 /// The port of the operator.
 pub const OPERATOR: u16 = 8000;
 
-// The moment of every datagram.
+// The time of every datagram.
 const NOW: u64 = 1_000;
 
 /// A message to the first cue of a show, and one to its last.

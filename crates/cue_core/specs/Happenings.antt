@@ -14,7 +14,7 @@ use Rattle.cue_core.specs.Judge.{judgement_of, is_fit}
 use Rattle.cue_core.specs.History.{state_of, is_history}
 use Rattle.cue_core.specs.InOrder.{is_in_order}
 
--- what may come: a command at a moment from a port, a tick of the clock, or a recovery from power loss
+-- what may come: a command at a time from a port, a tick of the clock, or a recovery from power loss
 pub data Happening : Type 0 where
   commanded : (now from : ℕ) (command : Command) → Happening
   ticked : (now : ℕ) → Happening

@@ -10,7 +10,7 @@ use Rattle.cue_core.specs.Judge.{judgement_of, is_fit}
 use Rattle.cue_core.specs.History.{state_of}
 use Rattle.cue_core.specs.Happenings.{Happening, commanded, history_of, onto}
 
--- a command that was judged: the state before it, its moment, the port that it came from, and what became of it
+-- a command that was judged: the state before it, its time, the port that it came from, and what became of it
 pub record Step : Type 0 where
   pub before : ShowState
   pub now : ℕ

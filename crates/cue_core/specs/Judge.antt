@@ -319,7 +319,7 @@ on_reply s from kind d q =
 
 -- ---- all commands
 
--- what becomes of the command in the state, at the moment now, from a port
+-- what becomes of the command in the state, at the time now, from a port
 abbrev pub judgement_of : ShowState → ℕ → ℕ → Command → Judgement
 judgement_of s now from command.Status = known_already
 judgement_of s now from (command.AddDevice d port) = on_add_device s d port

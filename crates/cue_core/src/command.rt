@@ -52,7 +52,7 @@ pub enum Code {
     Early,
     /// 17: the answer came from another port than the device's.
     WrongPort,
-    /// 18: the moment is too late for a deadline.
+    /// 18: the time is too late for a deadline.
     Clock,
     /// 19: no sequence number is left.
     Exhausted,

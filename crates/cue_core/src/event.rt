@@ -14,7 +14,7 @@ pub struct Ended {
 
 /// What happens to a state.
 ///
-/// Attempts are named by their sequence number, moments are in milliseconds since 1970. Which events are acceptable
+/// Attempts are named by their sequence number, times are in milliseconds since 1970. Which events are acceptable
 /// in a state, and what each makes of it, is said by the definitions `acceptable` and `after`.
 #[derive(Drop)]
 pub enum Event {
@@ -28,7 +28,7 @@ pub enum Event {
     NoCue(CueNo),
     /// The operator moves to the cue.
     Place(CueNo),
-    /// The attempt starts at the cue; from the moment on a tick cancels it if it is still Preparing.
+    /// The attempt starts at the cue; from the time on a tick cancels it if it is still Preparing.
     Start(u32, CueNo, u64),
     /// The device stands by in the attempt.
     Ready(u32, DeviceNo),

@@ -1,7 +1,7 @@
 //! The core of a cue controller: the state of a show, the events that change it, and the judging of commands.
 //!
 //! A command is judged on a state; what it is answered is a verdict, and the events that carry it out. Applying the
-//! events, in order, gives the next state. Nothing here reads a clock, a port or a file: the moment and the sender's
+//! events, in order, gives the next state. Nothing here reads a clock, a port or a file: the time and the sender's
 //! port come with the command.
 #![tactic(auto)]
 

@@ -138,7 +138,8 @@ all-listed : {A : Type 0} (key : List ℕ) (lines : A → List Expression) (node
     → (e : A) (es : List A) (section : List (List ℕ))
     → Ends key (others, section) (flat_map lines (e ∷ es)) others (tables_of (map members (e ∷ es)))
 all-listed key lines nodes members others start step closed e es section =
-    let (d, l, at_end, ran, is) = goes-on key lines nodes members others step closed es no_items (nodes e) (key ∷ []) in (
+    let (d, l, at_end, ran, is) =
+    goes-on key lines nodes members others step closed es no_items (nodes e) (key ∷ []) in (
       d,
       l,
       at_end,

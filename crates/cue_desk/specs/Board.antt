@@ -34,7 +34,7 @@ seconds millis = decimal (millis / 1000) ++ (codes "." ++ decimal (millis % 1000
 abbrev pub readiness : Attempt → List ℕ
 readiness a = if can_go_now a then codes "ready, GO can be given" else codes "preparing"
 
--- how far an attempt has come at this moment
+-- how far an attempt has come at this time
 abbrev pub stage_at : ℕ → Attempt → Stage → List ℕ
 stage_at now a stage.Preparing = readiness a ++ (codes ", " ++ (seconds (a.deadline - now) ++ codes " s left"))
 stage_at now a stage.Decided = codes "given"

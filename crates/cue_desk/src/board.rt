@@ -1,4 +1,4 @@
-//! The board: what an operator sees of a show. Lines of text that are made of a state, a show file and the moment, and
+//! The board: what an operator sees of a show. Lines of text that are made of a state, a show file and the time, and
 //! of nothing else.
 ghost use Rattle.std.specs.Prelude.{◌≡◌, ◌++◌, IfOk, OnOk, map, string_bytes};
 ghost use Rattle.cue_desk.specs.Board as board;
@@ -124,7 +124,7 @@ pub fn board_lines_within(
     texts(alloc, &lines)
 }
 
-/// How long ago the state was read, as the last line of the board says it. Both moments are in milliseconds since 1970.
+/// How long ago the state was read, as the last line of the board says it. Both times are in milliseconds since 1970.
 pub fn age_line(alloc: Global, read: u64, now: u64) -> Result<String, AllocError> {
     let age = now.saturating_sub(read);
     Ok(format!(in alloc; "READ   {}.{} s ago", age / 1000, age % 1000 / 100)?)

@@ -22,8 +22,7 @@ pub fn checked_is_taken()
 {}
 
 /// The show that the check finds has exactly the devices and the cues of the file, in order. So what the text says,
-/// what
-/// is loaded and what the controller has are one.
+/// what is loaded and what the controller has are one.
 pub fn checked_is_said()
     ensures { CheckedIsSaid }
 {}
@@ -56,7 +55,8 @@ pub fn export_reads_back(alloc: Global, show: &Show) -> Result<Draft, AllocError
     ensures clean { IfOk result (λ draft. draft.findings.items ≡ []) }
     ensures same { IfOk result (λ draft. said_of draft.file ≡ (show.now.devices, show.now.cues)) }
 {
-    let _ = show.place(); // for its clause: a show keeps the rules
+    // Called for its clause that the show keeps its rules.
+    let _ = show.place();
     let file = of_show(alloc, show)?;
     let text = written(alloc, &file)?;
     read(alloc, text.as_str())

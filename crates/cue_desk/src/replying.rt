@@ -7,7 +7,7 @@ use cue_osc::{Arg, Fault, Message, Packet, read};
 use cue_show::CueNo;
 use std::alloc::{AllocError, Global};
 
-/// How a show stands, as `/status` tells it.
+/// How a show stands, as `/status` says it.
 #[derive(Clone, Copy, Debug, PartialEq, Eq)]
 pub struct Status {
     /// The number of the attempt that was started last; 0 before the first.

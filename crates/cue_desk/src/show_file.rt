@@ -18,7 +18,7 @@ pub use writing::{of_show, written};
 /// A device of a show file.
 #[derive(Drop)]
 pub struct DeviceEntry {
-    /// The line of its header, from 1; none where the file does not tell.
+    /// The line of its header, from 1; none where the file does not say.
     pub line: Option<usize>,
     pub number: DeviceNo,
     /// The port of 127.0.0.1 at which it listens, 1 to 65,535.
@@ -32,7 +32,7 @@ pub struct DeviceEntry {
 /// A cue of a show file.
 #[derive(Drop)]
 pub struct CueEntry {
-    /// The line of its header, from 1; none where the file does not tell.
+    /// The line of its header, from 1; none where the file does not say.
     pub line: Option<usize>,
     pub number: CueNo,
     /// What people call it; the controller never sees it.

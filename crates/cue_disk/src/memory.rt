@@ -1,4 +1,4 @@
-// A disk in memory, for tests and for runs that need no file: it can be told to fail, and it shows what a crash leaves.
+// A disk in memory, for tests and for runs that need no file: it can be set to fail, and it shows what a crash leaves.
 ghost use Rattle.std.specs.Prelude.{◌≡◌};
 
 mod calls;

@@ -339,10 +339,10 @@ rests_in_recovery moment held held_at is_honest held_now a b new_a new_b s store
     record {
       barrier = barrier;
       each = λ i j one other stops in_one in_other.
-          let ok = stop_in_recovery moment held held_at is_honest held_now (at_rest (held a) (held b)) a b new_a new_b i j
-          one other honest_a honest_b (inl refl) barrier stops in_one in_other in
-          rests_more s store is (stopped_in_recovery one other) (at_rest (held a) (held b)) one other at.life at.rests ok
-          refl;
+          let ok = stop_in_recovery moment held held_at is_honest held_now (at_rest (held a) (held b)) a b new_a new_b
+          i j one other honest_a honest_b (inl refl) barrier stops in_one in_other in
+          rests_more s store is (stopped_in_recovery one other) (at_rest (held a) (held b)) one other at.life at.rests
+          ok refl;
     }
 
 -- ---- form

@@ -119,7 +119,7 @@ has_no_room one other s generation count end kept first second area t needs long
     subst (λ (x : ShowState). AREA_LIMIT < 19 + length (state_text x) + cancels_length x)
     (the_area one other s generation count end kept first second area t needs).1 long
 
--- one fault or the other was told, and is one of the store
+-- one fault or the other was reported, and is one of the store
 pub told_one : (f x y : Fault) (g gx gy : StoreFault) → (Some f ≡ Some x) ⊎ (Some f ≡ Some y) → (f ≡ x → g ≡ gx)
     → (f ≡ y → g ≡ gy) → (g ≡ gy) ⊎ (g ≡ gx) ⊎ (g ≡ store.Disk)
 told_one f x y g gx gy (inl is) one other = let same : f ≡ x = cc in inr (inl (one same))
@@ -144,7 +144,7 @@ left_over store.Exhausted g a b c d e h k = absurd (k refl)
 left_over store.Memory g a b c d e h k = inr (inl refl)
 left_over store.Disk g a b c d e h k = inr (inr refl)
 
--- want of memory has hidden no fault of a device
+-- being out of memory has hidden no fault of a device
 pub went_through : {T D : Type 0} (failures : D → ℕ) (first_in second_in : T → D) (a b : D) (n m : ℕ)
     (r : Result T (StoreFault × D × D))
     → RefusedBut store.Disk ((first_after first_in r ≡ a) × (second_after second_in r ≡ b)) r

@@ -34,7 +34,7 @@ pub record StandsSince (then_a then_b : Contents) (x y : List ℕ) : Type 0 wher
 abbrev pub IsLeftOrStands : Contents → Contents → List ℕ → List ℕ → Type 0
 IsLeftOrStands then_a then_b x y = (IsImage then_a x × IsImage then_b y) ⊎ StandsSince then_a then_b x y
 
--- how long the text of the cancels is
+-- how long the encoding of the cancels is
 abbrev pub cancels_length : ShowState → ℕ
 cancels_length s = length (batch_text (events_at s recovered))
 

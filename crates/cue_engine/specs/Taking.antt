@@ -24,7 +24,7 @@ pub record Offers {D : Type 0} {disk : Ghosts D} (what : Given) (answer : Taken)
   pub sends : offered_sends_of new ≡ offered_sends_of old ++ datagrams what.sends
   pub counts : answer ≡ what.counts
 
--- So far these inputs were offered, each at its moment, and no other.
+-- So far these inputs were offered, each at its time, and no other.
 pub record IsOffered {D : Type 0} {disk : Ghosts D} (inputs : List (ℕ × Input)) (engine : Engine D disk)
     : Type 0 where
   pub batches : offered_of engine ≡ batches_given (state_of engine) inputs

@@ -16,14 +16,14 @@ mod together;
 
 #[derive(Clone, Copy)]
 enum Step {
-    /// A datagram at a moment from a port, and how many commands were made, known and refused. All that is owed is
+    /// A datagram at a time from a port, and how many commands were made, known and refused. All that is owed is
     /// then handed over.
     Hears(u64, u16, &'static [u8], [u16; 3]),
     /// The same, but nothing is handed over.
     Keeps(u64, u16, &'static [u8], [u16; 3]),
     /// A datagram that meets a fault.
     Fails(u64, u16, &'static [u8], Fault),
-    /// A tick at a moment, and how many attempts it cancelled.
+    /// A tick at a time, and how many attempts it cancelled.
     Ticks(u64, u16),
     /// The k-th send from now is refused.
     Refuses(u64),

@@ -31,7 +31,7 @@ pub struct Failure {
 pub struct Followed {
     pub seq: u32,
     pub cue: CueNo,
-    /// The moment of its standby, in milliseconds since 1970.
+    /// The time of its standby, in milliseconds since 1970.
     pub since: u64,
     pub stage: Stage,
     /// The devices that failed after the decision, in the order in which they did.

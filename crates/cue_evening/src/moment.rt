@@ -1,8 +1,8 @@
-//! A moment of the machine's clock, as the log says it.
+//! A time of the machine's clock, as the log says it.
 use jiff::Timestamp;
 use std::time::Clock;
 
-/// A moment of the machine's clock.
+/// A time of the machine's clock.
 #[derive(Clone, Copy)]
 pub struct Moment {
     /// To the second, in UTC.
@@ -12,7 +12,7 @@ pub struct Moment {
 }
 
 impl Moment {
-    /// The moment now. None where the clock has none, or one after the year 9999.
+    /// The time now. None where the clock has none, or one after the year 9999.
     pub fn now<R: Clock>(clock: &R) -> Option<Moment> {
         let since = clock.since_1970().ok()?;
         let date = Timestamp::from_second(i64::try_from(since.as_secs()).ok()?).ok()?;

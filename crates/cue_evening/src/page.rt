@@ -4,7 +4,7 @@ use std::alloc::AllocError;
 use std::io::Eprint;
 use std::time::Clock;
 
-/// Standard error, at one moment.
+/// Standard error, at one time.
 #[derive(Drop)]
 pub struct Page<'a, R: Clock + Eprint> {
     rt: &'a R,
@@ -12,7 +12,7 @@ pub struct Page<'a, R: Clock + Eprint> {
 }
 
 impl<'a, R: Clock + Eprint> Page<'a, R> {
-    /// The page at the moment now.
+    /// The page at the time now.
     pub fn now(rt: &'a R) -> Page<'a, R> {
         Page {
             rt,
@@ -20,7 +20,7 @@ impl<'a, R: Clock + Eprint> Page<'a, R> {
         }
     }
 
-    /// The moment in milliseconds since 1970; 0 where the clock has none.
+    /// The time in milliseconds since 1970; 0 where the clock has none.
     pub fn millis(&self) -> u64 {
         match self.moment {
             Some(moment) => moment.millis,
@@ -28,7 +28,7 @@ impl<'a, R: Clock + Eprint> Page<'a, R> {
         }
     }
 
-    /// Writes a line with date and time. Where that fails, where the clock has no moment, or where there was no memory
+    /// Writes a line with date and time. Where that fails, where the clock has no time, or where there was no memory
     /// for the line, there is none.
     pub fn write(&self, line: Result<String, AllocError>) {
         if let (Some(moment), Ok(line)) = (self.moment, line) {

@@ -89,7 +89,7 @@ fn push_failures(text: &mut String, failures: &[Failure]) -> Result<(), AllocErr
     Ok(())
 }
 
-/// The line of an attempt that has ended, at a moment in milliseconds since 1970.
+/// The line of an attempt that has ended, at a time in milliseconds since 1970.
 pub fn end_line(alloc: Global, followed: &Followed, now: u64) -> Result<String, AllocError> {
     let cue = followed.cue.text().escape_ascii();
     let words = outcome_words(followed.outcome());

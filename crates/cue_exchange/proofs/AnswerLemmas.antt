@@ -107,7 +107,7 @@ stands-entering (Cancelling r) false Failed h = refl
 stands-entering (Cancelling r) true Excused h = refl
 stands-entering (Cancelling r) false Excused h = refl
 
--- a required device is asked anew as its attempt enters a stage
+-- a required device is asked again as its attempt enters a stage
 pub is_waiting-entering : (t : Stage) (x : Answer) → IsTrue (not (is_excused x)) → IsTrue (is_waiting (entering t x))
 is_waiting-entering Preparing Waiting h = refl
 is_waiting-entering Preparing Ready h = refl

@@ -17,7 +17,7 @@ pub use Rattle.cue_exchange.specs.Answers.{devices_of, has_required, is_one_of, 
 abbrev pub is_number : ℕ → Bool
 is_number q = nat_le 1 q && nat_le q MAX_NUMBER
 
--- a moment has 64 bits
+-- a time has 64 bits
 abbrev pub is_moment : ℕ → Bool
 is_moment t = nat_le t 18446744073709551615
 

@@ -261,7 +261,7 @@ pub struct Attempt {
     pub seq: u32,
     /// The cue that is to be carried out.
     pub cue: CueNo,
-    /// The moment, in milliseconds since 1970, from which on a tick cancels it if it is still Preparing.
+    /// The time, in milliseconds since 1970, from which on a tick cancels it if it is still Preparing.
     pub deadline: u64,
     /// How far it has come.
     pub stage: Stage,
@@ -295,7 +295,7 @@ impl Attempt {
     fn is_sound(&self) -> bool
         ensures { result ≡ is_sound self.now }
     {
-        // Read so that its range is known: the definition asks for a moment of 64 bits.
+        // Read so that its range is known: the definition asks for a time of 64 bits.
         let _deadline = self.deadline;
         if !is_number(self.seq) {
             return false;

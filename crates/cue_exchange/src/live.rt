@@ -168,7 +168,7 @@ impl Live {
     pub fn can_start(&self, seq: u32, deadline: u64, parts: &Parts) -> bool
         ensures { result ≡ can_start seq deadline parts.now self.now }
     {
-        // Read so that its range is known: the definition asks for a moment of 64 bits.
+        // Read so that its range is known: the definition asks for a time of 64 bits.
         let _moment = deadline;
         if !is_number(seq) || !self.has_room() {
             return false;

@@ -195,7 +195,7 @@ symmetric x y s stands =
 pub is_a_state : WhatStandsIsAState
 is_a_state x y s stands = state_kept stands.area s stands.stands
 
--- ---- one batch more, or the state written anew
+-- ---- one batch more, or the state written again
 
 in_turn_more : (s : ShowState) (batches : List (List Event)) (batch : List Event) → IsTrue (are_in_turn s batches)
     → IsTrue (is_batch batch) → IsTrue (are_acceptable (folded_all s batches) batch)

@@ -13,7 +13,7 @@ with_events [] = []
 with_events ([] ∷ batches) = with_events batches
 with_events ((e ∷ es) ∷ batches) = (e ∷ es) ∷ with_events batches
 
--- the text of each of these
+-- the encoding of each of these
 abbrev pub records_of : List (List Event) → List (List ℕ)
 records_of batches = map batch_text (with_events batches)
 
@@ -36,8 +36,8 @@ are_records ((e ∷ es) ∷ batches) = is_record (e ∷ es) && are_records batch
 abbrev pub batches_view : List (Vec Event Global) → List (List Event)
 batches_view batches = map (λ batch. batch.items) batches
 
--- Each batch is ready to be accepted: those that have an event are framed, and `bytes` is how long their texts are
--- together.
+-- Each batch is ready to be accepted: those that have an event are framed, and `bytes` is how long their encodings
+-- are together.
 pub record IsGroup (batches : List (List Event)) (records : List (List ℕ)) (bytes : ℕ) : Type 0 where
   pub each : are_records batches ≡ true
   pub framed : records ≡ records_of batches

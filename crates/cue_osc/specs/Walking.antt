@@ -22,7 +22,7 @@ HasAddress (message a xs) = IsAddress a
 HasAddress (discarded a) = IsAddress a
 HasAddress (bundle t cs) = ⊥
 
--- whether a time tag ("Temporal Semantics and OSC Time Tags") is later than a moment in milliseconds since
+-- whether a time tag ("Temporal Semantics and OSC Time Tags") is later than a time in milliseconds since
 -- 1970, which began 2,208,988,800 seconds after 1900. A tag has 32 bits of seconds since 1900 and 32 bits of
 -- fractions; the tag 1 means immediately
 abbrev pub is_later_tag : ℕ → ℕ → Bool

@@ -1,4 +1,4 @@
--- The newly pending orders are those of the attempts whose devices are asked anew.
+-- The newly pending orders are those of the attempts whose devices are asked again.
 use Rattle.std.proofs.Common.{◌≡◌, ◌≢◌, ℕ, ◌<◌, ◌≤◌, Bool, true, false, not, cond, ◌||◌, List, [], ◌∷◌, ◌++◌, filter}
 use Rattle.std.proofs.Common.{nat_eq, nat_lt, nat_le, IsTrue, Some, Ok, refl, sym, ap, ◌∙◌, subst, arith}
 use Rattle.std.specs.List.{AllByRecursion, list_all, list_any, flat_map}

@@ -1,4 +1,4 @@
--- What events that are acceptable in turn leave of the orders of each live attempt: either they ask its devices anew,
+-- What events that are acceptable in turn leave of the orders of each live attempt: either they ask its devices again,
 -- or what its
 -- devices are still to be told was pending before.
 use Rattle.std.proofs.Common.{◌≡◌, ℕ, ◌+◌, ◌<◌, ◌≤◌, List, [], ◌∷◌, map, find, refl, sym, ◌∙◌, ap, subst, Bool, true}
@@ -66,7 +66,7 @@ pub data Since (s t : ShowState) (p : ℕ) (b : Attempt) (asked : Bool) : Type 0
       → is_preparing b.stage ≡ false → Since s t p b asked
   stayed : asked ≡ false → (a : Attempt) → attempt_of s.live p ≡ Some a → Stays s a t b → Since s t p b asked
 
--- the event asks the devices of q anew
+-- the event asks the devices of q again
 abbrev asks : ℕ → Event → Bool
 asks q e = option_map_or (λ p. nat_eq p q) (number_asked e) false
 

@@ -1,4 +1,4 @@
-//! The board as JSON: what the page shows of a state, a show file and the moment, and of nothing else.
+//! The board as JSON: what the page shows of a state, a show file and the time, and of nothing else.
 ghost use Rattle.std.specs.Prelude.{◌≡◌, IfOk};
 ghost use Rattle.serde_json.specs.View.{view};
 ghost use Rattle.cue_page.specs.Board.{device_data};

@@ -48,7 +48,7 @@ fn words_value(alloc: Global, words: &str) -> Result<Value, AllocError> {
     json!(in alloc; {"words": words, "devices": []})
 }
 
-/// What is told of a relay at this moment, in milliseconds since 1970: its devices, or why it tells of none.
+/// What is told of a relay at this time, in milliseconds since 1970: its devices, or why it tells of none.
 pub fn relay_value(
     alloc: Global,
     relay: &Relay,

@@ -174,7 +174,7 @@ fn board_of_an_empty_show_is_empty(rt: HostRuntime) {
 const STATUS: &str = "relay 1 1000000\npassed 7 lost 0 dropped 2\n\
 device 3 10.0.7.31:9001 heard 997000\ndevice 4 10.0.7.32:7000 never silent\nend\n";
 
-/// The moments at which it is asked, and what is told then.
+/// The times at which it is asked, and what is told then.
 const TOLD: [(u64, &str); 2] = [
     (
         1_000_000,
@@ -187,7 +187,7 @@ const TOLD: [(u64, &str); 2] = [
     ),
 ];
 
-// What is told of a relay at a moment; none where its status is none.
+// What is told of a relay at a time; none where its status is none.
 fn told_at(alloc: Global, now: u64) -> Result<Option<String>, AllocError> {
     let Some(status) = read(alloc, STATUS)? else {
         return Ok(None);

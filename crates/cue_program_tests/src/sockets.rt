@@ -55,7 +55,7 @@ impl Receive for &StandIn {
 /// What the clock shows, what a wait would bring and when it would be over, and the try that this makes; None where it
 /// fails. The source begins at 1,000.
 const TRIES: [(u64, Comes, u64, Option<Option<Turn>>); 12] = [
-    // A datagram has the moment after the wait.
+    // A datagram has the time after the wait.
     (
         1_000,
         Comes::From(8000),
@@ -160,7 +160,7 @@ fn tries(rt: HostRuntime) -> Result<(), Fail> {
     Ok(())
 }
 
-/// What is there at a moment, and the datagram that a look finds then; None where the look is a fault. The source
+/// What is there at a time, and the datagram that a look finds then; None where the look is a fault. The source
 /// begins at 1,000.
 const LOOKS: [(u64, Comes, Option<Option<Waiting>>); 6] = [
     (

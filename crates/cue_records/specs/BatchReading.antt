@@ -26,7 +26,7 @@ kind_of n =
 unfoldable pub kind_at : Reads Kind
 kind_at = made_at kind_of byte_at
 
--- a number, a cue and a moment
+-- a number, a cue and a time
 unfoldable pub start_at : Reads (ℕ × (List ℕ × ℕ))
 start_at = both_at sequence_at (both_at cue_at (number_at w64))
 

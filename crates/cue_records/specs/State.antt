@@ -64,7 +64,7 @@ answer_number answer.Excused = 5
 abbrev pub answers_text : List DeviceAnswer → List ℕ
 answers_text answers = map (λ x. answer_number x.answer) answers
 
--- a number, a cue, a moment, a stage and the answers; the devices are those of the cue
+-- a number, a cue, a time, a stage and the answers; the devices are those of the cue
 abbrev pub attempt_text : Attempt → List ℕ
 attempt_text a =
     number_text a.seq ++ (text_text a.cue

@@ -131,7 +131,7 @@ answers_at (p ∷ ps) bytes =
     one_answer_at bytes >>= λ a. answers_at ps a.1
     >>= λ xs. Some (record { device = p.device; optional = p.optional; answer = a.0 } ∷ xs.0, xs.1)
 
--- what stands before the answers of an attempt: a number, a cue, a moment and a stage
+-- what stands before the answers of an attempt: a number, a cue, a time and a stage
 unfoldable pub head_at : Reads (ℕ × (List ℕ × (ℕ × Stage)))
 head_at = both_at sequence_at (both_at cue_at (both_at (number_at w64) stage_at))
 

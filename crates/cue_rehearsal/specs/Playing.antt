@@ -1,4 +1,4 @@
--- A rehearsed device: how long its machine takes, and what it tells the device at the end.
+-- A rehearsed device: how long its machine takes, and what it reports to the device at the end.
 use Rattle.std.specs.Prelude.{ℕ, ◌+◌, ◌-◌, Bool, true, false, Option, Some, None, nat_le, if◌then◌else◌}
 use Rattle.cue_device.specs.declared.hearing.Device.{Device}
 use Rattle.cue_device.specs.declared.hearing.Told.{Told}
@@ -50,7 +50,7 @@ abbrev pub due : ℕ → Option Work → Option Order
 due now None = None
 due now (Some work) = if nat_le work.takes (now - work.since) then Some work.order else None
 
--- what the machine tells at the end of an order that it carries out
+-- what the machine reports at the end of an order that it carries out
 abbrev pub report_of : Order → Told
 report_of (Prepare q) = Prepared q
 report_of (Move q) = Moved q

@@ -216,8 +216,7 @@ fn plan_in(alloc: Global, table: &Table) -> Result<Plan, PlanFault> {
 }
 
 /// The plan of a show file, of which this is all that TOML reads: that of its table `[rehearse]`, and the usual one
-/// where
-/// it has none.
+/// where it has none.
 pub fn read_plan(alloc: Global, file: &Table) -> Result<Plan, PlanFault> {
     match file.get("rehearse") {
         None => Ok(Plan::new(alloc)),

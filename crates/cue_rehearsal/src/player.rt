@@ -12,7 +12,7 @@ use cue_show::DeviceNo;
 #[derive(Clone, Copy, PartialEq, Eq, Debug)]
 pub struct Work {
     pub order: Order,
-    /// The moment at which it was ordered, in milliseconds since the rehearsal began.
+    /// The time at which it was ordered, in milliseconds since the rehearsal began.
     pub since: u64,
     /// How long the machine takes for it, in milliseconds.
     pub takes: u64,
@@ -94,7 +94,8 @@ impl Player {
         }
     }
 
-    /// The machine has come to the end of an order, that of `due`: it tells the device, which gives what is answered.
+    /// The machine has come to the end of an order, that of `due`. It reports to the device, which gives what is
+    /// answered.
     pub fn end(&mut self, order: Order) -> Option<Answer>
         ensures state { self.new ≡ after_end order self.old }
         ensures said { result ≡ answer_at_end order self.old }

@@ -3,7 +3,7 @@ use cue_device::{Answer, Order};
 use cue_show::{CueNo, DeviceNo};
 use std::fmt;
 
-/// What is told of a device.
+/// What is said of a device.
 #[derive(Clone, Copy, PartialEq, Eq, Debug)]
 pub enum Deed {
     Prepares,
@@ -23,7 +23,7 @@ impl Deed {
         }
     }
 
-    /// What is told of an answer: only an abort is.
+    /// What is said of an answer: only an abort is.
     pub fn of_answer(answer: Answer) -> Option<Deed> {
         match answer {
             Answer::Abort(_) => Some(Deed::Aborts),

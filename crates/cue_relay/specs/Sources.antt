@@ -6,7 +6,7 @@ use Rattle.cue_relay.specs.declared.source.SourceFault.{SourceFault}
 use Rattle.cue_relay.specs.declared.source.Turn.{Turn}
 use Rattle.cue_relay.specs.declared.source.Turn.TheVariants as turn
 
--- one answer of a source: a datagram with its moment, opening, sender and bytes, a tick, the end, or a fault
+-- one answer of a source: a datagram with its time, opening, sender and bytes, a tick, the end, or a fault
 pub data Answer : Type 0 where
   comes : (now : ℕ) (at : Opening) (from : Address) (bytes : List ℕ) → Answer
   ticks : (now : ℕ) → Answer

@@ -7,7 +7,7 @@ ghost use Rattle.cue_relay.specs.declared.hearing.TheConstants.{SILENCE};
 /// For how long a device may say nothing while something is pending for it, in milliseconds.
 pub const SILENCE: u64 = 1_000;
 
-/// What is known of one device: moments in milliseconds since 1970.
+/// What is known of one device: times in milliseconds since 1970.
 #[derive(Clone, Copy, Debug, PartialEq, Eq)]
 pub struct Contact {
     /// When it was heard last.
@@ -72,7 +72,7 @@ impl Contact {
         }
     }
 
-    /// A moment has come: a device for which something is pending for a second is silent, which is said once.
+    /// It is this time: a device for which something is pending for a second is silent, which is said once.
     pub fn pass(&mut self, now: u64) -> Option<News>
         ensures after { self.new ≡ after_moment self.old now }
         ensures news { result ≡ told_of_moment self.old now }

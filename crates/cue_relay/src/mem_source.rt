@@ -9,11 +9,11 @@ use crate::source::{Source, SourceFault, Turn};
 /// What a source in memory is to answer: one call each.
 #[derive(Debug, Drop)]
 pub enum MemAnswer {
-    /// A tick, at a moment in milliseconds since 1970.
+    /// A tick, at a time in milliseconds since 1970.
     Tick {
         now: u64,
     },
-    /// A datagram at this opening, from this sender, at a moment in milliseconds since 1970.
+    /// A datagram at this opening, from this sender, at a time in milliseconds since 1970.
     Datagram {
         now: u64,
         at: Opening,

@@ -18,7 +18,7 @@ pub struct Relay<'a> {
     pub routes: &'a [Route],
 }
 
-/// What happened in a turn, at a moment in milliseconds since 1970.
+/// What happened in a turn, at a time in milliseconds since 1970.
 #[derive(Clone, Copy, Debug, PartialEq, Eq)]
 pub enum Happening {
     /// A datagram that came at this opening was handed on.

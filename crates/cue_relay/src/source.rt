@@ -6,7 +6,7 @@ use crate::route::{Address, Opening};
 use std::error::Error;
 use std::fmt;
 
-/// What a source gives: one datagram or one tick, at a moment in milliseconds since 1970, or that nothing comes any
+/// What a source gives: one datagram or one tick, at a time in milliseconds since 1970, or that nothing comes any
 /// more.
 #[derive(Clone, Copy, Debug, PartialEq, Eq)]
 pub enum Turn {

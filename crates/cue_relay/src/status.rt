@@ -32,7 +32,7 @@ pub struct Status {
 }
 
 impl Status {
-    /// The status of a relay at this moment: one contact for each route.
+    /// The status of a relay at this time: one contact for each route.
     pub fn of(
         alloc: Global,
         now: u64,
@@ -113,7 +113,7 @@ fn number(word: Option<&str>) -> Option<u64> {
     word?.parse().ok()
 }
 
-// The moment of the first line.
+// The time of the first line.
 fn moment_in(line: &str) -> Option<u64> {
     let rest = line.strip_prefix("relay 1 ")?;
     number(Some(rest))
@@ -211,7 +211,7 @@ pub fn read(alloc: Global, text: &str) -> Result<Option<Status>, AllocError> {
     }
 }
 
-/// When the device was heard, in words, as of a moment in milliseconds since 1970: `heard 3 s ago`, `never heard`, with
+/// When the device was heard, in words, as of a time in milliseconds since 1970: `heard 3 s ago`, `never heard`, with
 /// `silent` before it where something is pending. `relay stopped` where the status is old, and empty for a device that
 /// has no route.
 pub fn heard_words(

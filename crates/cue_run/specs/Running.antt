@@ -22,7 +22,7 @@ use Rattle.cue_run.specs.declared.turns.RunFault.{RunFault}
 use Rattle.cue_run.specs.declared.turns.RunFault.TheVariants as fault
 use Rattle.cue_run.specs.Sources.{Answer, comes, ends, fails, GaveAll}
 
--- inputs in turn, each at its moment: as a source gives them, and as a run takes them
+-- inputs in turn, each at its time: as a source gives them, and as a run takes them
 abbrev pub given_answers : List (ℕ × Input) → List Answer
 given_answers inputs = map (λ t. comes t.0 t.1) inputs
 

@@ -6,7 +6,7 @@ use Rattle.cue_run.specs.declared.source.SourceFault.{SourceFault}
 use Rattle.cue_run.specs.declared.source.Waiting.{Waiting}
 use Rattle.cue_engine.specs.Given.{Input, datagram, tick}
 
--- one answer of a source: an input at a moment, the end, or a fault
+-- one answer of a source: an input at a time, the end, or a fault
 pub data Answer : Type 0 where
   comes : (now : ℕ) (input : Input) → Answer
   ends : Answer

@@ -61,19 +61,19 @@ is_tick_due last now = nat_lt now last || nat_le 250 (now - last)
 abbrev pub tick_if_due : ℕ → ℕ → Option Turn
 tick_if_due last now = if is_tick_due last now then Some (turn.Tick now) else None
 
--- the turn of what a wait brought that was over at this moment: a tick where nothing came, none of noise
+-- the turn of what a wait brought that was over at this time: a tick where nothing came, none of noise
 abbrev pub next_of : Came → ℕ → Option Turn
 next_of came.Noise now = None
 next_of came.Nothing now = Some (turn.Tick now)
 next_of (came.Datagram from n) now = Some (turn.Datagram now from n)
 
--- the datagram that a look found at this moment: none where nothing came, or noise
+-- the datagram that a look found at this time: none where nothing came, or noise
 abbrev pub waiting_of : Came → ℕ → Option Waiting
 waiting_of came.Nothing now = None
 waiting_of came.Noise now = None
 waiting_of (came.Datagram from n) now = Some (record { now = now; from = from; n = n })
 
--- the moment of the last tick after a turn
+-- the time of the last tick after a turn
 abbrev pub last_after : ℕ → Option Turn → ℕ
 last_after last None = last
 last_after last (Some turn.End) = last

@@ -8,9 +8,9 @@ use crate::source::{Source, SourceFault, Turn, Waiting};
 /// What a source in memory is to answer: one call each.
 #[derive(Debug, Drop)]
 pub enum MemAnswer {
-    /// A tick, at a moment in milliseconds since 1970.
+    /// A tick, at a time in milliseconds since 1970.
     Tick { now: u64 },
-    /// A datagram from this port, at a moment in milliseconds since 1970.
+    /// A datagram from this port, at a time in milliseconds since 1970.
     Datagram { now: u64, from: u16, bytes: Vec<u8> },
     /// That nothing comes any more.
     End,

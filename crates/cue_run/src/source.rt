@@ -5,7 +5,7 @@ ghost use Rattle.cue_run.specs.Sources.{Answer, gave, IsWithin, GaveAll, WaitsWi
 use std::error::Error;
 use std::fmt;
 
-/// What a source gives: one datagram or one tick, at a moment in milliseconds since 1970, or that nothing comes any
+/// What a source gives: one datagram or one tick, at a time in milliseconds since 1970, or that nothing comes any
 /// more.
 #[derive(Clone, Copy, Debug, PartialEq, Eq)]
 pub enum Turn {
@@ -15,7 +15,7 @@ pub enum Turn {
     Datagram { now: u64, from: u16, n: usize },
 }
 
-/// A datagram that was there already: the first `n` bytes of the buffer, from this port, at a moment in milliseconds
+/// A datagram that was there already: the first `n` bytes of the buffer, from this port, at a time in milliseconds
 /// since 1970.
 #[derive(Clone, Copy, Debug, PartialEq, Eq)]
 pub struct Waiting {

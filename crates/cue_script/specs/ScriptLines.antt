@@ -32,7 +32,7 @@ number_in most digits =
     if not (length digits == 0) && (all_ascii_digits digits && nat_le (digits_value 10 digits) most)
     then Some (digits_value 10 digits) else None
 
--- a datagram that arrived: the moment, the port that it came from, and its bytes
+-- a datagram that arrived: the time, the port that it came from, and its bytes
 pub record Arrived : Type 0 where
   pub now : ℕ
   pub from : ℕ
@@ -46,7 +46,7 @@ found >>= f = option_and_then f found
 abbrev pub behind : List ℕ → List ℕ → Option (List ℕ)
 behind front line = if bytes_eq (take (length front) line) front then Some (drop (length front) line) else None
 
--- the words in front of a line `d NOW FROM HEX`, with a single space after each: the moment, the port, and what is
+-- the words in front of a line `d NOW FROM HEX`, with a single space after each: the time, the port, and what is
 -- left
 abbrev pub heading_in : List ℕ → Option (ℕ × ℕ × List ℕ)
 heading_in line = do
@@ -64,7 +64,7 @@ arrival_in line = do
   bytes ← result_ok (decode_of heading.2)
   Some (record { now = heading.0; from = heading.1; bytes = bytes })
 
--- a line `t NOW`: the moment
+-- a line `t NOW`: the time
 unfoldable pub tick_in : List ℕ → Option ℕ
 tick_in line = do
   digits ← behind (codes "t ") line

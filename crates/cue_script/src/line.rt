@@ -17,7 +17,7 @@ use hex::FromHexError;
 use memchr::memchr;
 use std::alloc::{AllocError, Global};
 
-/// A datagram that arrives: at a moment in milliseconds since 1970, from a port of this machine.
+/// A datagram that arrives: at a time in milliseconds since 1970, from a port of this machine.
 #[derive(Debug, Drop)]
 pub struct Arrival {
     pub now: u64,
@@ -30,7 +30,7 @@ pub struct Arrival {
 pub enum ScriptLine {
     /// A datagram arrives.
     Datagram(Arrival),
-    /// The clock ticks, at a moment in milliseconds since 1970.
+    /// The clock ticks, at a time in milliseconds since 1970.
     Tick(u64),
     /// Power is lost.
     PowerLoss,
@@ -133,7 +133,7 @@ fn read_tick(line: &[u8]) -> Option<u64>
 }
 
 /// Reads a line of a script: `d NOW FROM HEX` is a datagram `HEX`, in hexadecimal digits of either case, that came at
-/// the moment `NOW` from the port `FROM`, `t NOW` a tick, and `x` power loss. `None` where the line has another form.
+/// the time `NOW` from the port `FROM`, `t NOW` a tick, and `x` power loss. `None` where the line has another form.
 #[tactic(auto, unfolding(crate::specs::ScriptLines::happening_in))]
 pub fn read_line(alloc: Global, line: &[u8]) -> Result<Option<ScriptLine>, AllocError>
     ensures { IfOk result (λ found. option_map line_view found ≡ happening_in line.now) }

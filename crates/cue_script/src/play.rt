@@ -45,7 +45,7 @@ fn stopped(engine: Engine<MemDisk>, ending: Ending) -> Result<Engine<MemDisk>, E
     Err(ending)
 }
 
-// Takes what came at a moment.
+// Takes what came at a time.
 fn take_input(
     mut engine: Engine<MemDisk>,
     now: u64,

@@ -109,9 +109,9 @@ module _ {D : Type 0} {disk : Ghosts D} (payloads : List (List ℕ)) (old : Snap
           }
 
     -- The log took them, and the pair is broken where the log is.
-    module _ (new : Snap D disk) (spare_is : spare_of new ≡ spare_of old) (sides : is_first_live new ≡ is_first_live old)
-        (broken_is : is_broken new ≡ log.is_broken new.log) (some : payloads ≡ [] → ⊥) (room : LacksRoom old payloads
-        → ⊥) where
+    module _ (new : Snap D disk) (spare_is : spare_of new ≡ spare_of old)
+        (sides : is_first_live new ≡ is_first_live old) (broken_is : is_broken new ≡ log.is_broken new.log)
+        (some : payloads ≡ [] → ⊥) (room : LacksRoom old payloads → ⊥) where
       moves : {T : Type 0} (result : Result T AppendFault) → log_appending.Appends payloads result old.log new.log
           → disk.is_honest (live_of old) → disk.is_honest (spare_of old) → is_broken old ≡ false → (y : List ℕ)
           → IsImage (disk.held (spare_of old)) y
@@ -120,8 +120,8 @@ module _ {D : Type 0} {disk : Ghosts D} (payloads : List (List ℕ)) (old : Snap
           weaker disk.moment disk.held_at (live_of old) (live_of new) (IsEither before after)
           (λ x. PairIsEither before after x y) (either live spare y left) (appends.any_moment live (old.works works))
 
-      pub handed_on : {T : Type 0} (result : Result T AppendFault) → log_appending.Appends payloads result old.log new.log
-          → Appends payloads result old new
+      pub handed_on : {T : Type 0} (result : Result T AppendFault)
+          → log_appending.Appends payloads result old.log new.log → Appends payloads result old new
       handed_on (Ok done) appends = record {
         cause = tt;
         after = tt;

@@ -16,7 +16,7 @@ pub old_absent : (held : Contents) → LeavesAbsent held → (image : List ℕ) 
 old_absent held absent image (inl left) = absent image left
 old_absent held absent image (inr is) = is
 
--- what is left of a closed disk while it is formed anew
+-- what is left of a closed disk while it is formed again
 pub none_or_new : (held : Contents) (area : Area) (image : List ℕ) → IsNoneOr area image → IsOldOrNew held area image
 none_or_new held area image (inl absent) = inl (inr absent)
 none_or_new held area image (inr is) = inr is

@@ -62,7 +62,7 @@ either_reads before after generation x y same_before same_after older (inl is) =
 either_reads before after generation x y same_before same_after older (inr is) =
     inr (inl (is, subst (λ (n : ℕ). IsOlder n y) same_after older))
 
--- The spare disk while it is formed anew, beside the live area.
+-- The spare disk while it is formed again, beside the live area.
 pub turn_reads : (held : Contents) (before : Area) (generation : ℕ) (snapshot x y : List ℕ)
     → generation ≡ before.generation → IsArea before x → LeavesOlder held generation
     → IsOldOrNew held (fresh (generation + 1) snapshot) y → PairIsEither before (fresh (generation + 1) snapshot) x y

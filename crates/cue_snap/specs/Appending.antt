@@ -12,7 +12,7 @@ use Rattle.cue_snap.specs.Pair.{PairIsEither, PairLeaves}
 use Rattle.cue_snap.specs.Observed.{live_of, spare_of, is_first_live, generation_of, end_of, count_of, is_broken}
 use Rattle.cue_snap.specs.Observed.{live_area_of}
 
--- with them the text of the live area, its last gate included, would pass the limit
+-- with them the encoding of the live area, its last gate included, would pass the limit
 abbrev pub LacksRoom : {D : Type 0} {disk : Ghosts D} → Snap D disk → List (List ℕ) → Type 0
 LacksRoom snap payloads = AREA_LIMIT < end_of snap + 1 + room_of payloads
 

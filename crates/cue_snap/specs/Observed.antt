@@ -39,7 +39,7 @@ count_of snap = log.count_of snap.log
 abbrev pub is_broken : {D : Type 0} {disk : _} → Snap D disk → Bool
 is_broken snap = snap.broken
 
--- the area that the live disk holds, over what the disk's type tells of it
+-- the area that the live disk holds, over what the disk's type says of it
 abbrev pub live_area_of : {D : Type 0} {disk : _} → (D → Contents) → Snap D disk → Area
 live_area_of held snap = log.area_of held snap.log
 

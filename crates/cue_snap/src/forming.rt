@@ -38,7 +38,7 @@ impl From<DiskFault> for FormFault {
 /// The generation of a first area.
 const FIRST: u64 = 1;
 
-/// Syncs both disks, and tells whether neither has an area.
+/// Syncs both disks, and says whether neither has an area.
 pub(crate) fn look<D: Disk>(first: &mut D, second: &mut D) -> Result<(), FormFault>
     ensures empty { D.is_honest first.old → D.is_honest second.old
         → OnOk result (NeitherHas (D.held first.old).bytes (D.held second.old).bytes) }

@@ -20,7 +20,7 @@ struct Disks {
     second: MemDisk,
 }
 
-// An evening: the stage, the moment, the steps that are left, and whether only devices answer.
+// An evening: the stage, the time, the steps that are left, and whether only devices answer.
 #[derive(Drop)]
 struct Evening {
     stage: Stage,

@@ -1,10 +1,10 @@
 //! Scripts: each line asks for something, and says after ` = ` in words what becomes of it, as it is written out by
 //! hand.
 //!
-//! A line is a command, which is judged and carried out (`standby 1 1000`: cue 1 at the moment 1000; `complete 3 1
+//! A line is a command, which is judged and carried out (`standby 1 1000`: cue 1 at the time 1000; `complete 3 1
 //! 9001`: device 3 in attempt 1, from that port); a command after `judge`, which is only judged, or after `fit`,
 //! whether its numbers and parts are ones that there are; an event after `happen`, which happens where it may; a
-//! `tick` of the clock at a moment; a recovery from `power` loss; or what of the state is asked for: `state`, `live`
+//! `tick` of the clock at a time; a recovery from `power` loss; or what of the state is asked for: `state`, `live`
 //! or `undecided`. A part is a device and its bytes: `3:up` a required one, `4?up` an optional one.
 
 use cue_core::{Ended, Event, Events, State, Verdict, judge, undecided};

@@ -218,7 +218,8 @@ serve_leaf = record { usual = serve_usual; line = serve_line }
       | inl dir ↦ absurd (first_there _ rows (row_of_given _ _ rows serve_usual.0 sound (given.0 refl)) dir)
       | inr (inl lacks) ↦
           let text = text_there _ rows (row_of_given _ _ rows serve_usual.1.0 sound (given.1.0 refl)) in
-          let number = signed_number 65535 text.0 (accepts-Accepts false (Signed (pos 0) (pos 65535)) text.0 text.2) in (
+          let number =
+          signed_number 65535 text.0 (accepts-Accepts false (Signed (pos 0) (pos 65535)) text.0 text.2) in (
             refl,
             port_zero rows _ (record {
               text = without_minus text.0;

@@ -60,7 +60,7 @@ no_other (Some found) named (inr (inr zero)) =
     let bad : codes "serve" ≡ codes "script" = sym zero.0 ∙ named in
     cc
 
--- words that clap takes, and that name a script, are refused for want of memory alone
+-- words that clap takes, and that name a script, are refused out of memory alone
 pub only_memory : (words : List Text) (fault : LineFault) → fault_of cuectl_app words ≡ []
     → NamesScript (subcommand_of cuectl_app words)
     → (IsHelp fault → AsksForText (fault_of cuectl_app words)) → (fault ≡ Usage → IsNoCommand words) → fault ≡ Memory
@@ -71,7 +71,7 @@ only_memory words Usage taken named help usage =
     ⊎ HasPortZero (subcommand_of cuectl_app words)) taken (usage refl)))
 only_memory words Memory taken named help usage = refl
 
--- a state that was printed is told
+-- a state that was printed is reported
 pub state_told : {T E : Type 0} (result : Result T E) (s : ShowState) (old new : Option (List ℕ))
     → OnOk result (Appends old new (show_text s)) → OnOk result (IsStateTold old new)
 state_told (Ok done) s old new told = record { state = s; printed = told }

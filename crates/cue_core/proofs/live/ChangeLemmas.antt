@@ -157,7 +157,7 @@ changed_over q f g P kg same (a ∷ live) h =
         ∙ (changed_yes q f (g a) (ap (λ n. nat_eq n q) (kg a) ∙ e) ∙ (same a k ∙ sym (changed_yes q f a e)))
     at false e k = ap (with_change q f) (changed_no q g a e)
 
--- a device that was not excused is asked anew
+-- a device that was not excused is asked again
 pub asked_anew : (stage : Stage) (x : Answer) → IsTrue (not (is_excused x)) → entering stage x ≡ answer.Waiting
 asked_anew Preparing answer.Waiting h = refl
 asked_anew Preparing answer.Ready h = refl

@@ -173,7 +173,7 @@ ends reply.Abort q x (Cancelling r) answer.Excused p h = absurd (cc)
 
 -- ---- an attempt that is Preparing
 
--- the device, asked anew
+-- the device, asked again
 abbrev pub anew : DeviceAnswer → DeviceAnswer
 anew x = record x { answer = answer.Waiting }
 

@@ -136,7 +136,7 @@ cancel_fits s c = by (has_cue s.show c) (attempt_of_cue s.live c) refl
     by true None e = refl
     by true (Some a) e = cancel_of_fits s (is_of_cue c) a e
 
--- a device of an attempt that is cancelled is asked anew, where it was not excused
+-- a device of an attempt that is cancelled is asked again, where it was not excused
 asked_anew : (stage : Stage) (d : ℕ) (x : Answer) (ys : List DeviceAnswer) → answer_of ys d ≡ Some x
     → IsTrue (not (is_excused x)) → IsTrue (answer_passes is_waiting d (answers_on_entry stage ys))
 asked_anew stage d x [] e n = absurd cc

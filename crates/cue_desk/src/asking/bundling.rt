@@ -92,7 +92,8 @@ fn cue_address() -> &'static [u8]
 
 // The arguments of a device that is added.
 fn device_args<'a>(alloc: Global, entry: &DeviceEntry) -> Result<Vec<Arg<'a>>, AllocError>
-    ensures { IfOk result (λ args. map arg_view args.items ≡ int (pos entry.now.number) ∷ int (pos entry.now.port) ∷ []) }
+    ensures { IfOk result (λ args.
+        map arg_view args.items ≡ int (pos entry.now.number) ∷ int (pos entry.now.port) ∷ []) }
 {
     Ok(vec![in alloc;
         Arg::Int(i32::from(entry.number.number())),
@@ -158,9 +159,9 @@ fn bundle_of(alloc: Global, items: Vec<Packet<'_>>) -> Result<Vec<u8>, AskFault>
     Ok(cue_osc::write(alloc, &packet)?)
 }
 
-/// The datagram that asks for these devices to be added, in order, and for nothing else: a bundle of the message of each,
-/// to be carried out at once. `Unwritable` where it would be longer than a datagram: `devices_that_fit` says how many
-/// are not.
+/// The datagram that asks for these devices to be added, in order, and for nothing else: a bundle of the message of
+/// each, to be carried out at once. `Unwritable` where it would be longer than a datagram: `devices_that_fit` says how
+/// many are not.
 pub fn bundle_of_devices(alloc: Global, entries: &[DeviceEntry]) -> Result<Vec<u8>, AskFault>
     ensures { let said = contents_of (map device_message entries.now) in
         IfOk result (λ bytes. datagram_at bytes.items ≡ Ok (bundle 1 said)) }

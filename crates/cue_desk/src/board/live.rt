@@ -33,7 +33,7 @@ fn readiness(attempt: &Attempt) -> &'static str
     }
 }
 
-// How far an attempt has come at this moment.
+// How far an attempt has come at this time.
 fn stage_at(alloc: Global, attempt: &Attempt, now: u64) -> Result<String, AllocError>
     ensures { IfOk result (λ text. string_bytes text ≡ board.stage_at now attempt.now attempt.now.stage) }
 {

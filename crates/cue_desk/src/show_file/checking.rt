@@ -202,7 +202,7 @@ fn taken(show: Show, devices: bool, cues: bool) -> Option<Show>
     if devices && cues { Some(show) } else { None }
 }
 
-/// Puts what the file has into an empty show, devices first, and tells what cannot be put there.
+/// Puts what the file has into an empty show, devices first, and reports what cannot be put there.
 pub fn check(alloc: Global, file: &ShowFile) -> Result<Checked, AllocError>
     ensures show { IfOk result (λ trial. trial.show ≡ after_file empty_show file.now) }
     ensures told { IfOk result (λ trial. (length trial.findings.items == 0) ≡ is_some trial.show) }

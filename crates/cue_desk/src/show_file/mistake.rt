@@ -31,7 +31,7 @@ impl fmt::Display for Subject {
     }
 }
 
-/// A key of a show file, told by a line that has it.
+/// A key of a show file, named with a line that has it.
 #[derive(Clone, Copy, Debug, PartialEq, Eq)]
 pub enum Key {
     Port,
@@ -67,7 +67,7 @@ impl fmt::Display for Key {
     }
 }
 
-/// What is wrong with a show file. Each is told with what to do.
+/// What is wrong with a show file. Each is said with what to do.
 #[derive(Debug, Drop, PartialEq, Eq)]
 pub enum Mistake {
     /// The text is no TOML: why not.
@@ -225,7 +225,7 @@ impl fmt::Display for Mistake {
 /// A mistake, with what it is about and where that stands.
 #[derive(Debug, Drop, PartialEq, Eq)]
 pub struct Finding {
-    /// The line, from 1; none where the file does not tell.
+    /// The line, from 1; none where the file does not say.
     pub line: Option<usize>,
     pub subject: Subject,
     pub mistake: Mistake,

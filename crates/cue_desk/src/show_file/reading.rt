@@ -26,9 +26,9 @@ use toml::Table;
 #[derive(Drop)]
 pub struct Draft {
     pub file: ShowFile,
-    /// In the order of the text; none where it is a show file as far as each entry alone tells.
+    /// In the order of the text; none where it is a show file as far as each entry alone says.
     pub findings: Vec<Finding>,
-    /// All that TOML reads from the text, for who reads further keys of it; empty where the text is no TOML.
+    /// All that TOML reads from the text, for callers that read further keys of it; empty where the text is no TOML.
     pub table: Table,
 }
 

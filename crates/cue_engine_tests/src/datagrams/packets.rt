@@ -22,7 +22,7 @@ const STATUS_TOLD: [Step; 2] = [
     ),
 ];
 
-// A bundle for this very moment, and one for just after it.
+// A bundle for this very time, and one for just after it.
 const NOW: [Step; 1] = [Step::Hears(
     0,
     8000,

@@ -1,4 +1,4 @@
-//! Whole evenings: what comes at each moment, and the lines that the log writes then.
+//! Whole evenings: what comes at each time, and the lines that the log writes then.
 //!
 //! In the text of an evening a line that is not indented is what comes: the milliseconds since the start, and then
 //! `tick`, or the port that it comes from. After the port stands the address of a message with its numbers, or the name
@@ -17,7 +17,7 @@ use std::process::Abort;
 use std::test::Fail;
 use std::time::{Clock, Duration};
 
-/// The first moment of each evening, 2026-11-24T19:30:00Z, in milliseconds since 1970.
+/// The time at which each evening begins, 2026-11-24T19:30:00Z, in milliseconds since 1970.
 const START: u64 = 1_795_548_600_000;
 
 /// How many bytes the date and time take at the head of a line.
@@ -141,7 +141,7 @@ fn datagram(alloc: Global, address: &str, numbers: &[i32]) -> Result<Vec<u8>, Fa
     }
 }
 
-// Takes an input at a moment, hands out, and looks.
+// Takes an input at a time, hands out, and looks.
 fn take(
     engine: &mut Engine<MemDisk>,
     wire: &mut LoggedWire<MemWire>,

@@ -24,7 +24,7 @@ impl<'a> Reader<'a> {
         kind_of(number).ok_or(ReadFault::Malformed)
     }
 
-    // A number, a cue and a moment.
+    // A number, a cue and a time.
     #[tactic(auto, unfolding(crate::specs::BatchReading::start_at))]
     fn start(&mut self) -> Result<(u32, CueNo, u64), ReadFault>
         ensures { Gives (λ x. ((x.0, (x.1, x.2)), self.new.rest.now)) result (start_at self.old.rest.now) }

@@ -52,7 +52,7 @@ fn put_body(out: &mut Vec<u8>, event: &Event) -> Result<(), AllocError>
     }
 }
 
-// A number, a cue and a moment.
+// A number, a cue and a time.
 fn put_start(out: &mut Vec<u8>, seq: u32, cue: CueNo, deadline: u64) -> Result<(), AllocError>
     ensures { OnOk result (out.new.items ≡ out.old.items
         ++ (number_text seq ++ (text_text cue ++ moment_text deadline))) }

@@ -41,7 +41,7 @@ pub fn what_came(own: u16, received: io::Result<(usize, u16)>) -> io::Result<Cam
     }
 }
 
-/// The datagram that a look found at this moment; None where nothing came, or noise.
+/// The datagram that a look found at this time; None where nothing came, or noise.
 pub fn waiting_of(came: Came, now: u64) -> Option<Waiting>
     ensures { result ≡ waiting_of came now }
 {

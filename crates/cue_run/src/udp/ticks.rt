@@ -15,21 +15,21 @@ fn is_tick_due(last: u64, now: u64) -> bool
     now < last || now - last >= TICK
 }
 
-/// The moment of the last tick, in milliseconds since 1970.
+/// The time of the last tick, in milliseconds since 1970.
 #[derive(Clone, Copy, Drop)]
 pub struct Ticks {
     last: u64,
 }
 
 impl Ticks {
-    /// Time begins at this moment.
+    /// As if the last tick had been at this time.
     pub fn new(now: u64) -> Ticks
         ensures { result.last ≡ now }
     {
         Ticks { last: now }
     }
 
-    /// The tick at this moment, where one is due; then it is the last one.
+    /// The tick at this time, where one is due; then it is the last one.
     pub fn due(&mut self, now: u64) -> Option<Turn>
         ensures due { result ≡ tick_if_due self.old.last now }
         ensures last { self.new.last ≡ last_after self.old.last result }
@@ -42,7 +42,7 @@ impl Ticks {
         }
     }
 
-    /// The turn of what a wait brought that was over at this moment, or None of noise. A tick is then the last one.
+    /// The turn of what a wait brought that was over at this time, or None of noise. A tick is then the last one.
     pub fn after(&mut self, came: Came, now: u64) -> Option<Turn>
         ensures next { result ≡ next_of came now }
         ensures last { self.new.last ≡ last_after self.old.last result }

@@ -1,4 +1,4 @@
-// What a pair tells of itself. None of it makes a device call.
+// What a pair says of itself. None of it makes a device call.
 use super::Snap;
 use cue_disk::Disk;
 use cue_log::Record;
@@ -11,7 +11,7 @@ impl<D: Disk> Snap<D> {
     ghost use Rattle.cue_snap.specs.Observed.{live_of, spare_of, first_of, second_of, generation_of, end_of, count_of};
     ghost use Rattle.cue_snap.specs.Observed.{is_broken, live_area_of};
 
-    /// Whether the live area's text would stay within its limit with this record.
+    /// Whether the live area's encoding would stay within its limit with this record.
     pub fn has_room(&self, added: &Record) -> bool
         ensures { IsTrue result ↔ (end_of self.now + (FRAME_LEN + 1) + length added.now ≤ AREA_LIMIT) }
     {

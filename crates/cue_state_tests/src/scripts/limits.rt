@@ -132,7 +132,7 @@ fn prepare_eight(rt: &impl Abort, alloc: Global, state: &mut State) -> Result<()
     add_all_devices(rt, alloc, state)?;
     run(rt, alloc, state, WIDE_CUES)?;
     run(rt, alloc, state, EIGHT_LIVE)?;
-    // No number is left either, nor a moment for a deadline.
+    // No number is left either, nor a time for a deadline.
     on_last(
         rt,
         alloc,
@@ -163,7 +163,7 @@ fn on_last(
     run(rt, alloc, &mut with_last(rt, state, last_seq)?, script)
 }
 
-// No moment for a deadline is left either.
+// No time for a deadline is left either.
 const NO_NUMBER: &str = "\
 standby 1 1000 = 19 Exhausted
 standby 1 18446744073709551615 = 19 Exhausted

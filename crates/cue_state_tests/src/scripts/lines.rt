@@ -181,7 +181,7 @@ cancelled 3 1 9002 = 17 WrongPort
 add_device 5 9002 = made Device 5 9002
 complete 5 1 9002 = 15 Stale
 state = devices 3:9001 4:9002 5:9002 | cue 1 3:up 4: | cue 2 3: | place - | last 1 | ended 1 Cancelled",
-    // A deadline is a moment.
+    // A deadline is a time.
     "\
 standby 1 18446744073709551615 = 18 Clock
 standby 1 18446744073709541616 = 18 Clock

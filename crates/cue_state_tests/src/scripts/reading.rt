@@ -6,7 +6,7 @@ use cue_show::{CueNo, DeviceNo, Part, Parts};
 use std::alloc::Global;
 use std::test::Fail;
 
-// A command, the moment at which it is asked for, and the port that it comes from.
+// A command, the time at which it is asked for, and the port that it comes from.
 #[derive(Drop)]
 pub(super) struct Request {
     pub(super) command: Command,
@@ -91,7 +91,7 @@ pub(super) fn read(alloc: Global, words: &[&str]) -> Result<Request, Fail> {
     }
 }
 
-// A command that asks for no moment.
+// A command that asks for no time.
 fn at_zero(alloc: Global, words: &[&str]) -> Result<Request, Fail> {
     Ok(Request::of_operator(command(alloc, words)?, 0))
 }

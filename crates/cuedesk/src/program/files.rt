@@ -10,8 +10,7 @@ use std::fs::{self, File, Files};
 use std::io::{Eprint, Write};
 
 /// Reads a show file that has no mistake, with all that TOML reads from it; else each mistake is on standard error,
-/// with
-/// the file and the line.
+/// with the file and the line.
 pub fn read_draft<R: Files<File = File> + Eprint + AllocGlobal>(
     rt: &R,
     path: &str,

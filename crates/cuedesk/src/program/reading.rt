@@ -41,7 +41,7 @@ impl Reading {
         self.keeper.state()
     }
 
-    /// The moment at which that was so, in milliseconds since 1970.
+    /// The time at which that was so, in milliseconds since 1970.
     pub fn moment(&self) -> u64 {
         self.moment
     }
@@ -66,7 +66,7 @@ impl Store {
         self.last.as_ref()
     }
 
-    // Has the last reading stand for this moment, too, where it holds; and answers whether it does.
+    // Has the last reading stand for this time, too, where it holds; and answers whether it does.
     fn renew(&mut self, begun: u64, seen: Option<Stamps>) -> bool {
         match &mut self.last {
             Some(reading) => {

@@ -13,7 +13,7 @@ use toml::{Table, Value};
 // Where a table stands.
 #[derive(Clone, Copy)]
 pub(super) struct Place {
-    // The line of its header; none where the file does not tell.
+    // The line of its header; none where the file does not say.
     pub(super) line: Option<usize>,
     // From 1.
     pub(super) place: usize,

@@ -49,7 +49,7 @@ impl Stamp {
         Some(Stamp::of(&metadata))
     }
 
-    // Whether each change after this moment gives the file another time.
+    // Whether each change after this time gives the file another time.
     fn is_settled(self, now: u64) -> bool
         ensures { IsTrue result ↔ IsSettled self now }
     {

@@ -163,7 +163,7 @@ enum Try {
 }
 
 impl<'a, C: Clock> NetSource<'a, C> {
-    // Whether a tick is due at this moment, which is then the last one; a clock that was put back makes one due.
+    // Whether a tick is due at this time, which is then the last one; a clock that was put back makes one due.
     fn is_due(&mut self, now: u64) -> bool {
         if now >= self.last_tick && now - self.last_tick < TICK {
             return false;

@@ -30,8 +30,11 @@ pub stays_so : {D : Type 0} {disk : Ghosts D} (is_honest : D → Type 0) (held :
     → StandsAs (held a) (held b) (kept.state_of new))
     → is_honest (kept.first_of old) → is_honest (kept.second_of old) → kept.is_broken old ≡ false
     → StandsAs (held a) (held b) (kept.state_of old)
-stays_so {D} {disk} is_honest held a b old new same stands = subst (λ (k : Keeper D disk). is_honest (kept.first_of k)
-    → is_honest (kept.second_of k) → kept.is_broken k ≡ false → StandsAs (held a) (held b) (kept.state_of k)) same stands
+stays_so {D} {disk} is_honest held a b old new same stands =
+    let P : Keeper D disk
+    → Type 0 = λ k. is_honest (kept.first_of k) → is_honest (kept.second_of k) → kept.is_broken k ≡ false
+    → StandsAs (held a) (held b) (kept.state_of k) in
+    subst P same stands
 
 pub stops_after_some : {D : Type 0} (held : D → Contents) (a b : D) (s : ShowState) (store : Store)
     (is : List Incident) (state : ShowState) (queue left : List (ℕ × List ℕ)) (refused : ℕ)

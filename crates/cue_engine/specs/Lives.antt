@@ -91,12 +91,14 @@ RestsWithin moment held_at a b new_a new_b s store is inputs =
     → IsWithin (held_at new_a i) one → IsWithin (held_at new_b j) other
     → RestsWith s store (is ++ stopped_in_commit inputs n one other ∷ []) one other
 
--- Some of what was owed was handed over, and then the engine stopped between two calls, with power lost or not: the life
--- goes on at rest, and has as handed over what the wire reports.
+-- Some of what was owed was handed over, and then the engine stopped between two calls, with power lost or not. The
+-- life goes on at rest, and has as handed over what the wire reports.
 pub record StopsAfterSome (s : ShowState) (store : Store) (is : List Incident) (one other : Contents)
     (told told_then : Option (List Handed)) : Type 0 where
   pub n : ℕ
-  pub handed : (x y : Contents) → AreHanded told (datagrams (handed_in (left_by_all store is) (stopped n x y))) told_then
+  pub handed :
+      (x y : Contents)
+      → AreHanded told (datagrams (handed_in (left_by_all store is) (stopped n x y))) told_then
   pub rests : (x y : Contents) → IsWithin one x → IsWithin other y → RestsWith s store (is ++ stopped n x y ∷ []) x y
 
 -- inputs that were taken together, each as one that was taken

@@ -1,5 +1,5 @@
 -- The life of a store that the calls themselves make: each call goes on with it.
-use Rattle.std.specs.Prelude.{◌≡◌, ℕ, List, [], ◌∷◌, ◌++◌, map, IsTrue}
+use Rattle.std.specs.Prelude.{◌≡◌, ℕ, List, [], ◌∷◌, ◌++◌, map, Option, IsTrue}
 use Rattle.std.specs.List.{AllByRecursion, list_all}
 use Rattle.cue_disk.specs.Disk.{Contents, IsImage}
 use Rattle.cue_snap.specs.Pair.{AfterBarrier}
@@ -12,8 +12,9 @@ use Rattle.cue_engine.specs.Given.{Input}
 use Rattle.cue_engine.specs.Runs.{joined_list, rests}
 use Rattle.cue_engine.specs.InBytes.{BytesRest}
 use Rattle.cue_engine.specs.Incidents.{Incident, taken, stopped_in_take, stopped_in_commit, Store, running, at_rest}
-use Rattle.cue_engine.specs.Incidents.{unformed, Happens, left_by_all}
-use Rattle.cue_engine.specs.Headline.{BeginsWith, AreKept, all_handed, IsPromised}
+use Rattle.cue_engine.specs.Incidents.{stopped, unformed, Happens, left_by_all}
+use Rattle.cue_engine.specs.Headline.{BeginsWith, AreKept, all_handed, handed_in, IsPromised}
+use Rattle.cue_engine.specs.Wires.{Handed, AreHanded}
 use Rattle.cue_engine.specs.Permitted.{IsWithin, IsFromTo, IsStop}
 
 -- The life of a store so far: it began with a state that keeps the rules, and each incident was permitted.
@@ -89,6 +90,16 @@ RestsWithin moment held_at a b new_a new_b s store is inputs =
     → IsFromTo (moment a) (moment new_a) i → IsFromTo (moment b) (moment new_b) j
     → IsWithin (held_at new_a i) one → IsWithin (held_at new_b j) other
     → RestsWith s store (is ++ stopped_in_commit inputs n one other ∷ []) one other
+
+-- Some of what was owed was handed over, and then the engine stopped between two calls, with power lost or not. The
+-- life goes on at rest, and has as handed over what the wire reports.
+pub record StopsAfterSome (s : ShowState) (store : Store) (is : List Incident) (one other : Contents)
+    (told told_then : Option (List Handed)) : Type 0 where
+  pub n : ℕ
+  pub handed :
+      (x y : Contents)
+      → AreHanded told (datagrams (handed_in (left_by_all store is) (stopped n x y))) told_then
+  pub rests : (x y : Contents) → IsWithin one x → IsWithin other y → RestsWith s store (is ++ stopped n x y ∷ []) x y
 
 -- inputs that were taken together, each as one that was taken
 abbrev pub all_taken : List (ℕ × Input) → List Incident

@@ -40,6 +40,7 @@ ghost use Rattle.cue_engine.specs.Lives.{
   RestsWithin,
   all_taken,
   LeavesAtEachStop,
+  StopsAfterSome,
   IsGivenBack,
 };
 
@@ -146,6 +147,25 @@ pub fn hand_out_in_parts<D: Disk, W: Wire>(engine: &mut Engine<D>, wire: &mut W,
         let _refused = engine.hand_out_first(wire, *most);
     }
     let _refused = engine.hand_out(wire);
+}
+
+/// A stop between two parts of a hand-out, in the life of a store: `Engine::hand_out_first` with each of these numbers in
+/// turn, and no call after them. The life goes on at rest, and has as handed over what these calls handed over.
+pub fn stop_in_hand_out<D: Disk, W: Wire>(
+    mut engine: Engine<D>,
+    wire: &mut W,
+    parts: &[usize],
+) -> (D, D)
+    ensures stopped { D.is_honest (first_of engine) → D.is_honest (second_of engine)
+        → is_broken (keeper_of engine) ≡ false
+        → InEachLifeWith (state_of engine) (queue_of engine)
+        (λ s store is. StopsAfterSome s store is (D.held result.0) (D.held result.1) (W.told wire.old)
+        (W.told wire.new)) }
+{
+    for most in parts {
+        let _refused = engine.hand_out_first(wire, *most);
+    }
+    engine.close()
 }
 
 /// `Engine::recover` in the life of a store: where it answers Ok it gives what is promised, and is the next incident.

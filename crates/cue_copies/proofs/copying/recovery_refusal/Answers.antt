@@ -16,5 +16,5 @@ returns-clause-refusal c =
     let y = memory_bytes c.args.second in
     let why = c.in-Err.ensures in
     subst (λ (fault : StoreFault). CannotBeRecovered fault x y) (sym c.fault_in_memory.ensures)
-    (refused_in_memory c.in-Err.fault x y why.no_other (why.unformed tt tt) (why.damaged tt tt) (why.version tt tt)
+    (refused_in_memory c.in-Err.fault x y why.no_other.0 (why.unformed tt tt) (why.damaged tt tt) (why.version tt tt)
     (why.malformed tt tt) (why.full tt tt) (why.exhausted tt tt))

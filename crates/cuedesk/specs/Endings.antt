@@ -8,3 +8,4 @@ abbrev pub ending_status : Ending → ℕ
 ending_status ending.Refused = 1
 ending_status ending.Silent = 3
 ending_status ending.Failed = 3
+ending_status ending.Unwritten = 3

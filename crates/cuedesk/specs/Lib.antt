@@ -1,5 +1,7 @@
 pub mod Endings
 pub mod Lines
+pub mod Loading
+pub mod Orders
 pub mod Readings
 pub mod Replies
 pub mod Sockets

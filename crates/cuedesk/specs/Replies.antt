@@ -1,5 +1,6 @@
 -- What a reply of the controller tells of the command that was asked.
-use Rattle.std.specs.Prelude.{◌≡◌, pos, ◌<ℤ◌, ◌≤ℤ◌, ℤ, Option, Some, None}
+use Rattle.std.specs.Prelude.{◌≡◌, ◌==◌, if◌then◌else◌, Bool, true, false, not, pos, negsuc, ◌<ℤ◌, ◌≤ℤ◌, ℤ}
+use Rattle.std.specs.Prelude.{Option, Some, None}
 use Rattle.std.specs.declared.io.ErrorKind.{ErrorKind}
 use Rattle.std.specs.declared.io.ErrorKind.TheVariants.{WouldBlock, TimedOut, ConnectionRefused, Interrupted}
 use Rattle.cue_desk.specs.declared.replying.Replied.{Replied}
@@ -10,8 +11,6 @@ use Rattle.cuedesk.specs.declared.program.ending.Ending.{Ending}
 use Rattle.cuedesk.specs.declared.program.ending.Ending.TheVariants as ending
 use Rattle.cuedesk.specs.declared.program.wire.Heard.{Heard}
 use Rattle.cuedesk.specs.declared.program.wire.Heard.TheVariants as heard
-use Rattle.cuedesk.specs.declared.program.loading.counts.Became.{Became}
-use Rattle.cuedesk.specs.declared.program.loading.counts.Became.TheVariants as became
 
 -- refused where one was refused, with its code; else made where one was made; else it was so already
 abbrev pub Tells : Replied → Answered → Type 0
@@ -28,17 +27,12 @@ ending_of answered.Made = None
 ending_of answered.Known = None
 ending_of (answered.Refused code) = Some ending.Refused
 
--- the code by which it was refused
-abbrev pub code_of : Answered → Option ℤ
-code_of answered.Made = None
-code_of answered.Known = None
-code_of (answered.Refused code) = Some code
-
--- what became of a device or a cue that was to be added
-abbrev pub became_of : Answered → Became
-became_of answered.Made = became.New
-became_of answered.Known = became.Known
-became_of (answered.Refused code) = became.Refused code
+-- the code by which a removal was refused; none by code 3, which says that it is not there
+abbrev pub refusal_of_removal : Answered → Option ℤ
+refusal_of_removal answered.Made = None
+refusal_of_removal answered.Known = None
+refusal_of_removal (answered.Refused (pos n)) = if n == 3 then None else Some (pos n)
+refusal_of_removal (answered.Refused (negsuc n)) = Some (negsuc n)
 
 -- what it means that no datagram was heard: the time passed, or word came that nobody got an earlier message; any other
 -- reason is a fault of the socket
@@ -55,9 +49,9 @@ reply_in (heard.Replied reply) = Some reply
 reply_in heard.Silence = None
 reply_in heard.Noise = None
 
--- what was added after it had been removed is replaced
-abbrev pub replaced : Became → Became
-replaced became.New = became.Replaced
-replaced became.Known = became.Known
-replaced became.Replaced = became.Replaced
-replaced (became.Refused code) = became.Refused code
+-- what is waited for: the status, where that was asked, and else the reply
+abbrev pub is_wanted : Heard → Bool → Bool
+is_wanted (heard.Replied (replied.Status status)) wants_status = wants_status
+is_wanted (heard.Replied (replied.Reply made known refused code)) wants_status = not wants_status
+is_wanted heard.Silence wants_status = false
+is_wanted heard.Noise wants_status = false

@@ -1,6 +1,9 @@
 //! The command line, read over `clap`.
+ghost use Rattle.std.specs.Prelude.{IfOk, codes};
 ghost use Rattle.clap.specs.Words.{kind_of};
+ghost use Rattle.cue_operator.specs.Methods.{cue_verb_text};
 ghost use Rattle.cuedesk.specs.Lines.{IsFaultOf};
+ghost use Rattle.cuedesk.specs.Orders.{IsAskedBy};
 
 pub mod rehearsing;
 pub mod web;
@@ -235,7 +238,9 @@ fn device_in(found: &ArgMatches<'_>) -> Result<DeviceNo, LineFault> {
 }
 
 // What is asked of a cue.
-fn of_cue_in(verb: CueVerb, found: &ArgMatches<'_>) -> Result<Line, LineFault> {
+fn of_cue_in(verb: CueVerb, found: &ArgMatches<'_>) -> Result<Line, LineFault>
+    ensures { IfOk result (IsAskedBy (cue_verb_text verb)) }
+{
     Ok(Line::Ask {
         order: Order::OfCue(verb, cue_in(found)?),
         port: port_in(found)?,
@@ -243,7 +248,9 @@ fn of_cue_in(verb: CueVerb, found: &ArgMatches<'_>) -> Result<Line, LineFault> {
 }
 
 // What is removed.
-fn remove_in(found: &ArgMatches<'_>) -> Result<Line, LineFault> {
+fn remove_in(found: &ArgMatches<'_>) -> Result<Line, LineFault>
+    ensures { IfOk result (IsAskedBy (codes "remove")) }
+{
     match found.subcommand() {
         Some((name, of)) if name == "cue" => of_cue_in(CueVerb::Remove, of),
         Some((_, of)) => Ok(Line::Ask {
@@ -311,8 +318,10 @@ fn board_in(alloc: Global, found: &ArgMatches<'_>) -> Result<Line, LineFault> {
     })
 }
 
-// A command that asks something of the controller.
-fn order_in(name: &str, found: &ArgMatches<'_>) -> Result<Line, LineFault> {
+// A command that asks of the controller what its word says.
+fn order_in(name: &str, found: &ArgMatches<'_>) -> Result<Line, LineFault>
+    ensures { IfOk result (IsAskedBy name.now) }
+{
     match name {
         "standby" => of_cue_in(CueVerb::Standby, found),
         "go" => of_cue_in(CueVerb::Go, found),

@@ -1,5 +1,6 @@
 //! The program: what each command does, prints and answers.
 ghost use Rattle.std.specs.Prelude.{◌≡◌, ◌↔◌};
+ghost use Rattle.cuedesk.specs.Endings.{ending_status};
 ghost use Rattle.cuedesk.specs.Lines.{IsHelp};
 ghost use Rattle.cuedesk.specs.declared.line.words.LineFault.TheVariants.{Memory, Usage};
 
@@ -34,6 +35,16 @@ use web::serve_page;
 /// The port at which the controller listens, where neither the command line nor a show file says another.
 const PORT: u16 = 9100;
 
+// The exit status of a command that is not done. Where its output failed, that is said.
+fn end<R: Eprint>(rt: &R, ending: Ending) -> u8
+    ensures { result ≡ ending_status ending }
+{
+    if ending == Ending::Unwritten {
+        say(rt, "the output cannot be written");
+    }
+    ending.status()
+}
+
 // The exit status where there is no command, or where help was asked for.
 fn refused_line<R: Eprint, W: Write>(rt: &R, fault: LineFault, writer: &mut W) -> u8
     ensures help { result ≡ 0 → IsHelp fault }
@@ -43,7 +54,7 @@ fn refused_line<R: Eprint, W: Write>(rt: &R, fault: LineFault, writer: &mut W) -
     match fault {
         LineFault::Help(text) => match print(writer, text.as_str()) {
             Ok(()) => 0,
-            Err(ending) => ending.status(),
+            Err(ending) => end(rt, ending),
         },
         LineFault::Usage => {
             say(rt, "the command line is not understood: see cuedesk --help");
@@ -99,7 +110,7 @@ pub fn perform<R: Files<File = File> + Net + Clock + RandomSource + Eprint + All
     match line(rt.alloc(), words) {
         Ok(line) => match carry_out(rt, &line, is_terminal, writer) {
             Ok(()) => 0,
-            Err(ending) => ending.status(),
+            Err(ending) => end(rt, ending),
         },
         Err(fault) => refused_line(rt, fault, writer),
     }

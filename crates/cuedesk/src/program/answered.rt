@@ -1,6 +1,6 @@
 //! What became of one thing that was asked, as the controller's reply tells it.
-ghost use Rattle.std.specs.Prelude.{◌≡◌};
-ghost use Rattle.cuedesk.specs.Replies.{Tells, code_of, ending_of};
+ghost use Rattle.std.specs.Prelude.{◌≡◌, ◌++◌, ◌∷◌, [], OnOk};
+ghost use Rattle.cuedesk.specs.Replies.{Tells, ending_of, refusal_of_removal};
 
 use super::ending::Ending;
 use cue_desk::replying::Replied;
@@ -52,19 +52,24 @@ pub fn ending_of(answered: Answered) -> Option<Ending>
     }
 }
 
-/// The code by which it was refused.
-pub fn code_of(answered: Answered) -> Option<i32>
-    ensures { result ≡ code_of answered }
+/// The code of what is not there.
+const NO_METHOD: i32 = 3;
+
+/// The code by which a removal was refused; none where what was to be removed is not there.
+pub fn refusal_of_removal(answered: Answered) -> Option<i32>
+    ensures { result ≡ refusal_of_removal answered }
 {
     match answered {
         Answered::Made => None,
         Answered::Known => None,
-        Answered::Refused(code) => Some(code),
+        Answered::Refused(code) => { if code == NO_METHOD { None } else { Some(code) } }
     }
 }
 
 /// Puts what became of one more after the others.
-pub fn push(answers: &mut Vec<Answered>, answered: Answered) -> Result<(), AllocError> {
+pub fn push(answers: &mut Vec<Answered>, answered: Answered) -> Result<(), AllocError>
+    ensures { OnOk result (answers.new.items ≡ answers.old.items ++ answered ∷ []) }
+{
     answers.push(answered)?;
     Ok(())
 }

@@ -6,15 +6,17 @@ use std::alloc::AllocError;
 use std::fmt::Display;
 use std::io::{Eprint, Write};
 
-/// Why a command was not done. What it was is on standard error already, but for memory.
+/// Why a command was not done. What it was is on standard error already, but for memory and the output.
 #[derive(Clone, Copy, Debug, PartialEq, Eq)]
 pub enum Ending {
     /// The controller refused it, or a show file has mistakes.
     Refused,
     /// Nobody replied within a second.
     Silent,
-    /// A file, the socket, the clock or the output failed, or memory ran out.
+    /// A file, the socket or the clock failed, or memory ran out.
     Failed,
+    /// The output could not be written. That is said by whoever ends the program.
+    Unwritten,
 }
 
 impl Ending {
@@ -24,7 +26,7 @@ impl Ending {
     {
         match self {
             Ending::Refused => 1,
-            Ending::Silent | Ending::Failed => 3,
+            Ending::Silent | Ending::Failed | Ending::Unwritten => 3,
         }
     }
 }
@@ -49,8 +51,8 @@ pub fn print<W: Write>(writer: &mut W, text: &str) -> Result<(), Ending> {
     match writer.write_all(text.as_bytes()) {
         Ok(()) => match writer.flush() {
             Ok(()) => Ok(()),
-            Err(_) => Err(Ending::Failed),
+            Err(_) => Err(Ending::Unwritten),
         },
-        Err(_) => Err(Ending::Failed),
+        Err(_) => Err(Ending::Unwritten),
     }
 }

@@ -1,23 +1,37 @@
 //! The commands of an evening: one message each.
+ghost use Rattle.std.specs.Prelude.{◌≡◌};
+ghost use Rattle.cuedesk.specs.Orders.{asked_of};
+
 use super::answered::{Answered, ending_of};
 use super::ending::{Ending, print, say};
 use super::wire::{Sendings, Wire, reply_in};
 use crate::line::words::Order;
 use cue_desk::asking::Asked;
 use cue_desk::replying::{Replied, Status};
-use cue_words::code_words;
+use cue_exchange::Outcome;
+use cue_words::{code_words, outcome_words};
 use std::alloc::{AllocError, Global};
 use std::fmt::Write as _;
 use std::io::{Eprint, Write};
 use std::net::Net;
 
 // What is asked by an order.
-fn asked_by(order: Order) -> Asked<'static> {
+fn asked_by(order: Order) -> Asked<'static>
+    ensures { result ≡ asked_of order }
+{
     match order {
         Order::Status => Asked::Status,
         Order::OfCue(verb, cue) => Asked::OfCue(verb, cue),
         Order::Release(device) => Asked::Release(device),
         Order::RemoveDevice(device) => Asked::RemoveDevice(device),
+    }
+}
+
+// How the attempt with this outcome ended; there is none before the first has ended.
+fn ended_words(outcome: i32) -> &'static str {
+    match u8::try_from(outcome).ok().and_then(Outcome::of_number) {
+        Some(outcome) => outcome_words(outcome),
+        None => "none has ended",
     }
 }
 
@@ -31,13 +45,8 @@ fn status_text(alloc: Global, status: Status) -> Result<String, AllocError> {
         Some(cue) => write!(text, "{}\n", cue.text().escape_ascii())?,
         None => text.push_str("-\n")?,
     }
-    let outcome = match status.outcome {
-        1 => "complete",
-        2 => "cancelled",
-        3 => "failed",
-        _ => "none has ended",
-    };
-    write!(text, "ended {}, {outcome}\n", status.ended)?;
+    let words = ended_words(status.outcome);
+    write!(text, "ended {}, {words}\n", status.ended)?;
     Ok(text)
 }
 

@@ -1,6 +1,8 @@
 //! The socket of the desk: one datagram, and what the controller replies to each of its messages.
-ghost use Rattle.std.specs.Prelude.{◌≡◌};
-ghost use Rattle.cuedesk.specs.Replies.{reply_in, unheard};
+ghost use Rattle.std.specs.Prelude.{◌≡◌, IfOk, IfSome, length};
+ghost use Rattle.std.specs.Net.Socket.{socket_ip, socket_port};
+ghost use Rattle.cuedesk.specs.Replies.{is_wanted, reply_in, unheard};
+ghost use Rattle.cuedesk.specs.Sockets.{IsHome};
 
 use super::answered::{Answered, push};
 use super::ending::{Ending, say};
@@ -24,7 +26,10 @@ const MOST_HEARD: u32 = 1_000;
 const LONGEST: usize = 4096;
 
 /// A port of this machine.
-fn local(port: u16) -> SocketAddr {
+fn local(port: u16) -> SocketAddr
+    ensures host { IsHome (socket_ip result) }
+    ensures port { socket_port result ≡ port }
+{
     SocketAddr::new(IpAddr::V4(Ipv4Addr::LOCALHOST), port)
 }
 
@@ -80,7 +85,9 @@ pub fn reply_in(heard: Heard) -> Option<Replied>
 }
 
 // Whether it is what is waited for: the status after its reply, and else the reply.
-fn is_wanted(heard: Heard, wants_status: bool) -> bool {
+fn is_wanted(heard: Heard, wants_status: bool) -> bool
+    ensures { result ≡ is_wanted heard wants_status }
+{
     match heard {
         Heard::Replied(Replied::Status(_)) => wants_status,
         Heard::Replied(Replied::Reply { .. }) => !wants_status,
@@ -155,27 +162,35 @@ impl Wire {
     }
 
     // What became of the next command that was asked at this address; none where no reply came.
-    fn next_answer(&self, alloc: Global, address: &[u8]) -> Result<Option<Answered>, Ending> {
-        match self.wait(alloc, address, false, Sendings::OfSome.silences()) {
+    fn next_answer(
+        &self,
+        alloc: Global,
+        address: &[u8],
+        sendings: Sendings,
+    ) -> Result<Option<Answered>, Ending> {
+        match self.wait(alloc, address, false, sendings.silences()) {
             Ok(Heard::Replied(replied)) => Ok(Some(Answered::of(replied))),
             Ok(Heard::Silence | Heard::Noise) => Ok(None),
             Err(ending) => Err(ending),
         }
     }
 
-    /// Sends a datagram that asks so many commands at one address, once: what became of each, in order; none where one of
-    /// the replies did not come.
+    /// Sends a datagram that asks so many commands at one address, once: what became of each, in order; none where one
+    /// of the replies did not come. The first one is waited for as long as that of a single command, since the datagram
+    /// is carried out whole before it.
     pub fn ask_together(
         &self,
         alloc: Global,
         datagram: &[u8],
         address: &[u8],
         count: usize,
-    ) -> Result<Option<Vec<Answered>>, Ending> {
+    ) -> Result<Option<Vec<Answered>>, Ending>
+        ensures { IfOk result (λ some. IfSome some (λ answers. length answers.items ≡ count)) }
+    {
         self.send(datagram);
         let mut answers = Vec::new(alloc);
-        for _ in 0..count {
-            match self.next_answer(alloc, address)? {
+        for index in 0..count {
+            match self.next_answer(alloc, address, Sendings::of_reply(index))? {
                 Some(answered) => push(&mut answers, answered)?,
                 None => return Ok(None),
             }
@@ -218,6 +233,14 @@ pub enum Sendings {
 }
 
 impl Sendings {
+    // How long the reply at this place of many is waited for.
+    fn of_reply(index: usize) -> Sendings {
+        match index {
+            0 => Sendings::One,
+            _ => Sendings::OfSome,
+        }
+    }
+
     // After how many silent waits nobody has replied.
     fn silences(self) -> u32 {
         match self {

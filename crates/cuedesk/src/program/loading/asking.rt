@@ -1,11 +1,15 @@
 //! What is asked while a show file is loaded: again where no reply came, with words where it is refused.
+ghost use Rattle.std.specs.Prelude.{◌≡◌, IfOk, IfSome, length};
+
 use super::super::answered::{Answered, push};
 use super::super::ending::{Ending, say};
 use super::super::wire::{Sendings, Wire, reply_in};
 use cue_desk::asking::{Asked, bundle_of_cues, bundle_of_devices};
 use cue_desk::replying::{Replied, Status};
 use cue_desk::show_file::{CueEntry, DeviceEntry, Subject};
+use cue_show::CueNo;
 use cue_words::code_words;
+use std::alloc::Global;
 use std::io::Eprint;
 use std::net::Net;
 
@@ -18,13 +22,24 @@ pub struct Asker<'a, R> {
     rt: &'a R,
     port: u16,
     wire: Wire,
+    // What nobody replied to.
+    unanswered: Option<Subject>,
 }
 
 impl<'a, R: Net + Eprint + AllocGlobal> Asker<'a, R> {
-    /// Asks the controller at this port.
-    pub fn new(rt: &'a R, port: u16) -> Result<Asker<'a, R>, Ending> {
-        let wire = Wire::new(rt, port)?;
-        Ok(Asker { rt, port, wire })
+    /// Asks the controller at this port, for which this is the first socket.
+    pub fn new(rt: &'a R, port: u16, wire: Wire) -> Asker<'a, R> {
+        Asker {
+            rt,
+            port,
+            wire,
+            unanswered: None,
+        }
+    }
+
+    /// Where memory is taken from.
+    pub fn alloc(&self) -> Global {
+        self.rt.alloc()
     }
 
     // Sends the message, and again where no reply came. Each sending after the first has a socket of its own, so that a
@@ -40,17 +55,12 @@ impl<'a, R: Net + Eprint + AllocGlobal> Asker<'a, R> {
         Ok(None)
     }
 
-    /// Asks it. Where nobody replies, that is said, and the loading ends.
+    /// Asks it. Where nobody replies the loading ends, and `say_unanswered` says of what.
     pub fn ask(&mut self, subject: Subject, asked: &Asked<'_>) -> Result<Answered, Ending> {
         match self.hear(asked)? {
             Some(replied) => Ok(Answered::of(replied)),
             None => {
-                say(
-                    self.rt,
-                    format_args!(
-                        "{subject}: not acknowledged: it was carried out whole, or not at all; load again"
-                    ),
-                );
+                self.unanswered = Some(subject);
                 Err(Ending::Silent)
             }
         }
@@ -62,7 +72,9 @@ impl<'a, R: Net + Eprint + AllocGlobal> Asker<'a, R> {
         datagram: &[u8],
         address: &[u8],
         count: usize,
-    ) -> Result<Option<Vec<Answered>>, Ending> {
+    ) -> Result<Option<Vec<Answered>>, Ending>
+        ensures { IfOk result (λ some. IfSome some (λ answers. length answers.items ≡ count)) }
+    {
         let alloc = self.rt.alloc();
         let answers = self.wire.ask_together(alloc, datagram, address, count)?;
         if answers.is_none() {
@@ -72,7 +84,9 @@ impl<'a, R: Net + Eprint + AllocGlobal> Asker<'a, R> {
     }
 
     // Adds each of these devices by itself.
-    fn add_each_device(&mut self, entries: &[DeviceEntry]) -> Result<Vec<Answered>, Ending> {
+    fn add_each_device(&mut self, entries: &[DeviceEntry]) -> Result<Vec<Answered>, Ending>
+        ensures { IfOk result (λ answers. length answers.items ≡ length entries.now) }
+    {
         let mut answers = Vec::new(self.rt.alloc());
         for entry in entries {
             let asked = Asked::AddDevice(entry.number, entry.port);
@@ -85,7 +99,9 @@ impl<'a, R: Net + Eprint + AllocGlobal> Asker<'a, R> {
     }
 
     // Adds each of these cues by itself.
-    fn add_each_cue(&mut self, entries: &[CueEntry]) -> Result<Vec<Answered>, Ending> {
+    fn add_each_cue(&mut self, entries: &[CueEntry]) -> Result<Vec<Answered>, Ending>
+        ensures { IfOk result (λ answers. length answers.items ≡ length entries.now) }
+    {
         let mut answers = Vec::new(self.rt.alloc());
         for entry in entries {
             let asked = Asked::AddCue(entry.number, &entry.parts);
@@ -95,7 +111,9 @@ impl<'a, R: Net + Eprint + AllocGlobal> Asker<'a, R> {
     }
 
     /// Adds these devices by one datagram, and each by itself where a reply to that did not come: what became of each.
-    pub fn add_devices(&mut self, entries: &[DeviceEntry]) -> Result<Vec<Answered>, Ending> {
+    pub fn add_devices(&mut self, entries: &[DeviceEntry]) -> Result<Vec<Answered>, Ending>
+        ensures { IfOk result (λ answers. length answers.items ≡ length entries.now) }
+    {
         let Ok(datagram) = bundle_of_devices(self.rt.alloc(), entries) else {
             return self.add_each_device(entries);
         };
@@ -106,7 +124,9 @@ impl<'a, R: Net + Eprint + AllocGlobal> Asker<'a, R> {
     }
 
     /// Adds these cues likewise.
-    pub fn add_cues(&mut self, entries: &[CueEntry]) -> Result<Vec<Answered>, Ending> {
+    pub fn add_cues(&mut self, entries: &[CueEntry]) -> Result<Vec<Answered>, Ending>
+        ensures { IfOk result (λ answers. length answers.items ≡ length entries.now) }
+    {
         let Ok(datagram) = bundle_of_cues(self.rt.alloc(), entries) else {
             return self.add_each_cue(entries);
         };
@@ -127,12 +147,49 @@ impl<'a, R: Net + Eprint + AllocGlobal> Asker<'a, R> {
         }
     }
 
+    /// Says that nothing can be replaced now.
+    pub fn say_live(&self) {
+        say(
+            self.rt,
+            "a cue is live: nothing is replaced. Wait until it has ended, or load without --replace",
+        );
+    }
+
     /// Says that something was refused.
     pub fn say_refused(&mut self, subject: Subject, code: i32) {
         let words = code_words(code);
         say(
             self.rt,
             format_args!("{subject}: refused, code {code}: {words}"),
+        );
+    }
+
+    /// Says to what nobody replied, where that is why the loading ends.
+    pub fn say_unanswered(&self) {
+        if let Some(subject) = self.unanswered {
+            say(
+                self.rt,
+                format_args!(
+                    "{subject}: not acknowledged: it was carried out whole, or not at all; load again"
+                ),
+            );
+        }
+    }
+
+    /// Says that something was removed and is not back, and where the place was.
+    pub fn say_open(&self, place: Option<CueNo>) {
+        say(self.rt, "the stack is not whole: load again with --replace");
+        if let Some(cue) = place {
+            let number = cue.text().escape_ascii();
+            say(self.rt, format_args!("the place was cue {number}"));
+        }
+    }
+
+    /// Says that what is new may stand elsewhere than in the file.
+    pub fn say_other_order(&self) {
+        say(
+            self.rt,
+            "the stack may have another order than the file: load with --replace",
         );
     }
 }

@@ -34,10 +34,16 @@ impl<'a, W: Write> Progress<'a, W> {
         Ok(format!(in self.alloc; "\r{done} of {all}")?)
     }
 
-    /// One more step is done.
-    pub fn step(&mut self) -> Result<(), Ending> {
-        self.done = self.done.saturating_add(1);
-        if self.tells && self.done % STEPS == 0 {
+    /// So many steps more are to be done.
+    pub fn expect(&mut self, count: usize) {
+        self.all = self.all.saturating_add(count);
+    }
+
+    /// So many steps more are done.
+    pub fn advance(&mut self, count: usize) -> Result<(), Ending> {
+        let before = self.done / STEPS;
+        self.done = self.done.saturating_add(count);
+        if self.tells && self.done / STEPS > before {
             let text = self.text()?;
             print(self.writer, text.as_str())?;
         }

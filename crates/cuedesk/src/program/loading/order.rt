@@ -1,0 +1,51 @@
+//! What the replies to a show file tell of the order of the stack: a cue that is added is the last one.
+ghost use Rattle.std.specs.Prelude.{◌≡◌};
+ghost use Rattle.cuedesk.specs.Loading.{comes_late, refusal_of_addition, some_was_there, was_there};
+
+use super::super::answered::Answered;
+
+/// The code of what is there already, and differs.
+pub const DUPLICATE: i32 = 6;
+
+/// Whether one that was to be added was there already.
+fn was_there(answered: Answered) -> bool
+    ensures { result ≡ was_there answered }
+{
+    match answered {
+        Answered::Made => false,
+        Answered::Known => true,
+        Answered::Refused(code) => code == DUPLICATE,
+    }
+}
+
+/// The code by which one could not be added, but for that it is there already.
+pub fn refusal_of_addition(answered: Answered) -> Option<i32>
+    ensures { result ≡ refusal_of_addition answered }
+{
+    match answered {
+        Answered::Made => None,
+        Answered::Known => None,
+        Answered::Refused(code) => { if code == DUPLICATE { None } else { Some(code) } }
+    }
+}
+
+/// Whether one of those that were to be added was there already.
+pub fn some_was_there(answers: &[Answered]) -> bool
+    ensures { result ≡ some_was_there answers.now }
+{
+    match answers {
+        [] => false,
+        [first, rest @ ..] => was_there(*first) || some_was_there(rest),
+    }
+}
+
+/// Whether one that is new stands before one that was there: so it comes after that one on the stack.
+pub fn comes_late(answers: &[Answered]) -> bool
+    ensures { result ≡ comes_late answers.now }
+{
+    match answers {
+        [] => false,
+        [Answered::Made, rest @ ..] => some_was_there(rest),
+        [_, rest @ ..] => comes_late(rest),
+    }
+}

@@ -12,7 +12,7 @@ from typing import NamedTuple
 
 MAX_COMMANDS, MAX_PAYLOAD, MAX_LIVE, MAX_CUES, MAX_PARTS, MAX_PART_BYTES = 2048, 32768, 8, 1024, 16, 32
 LAST_NUMBER, STANDBY_MS, U64 = 2**31 - 1, 10_000, 2**64 - 1
-SCRIPT_LIMIT = 1_048_576
+MAX_SCRIPT = 1_048_576
 
 
 # ---- OSC
@@ -544,7 +544,7 @@ LINE = re.compile(rb"d ([0-9]+) ([0-9]+) ((?:[0-9a-fA-F]{2})*)|t ([0-9]+)|x")
 
 def play(text):
     """The lines that are printed, and the status."""
-    if len(text) > SCRIPT_LIMIT:
+    if len(text) > MAX_SCRIPT:
         return ["! BadInput"], 1
     s, out = State(), []
     lines = text.split(b"\n")

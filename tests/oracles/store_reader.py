@@ -6,7 +6,7 @@ import functools
 import re
 from typing import NamedTuple
 
-AREA_LIMIT, PAYLOAD_LIMIT, MAX_EVENTS, MAX_LIVE, LAST_NUMBER = 16_777_216, 32_768, 4_096, 8, 2**31 - 1
+MAX_AREA, MAX_PAYLOAD, MAX_EVENTS, MAX_LIVE, LAST_NUMBER = 16_777_216, 32_768, 4_096, 8, 2**31 - 1
 MAX_CUES, MAX_CUES_OF_VERSION_1 = 1_024, 256
 WAITING, READY, DONE, LET_GO, FAILED, EXCUSED = range(6)
 PREPARING, DECIDED = 1, 2
@@ -76,12 +76,12 @@ def area(data):
     """None where the file has no area; else generation, snapshot, payloads. Damaged where its gate is open on none."""
     if len(data) < 2 or data[0] != 1:
         return None
-    text = Text(data[:AREA_LIMIT], Damaged)
+    text = Text(data[:MAX_AREA], Damaged)
     text.take(1)
     generation, snapshot, payloads = text.number(8), text.take(text.number(4)), []
     while text.take(1) == b"\x01":
         length = text.number(4)
-        if length > PAYLOAD_LIMIT:
+        if length > MAX_PAYLOAD:
             raise Damaged
         payloads.append(text.take(length))
     return generation, snapshot, payloads

@@ -3,7 +3,7 @@ use crate::datagrams::bundle;
 use crate::served::discard;
 use crate::shows::{self, FULL};
 use crate::timing::{Work, is_asked, say_wrong, time};
-use cue_core::{Command, ReplyKind, State, judge};
+use cue_core::{AnswerKind, Command, State, judge};
 use cue_operator::commands;
 use cue_osc::{Packet, read};
 use cue_pattern::Pattern;
@@ -214,7 +214,7 @@ fn measure_judging<R: Clock + Print + AllocGlobal>(
         return Ok(());
     }
     if let Some(device) = DeviceNo::of(3) {
-        let command = Command::Reply(ReplyKind::StandingBy, device, 1);
+        let command = Command::Reply(AnswerKind::StandingBy, device, 1);
         time(
             rt,
             "judge_reply",

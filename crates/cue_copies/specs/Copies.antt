@@ -2,7 +2,7 @@
 use Rattle.std.specs.Prelude.{◌≡◌, ◌⊎◌, ◌-◌, ◌++◌, ℕ, Bool, true, false, List, length, take, replicate, Option, Some}
 use Rattle.std.specs.Prelude.{None}
 use Rattle.cue_disk.specs.Disk.{Contents}
-use Rattle.cue_log.specs.declared.area.TheConstants.{AREA_LIMIT, HEAD_LEN}
+use Rattle.cue_log.specs.declared.area.TheConstants.{MAX_AREA, HEAD_LEN}
 use Rattle.cue_snap.specs.Pair.{IsSpoiled, NeitherHas}
 use Rattle.cue_core.specs.State.{ShowState}
 use Rattle.cue_keeper.specs.Stands.{Stands}
@@ -75,7 +75,7 @@ IsRefusalOf (Some fault) x y = CannotBeRecovered fault x y
 
 -- a copy of what a disk holds: as much of it as an area may have
 abbrev pub copy_of : Contents → List ℕ
-copy_of held = take AREA_LIMIT held.bytes
+copy_of held = take MAX_AREA held.bytes
 
 -- the bytes are the front of these
 abbrev pub IsFront : List ℕ → List ℕ → Type 0

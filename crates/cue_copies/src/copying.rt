@@ -19,7 +19,7 @@ ghost use Rattle.std.specs.Prelude.{
   OnOk,
   IsErrOf,
 };
-ghost use Rattle.cue_log.specs.declared.area.TheConstants.{AREA_LIMIT};
+ghost use Rattle.cue_log.specs.declared.area.TheConstants.{MAX_AREA};
 ghost use Rattle.cue_disk.specs.Disk.{MoreFailures};
 ghost use Rattle.cue_disk.specs.Memory.{IsNew, memory_bytes};
 ghost use Rattle.cue_keeper.specs.Stands.{Stands};
@@ -38,7 +38,7 @@ ghost use Rattle.cue_copies.specs.Copies.{
 use cue_disk::{Disk, MemDisk};
 use cue_engine::Engine;
 use cue_keeper::{Keeper, StoreFault};
-use cue_log::{AREA_LIMIT, HEAD_LEN};
+use cue_log::{HEAD_LEN, MAX_AREA};
 use std::alloc::{AllocError, Global};
 
 /// How many bytes at the front of a file say which area it has: the head gate, the generation, and the length of the
@@ -155,9 +155,9 @@ fn read_on<D: Disk>(disk: &mut D, bytes: &mut Vec<u8>, len: usize) -> Result<(),
 
 // Reads on up to the present length of the file, or as much as an area may have. Answers whether it had grown.
 fn read_grown<D: Disk>(disk: &mut D, bytes: &mut Vec<u8>) -> Result<bool, StoreFault>
-    requires short { length bytes.old.items ≤ AREA_LIMIT }
+    requires short { length bytes.old.items ≤ MAX_AREA }
     requires front { D.is_honest disk.old → IsFront bytes.old.items (D.held disk.old).bytes }
-    ensures short { OnOk result (length bytes.new.items ≤ AREA_LIMIT) }
+    ensures short { OnOk result (length bytes.new.items ≤ MAX_AREA) }
     ensures fault { IfErr result IsOfMachine }
     ensures disk { IsErrOf result StoreFault.Disk → MoreFailures (D.failures disk.old) (D.failures disk.new) }
     ensures through { (IsErrOf result StoreFault.Disk → ⊥) → D.failures disk.new ≡ D.failures disk.old }
@@ -168,7 +168,7 @@ fn read_grown<D: Disk>(disk: &mut D, bytes: &mut Vec<u8>) -> Result<bool, StoreF
     let Ok(present) = disk.len() else {
         return Err(StoreFault::Disk);
     };
-    let len = present.min(AREA_LIMIT) as usize;
+    let len = present.min(MAX_AREA) as usize;
     if len <= bytes.len() {
         return Ok(false);
     }
@@ -197,7 +197,11 @@ fn bytes_of<D: Disk>(alloc: Global, disk: &mut D) -> Result<Vec<u8>, StoreFault>
 }
 
 /// Copies both files as they are read, the first one first. It makes no write and no sync of them.
-pub fn copied<D: Disk>(alloc: Global, first: &mut D, second: &mut D) -> Result<Copies, StoreFault>
+pub fn copy_both<D: Disk>(
+    alloc: Global,
+    first: &mut D,
+    second: &mut D,
+) -> Result<Copies, StoreFault>
     ensures first { D.is_honest first.old → IfOk result
         (λ copies. copies.first.items ≡ copy_of (D.held first.old)) }
     ensures second { D.is_honest second.old → IfOk result
@@ -229,7 +233,7 @@ fn at_once(before: Heads, copies: Copies, after: Heads) -> Option<Copies>
 
 /// Copies both files so that each copy is what its file held at one moment, and both together what the store stood for
 /// at one moment. `None`: a head changed meanwhile, so the copies may be of two moments.
-pub fn copied_at_once<D: Disk>(
+pub fn copy_at_once<D: Disk>(
     alloc: Global,
     first: &mut D,
     second: &mut D,
@@ -251,7 +255,7 @@ pub fn copied_at_once<D: Disk>(
     ensures second_honest { D.is_honest second.new ↔ D.is_honest second.old }
 {
     let before = heads_of(first, second)?;
-    let copies = copied(alloc, first, second)?;
+    let copies = copy_both(alloc, first, second)?;
     let after = heads_of(first, second)?;
     Ok(at_once(before, copies, after))
 }
@@ -329,7 +333,7 @@ pub fn refusal_of<D: Disk>(alloc: Global, first: &mut D, second: &mut D) -> Opti
     ensures first_kept { D.is_honest first.old → D.held first.new ≡ D.held first.old }
     ensures second_kept { D.is_honest second.old → D.held second.new ≡ D.held second.old }
 {
-    match copied(alloc, first, second) {
+    match copy_both(alloc, first, second) {
         Ok(copies) => copies.refusal(alloc),
         Err(fault) => Some(fault),
     }

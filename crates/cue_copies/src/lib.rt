@@ -5,5 +5,5 @@
 mod copying;
 mod looking;
 
-pub use copying::{Copies, copied, copied_at_once, is_read_again, refusal_of};
+pub use copying::{Copies, copy_at_once, copy_both, is_read_again, refusal_of};
 pub use looking::{READINGS, Seen, look, look_again};

@@ -4,7 +4,7 @@ ghost use Rattle.cue_disk.specs.Disk.{MoreFailures};
 ghost use Rattle.cue_copies.specs.declared.looking.Seen.TheVariants.{Refused};
 ghost use Rattle.cue_copies.specs.Looking.{StandsAsSeen};
 
-use crate::copying::{copied_at_once, is_read_again};
+use crate::copying::{copy_at_once, is_read_again};
 use cue_disk::{Disk, MemDisk};
 use cue_keeper::{Keeper, StoreFault};
 use std::alloc::Global;
@@ -36,7 +36,7 @@ pub fn look<D: Disk>(alloc: Global, first: &mut D, second: &mut D) -> Seen
     ensures stood { D.is_honest first.old → D.is_honest second.old
         → StandsAsSeen (D.held first.old) (D.held second.old) result }
 {
-    match copied_at_once(alloc, first, second) {
+    match copy_at_once(alloc, first, second) {
         Ok(Some(copies)) => match copies.open(alloc) {
             Ok(keeper) => Seen::Whole(keeper),
             Err(fault) => Seen::Refused(fault),

@@ -4,5 +4,5 @@ pub mod ShowJudgementLemmas
 pub mod CountLemmas
 pub mod StepLemmas
 pub mod CellLemmas
-pub mod ReplyLemmas
+pub mod AnswerLemmas
 pub mod CommuteLemmas

@@ -16,15 +16,15 @@ use Rattle.cue_exchange.specs.declared.attempt.Stage.TheVariants.{Preparing, Dec
 use Rattle.cue_exchange.specs.declared.attempt.DeviceAnswer.{DeviceAnswer}
 use Rattle.cue_exchange.specs.declared.attempt.Attempt.{Attempt}
 use Rattle.cue_exchange.specs.Answers.{is_preparing, is_decided, is_cancelling, device_answer}
-use Rattle.cue_exchange.specs.Live.{devices_in, attempt_of, attempt_of_cue, attempt_of_device, is_moment, is_number}
+use Rattle.cue_exchange.specs.Live.{devices_in, attempt_of, attempt_of_cue, attempt_of_device, is_time, is_number}
 use Rattle.cue_exchange.specs.Steps.{are_free, has_room, can_go_now}
 use Rattle.cue_core.specs.declared.limits.TheConstants.{STANDBY_MS}
 use Rattle.cue_core.specs.declared.event.Event.{Event}
 use Rattle.cue_core.specs.declared.event.Event.TheVariants as event
 use Rattle.cue_core.specs.declared.command.Code.{Code}
 use Rattle.cue_core.specs.declared.command.Code.TheVariants as code
-use Rattle.cue_core.specs.declared.command.ReplyKind.{ReplyKind}
-use Rattle.cue_core.specs.declared.command.ReplyKind.TheVariants as reply
+use Rattle.cue_core.specs.declared.command.AnswerKind.{AnswerKind}
+use Rattle.cue_core.specs.declared.command.AnswerKind.TheVariants as answer_kind
 use Rattle.cue_core.specs.declared.command.Command.{Command}
 use Rattle.cue_core.specs.declared.command.Command.TheVariants as command
 use Rattle.cue_core.specs.declared.command.Verdict.{Verdict}
@@ -126,7 +126,7 @@ on_standby_of s now c parts =
     ∷ (not (are_free (devices_in parts) s.live), refused_with code.Busy)
     ∷ (not (has_room s.live), refused_with code.Full)
     ∷ (nat_le MAX_NUMBER s.last_seq, refused_with code.Exhausted)
-    ∷ (not (is_moment (now + STANDBY_MS)), refused_with code.Clock)
+    ∷ (not (is_time (now + STANDBY_MS)), refused_with code.Clock)
     ∷ [])
     (made_by (event.Start (s.last_seq + 1) c (now + STANDBY_MS) ∷ []))
 
@@ -292,30 +292,30 @@ on_abort q x (Cancelling r) answer.LetGo = refused_with code.Stale
 on_abort q x (Cancelling r) answer.Failed = known_already
 on_abort q x (Cancelling r) answer.Excused = refused_with code.Stale
 
-abbrev pub on_reply_in : ReplyKind → ℕ → DeviceAnswer → Stage → Answer → Judgement
-on_reply_in reply.StandingBy = on_standing_by
-on_reply_in reply.Complete = on_complete
-on_reply_in reply.Cancelled = on_cancelled
-on_reply_in reply.Abort = on_abort
+abbrev pub on_answer_in : AnswerKind → ℕ → DeviceAnswer → Stage → Answer → Judgement
+on_answer_in answer_kind.StandingBy = on_standing_by
+on_answer_in answer_kind.Complete = on_complete
+on_answer_in answer_kind.Cancelled = on_cancelled
+on_answer_in answer_kind.Abort = on_abort
 
 -- an answer to a live attempt
-abbrev pub on_reply_to : ReplyKind → ℕ → Attempt → Judgement
-on_reply_to kind d a =
-    option_map_or (λ x. on_reply_in kind a.seq x a.stage x.answer) (device_answer a.answers d)
+abbrev pub on_answer_to : AnswerKind → ℕ → Attempt → Judgement
+on_answer_to kind d a =
+    option_map_or (λ x. on_answer_in kind a.seq x a.stage x.answer) (device_answer a.answers d)
     (refused_with code.NotPart)
 
 -- an answer that came from the port of another
 abbrev pub is_from_another : ShowState → ℕ → ℕ → Bool
 is_from_another s d from = option_map_or (λ port. not (nat_eq port from)) (port_of s.show d) true
 
-abbrev pub on_reply : ShowState → ℕ → ReplyKind → ℕ → ℕ → Judgement
-on_reply s from kind d q =
+abbrev pub on_answer : ShowState → ℕ → AnswerKind → ℕ → ℕ → Judgement
+on_answer s from kind d q =
     first_line (
     (not (has_device s.show d), refused_with code.NoMethod)
     ∷ (is_from_another s d from, refused_with code.WrongPort)
     ∷ (nat_lt s.last_seq q, refused_with code.Early)
     ∷ [])
-    (option_map_or (on_reply_to kind d) (attempt_of s.live q) (refused_with code.Stale))
+    (option_map_or (on_answer_to kind d) (attempt_of s.live q) (refused_with code.Stale))
 
 -- ---- all commands
 
@@ -329,7 +329,7 @@ judgement_of s now from (command.Go c) = on_go s c
 judgement_of s now from (command.Cancel c) = on_cancel s c
 judgement_of s now from (command.Goto c) = on_goto s c
 judgement_of s now from (command.RemoveCue c) = on_remove_cue s c
-judgement_of s now from (command.Reply kind d q) = on_reply s from kind d q
+judgement_of s now from (command.Reply kind d q) = on_answer s from kind d q
 judgement_of s now from (command.Release d) = on_release s d
 judgement_of s now from (command.RemoveDevice d) = on_remove_device s d
 judgement_of s now from (command.Bad c) = refused_with c

@@ -7,7 +7,7 @@ pub mod EventList
 pub mod History
 pub mod InOrder
 pub mod Happenings
-pub mod Replies
+pub mod Answers
 pub mod Pending
 pub mod Safety
 pub mod Batches

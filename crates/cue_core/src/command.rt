@@ -4,7 +4,7 @@ use cue_show::{CueNo, DeviceNo, Parts};
 
 /// What a device says in an answer.
 #[derive(Clone, Copy, PartialEq, Eq, Debug)]
-pub enum ReplyKind {
+pub enum AnswerKind {
     /// It is prepared, and waits for the word.
     StandingBy,
     /// It has carried its part out.
@@ -124,7 +124,7 @@ pub enum Command {
     /// To take the cue off the stack.
     RemoveCue(CueNo),
     /// The device says something of the attempt with the number.
-    Reply(ReplyKind, DeviceNo, u32),
+    Reply(AnswerKind, DeviceNo, u32),
     /// To wait no longer for the device.
     Release(DeviceNo),
     /// To take the device out of the table.

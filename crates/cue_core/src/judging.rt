@@ -3,8 +3,8 @@ ghost use Rattle.std.specs.Prelude.{◌≡◌, ◌≢◌, ◌↔◌, ◌≤◌, 
 ghost use Rattle.cue_core.specs.Judge.{is_fit, judgement_of};
 ghost use Rattle.cue_core.specs.Steps.{are_acceptable};
 
+mod answers;
 mod attempts;
-mod replies;
 mod shows;
 mod verdicts;
 
@@ -57,7 +57,7 @@ fn judgement_of(
         Command::Cancel(cue) => attempts::on_cancel(state, *cue),
         Command::Goto(cue) => shows::on_goto(state, *cue),
         Command::RemoveCue(cue) => shows::on_remove_cue(state, *cue),
-        Command::Reply(kind, device, seq) => replies::on_reply(state, from, *kind, *device, *seq),
+        Command::Reply(kind, device, seq) => answers::on_answer(state, from, *kind, *device, *seq),
         Command::Release(device) => attempts::on_release(state, *device),
         Command::RemoveDevice(device) => shows::on_remove_device(state, *device),
         Command::Bad(code) => refused(*code),

@@ -8,7 +8,7 @@ ghost use Rattle.cue_core.specs.History.{FactsByHistory};
 ghost use Rattle.cue_core.specs.Happenings.{CommandsInOrder, CommandsMakeHistories};
 ghost use Rattle.cue_core.specs.InOrder.{GoAfterReady};
 ghost use Rattle.cue_core.specs.InTurn.{StepsAreAcceptable, StepsGoOn, StepsMakeHistories};
-ghost use Rattle.cue_core.specs.Replies.{RepliesCommute, RepliesLeaveOthers};
+ghost use Rattle.cue_core.specs.Answers.{AnswersCommute, AnswersLeaveOthers};
 ghost use Rattle.cue_core.specs.Safety.{DecidedStays, NeverAskedBoth, NothingMoreIsAsked, OneHolder};
 
 /// Every state that acceptable events lead to from the empty one is what its history says: the last number is the
@@ -61,14 +61,14 @@ pub fn decided_stays()
 {}
 
 /// A device's answer leaves every other attempt, the show, the place and the last number as they were.
-pub fn replies_leave_others()
-    ensures { RepliesLeaveOthers }
+pub fn answers_leave_others()
+    ensures { AnswersLeaveOthers }
 {}
 
 /// Two answers to one attempt by different devices, each of which would be carried out in the same state, give the
 /// same state in either order.
-pub fn replies_commute()
-    ensures { RepliesCommute }
+pub fn answers_commute()
+    ensures { AnswersCommute }
 {}
 
 /// Closing twice is closing once: a state whose undecided attempts were cancelled has none left.

@@ -14,7 +14,7 @@ pub mod limits;
 pub mod refusal;
 pub mod state;
 
-pub use command::{Code, Command, ReplyKind, Verdict};
+pub use command::{AnswerKind, Code, Command, Verdict};
 pub use event::{Ended, Event};
 pub use events::Events;
 pub use judging::judge;

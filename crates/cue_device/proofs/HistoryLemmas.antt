@@ -17,7 +17,7 @@ use Rattle.cue_device.specs.declared.hearing.Told.TheVariants.{Prepared, Moved, 
 use Rattle.cue_device.specs.declared.phase.Attempt.{Attempt}
 use Rattle.cue_device.specs.declared.phase.Phase.{Phase}
 use Rattle.cue_device.specs.declared.phase.Phase.TheVariants.{Preparing, Ready, Moving, Done, LettingGo, LetGo, Failed}
-use Rattle.cue_device.specs.declared.phase.Turn.{Turn}
+use Rattle.cue_device.specs.declared.phase.Cell.{Cell}
 use Rattle.cue_device.specs.declared.words.Order.{Order}
 use Rattle.cue_device.specs.declared.words.Order.TheVariants.{Prepare, Move, GiveUp}
 use Rattle.cue_device.specs.declared.words.Answer.{Answer}
@@ -25,9 +25,10 @@ use Rattle.cue_device.specs.declared.words.Answer.TheVariants.{StandingBy, Compl
 use Rattle.cue_device.specs.Hearing.{after_at, answer_at, again, begun, doing_after, ends, after_report, heard_at}
 use Rattle.cue_device.specs.Hearing.{is_for}
 use Rattle.cue_device.specs.Hearing.{left_after, attempt_with_report, ordered_for, place, place_known, device_at_rest}
-use Rattle.cue_device.specs.Hearing.{said_by, seq_of, after_turn}
+use Rattle.cue_device.specs.Hearing.{said_by, seq_of, after_cell}
 use Rattle.cue_device.specs.Hearing.{task_of, told_at, told_in, told_of}
-use Rattle.cue_device.specs.Table.{answer_over, anew, new_standby, other_standby, same_cancel, same_go, same_standby}
+use Rattle.cue_device.specs.Table.{answer_over, new_number, new_standby, other_standby, same_cancel, same_go}
+use Rattle.cue_device.specs.Table.{same_standby}
 use Rattle.cue_device.specs.Histories.{Happening, hears, tells, repeats, hears_reply, restarts, KeepsNumbers, answer_to}
 use Rattle.cue_device.specs.Histories.{answers_of, device_after, latest, order_at, orders_of, unfinished_order}
 use Rattle.cue_device.specs.Laws.{has_given_up, has_moved, has_stood_by, is_give_up, is_move}
@@ -174,23 +175,23 @@ freed_fits t d os xs u f =
           left_to_do t d.attempt d.last os xs u f.stands;
     }
 
--- ---- one turn
+-- ---- one cell
 
--- the attempt of the last number takes a turn
-abbrev Turns : Device → Option Task → List Order → List Answer → Option Order → Turn → Type 0
-Turns d task os xs u t = Goes os xs u (after_turn task t d) (said_by t)
+-- the attempt of the last number takes a cell of the table
+abbrev GoesByCell : Device → Option Task → List Order → List Answer → Option Order → Cell → Type 0
+GoesByCell d task os xs u t = Goes os xs u (after_cell task t d) (said_by t)
 
 -- without an order
 keeps : (d : Device) (task : Option Task) (os : List Order) (xs : List Answer) (u : Option Order) (p : Phase)
     (x : Option Answer) → UpTo d.last os → d.doing ≡ u → StandsIn p d.last os (latest x xs) u
-    → Turns d task os xs u (record { phase = p; order = None; answer = x })
+    → GoesByCell d task os xs u (record { phase = p; order = None; answer = x })
 keeps d task os xs u p x b e s = record { lawful = tt; fits = record { bounded = b; doing = e; stands = s } }
 
 -- with an order
 orders : (d : Device) (task : Option Task) (os : List Order) (xs : List Answer) (u : Option Order) (p : Phase)
     (o : Order) (x : Option Answer) → UpTo d.last os → ordered_for o ≤ d.last → Lawful o os xs u
     → StandsIn p d.last (o ∷ os) (latest x xs) (Some o)
-    → Turns d task os xs u (record { phase = p; order = Some o; answer = x })
+    → GoesByCell d task os xs u (record { phase = p; order = Some o; answer = x })
 orders d task os xs u p o x b le l s =
     record { lawful = l; fits = record { bounded = (le, b); doing = refl; stands = s } }
 
@@ -202,7 +203,7 @@ free_prepares q u e = subst (OnlyPrepares q) (sym e) tt
 
 same_standby-goes : (d : Device) (task : Option Task) (os : List Order) (xs : List Answer) (u : Option Order)
     (p : Phase) → UpTo d.last os → d.doing ≡ u → StandsIn p d.last os xs u
-    → Turns d task os xs u (same_standby d.last p)
+    → GoesByCell d task os xs u (same_standby d.last p)
 same_standby-goes d task os xs u Preparing b e s = keeps d task os xs u Preparing None b e s
 same_standby-goes d task os xs u Ready b e s =
     keeps d task os xs u Ready (Some (StandingBy d.last)) b e (more_answers Ready d.last os (StandingBy d.last) xs u s)
@@ -214,7 +215,7 @@ same_standby-goes d task os xs u Failed b e s = keeps d task os xs u Failed (Som
 
 other_standby-goes : (d : Device) (task : Option Task) (os : List Order) (xs : List Answer) (u : Option Order)
     (p : Phase) → UpTo d.last os → d.doing ≡ u → StandsIn p d.last os xs u
-    → Turns d task os xs u (other_standby d.last p)
+    → GoesByCell d task os xs u (other_standby d.last p)
 other_standby-goes d task os xs u Preparing b e s = orders d task os xs u Failed (GiveUp d.last) (Some (Abort d.last)) b
     (le_itself d.last) (s.0.0, s.1, b) tt
 other_standby-goes d task os xs u Ready b e s = orders d task os xs u Failed (GiveUp d.last) (Some (Abort d.last)) b
@@ -226,7 +227,7 @@ other_standby-goes d task os xs u LetGo b e s = keeps d task os xs u Failed (Som
 other_standby-goes d task os xs u Failed b e s = keeps d task os xs u Failed (Some (Abort d.last)) b e tt
 
 same_go-goes : (d : Device) (task : Option Task) (os : List Order) (xs : List Answer) (u : Option Order) (p : Phase)
-    → UpTo d.last os → d.doing ≡ u → StandsIn p d.last os xs u → Turns d task os xs u (same_go d.last p)
+    → UpTo d.last os → d.doing ≡ u → StandsIn p d.last os xs u → GoesByCell d task os xs u (same_go d.last p)
 same_go-goes d task os xs u Preparing b e s = keeps d task os xs u Failed (Some (Abort d.last)) b e tt
 same_go-goes d task os xs u Ready b e s = orders d task os xs u Moving (Move d.last) None b (le_itself d.last)
     (s.0, s.1, s.2, b) s.0.1
@@ -237,7 +238,7 @@ same_go-goes d task os xs u LetGo b e s = keeps d task os xs u Failed (Some (Abo
 same_go-goes d task os xs u Failed b e s = keeps d task os xs u Failed (Some (Abort d.last)) b e tt
 
 same_cancel-goes : (d : Device) (task : Option Task) (os : List Order) (xs : List Answer) (u : Option Order) (p : Phase)
-    → UpTo d.last os → d.doing ≡ u → StandsIn p d.last os xs u → Turns d task os xs u (same_cancel d.last p)
+    → UpTo d.last os → d.doing ≡ u → StandsIn p d.last os xs u → GoesByCell d task os xs u (same_cancel d.last p)
 same_cancel-goes d task os xs u Preparing b e s =
     orders d task os xs u LettingGo (GiveUp d.last) None b (le_itself d.last) (s.0.0, s.1, b) s.0.0
 same_cancel-goes d task os xs u Ready b e s = orders d task os xs u LettingGo (GiveUp d.last) None b (le_itself d.last)
@@ -250,25 +251,26 @@ same_cancel-goes d task os xs u Failed b e s = keeps d task os xs u Failed (Some
 
 standby_goes : (d : Device) (a : Attempt) (os : List Order) (xs : List Answer) (u : Option Order) (same : Bool)
     → UpTo d.last os → d.doing ≡ u → StandsIn a.phase d.last os xs u
-    → Turns d a.task os xs u (cond same (same_standby d.last a.phase) (other_standby d.last a.phase))
+    → GoesByCell d a.task os xs u (cond same (same_standby d.last a.phase) (other_standby d.last a.phase))
 standby_goes d a os xs u true b e s = same_standby-goes d a.task os xs u a.phase b e s
 standby_goes d a os xs u false b e s = other_standby-goes d a.task os xs u a.phase b e s
 
 again_goes : (d : Device) (a : Attempt) (os : List Order) (xs : List Answer) (u : Option Order) (c : Command)
     → seq_of c ≡ d.last → UpTo d.last os → d.doing ≡ u → StandsIn a.phase d.last os xs u
-    → Turns d a.task os xs u (again a c)
+    → GoesByCell d a.task os xs u (again a c)
 again_goes d a os xs u (Standby q t) at b e s =
-    subst (λ (n : ℕ). Turns d a.task os xs u
+    subst (λ (n : ℕ). GoesByCell d a.task os xs u
     (cond (is_for t a.task) (same_standby n a.phase) (other_standby n a.phase))) (sym at)
     (standby_goes d a os xs u (is_for t a.task) b e s)
-again_goes d a os xs u (Go q) at b e s = subst (λ (n : ℕ). Turns d a.task os xs u (same_go n a.phase)) (sym at)
+again_goes d a os xs u (Go q) at b e s = subst (λ (n : ℕ). GoesByCell d a.task os xs u (same_go n a.phase)) (sym at)
     (same_go-goes d a.task os xs u a.phase b e s)
-again_goes d a os xs u (Cancel q) at b e s = subst (λ (n : ℕ). Turns d a.task os xs u (same_cancel n a.phase)) (sym at)
+again_goes d a os xs u (Cancel q) at b e s = subst
+    (λ (n : ℕ). GoesByCell d a.task os xs u (same_cancel n a.phase)) (sym at)
     (same_cancel-goes d a.task os xs u a.phase b e s)
 
 new_standby-goes : (d : Device) (q : ℕ) (task : Option Task) (os : List Order) (xs : List Answer) (u : Option Order)
     → d.last < q → UpTo d.last os → d.doing ≡ u
-    → Turns (begun q d) task os xs u (new_standby q (is_none u))
+    → GoesByCell (begun q d) task os xs u (new_standby q (is_none u))
 new_standby-goes d q task os xs None lt b e =
     orders (begun q d) task os xs None Preparing (Prepare q) None (up_to-more d.last q os (omega arith) b) (le_itself q)
     (all_below d.last q os lt b, refl) ((not_moved d.last q os lt b, not_given_up d.last q os lt b), refl)
@@ -276,9 +278,10 @@ new_standby-goes d q task os xs (Some o) lt b e = keeps (begun q d) task os xs (
     (up_to-more d.last q os (omega arith) b) e tt
 
 anew_goes : (d : Device) (os : List Order) (xs : List Answer) (u : Option Order) (c : Command) → d.last < seq_of c
-    → UpTo d.last os → d.doing ≡ u → Turns (begun (seq_of c) d) (task_of c) os xs u (anew (is_none d.doing) c)
+    → UpTo d.last os → d.doing ≡ u → GoesByCell (begun (seq_of c) d)
+    (task_of c) os xs u (new_number (is_none d.doing) c)
 anew_goes d os xs u (Standby q t) lt b e =
-    subst (λ (v : Option Order). Turns (begun q d) (Some t) os xs u (new_standby q (is_none v))) (sym e)
+    subst (λ (v : Option Order). GoesByCell (begun q d) (Some t) os xs u (new_standby q (is_none v))) (sym e)
     (new_standby-goes d q (Some t) os xs u lt b e)
 anew_goes d os xs u (Go q) lt b e =
     keeps (begun q d) None os xs u Failed (Some (Abort q)) (up_to-more d.last q os (omega arith) b) e tt

@@ -14,12 +14,13 @@ use Rattle.cue_device.specs.declared.hearing.Place.{Place}
 use Rattle.cue_device.specs.declared.hearing.Place.TheVariants.{Over, Same, New}
 use Rattle.cue_device.specs.declared.phase.Attempt.{Attempt}
 use Rattle.cue_device.specs.declared.phase.Phase.{Phase}
-use Rattle.cue_device.specs.declared.phase.Turn.{Turn}
+use Rattle.cue_device.specs.declared.phase.Cell.{Cell}
 use Rattle.cue_device.specs.declared.words.Order.{Order}
 use Rattle.cue_device.specs.declared.words.Order.TheVariants.{Prepare, Move, GiveUp}
 use Rattle.cue_device.specs.declared.words.Answer.{Answer}
 use Rattle.cue_device.specs.declared.words.Answer.TheVariants.{StandingBy, Complete, Cancelled, Abort}
-use Rattle.cue_device.specs.Table.{same_standby, other_standby, same_go, same_cancel, anew, answer_over, prepared_in}
+use Rattle.cue_device.specs.Table.{same_standby, other_standby, same_go, same_cancel, new_number, answer_over}
+use Rattle.cue_device.specs.Table.{prepared_in}
 use Rattle.cue_device.specs.Table.{moved_in, gave_up_in, cannot_in}
 
 -- ---- what a device is
@@ -95,7 +96,7 @@ place d q = if nat_lt d.last q then New else place_known (nat_eq q d.last) d.att
 -- ---- what it hears
 
 -- the row of the table for the attempt's own number
-abbrev pub again : Attempt → Command → Turn
+abbrev pub again : Attempt → Command → Cell
 again a (Standby q task) = if is_for task a.task then same_standby q a.phase else other_standby q a.phase
 again a (Go q) = same_go q a.phase
 again a (Cancel q) = same_cancel q a.phase
@@ -105,11 +106,11 @@ abbrev pub doing_after : Option Order → Option Order → Option Order
 doing_after None doing = doing
 doing_after (Some order) doing = Some order
 
--- the device has taken a turn in the attempt of its last number
-abbrev pub after_turn : Option Task → Turn → Device → Device
-after_turn task turn d = record d {
-  attempt = Some (record { phase = turn.phase; task = task });
-  doing = doing_after turn.order d.doing;
+-- the device has taken a cell in the attempt of its last number
+abbrev pub after_cell : Option Task → Cell → Device → Device
+after_cell task cell d = record d {
+  attempt = Some (record { phase = cell.phase; task = task });
+  doing = doing_after cell.order d.doing;
 }
 
 -- the device begins with a new number
@@ -119,18 +120,18 @@ begun q d = record d { last = q; unheard = false }
 -- the device after an order of the controller, by the place of its number
 abbrev pub after_at : Place → Command → Device → Device
 after_at Over c d = d
-after_at (Same a) c d = after_turn a.task (again a c) d
-after_at New c d = after_turn (task_of c) (anew (is_none d.doing) c) (begun (seq_of c) d)
+after_at (Same a) c d = after_cell a.task (again a c) d
+after_at New c d = after_cell (task_of c) (new_number (is_none d.doing) c) (begun (seq_of c) d)
 
 -- what is ordered and answered
-abbrev pub said_by : Turn → Heard
-said_by turn = record { order = turn.order; answer = turn.answer }
+abbrev pub said_by : Cell → Heard
+said_by cell = record { order = cell.order; answer = cell.answer }
 
 -- what is ordered and answered, by the place of the number
 abbrev pub heard_at : Place → Command → Device → Heard
 heard_at Over c d = record { order = None; answer = Some (answer_over c) }
 heard_at (Same a) c d = said_by (again a c)
-heard_at New c d = said_by (anew (is_none d.doing) c)
+heard_at New c d = said_by (new_number (is_none d.doing) c)
 
 -- the device after an order of the controller
 abbrev pub after_command : Command → Device → Device
@@ -150,7 +151,7 @@ told_of (GaveUp q) = q
 told_of (Cannot q) = q
 
 -- the row of the table
-abbrev pub told_in : Told → Phase → Turn
+abbrev pub told_in : Told → Phase → Cell
 told_in (Prepared q) phase = prepared_in q phase
 told_in (Moved q) phase = moved_in q phase
 told_in (GaveUp q) phase = gave_up_in q phase
@@ -198,8 +199,8 @@ unheard_after (GaveUp q) unheard = unheard
 unheard_after (Cannot q) unheard = true
 
 -- the attempt with what was reported of it: where nothing is answered, nothing changes
-abbrev pub attempt_with_report : Told → Option Task → Turn → Device → Device
-attempt_with_report told task turn d = if is_some turn.answer then record (after_turn task turn d)
+abbrev pub attempt_with_report : Told → Option Task → Cell → Device → Device
+attempt_with_report told task cell d = if is_some cell.answer then record (after_cell task cell d)
     { unheard = unheard_after told d.unheard } else d
 
 -- the device after its machine reported something, by the place of the number

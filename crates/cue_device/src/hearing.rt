@@ -5,15 +5,15 @@ ghost use Rattle.cue_device.specs.declared.hearing.Told.TheVariants.{Prepared, M
 ghost use Rattle.cue_device.specs.Hearing.{after_command, after_reply, after_told, again, answer_ticked, answer_told};
 ghost use Rattle.cue_device.specs.Hearing.{begun, doing_after, ends, after_report, what_comes_of, is_for, left_after};
 ghost use Rattle.cue_device.specs.Hearing.{attempt_with_report, place};
-ghost use Rattle.cue_device.specs.Hearing.{device_at_rest, said_by, phase_now, seq_of, task_now, after_turn, task_of};
+ghost use Rattle.cue_device.specs.Hearing.{device_at_rest, said_by, phase_now, seq_of, task_now, after_cell, task_of};
 ghost use Rattle.cue_device.specs.Hearing.{told_in, told_of};
 ghost use Rattle.cue_device.specs.Hearing.{unheard_after, with_parts};
 
 use crate::asked::{Command, Task};
-use crate::phase::{Attempt, Phase, Turn};
+use crate::phase::{Attempt, Cell, Phase};
 use crate::table::{
-    anew, answer_over, cannot_in, gave_up_in, moved_in, other_standby, prepared_in, same_cancel,
-    same_go, same_standby,
+    answer_over, cannot_in, gave_up_in, moved_in, new_number, other_standby, prepared_in,
+    same_cancel, same_go, same_standby,
 };
 use crate::words::{Answer, Order};
 use cue_show::DeviceNo;
@@ -155,14 +155,14 @@ impl Device {
             },
             Place::Same(attempt) => {
                 let task = attempt.task;
-                let turn = again(command, attempt);
-                self.take(turn, task)
+                let cell = again(command, attempt);
+                self.take(cell, task)
             }
             Place::New => {
-                let turn = anew(command, self.doing.is_none());
+                let cell = new_number(command, self.doing.is_none());
                 let task = command.task();
                 self.begin(command.seq());
-                self.take(turn, task)
+                self.take(cell, task)
             }
         }
     }
@@ -245,16 +245,16 @@ impl Device {
         self.unheard = false;
     }
 
-    // The attempt of the last number takes the turn.
-    fn take(&mut self, turn: Turn, task: Option<Task>) -> Heard
-        ensures state { self.new ≡ after_turn task turn self.old }
-        ensures said { result ≡ said_by turn }
+    // The attempt of the last number takes the cell.
+    fn take(&mut self, cell: Cell, task: Option<Task>) -> Heard
+        ensures state { self.new ≡ after_cell task cell self.old }
+        ensures said { result ≡ said_by cell }
     {
-        let Turn {
+        let Cell {
             phase,
             order,
             answer,
-        } = turn;
+        } = cell;
         self.attempt = Some(Attempt { phase, task });
         self.doing = doing_after(order, self.doing);
         Heard { order, answer }
@@ -269,21 +269,21 @@ impl Device {
         self.doing = left_after(told, self.doing);
         match place {
             Place::Same(attempt) => {
-                let turn = told.turn(attempt.phase);
+                let cell = told.cell(attempt.phase);
                 let task = attempt.task;
-                self.note(told, turn, task);
-                turn.answer
+                self.note(told, cell, task);
+                cell.answer
             }
             Place::Over | Place::New => None,
         }
     }
 
     // The attempt goes on as the machine reported, where that is something new.
-    fn note(&mut self, told: Told, turn: Turn, task: Option<Task>)
-        ensures { self.new ≡ attempt_with_report told task turn self.old }
+    fn note(&mut self, told: Told, cell: Cell, task: Option<Task>)
+        ensures { self.new ≡ attempt_with_report told task cell self.old }
     {
-        if turn.answer.is_some() {
-            let _ = self.take(turn, task);
+        if cell.answer.is_some() {
+            let _ = self.take(cell, task);
             self.unheard = told.waits_for_reply(self.unheard);
         }
     }
@@ -300,7 +300,7 @@ impl Told {
     }
 
     // What it makes of the attempt.
-    fn turn(self, phase: Phase) -> Turn
+    fn cell(self, phase: Phase) -> Cell
         ensures { result ≡ told_in self phase }
     {
         match self {
@@ -337,7 +337,7 @@ impl Told {
 }
 
 // What the table says of an order of the controller with the attempt's own number.
-fn again(command: &Command, attempt: Attempt) -> Turn
+fn again(command: &Command, attempt: Attempt) -> Cell
     ensures { result ≡ again attempt command.now }
 {
     match command {

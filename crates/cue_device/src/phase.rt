@@ -50,18 +50,18 @@ impl Attempt {
 /// What an order of the controller, or what the machine reports, makes of an attempt: the phase from now on, what is
 /// ordered and what is answered.
 #[derive(Clone, Copy, PartialEq, Eq, Debug)]
-pub struct Turn {
+pub struct Cell {
     pub phase: Phase,
     pub order: Option<Order>,
     pub answer: Option<Answer>,
 }
 
-impl Turn {
+impl Cell {
     // Nothing changes, and nothing is said.
-    pub(crate) fn stay(phase: Phase) -> Turn
+    pub(crate) fn stay(phase: Phase) -> Cell
         ensures { result ≡ stay phase }
     {
-        Turn {
+        Cell {
             phase,
             order: None,
             answer: None,
@@ -69,10 +69,10 @@ impl Turn {
     }
 
     // The device answers, and orders nothing.
-    pub(crate) fn say(phase: Phase, answer: Answer) -> Turn
+    pub(crate) fn say(phase: Phase, answer: Answer) -> Cell
         ensures { result ≡ say phase answer }
     {
-        Turn {
+        Cell {
             phase,
             order: None,
             answer: Some(answer),
@@ -80,10 +80,10 @@ impl Turn {
     }
 
     // The device orders its machine something, and answers later.
-    pub(crate) fn act(phase: Phase, order: Order) -> Turn
+    pub(crate) fn act(phase: Phase, order: Order) -> Cell
         ensures { result ≡ act phase order }
     {
-        Turn {
+        Cell {
             phase,
             order: Some(order),
             answer: None,

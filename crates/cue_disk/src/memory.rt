@@ -108,7 +108,7 @@ impl MemDisk {
     pub fn crash(&self, extra: u64, junk: &[u8]) -> Result<MemDisk, AllocError>
         ensures image { IfOk result (λ disk. IsImage (memory_held self.now) (memory_bytes disk)) }
         ensures crashed { IfOk result (λ disk. IsCrashed (memory_held self.now) extra junk.now (memory_bytes disk)) }
-        ensures anew { IfOk result (λ disk. IsNew (memory_bytes disk) disk) }
+        ensures fresh { IfOk result (λ disk. IsNew (memory_bytes disk) disk) }
         ensures every { ReachesAllImages (memory_held self.now) }
     {
         let bytes = self.medium.crashed(extra, junk)?;

@@ -24,7 +24,7 @@ use Rattle.cue_engine.specs.declared.offers.Offered.{Offered}
 use Rattle.cue_engine.specs.Takes.{InStep, IsAhead}
 use Rattle.cue_engine.specs.Taking.{Takes}
 use Rattle.cue_engine.proofs.GroupLemmas.{acceptable_one, acceptable_more, folded_more}
-use Rattle.cue_engine.specs.Words.{keeper_of, state_of, queue_of, last_batches_of}
+use Rattle.cue_engine.specs.Observed.{keeper_of, state_of, queue_of, last_batches_of}
 
 -- a draft that lacks these events
 pub in_step : (kept : ShowState) (draft : Draft) (before : ShowState) (es : List Event) → draft.state ≡ before

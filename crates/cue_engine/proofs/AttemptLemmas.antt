@@ -21,7 +21,7 @@ use Rattle.cue_outbox.specs.Sending.{Send, order, all_pending}
 use Rattle.cue_engine.specs.Given.{Given}
 use Rattle.cue_engine.specs.Runs.{Happening, run, joined_list, given_at, with_batch}
 use Rattle.cue_engine.specs.Attempts.{accepted_events, may_go_after, IsDecidedInOrder, DecidedInOrder, NumberNamesOne}
-use Rattle.cue_engine.specs.Attempts.{is_command, was_sent, NeverSentBoth}
+use Rattle.cue_engine.specs.Attempts.{is_order_with, was_sent, NeverSentBoth}
 use Rattle.cue_core.proofs.lists.AnyLemmas.{or_left, or_right, either, itself, same, any-append, any-mapped}
 use Rattle.cue_core.proofs.lists.AnyLemmas.{all_implied}
 use Rattle.cue_engine.proofs.HistoryLemmas.{inputs_make_histories, inputs_in_order}
@@ -246,7 +246,7 @@ asks test s = list_any (λ (o : ℕ × Order). test o.1) (pending s)
 
 -- what passes the test makes this true
 abbrev Says : (Order → Bool) → Bool → Send → Type 0
-Says test b m = is_command test m ≡ true → b ≡ true
+Says test b m = is_order_with test m ≡ true → b ≡ true
 
 says_elsewhere : (test : Order → Bool) (b : Bool) → HoldsElsewhere (Says test b)
 says_elsewhere test b = record {
@@ -256,24 +256,27 @@ says_elsewhere test b = record {
 }
 
 each_is_there : (test : Order → Bool) (b : Bool) (ms : List (ℕ × Send))
-    → (list_any (λ (m : ℕ × Send). is_command test m.1) ms ≡ true → b ≡ true) → Each (Says test b) ms
+    → (list_any (λ (m : ℕ × Send). is_order_with test m.1) ms ≡ true → b ≡ true) → Each (Says test b) ms
 each_is_there test b [] f = tt
-each_is_there test b (m ∷ ms) f =
-    (λ h. f (or_left (is_command test m.1) _ h), each_is_there test b ms (λ k. f (or_right (is_command test m.1) _ k)))
+each_is_there test b (m ∷ ms) f = (
+  λ h. f (or_left (is_order_with test m.1) _ h),
+  each_is_there
+      test b ms (λ k. f (or_right (is_order_with test m.1) _ k)),
+)
 
 any_says : (test : Order → Bool) (b : Bool) (ms : List (ℕ × Send)) → Each (Says test b) ms
-    → list_any (λ (m : ℕ × Send). is_command test m.1) ms ≡ true → b ≡ true
+    → list_any (λ (m : ℕ × Send). is_order_with test m.1) ms ≡ true → b ≡ true
 any_says test b [] h k = absurd (true≢false (sym k))
-any_says test b (m ∷ ms) h k = either (is_command test m.1) _ _ h.0 (any_says test b ms h.1) k
+any_says test b (m ∷ ms) h k = either (is_order_with test m.1) _ _ h.0 (any_says test b ms h.1) k
 
 pending_asks : (test : Order → Bool) (s : ShowState)
-    → list_any (λ (m : ℕ × Send). is_command test m.1) (all_pending s) ≡ true → asks test s ≡ true
-pending_asks test s h = any-mapped (λ (o : ℕ × Order). (o.0, order o.1)) (λ (m : ℕ × Send). is_command test m.1)
+    → list_any (λ (m : ℕ × Send). is_order_with test m.1) (all_pending s) ≡ true → asks test s ≡ true
+pending_asks test s h = any-mapped (λ (o : ℕ × Order). (o.0, order o.1)) (λ (m : ℕ × Send). is_order_with test m.1)
     (λ (o : ℕ × Order). test o.1) (λ o k. k) (pending s) h
 
 -- what is sent for an input is pending after its batch
 pub sent_asks : (test : Order → Bool) (s : ShowState) (x : Happening)
-    → list_any (λ (m : ℕ × Send). is_command test m.1) (given_at s x).sends ≡ true
+    → list_any (λ (m : ℕ × Send). is_order_with test m.1) (given_at s x).sends ≡ true
     → asks test (after_events s (given_at s x).batch) ≡ true
 sent_asks test s x h =
     let t : ShowState = after_events s (given_at s x).batch in
@@ -282,13 +285,13 @@ sent_asks test s x h =
     (each_is_there test (asks test t) (all_pending t) (pending_asks test t))) h
 
 asked_before : (test : Order → Bool) (past : List Event) (hs : List Happening)
-    → list_any (λ (m : ℕ × Send). is_command test m.1) (run (state_of past) hs).sends ≡ true
+    → list_any (λ (m : ℕ × Send). is_order_with test m.1) (run (state_of past) hs).sends ≡ true
     → ever (asks test) (onto (joined_list (run (state_of past) hs).batches) past) ≡ true
 asked_before test past [] h = absurd (true≢false (sym h))
 asked_before test past (x ∷ hs) h =
     let g : Given = given_at (state_of past) x in
     let next : ShowState = after_events (state_of past) g.batch in
-    let p : ℕ × Send → Bool = λ m. is_command test m.1 in
+    let p : ℕ × Send → Bool = λ m. is_order_with test m.1 in
     let P : ShowState → Type 0 = λ s. list_any p (run s hs).sends ≡ true
     → ever (asks test) (onto (joined_list (run s hs).batches) (onto g.batch past)) ≡ true in
     let rest : P next = subst P (state-onto past g.batch) (asked_before test (onto g.batch past) hs) in

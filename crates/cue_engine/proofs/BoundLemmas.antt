@@ -6,7 +6,7 @@ use Rattle.std.proofs.lemmas.Bool.Decides.{nat_tests}
 use Rattle.cue_core.specs.State.{ShowState}
 use Rattle.cue_osc.specs.Content.{Content}
 use Rattle.cue_records.specs.Batch.{batch_text}
-use Rattle.cue_engine.specs.declared.limits.TheConstants.{MAX_COMMANDS, MAX_PAYLOAD}
+use Rattle.cue_engine.specs.declared.limits.TheConstants.{MAX_COMMANDS, MAX_BATCH}
 use Rattle.cue_core.specs.declared.refusal.Refusal.{Refusal}
 use Rattle.cue_engine.specs.declared.heard.Heard.{Heard}
 use Rattle.cue_engine.specs.Heard.{hear_all, all_events, all_commands}
@@ -39,11 +39,11 @@ heard_by s from hs few true e = subst (λ (g : Given). FitsRecord g.batch) (sym 
 heard_by s from hs few false e =
     let commands : all_commands hs ≤ MAX_COMMANDS =
     at_most MAX_COMMANDS (all_commands hs)
-    (first_false (nat_lt MAX_COMMANDS (all_commands hs)) (nat_lt MAX_PAYLOAD (length (batch_text (all_events hs))))
+    (first_false (nat_lt MAX_COMMANDS (all_commands hs)) (nat_lt MAX_BATCH (length (batch_text (all_events hs))))
     e) in
-    let text : length (batch_text (all_events hs)) ≤ MAX_PAYLOAD =
-    at_most MAX_PAYLOAD (length (batch_text (all_events hs)))
-    (second_false (nat_lt MAX_COMMANDS (all_commands hs)) (nat_lt MAX_PAYLOAD (length (batch_text (all_events hs))))
+    let text : length (batch_text (all_events hs)) ≤ MAX_BATCH =
+    at_most MAX_BATCH (length (batch_text (all_events hs)))
+    (second_false (nat_lt MAX_COMMANDS (all_commands hs)) (nat_lt MAX_BATCH (length (batch_text (all_events hs))))
     e) in
     subst (λ (g : Given). FitsRecord g.batch) (sym (given_by_test s from hs false e))
     (record { most = omega (arith, few, commands); short = text })

@@ -9,7 +9,7 @@ use Rattle.cue_osc.specs.declared.fault.Fault.TheVariants.{TooLong, NotMultiple}
 use Rattle.cue_osc.specs.Argument.{Argument, int}
 use Rattle.cue_osc.specs.Content.{Content, message, discarded, bundle}
 use Rattle.cue_osc.specs.Spelling.{IsText, osc_string, is_known_tag, comma}
-use Rattle.cue_osc.specs.Reading.{◌>>=◌, string_at, all_args_at, tagged_at, behind_address, message_at}
+use Rattle.cue_osc.specs.Reading.{◌>>=◌, string_at, all_args_at, tagged_at, after_address, message_at}
 use Rattle.cue_osc.specs.Reading.{is_message_start, packet_at, datagram_at}
 use Rattle.cue_osc.specs.Writing.{text_of}
 use Rattle.cue_osc.proofs.FieldLemmas.{string_again}
@@ -19,7 +19,7 @@ use Rattle.cue_core.specs.Events.{is_cancel_of, is_go_of, is_start_of}
 use Rattle.cue_core.specs.State.{ShowState, is_state}
 use Rattle.cue_core.specs.Steps.{after_events}
 use Rattle.cue_core.specs.Pending.{Order, standby, go_2pc, cancel, pending}
-use Rattle.cue_outbox.specs.Sending.{Send, answer, status, order, number, order_content, send_content, datagram}
+use Rattle.cue_outbox.specs.Sending.{Send, reply, status, order, number, order_content, send_content, datagram}
 use Rattle.cue_outbox.specs.Sending.{datagrams, all_pending}
 use Rattle.cue_outbox.proofs.ListLemmas.{each_append, each_map, each_passes}
 use Rattle.cue_outbox.proofs.ReadBackLemmas.{IsWritable, read_back}
@@ -67,15 +67,15 @@ tagged_has a bytes =
     (all_args_at (drop 1 found.0) found.1 >>= λ xs. Ok (message a xs)) (Ok (discarded a))
     (has_then a (all_args_at (drop 1 found.0) found.1) (λ xs. Ok (message a xs)) (λ xs. refl)) refl)
 
-behind_has : (a rest : List ℕ) → HasAddress a (behind_address a rest)
-unfolding behind_address
+behind_has : (a rest : List ℕ) → HasAddress a (after_address a rest)
+unfolding after_address
 behind_has a [] = refl
 behind_has a (b ∷ bs) = has_if (b == comma) a (tagged_at a (b ∷ bs)) (Ok (discarded a)) (tagged_has a (b ∷ bs)) refl
 
 message_has : (a rest : List ℕ) → IsText a → HasAddress a (message_at (osc_string a ++ rest))
 unfolding message_at
 message_has a rest is_text = let P : Result (List ℕ × List ℕ) Fault
-    → Type 0 = λ r. HasAddress a (r >>= λ x. behind_address x.0 x.1) in
+    → Type 0 = λ r. HasAddress a (r >>= λ x. after_address x.0 x.1) in
     subst P (sym (string_again a rest is_text)) (behind_has a rest)
 
 datagram_has : (a rest : List ℕ) → IsText a → is_message_start (osc_string a ++ rest) ≡ true
@@ -108,7 +108,7 @@ not_read a b rest q is_text starts apart read = let P : Result Content Fault →
 -- ---- no answer and no status is read as a command
 
 answer_rests : (s : ShowState) (es : List Event) (a : List ℕ) (m k r c : ℕ)
-    → BytesRest s es (text_of (send_content (answer a m k r c)))
+    → BytesRest s es (text_of (send_content (reply a m k r c)))
 unfolding send_content
 answer_rests s es a m k r c = record {
   go_2pc = λ q read. not_read (codes "/reply") (codes "/msc/go_2pc") _ q (search rules) refl refl read;
@@ -190,7 +190,7 @@ order_says s es o w h = record {
 
 -- a command that can be written
 abbrev pub IsReadable : Send → Type 0
-IsReadable (answer a m k r c) = Unit {0}
+IsReadable (reply a m k r c) = Unit {0}
 IsReadable (status l p v e o) = Unit {0}
 IsReadable (order o) = IsWritable (order_content o)
 
@@ -215,7 +215,7 @@ run_readable s (x ∷ hs) h =
 
 says : (s : ShowState) (es : List Event) (m : Send) → IsReadable m → send_rests s es m ≡ true
     → BytesRest s es (text_of (send_content m))
-says s es (answer a m k r c) w h = answer_rests s es a m k r c
+says s es (reply a m k r c) w h = answer_rests s es a m k r c
 says s es (status l p v e o) w h = status_rests s es l p v e o
 says s es (order o) w h = order_says s es o w h
 

@@ -22,7 +22,7 @@ use Rattle.cue_engine.specs.Given.{Input, given_of}
 use Rattle.cue_engine.specs.Groups.{batches_given, sends_given}
 use Rattle.cue_engine.specs.Taking.{Offers, IsOffered, TakesTogether}
 use Rattle.cue_engine.specs.Takes.{FitsRecord}
-use Rattle.cue_engine.specs.Words.{keeper_of, state_of, queue_of, offered_of, latest_of, has_room}
+use Rattle.cue_engine.specs.Observed.{keeper_of, state_of, queue_of, offered_of, latest_of, has_room}
 use Rattle.cue_engine.proofs.GroupLemmas.{batches_more, sends_more}
 
 module _ {D : Type 0} {disk : Ghosts D} where

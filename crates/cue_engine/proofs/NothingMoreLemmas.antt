@@ -14,7 +14,7 @@ use Rattle.cue_core.proofs.history.SafetyLemmas.{nothing-more-is-asked}
 use Rattle.cue_core.proofs.rules.SoundLemmas.{is_state-history}
 use Rattle.cue_core.proofs.lists.AnyLemmas.{or_left, or_right, any-append}
 use Rattle.cue_outbox.specs.Sending.{Send}
-use Rattle.cue_engine.specs.Attempts.{accepted_events, is_command, NothingMoreIsSent}
+use Rattle.cue_engine.specs.Attempts.{accepted_events, is_order_with, NothingMoreIsSent}
 use Rattle.cue_engine.specs.Given.{Given}
 use Rattle.cue_engine.specs.Runs.{Happening, run, joined_list, given_at, with_batch}
 use Rattle.cue_engine.proofs.AttemptLemmas.{any_in, no_any, contrary, asks, sent_asks}
@@ -23,7 +23,7 @@ use Rattle.cue_engine.proofs.RestingLemmas.{joined-with}
 
 -- a datagram that tells the device anything in the attempt
 abbrev tells : ℕ → ℕ → ℕ × Send → Bool
-tells q d m = is_command (is_order_to q d) m.1
+tells q d m = is_order_with (is_order_to q d) m.1
 
 refused_both : (a b : Bool) → (a || b) ≡ true → (a ≡ true → true ≡ false) → (b ≡ true → true ≡ false) → true ≡ false
 refused_both true b h f g = f refl

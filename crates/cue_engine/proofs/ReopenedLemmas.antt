@@ -4,7 +4,7 @@ use Rattle.std.proofs.Common.{[], ◌∷◌, refl, ◌∙◌, ap, sym, subst, Is
 use Rattle.std.specs.Prelude.{IfOk}
 use Rattle.cue_disk.specs.Disk.{Contents, IsImage}
 use Rattle.cue_log.specs.Area.{Area, area_text}
-use Rattle.cue_log.specs.declared.area.TheConstants.{AREA_LIMIT}
+use Rattle.cue_log.specs.declared.area.TheConstants.{MAX_AREA}
 use Rattle.cue_snap.specs.Observed.{first_after, second_after, RefusedAs}
 use Rattle.cue_snap.proofs.ReaderLemmas.{one_of_a_pair}
 use Rattle.cue_core.specs.declared.event.Event.{Event}
@@ -65,7 +65,7 @@ no_generation one other s generation count end kept first second some due last =
 pub no_room : (one other : Contents) (s : ShowState) (generation count end : ℕ)
     → IsKept one other s generation count end → IsImage one one.bytes → IsImage other other.bytes
     → 1 ≤ length (events_at s recovered) → IsTrue (is_due count end (cancels_length s))
-    → AREA_LIMIT < 19 + length (state_text s) + cancels_length s → NoRoomLeft one.bytes other.bytes
+    → MAX_AREA < 19 + length (state_text s) + cancels_length s → NoRoomLeft one.bytes other.bytes
 no_room one other s generation count end kept first second some due long = record {
   area = kept.area;
   state = s;
@@ -113,10 +113,10 @@ generation_is one other s generation count end kept first second area t needs =
 pub has_no_room : (one other : Contents) (s : ShowState) (generation count end : ℕ)
     → IsKept one other s generation count end → IsImage one one.bytes → IsImage other other.bytes
     → (area : Area) (t : ShowState) → NeedsArea one.bytes other.bytes area t
-    → AREA_LIMIT < 19 + length (state_text t) + cancels_length t
-    → AREA_LIMIT < 19 + length (state_text s) + cancels_length s
+    → MAX_AREA < 19 + length (state_text t) + cancels_length t
+    → MAX_AREA < 19 + length (state_text s) + cancels_length s
 has_no_room one other s generation count end kept first second area t needs long =
-    subst (λ (x : ShowState). AREA_LIMIT < 19 + length (state_text x) + cancels_length x)
+    subst (λ (x : ShowState). MAX_AREA < 19 + length (state_text x) + cancels_length x)
     (the_area one other s generation count end kept first second area t needs).1 long
 
 -- one fault or the other was reported, and is one of the store

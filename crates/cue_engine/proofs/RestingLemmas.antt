@@ -20,7 +20,7 @@ use Rattle.cue_core.specs.Pending.{Order, standby, go_2pc, cancel, order_at, ord
 use Rattle.cue_core.specs.Happenings.{ticked, recovered, events_at}
 use Rattle.cue_show.specs.Show.{port_of}
 use Rattle.cue_osc.specs.Content.{Content}
-use Rattle.cue_outbox.specs.Sending.{Send, order, answer, status, status_of, orders, all_pending, datagrams}
+use Rattle.cue_outbox.specs.Sending.{Send, order, reply, status, status_of, orders, all_pending, datagrams}
 use Rattle.cue_core.specs.declared.refusal.Refusal.{Refusal}
 use Rattle.cue_core.specs.declared.refusal.Refusal.TheVariants as refusal
 use Rattle.cue_engine.specs.Heard.{Heard, refused, carried, all_counts, hear_all, all_events, replies_to}
@@ -232,7 +232,7 @@ cancelling-more s es fs q h = rw any-append (or_swap (is_cancelling_in s q) _ _ 
 
 -- more events do not take it away
 pub more : (s : ShowState) (es fs : List Event) (m : Send) → send_rests s es m ≡ true → send_rests s (es ++ fs) m ≡ true
-more s es fs (answer a m k r c) h = refl
+more s es fs (reply a m k r c) h = refl
 more s es fs (status a b c d e) h = refl
 more s es fs (order (standby q d c b)) h = live-more s es fs q h
 more s es fs (order (go_2pc q d)) h = rw any-append (or_swap (is_decided_in s q) _ _ h)
@@ -268,7 +268,7 @@ cancelling-earlier s es fs q h =
 -- what rests on a later state rests on the earlier one
 pub earlier : (s : ShowState) (es fs : List Event) (m : Send) → send_rests (after_events s es) fs m ≡ true
     → send_rests s (es ++ fs) m ≡ true
-earlier s es fs (answer a m k r c) h = refl
+earlier s es fs (reply a m k r c) h = refl
 earlier s es fs (status a b c d e) h = refl
 earlier s es fs (order (standby q d c b)) h = live-earlier s es fs q h
 earlier s es fs (order (go_2pc q d)) h = decided-earlier s es fs q h

@@ -6,7 +6,7 @@ use Rattle.cue_core.specs.declared.command.Command.TheVariants as command
 use Rattle.cue_core.specs.State.{ShowState}
 use Rattle.cue_core.specs.Steps.{after_events}
 use Rattle.cue_osc.specs.Content.{Content}
-use Rattle.cue_outbox.specs.Sending.{Send, answer, status, status_of, all_pending, datagrams}
+use Rattle.cue_outbox.specs.Sending.{Send, reply, status, status_of, all_pending, datagrams}
 use Rattle.cue_outbox.proofs.ListLemmas.{each_append, each_flat, each_map}
 use Rattle.cue_core.specs.declared.refusal.Refusal.{Refusal}
 use Rattle.cue_core.specs.declared.refusal.Refusal.TheVariants as refusal
@@ -22,7 +22,7 @@ use Rattle.cue_engine.specs.Runs as runs
 
 -- it holds of what is no command
 pub record HoldsElsewhere (R : Send → Type 0) : Type 0 where
-  pub answers : (a : List ℕ) (m k r c : ℕ) → R (answer a m k r c)
+  pub answers : (a : List ℕ) (m k r c : ℕ) → R (reply a m k r c)
   pub statuses : (l : ℕ) (p : List ℕ) (v e o : ℕ) → R (status l p v e o)
 
 -- it holds of each, whatever its port

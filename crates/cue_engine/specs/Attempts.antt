@@ -11,7 +11,7 @@ use Rattle.cue_core.specs.Happenings.{onto}
 use Rattle.cue_core.specs.History.{parts_by}
 use Rattle.cue_core.specs.Pending.{Order}
 use Rattle.cue_core.specs.Safety.{is_order_to, is_go_to, is_cancel_to}
-use Rattle.cue_outbox.specs.Sending.{Send, answer, status, order}
+use Rattle.cue_outbox.specs.Sending.{Send, reply, status, order}
 use Rattle.cue_engine.specs.Runs.{Happening, run, joined_list}
 
 -- all events that were accepted, from the empty state on, in order
@@ -46,20 +46,20 @@ NumberNamesOne = (hs : List Happening) (q : ℕ) (cue : List ℕ) (deadline : �
     → IsTrue (not (list_any (is_start_of q) before) && not (list_any (is_start_of q) later))
 
 -- a datagram that is a command with this test
-abbrev pub is_command : (Order → Bool) → Send → Bool
-is_command test (answer address made known refused code) = false
-is_command test (status last place live ended outcome) = false
-is_command test (order o) = test o
+abbrev pub is_order_with : (Order → Bool) → Send → Bool
+is_order_with test (reply address made known refused code) = false
+is_order_with test (status last place live ended outcome) = false
+is_order_with test (order o) = test o
 
 -- some datagram that was sent is such a command
 abbrev pub was_sent : (Order → Bool) → List Happening → Bool
-was_sent test hs = list_any (λ m. is_command test m.1) (run empty_state hs).sends
+was_sent test hs = list_any (λ m. is_order_with test m.1) (run empty_state hs).sends
 
 -- Once a device is done with in an attempt, since it has answered for the last time or was excused, nothing more is
 -- sent to it there, whatever comes later.
 abbrev pub NothingMoreIsSent : Type 0
 NothingMoreIsSent = (hs later : List Happening) (q d : ℕ) → IsTrue (list_any (is_end_of q d) (accepted_events hs))
-    → IsTrue (not (list_any (λ m. is_command (is_order_to q d) m.1) (run (run empty_state hs).state later).sends))
+    → IsTrue (not (list_any (λ m. is_order_with (is_order_to q d) m.1) (run (run empty_state hs).state later).sends))
 
 -- No device is ever sent both GO_2PC and CANCEL in one attempt.
 abbrev pub NeverSentBoth : Type 0

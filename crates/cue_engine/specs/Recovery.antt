@@ -2,7 +2,7 @@
 use Rattle.std.specs.Prelude.{◌≡◌, ◌⊎◌, ◌<◌, ◌≤◌, ◌+◌, ◌-◌, ◌^◌, ℕ, List, length, IsTrue, Result, Ok, Err}
 use Rattle.cue_disk.specs.Disk.{Contents, IsImage}
 use Rattle.cue_log.specs.Area.{Area, area_text}
-use Rattle.cue_log.specs.declared.area.TheConstants.{AREA_LIMIT, FRAME_LEN, HEAD_LEN}
+use Rattle.cue_log.specs.declared.area.TheConstants.{MAX_AREA, FRAME_LEN, HEAD_LEN}
 use Rattle.cue_snap.specs.Pair.{PairReads}
 use Rattle.cue_core.specs.State.{ShowState}
 use Rattle.cue_core.specs.Happenings.{events_at, recovered}
@@ -57,7 +57,7 @@ pub record NoRoomLeft (x y : List ℕ) : Type 0 where
   pub area : Area
   pub state : ShowState
   pub needs : NeedsArea x y area state
-  pub long : AREA_LIMIT < HEAD_LEN + FRAME_LEN + 1 + length (state_text state) + cancels_length state
+  pub long : MAX_AREA < HEAD_LEN + FRAME_LEN + 1 + length (state_text state) + cancels_length state
 
 -- it is so where any other fault is answered
 abbrev pub RefusedBut : {T E D : Type 0} → E → Type 0 → Result T (E × D × D) → Type 0

@@ -8,7 +8,7 @@ use Rattle.cue_engine.specs.declared.engine.Engine.{Engine}
 use Rattle.cue_engine.specs.declared.taken.Taken.{Taken}
 use Rattle.cue_engine.specs.Given.{Input, Given}
 use Rattle.cue_engine.specs.Groups.{batches_given, sends_given}
-use Rattle.cue_engine.specs.Words.{state_of, queue_of, last_batch_of, last_batches_of, offered_of, offered_sends_of}
+use Rattle.cue_engine.specs.Observed.{state_of, queue_of, last_batch_of, last_batches_of, offered_of, offered_sends_of}
 
 -- The batch has happened to the state, what it sends is owed after all that was owed, and these are the counts.
 pub record Takes {D : Type 0} {disk : Ghosts D} (what : Given) (answer : Taken) (old new : Engine D disk) : Type 0 where

@@ -1,4 +1,4 @@
-//! A wire in memory, for tests and for scripts: it tells all that was handed to it, and it can be told to refuse.
+//! A wire in memory, for tests and for scripts: it reports all that was handed to it, and can be made to refuse.
 ghost use Rattle.std.specs.Prelude.{◌≡◌, ◌-◌, [], ◌∷◌, Some, None, is_err, nat_eq, true, IsSome, MatchOption, OnOk};
 ghost use Rattle.cue_engine.specs.Told.{sents_view, told_by, refuse_in_of, IsAsPlanned};
 ghost use Rattle.cue_engine.specs.Wires.{Grew, handed_as};
@@ -17,8 +17,8 @@ pub struct Sent {
     pub refused: bool,
 }
 
-/// A wire in memory. It tells all that was handed to it until it finds no memory for a datagram: that send is
-/// refused, and it tells nothing from then on.
+/// A wire in memory. It reports all that was handed to it until it finds no memory for a datagram: that send is
+/// refused, and it reports nothing from then on.
 #[derive(Drop)]
 pub struct MemWire {
     alloc: Global,
@@ -28,7 +28,7 @@ pub struct MemWire {
 }
 
 impl MemWire {
-    /// A wire that tells, to which nothing was handed and which refuses nothing. It takes its memory from this
+    /// A wire that reports, to which nothing was handed and which refuses nothing. It takes its memory from this
     /// allocator.
     pub fn new(alloc: Global) -> MemWire
         ensures told { told_by result ≡ Some [] }
@@ -59,7 +59,7 @@ impl MemWire {
         if self.tells { Some(&self.sent) } else { None }
     }
 
-    /// Forgets what was handed over so far: it tells what comes from then on, where it tells at all. Which send is
+    /// Forgets what was handed over so far: it reports what comes from then on, where it reports at all. Which send is
     /// refused stays.
     pub fn clear(&mut self)
         ensures told { IsSome (told_by self.old) → told_by self.new ≡ Some [] }
@@ -69,7 +69,7 @@ impl MemWire {
         self.sent.clear();
     }
 
-    // Keeps what was handed over, where the wire tells and there is memory for it.
+    // Keeps what was handed over, where the wire reports and there is memory for it.
     fn keep(&mut self, to: u16, bytes: &[u8], refused: bool) -> Result<(), AllocError>
         ensures kept { OnOk result (Grew (told_by self.old) (handed_as ((to, bytes.now) ∷ []) (refused ∷ []))
             (told_by self.new)) }

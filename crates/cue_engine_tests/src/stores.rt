@@ -2,7 +2,7 @@
 use cue_core::Event;
 use cue_disk::MemDisk;
 use cue_keeper::{Fault, Keeper, StoreFault};
-use cue_log::PAYLOAD_LIMIT;
+use cue_log::MAX_PAYLOAD;
 use cue_records::batch_len;
 use cue_show::{CueNo, DeviceNo};
 use std::alloc::{AllocError, Global};
@@ -81,7 +81,7 @@ fn accept(keeper: &mut Keeper<MemDisk>, event: Event) -> Result<Result<(), Fault
         return Err("the event is not acceptable".into());
     }
     let events = [event];
-    if batch_len(&events) > PAYLOAD_LIMIT as u64 {
+    if batch_len(&events) > MAX_PAYLOAD as u64 {
         return Err("the batch is too long".into());
     }
     Ok(keeper.accept(&events))

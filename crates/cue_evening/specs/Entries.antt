@@ -2,8 +2,8 @@
 use Rattle.std.specs.Prelude.{ℕ, Bool, true, false, List, codes}
 use Rattle.cue_osc.specs.declared.fault.Fault.{Fault}
 use Rattle.cue_osc.specs.declared.fault.Fault.TheVariants as osc
-use Rattle.cue_evening.specs.declared.entry.Order.{Order}
-use Rattle.cue_evening.specs.declared.entry.Order.TheVariants as order
+use Rattle.cue_evening.specs.declared.entry.OrderKind.{OrderKind}
+use Rattle.cue_evening.specs.declared.entry.OrderKind.TheVariants as order
 
 -- a datagram was not read because memory ran out, and not for its bytes
 abbrev pub is_out_of_memory : Fault → Bool
@@ -18,7 +18,7 @@ is_out_of_memory osc.Trailing = false
 is_out_of_memory osc.Memory = true
 
 -- the word for an order
-abbrev pub order_words : Order → List ℕ
+abbrev pub order_words : OrderKind → List ℕ
 order_words order.Standby = codes "STANDBY"
 order_words order.Go = codes "GO"
 order_words order.Cancel = codes "CANCEL"

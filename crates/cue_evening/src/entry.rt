@@ -9,21 +9,21 @@ use std::fmt::Write;
 
 /// What a device is sent.
 #[derive(Clone, Copy, Debug, PartialEq, Eq)]
-pub enum Order {
+pub enum OrderKind {
     Standby,
     Go,
     Cancel,
 }
 
-impl Order {
+impl OrderKind {
     // The order that is sent to this address.
-    fn at(address: &[u8]) -> Option<Order> {
+    fn at(address: &[u8]) -> Option<OrderKind> {
         if address == b"/msc/standby".as_slice() {
-            Some(Order::Standby)
+            Some(OrderKind::Standby)
         } else if address == b"/msc/go_2pc".as_slice() {
-            Some(Order::Go)
+            Some(OrderKind::Go)
         } else if address == b"/msc/cancel".as_slice() {
-            Some(Order::Cancel)
+            Some(OrderKind::Cancel)
         } else {
             None
         }
@@ -34,31 +34,31 @@ impl Order {
         ensures { result.now ≡ order_words self }
     {
         match self {
-            Order::Standby => "STANDBY",
-            Order::Go => "GO",
-            Order::Cancel => "CANCEL",
+            OrderKind::Standby => "STANDBY",
+            OrderKind::Go => "GO",
+            OrderKind::Cancel => "CANCEL",
         }
     }
 }
 
 /// An order to a device: the number of its attempt, the device, and the port that it is sent to.
 #[derive(Clone, Copy, Debug, PartialEq, Eq)]
-pub struct Command {
-    pub order: Order,
+pub struct Order {
+    pub kind: OrderKind,
     pub attempt: u32,
     pub device: DeviceNo,
     pub port: u16,
 }
 
-impl Command {
-    /// The command as its line says it, with the cue of its attempt where that is known.
+impl Order {
+    /// The order as its line says it, with the cue of its attempt where that is known.
     pub fn text(
         &self,
         alloc: Global,
         cue: Option<CueNo>,
         is_sent: bool,
     ) -> Result<String, AllocError> {
-        let order = self.order.words();
+        let order = self.kind.words();
         let mut text = format!(in alloc; "{order} attempt {}", self.attempt)?;
         if let Some(cue) = cue {
             write!(text, " cue {}", cue.text().escape_ascii())?;
@@ -88,18 +88,18 @@ pub struct Reply {
 #[derive(Drop)]
 pub enum Entry {
     /// What becomes of a message that was asked.
-    Answered(Reply),
+    Replied(Reply),
     /// A device is sent an order.
-    Ordered(Command),
+    Ordered(Order),
 }
 
-fn command_in(port: u16, message: &Message<'_>) -> Option<Command> {
-    let order = Order::at(message.address)?;
+fn order_in(port: u16, message: &Message<'_>) -> Option<Order> {
+    let kind = OrderKind::at(message.address)?;
     match message.args.as_slice() {
         [Arg::Int(attempt), Arg::Int(number), ..] => {
             let device = DeviceNo::of(*number)?;
-            Some(Command {
-                order,
+            Some(Order {
+                kind,
                 attempt: u32::try_from(*attempt).ok()?,
                 device,
                 port,
@@ -130,11 +130,11 @@ fn reply_in(alloc: Global, port: u16, message: &Message<'_>) -> Result<Option<Re
 }
 
 fn entry_in(alloc: Global, port: u16, message: &Message<'_>) -> Result<Option<Entry>, AllocError> {
-    if let Some(command) = command_in(port, message) {
-        return Ok(Some(Entry::Ordered(command)));
+    if let Some(order) = order_in(port, message) {
+        return Ok(Some(Entry::Ordered(order)));
     }
     match reply_in(alloc, port, message)? {
-        Some(reply) => Ok(Some(Entry::Answered(reply))),
+        Some(reply) => Ok(Some(Entry::Replied(reply))),
         None => Ok(None),
     }
 }

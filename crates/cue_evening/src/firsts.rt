@@ -1,5 +1,5 @@
 //! Which commands were sent before.
-use crate::entry::{Command, Order};
+use crate::entry::{Order, OrderKind};
 use cue_show::DeviceNo;
 use cue_show::limits::MAX_DEVICES;
 
@@ -43,12 +43,12 @@ impl Firsts {
     }
 
     /// Whether this command is sent for the first time. From then on it was sent.
-    pub fn is_first(&mut self, command: &Command) -> bool {
-        let latest = match command.order {
-            Order::Standby => &mut self.standby,
-            Order::Go => &mut self.go,
-            Order::Cancel => &mut self.cancel,
+    pub fn is_first(&mut self, order: &Order) -> bool {
+        let latest = match order.kind {
+            OrderKind::Standby => &mut self.standby,
+            OrderKind::Go => &mut self.go,
+            OrderKind::Cancel => &mut self.cancel,
         };
-        latest.is_new(command.device, command.attempt)
+        latest.is_new(order.device, order.attempt)
     }
 }

@@ -13,7 +13,6 @@ mod entry;
 mod firsts;
 mod log;
 mod logged;
-mod moment;
 mod names;
 mod notes;
 mod page;
@@ -21,6 +20,7 @@ mod reasons;
 mod replies;
 #[cfg(test)]
 mod tests;
+mod time;
 
 pub use log::{EveningLog, say_ready};
 pub use logged::LoggedWire;

@@ -7,11 +7,11 @@ use crate::commands::cut;
 use crate::course::{Cause, Course};
 use crate::entry::{Entry, Reply};
 use crate::logged::LoggedWire;
-use crate::moment::Moment;
 use crate::notes::Notes;
 use crate::page::Page;
 use crate::reasons::{cancel_line, device_of_cancel, end_line, recovered_line};
 use crate::replies::{Answer, cause_in};
+use crate::time::Time;
 use cue_core::{Event, State};
 use cue_engine::Wire;
 use cue_run::Watch;
@@ -21,9 +21,9 @@ use std::time::Clock;
 
 /// Says on standard error that a folder's show is ready at a port of this machine.
 pub fn say_ready<R: Clock + Eprint>(rt: &R, dir: &str, port: u16) {
-    let _ = match Moment::now(rt) {
-        Some(moment) => {
-            let date = moment.date;
+    let _ = match Time::now(rt) {
+        Some(time) => {
+            let date = time.date;
             rt.eprintln(format_args!("{date} cuectl: ready, {dir} at 127.0.0.1:{port}"))
         }
         None => rt.eprintln(format_args!("cuectl: ready, {dir} at 127.0.0.1:{port}")),
@@ -75,7 +75,7 @@ impl<'a, R: Clock + Eprint> EveningLog<'a, R> {
     ) -> &'b [Event] {
         let mut rest = batch;
         for note in notes.items.iter() {
-            if let Entry::Answered(reply) = &note.entry {
+            if let Entry::Replied(reply) = &note.entry {
                 let (made, later) = cut(rest, made_count(notes, reply));
                 let is_last = notes.are_whole && later.is_empty();
                 let answer = Answer {
@@ -107,9 +107,9 @@ impl<'a, R: Clock + Eprint> EveningLog<'a, R> {
     // Writes a line for each order.
     fn tell_orders(&self, page: &Page<'_, R>, notes: &Notes) {
         for note in notes.items.iter() {
-            if let Entry::Ordered(command) = &note.entry {
-                let cue = self.course.cue_of(command.attempt);
-                page.write(command.text(self.alloc, cue, note.is_sent));
+            if let Entry::Ordered(order) = &note.entry {
+                let cue = self.course.cue_of(order.attempt);
+                page.write(order.text(self.alloc, cue, note.is_sent));
             }
         }
     }

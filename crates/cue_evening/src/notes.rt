@@ -80,8 +80,8 @@ impl Notebook {
     // is sent for the first time.
     fn has_line(&mut self, entry: &Entry, is_sent: bool) -> bool {
         match entry {
-            Entry::Answered(reply) => is_told(reply, is_sent),
-            Entry::Ordered(command) => self.firsts.is_first(command),
+            Entry::Replied(reply) => is_told(reply, is_sent),
+            Entry::Ordered(order) => self.firsts.is_first(order),
         }
     }
 

@@ -1,5 +1,5 @@
 //! Where the lines of the log go.
-use crate::moment::Moment;
+use crate::time::Time;
 use std::alloc::AllocError;
 use std::io::Eprint;
 use std::time::Clock;
@@ -8,7 +8,7 @@ use std::time::Clock;
 #[derive(Drop)]
 pub struct Page<'a, R: Clock + Eprint> {
     rt: &'a R,
-    moment: Option<Moment>,
+    time: Option<Time>,
 }
 
 impl<'a, R: Clock + Eprint> Page<'a, R> {
@@ -16,14 +16,14 @@ impl<'a, R: Clock + Eprint> Page<'a, R> {
     pub fn now(rt: &'a R) -> Page<'a, R> {
         Page {
             rt,
-            moment: Moment::now(rt),
+            time: Time::now(rt),
         }
     }
 
     /// The time in milliseconds since 1970; 0 where the clock has none.
     pub fn millis(&self) -> u64 {
-        match self.moment {
-            Some(moment) => moment.millis,
+        match self.time {
+            Some(time) => time.millis,
             None => 0,
         }
     }
@@ -31,10 +31,10 @@ impl<'a, R: Clock + Eprint> Page<'a, R> {
     /// Writes a line with date and time. Where that fails, where the clock has no time, or where there was no memory
     /// for the line, there is none.
     pub fn write(&self, line: Result<String, AllocError>) {
-        if let (Some(moment), Ok(line)) = (self.moment, line) {
+        if let (Some(time), Ok(line)) = (self.time, line) {
             let _ = self
                 .rt
-                .eprintln(format_args!("{} {}", moment.date, line.as_str()));
+                .eprintln(format_args!("{} {}", time.date, line.as_str()));
         }
     }
 }

@@ -12,7 +12,7 @@ use Rattle.cue_exchange.specs.declared.attempt.Stage.{Stage}
 use Rattle.cue_exchange.specs.declared.attempt.Stage.TheVariants.{Preparing, Decided, Cancelling}
 use Rattle.cue_exchange.specs.declared.attempt.DeviceAnswer.{DeviceAnswer}
 use Rattle.cue_exchange.specs.Answers.{is_waiting, is_preparing, is_decided, is_cancelling, is_concluding, is_known_in}
-use Rattle.cue_exchange.specs.Answers.{is_excused, is_required, has_required, entering, enters, stands, answers_with}
+use Rattle.cue_exchange.specs.Answers.{is_excused, is_required, has_required, entering, enters, may_be_in, answers_with}
 use Rattle.cue_exchange.specs.Answers.{first_answers, answers_on_entry, with_answer, some_waits, devices_of}
 use Rattle.cue_exchange.specs.Live.{is_open}
 use Rattle.cue_exchange.proofs.ListLemmas.{both, join, all_given, all_map}
@@ -68,44 +68,44 @@ is_open-some_waits Decided answers h = h
 is_open-some_waits (Cancelling r) answers h = h
 
 -- an answer may stand in the stage that its attempt enters, where only an optional device is excused
-stands-entering : (t : Stage) (required : Bool) (x : Answer) → IsTrue (not (required && is_excused x))
+may_be_in-entering : (t : Stage) (required : Bool) (x : Answer) → IsTrue (not (required && is_excused x))
     → IsTrue (is_known_in t (entering t x) && not (required && is_excused (entering t x)))
-stands-entering Preparing true Waiting h = refl
-stands-entering Preparing false Waiting h = refl
-stands-entering Preparing true Ready h = refl
-stands-entering Preparing false Ready h = refl
-stands-entering Preparing true Done h = refl
-stands-entering Preparing false Done h = refl
-stands-entering Preparing true LetGo h = refl
-stands-entering Preparing false LetGo h = refl
-stands-entering Preparing true Failed h = refl
-stands-entering Preparing false Failed h = refl
-stands-entering Preparing true Excused h = (cc)
-stands-entering Preparing false Excused h = refl
-stands-entering Decided true Waiting h = refl
-stands-entering Decided false Waiting h = refl
-stands-entering Decided true Ready h = refl
-stands-entering Decided false Ready h = refl
-stands-entering Decided true Done h = refl
-stands-entering Decided false Done h = refl
-stands-entering Decided true LetGo h = refl
-stands-entering Decided false LetGo h = refl
-stands-entering Decided true Failed h = refl
-stands-entering Decided false Failed h = refl
-stands-entering Decided true Excused h = (cc)
-stands-entering Decided false Excused h = refl
-stands-entering (Cancelling r) true Waiting h = refl
-stands-entering (Cancelling r) false Waiting h = refl
-stands-entering (Cancelling r) true Ready h = refl
-stands-entering (Cancelling r) false Ready h = refl
-stands-entering (Cancelling r) true Done h = refl
-stands-entering (Cancelling r) false Done h = refl
-stands-entering (Cancelling r) true LetGo h = refl
-stands-entering (Cancelling r) false LetGo h = refl
-stands-entering (Cancelling r) true Failed h = refl
-stands-entering (Cancelling r) false Failed h = refl
-stands-entering (Cancelling r) true Excused h = refl
-stands-entering (Cancelling r) false Excused h = refl
+may_be_in-entering Preparing true Waiting h = refl
+may_be_in-entering Preparing false Waiting h = refl
+may_be_in-entering Preparing true Ready h = refl
+may_be_in-entering Preparing false Ready h = refl
+may_be_in-entering Preparing true Done h = refl
+may_be_in-entering Preparing false Done h = refl
+may_be_in-entering Preparing true LetGo h = refl
+may_be_in-entering Preparing false LetGo h = refl
+may_be_in-entering Preparing true Failed h = refl
+may_be_in-entering Preparing false Failed h = refl
+may_be_in-entering Preparing true Excused h = (cc)
+may_be_in-entering Preparing false Excused h = refl
+may_be_in-entering Decided true Waiting h = refl
+may_be_in-entering Decided false Waiting h = refl
+may_be_in-entering Decided true Ready h = refl
+may_be_in-entering Decided false Ready h = refl
+may_be_in-entering Decided true Done h = refl
+may_be_in-entering Decided false Done h = refl
+may_be_in-entering Decided true LetGo h = refl
+may_be_in-entering Decided false LetGo h = refl
+may_be_in-entering Decided true Failed h = refl
+may_be_in-entering Decided false Failed h = refl
+may_be_in-entering Decided true Excused h = (cc)
+may_be_in-entering Decided false Excused h = refl
+may_be_in-entering (Cancelling r) true Waiting h = refl
+may_be_in-entering (Cancelling r) false Waiting h = refl
+may_be_in-entering (Cancelling r) true Ready h = refl
+may_be_in-entering (Cancelling r) false Ready h = refl
+may_be_in-entering (Cancelling r) true Done h = refl
+may_be_in-entering (Cancelling r) false Done h = refl
+may_be_in-entering (Cancelling r) true LetGo h = refl
+may_be_in-entering (Cancelling r) false LetGo h = refl
+may_be_in-entering (Cancelling r) true Failed h = refl
+may_be_in-entering (Cancelling r) false Failed h = refl
+may_be_in-entering (Cancelling r) true Excused h = refl
+may_be_in-entering (Cancelling r) false Excused h = refl
 
 -- a required device is asked again as its attempt enters a stage
 pub is_waiting-entering : (t : Stage) (x : Answer) → IsTrue (not (is_excused x)) → IsTrue (is_waiting (entering t x))
@@ -181,32 +181,33 @@ excuses_none-other d x (y ∷ ys) h =
 
 pub all_stand-with_answer : (s : Stage) (d : ℕ) (x : Answer) (answers : List DeviceAnswer) → IsTrue (is_known_in s x)
     → IsTrue (excuses_none d x answers)
-    → IsTrue (list_all (stands s) answers) → IsTrue (list_all (stands s) (with_answer d x answers))
+    → IsTrue (list_all (may_be_in s) answers) → IsTrue (list_all (may_be_in s) (with_answer d x answers))
 all_stand-with_answer s d x answers known none h =
-    all_map (stands s) (answers_with d x) answers
-    (all_given (stands s) (λ y. not (nat_eq y.device d && (is_required y && is_excused x)))
-    (λ y. stands s (answers_with d x y))
+    all_map (may_be_in s) (answers_with d x) answers
+    (all_given (may_be_in s) (λ y. not (nat_eq y.device d && (is_required y && is_excused x)))
+    (λ y. may_be_in s (answers_with d x y))
     (λ y k n. cond_both (nat_eq y.device d) x y.answer
     (λ z. IsTrue (is_known_in s z && not (is_required y && is_excused z)))
     (λ e. join (is_known_in s x) (not (is_required y && is_excused x)) known (rw e at n)) (λ e. k)) answers h none)
 
-pub all_stand-entered : (s t : Stage) (answers : List DeviceAnswer) → IsTrue (list_all (stands s) answers)
-    → IsTrue (list_all (stands t) (answers_on_entry t answers))
+pub all_stand-entered : (s t : Stage) (answers : List DeviceAnswer) → IsTrue (list_all (may_be_in s) answers)
+    → IsTrue (list_all (may_be_in t) (answers_on_entry t answers))
 all_stand-entered s t [] h = refl
 all_stand-entered s t (y ∷ ys) h =
-    let k : IsTrue (stands s y) × IsTrue (list_all (stands s) ys) = both (stands s y) (list_all (stands s) ys) h in
+    let k : IsTrue (may_be_in s y) × IsTrue (list_all (may_be_in s) ys) =
+    both (may_be_in s y) (list_all (may_be_in s) ys) h in
     let fits : IsTrue (is_known_in s y.answer) × IsTrue (not (is_required y && is_excused y.answer)) =
     both (is_known_in s y.answer) (not (is_required y && is_excused y.answer)) k.0 in
-    join (stands t (enters t y)) (list_all (stands t) (answers_on_entry t ys))
-    (stands-entering t (is_required y) y.answer fits.1) (all_stand-entered s t ys k.1)
+    join (may_be_in t (enters t y)) (list_all (may_be_in t) (answers_on_entry t ys))
+    (may_be_in-entering t (is_required y) y.answer fits.1) (all_stand-entered s t ys k.1)
 
-stands-first_answer : (required : Bool) → IsTrue (not (required && false))
-stands-first_answer true = refl
-stands-first_answer false = refl
+may_be_in-first_answer : (required : Bool) → IsTrue (not (required && false))
+may_be_in-first_answer true = refl
+may_be_in-first_answer false = refl
 
-pub all_stand-first_answers : (parts : List Part) → IsTrue (list_all (stands Preparing) (first_answers parts))
+pub all_stand-first_answers : (parts : List Part) → IsTrue (list_all (may_be_in Preparing) (first_answers parts))
 all_stand-first_answers [] = refl
-all_stand-first_answers (p ∷ ps) = rw (stands-first_answer (not p.optional)) (all_stand-first_answers ps)
+all_stand-first_answers (p ∷ ps) = rw (may_be_in-first_answer (not p.optional)) (all_stand-first_answers ps)
 
 -- ---- some device is still to answer
 
@@ -216,10 +217,11 @@ required-waits t true x h k = is_waiting-entering t x h
 required-waits t false x h k = (cc)
 
 pub some_waits-entered : (s t : Stage) (answers : List DeviceAnswer) → IsTrue (has_required answers)
-    → IsTrue (list_all (stands s) answers) → IsTrue (some_waits (answers_on_entry t answers))
+    → IsTrue (list_all (may_be_in s) answers) → IsTrue (some_waits (answers_on_entry t answers))
 some_waits-entered s t [] some h = some
 some_waits-entered s t (y ∷ ys) some h =
-    let k : IsTrue (stands s y) × IsTrue (list_all (stands s) ys) = both (stands s y) (list_all (stands s) ys) h in
+    let k : IsTrue (may_be_in s y) × IsTrue (list_all (may_be_in s) ys) =
+    both (may_be_in s y) (list_all (may_be_in s) ys) h in
     let fits : IsTrue (is_known_in s y.answer) × IsTrue (not (is_required y && is_excused y.answer)) =
     both (is_known_in s y.answer) (not (is_required y && is_excused y.answer)) k.0 in
     ⊎_elim

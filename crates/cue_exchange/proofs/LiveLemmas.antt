@@ -18,8 +18,8 @@ use Rattle.cue_exchange.specs.declared.attempt.Attempt.{Attempt}
 use Rattle.cue_exchange.specs.declared.limits.TheConstants.{MAX_LIVE}
 use Rattle.cue_exchange.specs.Answers.{is_waiting, is_ready, is_preparing, is_decided, is_cancelling, is_concluding}
 use Rattle.cue_exchange.specs.Answers.{is_known_in, is_excused, is_required, has_required, can_be_excused, is_excusable}
-use Rattle.cue_exchange.specs.Answers.{stands, answers_on_entry, with_answer, answer_passes, some_waits, devices_of}
-use Rattle.cue_exchange.specs.Live.{is_number, is_moment, is_open, have_sound_devices, is_sound, is_attempt, pairwise}
+use Rattle.cue_exchange.specs.Answers.{may_be_in, answers_on_entry, with_answer, answer_passes, some_waits, devices_of}
+use Rattle.cue_exchange.specs.Live.{is_number, is_time, is_open, have_sound_devices, is_sound, is_attempt, pairwise}
 use Rattle.cue_exchange.specs.Live.{goes_before, are_live, has_number}
 use Rattle.cue_exchange.specs.Steps.{holds, waits_in, has_room, are_below, are_free, are_sound_parts, can_start}
 use Rattle.cue_exchange.specs.Steps.{can_ready, can_go, can_go_now, can_cancel, can_done, can_let_go, can_fail}
@@ -230,7 +230,7 @@ are_live-ended q test change inside keeps live h passes =
 -- the parts of the test
 pub record CanStart (q t : ℕ) (parts : List Part) (live : List Attempt) : Type 0 where
   pub number : IsTrue (is_number q)
-  pub moment : IsTrue (is_moment t)
+  pub time : IsTrue (is_time t)
   pub room : IsTrue (has_room live)
   pub above : IsTrue (are_below q live)
   pub free : IsTrue (are_free (devices_in parts) live)
@@ -242,47 +242,47 @@ can_start_parts q t parts live h =
     let c5 : Bool = are_free (devices_in parts) live && are_sound_parts parts in
     let c4 : Bool = are_below q live && c5 in
     let c3 : Bool = has_room live && c4 in
-    let c2 : Bool = is_moment t && c3 in
+    let c2 : Bool = is_time t && c3 in
     let s1 : IsTrue (is_number q) × IsTrue c2 = both (is_number q) c2 h in
-    let s2 : IsTrue (is_moment t) × IsTrue c3 = both (is_moment t) c3 s1.1 in
+    let s2 : IsTrue (is_time t) × IsTrue c3 = both (is_time t) c3 s1.1 in
     let s3 : IsTrue (has_room live) × IsTrue c4 = both (has_room live) c4 s2.1 in
     let s4 : IsTrue (are_below q live) × IsTrue c5 = both (are_below q live) c5 s3.1 in
     let s5 : IsTrue (are_free (devices_in parts) live) × IsTrue (are_sound_parts parts) =
     both (are_free (devices_in parts) live) (are_sound_parts parts) s4.1 in
-    record { number = s1.0; moment = s2.0; room = s3.0; above = s4.0; free = s5.0; devices = s5.1 }
+    record { number = s1.0; time = s2.0; room = s3.0; above = s4.0; free = s5.0; devices = s5.1 }
 
 -- ---- one attempt
 
-pub is_sound_from : (a : Attempt) → IsTrue (is_number a.seq) → IsTrue (is_moment a.deadline)
-    → IsTrue (have_sound_devices a.answers) → IsTrue (list_all (stands a.stage) a.answers) → IsTrue (is_sound a)
-is_sound_from a number moment devices stand =
-    join (is_number a.seq) (is_moment a.deadline &&
-    (have_sound_devices a.answers && list_all (stands a.stage) a.answers)) number
-    (join (is_moment a.deadline) (have_sound_devices a.answers && list_all (stands a.stage) a.answers) moment
-    (join (have_sound_devices a.answers) (list_all (stands a.stage) a.answers) devices stand))
+pub is_sound_from : (a : Attempt) → IsTrue (is_number a.seq) → IsTrue (is_time a.deadline)
+    → IsTrue (have_sound_devices a.answers) → IsTrue (list_all (may_be_in a.stage) a.answers) → IsTrue (is_sound a)
+is_sound_from a number time devices stand =
+    join (is_number a.seq) (is_time a.deadline &&
+    (have_sound_devices a.answers && list_all (may_be_in a.stage) a.answers)) number
+    (join (is_time a.deadline) (have_sound_devices a.answers && list_all (may_be_in a.stage) a.answers) time
+    (join (have_sound_devices a.answers) (list_all (may_be_in a.stage) a.answers) devices stand))
 
 -- the parts of a sound attempt
 pub record Sound (a : Attempt) : Type 0 where
   pub number : IsTrue (is_number a.seq)
-  pub moment : IsTrue (is_moment a.deadline)
+  pub time : IsTrue (is_time a.deadline)
   pub devices : IsTrue (have_sound_devices a.answers)
-  pub stand : IsTrue (list_all (stands a.stage) a.answers)
+  pub stand : IsTrue (list_all (may_be_in a.stage) a.answers)
 
 pub sound_of : (a : Attempt) → IsTrue (is_sound a) → Sound a
 sound_of a h =
     let s : IsTrue (is_number a.seq)
-    × IsTrue (is_moment a.deadline && (have_sound_devices a.answers && list_all (stands a.stage) a.answers)) =
-    both (is_number a.seq) (is_moment a.deadline &&
-    (have_sound_devices a.answers && list_all (stands a.stage) a.answers)) h
+    × IsTrue (is_time a.deadline && (have_sound_devices a.answers && list_all (may_be_in a.stage) a.answers)) =
+    both (is_number a.seq) (is_time a.deadline &&
+    (have_sound_devices a.answers && list_all (may_be_in a.stage) a.answers)) h
     in
-    let t : IsTrue (is_moment a.deadline)
-    × IsTrue (have_sound_devices a.answers && list_all (stands a.stage) a.answers) =
-    both (is_moment a.deadline) (have_sound_devices a.answers && list_all (stands a.stage) a.answers) s.1
+    let t : IsTrue (is_time a.deadline)
+    × IsTrue (have_sound_devices a.answers && list_all (may_be_in a.stage) a.answers) =
+    both (is_time a.deadline) (have_sound_devices a.answers && list_all (may_be_in a.stage) a.answers) s.1
     in
-    let u : IsTrue (have_sound_devices a.answers) × IsTrue (list_all (stands a.stage) a.answers) =
-    both (have_sound_devices a.answers) (list_all (stands a.stage) a.answers) t.1
+    let u : IsTrue (have_sound_devices a.answers) × IsTrue (list_all (may_be_in a.stage) a.answers) =
+    both (have_sound_devices a.answers) (list_all (may_be_in a.stage) a.answers) t.1
     in
-    record { number = s.0; moment = t.0; devices = u.0; stand = u.1 }
+    record { number = s.0; time = t.0; devices = u.0; stand = u.1 }
 
 pub is_sound-of_attempt : (a : Attempt) → IsTrue (is_attempt a) → IsTrue (is_sound a)
 is_sound-of_attempt a h = (both (is_sound a) (is_open a.stage a.answers) h).0
@@ -298,7 +298,7 @@ pub is_sound-answers_as : (d : ℕ) (x : Answer) (a : Attempt) → IsTrue (is_kn
     → IsTrue (excuses_none d x a.answers) → IsTrue (is_sound a) → IsTrue (is_sound (answers_as d x a))
 is_sound-answers_as d x a known none h =
     let s : Sound a = sound_of a h in
-    is_sound_from (answers_as d x a) s.number s.moment (rw (has_required-with_answer, devices_of-with_answer) s.devices)
+    is_sound_from (answers_as d x a) s.number s.time (rw (has_required-with_answer, devices_of-with_answer) s.devices)
     (all_stand-with_answer a.stage d x a.answers known none s.stand)
 
 -- an attempt that enters a stage keeps the rules
@@ -310,7 +310,7 @@ is_attempt-moves_to stage a h =
     ((both (has_required a.answers) (distinct (devices_of a.answers)) s.devices).0) s.stand
     in
     join (is_sound (moves_to stage a)) (is_open stage (answers_on_entry stage a.answers))
-    (is_sound_from (moves_to stage a) s.number s.moment (rw (has_required-entered, devices_of-entered) s.devices)
+    (is_sound_from (moves_to stage a) s.number s.time (rw (has_required-entered, devices_of-entered) s.devices)
     (all_stand-entered a.stage stage a.answers s.stand))
     (is_open-some_waits stage (answers_on_entry stage a.answers) some)
 
@@ -417,7 +417,7 @@ are_live-started q c t parts live h can =
     are_live_from (live ++ new ∷ [])
     (le-leb (length (live ++ new ∷ [])) MAX_LIVE (omega (arith, length-append live (new ∷ []))))
     (all_push is_attempt live new (attempts_of live h)
-    (join (is_sound new) true (is_sound_from new k.number k.moment (rw (has_required-first_answers, same) k.devices)
+    (join (is_sound new) true (is_sound_from new k.number k.time (rw (has_required-first_answers, same) k.devices)
     (all_stand-first_answers parts)) refl))
     (pairwise_push goes_before live new (order_of live h)
     (all_given (λ a. nat_lt a.seq q) (λ a. disjoint (devices_of a.answers) (devices_in parts)) (λ a. goes_before a new)

@@ -123,8 +123,8 @@ abbrev pub is_required : DeviceAnswer → Bool
 is_required x = not x.optional
 
 -- the answer of the device may stand in the stage, and only an optional device is excused
-abbrev pub stands : Stage → DeviceAnswer → Bool
-stands stage x = is_known_in stage x.answer && not (is_required x && is_excused x.answer)
+abbrev pub may_be_in : Stage → DeviceAnswer → Bool
+may_be_in stage x = is_known_in stage x.answer && not (is_required x && is_excused x.answer)
 
 -- as far as the device goes, the cue may be carried out: it stands by, or was excused
 abbrev pub may_go : DeviceAnswer → Bool

@@ -9,7 +9,7 @@ use Rattle.cue_exchange.specs.declared.attempt.Stage.TheVariants.{Preparing, Dec
 use Rattle.cue_exchange.specs.declared.attempt.DeviceAnswer.{DeviceAnswer}
 use Rattle.cue_exchange.specs.declared.attempt.Attempt.{Attempt}
 use Rattle.cue_exchange.specs.declared.limits.TheConstants.{MAX_NUMBER, MAX_LIVE}
-pub use Rattle.cue_exchange.specs.Answers.{devices_of, has_required, is_one_of, stands, some_waits, is_preparing}
+pub use Rattle.cue_exchange.specs.Answers.{devices_of, has_required, is_one_of, may_be_in, some_waits, is_preparing}
 
 -- ---- the rules of one attempt
 
@@ -18,8 +18,8 @@ abbrev pub is_number : ℕ → Bool
 is_number q = nat_le 1 q && nat_le q MAX_NUMBER
 
 -- a time has 64 bits
-abbrev pub is_moment : ℕ → Bool
-is_moment t = nat_le t 18446744073709551615
+abbrev pub is_time : ℕ → Bool
+is_time t = nat_le t 18446744073709551615
 
 -- an attempt that is carried out or given up has a device that is still to answer
 abbrev pub is_open : Stage → List DeviceAnswer → Bool
@@ -34,7 +34,7 @@ have_sound_devices answers = has_required answers && distinct (devices_of answer
 -- a number, a deadline, and sound devices, each with an answer that the stage knows
 abbrev pub is_sound : Attempt → Bool
 is_sound a =
-    is_number a.seq && (is_moment a.deadline && (have_sound_devices a.answers && list_all (stands a.stage) a.answers))
+    is_number a.seq && (is_time a.deadline && (have_sound_devices a.answers && list_all (may_be_in a.stage) a.answers))
 
 -- the rules of one live attempt
 abbrev pub is_attempt : Attempt → Bool

@@ -16,7 +16,7 @@ use Rattle.cue_exchange.specs.Answers.{is_waiting, is_preparing, is_decided, is_
 use Rattle.cue_exchange.specs.Answers.{first_answers, answers_on_entry, with_answer, answer_passes, is_excusable}
 use Rattle.cue_exchange.specs.Answers.{all_may_go}
 use Rattle.cue_exchange.specs.Answers.{all_have_done, some_waits, devices_of}
-use Rattle.cue_exchange.specs.Live.{distinct, disjoint, devices_in, is_number, is_moment, is_attempt, has_number}
+use Rattle.cue_exchange.specs.Live.{distinct, disjoint, devices_in, is_number, is_time, is_attempt, has_number}
 use Rattle.cue_exchange.specs.Live.{attempt_of_device}
 
 -- ---- when a step may be taken
@@ -49,7 +49,7 @@ are_sound_parts parts = has_required_part parts && distinct (devices_in parts)
 -- is above those of the live attempts, and none of its devices is in one
 abbrev pub can_start : ℕ → ℕ → List Part → List Attempt → Bool
 can_start q t parts live =
-    is_number q && (is_moment t && (has_room live
+    is_number q && (is_time t && (has_room live
     && (are_below q live && (are_free (devices_in parts) live && are_sound_parts parts))))
 
 -- the device d is asked by q to stand by, and has not answered

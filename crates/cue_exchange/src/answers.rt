@@ -6,7 +6,7 @@ ghost use Rattle.cue_show.specs.Devices.{distinct, disjoint};
 ghost use Rattle.cue_exchange.specs.Live.{have_sound_devices};
 ghost use Rattle.cue_exchange.specs.Answers.{is_waiting, device_answer, answer_passes, is_one_of, has_required};
 ghost use Rattle.cue_exchange.specs.Answers.{is_excusable, some_waits, all_may_go, all_have_done, with_answer};
-ghost use Rattle.cue_exchange.specs.Answers.{answers_with, devices_of, stands, answers_on_entry, enters};
+ghost use Rattle.cue_exchange.specs.Answers.{answers_with, devices_of, may_be_in, answers_on_entry, enters};
 
 use crate::attempt::{Answer, DeviceAnswer, Stage};
 use cue_show::DeviceNo;
@@ -88,9 +88,9 @@ impl Answers {
 
     // Whether each answer may stand in the stage.
     pub(crate) fn all_stand(&self, stage: Stage) -> bool
-        ensures { result ≡ list_all (stands stage) self.now }
+        ensures { result ≡ list_all (may_be_in stage) self.now }
     {
-        self.items.iter().all(|x| x.stands(stage))
+        self.items.iter().all(|x| x.may_be_in(stage))
     }
 
     /// Whether the device is one of the attempt and is still to answer.

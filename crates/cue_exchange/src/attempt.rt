@@ -3,7 +3,7 @@ ghost use Rattle.std.specs.Prelude.{◌≡◌, ◌≤◌};
 ghost use Rattle.cue_exchange.specs.Live.{is_attempt, is_due, is_number, is_open, is_sound};
 ghost use Rattle.cue_exchange.specs.Steps.{can_excuse_now, can_go_now, is_apart, outcome_of};
 ghost use Rattle.cue_exchange.specs.Outcomes.{outcome_number, outcome_numbered};
-ghost use Rattle.cue_exchange.specs.Answers.{is_waiting, is_ready, is_done, is_excused, is_required, stands, may_go};
+ghost use Rattle.cue_exchange.specs.Answers.{is_waiting, is_ready, is_done, is_excused, is_required, may_be_in, may_go};
 ghost use Rattle.cue_exchange.specs.Answers.{has_done, can_be_excused, is_preparing, is_decided, is_cancelling};
 ghost use Rattle.cue_exchange.specs.Answers.{is_concluding, is_known_in, entering};
 
@@ -226,8 +226,8 @@ impl DeviceAnswer {
     }
 
     // Whether the answer may stand in the stage; only an optional device is excused.
-    pub(crate) fn stands(&self, stage: Stage) -> bool
-        ensures { result ≡ stands stage self.now }
+    pub(crate) fn may_be_in(&self, stage: Stage) -> bool
+        ensures { result ≡ may_be_in stage self.now }
     {
         stage.knows(self.answer) && !(self.is_required() && self.answer.is_excused())
     }

@@ -4,7 +4,7 @@ use Rattle.std.proofs.Common.{sum_by, nat_le, nat_lt, ◌<◌, IsTrue, refl, sym
 use Rattle.std.proofs.lemmas.Bool.Decides.{nat_tests}
 use Rattle.std.proofs.lemmas.List.{map-append, length-map}
 use Rattle.std.proofs.lemmas.List.Sums.{sum_by_push}
-use Rattle.cue_log.specs.declared.area.TheConstants.{AREA_LIMIT, FRAME_LEN, PAYLOAD_LIMIT}
+use Rattle.cue_log.specs.declared.area.TheConstants.{MAX_AREA, FRAME_LEN, MAX_PAYLOAD}
 use Rattle.cue_log.specs.Area.{room_of}
 use Rattle.cue_core.specs.declared.event.Event.{Event}
 use Rattle.cue_core.proofs.lists.ConditionLemmas.{both}
@@ -38,20 +38,20 @@ within m n is = Prim.grind (arith, nat_tests, is)
 has_beside : (count end : ℕ) (payloads : List (List ℕ)) → 1 ≤ length payloads
     → IsTrue (has_room_beside count end payloads)
     → (count + length payloads + 1 ≤ MAX_RECORDS)
-    × (end + 1 + room_of payloads + FRAME_LEN + PAYLOAD_LIMIT ≤ AREA_LIMIT)
+    × (end + 1 + room_of payloads + FRAME_LEN + MAX_PAYLOAD ≤ MAX_AREA)
 has_beside count end [] some room = absurd (omega (arith, some))
 has_beside count end (payload ∷ payloads) some room =
-    let long : ℕ = end + 1 + room_of (payload ∷ payloads) + FRAME_LEN + PAYLOAD_LIMIT in
+    let long : ℕ = end + 1 + room_of (payload ∷ payloads) + FRAME_LEN + MAX_PAYLOAD in
     let many : ℕ = count + length (payload ∷ payloads) in
-    let k = both (nat_lt many MAX_RECORDS) (nat_le long AREA_LIMIT) room in
-    (below many MAX_RECORDS k.0, within long AREA_LIMIT k.1)
+    let k = both (nat_lt many MAX_RECORDS) (nat_le long MAX_AREA) room in
+    (below many MAX_RECORDS k.0, within long MAX_AREA k.1)
 
 -- they have room themselves
 room_for_these : (count end : ℕ) (payloads : List (List ℕ)) → 1 ≤ length payloads
     → IsTrue (has_room_beside count end payloads) → lacks_room count end payloads ≡ false
 room_for_these count end payloads some room =
     let k = has_beside count end payloads some room in
-    no_lack MAX_RECORDS AREA_LIMIT (count + length payloads) (end + 1 + room_of payloads) (omega (arith, k.0))
+    no_lack MAX_RECORDS MAX_AREA (count + length payloads) (end + 1 + room_of payloads) (omega (arith, k.0))
     (omega (arith, k.1))
 
 -- how long one more makes them
@@ -65,12 +65,12 @@ one_longer payloads payload = omega (
 
 -- and with one more
 room_for_one : (count end : ℕ) (payloads : List (List ℕ)) (payload : List ℕ) → 1 ≤ length payloads
-    → length payload ≤ PAYLOAD_LIMIT → IsTrue (has_room_beside count end payloads)
+    → length payload ≤ MAX_PAYLOAD → IsTrue (has_room_beside count end payloads)
     → lacks_room count end (payloads ++ payload ∷ []) ≡ false
 room_for_one count end payloads payload some short room =
     let k = has_beside count end payloads some room in
     let all : List (List ℕ) = payloads ++ payload ∷ [] in
-    no_lack MAX_RECORDS AREA_LIMIT (count + length all) (end + 1 + room_of all)
+    no_lack MAX_RECORDS MAX_AREA (count + length all) (end + 1 + room_of all)
     (omega (arith, k.0, length-append payloads (payload ∷ [])))
     (omega (arith, k.1, short, one_longer payloads payload))
 

@@ -4,7 +4,7 @@ use Rattle.std.proofs.Common.{sym, ◌∙◌, ap, subst, arith, Vec, Global}
 use Rattle.std.proofs.lemmas.Bool.Decides.{nat_tests}
 use Rattle.std.proofs.lemmas.List.{map-append}
 use Rattle.std.proofs.lemmas.List.Sums.{sum_by_push}
-use Rattle.cue_log.specs.declared.area.TheConstants.{PAYLOAD_LIMIT}
+use Rattle.cue_log.specs.declared.area.TheConstants.{MAX_PAYLOAD}
 use Rattle.cue_log.specs.Area.{Area, with_payloads}
 use Rattle.cue_core.specs.declared.event.Event.{Event}
 use Rattle.cue_core.specs.State.{ShowState}
@@ -43,16 +43,16 @@ each_more ((f ∷ fs) ∷ batches) batch each one =
     let k = both (is_record (f ∷ fs)) (are_records batches) each in
     join (is_record (f ∷ fs)) (are_records (batches ++ batch ∷ [])) k.0 (each_more batches batch k.1 one)
 
-fits : (batch : List Event) → IsTrue (is_batch batch) → length (batch_text batch) ≤ PAYLOAD_LIMIT
+fits : (batch : List Event) → IsTrue (is_batch batch) → length (batch_text batch) ≤ MAX_PAYLOAD
     → IsTrue (is_record batch)
 fits batch is short =
-    let few : nat_le (length (batch_text batch)) PAYLOAD_LIMIT ≡ true = grind (arith, nat_tests) in
-    join (is_batch batch) (nat_le (length (batch_text batch)) PAYLOAD_LIMIT) is few
+    let few : nat_le (length (batch_text batch)) MAX_PAYLOAD ≡ true = grind (arith, nat_tests) in
+    join (is_batch batch) (nat_le (length (batch_text batch)) MAX_PAYLOAD) is few
 
 -- a batch with an event is framed
 pub grown : (batches : List (List Event)) (batch : List Event) (records new_records : List (List ℕ))
     (bytes new_bytes : ℕ) → IsGroup batches records bytes → IsTrue (is_batch batch)
-    → length (batch_text batch) ≤ PAYLOAD_LIMIT → 1 ≤ length batch
+    → length (batch_text batch) ≤ MAX_PAYLOAD → 1 ≤ length batch
     → new_records ≡ records ++ batch_text batch ∷ [] → new_bytes ≡ bytes + length (batch_text batch)
     → IsGroup (batches ++ batch ∷ []) new_records new_bytes
 grown batches batch records new_records bytes new_bytes group is short some framed long = record {
@@ -98,7 +98,7 @@ in_turn_together s ([] ∷ batches) each may = in_turn_together s batches each m
 in_turn_together s ((e ∷ es) ∷ batches) each may =
     let k = both (is_record (e ∷ es)) (are_records batches) each in
     let l = both (are_acceptable s (e ∷ es)) (are_all_acceptable (after_events s (e ∷ es)) batches) may in
-    let one = both (is_batch (e ∷ es)) (nat_le (length (batch_text (e ∷ es))) PAYLOAD_LIMIT) k.0 in
+    let one = both (is_batch (e ∷ es)) (nat_le (length (batch_text (e ∷ es))) MAX_PAYLOAD) k.0 in
     into_turn s (e ∷ es) (with_events batches)
     (record { is_one = one.0; acceptable = l.0; rest = in_turn_together (after_events s (e ∷ es)) batches k.1 l.1 })
 

@@ -9,7 +9,7 @@ use Rattle.cue_records.specs.Reading.{◌>>=◌, where_it}
 use Rattle.cue_records.specs.State.{IsStateText, IsNoState}
 use Rattle.cue_log.specs.Area.{Area}
 use Rattle.cue_keeper.specs.Stands.{StandsFor}
-use Rattle.cue_keeper.specs.Reading.{batch_in, base_in, state_behind, state_after, state_read, state_in}
+use Rattle.cue_keeper.specs.Reading.{batch_in, base_in, state_after_payload, state_after, state_read, state_in}
 use Rattle.cue_keeper.proofs.StandingLemmas.{taken, found, where_true, batch_again, base_again, batch_takes, base_takes}
 
 pub on_ok : {T E A B : Type 0} (r : Result T E) → (A → B) → OnOk r A → OnOk r B
@@ -33,15 +33,15 @@ is_in payload batch is = ap batch_in is.1 ∙ batch_again batch is.0
 
 pub behind_one : (s t : ShowState) (payload : List ℕ) (batch : List Event) → IsTrue (is_batch batch)
     × (payload ≡ batch_text batch) → IsTrue (are_acceptable s batch) × (t ≡ after_events s batch)
-    → state_behind s payload ≡ Some t
+    → state_after_payload s payload ≡ Some t
 behind_one s t payload batch is may =
     rw (is_in payload batch is) (where_true (are_acceptable s batch) (after_events s batch) may.0 ∙ ap Some (sym may.1))
 
 pub behind_refused : (s : ShowState) (payload : List ℕ) (batch : List Event) → IsTrue (is_batch batch)
-    × (payload ≡ batch_text batch) → are_acceptable s batch ≡ false → state_behind s payload ≡ None
+    × (payload ≡ batch_text batch) → are_acceptable s batch ≡ false → state_after_payload s payload ≡ None
 behind_refused s payload batch is may = rw (is_in payload batch is, may) refl
 
-pub behind_no_batch : (s : ShowState) (payload : List ℕ) → IsNoBatch payload → state_behind s payload ≡ None
+pub behind_no_batch : (s : ShowState) (payload : List ℕ) → IsNoBatch payload → state_after_payload s payload ≡ None
 behind_no_batch s payload none = by (batch_in payload) refl
   where
     by : (o : Option (List Event)) → batch_in payload ≡ o
@@ -54,12 +54,12 @@ behind_no_batch s payload none = by (batch_in payload) refl
 -- ---- all payloads
 
 pub after_next : (s t : ShowState) (payload : List ℕ) (payloads others : List (List ℕ)) → payloads ≡ payload ∷ others
-    → state_behind s payload ≡ Some t → state_after s payloads ≡ state_after t others
+    → state_after_payload s payload ≡ Some t → state_after s payloads ≡ state_after t others
 unfolding state_after
 after_next s t payload payloads others is one = ap (state_after s) is ∙ rw one refl
 
 pub after_refused : (s : ShowState) (payload : List ℕ) (payloads others : List (List ℕ)) → payloads ≡ payload ∷ others
-    → state_behind s payload ≡ None → state_after s payloads ≡ None
+    → state_after_payload s payload ≡ None → state_after s payloads ≡ None
 unfolding state_after
 after_refused s payload payloads others is none = ap (state_after s) is ∙ rw none refl
 

@@ -1,7 +1,7 @@
 -- When a state and a batch have room in one area, by the lengths of their texts.
 use Rattle.std.proofs.Common.{◌≡◌, ℕ, ◌+◌, ◌-◌, ◌≤◌, ◌<◌, Bool, true, false, ◌||◌, nat_lt, List, length, ap, arith}
 use Rattle.std.proofs.Common.{true≢false}
-use Rattle.cue_log.specs.declared.area.TheConstants.{AREA_LIMIT, PAYLOAD_LIMIT}
+use Rattle.cue_log.specs.declared.area.TheConstants.{MAX_AREA, MAX_PAYLOAD}
 use Rattle.std.proofs.lemmas.Bool.Decides.{nat_tests}
 
 -- an area that is not due has room for the next payload
@@ -15,7 +15,7 @@ pub too_long : (limit : ℕ) (slice payload added text batch : List ℕ) → sli
 too_long limit slice payload added text batch a b c long = omega (arith, long, ap length a, ap length b, ap length c)
 
 -- the longest payload has room in an empty area
-pub payload_fits : PAYLOAD_LIMIT + 19 ≤ AREA_LIMIT
+pub payload_fits : MAX_PAYLOAD + 19 ≤ MAX_AREA
 payload_fits = fits
   where
     fits : 32768 + 19 ≤ 16777216

@@ -26,7 +26,7 @@ use Rattle.cue_records.proofs.BatchLemmas as batch_laws
 use Rattle.cue_records.proofs.StateLemmas as state_laws
 use Rattle.cue_keeper.specs.Stands.{are_in_turn, folded_all, StandsFor, StandsEither, StandsAs}
 use Rattle.cue_keeper.specs.Pairs.{PairIsAny}
-use Rattle.cue_keeper.specs.Reading.{batch_in, base_in, state_behind, state_after, state_read, state_in}
+use Rattle.cue_keeper.specs.Reading.{batch_in, base_in, state_after_payload, state_after, state_read, state_in}
 use Rattle.cue_keeper.specs.Laws.{ReaderFindsTheState, OneStateOfAPair, StandingIsSymmetric, WhatStandsIsAState}
 
 -- ---- the rules are kept
@@ -141,7 +141,7 @@ takes_all : (s t : ShowState) (payloads : List (List ℕ)) → state_after s pay
 unfolding state_after
 takes_all s t [] e = record { batches = []; in_turn = refl; texts = refl; is = some_is t s (sym e) }
 takes_all s t (payload ∷ payloads) e =
-    let x = bind_some (state_behind s payload) (λ next. state_after next payloads) t e in
+    let x = bind_some (state_after_payload s payload) (λ next. state_after next payloads) t e in
     let y = bind_some (batch_in payload) (λ batch. where_it (are_acceptable s batch) (after_events s batch)) x.0 x.1 in
     let f = batch_takes payload y.0 y.1 in
     let w = some_where (are_acceptable s y.0) (after_events s y.0) x.0 y.2 in
@@ -266,13 +266,13 @@ pub either_symmetric : (s t : ShowState) (x y : List ℕ) → StandsEither s t x
 either_symmetric s t x y (inl stands) = inl (symmetric x y s stands)
 either_symmetric s t x y (inr stands) = inr (symmetric x y t stands)
 
-pub any_stands : (before anew after : Area) (s t : ShowState) → StandsFor before s → StandsFor anew s
-    → StandsFor after t → (x y : List ℕ) → PairIsAny before anew after x y → StandsEither s t x y
-any_stands before anew after s t old turned new x y (inl reads) =
+pub any_stands : (before new_area after : Area) (s t : ShowState) → StandsFor before s → StandsFor new_area s
+    → StandsFor after t → (x y : List ℕ) → PairIsAny before new_area after x y → StandsEither s t x y
+any_stands before new_area after s t old turned new x y (inl reads) =
     inl (record { area = before; reads = reads; stands = old })
-any_stands before anew after s t old turned new x y (inr (inl reads)) =
-    inl (record { area = anew; reads = reads; stands = turned })
-any_stands before anew after s t old turned new x y (inr (inr reads)) =
+any_stands before new_area after s t old turned new x y (inr (inl reads)) =
+    inl (record { area = new_area; reads = reads; stands = turned })
+any_stands before new_area after s t old turned new x y (inr (inr reads)) =
     inr (record { area = after; reads = reads; stands = new })
 
 -- the two disks in their order

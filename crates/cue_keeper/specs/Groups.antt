@@ -1,7 +1,7 @@
 -- Batches that are accepted together: a stop leaves none of them or all.
 use Rattle.std.specs.Prelude.{◌≡◌, ℕ, Bool, true, ◌&&◌, List, [], ◌∷◌, length, map, sum_by, nat_le}
 use Rattle.std.proofs.Common.{Vec, Global}
-use Rattle.cue_log.specs.declared.area.TheConstants.{PAYLOAD_LIMIT}
+use Rattle.cue_log.specs.declared.area.TheConstants.{MAX_PAYLOAD}
 use Rattle.cue_core.specs.declared.event.Event.{Event}
 use Rattle.cue_core.specs.State.{ShowState}
 use Rattle.cue_core.specs.Steps.{are_acceptable, after_events}
@@ -24,7 +24,7 @@ are_all_acceptable s (batch ∷ batches) = are_acceptable s batch && are_all_acc
 
 -- a record holds the batch
 abbrev pub is_record : List Event → Bool
-is_record batch = is_batch batch && nat_le (length (batch_text batch)) PAYLOAD_LIMIT
+is_record batch = is_batch batch && nat_le (length (batch_text batch)) MAX_PAYLOAD
 
 -- each batch has no event, or a record holds it
 abbrev pub are_records : List (List Event) → Bool

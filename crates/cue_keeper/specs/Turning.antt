@@ -1,7 +1,7 @@
 -- When a batch needs a new area, and what can stand in its way.
 use Rattle.std.specs.Prelude.{◌≡◌, ◌≤◌, ◌<◌, ◌+◌, ◌-◌, ◌^◌, Bool, List, length, IsTrue}
 use Rattle.cue_disk.specs.declared.disk.Disk.{Ghosts}
-use Rattle.cue_log.specs.declared.area.TheConstants.{AREA_LIMIT, FRAME_LEN, HEAD_LEN}
+use Rattle.cue_log.specs.declared.area.TheConstants.{MAX_AREA, FRAME_LEN, HEAD_LEN}
 use Rattle.cue_snap.specs.declared.snap.Snap.{Snap}
 use Rattle.cue_snap.specs.Observed.{generation_of, count_of, end_of}
 use Rattle.cue_core.specs.declared.event.Event.{Event}
@@ -28,4 +28,4 @@ HasAGeneration snap = generation_of snap < 2 ^ 64 - 1
 
 -- a new area has no room for the state and the batch
 abbrev pub HasNoRoom : ShowState → List Event → Type 0
-HasNoRoom s batch = AREA_LIMIT < HEAD_LEN + FRAME_LEN + 1 + length (state_text s) + length (batch_text batch)
+HasNoRoom s batch = MAX_AREA < HEAD_LEN + FRAME_LEN + 1 + length (state_text s) + length (batch_text batch)

@@ -1,11 +1,11 @@
 // Batches that are accepted together: each is framed as it comes, so that accepting several takes no memory.
 ghost use Rattle.std.specs.Prelude.{◌≡◌, ◌≤◌, ◌+◌, true, [], ◌∷◌, ◌++◌, length, sum_by};
 ghost use Rattle.std.specs.Prelude.{IfOk, OnOk, OnErr, IsTrue};
-ghost use Rattle.cue_log.specs.declared.area.TheConstants.{PAYLOAD_LIMIT};
+ghost use Rattle.cue_log.specs.declared.area.TheConstants.{MAX_PAYLOAD};
 ghost use Rattle.cue_records.specs.Batch.{is_batch, batch_text};
 ghost use Rattle.cue_keeper.specs.Groups.{with_events, records_of, are_records, is_record, batches_view};
 
-use crate::framing::framed;
+use crate::framing::frame_batch;
 use crate::keeper::discard;
 use cue_core::Event;
 use cue_log::RecordGroup;
@@ -53,7 +53,7 @@ impl BatchGroup {
     /// was.
     pub fn push(&mut self, batch: Vec<Event>) -> Result<(), AllocError>
         requires batch { 1 ≤ length batch.items → IsTrue (is_batch batch.items) }
-        requires short { length (batch_text batch.items) ≤ PAYLOAD_LIMIT }
+        requires short { length (batch_text batch.items) ≤ MAX_PAYLOAD }
         ensures ok { OnOk result (self.new ≡ self.old ++ batch.items ∷ []) }
         ensures err { OnErr result (self.new ≡ self.old) }
     {
@@ -118,12 +118,12 @@ fn add_framed(
     batch: &[Event],
 ) -> Result<u64, AllocError>
     requires batch { IsTrue (is_batch batch.now) }
-    requires short { length (batch_text batch.now) ≤ PAYLOAD_LIMIT }
+    requires short { length (batch_text batch.now) ≤ MAX_PAYLOAD }
     ensures ok { OnOk result (records.new ≡ records.old ++ batch_text batch.now ∷ []) }
     ensures bytes { IfOk result (λ all. all ≡ bytes + length (batch_text batch.now)) }
     ensures err { OnErr result (records.new ≡ records.old) }
 {
-    let added = framed(alloc, batch)?;
+    let added = frame_batch(alloc, batch)?;
     let Some(all) = bytes.checked_add(added.payload().len() as u64) else {
         return Err(AllocError);
     };

@@ -14,7 +14,7 @@ use crate::fault::Fault;
 use crate::group::BatchGroup;
 use cue_core::State;
 use cue_disk::Disk;
-use cue_log::{AREA_LIMIT, PAYLOAD_LIMIT};
+use cue_log::{MAX_AREA, MAX_PAYLOAD};
 use cue_snap::Snap;
 use std::alloc::Global;
 
@@ -37,8 +37,8 @@ pub(crate) fn has_room_beside<D: Disk>(snap: &Snap<D>, group: &BatchGroup) -> bo
     count == 0
         || count < MAX_RECORDS
             && snap.count() < MAX_RECORDS - count
-            && group.bytes() < AREA_LIMIT
-            && snap.has_room_for(count + 1, group.bytes() + PAYLOAD_LIMIT as u64)
+            && group.bytes() < MAX_AREA
+            && snap.has_room_for(count + 1, group.bytes() + MAX_PAYLOAD as u64)
 }
 
 // Commits several batches, or none where the live area lacks room for all of them.

@@ -8,7 +8,7 @@ use Rattle.cue_disk.specs.Disk.{MoreFailures}
 use Rattle.cue_disk.specs.declared.disk.Disk.{Ghosts}
 use Rattle.cue_disk.proofs.CrashLemmas.{image_torn}
 use Rattle.cue_disk.proofs.MomentLemmas.{started, goes_on}
-use Rattle.cue_log.specs.declared.area.TheConstants.{AREA_LIMIT}
+use Rattle.cue_log.specs.declared.area.TheConstants.{MAX_AREA}
 use Rattle.cue_log.specs.Area.{Area, IsArea, area_text, records_text, group_text, room_of, are_records, with_payloads}
 use Rattle.cue_log.specs.Reading.{area_in, payloads_in}
 use Rattle.cue_log.specs.Record.{AreFramed}
@@ -31,7 +31,7 @@ pub record Done {T E D : Type 0} (disk : Ghosts D) (payloads : List (List ℕ)) 
   pub bytes : OnOk result ((disk.held new).bytes ≡ overwritten_bytes (disk.held old).bytes end (group_text payloads))
 
 module _ {D : Type 0} (disk : Ghosts D) (text : List ℕ) (end : ℕ) (framed : AreFramed text) (some : 1 < length text)
-    (limit : end + length text ≤ AREA_LIMIT) (d0 : D) (settled : IsSettled (disk.held d0) end)
+    (limit : end + length text ≤ MAX_AREA) (d0 : D) (settled : IsSettled (disk.held d0) end)
     (now : disk.held_at d0 (disk.moment d0) ≡ disk.held d0) where
   abbrev moment : D → ℕ
   moment = disk.moment
@@ -54,7 +54,7 @@ module _ {D : Type 0} (disk : Ghosts D) (text : List ℕ) (end : ℕ) (framed : 
   short : are_records payloads ≡ true
   short = framed.short
 
-  room : end + 1 + length stored ≤ AREA_LIMIT
+  room : end + 1 + length stored ≤ MAX_AREA
   room = omega (arith, limit, length-behind_first text framed some)
 
   abbrev pub area : Area

@@ -5,7 +5,7 @@ use Rattle.std.proofs.lemmas.Bool.{cases_eq}
 use Rattle.std.proofs.lemmas.List.{length-take, drop_at, take-take, take-append-le}
 use Rattle.cue_disk.specs.Disk.{Torn, overwritten_bytes}
 use Rattle.cue_disk.proofs.CrashLemmas.{overwritten_torn, overwritten_within, length-overwritten}
-use Rattle.cue_log.specs.declared.area.TheConstants.{AREA_LIMIT}
+use Rattle.cue_log.specs.declared.area.TheConstants.{MAX_AREA}
 use Rattle.cue_log.specs.Area.{Area, IsArea, area_text, records_text, group_text, are_records, with_payloads}
 use Rattle.cue_log.specs.Log.{IsEither}
 use Rattle.cue_log.proofs.TextLemmas.{split_at, reads, front_reads, area_text-append, are_records-append}
@@ -14,7 +14,7 @@ use Rattle.cue_log.proofs.TextLemmas.{length-records, length-group}
 -- A text with one gate more, and records that were framed after it: the gate says whether they count.
 module _ (area : Area) (payloads : List (List ℕ)) (bytes stored : List ℕ) (end : ℕ) (is : IsArea area bytes)
     (frame : 1 ∷ stored ≡ group_text payloads) (short : are_records payloads ≡ true)
-    (ends : end ≡ length (area_text area)) (room : end + 1 + length stored ≤ AREA_LIMIT) where
+    (ends : end ≡ length (area_text area)) (room : end + 1 + length stored ≤ MAX_AREA) where
   abbrev rest : List ℕ
   rest = drop (end + 1 + length stored) bytes
 

@@ -8,7 +8,7 @@ use Rattle.std.proofs.lemmas.Bool.{and_parts}
 use Rattle.std.proofs.lemmas.Bool.Decides.{nat_tests}
 use borrow.Author.Tests.{leb-true}
 use Rattle.std.proofs.lemmas.List.{length-take, take_at, drop_at, take-take, get_or-take}
-use Rattle.cue_log.specs.declared.area.TheConstants.{AREA_LIMIT, PAYLOAD_LIMIT}
+use Rattle.cue_log.specs.declared.area.TheConstants.{MAX_AREA, MAX_PAYLOAD}
 use Rattle.cue_log.specs.Area.{Area, IsArea, area_text, records_text, are_records, frame_of, body_text, four_bytes}
 use Rattle.cue_log.specs.Area.{eight_bytes}
 use Rattle.cue_log.specs.Reading.{four_at, eight_at, frame_at, in_front, payloads_after, payloads_at, area_with}
@@ -60,21 +60,21 @@ pub payloads_read : (payloads : List (List ℕ)) (most gate : ℕ) (rest : List 
 payloads_read payloads zero gate rest enough shut records = absurd (omega (arith, enough))
 payloads_read [] (suc most) gate rest enough shut records =
     let test : (gate == 1) ≡ false = grind (arith, nat_tests, shut) in
-    ap (λ (b : Bool). if b then payloads_after (payloads_at most) (frame_at PAYLOAD_LIMIT rest) else Some []) test
+    ap (λ (b : Bool). if b then payloads_after (payloads_at most) (frame_at MAX_PAYLOAD rest) else Some []) test
 payloads_read (payload ∷ payloads) (suc most) gate rest enough shut records =
-    let parts = and_parts (nat_le (length payload) PAYLOAD_LIMIT) (are_records payloads) records in
-    let short : length payload ≤ PAYLOAD_LIMIT = leb-true _ _ parts.0 in
+    let parts = and_parts (nat_le (length payload) MAX_PAYLOAD) (are_records payloads) records in
+    let short : length payload ≤ MAX_PAYLOAD = leb-true _ _ parts.0 in
     let behind : List ℕ = records_text payloads ++ gate ∷ rest in
     let split : (frame_of payload ++ records_text payloads) ++ gate ∷ rest ≡ frame_of payload ++ behind =
     append_assoc (frame_of payload) (records_text payloads) (gate ∷ rest) in
-    let read : frame_at PAYLOAD_LIMIT ((frame_of payload ++ records_text payloads) ++ gate ∷ rest) ≡ Some
+    let read : frame_at MAX_PAYLOAD ((frame_of payload ++ records_text payloads) ++ gate ∷ rest) ≡ Some
     (payload, behind) =
-    ap (frame_at PAYLOAD_LIMIT) split ∙ frame_read PAYLOAD_LIMIT payload behind short (omega (arith, short)) in
+    ap (frame_at MAX_PAYLOAD) split ∙ frame_read MAX_PAYLOAD payload behind short (omega (arith, short)) in
     ap (payloads_after (payloads_at most)) read
     ∙ ap (in_front payload) (payloads_read payloads most gate rest (omega (arith, enough)) shut parts.1)
 
 -- a head gate, a generation, a snapshot, and payloads
-pub area_found : (area : Area) (gate : ℕ) (rest : List ℕ) → gate ≢ 1 → length area.snapshot ≤ AREA_LIMIT
+pub area_found : (area : Area) (gate : ℕ) (rest : List ℕ) → gate ≢ 1 → length area.snapshot ≤ MAX_AREA
     → area.generation < 2 ^ 64 → are_records area.payloads ≡ true → area_at (area_text area ++ gate ∷ rest) ≡ Some area
 area_found area gate rest shut short generation records =
     let number : List ℕ = eight_bytes area.generation in
@@ -93,13 +93,13 @@ area_found area gate rest shut short generation records =
     ∙ eight_read area.generation (frame_of area.snapshot ++ tail) generation in
     let behind : drop 8 text ≡ frame_of area.snapshot ++ tail = ap (λ (l : List ℕ). drop 8 l) split
     ∙ drop_at number (frame_of area.snapshot ++ tail) 8 (length-eight_bytes area.generation) in
-    let frame : frame_at AREA_LIMIT (drop 8 text) ≡ Some (area.snapshot, tail) = ap (frame_at AREA_LIMIT) behind
-    ∙ frame_read AREA_LIMIT area.snapshot tail short (omega (arith, short)) in
+    let frame : frame_at MAX_AREA (drop 8 text) ≡ Some (area.snapshot, tail) = ap (frame_at MAX_AREA) behind
+    ∙ frame_read MAX_AREA area.snapshot tail short (omega (arith, short)) in
     let payloads : payloads_at (length tail) tail ≡ Some area.payloads =
     payloads_read area.payloads (length tail) gate rest
     (omega (arith, length-append (records_text area.payloads) (gate ∷ rest), length-records_text area.payloads))
     shut records in
-    ap (λ (b : Bool). if b then None else area_after (eight_at text) (frame_at AREA_LIMIT (drop 8 text))) long
+    ap (λ (b : Bool). if b then None else area_after (eight_at text) (frame_at MAX_AREA (drop 8 text))) long
     ∙ (λ i. area_after (first i) (frame i))
     ∙ ap (area_with area.generation area.snapshot) payloads
 
@@ -108,13 +108,13 @@ pub complete : (area : Area) (bytes : List ℕ) → IsArea area bytes → read_a
 unfolding read_area
 complete area bytes is =
     let end = length (area_text area) in
-    let cut : List ℕ = take AREA_LIMIT bytes in
-    let within : end < length cut = omega (arith, length-take AREA_LIMIT bytes, is.fits, is.ends) in
-    let front : take end cut ≡ area_text area = take-take end AREA_LIMIT bytes (omega (arith, is.fits)) ∙ is.text in
-    let gate : get_or cut end 0 ≡ get_or bytes end 0 = get_or-take AREA_LIMIT bytes end 0 is.fits in
+    let cut : List ℕ = take MAX_AREA bytes in
+    let within : end < length cut = omega (arith, length-take MAX_AREA bytes, is.fits, is.ends) in
+    let front : take end cut ≡ area_text area = take-take end MAX_AREA bytes (omega (arith, is.fits)) ∙ is.text in
+    let gate : get_or cut end 0 ≡ get_or bytes end 0 = get_or-take MAX_AREA bytes end 0 is.fits in
     let split : cut ≡ area_text area ++ get_or cut end 0 ∷ drop (end + 1) cut = split_at cut end within
     ∙ ap (λ (l : List ℕ). l ++ get_or cut end 0 ∷ drop (end + 1) cut) front in
-    let short : length area.snapshot ≤ AREA_LIMIT =
+    let short : length area.snapshot ≤ MAX_AREA =
     omega (
       arith,
       is.fits,

@@ -5,7 +5,7 @@ use Rattle.std.specs.Prelude.{IfOk, IsSome}
 use Rattle.std.proofs.lemmas.List.{take-take, drop-take, take_min}
 use Rattle.cue_disk.specs.Disk.{Contents, IsImage, LeavesAtEachMoment, Elapses}
 use Rattle.cue_disk.proofs.MomentLemmas.{started, goes_on, and_then, weaker}
-use Rattle.cue_log.specs.declared.area.TheConstants.{AREA_LIMIT}
+use Rattle.cue_log.specs.declared.area.TheConstants.{MAX_AREA}
 use Rattle.cue_log.specs.Reading.{area_at}
 use Rattle.cue_log.specs.Log.{OnlyReads, IsFront}
 
@@ -76,7 +76,7 @@ synced_reads moment held held_at d0 d1 d2 d3 d4 now fewer time1 same2 time2 same
 
 -- What was read is a front with the area, where there is one.
 pub front_after : {T E : Type 0} (items : T → List ℕ) (result : Result T E) (bytes : List ℕ) (most : ℕ)
-    → most ≡ min (length bytes) AREA_LIMIT → 2 ≤ length bytes → get_or bytes 0 0 ≡ 1
+    → most ≡ min (length bytes) MAX_AREA → 2 ≤ length bytes → get_or bytes 0 0 ≡ 1
     → IfOk result (λ text. items text ≡ take (length (items text)) bytes)
     → IfOk result (λ text. IsSome (area_at (items text)) ⊎ (length (items text) ≡ most))
     → IfOk result (λ text. IsFront (items text) bytes)
@@ -86,8 +86,8 @@ front_after items (Ok text) bytes most is long open_ front enough = record {
   enough = elim enough [
     | inl whole ↦ inl whole
     | inr all ↦
-        let reach : min AREA_LIMIT (length bytes) ≡ length (items text) = omega (arith, is, all) in
-        inr (sym (take_min AREA_LIMIT bytes) ∙ ap (λ (n : ℕ). take n bytes) reach ∙ sym front)
+        let reach : min MAX_AREA (length bytes) ≡ length (items text) = omega (arith, is, all) in
+        inr (sym (take_min MAX_AREA bytes) ∙ ap (λ (n : ℕ). take n bytes) reach ∙ sym front)
   ];
   long = long;
   opened = open_;

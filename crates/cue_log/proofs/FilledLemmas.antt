@@ -7,7 +7,7 @@ use Rattle.cue_disk.specs.Disk.{Contents, IsImage, IsStable, Torn, Writes, overw
 use Rattle.cue_disk.specs.Disk.{Elapses}
 use Rattle.cue_disk.proofs.CrashLemmas.{image_stable, image_torn, torn_elsewhere}
 use Rattle.cue_disk.proofs.MomentLemmas.{started, goes_on}
-use Rattle.cue_log.specs.declared.area.TheConstants.{AREA_LIMIT, HEAD_LEN}
+use Rattle.cue_log.specs.declared.area.TheConstants.{MAX_AREA, HEAD_LEN}
 use Rattle.cue_log.specs.Area.{Area, IsArea, IsAbsent, area_text, body_text, fresh, frame_of, eight_bytes, four_bytes}
 use Rattle.cue_log.specs.Reading.{area_in}
 use Rattle.cue_log.specs.Log.{IsSettled, IsShut, IsFilled, IsNoneOr}
@@ -95,7 +95,7 @@ filled_after generation snapshot header written synced rest is shut body same st
 
 -- A body behind a gate: the gate says whether it is an area.
 module _ (held : Contents) (generation : ℕ) (snapshot : List ℕ) (filled : IsFilled held generation snapshot)
-    (numbered : generation < 2 ^ 64) (room : HEAD_LEN + length snapshot < AREA_LIMIT) where
+    (numbered : generation < 2 ^ 64) (room : HEAD_LEN + length snapshot < MAX_AREA) where
   abbrev area : Area
   area = fresh generation snapshot
 

@@ -3,8 +3,8 @@ use Rattle.std.proofs.Common.{◌≡◌, ℕ, ◌<◌, List, ◌∷◌, length, 
 use Rattle.std.specs.Prelude.{IsSome}
 use Rattle.std.specs.Option.{option_map}
 use Rattle.cue_log.specs.Area.{records_text}
-use Rattle.cue_log.specs.declared.area.TheConstants.{PAYLOAD_LIMIT}
-use Rattle.cue_log.specs.Reading.{frame_at, in_front, payloads_at, or_none, payloads_in, HasRecords, bytes_behind}
+use Rattle.cue_log.specs.declared.area.TheConstants.{MAX_PAYLOAD}
+use Rattle.cue_log.specs.Reading.{frame_at, in_front, payloads_at, or_none, payloads_in, HasRecords, bytes_left}
 use Rattle.cue_log.proofs.CompleteLemmas.{length-records_text}
 use Rattle.cue_log.proofs.SoundLemmas.{length-read}
 use Rattle.cue_log.proofs.StepLemmas.{payloads_step}
@@ -14,7 +14,7 @@ some_is None has = absurd (cc (has))
 some_is (Some payloads) has = refl
 
 -- They are read where the length behind them is.
-pub read_in : (bytes : List ℕ) (behind : ℕ) (payloads : List (List ℕ)) → Some behind ≡ bytes_behind bytes
+pub read_in : (bytes : List ℕ) (behind : ℕ) (payloads : List (List ℕ)) → Some behind ≡ bytes_left bytes
     → payloads ≡ payloads_in bytes → payloads_at (length bytes) bytes ≡ Some payloads
 read_in bytes behind payloads counted is = by (payloads_at (length bytes) bytes) refl
   where
@@ -46,7 +46,7 @@ module _ (bytes after : List ℕ) (gate : ℕ) (is : bytes ≡ gate ∷ after) (
   first : bytes ≡ 1 ∷ after
   first = is ∙ ap (λ (n : ℕ). n ∷ after) opened
 
-  pub one_in : (payload rest : List ℕ) → frame_at PAYLOAD_LIMIT after ≡ Some (payload, rest) → HasRecords bytes
+  pub one_in : (payload rest : List ℕ) → frame_at MAX_PAYLOAD after ≡ Some (payload, rest) → HasRecords bytes
       → HasRecords rest × (payloads_in bytes ≡ payload ∷ payloads_in rest)
   one_in payload rest frame has =
       in_front_of payload (payloads_at (length bytes) bytes) (payloads_at (length rest) rest) has

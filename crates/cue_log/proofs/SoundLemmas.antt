@@ -9,11 +9,11 @@ use Rattle.std.proofs.lemmas.Bool.{cases_eq, cases_lt, le-leb, and_from}
 use Rattle.std.proofs.lemmas.Bool.Decides.{nat_tests}
 use Rattle.std.proofs.lemmas.List.{length-take, drop-drop, get_or-drop, get_or-take, get_or_past}
 use Rattle.std.proofs.lemmas.Nat.{be_bytes_4, be_bytes_8}
-use Rattle.cue_log.specs.declared.area.TheConstants.{AREA_LIMIT, PAYLOAD_LIMIT}
+use Rattle.cue_log.specs.declared.area.TheConstants.{MAX_AREA, MAX_PAYLOAD}
 use Rattle.cue_log.specs.Area.{Area, IsArea, IsAbsent, area_text, frame_of, records_text, are_records, four_bytes}
 use Rattle.cue_log.specs.Area.{eight_bytes}
 use Rattle.cue_log.specs.Reading.{frame_at, four_at, eight_at, in_front, payloads_after, payloads_at, area_with}
-use Rattle.cue_log.specs.Reading.{area_after, area_at, read_area, bytes_behind}
+use Rattle.cue_log.specs.Reading.{area_after, area_at, read_area, bytes_left}
 use Rattle.cue_log.specs.Log.{IsFront, IsDamaged}
 use Rattle.cue_log.specs.Laws.{AreBytes, AnyBytesAnswer, NoAreaIsAbsent}
 use Rattle.cue_log.proofs.CompleteLemmas.{complete, length-records_text}
@@ -25,12 +25,12 @@ pub record OneMore (most : ℕ) (bytes : List ℕ) (payloads : List (List ℕ)) 
   pub payload : List ℕ
   pub rest : List ℕ
   pub others : List (List ℕ)
-  pub frame : frame_at PAYLOAD_LIMIT bytes ≡ Some (payload, rest)
+  pub frame : frame_at MAX_PAYLOAD bytes ≡ Some (payload, rest)
   pub read : payloads_at most rest ≡ Some others
   pub is : payloads ≡ payload ∷ others
 
 others_read : (most : ℕ) (bytes payload rest : List ℕ) (payloads : List (List ℕ)) (others : Option (List (List ℕ)))
-    → frame_at PAYLOAD_LIMIT bytes ≡ Some (payload, rest) → payloads_at most rest ≡ others
+    → frame_at MAX_PAYLOAD bytes ≡ Some (payload, rest) → payloads_at most rest ≡ others
     → in_front payload others ≡ Some payloads → OneMore most bytes payloads
 others_read most bytes payload rest payloads None frame read is = absurd (cc (is))
 others_read most bytes payload rest payloads (Some others) frame read is =
@@ -38,7 +38,7 @@ others_read most bytes payload rest payloads (Some others) frame read is =
     record { payload = payload; rest = rest; others = others; frame = frame; read = read; is = sym same }
 
 frame_read : (most : ℕ) (bytes : List ℕ) (payloads : List (List ℕ)) (frame : Option (List ℕ × List ℕ))
-    → frame_at PAYLOAD_LIMIT bytes ≡ frame → payloads_after (payloads_at most) frame ≡ Some payloads
+    → frame_at MAX_PAYLOAD bytes ≡ frame → payloads_after (payloads_at most) frame ≡ Some payloads
     → OneMore most bytes payloads
 frame_read most bytes payloads None frame is = absurd (cc (is))
 frame_read most bytes payloads (Some parts) frame is =
@@ -49,12 +49,12 @@ pub gate_read : (most gate : ℕ) (bytes : List ℕ) (payloads : List (List ℕ)
     → payloads_at (suc most) (gate ∷ bytes) ≡ Some payloads → ((gate ≢ 1) × (payloads ≡ []))
     ⊎ ((gate ≡ 1) × OneMore most bytes payloads)
 gate_read most gate bytes payloads is =
-    let after : Option (List (List ℕ)) = payloads_after (payloads_at most) (frame_at PAYLOAD_LIMIT bytes) in
+    let after : Option (List (List ℕ)) = payloads_after (payloads_at most) (frame_at MAX_PAYLOAD bytes) in
     elim (cases_eq gate 1) [
       | inl open_ ↦
           let test : (gate == 1) ≡ true = grind (arith, nat_tests, open_) in
           let some : after ≡ Some payloads = sym (ap (λ (b : Bool). if b then after else Some []) test) ∙ is in
-          inr (open_, frame_read most bytes payloads (frame_at PAYLOAD_LIMIT bytes) refl some)
+          inr (open_, frame_read most bytes payloads (frame_at MAX_PAYLOAD bytes) refl some)
       | inr shut ↦
           let test : (gate == 1) ≡ false = grind (arith, nat_tests, shut) in
           let some : Some [] ≡ Some payloads = sym (ap (λ (b : Bool). if b then after else Some []) test) ∙ is in
@@ -75,13 +75,13 @@ length-read (suc most) (gate ∷ bytes) payloads is = elim (gate_read most gate 
         ap (λ (l : List (List ℕ)). length (records_text l)) one.is,
         length-append (1 ∷ frame_of one.payload) (records_text one.others),
         length-framed one.payload,
-        length-frame_at PAYLOAD_LIMIT bytes one.payload one.rest one.frame,
+        length-frame_at MAX_PAYLOAD bytes one.payload one.rest one.frame,
         length-read most one.rest one.others one.read,
       )
 ]
 
 -- Where the last gate stands, counted from the end.
-pub last_gate : (area : Area) (len behind : ℕ) (tail : List ℕ) → Some behind ≡ bytes_behind tail
+pub last_gate : (area : Area) (len behind : ℕ) (tail : List ℕ) → Some behind ≡ bytes_left tail
     → payloads_at (length tail) tail ≡ Some area.payloads → 13 + length area.snapshot + length tail ≡ len
     → (len - behind ≡ length (area_text area)) × (len - behind < len)
 last_gate area len behind tail counted read parts =
@@ -162,9 +162,9 @@ records_found (suc most) (gate ∷ bytes) payloads are is = elim (gate_read most
       let one = some.1 in
       let are_next : AreBytes bytes = λ i. are (suc i) in
       let found = records_found most one.rest one.others
-      (frame_bytes PAYLOAD_LIMIT bytes one.payload one.rest are_next one.frame) one.read in
+      (frame_bytes MAX_PAYLOAD bytes one.payload one.rest are_next one.frame) one.read in
       let text : gate ∷ bytes ≡ (1 ∷ frame_of one.payload ++ records_text one.others) ++ found.gate ∷ found.rest =
-      (λ i. some.0 i ∷ frame_text PAYLOAD_LIMIT bytes one.payload one.rest are_next one.frame i)
+      (λ i. some.0 i ∷ frame_text MAX_PAYLOAD bytes one.payload one.rest are_next one.frame i)
       ∙ ap (λ (l : List ℕ). 1 ∷ frame_of one.payload ++ l) found.is
       ∙ sym (append_assoc (1 ∷ frame_of one.payload) (records_text one.others) (found.gate ∷ found.rest)) in
       record {
@@ -172,8 +172,8 @@ records_found (suc most) (gate ∷ bytes) payloads are is = elim (gate_read most
         rest = found.rest;
         is = text ∙ ap (λ (l : List (List ℕ)). records_text l ++ found.gate ∷ found.rest) (sym one.is);
         shut = found.shut;
-        records = ap are_records one.is ∙ and_from (nat_le (length one.payload) PAYLOAD_LIMIT) (are_records one.others)
-            (le-leb _ _ (frame_short PAYLOAD_LIMIT bytes one.payload one.rest one.frame)) found.records;
+        records = ap are_records one.is ∙ and_from (nat_le (length one.payload) MAX_PAYLOAD) (are_records one.others)
+            (le-leb _ _ (frame_short MAX_PAYLOAD bytes one.payload one.rest one.frame)) found.records;
       }
 ]
 
@@ -194,12 +194,12 @@ record Behind (bytes : List ℕ) (area : Area) : Type 0 where
   snapshot : List ℕ
   tail : List ℕ
   payloads : List (List ℕ)
-  frame : frame_at AREA_LIMIT (drop 8 bytes) ≡ Some (snapshot, tail)
+  frame : frame_at MAX_AREA (drop 8 bytes) ≡ Some (snapshot, tail)
   read : payloads_at (length tail) tail ≡ Some payloads
   is : record { generation = eight_at bytes; snapshot = snapshot; payloads = payloads } ≡ area
 
 records_behind : (bytes snapshot tail : List ℕ) (area : Area) (payloads : Option (List (List ℕ)))
-    → frame_at AREA_LIMIT (drop 8 bytes) ≡ Some (snapshot, tail) → payloads_at (length tail) tail ≡ payloads
+    → frame_at MAX_AREA (drop 8 bytes) ≡ Some (snapshot, tail) → payloads_at (length tail) tail ≡ payloads
     → area_with (eight_at bytes) snapshot payloads ≡ Some area → Behind bytes area
 records_behind bytes snapshot tail area None frame read is = absurd (cc (is))
 records_behind bytes snapshot tail area (Some payloads) frame read is =
@@ -208,25 +208,25 @@ records_behind bytes snapshot tail area (Some payloads) frame read is =
     record { snapshot = snapshot; tail = tail; payloads = payloads; frame = frame; read = read; is = same }
 
 frame_behind : (bytes : List ℕ) (area : Area) (frame : Option (List ℕ × List ℕ))
-    → frame_at AREA_LIMIT (drop 8 bytes) ≡ frame → area_after (eight_at bytes) frame ≡ Some area → Behind bytes area
+    → frame_at MAX_AREA (drop 8 bytes) ≡ frame → area_after (eight_at bytes) frame ≡ Some area → Behind bytes area
 frame_behind bytes area None frame is = absurd (cc (is))
 frame_behind bytes area (Some parts) frame is =
     records_behind bytes parts.0 parts.1 area (payloads_at (length parts.1) parts.1) frame refl is
 
 -- A text that is found stands there.
-behind_found : (bytes : List ℕ) (area : Area) → AreBytes bytes → 8 ≤ length bytes → length bytes < AREA_LIMIT
+behind_found : (bytes : List ℕ) (area : Area) → AreBytes bytes → 8 ≤ length bytes → length bytes < MAX_AREA
     → Behind bytes area → IsArea area (1 ∷ bytes)
 behind_found bytes area are long short found =
     let whole : Area = record { generation = eight_at bytes; snapshot = found.snapshot; payloads = found.payloads } in
     let next : List ℕ = drop 8 bytes in
     let are_next : AreBytes next = bytes_of_drop 8 bytes are in
     let records = records_found (length found.tail) found.tail found.payloads
-    (frame_bytes AREA_LIMIT next found.snapshot found.tail are_next found.frame) found.read in
+    (frame_bytes MAX_AREA next found.snapshot found.tail are_next found.frame) found.read in
     let number : List ℕ = eight_bytes (eight_at bytes) in
     let split : bytes ≡ number
     ++ (frame_of found.snapshot ++ (records_text found.payloads ++ records.gate ∷ records.rest)) =
     sym (take-append-drop 8 bytes)
-    ∙ (λ i. sym (eight_text bytes are long) i ++ frame_text AREA_LIMIT next found.snapshot found.tail are_next
+    ∙ (λ i. sym (eight_text bytes are long) i ++ frame_text MAX_AREA next found.snapshot found.tail are_next
     found.frame i)
     ∙ ap (λ (l : List ℕ). number ++ (frame_of found.snapshot ++ l)) records.is in
     let text : 1 ∷ bytes ≡ area_text whole ++ records.gate ∷ records.rest =
@@ -237,11 +237,11 @@ behind_found bytes area are long short found =
     (reads whole records.gate records.rest (1 ∷ bytes) text records.shut (omega (arith, ends, short))
     (eight_fits bytes are) records.records)
 
-pub sound_at : (text : List ℕ) (area : Area) → AreBytes text → length text ≤ AREA_LIMIT → area_at text ≡ Some area
+pub sound_at : (text : List ℕ) (area : Area) → AreBytes text → length text ≤ MAX_AREA → area_at text ≡ Some area
     → IsArea area text
 sound_at [] area are short is = absurd (cc (is))
 sound_at (gate ∷ bytes) area are short is =
-    let after : Option Area = area_after (eight_at bytes) (frame_at AREA_LIMIT (drop 8 bytes)) in
+    let after : Option Area = area_after (eight_at bytes) (frame_at MAX_AREA (drop 8 bytes)) in
     let cut : Option Area = if nat_lt (length bytes) 8 then None else after in
     elim (cases_eq gate 1) [
       | inl open_ ↦ elim (cases_lt (length bytes) 8) [
@@ -256,7 +256,7 @@ sound_at (gate ∷ bytes) area are short is =
             let test : nat_lt (length bytes) 8 ≡ false = grind (arith, nat_tests, enough) in
             let some : after ≡ Some area = sym (ap (λ (b : Bool). if b then cut else None) gate_test
             ∙ ap (λ (b : Bool). if b then None else after) test) ∙ is in
-            let found = frame_behind bytes area (frame_at AREA_LIMIT (drop 8 bytes)) refl some in
+            let found = frame_behind bytes area (frame_at MAX_AREA (drop 8 bytes)) refl some in
             subst (λ (n : ℕ). IsArea area (n ∷ bytes)) (sym open_)
             (behind_found bytes area (λ i. are (suc i)) enough (omega (arith, short)) found)
       ]
@@ -270,10 +270,10 @@ sound_at (gate ∷ bytes) area are short is =
 pub sound : (bytes : List ℕ) (area : Area) → AreBytes bytes → read_area bytes ≡ Some area → IsArea area bytes
 unfolding read_area
 sound bytes area are is =
-    let cut : List ℕ = take AREA_LIMIT bytes in
+    let cut : List ℕ = take MAX_AREA bytes in
     let there : IsArea area cut =
-    sound_at cut area (bytes_of_take AREA_LIMIT bytes are) (omega (arith, length-take AREA_LIMIT bytes)) is in
-    longer_reads area AREA_LIMIT bytes there
+    sound_at cut area (bytes_of_take MAX_AREA bytes are) (omega (arith, length-take MAX_AREA bytes)) is in
+    longer_reads area MAX_AREA bytes there
 
 some_or_none : {A : Type 0} (o : Option A) → IsSome o → o ≡ None → ⊥
 some_or_none None some none = cc (some)

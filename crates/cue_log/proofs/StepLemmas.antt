@@ -6,9 +6,9 @@ use Rattle.std.specs.Option.{option_map}
 use Rattle.std.proofs.lemmas.Bool.{cases_Bool}
 use Rattle.std.proofs.lemmas.Bool.Decides.{nat_tests}
 use Rattle.std.proofs.lemmas.List.{length-take}
-use Rattle.cue_log.specs.declared.area.TheConstants.{PAYLOAD_LIMIT}
+use Rattle.cue_log.specs.declared.area.TheConstants.{MAX_PAYLOAD}
 use Rattle.cue_log.specs.Area.{frame_of, records_text}
-use Rattle.cue_log.specs.Reading.{frame_at, four_at, in_front, payloads_after, payloads_at, behind, bytes_behind}
+use Rattle.cue_log.specs.Reading.{frame_at, four_at, in_front, payloads_after, payloads_at, behind, bytes_left}
 use Rattle.cue_log.proofs.TextLemmas.{length-framed}
 
 -- what a frame is of the bytes
@@ -73,21 +73,21 @@ payloads_enough (suc m) zero [] enough_m enough_n = refl
 payloads_enough (suc m) zero (gate ∷ bytes) enough_m enough_n = absurd (omega (arith, enough_n))
 payloads_enough (suc m) (suc n) [] enough_m enough_n = refl
 payloads_enough (suc m) (suc n) (gate ∷ bytes) enough_m enough_n =
-    let same : payloads_after (payloads_at m) (frame_at PAYLOAD_LIMIT bytes) ≡ payloads_after (payloads_at n)
-    (frame_at PAYLOAD_LIMIT bytes) =
-    after_same (payloads_at m) (payloads_at n) PAYLOAD_LIMIT bytes (frame_at PAYLOAD_LIMIT bytes) refl
+    let same : payloads_after (payloads_at m) (frame_at MAX_PAYLOAD bytes) ≡ payloads_after (payloads_at n)
+    (frame_at MAX_PAYLOAD bytes) =
+    after_same (payloads_at m) (payloads_at n) MAX_PAYLOAD bytes (frame_at MAX_PAYLOAD bytes) refl
     (λ text rest is. payloads_enough m n rest
-    (omega (arith, enough_m, length-frame_at PAYLOAD_LIMIT bytes text rest is))
-    (omega (arith, enough_n, length-frame_at PAYLOAD_LIMIT bytes text rest is))) in
+    (omega (arith, enough_m, length-frame_at MAX_PAYLOAD bytes text rest is))
+    (omega (arith, enough_n, length-frame_at MAX_PAYLOAD bytes text rest is))) in
     ap (λ (o : Option (List (List ℕ))). if gate == 1 then o else Some []) same
 
 -- An open gate and a frame: one payload, and those behind it.
-pub payloads_step : (after payload rest : List ℕ) → frame_at PAYLOAD_LIMIT after ≡ Some (payload, rest)
+pub payloads_step : (after payload rest : List ℕ) → frame_at MAX_PAYLOAD after ≡ Some (payload, rest)
     → payloads_at (length (1 ∷ after)) (1 ∷ after) ≡ in_front payload (payloads_at (length rest) rest)
 payloads_step after payload rest is =
     ap (payloads_after (payloads_at (length after))) is
     ∙ ap (in_front payload) (payloads_enough (length after) (length rest) rest
-    (omega (arith, length-frame_at PAYLOAD_LIMIT after payload rest is)) (omega arith))
+    (omega (arith, length-frame_at MAX_PAYLOAD after payload rest is)) (omega arith))
 
 -- the length behind one record more
 behind_one : (long short : ℕ) (payload : List ℕ) (rest : Option (List (List ℕ))) → long ≡ 5 + length payload + short
@@ -100,13 +100,13 @@ behind_one long short payload (Some payloads) is =
     ap Some same
 
 -- The last gate stands where it stood.
-pub bytes_behind_step : (after payload rest : List ℕ) → frame_at PAYLOAD_LIMIT after ≡ Some (payload, rest)
-    → bytes_behind (1 ∷ after) ≡ bytes_behind rest
+pub bytes_behind_step : (after payload rest : List ℕ) → frame_at MAX_PAYLOAD after ≡ Some (payload, rest)
+    → bytes_left (1 ∷ after) ≡ bytes_left rest
 bytes_behind_step after payload rest is =
     ap (option_map (λ (payloads : List (List ℕ)). length (1 ∷ after) - length (records_text payloads)))
     (payloads_step after payload rest is)
     ∙ behind_one (length (1 ∷ after)) (length rest) payload (payloads_at (length rest) rest)
-    (omega (arith, length-frame_at PAYLOAD_LIMIT after payload rest is))
+    (omega (arith, length-frame_at MAX_PAYLOAD after payload rest is))
 
 -- One payload read is in front no more, but among those that are read.
 pub behind_step : (front : List (List ℕ)) (payload : List ℕ) (rest : Option (List (List ℕ)))
@@ -116,12 +116,12 @@ behind_step front payload (Some payloads) = ap Some (sym (append_assoc front (pa
 
 -- The same steps at a gate that was read.
 module _ (bytes after payload rest : List ℕ) (gate : ℕ) (is : bytes ≡ gate ∷ after) (opened : gate ≡ 1)
-    (frame : frame_at PAYLOAD_LIMIT after ≡ Some (payload, rest)) where
+    (frame : frame_at MAX_PAYLOAD after ≡ Some (payload, rest)) where
   first : bytes ≡ 1 ∷ after
   first = is ∙ ap (λ (n : ℕ). n ∷ after) opened
 
-  pub bytes_behind_next : bytes_behind rest ≡ bytes_behind bytes
-  bytes_behind_next = sym (ap bytes_behind first ∙ bytes_behind_step after payload rest frame)
+  pub bytes_behind_next : bytes_left rest ≡ bytes_left bytes
+  bytes_behind_next = sym (ap bytes_left first ∙ bytes_behind_step after payload rest frame)
 
   pub payloads_next : (front : List (List ℕ))
       → behind (front ++ payload ∷ []) (payloads_at (length rest) rest) ≡ behind front

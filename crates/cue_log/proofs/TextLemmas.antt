@@ -4,7 +4,7 @@ use Rattle.std.proofs.Common.{refl, sym, ◌∙◌, ap, arith, append_assoc, len
 use Rattle.std.proofs.lemmas.Bool.{and_parts, and_from}
 use Rattle.std.proofs.lemmas.List.Sums.{sum_by-cons}
 use Rattle.std.proofs.lemmas.List.{length-take, take_at, take-take, get_or_at, get_or-take, drop_more}
-use Rattle.cue_log.specs.declared.area.TheConstants.{AREA_LIMIT, PAYLOAD_LIMIT}
+use Rattle.cue_log.specs.declared.area.TheConstants.{MAX_AREA, MAX_PAYLOAD}
 use Rattle.cue_log.specs.Area.{Area, IsArea, area_text, records_text, are_records, frame_of, with_payloads, group_text}
 use Rattle.cue_log.specs.Area.{room_of, body_text, four_bytes, eight_bytes}
 
@@ -14,7 +14,7 @@ split_at l n within = sym (take-append-drop n l) ∙ ap (λ (r : List ℕ). take
 
 -- Bytes in which a gate that is not open stands behind the text read as the area.
 pub reads : (area : Area) (gate : ℕ) (rest bytes : List ℕ) → bytes ≡ area_text area ++ gate ∷ rest → gate ≢ 1
-    → length (area_text area) < AREA_LIMIT → area.generation < 2 ^ 64 → are_records area.payloads ≡ true
+    → length (area_text area) < MAX_AREA → area.generation < 2 ^ 64 → are_records area.payloads ≡ true
     → IsArea area bytes
 reads area gate rest bytes is shut fits generation records = record {
   text = ap (λ (l : List ℕ). take (length (area_text area)) l) is
@@ -95,8 +95,8 @@ pub are_records-append : (payloads more : List (List ℕ)) → are_records paylo
     → are_records (payloads ++ more) ≡ true
 are_records-append [] more records short = short
 are_records-append (first ∷ payloads) more records short =
-    let parts = and_parts (nat_le (length first) PAYLOAD_LIMIT) (are_records payloads) records in
-    and_from (nat_le (length first) PAYLOAD_LIMIT) (are_records (payloads ++ more)) parts.0
+    let parts = and_parts (nat_le (length first) MAX_PAYLOAD) (are_records payloads) records in
+    and_from (nat_le (length first) MAX_PAYLOAD) (are_records (payloads ++ more)) parts.0
     (are_records-append payloads more parts.1 short)
 
 -- where the last gate stands

@@ -3,7 +3,7 @@ use Rattle.std.specs.Prelude.{◌≡◌, ◌≤◌, ◌<◌, ◌+◌, ◌↔◌,
 use Rattle.std.specs.Prelude.{Result, OnOk, IfErr, IsErrOf}
 use Rattle.cue_disk.specs.declared.disk.Disk.{Ghosts}
 use Rattle.cue_disk.specs.Disk.{LeavesAtEachMoment, CountsFailure, MoreFailures, overwritten_bytes}
-use Rattle.cue_log.specs.declared.area.TheConstants.{AREA_LIMIT}
+use Rattle.cue_log.specs.declared.area.TheConstants.{MAX_AREA}
 use Rattle.cue_log.specs.declared.log.AppendFault.{AppendFault}
 use Rattle.cue_log.specs.declared.log.AppendFault.TheVariants as fault
 use Rattle.cue_log.specs.declared.log.Log.{Log}
@@ -33,7 +33,7 @@ pub record Writes {T E D : Type 0} (disk : Ghosts D) (payloads : List (List ℕ)
 
 -- with them the encoding of the area, its last gate included, would pass the limit
 abbrev pub LacksRoom : {D : Type 0} {disk : Ghosts D} → Log D disk → List (List ℕ) → Type 0
-LacksRoom log payloads = AREA_LIMIT < end_of log + 1 + room_of payloads
+LacksRoom log payloads = MAX_AREA < end_of log + 1 + room_of payloads
 
 -- a device call failed
 abbrev pub DiskHasFailed : {D : Type 0} {disk : Ghosts D} → (old new : Log D disk) → Type 0

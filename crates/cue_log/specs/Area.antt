@@ -3,7 +3,7 @@ use Rattle.std.specs.Prelude.{◌≡◌, ◌≢◌, ◌<◌, ◌+◌, ◌*◌, �
 use Rattle.std.specs.Prelude.{◌&&◌, List, [], ◌∷◌, ◌++◌, length}
 use Rattle.std.specs.Prelude.{take, sum_by, slice_index}
 use Rattle.std.specs.Int.{to_be_bytes, w32, w64}
-use Rattle.cue_log.specs.declared.area.TheConstants.{AREA_LIMIT, FRAME_LEN, PAYLOAD_LIMIT}
+use Rattle.cue_log.specs.declared.area.TheConstants.{MAX_AREA, FRAME_LEN, MAX_PAYLOAD}
 
 -- what an area has: a generation, a snapshot, and the payloads of the records after it
 pub record Area : Type 0 where
@@ -38,7 +38,7 @@ area_text area = 1 ∷ body_text area.generation area.snapshot ++ records_text a
 -- each is short enough for a record
 abbrev pub are_records : List (List ℕ) → Bool
 are_records [] = true
-are_records (payload ∷ payloads) = nat_le (length payload) PAYLOAD_LIMIT && are_records payloads
+are_records (payload ∷ payloads) = nat_le (length payload) MAX_PAYLOAD && are_records payloads
 
 -- The bytes read as this area: its encoding comes first and then a gate that is not open, within the largest area. What
 -- follows that gate is not read.
@@ -46,7 +46,7 @@ pub record IsArea (area : Area) (bytes : List ℕ) : Type 0 where
   pub text : take (length (area_text area)) bytes ≡ area_text area
   pub ends : length (area_text area) < length bytes
   pub closed : slice_index bytes (length (area_text area)) ≢ 1
-  pub fits : length (area_text area) < AREA_LIMIT
+  pub fits : length (area_text area) < MAX_AREA
   pub generation : area.generation < 2 ^ 64
   pub records : are_records area.payloads ≡ true
 

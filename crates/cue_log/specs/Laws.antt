@@ -3,7 +3,7 @@ use Rattle.std.specs.Prelude.{◌≡◌, ◌⊎◌, ◌<◌, ℕ, List, Some, sl
 use Rattle.cue_log.specs.Area.{Area, IsArea, IsAbsent}
 use Rattle.cue_log.specs.Reading.{read_area}
 use Rattle.cue_log.specs.Log.{IsDamaged}
-use Rattle.cue_log.specs.declared.area.TheConstants.{AREA_LIMIT, PAYLOAD_LIMIT, HEAD_LEN, FRAME_LEN, OPEN, CLOSED}
+use Rattle.cue_log.specs.declared.area.TheConstants.{MAX_AREA, MAX_PAYLOAD, HEAD_LEN, FRAME_LEN, OPEN, CLOSED}
 
 -- each cell is a byte
 abbrev pub AreBytes : List ℕ → Type 0
@@ -34,5 +34,5 @@ NoAreaIsAbsent = (area : Area) (bytes : List ℕ) → IsArea area bytes → IsAb
 -- The limits as numbers: the bytes of the longest area and of the longest payload, those in front of a snapshot and of
 -- a payload, and the bytes of an open and of a closed gate.
 abbrev pub LimitsOfAnArea : Type 0
-LimitsOfAnArea = (AREA_LIMIT ≡ 16777216) × (PAYLOAD_LIMIT ≡ 32768) × (HEAD_LEN ≡ 13) × (FRAME_LEN ≡ 5)
+LimitsOfAnArea = (MAX_AREA ≡ 16777216) × (MAX_PAYLOAD ≡ 32768) × (HEAD_LEN ≡ 13) × (FRAME_LEN ≡ 5)
     × (OPEN ≡ 1) × (CLOSED ≡ 0)

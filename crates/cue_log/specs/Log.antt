@@ -3,7 +3,7 @@ use Rattle.std.specs.Prelude.{◌≡◌, ◌≢◌, ◌⊎◌, ◌<◌, ◌≤�
 use Rattle.std.specs.Prelude.{◌++◌, length, take, drop, slice_index}
 use Rattle.std.specs.Prelude.{IsSome, ◌==◌, if◌then◌else◌}
 use Rattle.cue_disk.specs.Disk.{Contents, IsImage, IsStable, LeavesAtEachMoment}
-use Rattle.cue_log.specs.declared.area.TheConstants.{AREA_LIMIT}
+use Rattle.cue_log.specs.declared.area.TheConstants.{MAX_AREA}
 use Rattle.cue_log.specs.Area.{Area, IsArea, IsAbsent, area_text, body_text}
 use Rattle.cue_log.specs.Reading.{area_in, area_at}
 
@@ -78,6 +78,6 @@ pub record OnlyReads {D : Type 0} (moment : D → ℕ) (held : D → Contents) (
 -- a front of the bytes, long enough that an area is there in whole, behind an open head gate
 pub record IsFront (text bytes : List ℕ) : Type 0 where
   pub front : text ≡ take (length text) bytes
-  pub enough : IsSome (area_at text) ⊎ (take AREA_LIMIT bytes ≡ text)
+  pub enough : IsSome (area_at text) ⊎ (take MAX_AREA bytes ≡ text)
   pub long : 2 ≤ length bytes
   pub opened : slice_index bytes 0 ≡ 1

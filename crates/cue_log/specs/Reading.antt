@@ -3,7 +3,7 @@ use Rattle.std.specs.Prelude.{◌+◌, ◌-◌, ℕ, zero, suc, nat_lt, ◌||◌
 use Rattle.std.specs.Prelude.{[], ◌∷◌, ◌++◌, length}
 use Rattle.std.specs.Prelude.{take, drop, Option, Some, None, IsSome}
 use Rattle.std.specs.Int.{from_be_bytes, w32, w64}
-use Rattle.cue_log.specs.declared.area.TheConstants.{AREA_LIMIT, PAYLOAD_LIMIT}
+use Rattle.cue_log.specs.declared.area.TheConstants.{MAX_AREA, MAX_PAYLOAD}
 use Rattle.std.specs.Option.{option_map}
 use Rattle.cue_log.specs.Area.{Area, records_text}
 
@@ -34,7 +34,7 @@ abbrev pub payloads_at : ℕ → List ℕ → Option (List (List ℕ))
 payloads_at zero bytes = None
 payloads_at (suc most) [] = None
 payloads_at (suc most) (gate ∷ bytes) =
-    if gate == 1 then payloads_after (payloads_at most) (frame_at PAYLOAD_LIMIT bytes) else Some []
+    if gate == 1 then payloads_after (payloads_at most) (frame_at MAX_PAYLOAD bytes) else Some []
 
 -- these payloads, and then those
 abbrev pub behind : List (List ℕ) → Option (List (List ℕ)) → Option (List (List ℕ))
@@ -67,12 +67,12 @@ abbrev pub area_at : List ℕ → Option Area
 area_at [] = None
 area_at (gate ∷ bytes) =
     if gate == 1
-    then (if nat_lt (length bytes) 8 then None else area_after (eight_at bytes) (frame_at AREA_LIMIT (drop 8 bytes)))
+    then (if nat_lt (length bytes) 8 then None else area_after (eight_at bytes) (frame_at MAX_AREA (drop 8 bytes)))
     else None
 
 -- The area that the bytes read as, where there is one.
 unfoldable pub read_area : List ℕ → Option Area
-read_area bytes = area_at (take AREA_LIMIT bytes)
+read_area bytes = area_at (take MAX_AREA bytes)
 
 -- The same, with an empty one where there is none.
 abbrev pub or_empty : Option Area → Area
@@ -83,6 +83,6 @@ abbrev pub area_in : List ℕ → Area
 area_in bytes = or_empty (read_area bytes)
 
 -- how many bytes stand from the last gate on, where the records end
-abbrev pub bytes_behind : List ℕ → Option ℕ
-bytes_behind bytes = option_map (λ payloads. length bytes - length (records_text payloads))
+abbrev pub bytes_left : List ℕ → Option ℕ
+bytes_left bytes = option_map (λ payloads. length bytes - length (records_text payloads))
     (payloads_at (length bytes) bytes)

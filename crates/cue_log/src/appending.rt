@@ -9,7 +9,7 @@ ghost use Rattle.cue_log.specs.Record.{AreFramed};
 ghost use Rattle.cue_log.specs.Log.{IsSettled};
 ghost use Rattle.cue_log.specs.Appending.{Writes};
 
-use crate::area::{AREA_LIMIT, OPEN};
+use crate::area::{MAX_AREA, OPEN};
 use cue_disk::{Disk, DiskFault};
 
 /// Writes records, of which there is one at least, from the last gate on, which stands at `end`: first what follows
@@ -17,7 +17,7 @@ use cue_disk::{Disk, DiskFault};
 pub(crate) fn commit<D: Disk>(disk: &mut D, end: u64, text: &[u8]) -> Result<(), DiskFault>
     requires framed { AreFramed text.now }
     requires some { 1 < length text.now }
-    requires room { end + length text.now ≤ AREA_LIMIT }
+    requires room { end + length text.now ≤ MAX_AREA }
     requires settled { D.is_honest disk.old → IsSettled (D.held disk.old) end }
     ensures writes { Writes D.Disk (payloads_in text.now) result end disk.old disk.new }
 {

@@ -7,10 +7,10 @@ ghost use Rattle.cue_log.specs.Log.{IsOldOrAbsent, IsClosed, LeavesAbsent, close
 use cue_disk::{Disk, DiskFault};
 
 /// The longest encoding of an area, in bytes.
-pub const AREA_LIMIT: u64 = 16_777_216;
+pub const MAX_AREA: u64 = 16_777_216;
 
 /// The longest payload of a record, in bytes.
-pub const PAYLOAD_LIMIT: usize = 32_768;
+pub const MAX_PAYLOAD: usize = 32_768;
 
 /// The bytes in front of the snapshot of an area: the head gate, the generation, and the snapshot's length.
 pub const HEAD_LEN: u64 = 13;

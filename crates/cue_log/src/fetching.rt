@@ -8,7 +8,7 @@ ghost use Rattle.cue_log.specs.Reading.{area_at};
 ghost use Rattle.cue_log.specs.Log.{OnlyReads, IsFront, IsDamaged, LeavesAbsent};
 ghost use Rattle.cue_log.specs.Parts.{parts_area};
 
-use crate::area::{AREA_LIMIT, OPEN};
+use crate::area::{MAX_AREA, OPEN};
 use crate::opening::OpenFault;
 use crate::reading::{Parts, is_whole, read_parts};
 use cue_disk::Disk;
@@ -19,7 +19,7 @@ const CHUNK: usize = 65_536;
 
 // Reads some bytes more, after those that were read.
 fn read_more<D: Disk>(disk: &mut D, text: &mut Vec<u8>, more: usize) -> Result<(), OpenFault>
-    requires room { length text.old.items + more ≤ AREA_LIMIT }
+    requires room { length text.old.items + more ≤ MAX_AREA }
     requires within { D.is_honest disk.old → length text.old.items + more ≤ length (D.held disk.old).bytes }
     ensures reads { D.is_honest disk.old → OnlyReads D.moment D.held D.held_at disk.old disk.new }
     ensures text { D.is_honest disk.old → OnOk result (text.new.items
@@ -40,7 +40,7 @@ fn read_more<D: Disk>(disk: &mut D, text: &mut Vec<u8>, more: usize) -> Result<(
 // Reads from the front until an area is there in whole, or else as much as an area may have. Each read is as long as
 // those before it together, so that no more than twice the area is read.
 fn read_text<D: Disk>(alloc: Global, disk: &mut D, most: usize) -> Result<Vec<u8>, OpenFault>
-    requires room { most ≤ AREA_LIMIT }
+    requires room { most ≤ MAX_AREA }
     requires within { D.is_honest disk.old → most ≤ length (D.held disk.old).bytes }
     ensures reads { D.is_honest disk.old → OnlyReads D.moment D.held D.held_at disk.old disk.new }
     ensures text { D.is_honest disk.old → IfOk result (λ text. text.items
@@ -71,7 +71,7 @@ pub(crate) fn fetch<D: Disk>(alloc: Global, disk: &mut D) -> Result<Vec<u8>, Ope
     ensures bytes { D.is_honest disk.old → (D.held disk.new).bytes ≡ (D.held disk.old).bytes }
     ensures stable { D.is_honest disk.old → OnOk result (IsStable (D.held disk.new)) }
     ensures front { D.is_honest disk.old → IfOk result (λ text. IsFront text.items (D.held disk.old).bytes) }
-    ensures short { IfOk result (λ text. length text.items ≤ AREA_LIMIT) }
+    ensures short { IfOk result (λ text. length text.items ≤ MAX_AREA) }
     ensures absent { D.is_honest disk.old → IsErrOf result OpenFault.Absent → IsAbsent (D.held disk.old).bytes }
     ensures stays_absent { D.is_honest disk.old → IsErrOf result OpenFault.Absent → LeavesAbsent (D.held disk.new) }
     ensures damaged { IsErrOf result OpenFault.Damaged → ⊥ }
@@ -90,7 +90,7 @@ pub(crate) fn fetch<D: Disk>(alloc: Global, disk: &mut D) -> Result<Vec<u8>, Ope
     if gate[0] != OPEN {
         return Err(OpenFault::Absent);
     }
-    read_text(alloc, disk, len.min(AREA_LIMIT) as usize)
+    read_text(alloc, disk, len.min(MAX_AREA) as usize)
 }
 
 /// Reads the area of a disk: what is answered stands there, and stays.
@@ -101,7 +101,7 @@ pub(crate) fn read_area<D: Disk>(alloc: Global, disk: &mut D) -> Result<Parts, O
     ensures stable { D.is_honest disk.old → OnOk result (IsStable (D.held disk.new)) }
     ensures stood { D.is_honest disk.old → IfOk result (λ parts. IsArea (parts_area parts) (D.held disk.old).bytes) }
     ensures end { IfOk result (λ parts. parts.end ≡ length (area_text (parts_area parts))) }
-    ensures within { IfOk result (λ parts. parts.end < AREA_LIMIT) }
+    ensures within { IfOk result (λ parts. parts.end < MAX_AREA) }
     ensures few { IfOk result (λ parts. length parts.records ≤ parts.end) }
     ensures absent { D.is_honest disk.old → IsErrOf result OpenFault.Absent → IsAbsent (D.held disk.old).bytes }
     ensures stays_absent { D.is_honest disk.old → IsErrOf result OpenFault.Absent → LeavesAbsent (D.held disk.new) }

@@ -6,7 +6,7 @@ ghost use Rattle.cue_log.specs.Area.{IsAbsent, fresh, body_text, formed_text, ei
 ghost use Rattle.cue_log.specs.Reading.{area_in};
 ghost use Rattle.cue_log.specs.Log.{IsClosed, IsShut, IsFilled, IsNoneOr, IsSettled, ReadsAs, prepared_bytes};
 
-use crate::area::{AREA_LIMIT, CLOSED, HEAD_LEN, OPEN};
+use crate::area::{CLOSED, HEAD_LEN, MAX_AREA, OPEN};
 use cue_disk::{Disk, DiskFault};
 
 // Writes a closed head gate where the disk is empty.
@@ -38,7 +38,7 @@ fn header_of(generation: u64, len: u32) -> [u8; 12]
 
 // Writes the body behind the closed head gate, and a closed gate after the body.
 fn fill<D: Disk>(disk: &mut D, generation: u64, snapshot: &[u8]) -> Result<(), DiskFault>
-    requires room { HEAD_LEN + length snapshot.now < AREA_LIMIT }
+    requires room { HEAD_LEN + length snapshot.now < MAX_AREA }
     requires shut { D.is_honest disk.old → IsShut (D.held disk.old) }
     ensures any_moment { D.is_honest disk.old → LeavesAtEachMoment D.moment D.held_at disk.old disk.new IsAbsent }
     ensures filled { D.is_honest disk.old → OnOk result (IsFilled (D.held disk.new) generation snapshot.now) }
@@ -57,7 +57,7 @@ fn fill<D: Disk>(disk: &mut D, generation: u64, snapshot: &[u8]) -> Result<(), D
 
 // Opens the head gate of a body that is on the disk.
 fn open_gate<D: Disk>(disk: &mut D, generation: u64, snapshot: &[u8]) -> Result<(), DiskFault>
-    requires room { HEAD_LEN + length snapshot.now < AREA_LIMIT }
+    requires room { HEAD_LEN + length snapshot.now < MAX_AREA }
     requires filled { D.is_honest disk.old → IsFilled (D.held disk.old) generation snapshot.now }
     ensures any_moment { D.is_honest disk.old → LeavesAtEachMoment D.moment D.held_at disk.old disk.new
         (IsNoneOr (fresh generation snapshot.now)) }
@@ -80,7 +80,7 @@ pub(crate) fn form_on<D: Disk>(
     generation: u64,
     snapshot: &[u8],
 ) -> Result<(), DiskFault>
-    requires room { HEAD_LEN + length snapshot.now < AREA_LIMIT }
+    requires room { HEAD_LEN + length snapshot.now < MAX_AREA }
     requires closed { D.is_honest disk.old → IsClosed (D.held disk.old) }
     ensures any_moment { D.is_honest disk.old → LeavesAtEachMoment D.moment D.held_at disk.old disk.new
         (IsNoneOr (fresh generation snapshot.now)) }

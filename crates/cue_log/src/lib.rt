@@ -15,7 +15,7 @@ mod record;
 mod records;
 mod snapshot;
 
-pub use area::{AREA_LIMIT, FRAME_LEN, HEAD_LEN, PAYLOAD_LIMIT, close, is_absent};
+pub use area::{FRAME_LEN, HEAD_LEN, MAX_AREA, MAX_PAYLOAD, close, is_absent};
 pub use group::RecordGroup;
 pub use log::{AppendFault, Log};
 pub use opening::{OpenFault, Opened};

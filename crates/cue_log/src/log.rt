@@ -1,12 +1,12 @@
 // A log: one area that is open, and the disk that holds it.
 ghost use Rattle.std.specs.Prelude.{◌≡◌, ◌<◌, ◌≤◌, false};
-ghost use Rattle.cue_log.specs.declared.area.TheConstants.{AREA_LIMIT, HEAD_LEN};
+ghost use Rattle.cue_log.specs.declared.area.TheConstants.{MAX_AREA, HEAD_LEN};
 ghost use Rattle.cue_log.specs.Log.{IsSettled, IsNumbered};
 
 mod queries;
 
 use crate::appending::commit;
-use crate::area::{AREA_LIMIT, HEAD_LEN};
+use crate::area::{HEAD_LEN, MAX_AREA};
 use crate::forming::form_on;
 use crate::group::RecordGroup;
 use crate::record::Record;
@@ -20,7 +20,7 @@ pub enum AppendFault {
     /// A device call failed in an earlier `append`. Open the area again.
     #[error("the log is broken until it is opened again")]
     Broken,
-    /// The encoding of the area would be longer than `AREA_LIMIT`. Nothing has changed.
+    /// The encoding of the area would be longer than `MAX_AREA`. Nothing has changed.
     #[error("the area is full")]
     Full,
     /// A device call failed: the record is there or it is not, and of a group all are or none. The log is `Broken` from
@@ -41,7 +41,7 @@ pub struct Log<D: Disk> {
     // how many records there are
     count: u64,
     broken: bool,
-    ghost fits: { end < AREA_LIMIT },
+    ghost fits: { end < MAX_AREA },
     ghost few: { count ≤ end },
     ghost settled: { D.is_honest disk → broken ≡ false → IsSettled (D.held disk) end },
     ghost counted: { D.is_honest disk → broken ≡ false → IsNumbered (D.held disk) generation count },
@@ -62,7 +62,7 @@ impl<D: Disk> Log<D> {
     /// Forms an area with this generation and snapshot and no record, on a disk that is empty or was closed. It takes
     /// no memory; a refusal hands the disk back, which then has no area or this one.
     pub fn form(disk: D, generation: u64, snapshot: &[u8]) -> Result<Log<D>, (DiskFault, D)>
-        requires room { HEAD_LEN + length snapshot.now < AREA_LIMIT }
+        requires room { HEAD_LEN + length snapshot.now < MAX_AREA }
         requires closed { D.is_honest disk → IsClosed (D.held disk) }
 
         ensures formed { D.is_honest disk → IfOk result
@@ -96,7 +96,7 @@ impl<D: Disk> Log<D> {
 
     /// A log of an area that was found on a stable disk.
     pub(crate) fn settled(disk: D, generation: u64, end: u64, count: u64) -> Log<D>
-        requires fits { end < AREA_LIMIT }
+        requires fits { end < MAX_AREA }
         requires few { count ≤ end }
         requires settled { D.is_honest disk → IsSettled (D.held disk) end }
         requires counted { D.is_honest disk → IsNumbered (D.held disk) generation count }
@@ -140,7 +140,7 @@ impl<D: Disk> Log<D> {
         if count == 0 {
             return Ok(());
         }
-        if text.len() as u64 > AREA_LIMIT - self.end {
+        if text.len() as u64 > MAX_AREA - self.end {
             return Err(AppendFault::Full);
         }
         if let Err(DiskFault) = commit(&mut self.disk, self.end, text) {
@@ -161,7 +161,7 @@ impl<D: Disk> Log<D> {
         generation: u64,
         snapshot: &[u8],
     ) -> Result<(), DiskFault>
-        requires room { HEAD_LEN + length snapshot.now < AREA_LIMIT }
+        requires room { HEAD_LEN + length snapshot.now < MAX_AREA }
         requires works { is_broken self.old ≡ false }
         requires closed { D.is_honest spare.old → IsClosed (D.held spare.old) }
 

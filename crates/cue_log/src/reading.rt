@@ -5,9 +5,9 @@ ghost use Rattle.std.specs.Prelude.{length};
 ghost use Rattle.std.specs.Option.{option_map};
 ghost use Rattle.cue_log.specs.Area.{IsArea, area_text};
 ghost use Rattle.cue_log.specs.Parts.{parts_area};
-ghost use Rattle.cue_log.specs.Reading.{frame_at, payloads_at, area_with, area_at, bytes_behind};
+ghost use Rattle.cue_log.specs.Reading.{frame_at, payloads_at, area_with, area_at, bytes_left};
 
-use crate::area::{AREA_LIMIT, HEAD_LEN, OPEN, PAYLOAD_LIMIT};
+use crate::area::{HEAD_LEN, MAX_AREA, MAX_PAYLOAD, OPEN};
 use crate::records::Records;
 use std::alloc::{AllocError, Global};
 
@@ -53,7 +53,7 @@ fn split_front(text: &[u8]) -> Option<Front<'_>>
     }
     let (generation, behind) = after.split_first_chunk::<8>()?;
     let generation = u64::from_be_bytes(*generation);
-    let (snapshot, tail) = frame(behind, AREA_LIMIT as usize)?;
+    let (snapshot, tail) = frame(behind, MAX_AREA as usize)?;
     Some(Front {
         generation,
         snapshot,
@@ -62,15 +62,15 @@ fn split_front(text: &[u8]) -> Option<Front<'_>>
 }
 
 // How many bytes stand from the last gate on, where the records end.
-fn len_behind(tail: &[u8]) -> Option<usize>
-    ensures { result ≡ bytes_behind tail.now }
+fn len_left(tail: &[u8]) -> Option<usize>
+    ensures { result ≡ bytes_left tail.now }
 {
     let mut rest = tail;
     while let Some((gate, after)) = rest.split_first() {
         if *gate != OPEN {
             return Some(rest.len());
         }
-        let (_, behind) = frame(after, PAYLOAD_LIMIT)?;
+        let (_, behind) = frame(after, MAX_PAYLOAD)?;
         rest = behind;
     }
     None
@@ -81,7 +81,7 @@ pub(crate) fn is_whole(text: &[u8]) -> bool
     ensures { IsTrue result ↔ IsSome (area_at text.now) }
 {
     match split_front(text) {
-        Some(front) => len_behind(front.tail).is_some(),
+        Some(front) => len_left(front.tail).is_some(),
         None => false,
     }
 }
@@ -97,7 +97,7 @@ pub(crate) struct Parts {
 
 /// The area that stands in front of these bytes, where there is one.
 pub(crate) fn read_parts(alloc: Global, text: &[u8]) -> Result<Option<Parts>, AllocError>
-    requires { length text.now ≤ AREA_LIMIT }
+    requires { length text.now ≤ MAX_AREA }
     ensures area { IfOk result (λ parts. option_map parts_area parts ≡ area_at text.now) }
     ensures found { IfOk result (λ parts. IfSome parts (λ whole. IsArea (parts_area whole) text.now)) }
     ensures few { IfOk result (λ parts. IfSome parts (λ whole. length whole.records ≤ whole.end)) }
@@ -107,7 +107,7 @@ pub(crate) fn read_parts(alloc: Global, text: &[u8]) -> Result<Option<Parts>, Al
     let Some(front) = split_front(text) else {
         return Ok(None);
     };
-    let Some(behind) = len_behind(front.tail) else {
+    let Some(behind) = len_left(front.tail) else {
         return Ok(None);
     };
     let records = Records::of(alloc, front.tail)?;

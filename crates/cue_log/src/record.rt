@@ -4,7 +4,7 @@ ghost use Rattle.std.specs.Prelude.{IsErrOf};
 ghost use Rattle.cue_log.specs.Reading.{payloads_in};
 ghost use Rattle.cue_log.specs.Record.{IsFramed, AreFramed, payload_in};
 
-use crate::area::{CLOSED, FRAME_LEN, OPEN, PAYLOAD_LIMIT};
+use crate::area::{CLOSED, FRAME_LEN, MAX_PAYLOAD, OPEN};
 use std::alloc::{AllocError, AllocFailed, Global};
 use std::marker::Model;
 use thiserror::Error;
@@ -12,7 +12,7 @@ use thiserror::Error;
 /// Why a payload is not made into a record.
 #[derive(Clone, Copy, Debug, PartialEq, Eq, Error)]
 pub enum RecordFault {
-    /// The payload is longer than `PAYLOAD_LIMIT`.
+    /// The payload is longer than `MAX_PAYLOAD`.
     #[error("the payload is too long for a record")]
     TooLong,
     /// Out of memory.
@@ -31,7 +31,7 @@ impl From<AllocError> for RecordFault {
     }
 }
 
-/// A payload of at most `PAYLOAD_LIMIT` bytes, ready to be appended. Contracts see it as the list of its bytes.
+/// A payload of at most `MAX_PAYLOAD` bytes, ready to be appended. Contracts see it as the list of its bytes.
 #[derive(Debug, Drop)]
 pub struct Record {
     // open gate, length, payload, closed gate
@@ -53,9 +53,9 @@ impl Record {
     /// Frames a payload, which takes memory once, so that appending it takes none.
     pub fn of(alloc: Global, payload: &[u8]) -> Result<Record, RecordFault>
         ensures ok { IfOk result (λ framed. framed ≡ payload.now) }
-        ensures too_long { IsErrOf result RecordFault.TooLong ↔ (PAYLOAD_LIMIT < length payload.now) }
+        ensures too_long { IsErrOf result RecordFault.TooLong ↔ (MAX_PAYLOAD < length payload.now) }
     {
-        if payload.len() > PAYLOAD_LIMIT {
+        if payload.len() > MAX_PAYLOAD {
             return Err(RecordFault::TooLong);
         }
         Ok(Record::of_short(alloc, payload)?)
@@ -63,7 +63,7 @@ impl Record {
 
     /// The same for a payload that is known not to be too long.
     pub(crate) fn of_short(alloc: Global, payload: &[u8]) -> Result<Record, AllocError>
-        requires { length payload.now ≤ PAYLOAD_LIMIT }
+        requires { length payload.now ≤ MAX_PAYLOAD }
         ensures { IfOk result (λ framed. framed ≡ payload.now) }
     {
         let bytes = frame(alloc, payload)?;
@@ -73,7 +73,7 @@ impl Record {
     /// The bytes that it was made of.
     pub fn payload(&self) -> &[u8]
         ensures payload { result.now ≡ self.now }
-        ensures short { length result.now ≤ PAYLOAD_LIMIT }
+        ensures short { length result.now ≤ MAX_PAYLOAD }
     {
         &self.bytes[FRAME_LEN..self.bytes.len() - 1]
     }
@@ -91,7 +91,7 @@ impl Record {
 // The bytes that an area stores of a payload: an open gate, its length, itself, and a closed gate.
 #[tactic(auto, unfolding(crate::specs::Area::four_bytes))]
 fn frame(alloc: Global, payload: &[u8]) -> Result<Vec<u8>, AllocError>
-    requires { length payload.now ≤ PAYLOAD_LIMIT }
+    requires { length payload.now ≤ MAX_PAYLOAD }
     ensures framed { IfOk result (λ bytes. IsFramed bytes.items) }
     ensures payload { IfOk result (λ bytes. payload_in bytes.items ≡ payload.now) }
 {

@@ -2,7 +2,7 @@
 ghost use Rattle.std.specs.Prelude.{◌≡◌, ◌<◌, ◌^◌, ◌∷◌, [], length, IfOk, MatchOption};
 ghost use Rattle.cue_log.specs.Reading.{payloads_in, HasRecords};
 
-use crate::area::{OPEN, PAYLOAD_LIMIT};
+use crate::area::{MAX_PAYLOAD, OPEN};
 use crate::reading::frame;
 use std::alloc::{AllocError, Global};
 use std::marker::Model;
@@ -84,7 +84,7 @@ impl<'a> Payloads<'a> {
         if *gate != OPEN {
             return None;
         }
-        let (payload, behind) = frame(after, PAYLOAD_LIMIT)?;
+        let (payload, behind) = frame(after, MAX_PAYLOAD)?;
         self.rest = behind;
         Some(payload)
     }

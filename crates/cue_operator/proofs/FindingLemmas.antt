@@ -34,7 +34,7 @@ use Rattle.cue_operator.specs.Methods.{fixed_methods, methods_of_cue, methods_of
 use Rattle.cue_operator.specs.Methods.{OneMethodAtEach}
 use Rattle.cue_operator.specs.Arguments.{command_by}
 use Rattle.cue_operator.specs.Commands.{unless_none, commands_matched, commands_of}
-use Rattle.cue_operator.specs.LookUp.{behind_front, cut_at_slash, name_and_verb, cue_verbs_at, device_verbs_at}
+use Rattle.cue_operator.specs.LookUp.{rest_after, cut_at_slash, name_and_verb, cue_verbs_at, device_verbs_at}
 use Rattle.cue_operator.specs.LookUp.{cue_methods_at, device_methods_at, looked_up, number_at, device_written}
 use Rattle.cue_operator.specs.LookUp.{device_named}
 use Rattle.cue_operator.proofs.LiteralLemmas.{literal-pattern}
@@ -120,8 +120,8 @@ fronts-apart (x ∷ y ∷ r) p h = at (nat_eq 47 x) (nat_eq 99 y) refl h
     differ n e = grind (arith, nat_tests)
 
     at : (b c : Bool) → nat_eq 99 y ≡ c
-        → option_and_then cut_at_slash (if b then (if c then behind_front (codes "ue/") r else None) else None) ≡ Some p
-        → option_and_then cut_at_slash (if b then (if nat_eq 100 y then behind_front (codes "evice/") r else None) else
+        → option_and_then cut_at_slash (if b then (if c then rest_after (codes "ue/") r else None) else None) ≡ Some p
+        → option_and_then cut_at_slash (if b then (if nat_eq 100 y then rest_after (codes "evice/") r else None) else
         None) ≡ None
     at true true e k = rw (differ y e) refl
     at true false e k = cc
@@ -465,21 +465,22 @@ cut-some r before behind h = cut-text_before r ∙ (ap (option_map (λ (t : List
     ∙ ap (λ (t : List ℕ). Some (before, t)) (sym h.rest.0))
 
 -- what stands behind a front, by its length
-behind-length : (f a : List ℕ) → behind_front f a ≡ (if starts_with nat_eq a f then Some (drop (length f) a) else None)
-behind-length [] a = refl
-behind-length (x ∷ f) [] = refl
-behind-length (x ∷ f) (b ∷ a) = at (nat_eq x b) (pointwise nat_eq f (take (length f) a)) (behind-length f a)
+rest_after-length : (f a : List ℕ) → rest_after f a
+    ≡ (if starts_with nat_eq a f then Some (drop (length f) a) else None)
+rest_after-length [] a = refl
+rest_after-length (x ∷ f) [] = refl
+rest_after-length (x ∷ f) (b ∷ a) = at (nat_eq x b) (pointwise nat_eq f (take (length f) a)) (rest_after-length f a)
   where
-    at : (s t : Bool) → behind_front f a ≡ (if t then Some (drop (length f) a) else None)
-        → (if s then behind_front f a else None) ≡ (if s && t then Some (drop (length f) a) else None)
+    at : (s t : Bool) → rest_after f a ≡ (if t then Some (drop (length f) a) else None)
+        → (if s then rest_after f a else None) ≡ (if s && t then Some (drop (length f) a) else None)
     at true t e = e
     at false t e = refl
 
-pub behind-yes : (f a : List ℕ) → starts_with nat_eq a f ≡ true → Some (drop (length f) a) ≡ behind_front f a
-behind-yes f a h = sym (behind-length f a ∙ ap (λ (b : Bool). if b then Some (drop (length f) a) else None) h)
+pub rest_after-yes : (f a : List ℕ) → starts_with nat_eq a f ≡ true → Some (drop (length f) a) ≡ rest_after f a
+rest_after-yes f a h = sym (rest_after-length f a ∙ ap (λ (b : Bool). if b then Some (drop (length f) a) else None) h)
 
-pub behind-no : (f a : List ℕ) → starts_with nat_eq a f ≡ false → None ≡ behind_front f a
-behind-no f a h = sym (behind-length f a ∙ ap (λ (b : Bool). if b then Some (drop (length f) a) else None) h)
+pub rest_after-no : (f a : List ℕ) → starts_with nat_eq a f ≡ false → None ≡ rest_after f a
+rest_after-no f a h = sym (rest_after-length f a ∙ ap (λ (b : Bool). if b then Some (drop (length f) a) else None) h)
 
 -- ---- what a message with such an address asks for
 
@@ -507,7 +508,7 @@ literal-asks show a xs h l s =
     pattern-asks show a xs p.0 p.1
     ∙ ap (λ ms. unless_none (map (command_by xs) ms)) (literal-is-looked-up show a p.0 h l p.1)
 
-pub named-at : (f a r : List ℕ) (o : Option (List ℕ × List ℕ)) → Some r ≡ behind_front f a → cut_at_slash r ≡ o
+pub named-at : (f a r : List ℕ) (o : Option (List ℕ × List ℕ)) → Some r ≡ rest_after f a → cut_at_slash r ≡ o
     → name_and_verb f a ≡ o
 named-at f a r o h e = ap (option_and_then cut_at_slash) (sym h) ∙ e
 

@@ -18,7 +18,7 @@ use Rattle.cue_core.specs.declared.command.Code.{Code}
 use Rattle.cue_core.specs.declared.command.Code.TheVariants as code
 use Rattle.cue_core.specs.declared.command.Command.{Command}
 use Rattle.cue_core.specs.declared.command.Command.TheVariants as command
-use Rattle.cue_core.specs.declared.command.ReplyKind.{ReplyKind}
+use Rattle.cue_core.specs.declared.command.AnswerKind.{AnswerKind}
 use Rattle.cue_core.specs.Judge.{is_fit}
 use Rattle.cue_core.proofs.lists.ConditionLemmas.{join}
 use Rattle.cue_osc.specs.Argument.{Argument, int, text}
@@ -33,7 +33,7 @@ use Rattle.cue_operator.specs.declared.method.Method.{Method}
 use Rattle.cue_operator.specs.declared.method.Method.TheVariants as method
 use Rattle.cue_operator.specs.Methods.{methods, methods_at}
 use Rattle.cue_operator.specs.Arguments.{number_passing, port_in, number_in, no_arguments, or_bad_number, device_with}
-use Rattle.cue_operator.specs.Arguments.{add_device_by, reply_by, are_pairs, are_triples, pairs_in, triples_in}
+use Rattle.cue_operator.specs.Arguments.{add_device_by, answer_by, are_pairs, are_triples, pairs_in, triples_in}
 use Rattle.cue_operator.specs.Arguments.{cue_with, add_cue_by, add_mixed_cue_by, cue_command, device_by, command_by}
 use Rattle.cue_operator.specs.Commands.{commands_at, unless_none, commands_matched, commands_of}
 
@@ -85,14 +85,14 @@ add_device-fit (int d ∷ int p ∷ []) = device_with-fit (device_of d) (port_in
     (number_passing-passes is_port p)
 add_device-fit _ = refl
 
-reply-fit : (kind : ReplyKind) (d : ℕ) (xs : List Argument) → is_fit (reply_by kind d xs) ≡ true
-reply-fit kind d (int q ∷ []) = by (number_in q) (number_passing-passes is_number q)
+answer-fit : (kind : AnswerKind) (d : ℕ) (xs : List Argument) → is_fit (answer_by kind d xs) ≡ true
+answer-fit kind d (int q ∷ []) = by (number_in q) (number_passing-passes is_number q)
   where
     by : (o : Option ℕ) → passes is_number o ≡ true
         → is_fit (or_bad_number (option_map (command.Reply kind d) o)) ≡ true
     by None h = refl
     by (Some n) h = h
-reply-fit kind d _ = refl
+answer-fit kind d _ = refl
 
 cue_with-fit : (c : List ℕ) (o : Option (List Part)) → is_fit (cue_with c o) ≡ true
 cue_with-fit c None = refl
@@ -120,10 +120,10 @@ add_mixed_cue-fit (text c ∷ rest) = tagged-fit c (triples_in rest) (are_triple
 add_mixed_cue-fit _ = refl
 
 device-fit : (v : DeviceVerb) (d : ℕ) (xs : List Argument) → is_fit (device_by v d xs) ≡ true
-device-fit on_device.StandingBy d xs = reply-fit _ d xs
-device-fit on_device.Complete d xs = reply-fit _ d xs
-device-fit on_device.Cancelled d xs = reply-fit _ d xs
-device-fit on_device.Abort d xs = reply-fit _ d xs
+device-fit on_device.StandingBy d xs = answer-fit _ d xs
+device-fit on_device.Complete d xs = answer-fit _ d xs
+device-fit on_device.Cancelled d xs = answer-fit _ d xs
+device-fit on_device.Abort d xs = answer-fit _ d xs
 device-fit on_device.Release d xs = no_arguments-fit (command.Release d) xs refl
 device-fit on_device.Remove d xs = no_arguments-fit (command.RemoveDevice d) xs refl
 

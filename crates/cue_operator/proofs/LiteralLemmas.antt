@@ -8,7 +8,7 @@ use Rattle.std.proofs.lemmas.Bool.Decides.{nat_tests}
 use Rattle.cue_show.specs.Number.{same_text}
 use Rattle.cue_pattern.specs.declared.piece.Piece.{Piece}
 use Rattle.cue_pattern.specs.declared.piece.Piece.TheVariants.{Plain}
-use Rattle.cue_pattern.specs.Reading.{with_byte, cut, parts_of, piece_at, pieces_behind, pieces_of, pattern_at}
+use Rattle.cue_pattern.specs.Reading.{with_byte, cut, parts_of, piece_at, pieces_after, pieces_of, pattern_at}
 use Rattle.cue_pattern.specs.Matching.{part_matches, parts_match, matches_parts, matches}
 use Rattle.cue_operator.specs.Commands.{LiteralMatchesItself}
 use Rattle.cue_pattern.specs.Literal.{is_literal_byte, is_literal}
@@ -31,8 +31,8 @@ piece-literal b bs h =
     let four = not_so (b == 123) r.1 in
     rw (one, two, three, four) refl
 
-pieces-literal : (t : List ℕ) → IsTrue (is_literal t) → pieces_behind 0 t ≡ Some (map Plain t)
-unfolding pieces_behind
+pieces-literal : (t : List ℕ) → IsTrue (is_literal t) → pieces_after 0 t ≡ Some (map Plain t)
+unfolding pieces_after
 pieces-literal [] h = refl
 pieces-literal (b ∷ t) h =
     let p = both (is_literal_byte b) (is_literal t) h in

@@ -24,7 +24,7 @@ use Rattle.cue_operator.specs.declared.method.Method.{Method}
 use Rattle.cue_operator.specs.declared.method.Method.TheVariants as method
 use Rattle.cue_operator.specs.Methods.{under, address_of, cue_verb_text, device_verb_text, cue_verbs, device_verbs}
 use Rattle.cue_operator.specs.Methods.{fixed_methods, methods_of_cue, methods_of_device, methods, methods_at}
-use Rattle.cue_operator.specs.LookUp.{behind_front, cut_at_slash, name_and_verb, cue_verbs_at, device_verbs_at}
+use Rattle.cue_operator.specs.LookUp.{rest_after, cut_at_slash, name_and_verb, cue_verbs_at, device_verbs_at}
 use Rattle.cue_operator.specs.LookUp.{cue_methods_at, device_methods_at, LiteralIsLookedUp}
 use Rattle.cue_operator.proofs.LiteralLemmas.{literal-matches-itself}
 use Rattle.cue_show.proofs.TestLemmas.{neither, not_so}
@@ -48,13 +48,13 @@ equal_text (c ∷ t) (b ∷ u) h = let p = both (nat_eq c b) (same_text t u) h i
 abbrev pub no_slash : List ℕ → Bool
 no_slash t = list_all (λ b. not (b == 47)) t
 
-front-cut : (f a t : List ℕ) → same_text a (f ++ t) ≡ option_map_or (λ r. same_text r t) (behind_front f a) false
+front-cut : (f a t : List ℕ) → same_text a (f ++ t) ≡ option_map_or (λ r. same_text r t) (rest_after f a) false
 front-cut [] a t = refl
 front-cut (x ∷ f) [] t = refl
 front-cut (x ∷ f) (b ∷ a) t = rw (number_sym b x, front-cut f a t) (at (nat_eq x b))
   where
-    at : (c : Bool) → (c && option_map_or (λ r. same_text r t) (behind_front f a) false) ≡ option_map_or
-        (λ r. same_text r t) (if c then behind_front f a else None) false
+    at : (c : Bool) → (c && option_map_or (λ r. same_text r t) (rest_after f a) false) ≡ option_map_or
+        (λ r. same_text r t) (if c then rest_after f a else None) false
     at true = refl
     at false = refl
 
@@ -96,7 +96,7 @@ name-cut (x ∷ c) v (b ∷ r) h = let k = both (not (x == 47)) (no_slash c) h i
     at false e g (Some p) k = rw k (assoc (nat_eq b x) (same_text p.0 c) (same_text p.1 v))
 
 under-cut : (f c v a : List ℕ) → IsTrue (no_slash c) → same_text a (under f c v) ≡ is_named c v (name_and_verb f a)
-under-cut f c v a h = front-cut f a (c ++ 47 ∷ v) ∙ at (behind_front f a)
+under-cut f c v a h = front-cut f a (c ++ 47 ∷ v) ∙ at (rest_after f a)
   where
     at : (o : Option (List ℕ))
         → option_map_or (λ r. same_text r (c ++ 47 ∷ v)) o false ≡ is_named c v (option_and_then cut_at_slash o)

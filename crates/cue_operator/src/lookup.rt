@@ -5,7 +5,7 @@ ghost use Rattle.std.specs.Option.{option_copied, option_to_list};
 ghost use Rattle.cue_show.specs.Number.{same_text};
 ghost use Rattle.cue_show.specs.Show.{is_show};
 ghost use Rattle.cue_operator.specs.Methods.{address_of, fixed_methods};
-ghost use Rattle.cue_operator.specs.LookUp.{behind_front, name_and_verb, number_at, device_named, cue_methods_at};
+ghost use Rattle.cue_operator.specs.LookUp.{rest_after, name_and_verb, number_at, device_named, cue_methods_at};
 ghost use Rattle.cue_operator.specs.LookUp.{device_methods_at, looked_up};
 
 use crate::method::{CueVerb, DeviceVerb, Method};
@@ -13,8 +13,8 @@ use cue_pattern::cut_first;
 use cue_show::{CueNo, DeviceNo, Show};
 use itoa::Buffer;
 
-fn behind_front<'a>(front: &[u8], address: &'a [u8]) -> Option<&'a [u8]>
-    ensures { option_copied result ≡ behind_front front.now address.now }
+fn rest_after<'a>(front: &[u8], address: &'a [u8]) -> Option<&'a [u8]>
+    ensures { option_copied result ≡ rest_after front.now address.now }
 {
     if address.starts_with(front) {
         Some(&address[front.len()..])
@@ -28,7 +28,7 @@ fn name_and_verb<'a>(front: &[u8], address: &'a [u8]) -> Option<(&'a [u8], &'a [
     ensures { MatchOption result (name_and_verb front.now address.now ≡ None)
         (λ found. name_and_verb front.now address.now ≡ Some (found.0.now, found.1.now)) }
 {
-    let rest = behind_front(front, address)?;
+    let rest = rest_after(front, address)?;
     let (name, verb) = cut_first(b'/', rest);
     Some((name, verb?))
 }

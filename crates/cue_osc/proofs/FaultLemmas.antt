@@ -10,7 +10,7 @@ use Rattle.cue_osc.specs.Argument.{Argument, int, text, blob}
 use Rattle.cue_osc.specs.Content.{Content, message, discarded, bundle, nothing, element}
 use Rattle.cue_osc.specs.Spelling.{padding, is_known_tag}
 use Rattle.cue_osc.specs.Reading.{◌>>=◌, text_len, number_at, padded_at, string_at, blob_at, arg_at, all_args_at}
-use Rattle.cue_osc.specs.Reading.{tagged_at, behind_address, message_at, is_size, element_at, elements_by}
+use Rattle.cue_osc.specs.Reading.{tagged_at, after_address, message_at, is_size, element_at, elements_by}
 use Rattle.cue_osc.specs.Reading.{is_message_start, is_bundle_start, bundle_by, packet_at}
 
 -- a fault of a part
@@ -89,15 +89,15 @@ tagged_inside a bytes =
     (bind_inside (all_args_at (drop 1 found.0) found.1) (λ xs. Ok (message a xs)) (args_inside (drop 1 found.0) found.1)
     (λ xs. tt)) tt)
 
-behind_inside : (a rest : List ℕ) → FailsInside (behind_address a rest)
-unfolding behind_address
+behind_inside : (a rest : List ℕ) → FailsInside (after_address a rest)
+unfolding after_address
 behind_inside a [] = tt
 behind_inside a (b ∷ bs) = cond_inside (eqb b 44) (tagged_at a (b ∷ bs)) (Ok (discarded a)) (tagged_inside a (b ∷ bs))
     tt
 
 message_inside : (bytes : List ℕ) → FailsInside (message_at bytes)
 unfolding message_at
-message_inside bytes = bind_inside (string_at bytes) (λ a. behind_address a.0 a.1) (string_inside bytes)
+message_inside bytes = bind_inside (string_at bytes) (λ a. after_address a.0 a.1) (string_inside bytes)
     (λ a. behind_inside a.0 a.1)
 
 element_inside : (bytes : List ℕ) → FailsInside (element_at bytes)

@@ -11,7 +11,7 @@ use Rattle.cue_osc.specs.Argument.{Argument}
 use Rattle.cue_osc.specs.Content.{Content, message, discarded, bundle}
 use Rattle.cue_osc.specs.Spelling.{osc_string, IsText, tag, argument, Fits, tags, IsAddress, message_text, IsMessage}
 use Rattle.cue_osc.specs.Spelling.{is_known_tag, IsNoTag, IsOtherTags, IsDiscarded, IsPacket}
-use Rattle.cue_osc.specs.Reading.{◌>>=◌, string_at, arg_at, all_args_at, tagged_at, behind_address, message_at}
+use Rattle.cue_osc.specs.Reading.{◌>>=◌, string_at, arg_at, all_args_at, tagged_at, after_address, message_at}
 use Rattle.cue_osc.specs.Reading.{is_message_start}
 use Rattle.cue_osc.proofs.LoopLemmas.{bind_ok}
 use Rattle.cue_osc.proofs.FieldLemmas.{IsBytes, IsBytes-rest, ok_is, then_ok, chosen, string_takes, string_again}
@@ -146,8 +146,8 @@ from_tagged a bytes (message b xs) h = (h.0, h.1, inl h.2)
 from_tagged a bytes (discarded b) h = (h.0, inr h.1)
 from_tagged a bytes (bundle t cs) h = absurd h
 
-behind_takes : (a rest : List ℕ) (c : Content) → IsBytes rest → behind_address a rest ≡ Ok c → IsBehind a rest c
-unfolding behind_address
+behind_takes : (a rest : List ℕ) (c : Content) → IsBytes rest → after_address a rest ≡ Ok c → IsBehind a rest c
+unfolding after_address
 behind_takes a [] c fits e = subst (IsBehind a []) (ok_is (message a []) c e) (refl, tt, inr (refl, refl))
 behind_takes a (b ∷ bs) c fits e =
     elim (chosen (eqb b 44) (tagged_at a (b ∷ bs)) (Ok (discarded a)) (Ok c) e) [
@@ -193,7 +193,7 @@ pub message_takes : (d : ℕ) (bytes : List ℕ) (c : Content) → is_message_st
 unfolding message_at
 message_takes d [] c start fits e = absurd cc
 message_takes d (b ∷ bs) c start fits e =
-    let a = bind_ok (string_at (b ∷ bs)) (λ a. behind_address a.0 a.1) c e in
+    let a = bind_ok (string_at (b ∷ bs)) (λ a. after_address a.0 a.1) c e in
     let s = string_takes (b ∷ bs) a.0.0 a.0.1 a.1 in
     let slash : 47 ∷ bs ≡ osc_string a.0.0 ++ a.0.1 = ap (λ (n : ℕ). n ∷ bs) (sym (eqb-true b 47 start)) ∙ s.0 in
     whole_message d (b ∷ bs) a.0.0 a.0.1 c (address_first a.0.0 a.0.1 bs slash s.1) s.0
@@ -206,7 +206,7 @@ message_begins bytes [] rest h e = absurd h
 message_begins bytes (b ∷ bs) rest h e = ap is_message_start e ∙ eq-eqb b 47 h.0
 
 behind_again : (bytes a rest : List ℕ) (c : Content) → IsAddress a → bytes ≡ osc_string a ++ rest
-    → behind_address a rest ≡ Ok c → message_at bytes ≡ Ok c
+    → after_address a rest ≡ Ok c → message_at bytes ≡ Ok c
 unfolding message_at
 behind_again bytes a rest c address parts h =
     let read : string_at bytes ≡ Ok (a, rest) = ap string_at parts ∙ string_again a rest (address_is_text a address) in
@@ -217,33 +217,33 @@ abbrev BeginsAndReads : List ℕ → Content → Type 0
 BeginsAndReads bytes c = (is_message_start bytes ≡ true) × (message_at bytes ≡ Ok c)
 
 spelled_again : (bytes a rest : List ℕ) (c : Content) → IsAddress a → bytes ≡ osc_string a ++ rest
-    → behind_address a rest ≡ Ok c → BeginsAndReads bytes c
+    → after_address a rest ≡ Ok c → BeginsAndReads bytes c
 spelled_again bytes a rest c address parts h =
     (message_begins bytes a rest address parts, behind_again bytes a rest c address parts h)
 
 pub message_again : (bytes a : List ℕ) (xs : List Argument) → IsMessage bytes a xs → BeginsAndReads bytes (message a xs)
-unfolding behind_address
+unfolding after_address
 message_again bytes a xs h =
     elim h.2 [
       | inl p ↦ spelled_again bytes a (osc_string (tags xs) ++ flat_map argument xs) (message a xs) h.0 p
           (tagged_again a xs h.1)
       | inr p ↦
-          let said : Result Content Fault → Type 0 = λ r. behind_address a [] ≡ r in
+          let said : Result Content Fault → Type 0 = λ r. after_address a [] ≡ r in
           spelled_again bytes a [] (message a xs) h.0 (p.1 ∙ sym (append-nil (osc_string a)))
           (subst (λ (ys : List Argument). said (Ok (message a ys))) (sym p.0) refl)
     ]
 
-no_tag_again : (a rest : List ℕ) → IsNoTag rest → behind_address a rest ≡ Ok (discarded a)
-unfolding behind_address
+no_tag_again : (a rest : List ℕ) → IsNoTag rest → after_address a rest ≡ Ok (discarded a)
+unfolding after_address
 no_tag_again a [] h = absurd h
 no_tag_again a (b ∷ bs) h = rw (ne_eqb b 44 h) refl
 
-other_tags_behind : (a rest : List ℕ) → IsOtherTags rest → behind_address a rest ≡ Ok (discarded a)
-unfolding behind_address
+other_tags_behind : (a rest : List ℕ) → IsOtherTags rest → after_address a rest ≡ Ok (discarded a)
+unfolding after_address
 other_tags_behind a rest h =
     let r : List ℕ = osc_string (44 ∷ h.kinds) ++ h.after in
-    let begins : behind_address a r ≡ tagged_at a r = refl in
-    ap (behind_address a) h.spelled ∙ begins ∙ ap (tagged_at a) (sym h.spelled) ∙ other_tags_again a rest h
+    let begins : after_address a r ≡ tagged_at a r = refl in
+    ap (after_address a) h.spelled ∙ begins ∙ ap (tagged_at a) (sym h.spelled) ∙ other_tags_again a rest h
 
 pub discarded_again : (bytes a : List ℕ) → IsDiscarded bytes a → BeginsAndReads bytes (discarded a)
 discarded_again bytes a h =

@@ -88,15 +88,15 @@ tagged_at a bytes = do
     Ok (message a xs)) else Ok (discarded a)
 
 -- what stands after an address
-unfoldable pub behind_address : List ℕ → List ℕ → Result Content Fault
-behind_address a [] = Ok (message a [])
-behind_address a (b ∷ bs) = if b == comma then tagged_at a (b ∷ bs) else Ok (discarded a)
+unfoldable pub after_address : List ℕ → List ℕ → Result Content Fault
+after_address a [] = Ok (message a [])
+after_address a (b ∷ bs) = if b == comma then tagged_at a (b ∷ bs) else Ok (discarded a)
 
 -- a message, all of the bytes
 unfoldable pub message_at : List ℕ → Result Content Fault
 message_at bytes = do
   a ← string_at bytes
-  behind_address a.0 a.1
+  after_address a.0 a.1
 
 -- whether an element may be so long, where so many bytes are left
 abbrev pub is_size : ℕ → ℕ → Bool

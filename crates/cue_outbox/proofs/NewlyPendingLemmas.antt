@@ -24,7 +24,7 @@ use Rattle.cue_core.proofs.rules.RuleLemmas.{rules_of}
 use Rattle.cue_core.proofs.rules.SoundLemmas.{sound_of}
 use Rattle.cue_outbox.specs.Sending.{Send, order, order_content, send_content, datagram, datagrams, orders, all_pending}
 use Rattle.cue_outbox.specs.New.{same_datagram, is_new, newly_pending}
-use Rattle.cue_outbox.specs.Asked.{number_of, is_asked, pending_of, NewlyPendingAreAsked, StepsAskAnew}
+use Rattle.cue_outbox.specs.Asked.{number_of, is_asked, pending_of, NewlyPendingAreAsked, StepsAskAgain}
 use Rattle.cue_outbox.specs.Asked.{AskedOrdersDiffer}
 use Rattle.cue_outbox.proofs.ListLemmas.{Pairs, pairs_all, each_weaker, each_passes, each_found, each_flat, each_filter}
 use Rattle.cue_outbox.proofs.ReadBackLemmas.{read_back}
@@ -316,8 +316,8 @@ newly-pending-are-asked s events numbers i g asked =
     (after_events s events).live (each_itself (after_events s events).live (sound_of (after_events s events) j).rises)
     (live_told (after_events s events) j)))
 
-pub steps-ask-anew : StepsAskAnew
-steps-ask-anew s now from commands numbers h fit asked =
+pub steps-ask-again : StepsAskAgain
+steps-ask-again s now from commands numbers h fit asked =
     newly-pending-are-asked s (events_of (steps s now from commands)) numbers h
     (steps-acceptable s now from commands h fit) asked
 

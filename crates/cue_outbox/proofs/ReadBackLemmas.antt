@@ -25,7 +25,7 @@ use Rattle.cue_show.proofs.ShowLemmas.{show_rules}
 use Rattle.cue_core.specs.declared.event.Ended.{Ended}
 use Rattle.cue_core.specs.State.{ShowState, is_state}
 use Rattle.cue_core.proofs.rules.RuleLemmas.{rules_of}
-use Rattle.cue_outbox.specs.Sending.{answer, status, order_content, send_content, status_of, ended_number}
+use Rattle.cue_outbox.specs.Sending.{reply, status, order_content, send_content, status_of, ended_number}
 use Rattle.cue_outbox.specs.Sending.{ended_outcome}
 use Rattle.cue_exchange.specs.Outcomes.{outcome_number}
 use Rattle.cue_outbox.specs.Laws.{RepliesAreRead, StatusIsRead}
@@ -48,7 +48,7 @@ fits n h = omega (arith, ints)
 
 pub answer_writable : (address : List ℕ) (made known refused code : ℕ) → IsText address → length address ≤ 64
     → made < 2 ^ 31 → known < 2 ^ 31 → refused < 2 ^ 31 → code < 2 ^ 31
-    → IsWritable (send_content (answer address made known refused code))
+    → IsWritable (send_content (reply address made known refused code))
 unfolding send_content
 answer_writable address made known refused code is_text short m k r c = record {
   plain = search rules;
@@ -100,10 +100,10 @@ front_text (suc n) (b ∷ bs) h = (h.0, front_text n bs h.1)
 
 reply_read : (most : ℕ) (address : List ℕ) (made known refused code : ℕ) → most ≤ 64 → IsText address → made < 2 ^ 16
     → known < 2 ^ 16 → refused < 2 ^ 16 → code < 2 ^ 16
-    → datagram_at (text_of (send_content (answer (take most address) made known refused code))) ≡ Ok
-    (send_content (answer (take most address) made known refused code))
+    → datagram_at (text_of (send_content (reply (take most address) made known refused code))) ≡ Ok
+    (send_content (reply (take most address) made known refused code))
 reply_read most address made known refused code few is_text m k r c =
-    read_back (send_content (answer (take most address) made known refused code))
+    read_back (send_content (reply (take most address) made known refused code))
     (answer_writable (take most address) made known refused code (front_text most address is_text)
     (omega (arith, length-take most address)) (omega arith) (omega arith) (omega arith) (omega arith))
 

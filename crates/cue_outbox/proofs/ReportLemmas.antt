@@ -19,8 +19,8 @@ use Rattle.cue_show.proofs.ChangeLemmas.{is_cue_of-parts_of, is_entry-port_of}
 use Rattle.cue_exchange.specs.declared.attempt.DeviceAnswer.{DeviceAnswer}
 use Rattle.cue_exchange.specs.declared.attempt.Attempt.{Attempt}
 use Rattle.cue_exchange.specs.declared.limits.TheConstants.{MAX_NUMBER}
-use Rattle.cue_exchange.specs.Answers.{devices_of, has_required, stands}
-use Rattle.cue_exchange.specs.Live.{is_number, is_moment, is_open, is_sound, have_sound_devices, is_attempt}
+use Rattle.cue_exchange.specs.Answers.{devices_of, has_required, may_be_in}
+use Rattle.cue_exchange.specs.Live.{is_number, is_time, is_open, is_sound, have_sound_devices, is_attempt}
 use Rattle.cue_exchange.proofs.LiveLemmas.{attempts_of}
 use Rattle.cue_exchange.proofs.ListLemmas.{all_weaker, all_map}
 use Rattle.cue_core.specs.State.{ShowState, cue_parts, is_of_part, are_of_parts, is_at_cue, is_state}
@@ -105,10 +105,10 @@ numbered : (a : Attempt) → IsTrue (is_attempt a) → IsNumbered a
 numbered a h =
     let whole = and_parts (is_sound a) (is_open a.stage a.answers) h in
     let first = and_parts (is_number a.seq)
-    (is_moment a.deadline && (have_sound_devices a.answers && list_all (stands a.stage) a.answers)) whole.0 in
-    let then = and_parts (is_moment a.deadline) (have_sound_devices a.answers && list_all (stands a.stage) a.answers)
+    (is_time a.deadline && (have_sound_devices a.answers && list_all (may_be_in a.stage) a.answers)) whole.0 in
+    let then = and_parts (is_time a.deadline) (have_sound_devices a.answers && list_all (may_be_in a.stage) a.answers)
     first.1 in
-    let sound = and_parts (have_sound_devices a.answers) (list_all (stands a.stage) a.answers) then.1 in
+    let sound = and_parts (have_sound_devices a.answers) (list_all (may_be_in a.stage) a.answers) then.1 in
     let below : a.seq ≤ MAX_NUMBER =
     leb-true a.seq MAX_NUMBER (and_parts (nat_le 1 a.seq) (nat_le a.seq MAX_NUMBER) first.0).1 in
     record {

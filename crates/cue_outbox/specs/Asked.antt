@@ -54,8 +54,8 @@ NewlyPendingAreAsked =
 
 -- And so after the commands of a datagram, judged in turn: the newly pending are those of the attempts whose
 -- devices get new orders by their events.
-abbrev pub StepsAskAnew : Type 0
-StepsAskAnew =
+abbrev pub StepsAskAgain : Type 0
+StepsAskAgain =
     (s : ShowState) (now from : ℕ) (commands : List Command) (numbers : List ℕ) → IsTrue (is_state s)
     → IsTrue (list_all is_fit commands)
     → ((q : ℕ) → is_among q numbers ≡ is_asked q (events_of (steps s now from commands)))

@@ -6,7 +6,7 @@ use Rattle.cue_osc.specs.Reading.{datagram_at}
 use Rattle.cue_osc.specs.Writing.{text_of}
 use Rattle.cue_show.specs.DeviceNumber.{is_port}
 use Rattle.cue_core.specs.State.{ShowState, is_state}
-use Rattle.cue_outbox.specs.Sending.{Send, answer, send_content, datagrams, status_of, all_pending}
+use Rattle.cue_outbox.specs.Sending.{Send, reply, send_content, datagrams, status_of, all_pending}
 
 -- the bytes are read as what was meant
 abbrev pub IsReadBack : Send → Type 0
@@ -17,7 +17,7 @@ abbrev pub RepliesAreRead : Type 0
 RepliesAreRead =
     (address : List ℕ) (made known refused code : ℕ) → IsText address → made < 2 ^ 16 → known < 2 ^ 16
     → refused < 2 ^ 16 → code < 2 ^ 16
-    → IsReadBack (answer (take 64 address) made known refused code)
+    → IsReadBack (reply (take 64 address) made known refused code)
 
 -- the status of each state is read as what was meant
 abbrev pub StatusIsRead : Type 0

@@ -11,7 +11,7 @@ use Rattle.cue_core.specs.Pending.{Order, standby, go_2pc, cancel, pending}
 
 -- a datagram that is sent: the reply to a message, the status, or an order to a device
 pub data Send : Type 0 where
-  answer : (address : List ℕ) (made known refused code : ℕ) → Send
+  reply : (address : List ℕ) (made known refused code : ℕ) → Send
   status : (last : ℕ) (place : List ℕ) (live ended outcome : ℕ) → Send
   order : Order → Send
 
@@ -28,7 +28,7 @@ order_content (cancel q d) = message (codes "/msc/cancel") (number q ∷ number 
 
 -- what is sent as an OSC message
 unfoldable pub send_content : Send → Content
-send_content (answer address made known refused code) =
+send_content (reply address made known refused code) =
     message (codes "/reply") (text address ∷ number made ∷ number known ∷ number refused ∷ number code ∷ [])
 send_content (status last place live ended outcome) =
     message (codes "/status") (number last ∷ text place ∷ number live ∷ number ended ∷ number outcome ∷ [])

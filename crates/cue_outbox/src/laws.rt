@@ -1,5 +1,5 @@
 //! Laws of what is sent, each the contract of a function that does nothing.
-ghost use Rattle.cue_outbox.specs.Asked.{AskedOrdersDiffer, NewlyPendingAreAsked, StepsAskAnew};
+ghost use Rattle.cue_outbox.specs.Asked.{AskedOrdersDiffer, NewlyPendingAreAsked, StepsAskAgain};
 ghost use Rattle.cue_outbox.specs.Laws.{OrdersAreRead, OrdersDiffer, OrdersHavePorts, RepliesAreRead, StatusIsRead};
 
 /// Each reply that `reply` gives is read by `cue_osc` as what was meant.
@@ -35,8 +35,8 @@ pub fn newly_pending_are_asked()
 
 /// After the commands of a datagram, judged in turn, the newly pending are those of the attempts whose devices get
 /// new orders by their events.
-pub fn steps_ask_anew()
-    ensures { StepsAskAnew }
+pub fn steps_ask_again()
+    ensures { StepsAskAgain }
 {}
 
 /// No two of the orders that `pending_of` gives are the same datagram.

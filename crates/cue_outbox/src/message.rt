@@ -13,7 +13,7 @@ use cue_show::Bytes;
 use std::alloc::{AllocError, Global};
 
 // The datagram of a message that is known to be short.
-pub(crate) fn written(
+pub(crate) fn write_message(
     alloc: Global,
     to: u16,
     address: &[u8],

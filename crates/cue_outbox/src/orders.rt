@@ -14,7 +14,7 @@ ghost use Rattle.cue_outbox.specs.Asked.{pending_of};
 ghost use Rattle.cue_outbox.specs.Owed.{datagram_for, datagrams_for, order_in};
 ghost use Rattle.cue_outbox.specs.Views.{out_view, outs_view};
 
-use crate::message::{int, written};
+use crate::message::{int, write_message};
 use crate::out::Out;
 use cue_core::State;
 use cue_exchange::{Attempt, DeviceAnswer, Stage};
@@ -162,7 +162,7 @@ fn standby(
         Arg::Text(cue.text()),
         Arg::Blob(bytes),
     ]?;
-    written(alloc, to, b"/msc/standby", args)
+    write_message(alloc, to, b"/msc/standby", args)
 }
 
 fn go_2pc(alloc: Global, to: u16, seq: u32, device: DeviceNo) -> Result<Out, AllocError>
@@ -170,7 +170,7 @@ fn go_2pc(alloc: Global, to: u16, seq: u32, device: DeviceNo) -> Result<Out, All
     ensures { IfOk result (λ out. out_view out ≡ datagram (to, order (go_2pc seq device))) }
 {
     let args = vec![in alloc; int(seq), int(u32::from(device.number()))]?;
-    written(alloc, to, b"/msc/go_2pc", args)
+    write_message(alloc, to, b"/msc/go_2pc", args)
 }
 
 fn cancel(alloc: Global, to: u16, seq: u32, device: DeviceNo) -> Result<Out, AllocError>
@@ -178,5 +178,5 @@ fn cancel(alloc: Global, to: u16, seq: u32, device: DeviceNo) -> Result<Out, All
     ensures { IfOk result (λ out. out_view out ≡ datagram (to, order (cancel seq device))) }
 {
     let args = vec![in alloc; int(seq), int(u32::from(device.number()))]?;
-    written(alloc, to, b"/msc/cancel", args)
+    write_message(alloc, to, b"/msc/cancel", args)
 }

@@ -1,10 +1,10 @@
 //! The reply to a message.
 ghost use Rattle.std.specs.Prelude.{◌≡◌, ◌≤◌, IfOk, take, length};
 ghost use Rattle.cue_osc.specs.Spelling.{IsText};
-ghost use Rattle.cue_outbox.specs.Sending.{answer, datagram};
+ghost use Rattle.cue_outbox.specs.Sending.{reply, datagram};
 ghost use Rattle.cue_outbox.specs.Views.{out_view};
 
-use crate::message::{int, written};
+use crate::message::{int, write_message};
 use crate::out::Out;
 use cue_osc::Arg;
 use std::alloc::{AllocError, Global};
@@ -25,7 +25,7 @@ pub fn reply(
     code: u16,
 ) -> Result<Out, AllocError>
     requires { IsText address.now }
-    ensures { IfOk result (λ out. out_view out ≡ datagram (to, answer (take 64 address.now) made known refused code)) }
+    ensures { IfOk result (λ out. out_view out ≡ datagram (to, reply (take 64 address.now) made known refused code)) }
 {
     let args = vec![in alloc;
         Arg::Text(front_of(address, SHOWN)),
@@ -34,7 +34,7 @@ pub fn reply(
         int(u32::from(refused)),
         int(u32::from(code)),
     ]?;
-    written(alloc, to, b"/reply", args)
+    write_message(alloc, to, b"/reply", args)
 }
 
 fn front_of(text: &[u8], most: usize) -> &[u8]

@@ -6,7 +6,7 @@ ghost use Rattle.cue_exchange.specs.declared.limits.TheConstants.{MAX_NUMBER, MA
 ghost use Rattle.cue_outbox.specs.Sending.{datagram, ended_number, ended_outcome, status_of};
 ghost use Rattle.cue_outbox.specs.Views.{out_view};
 
-use crate::message::{int, written};
+use crate::message::{int, write_message};
 use crate::out::Out;
 use cue_core::{Ended, State};
 use cue_osc::Arg;
@@ -26,7 +26,7 @@ pub fn status(alloc: Global, to: u16, state: &State) -> Result<Out, AllocError>
         int(last_ended(state)),
         int(ended_outcome(state.ended())),
     ]?;
-    written(alloc, to, b"/status", args)
+    write_message(alloc, to, b"/status", args)
 }
 
 #[tactic(auto, using(crate::proofs::FactLemmas::last_fits))]

@@ -9,7 +9,7 @@ use Rattle.cue_pattern.specs.declared.fault.Fault.{Fault}
 use Rattle.cue_pattern.specs.declared.fault.Fault.TheVariants.{BadPattern, Memory}
 use Rattle.cue_pattern.specs.Grammar.{IsPattern}
 use Rattle.cue_pattern.specs.Meaning.{separated_texts, Denotes}
-use Rattle.cue_pattern.specs.Reading.{with_byte, cut, parts_of, pieces_behind, pieces_of, pattern_at}
+use Rattle.cue_pattern.specs.Reading.{with_byte, cut, parts_of, pieces_after, pieces_of, pattern_at}
 use Rattle.cue_pattern.specs.Matching.{part_matches, parts_match, matches}
 use Rattle.cue_pattern.specs.Steps.{cut_left, left_len, CutsFirst, with_front}
 use Rattle.std.specs.declared.alloc.AllocError.{AllocError}
@@ -47,11 +47,11 @@ matches-no_slash pattern address h = rw h refl
 
 -- ---- reading part by part
 
-pieces_of-none : (t : List ℕ) (ts : List (List ℕ)) → pieces_behind 0 t ≡ None → pieces_of (t ∷ ts) ≡ None
+pieces_of-none : (t : List ℕ) (ts : List (List ℕ)) → pieces_after 0 t ≡ None → pieces_of (t ∷ ts) ≡ None
 unfolding pieces_of
 pieces_of-none t ts h = rw h refl
 
-pieces_of-some : (t : List ℕ) (ts : List (List ℕ)) (p : List Piece) → pieces_behind 0 t ≡ Some p
+pieces_of-some : (t : List ℕ) (ts : List (List ℕ)) (p : List Piece) → pieces_after 0 t ≡ Some p
     → pieces_of (t ∷ ts) ≡ option_map (λ ps. p ∷ ps) (pieces_of ts)
 unfolding pieces_of
 pieces_of-some t ts p h = rw h refl
@@ -75,13 +75,13 @@ uncounted-read None h = refl
 uncounted-read (Some ps) h = cc
 
 pub parts-bad : (bytes before : List ℕ) (behind : Option (List ℕ)) → CutsFirst 47 bytes before behind
-    → pieces_behind 0 before ≡ None → pieces_of (cut 47 bytes) ≡ None
+    → pieces_after 0 before ≡ None → pieces_of (cut 47 bytes) ≡ None
 parts-bad bytes before behind h bad = rw h.parts (pieces_of-none before (cut_left 47 behind) bad)
 
 pub parts-uncounted : (bytes before : List ℕ) (behind : Option (List ℕ)) → CutsFirst 47 bytes before behind
-    → None ≡ option_map {U = ℕ} length (pieces_behind 0 before) → pieces_of (cut 47 bytes) ≡ None
+    → None ≡ option_map {U = ℕ} length (pieces_after 0 before) → pieces_of (cut 47 bytes) ≡ None
 parts-uncounted bytes before behind h bad =
-    parts-bad bytes before behind h (uncounted-read (pieces_behind 0 before) bad)
+    parts-bad bytes before behind h (uncounted-read (pieces_after 0 before) bad)
 
 count-more : (m : ℕ) (p : List Piece) (read : Option (List (List Piece)))
     → option_map {U = ℕ} (λ ps. m + length ps) (option_map (λ ps. p ∷ ps) read) ≡ option_map (λ ps. (m + 1) + length ps)
@@ -90,11 +90,11 @@ count-more m p None = refl
 count-more m p (Some ps) = ap (λ (n : ℕ). Some n) (let e : m + suc (length ps) ≡ (m + 1) + length ps = omega arith in e)
 
 pub parts-counted : (m n : ℕ) (bytes before : List ℕ) (behind : Option (List ℕ)) → CutsFirst 47 bytes before behind
-    → Some n ≡ option_map {U = ℕ} length (pieces_behind 0 before)
+    → Some n ≡ option_map {U = ℕ} length (pieces_after 0 before)
     → option_map {U = ℕ} (λ ps. (m + 1) + length ps) (pieces_of (cut_left 47 behind)) ≡ option_map (λ ps. m + length ps)
     (pieces_of (cut 47 bytes))
 parts-counted m n bytes before behind h counted =
-    let c = counted-read n (pieces_behind 0 before) counted in
+    let c = counted-read n (pieces_after 0 before) counted in
     sym (ap (λ (ts : List (List ℕ)). option_map {U = ℕ} (λ ps. m + length ps) (pieces_of ts)) h.parts
     ∙ (ap (option_map {U = ℕ} (λ ps. m + length ps)) (pieces_of-some before (cut_left 47 behind) c.pieces c.read_is)
     ∙ count-more m c.pieces (pieces_of (cut_left 47 behind))))
@@ -113,7 +113,7 @@ front-more front p None = refl
 front-more front p (Some ps) = ap (λ (x : List (List Piece)). Some x) (sym (append_assoc front (p ∷ []) ps))
 
 pub parts-fronted : (front : List (List Piece)) (p : List Piece) (bytes before : List ℕ) (behind : Option (List ℕ))
-    → CutsFirst 47 bytes before behind → pieces_behind 0 before ≡ Some p
+    → CutsFirst 47 bytes before behind → pieces_after 0 before ≡ Some p
     → with_front (front ++ p ∷ []) (pieces_of (cut_left 47 behind)) ≡ with_front front (pieces_of (cut 47 bytes))
 parts-fronted front p bytes before behind h read =
     sym (ap (λ (ts : List (List ℕ)). with_front front (pieces_of ts)) h.parts

@@ -5,10 +5,10 @@ use Rattle.std.specs.Prelude.{option_and_then}
 use Rattle.std.proofs.lemmas.Bool.{cases_eq, eq-eqb, ne_eqb}
 use Rattle.cue_pattern.specs.declared.piece.Piece.{Piece}
 use Rattle.cue_pattern.specs.Grammar.{IsPart, ArePartsSpelled, IsPattern}
-use Rattle.cue_pattern.specs.Reading.{cut, piece_at, pieces_behind, pieces_of, pattern_at}
+use Rattle.cue_pattern.specs.Reading.{cut, piece_at, pieces_after, pieces_of, pattern_at}
 use Rattle.cue_pattern.proofs.CutLemmas.{cut-is_cut, cut-from}
-use Rattle.cue_pattern.proofs.SpellingLemmas.{piece_at-fronts, piece_at-again, pieces_behind-cons, pieces_behind-none}
-use Rattle.cue_pattern.proofs.SpellingLemmas.{pieces_behind-end}
+use Rattle.cue_pattern.proofs.SpellingLemmas.{piece_at-fronts, piece_at-again, pieces_after-cons, pieces_after-none}
+use Rattle.cue_pattern.proofs.SpellingLemmas.{pieces_after-end}
 
 -- what was mapped, where something was
 record Mapped {A B : Type 0} (f : A → B) (o : Option A) (y : B) : Type 0 where
@@ -26,43 +26,43 @@ record Begins (b : ℕ) (bs : List ℕ) (ps : List Piece) : Type 0 where
   pub own : ℕ
   pub more : List Piece
   pub piece_is : piece_at b bs ≡ Some (piece, own)
-  pub rest_is : pieces_behind 0 (drop own bs) ≡ Some more
+  pub rest_is : pieces_after 0 (drop own bs) ≡ Some more
   pub pieces_are : piece ∷ more ≡ ps
 
 begins : (b : ℕ) (bs : List ℕ) (ps : List Piece) (found : Option (Piece × ℕ)) → piece_at b bs ≡ found
-    → pieces_behind 0 (b ∷ bs) ≡ Some ps → Begins b bs ps
-begins b bs ps None is h = let none = pieces_behind-none b bs is in cc
+    → pieces_after 0 (b ∷ bs) ≡ Some ps → Begins b bs ps
+begins b bs ps None is h = let none = pieces_after-none b bs is in cc
 begins b bs ps (Some (p, n)) is h =
-    let m = mapped (λ qs. p ∷ qs) (pieces_behind 0 (drop n bs)) ps (sym (pieces_behind-cons b bs p n is) ∙ h) in
+    let m = mapped (λ qs. p ∷ qs) (pieces_after 0 (drop n bs)) ps (sym (pieces_after-cons b bs p n is) ∙ h) in
     record { piece = p; own = n; more = m.value; piece_is = is; rest_is = m.was; pieces_are = m.gives }
 
 piece-same : (found : Option (Piece × ℕ)) (p q : Piece) (n : ℕ) → found ≡ Some (q, n) → q ≡ p → found ≡ Some (p, n)
 piece-same found p q n h e = rw (← e) h
 
-part-is : (ps : List Piece) (t : List ℕ) → pieces_behind 0 t ≡ Some ps → IsPart t ps
+part-is : (ps : List Piece) (t : List ℕ) → pieces_after 0 t ≡ Some ps → IsPart t ps
 part-is [] [] h = refl
 part-is [] (b ∷ bs) h = let a = (begins b bs [] (piece_at b bs) refl h).pieces_are in cc
-part-is (p ∷ ps) [] h = let e = pieces_behind-end in cc
+part-is (p ∷ ps) [] h = let e = pieces_after-end in cc
 part-is (p ∷ ps) (b ∷ bs) h =
     let a = begins b bs (p ∷ ps) (piece_at b bs) refl h in
     let same : a.piece ≡ p = (let e = a.pieces_are in cc) in
     let rest : a.more ≡ ps = (let e = a.pieces_are in cc) in
     let front : piece_at b bs ≡ Some (p, a.own) = piece-same _ p a.piece a.own a.piece_is same in
     let f = piece_at-fronts b bs p a.own front in
-    let more : pieces_behind 0 f.rest ≡ Some ps = ap (pieces_behind 0) (sym f.rest_is)
+    let more : pieces_after 0 f.rest ≡ Some ps = ap (pieces_after 0) (sym f.rest_is)
     ∙ (a.rest_is ∙ ap (λ (x : List Piece). Some x) rest) in
     (b ∷ f.front, f.rest, ap (λ x. b ∷ x) f.bytes_are, f.spells, part-is ps f.rest more)
 
-part-again : (ps : List Piece) (t : List ℕ) → IsPart t ps → pieces_behind 0 t ≡ Some ps
-part-again [] t h = ap (pieces_behind 0) h ∙ pieces_behind-end
+part-again : (ps : List Piece) (t : List ℕ) → IsPart t ps → pieces_after 0 t ≡ Some ps
+part-again [] t h = ap (pieces_after 0) h ∙ pieces_after-end
 part-again (p ∷ ps) t h =
     let r = piece_at-again h.0 h.1 p h.3 in
-    ap (pieces_behind 0) (h.2 ∙ r.text_is) ∙ pieces_behind-cons r.first r.more p r.own r.piece_is
-    ∙ ap (λ (x : List ℕ). option_map (λ qs. p ∷ qs) (pieces_behind 0 x)) r.rest_is
+    ap (pieces_after 0) (h.2 ∙ r.text_is) ∙ pieces_after-cons r.first r.more p r.own r.piece_is
+    ∙ ap (λ (x : List ℕ). option_map (λ qs. p ∷ qs) (pieces_after 0 x)) r.rest_is
     ∙ ap (option_map (λ qs. p ∷ qs)) (part-again ps h.1 h.4)
 
 pieces_of-part : (t : List ℕ) (ts : List (List ℕ)) (found : Option (List Piece)) (pattern : List (List Piece))
-    → pieces_behind 0 t ≡ found → ((qs : List (List Piece)) → pieces_of ts ≡ Some qs → ArePartsSpelled ts qs)
+    → pieces_after 0 t ≡ found → ((qs : List (List Piece)) → pieces_of ts ≡ Some qs → ArePartsSpelled ts qs)
     → option_and_then (λ p. option_map (λ ps. p ∷ ps) (pieces_of ts)) found ≡ Some pattern
     → ArePartsSpelled (t ∷ ts) pattern
 pieces_of-part t ts None pattern is more h = cc
@@ -75,7 +75,7 @@ pieces_of-is : (ts : List (List ℕ)) (pattern : List (List Piece)) → pieces_o
 unfolding pieces_of
 pieces_of-is [] [] h = tt
 pieces_of-is [] (p ∷ ps) h = cc
-pieces_of-is (t ∷ ts) pattern h = pieces_of-part t ts (pieces_behind 0 t) pattern refl (λ qs k. pieces_of-is ts qs k) h
+pieces_of-is (t ∷ ts) pattern h = pieces_of-part t ts (pieces_after 0 t) pattern refl (λ qs k. pieces_of-is ts qs k) h
 
 pieces_of-again : (ts : List (List ℕ)) (pattern : List (List Piece)) → ArePartsSpelled ts pattern
     → pieces_of ts ≡ Some pattern

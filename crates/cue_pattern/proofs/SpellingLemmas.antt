@@ -14,7 +14,7 @@ use Rattle.cue_pattern.specs.declared.piece.Piece.TheVariants.{One, Many, Listed
 use Rattle.cue_pattern.specs.Meaning.{HasNo, IsCut}
 use Rattle.cue_pattern.specs.Grammar.{ranges, IsPlain, IsBraced, IsPiece}
 use Rattle.cue_pattern.specs.Reading.{cut, text_before, negated_piece, bracketed_piece, is_braced, braced_piece}
-use Rattle.cue_pattern.specs.Reading.{piece_between, piece_at, pieces_behind}
+use Rattle.cue_pattern.specs.Reading.{piece_between, piece_at, pieces_after}
 use Rattle.cue_pattern.specs.Steps.{Reads, with_front}
 use Rattle.cue_pattern.proofs.CutLemmas.{cut-is_cut, cut-from, Encloses, text_before-is, text_before-again}
 
@@ -242,32 +242,32 @@ piece_at-again front rest (Among ts) h =
 -- ---- pieces in a row
 
 -- to skip is to drop
-pub pieces_behind-drop : (n : ℕ) (t : List ℕ) → pieces_behind n t ≡ pieces_behind 0 (drop n t)
-unfolding pieces_behind
-pieces_behind-drop zero t = refl
-pieces_behind-drop (suc n) [] = refl
-pieces_behind-drop (suc n) (b ∷ bs) = pieces_behind-drop n bs
+pub pieces_after-drop : (n : ℕ) (t : List ℕ) → pieces_after n t ≡ pieces_after 0 (drop n t)
+unfolding pieces_after
+pieces_after-drop zero t = refl
+pieces_after-drop (suc n) [] = refl
+pieces_after-drop (suc n) (b ∷ bs) = pieces_after-drop n bs
 
 -- the pieces of a text are the one at its front, and those of what it leaves
-pub pieces_behind-cons : (b : ℕ) (bs : List ℕ) (p : Piece) (n : ℕ) → piece_at b bs ≡ Some (p, n)
-    → pieces_behind 0 (b ∷ bs) ≡ option_map (λ ps. p ∷ ps) (pieces_behind 0 (drop n bs))
-unfolding pieces_behind
-pieces_behind-cons b bs p n h = rw h (ap (option_map (λ ps. p ∷ ps)) (pieces_behind-drop n bs))
+pub pieces_after-cons : (b : ℕ) (bs : List ℕ) (p : Piece) (n : ℕ) → piece_at b bs ≡ Some (p, n)
+    → pieces_after 0 (b ∷ bs) ≡ option_map (λ ps. p ∷ ps) (pieces_after 0 (drop n bs))
+unfolding pieces_after
+pieces_after-cons b bs p n h = rw h (ap (option_map (λ ps. p ∷ ps)) (pieces_after-drop n bs))
 
 -- where none is read at the front, none are read
-pub pieces_behind-none : (b : ℕ) (bs : List ℕ) → piece_at b bs ≡ None → pieces_behind 0 (b ∷ bs) ≡ None
-unfolding pieces_behind
-pieces_behind-none b bs h = rw h refl
+pub pieces_after-none : (b : ℕ) (bs : List ℕ) → piece_at b bs ≡ None → pieces_after 0 (b ∷ bs) ≡ None
+unfolding pieces_after
+pieces_after-none b bs h = rw h refl
 
-pub pieces_behind-end : pieces_behind 0 [] ≡ Some []
-unfolding pieces_behind
-pieces_behind-end = refl
+pub pieces_after-end : pieces_after 0 [] ≡ Some []
+unfolding pieces_after
+pieces_after-end = refl
 
 -- the same for a piece as the code reads it
 pub pieces-read : (b : ℕ) (bs : List ℕ) (p : Piece) (rest : List ℕ) → Reads (piece_at b bs) bs p rest
-    → pieces_behind 0 (b ∷ bs) ≡ option_map (λ ps. p ∷ ps) (pieces_behind 0 rest)
-pieces-read b bs p rest h = pieces_behind-cons b bs p h.own h.piece_is
-    ∙ ap (λ (t : List ℕ). option_map (λ ps. p ∷ ps) (pieces_behind 0 t)) (sym h.rest_is)
+    → pieces_after 0 (b ∷ bs) ≡ option_map (λ ps. p ∷ ps) (pieces_after 0 rest)
+pieces-read b bs p rest h = pieces_after-cons b bs p h.own h.piece_is
+    ∙ ap (λ (t : List ℕ). option_map (λ ps. p ∷ ps) (pieces_after 0 t)) (sym h.rest_is)
 
 count-more : (m : ℕ) (p : Piece) (read : Option (List Piece))
     → option_map {U = ℕ} (λ ps. m + length ps) (option_map (λ ps. p ∷ ps) read) ≡ option_map (λ ps. (m + 1) + length ps)
@@ -277,10 +277,10 @@ count-more m p (Some ps) = ap (λ (n : ℕ). Some n) (let e : m + suc (length ps
 
 -- one piece more is counted
 pub counted : (m b : ℕ) (bs : List ℕ) (p : Piece) (rest : List ℕ) → Reads (piece_at b bs) bs p rest
-    → option_map {U = ℕ} (λ ps. m + length ps) (pieces_behind 0 (b ∷ bs)) ≡ option_map (λ ps. (m + 1) + length ps)
-    (pieces_behind 0 rest)
+    → option_map {U = ℕ} (λ ps. m + length ps) (pieces_after 0 (b ∷ bs)) ≡ option_map (λ ps. (m + 1) + length ps)
+    (pieces_after 0 rest)
 counted m b bs p rest h = ap (option_map (λ (ps : List Piece). m + length ps)) (pieces-read b bs p rest h)
-    ∙ count-more m p (pieces_behind 0 rest)
+    ∙ count-more m p (pieces_after 0 rest)
 
 front-more : (front : List Piece) (p : Piece) (read : Option (List Piece))
     → with_front front (option_map (λ ps. p ∷ ps) read) ≡ with_front (front ++ p ∷ []) read
@@ -289,9 +289,9 @@ front-more front p (Some ps) = ap (λ (x : List Piece). Some x) (sym (append_ass
 
 -- one piece more is read
 pub fronted : (front : List Piece) (b : ℕ) (bs : List ℕ) (p : Piece) (rest : List ℕ) → Reads (piece_at b bs) bs p rest
-    → with_front front (pieces_behind 0 (b ∷ bs)) ≡ with_front (front ++ p ∷ []) (pieces_behind 0 rest)
+    → with_front front (pieces_after 0 (b ∷ bs)) ≡ with_front (front ++ p ∷ []) (pieces_after 0 rest)
 fronted front b bs p rest h = ap (with_front front) (pieces-read b bs p rest h)
-    ∙ front-more front p (pieces_behind 0 rest)
+    ∙ front-more front p (pieces_after 0 rest)
 
 pub read-shorter : (b : ℕ) (bs : List ℕ) (p : Piece) (rest : List ℕ) → Reads (piece_at b bs) bs p rest
     → length rest ≤ length bs
@@ -303,9 +303,9 @@ behind-first : (b : ℕ) (bs : List ℕ) → take (length (b ∷ bs) - 1) (drop 
 behind-first b bs = let e : length (b ∷ bs) - 1 ≡ length bs = omega arith in rw e (take-length bs)
 
 pub none-at : (t : List ℕ) → 1 ≤ length t → piece_at (get_or t 0 0) (take (length t - 1) (drop 1 t)) ≡ None
-    → pieces_behind 0 t ≡ None
+    → pieces_after 0 t ≡ None
 none-at [] l h = absurd (omega arith)
-none-at (b ∷ bs) l h = pieces_behind-none b bs (subst (λ (x : List ℕ). piece_at b x ≡ None) (behind-first b bs) h)
+none-at (b ∷ bs) l h = pieces_after-none b bs (subst (λ (x : List ℕ). piece_at b x ≡ None) (behind-first b bs) h)
 
 -- what a token read at the front of a slice tells
 pub record ReadAt (t : List ℕ) (p : Piece) (rest : List ℕ) : Type 0 where
@@ -315,13 +315,13 @@ at-cons : (b : ℕ) (bs : List ℕ) (p : Piece) (rest : List ℕ) → ReadAt (b 
 at-cons b bs p rest h = subst (λ (x : List ℕ). Reads (piece_at b x) x p rest) (behind-first b bs) h.read
 
 pub counted-at : (m : ℕ) (t : List ℕ) (p : Piece) (rest : List ℕ) → 1 ≤ length t → ReadAt t p rest
-    → option_map {U = ℕ} (λ ps. (m + 1) + length ps) (pieces_behind 0 rest) ≡ option_map (λ ps. m + length ps)
-    (pieces_behind 0 t)
+    → option_map {U = ℕ} (λ ps. (m + 1) + length ps) (pieces_after 0 rest) ≡ option_map (λ ps. m + length ps)
+    (pieces_after 0 t)
 counted-at m [] p rest l h = absurd (omega arith)
 counted-at m (b ∷ bs) p rest l h = sym (counted m b bs p rest (at-cons b bs p rest h))
 
 pub fronted-at : (front : List Piece) (t : List ℕ) (p : Piece) (rest : List ℕ) → 1 ≤ length t → ReadAt t p rest
-    → with_front (front ++ p ∷ []) (pieces_behind 0 rest) ≡ with_front front (pieces_behind 0 t)
+    → with_front (front ++ p ∷ []) (pieces_after 0 rest) ≡ with_front front (pieces_after 0 t)
 fronted-at front [] p rest l h = absurd (omega arith)
 fronted-at front (b ∷ bs) p rest l h = sym (fronted front b bs p rest (at-cons b bs p rest h))
 
@@ -330,13 +330,13 @@ shorter-at [] p rest l h = absurd (omega arith)
 shorter-at (b ∷ bs) p rest l h = omega (arith, read-shorter b bs p rest (at-cons b bs p rest h))
 
 -- at the end of a text no piece is left
-pub end-at : (t : List ℕ) → length t < 1 → pieces_behind 0 t ≡ Some []
-end-at [] l = pieces_behind-end
+pub end-at : (t : List ℕ) → length t < 1 → pieces_after 0 t ≡ Some []
+end-at [] l = pieces_after-end
 end-at (b ∷ bs) l = absurd (omega arith)
 
 pub counted-end : (m : ℕ) (t : List ℕ) → length t < 1
-    → Some m ≡ option_map {U = ℕ} (λ ps. m + length ps) (pieces_behind 0 t)
+    → Some m ≡ option_map {U = ℕ} (λ ps. m + length ps) (pieces_after 0 t)
 counted-end m t l = rw (end-at t l) (ap (λ (n : ℕ). Some n) (let e : m ≡ m + 0 = omega arith in e))
 
-pub fronted-end : (front : List Piece) (t : List ℕ) → length t < 1 → with_front front (pieces_behind 0 t) ≡ Some front
+pub fronted-end : (front : List Piece) (t : List ℕ) → length t < 1 → with_front front (pieces_after 0 t) ≡ Some front
 fronted-end front t l = rw (end-at t l) (ap (λ (x : List Piece). Some x) (append-nil front))

@@ -64,18 +64,18 @@ piece_at b bs =
     Some (Plain b, 0)
 
 -- the pieces of what is left of a text after so many bytes
-unfoldable pub pieces_behind : ℕ → List ℕ → Option (List Piece)
-pieces_behind zero [] = Some []
-pieces_behind (suc n) [] = Some []
-pieces_behind (suc n) (b ∷ bs) = pieces_behind n bs
-pieces_behind zero (b ∷ bs) =
-    option_and_then (λ (found : Piece × ℕ). option_map (λ ps. found.0 ∷ ps) (pieces_behind found.1 bs))
+unfoldable pub pieces_after : ℕ → List ℕ → Option (List Piece)
+pieces_after zero [] = Some []
+pieces_after (suc n) [] = Some []
+pieces_after (suc n) (b ∷ bs) = pieces_after n bs
+pieces_after zero (b ∷ bs) =
+    option_and_then (λ (found : Piece × ℕ). option_map (λ ps. found.0 ∷ ps) (pieces_after found.1 bs))
     (piece_at b bs)
 
 -- the pieces of each part
 unfoldable pub pieces_of : List (List ℕ) → Option (List (List Piece))
 pieces_of [] = Some []
-pieces_of (t ∷ ts) = option_and_then (λ p. option_map (λ ps. p ∷ ps) (pieces_of ts)) (pieces_behind 0 t)
+pieces_of (t ∷ ts) = option_and_then (λ p. option_map (λ ps. p ∷ ps) (pieces_of ts)) (pieces_after 0 t)
 
 -- the pattern that the bytes spell; none where they are no pattern
 unfoldable pub pattern_at : List ℕ → Option (List (List Piece))

@@ -31,7 +31,7 @@ impl Model for Pattern {
 }
 
 /// What stands after the slash that begins an address or a pattern.
-fn behind_slash(bytes: &[u8]) -> Option<&[u8]>
+fn after_slash(bytes: &[u8]) -> Option<&[u8]>
     ensures parts { parts_of bytes.now ≡ option_map (cut slash) (option_copied result) }
     ensures shorter { left_len (option_copied result) ≤ length bytes.now }
 {
@@ -45,7 +45,7 @@ fn behind_slash(bytes: &[u8]) -> Option<&[u8]>
 fn count_parts(bytes: &[u8]) -> Option<usize>
     ensures { result ≡ option_map length (pattern_at bytes.now) }
 {
-    let first = behind_slash(bytes)?;
+    let first = after_slash(bytes)?;
     let mut count = 0;
     let mut left = Some(first);
     while let Some(rest) = left {
@@ -105,7 +105,7 @@ impl Pattern {
         ensures found { IfOk result (λ p. pattern_at bytes.now ≡ Some p) }
         ensures bad { result ≡ Err Fault.BadPattern → pattern_at bytes.now ≡ None }
     {
-        let Some(first) = behind_slash(bytes) else {
+        let Some(first) = after_slash(bytes) else {
             return Err(Fault::BadPattern);
         };
         let mut parts = Vec::with_capacity(alloc, count)?;
@@ -137,7 +137,7 @@ impl Pattern {
         // Where each part of the address is short, no memory is asked for.
         ensures short { IsTrue (are_short (parts_of address.now)) → IsOk result }
     {
-        let Some(first) = behind_slash(address) else {
+        let Some(first) = after_slash(address) else {
             return Ok(false);
         };
         if count_texts(first) != self.parts().len() {

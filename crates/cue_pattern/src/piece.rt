@@ -2,7 +2,7 @@
 
 ghost use Rattle.std.specs.Prelude.{◌≡◌, ◌<◌, ◌≤◌, length, IfOk, IsOk, Some, None};
 ghost use Rattle.std.specs.Option.{option_map};
-ghost use Rattle.cue_pattern.specs.Reading.{pieces_behind};
+ghost use Rattle.cue_pattern.specs.Reading.{pieces_after};
 
 use crate::fault::Fault;
 use crate::limits::MAX_SHORT;
@@ -80,8 +80,8 @@ impl Part {
     ghost use Rattle.cue_pattern.specs.Matching.{part_matches};
 
     pub(crate) fn read(alloc: Global, text: &[u8]) -> Result<Part, Fault>
-        ensures found { IfOk result (λ p. pieces_behind 0 text.now ≡ Some p) }
-        ensures bad { result ≡ Err Fault.BadPattern → pieces_behind 0 text.now ≡ None }
+        ensures found { IfOk result (λ p. pieces_after 0 text.now ≡ Some p) }
+        ensures bad { result ≡ Err Fault.BadPattern → pieces_after 0 text.now ≡ None }
     {
         let Some(count) = count_pieces(text) else {
             return Err(Fault::BadPattern);

@@ -5,7 +5,7 @@ ghost use Rattle.std.specs.List.{list_all};
 ghost use Rattle.std.specs.Option.{option_map};
 ghost use Rattle.cue_pattern.specs.Bytes.{close_bracket, close_brace};
 ghost use Rattle.cue_pattern.specs.Reading.{piece_at, bracketed_piece, braced_piece, piece_between, text_before};
-ghost use Rattle.cue_pattern.specs.Reading.{is_braced, pieces_behind};
+ghost use Rattle.cue_pattern.specs.Reading.{is_braced, pieces_after};
 ghost use Rattle.cue_pattern.specs.Steps.{Reads, piece_of};
 
 use crate::cut::cut_first;
@@ -81,7 +81,7 @@ pub(crate) fn token_at(first: u8, behind: &[u8]) -> Option<(Token<'_>, &[u8])>
 
 /// How many pieces a part has; `None` where it is badly written.
 pub(crate) fn count_pieces(text: &[u8]) -> Option<usize>
-    ensures { result ≡ option_map length (pieces_behind 0 text.now) }
+    ensures { result ≡ option_map length (pieces_after 0 text.now) }
 {
     let mut count = 0;
     let mut rest = text;

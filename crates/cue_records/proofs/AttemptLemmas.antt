@@ -12,7 +12,7 @@ use Rattle.cue_show.specs.Number.{is_cue_number}
 use Rattle.cue_show.specs.Show.{ShowLists, parts_of}
 use Rattle.cue_show.specs.declared.part.Part.{Part}
 use Rattle.cue_exchange.specs.Answers.{devices_of}
-use Rattle.cue_exchange.specs.Live.{is_number, is_moment, are_live, goes_before}
+use Rattle.cue_exchange.specs.Live.{is_number, is_time, are_live, goes_before}
 use Rattle.cue_exchange.specs.Steps.{are_below, can_put, with_attempt}
 use Rattle.cue_exchange.specs.declared.attempt.Answer.{Answer}
 use Rattle.cue_exchange.specs.declared.attempt.Answer.TheVariants as answer
@@ -27,13 +27,13 @@ use Rattle.cue_exchange.proofs.LiveLemmas.{order_of}
 use Rattle.cue_exchange.proofs.LookUpLemmas.{can_put-next}
 use Rattle.cue_core.specs.State.{is_of_part, are_of_parts, is_at_cue}
 use Rattle.cue_core.proofs.lists.ConditionLemmas.{both, join, same_number, same_self}
-use Rattle.cue_records.specs.Fields.{byte_text, number_text, moment_text, text_text}
+use Rattle.cue_records.specs.Fields.{byte_text, number_text, time_text, text_text}
 use Rattle.cue_records.specs.State.{stage_number, answer_number, answers_text, attempt_text, live_text}
 use Rattle.cue_records.specs.Reading.{◌>>=◌}
 use Rattle.cue_records.specs.StateReading.{stage_of, stage_at, answer_of, one_answer_at, answers_at, head_at}
 use Rattle.cue_records.specs.StateReading.{attempt_at, can_follow, attempt_step, live_at}
 use Rattle.cue_records.proofs.AfterwardsLemmas.{all_here}
-use Rattle.cue_records.proofs.FieldLemmas.{byte_field, step_number, sequence_field, moment_field, cue_field}
+use Rattle.cue_records.proofs.FieldLemmas.{byte_field, step_number, sequence_field, time_field, cue_field}
 use Rattle.cue_records.proofs.FoldLemmas.{IsMade, counted_takes, counted_again}
 use Rattle.cue_records.proofs.TakingLemmas.{Takes, IsField, bind_some, some_is, bytes_behind, made_field, both_field}
 
@@ -157,14 +157,14 @@ answers_again (x ∷ xs) (p ∷ ps) rest e =
 
 -- what stands before the answers
 abbrev head_text : ℕ × (List ℕ × (ℕ × Stage)) → List ℕ
-head_text h = number_text h.0 ++ (text_text h.1.0 ++ (moment_text h.1.1.0 ++ byte_text (stage_number h.1.1.1)))
+head_text h = number_text h.0 ++ (text_text h.1.0 ++ (time_text h.1.1.0 ++ byte_text (stage_number h.1.1.1)))
 
 abbrev head_fits : ℕ × (List ℕ × (ℕ × Stage)) → Bool
-head_fits h = is_number h.0 && (is_cue_number h.1.0 && (is_moment h.1.1.0 && true))
+head_fits h = is_number h.0 && (is_cue_number h.1.0 && (is_time h.1.1.0 && true))
 
 head_field : IsField head_at head_text head_fits
 unfolding head_at
-head_field = both_field sequence_field (both_field cue_field (both_field moment_field stage_field))
+head_field = both_field sequence_field (both_field cue_field (both_field time_field stage_field))
 
 -- the attempt has a text, where the cues are those of the show
 abbrev pub attempt_fits : ShowLists → Attempt → Bool
@@ -197,7 +197,7 @@ attempt_takes show bytes y b e =
     let xs = m.0.0 in
     let parts : bytes ≡ attempt_text (attempt_of h xs) ++ m.0.1 =
     t.0 ∙ ap (λ bs. head_text h ++ bs) u.0
-    ∙ grouped (number_text h.0) (text_text h.1.0) (moment_text h.1.1.0) (byte_text (stage_number h.1.1.1))
+    ∙ grouped (number_text h.0) (text_text h.1.0) (time_text h.1.1.0) (byte_text (stage_number h.1.1.1))
     (answers_text xs) m.0.1 in
     let at : IsTrue (is_at_cue show (attempt_of h xs)) = at_parts (parts_of show h.1.0) p.0 xs p.1 u.1 in
     subst (Takes attempt_text (attempt_fits show) bytes) (some_is (attempt_of h xs, m.0.1) y m.2)
@@ -220,7 +220,7 @@ attempt_again show a rest h =
     let k = both (head_fits head) (is_at_cue show a) h in
     let p = parts_found show a k.1 in
     let regrouped : attempt_text a ++ rest ≡ head_text head ++ (answers_text a.answers ++ rest) =
-    sym (grouped (number_text a.seq) (text_text a.cue) (moment_text a.deadline) (byte_text (stage_number a.stage))
+    sym (grouped (number_text a.seq) (text_text a.cue) (time_text a.deadline) (byte_text (stage_number a.stage))
     (answers_text a.answers) rest) in
     ap (attempt_at show) regrouped
     ∙ rw (head_field.again head (answers_text a.answers ++ rest) k.0, p.1, answers_again a.answers p.0 rest p.2)

@@ -6,14 +6,14 @@ use Rattle.cue_show.specs.DeviceNumber.{is_device}
 use Rattle.cue_show.specs.Number.{is_cue_number}
 use Rattle.cue_show.specs.Parts.{are_parts}
 use Rattle.cue_show.specs.declared.part.Part.{Part}
-use Rattle.cue_exchange.specs.Live.{is_number, is_moment}
+use Rattle.cue_exchange.specs.Live.{is_number, is_time}
 use Rattle.cue_core.specs.declared.event.Event.{Event}
 use Rattle.cue_core.specs.declared.event.Event.TheVariants as event
 use Rattle.cue_core.proofs.lists.ConditionLemmas.{both, join}
 use Rattle.cue_records.specs.declared.batch.kind.Kind.{Kind}
 use Rattle.cue_records.specs.declared.batch.kind.Kind.TheVariants as kind
 use Rattle.cue_records.specs.declared.parts_form.PartsForm.TheVariants.{Plain, Flagged}
-use Rattle.cue_records.specs.Fields.{byte_text, number_text, moment_text, text_text, new_cue_text, are_required}
+use Rattle.cue_records.specs.Fields.{byte_text, number_text, time_text, text_text, new_cue_text, are_required}
 use Rattle.cue_records.specs.Fields.{reason_number}
 use Rattle.cue_records.specs.Batch.{event_text, is_event}
 use Rattle.cue_records.specs.Reading.{Reads, as_at}
@@ -21,7 +21,7 @@ use Rattle.cue_records.specs.BatchReading.{kind_of, kind_at, start_at, answer_at
 use Rattle.cue_records.specs.BatchReading.{event_at}
 use Rattle.cue_records.proofs.TakingLemmas.{Takes, IsField, bind_some, some_is, bytes_behind, where_field, made_field}
 use Rattle.cue_records.proofs.TakingLemmas.{both_field}
-use Rattle.cue_records.proofs.FieldLemmas.{byte_field, step_number, device_field, sequence_field, moment_field}
+use Rattle.cue_records.proofs.FieldLemmas.{byte_field, step_number, device_field, sequence_field, time_field}
 use Rattle.cue_records.proofs.FieldLemmas.{cue_field, entry_field, new_cue_fits, new_cue_field, reason_field}
 
 -- ---- kinds
@@ -121,10 +121,10 @@ module _ {A : Type 0} {read : Reads A} {text : A → List ℕ} {fits : A → Boo
       → as_at make read (text y ++ rest) ≡ Some (make y, rest)
   given f make y rest h = rw (f.again y rest h) refl
 
-start_field : IsField start_at (λ x. number_text x.0 ++ (text_text x.1.0 ++ moment_text x.1.1))
-    (λ x. is_number x.0 && (is_cue_number x.1.0 && is_moment x.1.1))
+start_field : IsField start_at (λ x. number_text x.0 ++ (text_text x.1.0 ++ time_text x.1.1))
+    (λ x. is_number x.0 && (is_cue_number x.1.0 && is_time x.1.1))
 unfolding start_at
-start_field = both_field sequence_field (both_field cue_field moment_field)
+start_field = both_field sequence_field (both_field cue_field time_field)
 
 answer_field : IsField answer_at (λ x. number_text x.0 ++ byte_text x.1) (λ x. is_number x.0 && is_device x.1)
 unfolding answer_at

@@ -15,14 +15,14 @@ use Rattle.cue_show.specs.Parts.{is_part, is_required_part, has_required_part, a
 use Rattle.cue_show.specs.declared.limits.TheConstants.{MAX_DEVICE_NUMBER, MAX_CUE_BYTES, MAX_PARTS, MAX_PART_BYTES}
 use Rattle.cue_show.specs.declared.part.Part.{Part}
 use Rattle.cue_show.proofs.RunsLemmas.{runs_from, runs_from-start}
-use Rattle.cue_exchange.specs.Live.{is_number, is_moment}
+use Rattle.cue_exchange.specs.Live.{is_number, is_time}
 use Rattle.cue_exchange.specs.declared.attempt.Reason.{Reason}
 use Rattle.cue_exchange.specs.declared.attempt.Reason.TheVariants.{Operator, Deadline, Abort, Power, Release}
 use Rattle.cue_exchange.specs.declared.limits.TheConstants.{MAX_NUMBER}
 use Rattle.cue_core.proofs.lists.ConditionLemmas.{both, join, all_from, all_zip}
 use Rattle.cue_records.specs.declared.parts_form.PartsForm.{PartsForm}
 use Rattle.cue_records.specs.declared.parts_form.PartsForm.TheVariants.{Plain, Flagged}
-use Rattle.cue_records.specs.Fields.{byte_text, short_text, number_text, moment_text, text_text, flag_number, flag_text}
+use Rattle.cue_records.specs.Fields.{byte_text, short_text, number_text, time_text, text_text, flag_number, flag_text}
 use Rattle.cue_records.specs.Fields.{part_text, parts_text, have_text, entry_text, new_cue_text, reason_number}
 use Rattle.cue_records.specs.Reading.{byte_at, number_at, bytes_at, text_at, device_at, port_at, sequence_at, cue_at}
 use Rattle.cue_records.specs.Reading.{part_bytes_at, flag_of, flag_at, part_at, part_count_at, parts_at, entry_at}
@@ -105,8 +105,8 @@ pub sequence_field : IsField sequence_at number_text is_number
 unfolding sequence_at
 sequence_field = test_field is_number field32 number_below
 
-pub moment_field : IsField (number_at w64) moment_text is_moment
-moment_field = field64
+pub time_field : IsField (number_at w64) time_text is_time
+time_field = field64
 
 reason_numbered : (n : ℕ) (r : Reason) → reason_of n ≡ Some r → reason_number r ≡ n
 reason_numbered n =

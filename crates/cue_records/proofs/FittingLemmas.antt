@@ -19,7 +19,7 @@ use Rattle.cue_exchange.specs.declared.attempt.Stage.{Stage}
 use Rattle.cue_exchange.specs.declared.attempt.Attempt.{Attempt}
 use Rattle.cue_exchange.specs.Answers.{devices_of, is_preparing, is_decided, is_cancelling, is_concluding, waits}
 use Rattle.cue_exchange.specs.Answers.{can_be_excused}
-use Rattle.cue_exchange.specs.Live.{is_number, is_moment, is_attempt, has_number, attempt_of_cue}
+use Rattle.cue_exchange.specs.Live.{is_number, is_time, is_attempt, has_number, attempt_of_cue}
 use Rattle.cue_exchange.specs.Steps.{holds, waits_in, can_go_now, can_excuse_now}
 use Rattle.cue_exchange.proofs.LiveLemmas.{attempts_of, can_start_parts}
 use Rattle.cue_exchange.proofs.ListLemmas.{all_given}
@@ -168,12 +168,12 @@ excuse_fits s q d r h = device_fits_in s q d is_preparing can_be_excused r h
 -- ---- events
 
 start_fits : (s : ShowState) (q : ℕ) (c : List ℕ) (t : ℕ) → Rules s → IsTrue (acceptable s (event.Start q c t))
-    → IsTrue (is_number q && (is_cue_number c && is_moment t))
+    → IsTrue (is_number q && (is_cue_number c && is_time t))
 start_fits s q c t r g =
     let b = begins s q c t g in
-    join (is_number q) (is_cue_number c && is_moment t) b.number
-    (join (is_cue_number c) (is_moment t) (cue_fits s.show c r.show b.cue)
-    (can_start_parts q t (cue_parts s.show c) s.live b.start).moment)
+    join (is_number q) (is_cue_number c && is_time t) b.number
+    (join (is_cue_number c) (is_time t) (cue_fits s.show c r.show b.cue)
+    (can_start_parts q t (cue_parts s.show c) s.live b.start).time)
 
 new_cue_fits : (s : ShowState) (c : List ℕ) (parts : List Part) → IsTrue (acceptable s (event.Cue c parts))
     → IsTrue (is_cue_number c && are_parts parts)

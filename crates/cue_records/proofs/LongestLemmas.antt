@@ -25,7 +25,7 @@ use Rattle.cue_exchange.specs.declared.attempt.DeviceAnswer.{DeviceAnswer}
 use Rattle.cue_core.specs.State.{ShowState, is_of_part, are_of_parts, is_at_cue, is_state}
 use Rattle.cue_core.proofs.lists.ConditionLemmas.{both}
 use Rattle.cue_core.proofs.rules.RuleLemmas.{rules_of}
-use Rattle.cue_records.specs.Fields.{byte_text, short_text, number_text, moment_text, text_text, flag_text, part_text}
+use Rattle.cue_records.specs.Fields.{byte_text, short_text, number_text, time_text, text_text, flag_text, part_text}
 use Rattle.cue_records.specs.Fields.{parts_text, entry_text, new_cue_text}
 use Rattle.cue_exchange.specs.Outcomes.{outcome_number}
 use Rattle.cue_records.specs.State.{table_text, stack_text, place_text, show_text, ended_text, stage_number}
@@ -71,7 +71,7 @@ two_long n = refl
 four_long : (n : ℕ) → length (number_text n) ≡ 4
 four_long n = refl
 
-eight_long : (n : ℕ) → length (moment_text n) ≡ 8
+eight_long : (n : ℕ) → length (time_text n) ≡ 8
 eight_long n = refl
 
 number_short : (c : List ℕ) → IsTrue (is_cue_number c) → length c ≤ MAX_CUE_BYTES
@@ -203,14 +203,14 @@ attempt_short : (show : ShowLists) → IsTrue (is_show show) → (a : Attempt) �
     → length (attempt_text a) ≤ longest_attempt
 attempt_short show rules a at =
     let last : List ℕ = byte_text (stage_number a.stage) ++ answers_text a.answers in
-    let third : List ℕ = moment_text a.deadline ++ last in
+    let third : List ℕ = time_text a.deadline ++ last in
     let second : List ℕ = text_text a.cue ++ third in
     omega (
       arith,
       length-append (number_text a.seq) second,
       four_long a.seq,
       length-append (text_text a.cue) third,
-      length-append (moment_text a.deadline) last,
+      length-append (time_text a.deadline) last,
       eight_long a.deadline,
       length-append (byte_text (stage_number a.stage)) (answers_text a.answers),
       length-map a.answers (λ x. answer_number x.answer),

@@ -16,7 +16,7 @@ use Rattle.cue_show.specs.Distinct.{are_distinct}
 use Rattle.cue_show.specs.Show.{ShowLists, empty_show, is_table, is_cue_of, is_stack_of, is_place_of}
 use Rattle.cue_show.specs.declared.limits.TheConstants.{MAX_CUES}
 use Rattle.cue_exchange.specs.Outcomes.{outcome_number, outcome_numbered}
-use Rattle.cue_exchange.specs.Live.{is_number, is_moment, is_attempt, are_live, attempt_of}
+use Rattle.cue_exchange.specs.Live.{is_number, is_time, is_attempt, are_live, attempt_of}
 use Rattle.cue_exchange.specs.declared.attempt.Attempt.{Attempt}
 use Rattle.cue_exchange.specs.declared.attempt.Outcome.{Outcome}
 use Rattle.cue_exchange.specs.declared.attempt.Outcome.TheVariants as outcome
@@ -180,10 +180,10 @@ live_fits s r =
     (all_given is_attempt (is_at_cue s.show) (attempt_fits s.show)
     (λ a attempt at.
     let k = attempt_rules a attempt in
-    join (is_number a.seq && (is_cue_number a.cue && (is_moment a.deadline && true))) (is_at_cue s.show a)
-    (join (is_number a.seq) (is_cue_number a.cue && (is_moment a.deadline && true)) k.number
-    (join (is_cue_number a.cue) (is_moment a.deadline && true) (attempt_cue_fits s.show a r.show at)
-    (join (is_moment a.deadline) true k.moment refl))) at)
+    join (is_number a.seq && (is_cue_number a.cue && (is_time a.deadline && true))) (is_at_cue s.show a)
+    (join (is_number a.seq) (is_cue_number a.cue && (is_time a.deadline && true)) k.number
+    (join (is_cue_number a.cue) (is_time a.deadline && true) (attempt_cue_fits s.show a r.show at)
+    (join (is_time a.deadline) true k.time refl))) at)
     s.live (attempts_of s.live r.live) r.at)
 
 last_fits : (n : ℕ) → IsTrue (nat_le n MAX_NUMBER) → IsTrue (nat_le n 4294967295)

@@ -4,12 +4,12 @@ use Rattle.std.specs.List.{flat_map, list_all}
 use Rattle.cue_show.specs.DeviceNumber.{is_device, is_port}
 use Rattle.cue_show.specs.Number.{is_cue_number}
 use Rattle.cue_show.specs.Parts.{are_parts}
-use Rattle.cue_exchange.specs.Live.{is_number, is_moment}
+use Rattle.cue_exchange.specs.Live.{is_number, is_time}
 use Rattle.cue_core.specs.declared.event.Event.{Event}
 use Rattle.cue_core.specs.declared.event.Event.TheVariants.{Device, NoDevice, Cue, NoCue, Place, Start, Ready, Go, Done}
 use Rattle.cue_core.specs.declared.event.Event.TheVariants.{Cancel, LetGo, Failed, Excuse}
 use Rattle.cue_records.specs.declared.limits.TheConstants.{MAX_EVENTS}
-use Rattle.cue_records.specs.Fields.{byte_text, short_text, number_text, moment_text, text_text, entry_text}
+use Rattle.cue_records.specs.Fields.{byte_text, short_text, number_text, time_text, text_text, entry_text}
 use Rattle.cue_records.specs.Fields.{new_cue_text, reason_number, are_required, form_for}
 
 -- the number of an event's kind; a cue with an optional part is of a kind of its own
@@ -35,7 +35,7 @@ body_text (NoDevice d) = byte_text d
 body_text (Cue c parts) = new_cue_text (form_for parts) (c, parts)
 body_text (NoCue c) = text_text c
 body_text (Place c) = text_text c
-body_text (Start q c t) = number_text q ++ (text_text c ++ moment_text t)
+body_text (Start q c t) = number_text q ++ (text_text c ++ time_text t)
 body_text (Ready q d) = number_text q ++ byte_text d
 body_text (Go q) = number_text q
 body_text (Done q d) = number_text q ++ byte_text d
@@ -55,7 +55,7 @@ is_event (NoDevice d) = is_device d
 is_event (Cue c parts) = is_cue_number c && are_parts parts
 is_event (NoCue c) = is_cue_number c
 is_event (Place c) = is_cue_number c
-is_event (Start q c t) = is_number q && (is_cue_number c && is_moment t)
+is_event (Start q c t) = is_number q && (is_cue_number c && is_time t)
 is_event (Ready q d) = is_number q && is_device d
 is_event (Go q) = is_number q
 is_event (Done q d) = is_number q && is_device d

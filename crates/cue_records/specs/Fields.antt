@@ -22,8 +22,8 @@ abbrev pub number_text : ℕ → List ℕ
 number_text n = to_be_bytes w32 n
 
 -- eight bytes
-abbrev pub moment_text : ℕ → List ℕ
-moment_text n = to_be_bytes w64 n
+abbrev pub time_text : ℕ → List ℕ
+time_text n = to_be_bytes w64 n
 
 -- a length in one byte, and so many bytes
 abbrev pub text_text : List ℕ → List ℕ

@@ -16,7 +16,7 @@ use Rattle.cue_records.specs.declared.limits.TheConstants.{OLD_MAX_CUES}
 use Rattle.cue_records.specs.declared.state.TheConstants.{VERSION, OLD_VERSION}
 use Rattle.cue_records.specs.declared.parts_form.PartsForm.{PartsForm}
 use Rattle.cue_records.specs.declared.parts_form.PartsForm.TheVariants.{Plain, Flagged}
-use Rattle.cue_records.specs.Fields.{byte_text, short_text, number_text, moment_text, text_text, entry_text}
+use Rattle.cue_records.specs.Fields.{byte_text, short_text, number_text, time_text, text_text, entry_text}
 use Rattle.cue_records.specs.Fields.{new_cue_text, reason_number, are_required}
 
 -- ---- the show
@@ -68,7 +68,7 @@ answers_text answers = map (λ x. answer_number x.answer) answers
 abbrev pub attempt_text : Attempt → List ℕ
 attempt_text a =
     number_text a.seq ++ (text_text a.cue
-    ++ (moment_text a.deadline ++ (byte_text (stage_number a.stage) ++ answers_text a.answers)))
+    ++ (time_text a.deadline ++ (byte_text (stage_number a.stage) ++ answers_text a.answers)))
 
 -- a count in one byte, and so many attempts
 abbrev pub live_text : List Attempt → List ℕ

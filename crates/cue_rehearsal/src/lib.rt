@@ -11,6 +11,6 @@ mod tests;
 
 pub use chance::Chance;
 pub use manner::{Fate, Manner};
-pub use plan::{MOST_TIME, Plan, PlanFault, read_devices, read_plan};
+pub use plan::{MAX_TIME, Plan, PlanFault, read_devices, read_plan};
 pub use player::{Player, Work};
 pub use telling::{Deed, Line};

@@ -7,9 +7,9 @@ use std::fmt;
 use toml::{Table, Value};
 
 /// The longest time of a plan, in milliseconds: ten minutes.
-pub const MOST_TIME: u32 = 600_000;
+pub const MAX_TIME: u32 = 600_000;
 
-/// How the devices of a show are rehearsed. Times are in milliseconds, `MOST_TIME` at most.
+/// How the devices of a show are rehearsed. Times are in milliseconds, `MAX_TIME` at most.
 #[derive(Debug, Drop, PartialEq, Eq)]
 pub struct Plan {
     /// For preparing, and for giving up.
@@ -66,7 +66,7 @@ impl fmt::Display for PlanFault {
             ),
             PlanFault::WantsTime(key) => write!(
                 f,
-                "`{key}` wants milliseconds, 0 to {MOST_TIME}: write it as {key} = 800"
+                "`{key}` wants milliseconds, 0 to {MAX_TIME}: write it as {key} = 800"
             ),
             PlanFault::WantsLoss => f.write_str(
                 "`loss` wants how many of a hundred datagrams are lost: write it as loss = 10",
@@ -170,7 +170,7 @@ fn number_of(value: &Value, most: u32) -> Option<u32> {
 fn time_in(table: &Table, key: &'static str, usual: u32) -> Result<u32, PlanFault> {
     match table.get(key) {
         None => Ok(usual),
-        Some(value) => number_of(value, MOST_TIME).ok_or(PlanFault::WantsTime(key)),
+        Some(value) => number_of(value, MAX_TIME).ok_or(PlanFault::WantsTime(key)),
     }
 }
 

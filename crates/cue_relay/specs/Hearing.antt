@@ -35,8 +35,8 @@ after_asking c now = record { heard = c.heard; asked = since c.asked; silent = c
 abbrev pub falls_silent : Contact → ℕ → Bool
 falls_silent c now = not c.silent && is_overdue c.asked now
 
-abbrev pub after_moment : Contact → ℕ → Contact
-after_moment c now = if falls_silent c now then record { heard = c.heard; asked = c.asked; silent = true } else c
+abbrev pub after_time : Contact → ℕ → Contact
+after_time c now = if falls_silent c now then record { heard = c.heard; asked = c.asked; silent = true } else c
 
-abbrev pub told_of_moment : Contact → ℕ → Option News
-told_of_moment c now = if falls_silent c now then Some Silent else None
+abbrev pub told_of_time : Contact → ℕ → Option News
+told_of_time c now = if falls_silent c now then Some Silent else None

@@ -1,7 +1,7 @@
 //! When each device was heard, and when to say that it falls silent.
 ghost use Rattle.std.specs.Prelude.{◌≡◌};
-ghost use Rattle.cue_relay.specs.Hearing.{after_asking, after_hearing, after_moment};
-ghost use Rattle.cue_relay.specs.Hearing.{is_overdue, told_of_hearing, told_of_moment};
+ghost use Rattle.cue_relay.specs.Hearing.{after_asking, after_hearing, after_time};
+ghost use Rattle.cue_relay.specs.Hearing.{is_overdue, told_of_hearing, told_of_time};
 ghost use Rattle.cue_relay.specs.declared.hearing.TheConstants.{SILENCE};
 
 /// For how long a device may say nothing while something is pending for it, in milliseconds.
@@ -74,8 +74,8 @@ impl Contact {
 
     /// It is this time: a device for which something is pending for a second is silent, which is said once.
     pub fn pass(&mut self, now: u64) -> Option<News>
-        ensures after { self.new ≡ after_moment self.old now }
-        ensures news { result ≡ told_of_moment self.old now }
+        ensures after { self.new ≡ after_time self.old now }
+        ensures news { result ≡ told_of_time self.old now }
     {
         if self.silent || !is_overdue(self.asked, now) {
             return None;

@@ -114,7 +114,7 @@ fn number(word: Option<&str>) -> Option<u64> {
 }
 
 // The time of the first line.
-fn moment_in(line: &str) -> Option<u64> {
+fn time_in(line: &str) -> Option<u64> {
     let rest = line.strip_prefix("relay 1 ")?;
     number(Some(rest))
 }
@@ -148,9 +148,9 @@ fn device_in(word: Option<&str>) -> Option<DeviceNo> {
 }
 
 // When the device was heard, by the words of its line; the outer None: they are no such words.
-fn heard_in(word: &str, moment: Option<&str>) -> Option<Option<u64>> {
+fn heard_in(word: &str, time: Option<&str>) -> Option<Option<u64>> {
     match word {
-        "heard" => Some(Some(number(moment)?)),
+        "heard" => Some(Some(number(time)?)),
         "never" => Some(None),
         _ => None,
     }
@@ -198,7 +198,7 @@ pub fn read(alloc: Global, text: &str) -> Result<Option<Status>, AllocError> {
     let (Some(first), Some(second)) = (lines.next(), lines.next()) else {
         return Ok(None);
     };
-    let (Some(now), Some(counts)) = (moment_in(first), counts_in(second)) else {
+    let (Some(now), Some(counts)) = (time_in(first), counts_in(second)) else {
         return Ok(None);
     };
     match devices_in(alloc, lines)? {

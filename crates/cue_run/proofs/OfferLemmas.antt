@@ -11,7 +11,7 @@ use Rattle.cue_engine.specs.declared.engine.Engine.{Engine}
 use Rattle.cue_engine.specs.Given.{Input}
 use Rattle.cue_engine.specs.Groups.{batches_given, sends_given}
 use Rattle.cue_engine.specs.Taking.{IsOffered, WhateverWasOffered}
-use Rattle.cue_engine.specs.Words.{keeper_of, queue_of, offered_of, has_room, FitsTogether}
+use Rattle.cue_engine.specs.Observed.{keeper_of, queue_of, offered_of, has_room, FitsTogether}
 use Rattle.cue_run.specs.Sources.{Answer, comes, GaveAll}
 use Rattle.cue_run.specs.declared.turns.RunFault.{RunFault}
 use Rattle.cue_run.specs.Running.{given_answers}

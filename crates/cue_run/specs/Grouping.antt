@@ -12,8 +12,8 @@ use Rattle.cue_engine.specs.declared.engine.Engine.{Engine}
 use Rattle.cue_engine.specs.Given.{Input}
 use Rattle.cue_engine.specs.Groups.{batches_given}
 use Rattle.cue_engine.specs.Taking.{IsOffered, WhateverWasOffered}
-use Rattle.cue_engine.specs.Words.{keeper_of, state_of, queue_of, offered_of, offered_sends_of, has_room}
-use Rattle.cue_engine.specs.Words.{FitsTogether}
+use Rattle.cue_engine.specs.Observed.{keeper_of, state_of, queue_of, offered_of, offered_sends_of, has_room}
+use Rattle.cue_engine.specs.Observed.{FitsTogether}
 use Rattle.cue_engine.specs.Wires.{Handed, AllHanded}
 use Rattle.cue_run.specs.declared.turns.Ended.{Ended}
 use Rattle.cue_run.specs.declared.turns.RunFault.{RunFault}

@@ -13,7 +13,7 @@ use Rattle.cue_keeper.specs.Stands.{StandsEither, StandsAs}
 use Rattle.cue_keeper.specs.Observed as kept
 use Rattle.cue_outbox.specs.Sending.{datagrams}
 use Rattle.cue_engine.specs.declared.engine.Engine.{Engine}
-use Rattle.cue_engine.specs.Words.{keeper_of, state_of, queue_of}
+use Rattle.cue_engine.specs.Observed.{keeper_of, state_of, queue_of}
 use Rattle.cue_engine.specs.Given.{Input, given_of}
 use Rattle.cue_engine.specs.Runs.{took, Story, run}
 use Rattle.cue_engine.specs.Wires.{Handed, AllHanded}

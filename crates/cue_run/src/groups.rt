@@ -18,7 +18,7 @@ use round::take_round;
 use std::alloc::{AllocError, Global};
 
 /// The most inputs that a served show commits together.
-pub const MOST_TOGETHER: u64 = 128;
+pub const MAX_TOGETHER: u64 = 128;
 
 // Why a run ends after its last round: None where the source ended.
 fn fault_of(stop: Stop) -> Option<RunFault>

@@ -1,7 +1,7 @@
 //! What the definitions of this crate come to. Each contract is a theorem; there is nothing to run.
 ghost use Rattle.std.specs.Prelude.{◌≡◌, ◌<◌};
 ghost use Rattle.cue_osc.specs.declared.limits.TheConstants.{MAX_LEN};
-ghost use Rattle.cue_run.specs.declared.groups.TheConstants.{MOST_TOGETHER};
+ghost use Rattle.cue_run.specs.declared.groups.TheConstants.{MAX_TOGETHER};
 ghost use Rattle.cue_run.specs.declared.turns.TheConstants.{BUFFER};
 
 /// The buffer has 4,100 bytes: more than the longest datagram, so that a longer one is seen to be too long. A served
@@ -9,5 +9,5 @@ ghost use Rattle.cue_run.specs.declared.turns.TheConstants.{BUFFER};
 pub fn limits()
     ensures buffer { BUFFER ≡ 4100 }
     ensures longer { MAX_LEN < BUFFER }
-    ensures together { MOST_TOGETHER ≡ 128 }
+    ensures together { MAX_TOGETHER ≡ 128 }
 {}

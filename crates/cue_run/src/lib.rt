@@ -9,7 +9,7 @@ mod turns;
 mod udp;
 mod watch;
 
-pub use groups::{MOST_TOGETHER, run_grouped};
+pub use groups::{MAX_TOGETHER, run_grouped};
 pub use mem_source::{MemAnswer, MemSource};
 pub use source::{Source, SourceFault, Turn, Waiting};
 pub use turns::{Ended, RunFault, run, run_watched};

@@ -6,7 +6,7 @@ ghost use Rattle.cue_outbox.specs.Sending.{datagrams};
 ghost use Rattle.cue_engine.specs.Given.{given_of};
 ghost use Rattle.cue_engine.specs.Inputs.{input_view};
 ghost use Rattle.cue_engine.specs.Wires.{AllHanded};
-ghost use Rattle.cue_engine.specs.Words.{keeper_of, state_of, queue_of};
+ghost use Rattle.cue_engine.specs.Observed.{keeper_of, state_of, queue_of};
 ghost use Rattle.cue_run.specs.Running.{Turned, Ran};
 
 use crate::source::{Source, Turn};

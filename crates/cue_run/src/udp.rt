@@ -16,7 +16,7 @@ use std::io::{self, ErrorKind};
 use std::net::{IpAddr, Ipv4Addr, SocketAddr, UdpSocket};
 use std::time::Clock;
 use ticks::Ticks;
-use tries::MOST_DROPPED;
+use tries::MAX_DROPPED;
 pub use tries::{Tries, first_turn, udp_limits};
 
 /// A port of this machine.
@@ -28,7 +28,7 @@ pub fn local(port: u16) -> SocketAddr
 }
 
 /// Milliseconds since 1970.
-fn moment<C: Clock>(clock: &C) -> io::Result<u64> {
+fn now_of<C: Clock>(clock: &C) -> io::Result<u64> {
     match u64::try_from(clock.since_1970()?.as_millis()) {
         Ok(now) => Ok(now),
         Err(_) => Err(io::Error::from(ErrorKind::InvalidData)),
@@ -48,7 +48,7 @@ pub struct UdpSource<'a, C: Clock, R: Receive + Drop> {
 impl<'a, C: Clock, R: Receive + Drop> UdpSource<'a, C, R> {
     /// Listens at a receiver that is bound to this port, whose own datagrams are dropped. Its time begins now.
     pub fn new(clock: &'a C, receiver: R, own: u16) -> io::Result<UdpSource<'a, C, R>> {
-        let ticks = Ticks::new(moment(clock)?);
+        let ticks = Ticks::new(now_of(clock)?);
         Ok(UdpSource {
             clock,
             receiver,
@@ -63,7 +63,7 @@ impl<'a, C: Clock, R: Receive + Drop> UdpSource<'a, C, R> {
         ensures ticks { self.new.ticks ≡ self.old.ticks }
     {
         let came = what_came(self.own, self.receiver.receive(buffer))?;
-        let now = moment(self.clock)?;
+        let now = now_of(self.clock)?;
         Ok((came, now))
     }
 
@@ -73,7 +73,7 @@ impl<'a, C: Clock, R: Receive + Drop> UdpSource<'a, C, R> {
         ensures ticks { self.new.ticks ≡ self.old.ticks }
     {
         let came = what_came(self.own, self.receiver.receive_waiting(buffer))?;
-        let now = moment(self.clock)?;
+        let now = now_of(self.clock)?;
         Ok((came, now))
     }
 }
@@ -82,7 +82,7 @@ impl<'a, C: Clock, R: Receive + Drop> Tries for UdpSource<'a, C, R> {
     ghost left = { λ _. None };
 
     fn try_next(&mut self, buffer: &mut [u8]) -> io::Result<Option<Turn>> {
-        let now = moment(self.clock)?;
+        let now = now_of(self.clock)?;
         if let Some(tick) = self.ticks.due(now) {
             return Ok(Some(tick));
         }
@@ -95,7 +95,7 @@ impl<'a, C: Clock, R: Receive + Drop> Source for UdpSource<'a, C, R> {
     ghost left = { λ _. None };
 
     fn next(&mut self, buffer: &mut [u8]) -> Result<Turn, SourceFault> {
-        first_turn(self, MOST_DROPPED, buffer)
+        first_turn(self, MAX_DROPPED, buffer)
     }
 
     fn waiting(&mut self, buffer: &mut [u8]) -> Result<Option<Waiting>, SourceFault> {

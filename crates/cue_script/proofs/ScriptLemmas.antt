@@ -21,7 +21,7 @@ use Rattle.cue_disk.specs.Disk.{Contents}
 use Rattle.cue_disk.specs.Effect.{settled_contents}
 use Rattle.cue_log.specs.Area.{IsAbsent}
 use Rattle.cue_snap.specs.Pair.{SomeIsThere}
-use Rattle.cue_script.specs.declared.entry.TheConstants.{SCRIPT_LIMIT}
+use Rattle.cue_script.specs.declared.entry.TheConstants.{MAX_SCRIPT}
 use Rattle.cue_script.specs.declared.ending.Ending.{Ending}
 use Rattle.cue_script.specs.declared.ending.Ending.TheVariants.{Done, BadLine, BadInput, Failed, Stopped}
 use Rattle.cue_keeper.specs.declared.fault.StoreFault.{StoreFault}
@@ -84,7 +84,7 @@ sents-all : (all : List Sent) → map sent_of (sents_view all) ≡ map sent_view
 sents-all [] = refl
 sents-all (x ∷ xs) = ap (λ (ys : List (ℕ × List ℕ)). sent_view x ∷ ys) (sents-all xs)
 
--- where the wire still tells, it tells of the whole queue
+-- where the wire still reports, it reports the whole queue
 pub told_whole : (queue : List (ℕ × List ℕ)) (n : ℕ) (before told : Option (List Handed)) (all : List Sent)
     → before ≡ Some [] → AllHanded before queue n told → told ≡ Some (sents_view all) → map sent_view all ≡ queue
 told_whole queue n None told all none each is = absurd (cc)
@@ -212,7 +212,7 @@ ends_behind (Err ending) line old new ends = ends_one ending line old new ends
 
 -- the script stands where its first lines were run
 pub ran : (first : ShowState) (text rest : List ℕ) (left : List (List ℕ)) (s : ShowState) (old new : Option (List ℕ))
-    → IsRunning first text rest s old new → lines_of rest ≡ left → length text ≤ SCRIPT_LIMIT
+    → IsRunning first text rest s old new → lines_of rest ≡ left → length text ≤ MAX_SCRIPT
     → Ran first text left [] old new
 ran first text rest left s old new held is short =
     let P : List ℕ → Type 0 = λ out. Appends old new out in
@@ -228,7 +228,7 @@ ran first text rest left s old new held is short =
 -- a line ended the script
 pub ran_until : (ending : Ending) (first : ShowState) (text rest others line : List ℕ) (s : ShowState)
     (old mid new : Option (List ℕ)) →
-    IsRunning first text rest s old mid → lines_of rest ≡ line ∷ lines_of others → length text ≤ SCRIPT_LIMIT
+    IsRunning first text rest s old mid → lines_of rest ≡ line ∷ lines_of others → length text ≤ MAX_SCRIPT
     → EndsAt ending line mid new → Wrote ending first text [] old new
 ran_until Done first text rest others line s old mid new held split short ends = absurd ends
 ran_until BadLine first text rest others line s old mid new held split short ends =
@@ -306,13 +306,13 @@ of_known (Some text) limit bytes F read holds = subst F read.0 holds
 
 -- nothing was run of a text that is too long
 pub too_long : (known : Option (List ℕ)) (first : ShowState) (old : Option (List ℕ))
-    → IfSome known (λ text. SCRIPT_LIMIT < length text) → IfSome known (λ text. Wrote BadInput first text [] old old)
+    → IfSome known (λ text. MAX_SCRIPT < length text) → IfSome known (λ text. Wrote BadInput first text [] old old)
 too_long None first old long = tt
 too_long (Some text) first old long = (long, appends_none old)
 
--- nothing was run where no engine was formed, and two new disks are refused for want of memory, or by themselves
+-- nothing was run where no engine was formed, and two new disks are refused out of memory, or by themselves
 pub not_formed : (fault : StoreFault) (first : ShowState) (text : List ℕ) (old : Option (List ℕ))
-    → length text ≤ SCRIPT_LIMIT → can_come (Store fault) ≡ true → Wrote (Failed (Store fault)) first text [] old old
+    → length text ≤ MAX_SCRIPT → can_come (Store fault) ≡ true → Wrote (Failed (Store fault)) first text [] old old
 not_formed fault first text old short comes = (
   comes,
   (

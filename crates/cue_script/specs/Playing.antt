@@ -7,7 +7,7 @@ use Rattle.cue_keeper.specs.Observed.{is_broken}
 use Rattle.cue_outbox.specs.Sending.{datagrams}
 use Rattle.cue_engine.specs.declared.engine.Engine.{Engine}
 use Rattle.cue_engine.specs.Runs.{Happening, given_at}
-use Rattle.cue_engine.specs.Words.{keeper_of, queue_of, state_of}
+use Rattle.cue_engine.specs.Observed.{keeper_of, queue_of, state_of}
 use Rattle.cue_script.specs.declared.ending.Ending.{Ending}
 use Rattle.cue_script.specs.declared.ending.Ending.TheVariants.{Done, BadLine, BadInput, Failed, Stopped}
 use Rattle.cue_script.specs.Endings.{can_come}

@@ -8,7 +8,7 @@ use Rattle.hex.specs.Hex.{encode_lower}
 use Rattle.cue_core.specs.State.{ShowState}
 use Rattle.cue_outbox.specs.Sending.{datagrams}
 use Rattle.cue_engine.specs.Runs.{Happening, run}
-use Rattle.cue_script.specs.declared.entry.TheConstants.{SCRIPT_LIMIT}
+use Rattle.cue_script.specs.declared.entry.TheConstants.{MAX_SCRIPT}
 use Rattle.cue_script.specs.declared.ending.Ending.{Ending}
 use Rattle.cue_script.specs.declared.ending.Ending.TheVariants.{Done, BadLine, BadInput, Failed, Stopped}
 use Rattle.cue_script.specs.Endings.{can_come, status_of, ending_line}
@@ -33,7 +33,7 @@ pub record Ran (first : ShowState) (text : List ℕ) (left : List (List ℕ)) (l
   pub lines : List (List ℕ)
   pub all : lines_of text ≡ lines ++ left
   pub each : map happening_in lines ≡ map Some happened
-  pub short : length text ≤ SCRIPT_LIMIT
+  pub short : length text ≤ MAX_SCRIPT
   pub wrote : Appends old new (output first happened ++ last)
 
 -- The lines before one of no form were run.
@@ -48,7 +48,7 @@ pub record RanToBadLine (first : ShowState) (text last : List ℕ) (old new : Op
 abbrev pub Wrote : Ending → ShowState → List ℕ → List ℕ → Option (List ℕ) → Option (List ℕ) → Type 0
 Wrote Done first text last old new = Ran first text [] last old new
 Wrote BadLine first text last old new = RanToBadLine first text last old new
-Wrote BadInput first text last old new = (SCRIPT_LIMIT < length text) × Appends old new last
+Wrote BadInput first text last old new = (MAX_SCRIPT < length text) × Appends old new last
 Wrote (Failed failure) first text last old new =
     (can_come failure ≡ true) × ((left : List (List ℕ)) × Ran first text left last old new)
 Wrote (Stopped failure) first text last old new = Unit {0}

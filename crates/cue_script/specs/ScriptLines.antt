@@ -43,19 +43,19 @@ abbrev pub ◌>>=◌ : {A B : Type 0} → Option A → (A → Option B) → Opti
 found >>= f = option_and_then f found
 
 -- what stands after this text at the front
-abbrev pub behind : List ℕ → List ℕ → Option (List ℕ)
-behind front line = if bytes_eq (take (length front) line) front then Some (drop (length front) line) else None
+abbrev pub rest_after : List ℕ → List ℕ → Option (List ℕ)
+rest_after front line = if bytes_eq (take (length front) line) front then Some (drop (length front) line) else None
 
 -- the words in front of a line `d NOW FROM HEX`, with a single space after each: the time, the port, and what is
 -- left
 abbrev pub heading_in : List ℕ → Option (ℕ × ℕ × List ℕ)
 heading_in line = do
-  words ← behind (codes "d ") line
+  words ← rest_after (codes "d ") line
   now ← cut_at 32 words
   from ← cut_at 32 now.1
-  moment ← number_in 18446744073709551615 now.0
+  time ← number_in 18446744073709551615 now.0
   port ← number_in 65535 from.0
-  Some (moment, port, from.1)
+  Some (time, port, from.1)
 
 -- a line `d NOW FROM HEX`
 unfoldable pub arrival_in : List ℕ → Option Arrived
@@ -67,7 +67,7 @@ arrival_in line = do
 -- a line `t NOW`: the time
 unfoldable pub tick_in : List ℕ → Option ℕ
 tick_in line = do
-  digits ← behind (codes "t ") line
+  digits ← rest_after (codes "t ") line
   number_in 18446744073709551615 digits
 
 -- what happens where a datagram arrives

@@ -16,7 +16,7 @@ use std::alloc::Global;
 use std::io::{self, Read, Write};
 
 /// The longest script, in bytes.
-pub const SCRIPT_LIMIT: u64 = 1_048_576;
+pub const MAX_SCRIPT: u64 = 1_048_576;
 
 // All that a reader has, or `None` where it is longer than the limit. No more than a byte beyond the limit is read.
 fn read_at_most<R: Read>(
@@ -44,7 +44,7 @@ fn read_at_most<R: Read>(
 
 // Runs a text on two new disks in memory.
 fn play_text<W: Write>(alloc: Global, text: &[u8], streams: &mut Streams, writer: &mut W) -> Ending
-    requires { length text.now ≤ SCRIPT_LIMIT }
+    requires { length text.now ≤ MAX_SCRIPT }
     ensures wrote { Wrote result empty_state text.now [] (W.contents writer.old) (W.contents writer.new) }
     ensures cause { HasCause result streams.old streams.new }
 {
@@ -65,7 +65,7 @@ fn play_all<R: Read, W: Write>(
         (λ text. Wrote result empty_state text [] (W.contents writer.old) (W.contents writer.new)) }
     ensures cause { HasCause result streams.old streams.new }
 {
-    match read_at_most(alloc, streams, reader, SCRIPT_LIMIT) {
+    match read_at_most(alloc, streams, reader, MAX_SCRIPT) {
         Ok(Some(text)) => play_text(alloc, text.as_slice(), streams, writer),
         Ok(None) => Ending::BadInput,
         Err(error) => Ending::Stopped(StreamFailure::of(&error)),

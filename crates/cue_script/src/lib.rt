@@ -10,4 +10,4 @@ mod print;
 mod stream;
 
 pub use ending::{Ending, Failure, StreamFailure};
-pub use entry::{SCRIPT_LIMIT, script};
+pub use entry::{MAX_SCRIPT, script};

@@ -84,9 +84,9 @@ fn heading(line: &[u8]) -> Option<(u64, u16, &[u8])>
     let words = line.strip_prefix(b"d ")?;
     let (now, rest) = cut_at(b' ', words)?;
     let (from, digits) = cut_at(b' ', rest)?;
-    let moment = number_in(u64::MAX, now)?;
+    let time = number_in(u64::MAX, now)?;
     let port = port_in(from)?;
-    Some((moment, port, digits))
+    Some((time, port, digits))
 }
 
 fn port_in(digits: &[u8]) -> Option<u16>

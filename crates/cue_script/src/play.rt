@@ -5,7 +5,7 @@ ghost use Rattle.cue_core.specs.Steps.{after_events};
 ghost use Rattle.cue_outbox.specs.Sending.{datagrams};
 ghost use Rattle.cue_engine.specs.Inputs.{input_view};
 ghost use Rattle.cue_engine.specs.Runs.{took, recovered, given_at};
-ghost use Rattle.cue_engine.specs.Words.{state_of, queue_of, keeper_of};
+ghost use Rattle.cue_engine.specs.Observed.{state_of, queue_of, keeper_of};
 ghost use Rattle.cue_disk.specs.Memory.{memory_bytes};
 ghost use Rattle.cue_keeper.specs.Stands.{Stands};
 ghost use Rattle.cue_keeper.specs.Observed.{is_broken};
@@ -16,7 +16,7 @@ ghost use Rattle.cue_script.specs.Script.{printed_lines, Wrote};
 ghost use Rattle.cue_script.specs.Streams.{HasCause};
 
 use crate::ending::{Ending, Failure, StreamFailure};
-use crate::entry::SCRIPT_LIMIT;
+use crate::entry::MAX_SCRIPT;
 use crate::line::{ScriptLine, first_line, read_line};
 use crate::print::print_all;
 use crate::stream::Streams;
@@ -38,7 +38,7 @@ fn refuse(engine: Engine<MemDisk>, failure: Failure) -> Result<Engine<MemDisk>, 
 }
 
 // Drops the engine of a script that ends.
-fn stopped(engine: Engine<MemDisk>, ending: Ending) -> Result<Engine<MemDisk>, Ending>
+fn end_with(engine: Engine<MemDisk>, ending: Ending) -> Result<Engine<MemDisk>, Ending>
     ensures { result ≡ Err ending }
 {
     discard(engine);
@@ -62,7 +62,7 @@ fn take_input(
 }
 
 // What power loss leaves of the two disks: bytes that stand for the engine's state.
-fn crashed(engine: Engine<MemDisk>) -> Result<(MemDisk, MemDisk), AllocError>
+fn lose_power(engine: Engine<MemDisk>) -> Result<(MemDisk, MemDisk), AllocError>
     requires { IsReady engine }
     ensures { IfOk result (λ left. Stands (memory_bytes left.0) (memory_bytes left.1) (state_of engine)) }
 {
@@ -73,12 +73,12 @@ fn crashed(engine: Engine<MemDisk>) -> Result<(MemDisk, MemDisk), AllocError>
 }
 
 // Loses power, and recovers from what that leaves.
-fn recovered(alloc: Global, engine: Engine<MemDisk>) -> Result<Engine<MemDisk>, Failure>
+fn recover_from_loss(alloc: Global, engine: Engine<MemDisk>) -> Result<Engine<MemDisk>, Failure>
     requires { IsReady engine }
     ensures after { IfOk result (λ next. IsAfter (state_of engine) recovered next) }
     ensures failure { IfErr result (λ failure. can_come failure ≡ true) }
 {
-    match crashed(engine) {
+    match lose_power(engine) {
         Ok((first, second)) => match Engine::recover(alloc, first, second) {
             Ok(next) => Ok(next),
             Err((fault, _, _)) => Err(Failure::Store(fault)),
@@ -106,7 +106,7 @@ fn carry_out(
             take_input(engine, arrival.now, input)
         }
         ScriptLine::Tick(now) => take_input(engine, *now, Input::Tick),
-        ScriptLine::PowerLoss => recovered(alloc, engine),
+        ScriptLine::PowerLoss => recover_from_loss(alloc, engine),
     }
 }
 
@@ -143,9 +143,9 @@ fn print_owed<W: Write>(
     match owed_text(alloc, &mut engine) {
         Ok(text) => match streams.write_all(writer, &text) {
             Ok(()) => Ok(engine),
-            Err(error) => stopped(engine, Ending::Stopped(StreamFailure::of(&error))),
+            Err(error) => end_with(engine, Ending::Stopped(StreamFailure::of(&error))),
         },
-        Err(AllocError) => stopped(engine, Ending::NO_MEMORY),
+        Err(AllocError) => end_with(engine, Ending::NO_MEMORY),
     }
 }
 
@@ -192,8 +192,8 @@ fn play_line<W: Write>(
 {
     match read_line(alloc, line) {
         Ok(Some(told)) => run_line(alloc, engine, &told, streams, writer),
-        Ok(None) => stopped(engine, Ending::BadLine),
-        Err(AllocError) => stopped(engine, Ending::NO_MEMORY),
+        Ok(None) => end_with(engine, Ending::BadLine),
+        Err(AllocError) => end_with(engine, Ending::NO_MEMORY),
     }
 }
 
@@ -206,7 +206,7 @@ pub fn play_lines<W: Write>(
     writer: &mut W,
 ) -> Ending
     requires ready { IsReady engine }
-    requires short { length text.now ≤ SCRIPT_LIMIT }
+    requires short { length text.now ≤ MAX_SCRIPT }
     ensures wrote { Wrote result (state_of engine) text.now [] (W.contents writer.old) (W.contents writer.new) }
     ensures cause { HasCause result streams.old streams.new }
 {

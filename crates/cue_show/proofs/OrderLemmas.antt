@@ -6,9 +6,9 @@ use Rattle.std.specs.List.{list_any}
 use Rattle.std.specs.Map.{remove_entry, keys_of}
 use Rattle.std.proofs.lemmas.Bool.{and_parts, not-true}
 use Rattle.cue_show.specs.Distinct.{are_distinct}
-use Rattle.cue_show.specs.Laws.{StandsBehind, FollowingStandsBehind, RemovalsKeepTheOrder}
+use Rattle.cue_show.specs.Laws.{ComesNext, FollowingComesNext, RemovalsKeepTheOrder}
 use Rattle.cue_show.specs.Number.{same_text}
-use Rattle.cue_show.specs.Show.{Cues, first_cue, cue_behind, following}
+use Rattle.cue_show.specs.Show.{Cues, first_cue, cue_after, following}
 use Rattle.cue_show.specs.declared.part.Part.{Part}
 use Rattle.cue_show.proofs.ListLemmas.{neither}
 use Rattle.cue_show.proofs.ShowLemmas.{show_rules, stack_parts}
@@ -22,20 +22,20 @@ no_number : {P : Type 0} (f : List ℕ) → ◌≡◌ {A = Option (List ℕ)} No
 no_number f h = cc
 
 -- what is found behind a cue stands there
-found_behind : (c f : List ℕ) (es : Cues) → cue_behind c es ≡ Some f → StandsBehind es c f
+found_behind : (c f : List ℕ) (es : Cues) → cue_after c es ≡ Some f → ComesNext es c f
 found_behind c f [] found = no_number f found
 found_behind c f (e ∷ es) found = by (same_text c e.0) refl found (found_behind c f es)
   where
-    first : (gs : Cues) → c ≡ e.0 → first_cue gs ≡ Some f → StandsBehind (e ∷ gs) c f
+    first : (gs : Cues) → c ≡ e.0 → first_cue gs ≡ Some f → ComesNext (e ∷ gs) c f
     first [] same h = no_number f h
     first (g ∷ gs) same h = ([], gs, e.1, g.1, λ i. (sym same i, e.1) ∷ (same_place g.0 f h i, g.1) ∷ gs)
 
-    by : (b : Bool) → same_text c e.0 ≡ b → cue_behind c (e ∷ es) ≡ Some f
-        → (cue_behind c es ≡ Some f → StandsBehind es c f) → StandsBehind (e ∷ es) c f
+    by : (b : Bool) → same_text c e.0 ≡ b → cue_after c (e ∷ es) ≡ Some f
+        → (cue_after c es ≡ Some f → ComesNext es c f) → ComesNext (e ∷ es) c f
     by true same h later = first es (same_text-true c e.0 same)
-        (sym (ap (λ b. if b then first_cue es else cue_behind c es) same) ∙ h)
+        (sym (ap (λ b. if b then first_cue es else cue_after c es) same) ∙ h)
     by false same h later =
-        let rest = later (sym (ap (λ b. if b then first_cue es else cue_behind c es) same) ∙ h) in
+        let rest = later (sym (ap (λ b. if b then first_cue es else cue_after c es) same) ∙ h) in
         (e ∷ rest.0, rest.1, rest.2, rest.3, ap (λ es. e ∷ es) rest.4)
 
 -- a test that no key passes fails at each key
@@ -48,7 +48,7 @@ fails_at test (b ∷ bs) c parts after none =
 -- and what stands behind a cue is found there, since no cue stands twice
 behind_found : (c f : List ℕ) (parts others : List Part) (before after : Cues)
     → are_distinct same_text (keys_of (before ++ (c, parts) ∷ (f, others) ∷ after)) ≡ true
-    → cue_behind c (before ++ (c, parts) ∷ (f, others) ∷ after) ≡ Some f
+    → cue_after c (before ++ (c, parts) ∷ (f, others) ∷ after) ≡ Some f
 behind_found c f parts others [] after distinct = rw (same_text-itself c)
 behind_found c f parts others (b ∷ bs) after distinct =
     let rest : Cues = bs ++ (c, parts) ∷ (f, others) ∷ after in
@@ -58,13 +58,13 @@ behind_found c f parts others (b ∷ bs) after distinct =
     (not-true (list_any (λ y. same_text y b.0) (keys_of rest)) here.0) in
     rw other (behind_found c f parts others bs after here.1)
 
-pub following_behind : FollowingStandsBehind
-following_behind s c f show = (found_behind c f s.cues, back)
+pub following_next : FollowingComesNext
+following_next s c f show = (found_behind c f s.cues, back)
   where
-    back : StandsBehind s.cues c f → following s c ≡ Some f
+    back : ComesNext s.cues c f → following s c ≡ Some f
     back h =
         let k = stack_parts s s.cues (show_rules s show).stack in
-        ap (cue_behind c) h.4 ∙ behind_found c f h.2 h.3 h.0 h.1
+        ap (cue_after c) h.4 ∙ behind_found c f h.2 h.3 h.0 h.1
         (sym (ap (λ es. are_distinct same_text (keys_of es)) h.4) ∙ k.distinct)
 
 module _ {K V : Type 0} (same : K → K → Bool) where

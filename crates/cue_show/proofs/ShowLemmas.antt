@@ -18,7 +18,7 @@ use Rattle.cue_show.specs.Distinct.{are_distinct}
 use Rattle.cue_show.specs.Number.{is_cue_number, same_text}
 use Rattle.cue_show.specs.Parts.{are_parts, uses}
 use Rattle.cue_show.specs.Show.{Cues, ShowLists, parts_of, has_device, has_cue, is_used, are_known, is_full, first_cue}
-use Rattle.cue_show.specs.Show.{cue_behind, following, is_place, is_place_of, is_table, is_cue_of, is_stack_of, is_show}
+use Rattle.cue_show.specs.Show.{cue_after, following, is_place, is_place_of, is_table, is_cue_of, is_stack_of, is_show}
 use Rattle.cue_show.specs.Show.{can_add_device, can_remove_device, can_add_cue, with_device, without_device, with_cue}
 use Rattle.cue_show.specs.Show.{without_cue, with_place}
 use Rattle.cue_show.specs.declared.limits.TheConstants.{MAX_CUES}
@@ -202,24 +202,24 @@ stands_in-first [] = refl
 stands_in-first (e ∷ es) = rw (same_text-itself e.0)
 
 -- the cue behind another stays when that one is taken out
-stands_in-behind : (c : List ℕ) (es : Cues) → stands_in (remove_entry (same_text c) es) (cue_behind c es) ≡ true
+stands_in-behind : (c : List ℕ) (es : Cues) → stands_in (remove_entry (same_text c) es) (cue_after c es) ≡ true
 stands_in-behind c [] = refl
 stands_in-behind c (e ∷ es) = by (same_text c e.0) refl (stands_in-behind c es)
   where
-    by : (b : Bool) → same_text c e.0 ≡ b → stands_in (remove_entry (same_text c) es) (cue_behind c es) ≡ true
-        → stands_in (remove_entry (same_text c) (e ∷ es)) (cue_behind c (e ∷ es)) ≡ true
+    by : (b : Bool) → same_text c e.0 ≡ b → stands_in (remove_entry (same_text c) es) (cue_after c es) ≡ true
+        → stands_in (remove_entry (same_text c) (e ∷ es)) (cue_after c (e ∷ es)) ≡ true
     by true same later = rw same (stands_in-first es)
-    by false same later = rw same (stands_in-more e (remove_entry (same_text c) es) (cue_behind c es) later)
+    by false same later = rw same (stands_in-more e (remove_entry (same_text c) es) (cue_after c es) later)
 
 -- and stands in the stack
-stands_in-following : (c : List ℕ) (es : Cues) → stands_in es (cue_behind c es) ≡ true
+stands_in-following : (c : List ℕ) (es : Cues) → stands_in es (cue_after c es) ≡ true
 stands_in-following c [] = refl
 stands_in-following c (e ∷ es) = by (same_text c e.0) refl (stands_in-following c es)
   where
-    by : (b : Bool) → same_text c e.0 ≡ b → stands_in es (cue_behind c es) ≡ true
-        → stands_in (e ∷ es) (cue_behind c (e ∷ es)) ≡ true
+    by : (b : Bool) → same_text c e.0 ≡ b → stands_in es (cue_after c es) ≡ true
+        → stands_in (e ∷ es) (cue_after c (e ∷ es)) ≡ true
     by true same later = rw same (stands_in-more e es (first_cue es) (stands_in-first es))
-    by false same later = rw same (stands_in-more e es (cue_behind c es) later)
+    by false same later = rw same (stands_in-more e es (cue_after c es) later)
 
 is_place_of-stands : (s : ShowLists) (p : Option (List ℕ)) → is_place_of s p ≡ stands_in s.cues p
 is_place_of-stands s None = refl
@@ -339,20 +339,20 @@ place_set s old place view show asked =
 
 -- ---- the cue that follows, by its index
 
-cue_behind-position : (c : List ℕ) (es : Cues)
-    → cue_behind c es ≡ option_map (λ (e : List ℕ × List Part). e.0)
+cue_after-position : (c : List ℕ) (es : Cues)
+    → cue_after c es ≡ option_map (λ (e : List ℕ × List Part). e.0)
     (slice_get es (suc (position_or_len (same_text c) (keys_of es))))
-cue_behind-position c [] = refl
-cue_behind-position c (e ∷ es) = by (same_text c e.0) refl (cue_behind-position c es)
+cue_after-position c [] = refl
+cue_after-position c (e ∷ es) = by (same_text c e.0) refl (cue_after-position c es)
   where
     first : (fs : Cues) → first_cue fs ≡ option_map (λ (f : List ℕ × List Part). f.0) (slice_get fs 0)
     first [] = refl
     first (f ∷ fs) = refl
 
     by : (b : Bool) → same_text c e.0 ≡ b
-        → cue_behind c es ≡ option_map (λ (f : List ℕ × List Part). f.0)
+        → cue_after c es ≡ option_map (λ (f : List ℕ × List Part). f.0)
         (slice_get es (suc (position_or_len (same_text c) (keys_of es))))
-        → cue_behind c (e ∷ es) ≡ option_map (λ (f : List ℕ × List Part). f.0)
+        → cue_after c (e ∷ es) ≡ option_map (λ (f : List ℕ × List Part). f.0)
         (slice_get (e ∷ es) (suc (position_or_len (same_text c) (keys_of (e ∷ es)))))
     by true same later = rw same (first es)
     by false same later = rw (same, one-add) later
@@ -365,18 +365,18 @@ index_missing : (b : Bool) (n : ℕ) → None ≡ cond b (Some n) None → b ≡
 index_missing true n at = cc
 index_missing false n at = refl
 
-pub cue_behind-found : (c : List ℕ) (es : Cues) (i : ℕ) → Some i ≡ position (same_text c) (keys_of es)
-    → cue_behind c es ≡ option_map (λ (e : List ℕ × List Part). e.0) (slice_get es (i + 1))
-cue_behind-found c es i at =
+pub cue_after-found : (c : List ℕ) (es : Cues) (i : ℕ) → Some i ≡ position (same_text c) (keys_of es)
+    → cue_after c es ≡ option_map (λ (e : List ℕ × List Part). e.0) (slice_get es (i + 1))
+cue_after-found c es i at =
     let n : ℕ = position_or_len (same_text c) (keys_of es) in
-    cue_behind-position c es
+    cue_after-position c es
     ∙ ap (λ k. option_map (λ (e : List ℕ × List Part). e.0) (slice_get es k))
     (ap suc (index_found (nat_lt n (length (keys_of es))) n i at) ∙ sym (add-one i))
 
-pub cue_behind-missing : (c : List ℕ) (es : Cues) → None ≡ position (same_text c) (keys_of es) → cue_behind c es ≡ None
-cue_behind-missing c es at =
+pub cue_after-missing : (c : List ℕ) (es : Cues) → None ≡ position (same_text c) (keys_of es) → cue_after c es ≡ None
+cue_after-missing c es at =
     let n : ℕ = position_or_len (same_text c) (keys_of es) in
     let past = ltb-false n (length (keys_of es)) (index_missing (nat_lt n (length (keys_of es))) n at) in
-    cue_behind-position c es
+    cue_after-position c es
     ∙ ap (option_map (λ (e : List ℕ × List Part). e.0))
     (slice_get_past es (suc n) (omega (arith, length-keys_of es)))

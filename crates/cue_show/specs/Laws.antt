@@ -17,15 +17,15 @@ CueNumbersAreRunsJoinedByPoints =
     (text : List ℕ) → IsTrue (is_cue_number text) ↔ ((length text ≤ MAX_CUE_BYTES) × IsRunsJoinedByPoints text)
 
 -- the cue f stands directly after the cue c
-abbrev pub StandsBehind : Cues → List ℕ → List ℕ → Type 0
-StandsBehind cues c f =
+abbrev pub ComesNext : Cues → List ℕ → List ℕ → Type 0
+ComesNext cues c f =
     (before : Cues) × (after : Cues) × (parts : List Part) × (others : List Part)
     × (cues ≡ before ++ (c, parts) ∷ (f, others) ∷ after)
 
 -- the cue that follows is the one directly after it
-abbrev pub FollowingStandsBehind : Type 0
-FollowingStandsBehind =
-    (s : ShowLists) (c f : List ℕ) → IsTrue (is_show s) → (following s c ≡ Some f) ↔ StandsBehind s.cues c f
+abbrev pub FollowingComesNext : Type 0
+FollowingComesNext =
+    (s : ShowLists) (c f : List ℕ) → IsTrue (is_show s) → (following s c ≡ Some f) ↔ ComesNext s.cues c f
 
 -- a removal leaves the others, in their order
 abbrev pub RemovalsKeepTheOrder : Type 0

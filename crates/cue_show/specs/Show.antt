@@ -58,13 +58,13 @@ first_cue [] = None
 first_cue (e ∷ es) = Some e.0
 
 -- the number of the cue after the cue c
-abbrev pub cue_behind : List ℕ → Cues → Option (List ℕ)
-cue_behind c [] = None
-cue_behind c (e ∷ es) = if same_text c e.0 then first_cue es else cue_behind c es
+abbrev pub cue_after : List ℕ → Cues → Option (List ℕ)
+cue_after c [] = None
+cue_after c (e ∷ es) = if same_text c e.0 then first_cue es else cue_after c es
 
 -- the number of the cue that follows c in the stack
 abbrev pub following : ShowLists → List ℕ → Option (List ℕ)
-following s c = cue_behind c s.cues
+following s c = cue_after c s.cues
 
 -- the place is the cue c
 abbrev pub is_place : List ℕ → Option (List ℕ) → Bool

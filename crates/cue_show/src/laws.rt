@@ -2,7 +2,7 @@
 ghost use Rattle.std.specs.Prelude.{◌≡◌};
 ghost use Rattle.cue_show.specs.declared.limits.TheConstants.{MAX_DEVICE_NUMBER, MAX_PORT, MAX_CUE_BYTES, MAX_CUES};
 ghost use Rattle.cue_show.specs.declared.limits.TheConstants.{MAX_DEVICES, MAX_PART_BYTES, MAX_PARTS};
-ghost use Rattle.cue_show.specs.Laws.{CueNumbersAreRunsJoinedByPoints, FollowingStandsBehind, RemovalsKeepTheOrder};
+ghost use Rattle.cue_show.specs.Laws.{CueNumbersAreRunsJoinedByPoints, FollowingComesNext, RemovalsKeepTheOrder};
 
 /// A text is a cue number exactly where it has at most 16 bytes and is one run of digits or more, with single points
 /// between them.
@@ -11,8 +11,8 @@ pub fn cue_numbers_are_runs_joined_by_points()
 {}
 
 /// The cue that follows is the one directly after it in the stack.
-pub fn following_stands_behind()
-    ensures { FollowingStandsBehind }
+pub fn following_comes_next()
+    ensures { FollowingComesNext }
 {}
 
 /// Taking a device or a cue out leaves all others, in their order.

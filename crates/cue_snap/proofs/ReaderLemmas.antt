@@ -3,7 +3,7 @@ use Rattle.std.proofs.Common.{◌≡◌, ◌⊎◌, inl, inr, ℕ, zero, suc, �
 use Rattle.std.proofs.Common.{List, [], ◌∷◌, length, take, drop, Some, None, refl, sym, ◌∙◌, ap, subst, arith}
 use Rattle.std.proofs.lemmas.Bool.{cases_Bool, cases_lt}
 use Rattle.std.proofs.lemmas.Bool.Decides.{nat_tests}
-use Rattle.cue_log.specs.declared.area.TheConstants.{AREA_LIMIT}
+use Rattle.cue_log.specs.declared.area.TheConstants.{MAX_AREA}
 use Rattle.cue_log.specs.Area.{Area, IsArea, IsAbsent}
 use Rattle.cue_log.specs.Log.{IsDamaged}
 use Rattle.cue_log.specs.Reading.{area_at, area_after, eight_at, frame_at, read_area, area_in}
@@ -34,11 +34,11 @@ none_at (suc n) (gate ∷ byte ∷ bytes) absent =
     let shut : (gate == 1) ≡ false = grind (arith, nat_tests, absent) in
     let rest : List ℕ = take n (byte ∷ bytes) in
     ap (λ (b : Bool). if b then (if nat_lt (length rest) 8 then None else area_after (eight_at rest)
-    (frame_at AREA_LIMIT (drop 8 rest))) else None) shut
+    (frame_at MAX_AREA (drop 8 rest))) else None) shut
 
 read_none : (bytes : List ℕ) → IsAbsent bytes → read_area bytes ≡ None
 unfolding read_area
-read_none bytes absent = none_at AREA_LIMIT bytes absent
+read_none bytes absent = none_at MAX_AREA bytes absent
 
 -- the test of absence
 tested : (bytes : List ℕ) → IsAbsent bytes → is_absent bytes ≡ true

@@ -6,7 +6,7 @@ ghost use Rattle.cue_disk.specs.Disk.{overwritten_bytes};
 ghost use Rattle.cue_log.specs.Area.{fresh, formed_text};
 ghost use Rattle.cue_log.specs.Log.{IsNoneOr, LeavesAbsent, ReadsAs};
 ghost use Rattle.cue_log.specs.Observed.{disk_of, disk_after, generation_of, end_of, count_of, is_broken, area_of};
-ghost use Rattle.cue_log.specs.declared.area.TheConstants.{AREA_LIMIT, HEAD_LEN};
+ghost use Rattle.cue_log.specs.declared.area.TheConstants.{MAX_AREA, HEAD_LEN};
 ghost use Rattle.cue_snap.specs.Pair.{NeitherHas, SomeIsThere};
 
 use cue_disk::{Disk, DiskFault};
@@ -75,7 +75,7 @@ pub(crate) fn look<D: Disk>(first: &mut D, second: &mut D) -> Result<(), FormFau
 
 /// Forms a first area on a disk without one.
 pub(crate) fn form_first<D: Disk>(disk: D, snapshot: &[u8]) -> Result<Log<D>, (DiskFault, D)>
-    requires room { HEAD_LEN + length snapshot.now < AREA_LIMIT }
+    requires room { HEAD_LEN + length snapshot.now < MAX_AREA }
     requires absent { D.is_honest disk → LeavesAbsent (D.held disk) }
     ensures formed { D.is_honest disk → IfOk result (λ log. ReadsAs (D.held (disk_of log)) (fresh 1 snapshot.now)) }
     ensures area { D.is_honest disk → IfOk result (λ log. area_of D.held log ≡ fresh 1 snapshot.now) }

@@ -6,7 +6,7 @@ ghost use Rattle.cue_snap.specs.Invariant.{LogWorks, LogReads, LogIsNumbered, Sp
 mod queries;
 
 use crate::forming::{FormFault, form_first, look};
-use crate::turning::turn;
+use crate::turning::turn_over_to;
 use cue_disk::{Disk, DiskFault};
 use cue_log::{AppendFault, Log, Record, RecordGroup};
 use thiserror::Error;
@@ -47,7 +47,7 @@ impl<D: Disk> Snap<D> {
     ghost use Rattle.std.specs.Prelude.{length, IfOk, OnOk, OnErr, IsErrOf};
     ghost use Rattle.cue_disk.specs.Disk.{LeavesAtEachMoment, IsImage, IsStable, MoreFailures, overwritten_bytes};
     ghost use Rattle.cue_log.specs.Area.{fresh, formed_text};
-    ghost use Rattle.cue_log.specs.declared.area.TheConstants.{AREA_LIMIT, HEAD_LEN};
+    ghost use Rattle.cue_log.specs.declared.area.TheConstants.{MAX_AREA, HEAD_LEN};
     ghost use Rattle.cue_snap.specs.Pair.{PairIsEither, PairLeaves, NeitherHas, SomeIsThere, IsUnformedOr};
     ghost use Rattle.cue_snap.specs.Pair.{AfterBarrier};
     ghost use Rattle.cue_snap.specs.Appending.{Appends};
@@ -75,7 +75,7 @@ impl<D: Disk> Snap<D> {
     /// Forms a pair on two disks without areas: the first one gets an area of generation 1 with this snapshot and no
     /// record. Both are synced before anything is written. It takes no memory; a refusal hands both disks back.
     pub fn form(first: D, second: D, snapshot: &[u8]) -> Result<Snap<D>, (FormFault, D, D)>
-        requires { HEAD_LEN + length snapshot.now < AREA_LIMIT }
+        requires { HEAD_LEN + length snapshot.now < MAX_AREA }
 
         ensures formed { D.is_honest first → D.is_honest second
             → IfOk result (λ snap. PairLeaves (D.held (first_of snap)) (D.held (second_of snap))
@@ -178,7 +178,7 @@ impl<D: Disk> Snap<D> {
     /// Forms an area with the next generation and this snapshot on the spare disk, which is live from then on; the live
     /// disk becomes the spare one, as it is. It takes no memory.
     pub fn turn_over(&mut self, snapshot: &[u8]) -> Result<(), TurnOverFault>
-        requires { HEAD_LEN + length snapshot.now < AREA_LIMIT }
+        requires { HEAD_LEN + length snapshot.now < MAX_AREA }
 
         // Broken comes first, then Exhausted; both leave all as it was.
         ensures broken { IsErrOf result TurnOverFault.Broken ↔ (is_broken self.old ≡ true) }
@@ -229,7 +229,7 @@ impl<D: Disk> Snap<D> {
         let Some(next) = self.log.generation().checked_add(1) else {
             return Err(TurnOverFault::Exhausted);
         };
-        if let Err(DiskFault) = turn(&mut self.log, &mut self.spare, next, snapshot) {
+        if let Err(DiskFault) = turn_over_to(&mut self.log, &mut self.spare, next, snapshot) {
             self.broken = true;
             return Err(TurnOverFault::Disk);
         }

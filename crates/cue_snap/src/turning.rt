@@ -4,7 +4,7 @@ ghost use Rattle.cue_disk.specs.Disk.{LeavesAtEachMoment, CountsFailure, overwri
 ghost use Rattle.cue_log.specs.Area.{fresh, formed_text};
 ghost use Rattle.cue_log.specs.Log.{ReadsAs};
 ghost use Rattle.cue_log.specs.Observed.{disk_of, generation_of, end_of, count_of, is_broken, area_of, formed_disk};
-ghost use Rattle.cue_log.specs.declared.area.TheConstants.{AREA_LIMIT, HEAD_LEN};
+ghost use Rattle.cue_log.specs.declared.area.TheConstants.{MAX_AREA, HEAD_LEN};
 ghost use Rattle.cue_snap.specs.Pair.{IsOldOrNew};
 
 use cue_disk::{Disk, DiskFault};
@@ -12,13 +12,13 @@ use cue_log::{Log, close};
 
 /// Closes the area of the spare disk, forms it again and moves the log there. The disk that the log leaves is not
 /// touched.
-pub(crate) fn turn<D: Disk>(
+pub(crate) fn turn_over_to<D: Disk>(
     log: &mut Log<D>,
     spare: &mut D,
     generation: u64,
     snapshot: &[u8],
 ) -> Result<(), DiskFault>
-    requires room { HEAD_LEN + length snapshot.now < AREA_LIMIT }
+    requires room { HEAD_LEN + length snapshot.now < MAX_AREA }
     requires works { is_broken log.old ≡ false }
     ensures formed { D.is_honest spare.old → OnOk result
         (ReadsAs (D.held (disk_of log.new)) (fresh generation snapshot.now)) }

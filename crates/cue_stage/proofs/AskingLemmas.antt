@@ -11,8 +11,8 @@ use Rattle.cue_exchange.specs.Live.{is_number}
 use Rattle.cue_core.specs.declared.command.Code.TheVariants as code
 use Rattle.cue_core.specs.declared.command.Command.{Command}
 use Rattle.cue_core.specs.declared.command.Command.TheVariants as command
-use Rattle.cue_core.specs.declared.command.ReplyKind.{ReplyKind}
-use Rattle.cue_core.specs.declared.command.ReplyKind.TheVariants as reply
+use Rattle.cue_core.specs.declared.command.AnswerKind.{AnswerKind}
+use Rattle.cue_core.specs.declared.command.AnswerKind.TheVariants as answer_kind
 use Rattle.cue_osc.specs.Argument.{Argument, int, text}
 use Rattle.cue_pattern.specs.declared.piece.Piece.{Piece}
 use Rattle.cue_pattern.specs.Reading.{pattern_at}
@@ -25,7 +25,7 @@ use Rattle.cue_operator.specs.declared.method.Method.{Method}
 use Rattle.cue_operator.specs.declared.method.Method.TheVariants as method
 use Rattle.cue_operator.specs.Methods.{address_of, methods, methods_at}
 use Rattle.cue_operator.specs.Arguments.{number_in, port_in, no_arguments, or_bad_number, device_with, add_device_by}
-use Rattle.cue_operator.specs.Arguments.{reply_by, are_pairs, are_triples, pairs_in, triples_in, cue_with, add_cue_by}
+use Rattle.cue_operator.specs.Arguments.{answer_by, are_pairs, are_triples, pairs_in, triples_in, cue_with, add_cue_by}
 use Rattle.cue_operator.specs.Arguments.{add_mixed_cue_by, cue_command, device_by, command_by}
 use Rattle.cue_operator.specs.Commands.{commands_at, unless_none, commands_matched, commands_of}
 use Rattle.cue_stage.specs.Consent.{IsReadAsStandingBy}
@@ -41,10 +41,10 @@ says (command.Go c) = false
 says (command.Cancel c) = false
 says (command.Goto c) = false
 says (command.RemoveCue c) = false
-says (command.Reply reply.StandingBy d q) = true
-says (command.Reply reply.Complete d q) = false
-says (command.Reply reply.Cancelled d q) = false
-says (command.Reply reply.Abort d q) = false
+says (command.Reply answer_kind.StandingBy d q) = true
+says (command.Reply answer_kind.Complete d q) = false
+says (command.Reply answer_kind.Cancelled d q) = false
+says (command.Reply answer_kind.Abort d q) = false
 says (command.Release d) = false
 says (command.RemoveDevice d) = false
 says (command.Bad c) = false
@@ -95,18 +95,18 @@ cue-says on_cue.Cancel c = refl
 cue-says on_cue.Goto c = refl
 cue-says on_cue.Remove c = refl
 
-reply-says : (kind : ReplyKind) (d : ℕ) (xs : List Argument) → ((n : ℕ) → says (command.Reply kind d n) ≡ false)
-    → says (reply_by kind d xs) ≡ false
-reply-says kind d (int z ∷ []) h = by (number_in z)
+answer-says : (kind : AnswerKind) (d : ℕ) (xs : List Argument) → ((n : ℕ) → says (command.Reply kind d n) ≡ false)
+    → says (answer_by kind d xs) ≡ false
+answer-says kind d (int z ∷ []) h = by (number_in z)
   where
     by : (o : Option ℕ) → says (or_bad_number (option_map (command.Reply kind d) o)) ≡ false
     by None = refl
     by (Some n) = h n
-reply-says kind d _ h = refl
+answer-says kind d _ h = refl
 
 -- ---- the one that does
 
-not_said : {A : Type 0} (c : Command) (d q : ℕ) → says c ≡ false → c ≡ command.Reply reply.StandingBy d q → A
+not_said : {A : Type 0} (c : Command) (d q : ℕ) → says c ≡ false → c ≡ command.Reply answer_kind.StandingBy d q → A
 not_said c d q h is = absurd (true≢false (sym (ap says is) ∙ h))
 
 abbrev device_in : Command → ℕ
@@ -117,13 +117,14 @@ abbrev number_of : Command → ℕ
 number_of (command.Reply kind d q) = q
 number_of _ = 0
 
-read_by : (d e q : ℕ) (xs : List Argument) → reply_by reply.StandingBy d xs ≡ command.Reply reply.StandingBy e q
+read_by : (d e q : ℕ) (xs : List Argument) → answer_by answer_kind.StandingBy d xs
+    ≡ command.Reply answer_kind.StandingBy e q
     → (d ≡ e) × (xs ≡ int (pos q) ∷ [])
 read_by d e q (int (negsuc n) ∷ []) is = not_said (command.Bad code.BadNumber) e q refl is
 read_by d e q (int (pos n) ∷ []) is = by (is_number n) is
   where
-    by : (b : Bool) → or_bad_number (option_map (command.Reply reply.StandingBy d) (if b then Some n else None))
-        ≡ command.Reply reply.StandingBy e q → (d ≡ e) × (int (pos n) ∷ [] ≡ int (pos q) ∷ [])
+    by : (b : Bool) → or_bad_number (option_map (command.Reply answer_kind.StandingBy d) (if b then Some n else None))
+        ≡ command.Reply answer_kind.StandingBy e q → (d ≡ e) × (int (pos n) ∷ [] ≡ int (pos q) ∷ [])
     by true k = (ap device_in k, ap (λ (m : ℕ). int (pos m) ∷ []) (ap number_of k))
     by false k = not_said (command.Bad code.BadNumber) e q refl k
 read_by d e q _ is = not_said (command.Bad code.Arguments) e q refl is
@@ -133,22 +134,23 @@ record Reads (xs : List Argument) (m : Method) (d q : ℕ) : Type 0 where
   pub method : m ≡ method.OfDevice d on_device.StandingBy
   pub number : xs ≡ int (pos q) ∷ []
 
-device_reads : (v : DeviceVerb) (d e q : ℕ) (xs : List Argument) → device_by v d xs ≡ command.Reply reply.StandingBy e q
+device_reads : (v : DeviceVerb) (d e q : ℕ) (xs : List Argument)
+    → device_by v d xs ≡ command.Reply answer_kind.StandingBy e q
     → Reads xs (method.OfDevice d v) e q
 device_reads on_device.StandingBy d e q xs is = let r = read_by d e q xs is in
     record { method = ap (λ (n : ℕ). method.OfDevice n on_device.StandingBy) r.0; number = r.1 }
 device_reads on_device.Complete d e q xs is =
-    not_said (reply_by reply.Complete d xs) e q (reply-says reply.Complete d xs (λ n. refl)) is
+    not_said (answer_by answer_kind.Complete d xs) e q (answer-says answer_kind.Complete d xs (λ n. refl)) is
 device_reads on_device.Cancelled d e q xs is =
-    not_said (reply_by reply.Cancelled d xs) e q (reply-says reply.Cancelled d xs (λ n. refl)) is
+    not_said (answer_by answer_kind.Cancelled d xs) e q (answer-says answer_kind.Cancelled d xs (λ n. refl)) is
 device_reads on_device.Abort d e q xs is =
-    not_said (reply_by reply.Abort d xs) e q (reply-says reply.Abort d xs (λ n. refl)) is
+    not_said (answer_by answer_kind.Abort d xs) e q (answer-says answer_kind.Abort d xs (λ n. refl)) is
 device_reads on_device.Release d e q xs is =
     not_said (no_arguments (command.Release d) xs) e q (no_arguments-says (command.Release d) xs refl) is
 device_reads on_device.Remove d e q xs is =
     not_said (no_arguments (command.RemoveDevice d) xs) e q (no_arguments-says (command.RemoveDevice d) xs refl) is
 
-method_reads : (m : Method) (e q : ℕ) (xs : List Argument) → command_by xs m ≡ command.Reply reply.StandingBy e q
+method_reads : (m : Method) (e q : ℕ) (xs : List Argument) → command_by xs m ≡ command.Reply answer_kind.StandingBy e q
     → Reads xs m e q
 unfolding command_by
 method_reads method.Status e q xs is =
@@ -167,7 +169,7 @@ record IsMatched (xs : List Argument) (test : List ℕ → Bool) (d q : ℕ) : T
   pub number : xs ≡ int (pos q) ∷ []
 
 matched_among : (xs : List Argument) (test : List ℕ → Bool) (d q : ℕ) (ms : List Method)
-    → Among (command.Reply reply.StandingBy d q) (commands_at xs test ms) → IsMatched xs test d q
+    → Among (command.Reply answer_kind.StandingBy d q) (commands_at xs test ms) → IsMatched xs test d q
 matched_among xs test d q [] among = absurd among
 matched_among xs test d q (m ∷ ms) among = by (test (address_of m)) refl (λ k. matched_among xs test d q ms k) among
   where
@@ -178,16 +180,17 @@ matched_among xs test d q (m ∷ ms) among = by (test (address_of m)) refl (λ k
           r.number;
     }
 
-    one : test (address_of m) ≡ true → (Among (command.Reply reply.StandingBy d q) (commands_at xs test ms)
+    one : test (address_of m) ≡ true → (Among (command.Reply answer_kind.StandingBy d q) (commands_at xs test ms)
         → IsMatched xs test d q)
-        → (command_by xs m ≡ command.Reply reply.StandingBy d q)
-        ⊎ Among (command.Reply reply.StandingBy d q) (commands_at xs test ms) → IsMatched xs test d q
+        → (command_by xs m ≡ command.Reply answer_kind.StandingBy d q)
+        ⊎ Among (command.Reply answer_kind.StandingBy d q) (commands_at xs test ms) → IsMatched xs test d q
     one passes f (inl is) = here passes (method_reads m d q xs is)
     one passes f (inr later) = f later
 
-    by : (b : Bool) → test (address_of m) ≡ b → (Among (command.Reply reply.StandingBy d q) (commands_at xs test ms)
+    by : (b : Bool) → test (address_of m) ≡ b
+        → (Among (command.Reply answer_kind.StandingBy d q) (commands_at xs test ms)
         → IsMatched xs test d q)
-        → Among (command.Reply reply.StandingBy d q)
+        → Among (command.Reply answer_kind.StandingBy d q)
         (map (command_by xs) (cond b (m ∷ methods_at test ms) (methods_at test ms))) → IsMatched xs test d q
     by true passes f k = one passes f k
     by false passes f k = f k
@@ -197,7 +200,7 @@ all_of [] asked is = absurd cc
 all_of (c ∷ cs) asked is = cc
 
 pub read_among : (show : ShowLists) (address : List ℕ) (xs : List Argument) (asked : List Command) (d q : ℕ)
-    → commands_of show address xs ≡ Ok asked → Among (command.Reply reply.StandingBy d q) asked
+    → commands_of show address xs ≡ Ok asked → Among (command.Reply answer_kind.StandingBy d q) asked
     → IsReadAsStandingBy address xs d q
 unfolding commands_of
 read_among show address xs asked d q is among = by (pattern_at address) refl is
@@ -209,6 +212,6 @@ read_among show address xs asked d q is among = by (pattern_at address) refl is
     by (Some p) read k =
         let m : IsMatched xs (matches p) d q =
         matched_among xs (matches p) d q (methods show)
-        (subst (Among (command.Reply reply.StandingBy d q))
+        (subst (Among (command.Reply answer_kind.StandingBy d q))
         (sym (all_of (commands_at xs (matches p) (methods show)) asked k)) among) in
         record { pattern = p; read = read; matching = m.matching; number = m.number }

@@ -12,7 +12,7 @@ use Rattle.cue_device.specs.declared.words.Order.{Order}
 use Rattle.cue_device.specs.declared.words.Order.TheVariants.{Prepare, Move, GiveUp}
 use Rattle.cue_device.specs.Hearing.{again, heard_at, is_for, place, seq_of}
 use Rattle.cue_device.specs.Histories.{Happening, hears, tells, repeats, hears_reply, restarts, order_at}
-use Rattle.cue_device.specs.Table.{anew, new_standby, other_standby, same_cancel, same_go, same_standby}
+use Rattle.cue_device.specs.Table.{new_number, new_standby, other_standby, same_cancel, same_go, same_standby}
 
 -- an order to move comes of a Go of its number alone
 abbrev ComesOf : Command → Option Order → Type 0
@@ -71,15 +71,15 @@ new_standby-comes : (c : Command) (q : ℕ) (b : Bool) → ComesOf c (new_standb
 new_standby-comes c q true = tt
 new_standby-comes c q false = tt
 
-anew_comes : (free : Bool) (c : Command) → ComesOf c (anew free c).order
-anew_comes free (Standby q t) = new_standby-comes (Standby q t) q free
-anew_comes free (Go q) = tt
-anew_comes free (Cancel q) = tt
+new_number_comes : (free : Bool) (c : Command) → ComesOf c (new_number free c).order
+new_number_comes free (Standby q t) = new_standby-comes (Standby q t) q free
+new_number_comes free (Go q) = tt
+new_number_comes free (Cancel q) = tt
 
 heard_comes : (p : Place) (c : Command) (d : Device) → ComesOf c (heard_at p c d).order
 heard_comes Over c d = tt
 heard_comes (Same a) c d = again_comes a c
-heard_comes New c d = anew_comes (is_none d.doing) c
+heard_comes New c d = new_number_comes (is_none d.doing) c
 
 no_order : {A : Type 0} (q : ℕ) → None ≡ Some (Move q) → A
 no_order q e = absurd cc

@@ -23,7 +23,8 @@ use Rattle.cue_device.specs.Hearing.{seq_of, told_in, told_of}
 use Rattle.cue_device.specs.Histories.{Happening, hears, tells, repeats, hears_reply, restarts, KeepsNumbers, answer_to}
 use Rattle.cue_device.specs.Histories.{answers_of, device_after, latest, orders_of, unfinished_order}
 use Rattle.cue_device.specs.Laws.{has_stood_by, is_standing_by}
-use Rattle.cue_device.specs.Table.{anew, answer_over, new_standby, other_standby, same_cancel, same_go, same_standby}
+use Rattle.cue_device.specs.Table.{new_number, answer_over, new_standby, other_standby, same_cancel, same_go}
+use Rattle.cue_device.specs.Table.{same_standby}
 use Rattle.cue_device.proofs.HistoryLemmas.{Stands, all_fits}
 use Rattle.cue_stage.proofs.SayingLemmas.{further}
 
@@ -91,10 +92,10 @@ new_standby-comes : (P : Type 0) (n q : ℕ) (free : Bool) → ComesOf P q (new_
 new_standby-comes P n q true = tt
 new_standby-comes P n q false = tt
 
-anew_comes : (P : Type 0) (q : ℕ) (free : Bool) (c : Command) → ComesOf P q (anew free c).answer
-anew_comes P q free (Standby n t) = new_standby-comes P n q free
-anew_comes P q free (Go n) = tt
-anew_comes P q free (Cancel n) = tt
+new_number_comes : (P : Type 0) (q : ℕ) (free : Bool) (c : Command) → ComesOf P q (new_number free c).answer
+new_number_comes P q free (Standby n t) = new_standby-comes P n q free
+new_number_comes P q free (Go n) = tt
+new_number_comes P q free (Cancel n) = tt
 
 over_comes : (P : Type 0) (q : ℕ) (c : Command) → ComesOf P q (Some (answer_over c))
 over_comes P q (Standby n t) = tt
@@ -213,7 +214,7 @@ heard_comes : (q : ℕ) (hs : List Happening) (d over : ℕ) (c : Command) → K
 heard_comes q hs d over c k Over is = over_comes _ q c
 heard_comes q hs d over c k (Same a) is = comes_by q (again a c).answer (λ r. ready_said q hs d over k c a is r)
     (again_comes q a c)
-heard_comes q hs d over c k New is = anew_comes _ q (is_none (device_after (device_at_rest d over) hs).doing) c
+heard_comes q hs d over c k New is = new_number_comes _ q (is_none (device_after (device_at_rest d over) hs).doing) c
 
 ticked_comes : (P : Type 0) (q : ℕ) (d : Device) → ComesOf P q (answer_ticked d)
 ticked_comes P q d = by d.unheard

@@ -19,15 +19,15 @@ use Rattle.cue_core.specs.declared.command.Code.{Code}
 use Rattle.cue_core.specs.declared.command.Code.TheVariants as code
 use Rattle.cue_core.specs.declared.command.Command.{Command}
 use Rattle.cue_core.specs.declared.command.Command.TheVariants as command
-use Rattle.cue_core.specs.declared.command.ReplyKind.{ReplyKind}
-use Rattle.cue_core.specs.declared.command.ReplyKind.TheVariants as reply
+use Rattle.cue_core.specs.declared.command.AnswerKind.{AnswerKind}
+use Rattle.cue_core.specs.declared.command.AnswerKind.TheVariants as answer_kind
 use Rattle.cue_core.specs.declared.command.Verdict.TheVariants.{Made, Known, No}
 use Rattle.cue_core.specs.Events.{is_ready_of}
 use Rattle.cue_core.specs.State.{ShowState}
 use Rattle.cue_core.specs.InTurn.{steps, events_of}
 use Rattle.cue_core.specs.Steps.{after_events}
 use Rattle.cue_core.specs.Judge.{Judgement, judgement_of, made_by, refused_with, abort_early, abort_late, release_early}
-use Rattle.cue_core.specs.Judge.{on_reply, on_reply_in, on_reply_to, on_release_in, on_release_of, is_from_another}
+use Rattle.cue_core.specs.Judge.{on_answer, on_answer_in, on_answer_to, on_release_in, on_release_of, is_from_another}
 use Rattle.cue_core.proofs.lists.AnyLemmas.{any-append}
 use Rattle.cue_core.proofs.live.FindingLemmas.{found_passes}
 use Rattle.cue_core.proofs.verdicts.CellLemmas.{device_found}
@@ -57,7 +57,7 @@ refused-lacks = record { none = refl }
 -- ---- the tables
 
 complete-lacks : (q e n : ℕ) (x : DeviceAnswer) (g : Stage) (w : Answer)
-    → LacksReady q e (on_reply_in reply.Complete n x g w)
+    → LacksReady q e (on_answer_in answer_kind.Complete n x g w)
 complete-lacks q e n x Preparing answer.Waiting = record { none = refl }
 complete-lacks q e n x Preparing answer.Ready = record { none = refl }
 complete-lacks q e n x Preparing answer.Done = record { none = refl }
@@ -78,7 +78,7 @@ complete-lacks q e n x (Cancelling r) answer.Failed = record { none = refl }
 complete-lacks q e n x (Cancelling r) answer.Excused = record { none = refl }
 
 cancelled-lacks : (q e n : ℕ) (x : DeviceAnswer) (g : Stage) (w : Answer)
-    → LacksReady q e (on_reply_in reply.Cancelled n x g w)
+    → LacksReady q e (on_answer_in answer_kind.Cancelled n x g w)
 cancelled-lacks q e n x Preparing answer.Waiting = record { none = refl }
 cancelled-lacks q e n x Preparing answer.Ready = record { none = refl }
 cancelled-lacks q e n x Preparing answer.Done = record { none = refl }
@@ -106,7 +106,8 @@ abort_late-lacks : (q e n : ℕ) (x : DeviceAnswer) → LacksReady q e (abort_la
 abort_late-lacks q e n x = if-lacks q e x.optional (made_by (event.LetGo n x.device ∷ []))
     (made_by (event.Failed n x.device ∷ [])) (record { none = refl }) (record { none = refl })
 
-abort-lacks : (q e n : ℕ) (x : DeviceAnswer) (g : Stage) (w : Answer) → LacksReady q e (on_reply_in reply.Abort n x g w)
+abort-lacks : (q e n : ℕ) (x : DeviceAnswer) (g : Stage) (w : Answer)
+    → LacksReady q e (on_answer_in answer_kind.Abort n x g w)
 abort-lacks q e n x Preparing answer.Waiting = abort_early-lacks q e n x
 abort-lacks q e n x Preparing answer.Ready = abort_early-lacks q e n x
 abort-lacks q e n x Preparing answer.Done = abort_early-lacks q e n x
@@ -151,7 +152,7 @@ release_in-lacks q e n x (Cancelling r) answer.Failed = record { none = refl }
 release_in-lacks q e n x (Cancelling r) answer.Excused = record { none = refl }
 
 standing_by-ready : (q e n : ℕ) (x : DeviceAnswer) (g : Stage) (w : Answer)
-    → list_any (is_ready_of q e) (on_reply_in reply.StandingBy n x g w).1 ≡ true → (n ≡ q) × (x.device ≡ e)
+    → list_any (is_ready_of q e) (on_answer_in answer_kind.StandingBy n x g w).1 ≡ true → (n ≡ q) × (x.device ≡ e)
 standing_by-ready q e n x Preparing answer.Waiting h = let k =
     both (nat_eq n q) (nat_eq x.device e) (any_left (nat_eq n q && nat_eq x.device e) h) in
     (same_number n q k.0, same_number x.device e k.1)
@@ -208,39 +209,42 @@ none_is : {A : Type 0} (q e : ℕ) (j : Judgement) → LacksReady q e j → list
 none_is q e j l h = absurd (true≢false (sym h ∙ l.none))
 
 -- a reply of this kind from this device in this attempt is that standing_by
-abbrev IsIt : ℕ → ℕ → ReplyKind → ℕ → ℕ → Type 0
-IsIt q e kind d p = command.Reply kind d p ≡ command.Reply reply.StandingBy e q
+abbrev IsIt : ℕ → ℕ → AnswerKind → ℕ → ℕ → Type 0
+IsIt q e kind d p = command.Reply kind d p ≡ command.Reply answer_kind.StandingBy e q
 
-cell_is : (q e : ℕ) (kind : ReplyKind) (n : ℕ) (x : DeviceAnswer) (g : Stage) (w : Answer)
-    → list_any (is_ready_of q e) (on_reply_in kind n x g w).1 ≡ true → IsIt q e kind x.device n
-cell_is q e reply.StandingBy n x g w h = let k = standing_by-ready q e n x g w h in
-    ap (λ (m : ℕ). command.Reply reply.StandingBy m n) k.1 ∙ ap (command.Reply reply.StandingBy e) k.0
-cell_is q e reply.Complete n x g w h = none_is q e (on_reply_in reply.Complete n x g w) (complete-lacks q e n x g w) h
-cell_is q e reply.Cancelled n x g w h = none_is q e (on_reply_in reply.Cancelled n x g w) (cancelled-lacks q e n x g w)
+cell_is : (q e : ℕ) (kind : AnswerKind) (n : ℕ) (x : DeviceAnswer) (g : Stage) (w : Answer)
+    → list_any (is_ready_of q e) (on_answer_in kind n x g w).1 ≡ true → IsIt q e kind x.device n
+cell_is q e answer_kind.StandingBy n x g w h = let k = standing_by-ready q e n x g w h in
+    ap (λ (m : ℕ). command.Reply answer_kind.StandingBy m n) k.1 ∙ ap (command.Reply answer_kind.StandingBy e) k.0
+cell_is q e answer_kind.Complete n x g w h = none_is q e
+    (on_answer_in answer_kind.Complete n x g w) (complete-lacks q e n x g w) h
+cell_is q e answer_kind.Cancelled n x g w h = none_is q e
+    (on_answer_in answer_kind.Cancelled n x g w) (cancelled-lacks q e n x g w)
     h
-cell_is q e reply.Abort n x g w h = none_is q e (on_reply_in reply.Abort n x g w) (abort-lacks q e n x g w) h
+cell_is q e answer_kind.Abort n x g w h = none_is q e
+    (on_answer_in answer_kind.Abort n x g w) (abort-lacks q e n x g w) h
 
-to_attempt : (q e : ℕ) (kind : ReplyKind) (d : ℕ) (a : Attempt)
-    → list_any (is_ready_of q e) (on_reply_to kind d a).1 ≡ true → IsIt q e kind d a.seq
+to_attempt : (q e : ℕ) (kind : AnswerKind) (d : ℕ) (a : Attempt)
+    → list_any (is_ready_of q e) (on_answer_to kind d a).1 ≡ true → IsIt q e kind d a.seq
 to_attempt q e kind d a h = at (device_answer a.answers d) refl h
   where
     at : (o : Option DeviceAnswer) → device_answer a.answers d ≡ o
         → list_any (is_ready_of q e)
-        (option_map_or (λ x. on_reply_in kind a.seq x a.stage x.answer) o (refused_with code.NotPart)).1 ≡ true
+        (option_map_or (λ x. on_answer_in kind a.seq x a.stage x.answer) o (refused_with code.NotPart)).1 ≡ true
         → IsIt q e kind d a.seq
     at None is k = absurd (true≢false (sym k))
     at (Some x) is k = subst (λ (n : ℕ). IsIt q e kind n a.seq) (device_found d a.answers x is)
         (cell_is q e kind a.seq x a.stage x.answer k)
 
-reply_is : (q e : ℕ) (s : ShowState) (from : ℕ) (kind : ReplyKind) (d p : ℕ)
-    → list_any (is_ready_of q e) (on_reply s from kind d p).1 ≡ true → IsIt q e kind d p
-reply_is q e s from kind d p h = at (has_device s.show d) (is_from_another s d from) (nat_lt s.last_seq p)
+answer_is : (q e : ℕ) (s : ShowState) (from : ℕ) (kind : AnswerKind) (d p : ℕ)
+    → list_any (is_ready_of q e) (on_answer s from kind d p).1 ≡ true → IsIt q e kind d p
+answer_is q e s from kind d p h = at (has_device s.show d) (is_from_another s d from) (nat_lt s.last_seq p)
     (attempt_of s.live p) refl h
   where
     at : (b f l : Bool) (o : Option Attempt) → attempt_of s.live p ≡ o
         → list_any (is_ready_of q e) (if not b then refused_with code.NoMethod else if f then refused_with
         code.WrongPort else if
-        l then refused_with code.Early else option_map_or (on_reply_to kind d) o (refused_with code.Stale)).1 ≡ true
+        l then refused_with code.Early else option_map_or (on_answer_to kind d) o (refused_with code.Stale)).1 ≡ true
         → IsIt q e kind d p
     at false f l o is k = absurd (true≢false (sym k))
     at true true l o is k = absurd (true≢false (sym k))
@@ -283,7 +287,7 @@ others_lack q e s now from (command.Bad c) = refused-lacks
 
 -- the command that made a Ready is the standing_by of that device
 pub ready_by : (q e : ℕ) (s : ShowState) (now from : ℕ) (c : Command)
-    → list_any (is_ready_of q e) (judgement_of s now from c).1 ≡ true → c ≡ command.Reply reply.StandingBy e q
+    → list_any (is_ready_of q e) (judgement_of s now from c).1 ≡ true → c ≡ command.Reply answer_kind.StandingBy e q
 ready_by q e s now from command.Status h =
     none_is q e (judgement_of s now from command.Status) (others_lack q e s now from command.Status) h
 ready_by q e s now from (command.AddDevice d p) h = none_is q e (judgement_of s now from (command.AddDevice d p))
@@ -300,7 +304,7 @@ ready_by q e s now from (command.Goto c) h =
     none_is q e (judgement_of s now from (command.Goto c)) (others_lack q e s now from (command.Goto c)) h
 ready_by q e s now from (command.RemoveCue c) h = none_is q e (judgement_of s now from (command.RemoveCue c))
     (others_lack q e s now from (command.RemoveCue c)) h
-ready_by q e s now from (command.Reply k d p) h = reply_is q e s from k d p h
+ready_by q e s now from (command.Reply k d p) h = answer_is q e s from k d p h
 ready_by q e s now from (command.Release d) h =
     none_is q e (judgement_of s now from (command.Release d)) (others_lack q e s now from (command.Release d)) h
 ready_by q e s now from (command.RemoveDevice d) h = none_is q e (judgement_of s now from (command.RemoveDevice d))
@@ -317,7 +321,7 @@ Among c (x ∷ xs) = (x ≡ c) ⊎ Among c xs
 
 pub ready_among : (q e : ℕ) (s : ShowState) (now from : ℕ) (asked : List Command)
     → list_any (is_ready_of q e) (events_of (steps s now from asked)) ≡ true
-    → Among (command.Reply reply.StandingBy e q) asked
+    → Among (command.Reply answer_kind.StandingBy e q) asked
 ready_among q e s now from [] h = absurd (true≢false (sym h))
 ready_among q e s now from (c ∷ others) h =
     by (list_any (is_ready_of q e) first) refl (λ k. ready_among q e (after_events s first) now from others k)
@@ -330,7 +334,7 @@ ready_among q e s now from (c ∷ others) h =
     rest = events_of (steps (after_events s first) now from others)
 
     by : (b : Bool) → list_any (is_ready_of q e) first ≡ b
-        → (list_any (is_ready_of q e) rest ≡ true → Among (command.Reply reply.StandingBy e q) others)
-        → (b || list_any (is_ready_of q e) rest) ≡ true → Among (command.Reply reply.StandingBy e q) (c ∷ others)
+        → (list_any (is_ready_of q e) rest ≡ true → Among (command.Reply answer_kind.StandingBy e q) others)
+        → (b || list_any (is_ready_of q e) rest) ≡ true → Among (command.Reply answer_kind.StandingBy e q) (c ∷ others)
     by true is f k = inl (ready_by q e s now from c is)
     by false is f k = inr (f k)

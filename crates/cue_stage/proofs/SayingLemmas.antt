@@ -11,7 +11,7 @@ use Rattle.cue_core.specs.declared.event.Event.TheVariants as event
 use Rattle.cue_core.specs.declared.command.Code.{Code}
 use Rattle.cue_core.specs.declared.command.Command.{Command}
 use Rattle.cue_core.specs.declared.command.Command.TheVariants as command
-use Rattle.cue_core.specs.declared.command.ReplyKind.TheVariants as reply
+use Rattle.cue_core.specs.declared.command.AnswerKind.TheVariants as answer_kind
 use Rattle.cue_core.specs.declared.refusal.Refusal.{Refusal}
 use Rattle.cue_core.specs.declared.refusal.Refusal.TheVariants as refusal
 use Rattle.cue_core.specs.Events.{is_ready_of}
@@ -43,7 +43,7 @@ further x y xs c = let lt : c.0 < length xs = c.1 in (suc c.0, omega arith, c.2)
 
 carried : (q e : ℕ) (s : ShowState) (now from : ℕ) (address : List ℕ) (r : Result (List Command) Code)
     → list_any (is_ready_of q e) (heard_events (carried_out s now from address r)) ≡ true
-    → (asked : List Command) × (r ≡ Ok asked) × Among (command.Reply reply.StandingBy e q) asked
+    → (asked : List Command) × (r ≡ Ok asked) × Among (command.Reply answer_kind.StandingBy e q) asked
 carried q e s now from address (Err c) h = absurd (true≢false (sym h))
 carried q e s now from address (Ok asked) h = (asked, refl, ready_among q e s now from asked h)
 

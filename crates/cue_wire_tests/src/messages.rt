@@ -3,7 +3,7 @@
 //! Each command is its name with its numbers, and a semicolon. A part is its device and its bytes; a question mark
 //! stands after an optional device. `refused` and a code stand for a message that asks for no command.
 
-use cue_core::{Command, Event, ReplyKind, State, judge};
+use cue_core::{AnswerKind, Command, Event, State, judge};
 use cue_operator::{Refused, commands};
 use cue_osc::{Packet, read};
 use cue_show::{CueNo, DeviceNo, Part, Parts};
@@ -157,7 +157,7 @@ fn push_numbers(
 
 fn push_reply(
     out: &mut String,
-    kind: ReplyKind,
+    kind: AnswerKind,
     device: DeviceNo,
     seq: u32,
 ) -> Result<(), AllocError> {

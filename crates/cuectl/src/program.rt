@@ -19,7 +19,7 @@ ghost use Rattle.clap.specs.Words.{fault_of, subcommand_of};
 ghost use Rattle.cue_core.specs.State.{empty_state};
 ghost use Rattle.cuectl.specs.Lines.{AsksForText, IsHelp, IsNoCommand, cuectl_app};
 ghost use Rattle.cue_keeper.specs.Observed.{is_broken};
-ghost use Rattle.cue_engine.specs.Words.{state_of, keeper_of};
+ghost use Rattle.cue_engine.specs.Observed.{state_of, keeper_of};
 ghost use Rattle.cuectl.specs.Endings.{run_fault, unbound_fault};
 ghost use Rattle.cuectl.specs.Performing.{
   EndsSo,
@@ -45,9 +45,7 @@ use cue_disk::{Disk, FileDisk};
 use cue_engine::Engine;
 use cue_evening::{EveningLog, LoggedWire, say_ready};
 use cue_keeper::{Fault, StoreFault};
-use cue_run::{
-    Ended, MOST_TOGETHER, RunFault, UdpReceiver, UdpSource, UdpWire, local, run_grouped,
-};
+use cue_run::{Ended, MAX_TOGETHER, RunFault, UdpReceiver, UdpSource, UdpWire, local, run_grouped};
 use cue_script::script;
 use fault::{ProgramFault, print_fault, run_fault, status_of};
 use files::{create_both, open_both, refused_store, say, say_failures};
@@ -127,7 +125,7 @@ pub(crate) fn serve_on<'a, R: Clock + Eprint, D: Disk>(
     let mut source = UdpSource::new(rt, UdpReceiver::new(socket)?, port)?;
     let mut wire = LoggedWire::new(alloc, UdpWire::new(socket));
     let mut log = EveningLog::new(rt, alloc);
-    let most = MOST_TOGETHER;
+    let most = MAX_TOGETHER;
     Ok(run_grouped(alloc, engine, &mut source, &mut wire, turns, most, &mut log))
 }
 

@@ -6,7 +6,7 @@ use Rattle.cuedesk.specs.declared.program.reading.stamps.TheConstants.{SETTLED}
 
 -- its last change is so long before the moment that each one after it has another time
 abbrev pub IsSettled : Stamp → ℕ → Type 0
-IsSettled stamp moment = stamp.seconds * 1000 + SETTLED ≤ moment
+IsSettled stamp time = stamp.seconds * 1000 + SETTLED ≤ time
 
 -- Files had these stamps when their reading was begun, and have the same ones now; and each change since would show.
 pub record Holds (stamps : Stamps) (begun : ℕ) (seen : Stamps) : Type 0 where

@@ -12,7 +12,7 @@ use Rattle.cue_exchange.specs.declared.attempt.Stage.TheVariants.{Preparing, Dec
 use Rattle.cue_exchange.specs.declared.attempt.DeviceAnswer.{DeviceAnswer}
 use Rattle.cue_exchange.specs.declared.attempt.Attempt.{Attempt}
 use Rattle.cue_exchange.specs.Answers.{is_ready, is_excused, is_waiting, is_preparing, is_decided, is_cancelling}
-use Rattle.cue_exchange.specs.Answers.{is_concluding, is_known_in, is_required, stands, waits, some_waits, entering}
+use Rattle.cue_exchange.specs.Answers.{is_concluding, is_known_in, is_required, may_be_in, waits, some_waits, entering}
 use Rattle.cue_exchange.specs.Answers.{enters, answers_on_entry, answer_passes, answers_with, first_answer, devices_of}
 use Rattle.cue_exchange.specs.Live.{devices_in}
 use Rattle.cue_exchange.specs.Steps.{answers_as, moves_to, new_attempt}
@@ -339,17 +339,17 @@ entering_keeps Preparing (Cancelling r) Excused p n k = refl
 entering_keeps Decided new answer p n k = cc
 entering_keeps (Cancelling r) new answer p n k = cc
 
-pub knows : (stage : Stage) (x : DeviceAnswer) → IsTrue (stands stage x) → IsTrue (is_known_in stage x.answer)
+pub knows : (stage : Stage) (x : DeviceAnswer) → IsTrue (may_be_in stage x) → IsTrue (is_known_in stage x.answer)
 knows stage x k = (both (is_known_in stage x.answer) (not (is_required x && is_excused x.answer)) k).0
 
 moved_told : (old new : Bool) (past : Bool) → new ≡ old → IsTrue (agrees old past) → IsTrue (agrees new past)
 moved_told old new past e k = rw e k
 
 ended_on : (q : ℕ) (stage : Stage) (h : List Event) (a : Attempt) → IsTrue (is_preparing a.stage)
-    → IsTrue (is_concluding stage) → IsTrue (list_all (stands a.stage) a.answers)
+    → IsTrue (is_concluding stage) → IsTrue (list_all (may_be_in a.stage) a.answers)
     → IsTrue (list_all (last_by h q) a.answers) → IsTrue (list_all (last_by h q) (answers_on_entry stage a.answers))
 ended_on q stage h a p c s t = rw (all_mapped (last_by h q) (enters stage) a.answers)
-    (all_zip (stands a.stage) (last_by h q) (λ x. last_by h q (enters stage x)) a.answers
+    (all_zip (may_be_in a.stage) (last_by h q) (λ x. last_by h q (enters stage x)) a.answers
     (λ x k l. moved_told (is_last x.answer) (is_last (entering stage x.answer)) (list_any (is_end_of q x.device) h)
     (entering_keeps a.stage stage x.answer p c (knows a.stage x k)) l) s t)
 
@@ -360,7 +360,7 @@ not_decided Decided p = cc
 not_decided (Cancelling r) p = cc
 
 pub tells-go : (q : ℕ) (h : List Event) (a : Attempt) → IsTrue (is_preparing a.stage)
-    → IsTrue (list_all (stands a.stage) a.answers) → Tells h q a → Tells (event.Go q ∷ h) q (moves_to Decided a)
+    → IsTrue (list_all (may_be_in a.stage) a.answers) → Tells h q a → Tells (event.Go q ∷ h) q (moves_to Decided a)
 tells-go q h a p s t = record {
   begun = t.begun;
   parts = rw (are_of_parts-entered (parts_by h q) Decided a.answers) t.parts;
@@ -372,7 +372,7 @@ tells-go q h a p s t = record {
 }
 
 pub tells-cancel : (q : ℕ) (r : Reason) (h : List Event) (a : Attempt) → IsTrue (is_preparing a.stage)
-    → IsTrue (list_all (stands a.stage) a.answers) → Tells h q a
+    → IsTrue (list_all (may_be_in a.stage) a.answers) → Tells h q a
     → Tells (event.Cancel q r ∷ h) q (moves_to (Cancelling r) a)
 tells-cancel q r h a p s t = record {
   begun = t.begun;
@@ -425,14 +425,15 @@ told_last b past e k = rw e at k
 
 -- where no device is Waiting any more, each is done with
 pub gone_by : (q : ℕ) (h : List Event) (a : Attempt) → is_preparing a.stage ≡ false
-    → IsTrue (list_all (stands a.stage) a.answers) → some_waits a.answers ≡ false → Tells h q a
+    → IsTrue (list_all (may_be_in a.stage) a.answers) → some_waits a.answers ≡ false → Tells h q a
     → IsTrue (list_all (λ d. list_any (is_end_of q d) h) (devices_by h q))
 gone_by q h a p s w t =
     rw (← devices_told h q a t) (rw (all_mapped (λ d. list_any (is_end_of q d) h) (λ x. x.device) a.answers)
-    (all_zip (last_by h q) (λ x. stands a.stage x && not (waits x)) (λ x. list_any (is_end_of q x.device) h) a.answers
+    (all_zip (last_by h q) (λ x. may_be_in a.stage x && not (waits x)) (λ x. list_any (is_end_of q x.device) h)
+    a.answers
     (λ x l k. told_last (is_last x.answer) (list_any (is_end_of q x.device) h)
-    (let k2 = both (stands a.stage x) (not (waits x)) k in last_one a.stage x.answer p (knows a.stage x k2.0) k2.1)
+    (let k2 = both (may_be_in a.stage x) (not (waits x)) k in last_one a.stage x.answer p (knows a.stage x k2.0) k2.1)
     l)
     t.ended
-    (all_zip (stands a.stage) (λ x. not (waits x)) (λ x. stands a.stage x && not (waits x)) a.answers
-    (λ x k l. join (stands a.stage x) (not (waits x)) k l) s (none_passes waits a.answers w))))
+    (all_zip (may_be_in a.stage) (λ x. not (waits x)) (λ x. may_be_in a.stage x && not (waits x)) a.answers
+    (λ x k l. join (may_be_in a.stage x) (not (waits x)) k l) s (none_passes waits a.answers w))))

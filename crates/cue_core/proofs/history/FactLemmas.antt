@@ -10,7 +10,7 @@ use Rattle.cue_exchange.specs.declared.attempt.Answer.{Answer}
 use Rattle.cue_exchange.specs.declared.attempt.Answer.TheVariants as answer
 use Rattle.cue_exchange.specs.declared.attempt.DeviceAnswer.{DeviceAnswer}
 use Rattle.cue_exchange.specs.declared.attempt.Attempt.{Attempt}
-use Rattle.cue_exchange.specs.Answers.{is_ready, is_excused, is_preparing, is_known_in, stands, answer_passes}
+use Rattle.cue_exchange.specs.Answers.{is_ready, is_excused, is_preparing, is_known_in, may_be_in, answer_passes}
 use Rattle.cue_exchange.specs.Answers.{devices_of, may_go, all_may_go}
 use Rattle.cue_exchange.specs.Live.{attempt_of, has_number, is_among}
 use Rattle.cue_exchange.specs.Steps.{can_go_now, can_start}
@@ -197,7 +197,7 @@ parts_told h q (p ∷ ps) (x ∷ xs) m k =
     (rw (same_number p.device x.device s.0, same_bool p.optional x.optional s.1) g.0) (parts_told h q ps xs n.1 g.1)
 
 parts_go : (h : List Event) (q : ℕ) (a : Attempt) → IsTrue (is_preparing a.stage)
-    → IsTrue (list_all (stands a.stage) a.answers) → Tells h q a → IsTrue (all_may_go a.answers)
+    → IsTrue (list_all (may_be_in a.stage) a.answers) → Tells h q a → IsTrue (all_may_go a.answers)
     → IsTrue (list_all (may_go_by h q) (parts_by h q))
 parts_go h q a p s t g =
     parts_told h q (parts_by h q) a.answers t.parts
@@ -206,7 +206,7 @@ parts_go h q a p s t g =
     (all_zip (ready_by h q) (λ x. excused_by h q x && not (not x.optional && is_excused x.answer)) (told_by h q)
     a.answers (λ x r k. join (ready_by h q x) (excused_by h q x && not (not x.optional && is_excused x.answer)) r k)
     (t.ready p)
-    (all_zip (excused_by h q) (stands a.stage) (λ x. excused_by h q x && not (not x.optional && is_excused x.answer))
+    (all_zip (excused_by h q) (may_be_in a.stage) (λ x. excused_by h q x && not (not x.optional && is_excused x.answer))
     a.answers (λ x e k. join (excused_by h q x) (not (not x.optional && is_excused x.answer)) e
     (both (is_known_in a.stage x.answer) (not (not x.optional && is_excused x.answer)) k).1) (t.excused p) s)))
 
@@ -228,7 +228,7 @@ keeps h (event.Go q) k i g =
     let f = found q can_go_now (state_of h).live i.rises g in
     let p = both (is_preparing f.0.stage) (all_may_go f.0.answers) f.2 in
     let t = told_of h q (attempt_of (state_of h).live q) f.0 f.1 (k.settles q) in
-    let s = found_has (λ b. list_all (stands b.stage) b.answers) (has_number q) (state_of h).live f.0 i.stand f.1 in
+    let s = found_has (λ b. list_all (may_be_in b.stage) b.answers) (has_number q) (state_of h).live f.0 i.stand f.1 in
     join (list_any (is_start_of q) h) (list_all (may_go_by h q) (parts_by h q) && not (list_any (is_cancel_of q) h))
     t.begun
     (join (list_all (may_go_by h q) (parts_by h q)) (not (list_any (is_cancel_of q) h)) (parts_go h q f.0 p.0 s t p.1)

@@ -13,7 +13,7 @@ use Rattle.cue_exchange.specs.declared.attempt.Stage.{Stage}
 use Rattle.cue_exchange.specs.declared.attempt.Stage.TheVariants.{Preparing, Decided, Cancelling}
 use Rattle.cue_exchange.specs.declared.attempt.Attempt.{Attempt}
 use Rattle.cue_exchange.specs.Answers.{is_waiting, is_excused, is_preparing, is_decided, is_cancelling, is_concluding}
-use Rattle.cue_exchange.specs.Answers.{is_known_in, stands, some_waits, answer_passes, is_excusable, all_may_go}
+use Rattle.cue_exchange.specs.Answers.{is_known_in, may_be_in, some_waits, answer_passes, is_excusable, all_may_go}
 use Rattle.cue_exchange.specs.Answers.{answers_with}
 use Rattle.cue_exchange.specs.Live.{attempt_of, has_number}
 use Rattle.cue_exchange.specs.Steps.{holds, waits_in, answers_as, moves_to, new_attempt, after_start, after_answer}
@@ -38,7 +38,7 @@ use Rattle.cue_core.proofs.history.AttemptLemmas.{tells-end, of_device, is_last,
 -- what the rules of a state say that is used here
 pub record IsSound (s : ShowState) : Type 0 where
   pub rises : IsTrue (rising s.live)
-  pub stand : IsTrue (list_all (λ a. list_all (stands a.stage) a.answers) s.live)
+  pub stand : IsTrue (list_all (λ a. list_all (may_be_in a.stage) a.answers) s.live)
   pub within : IsTrue (list_all (λ a. nat_le a.seq s.last_seq) s.live)
   pub left : IsTrue (list_all (λ a. not (list_all (λ x. is_last x.answer) a.answers)) s.live)
 
@@ -141,8 +141,8 @@ step_start h q c t k above below =
 
 -- the stage of the attempt, and how its devices stand
 stands_at : (s : ShowState) (q : ℕ) (a : Attempt) → IsSound s → attempt_of s.live q ≡ Some a
-    → IsTrue (list_all (stands a.stage) a.answers)
-stands_at s q a i e = found_has (λ b. list_all (stands b.stage) b.answers) (has_number q) s.live a i.stand e
+    → IsTrue (list_all (may_be_in a.stage) a.answers)
+stands_at s q a i e = found_has (λ b. list_all (may_be_in b.stage) b.answers) (has_number q) s.live a i.stand e
 
 step_ready : (h : List Event) (s : ShowState) (q d : ℕ) → Kept h s → IsSound s → IsTrue (can_ready q d s.live)
     → Settles (event.Ready q d ∷ h) q (attempt_of (after_answer q d answer.Ready s.live) q)
@@ -185,13 +185,14 @@ known_with stage true false given answer p n k = rw (p, n) refl
 known_with stage false optional given answer p n k = k
 
 stand_with : (d : ℕ) (given : Answer) (a : Attempt) → IsTrue (is_known_in a.stage given) → is_excused given ≡ false
-    → IsTrue (list_all (stands a.stage) a.answers) → IsTrue (list_all (stands a.stage) (answers_as d given a).answers)
-stand_with d given a p n k = rw (all_mapped (stands a.stage) (answers_with d given) a.answers)
-    (all_from (stands a.stage) (λ x. stands a.stage (answers_with d given x)) a.answers
+    → IsTrue (list_all (may_be_in a.stage) a.answers)
+    → IsTrue (list_all (may_be_in a.stage) (answers_as d given a).answers)
+stand_with d given a p n k = rw (all_mapped (may_be_in a.stage) (answers_with d given) a.answers)
+    (all_from (may_be_in a.stage) (λ x. may_be_in a.stage (answers_with d given x)) a.answers
     (λ x l. known_with a.stage (nat_eq x.device d) x.optional given x.answer p n l) k)
 
 settles_if_open : (h : List Event) (q : ℕ) (a : Attempt) → is_preparing a.stage ≡ false
-    → IsTrue (list_all (stands a.stage) a.answers) → Tells h q a → Settles h q (if_open a)
+    → IsTrue (list_all (may_be_in a.stage) a.answers) → Tells h q a → Settles h q (if_open a)
 settles_if_open h q a p k t = at (some_waits a.answers) refl
   where
     at : (b : Bool) → some_waits a.answers ≡ b → Settles h q (if b then Some a else None)

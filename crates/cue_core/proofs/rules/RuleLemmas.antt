@@ -23,11 +23,11 @@ use Rattle.cue_exchange.specs.declared.attempt.Stage.TheVariants.{Decided, Cance
 use Rattle.cue_exchange.specs.declared.attempt.Attempt.{Attempt}
 use Rattle.cue_exchange.specs.declared.attempt.DeviceAnswer.{DeviceAnswer}
 use Rattle.cue_exchange.specs.declared.limits.TheConstants.{MAX_NUMBER}
-use Rattle.cue_exchange.specs.Answers.{stands, devices_of, first_answers, answers_on_entry, with_answer, some_waits}
+use Rattle.cue_exchange.specs.Answers.{may_be_in, devices_of, first_answers, answers_on_entry, with_answer, some_waits}
 use Rattle.cue_exchange.specs.Answers.{is_decided}
 use Rattle.cue_exchange.specs.Answers.{is_cancelling, is_concluding}
 use Rattle.cue_exchange.specs.Live.{disjoint, attempt_of, attempt_of_cue, has_number, are_live, is_attempt, is_number}
-use Rattle.cue_exchange.specs.Live.{is_moment, have_sound_devices, goes_before}
+use Rattle.cue_exchange.specs.Live.{is_time, have_sound_devices, goes_before}
 use Rattle.cue_exchange.specs.Live.{has_cue as is_of_cue}
 use Rattle.cue_exchange.specs.Steps.{holds, waits_in, with_change, answers_as, moves_to, new_attempt, after_start}
 use Rattle.cue_exchange.specs.Steps.{after_answer}
@@ -398,7 +398,7 @@ rules-after_last_answer s q d given test r g h =
   where
     number_of : (a : Attempt) → IsTrue (is_attempt a) → IsTrue (is_number a.seq)
     number_of a k = (both (is_number a.seq)
-        (is_moment a.deadline && (have_sound_devices a.answers && list_all (stands a.stage) a.answers))
+        (is_time a.deadline && (have_sound_devices a.answers && list_all (may_be_in a.stage) a.answers))
         (is_sound-of_attempt a k)).0
 
 rules-after : (s : ShowState) (e : Event) → Rules s → IsTrue (acceptable s e) → Rules (after s e)

@@ -10,8 +10,8 @@ use Rattle.cue_exchange.specs.declared.attempt.DeviceAnswer.{DeviceAnswer}
 use Rattle.cue_exchange.specs.declared.attempt.Attempt.{Attempt}
 use Rattle.cue_exchange.specs.declared.limits.TheConstants.{MAX_NUMBER, MAX_LIVE}
 use Rattle.cue_exchange.specs.Answers.{is_waiting, is_excused, is_preparing, is_known_in, is_required, has_required}
-use Rattle.cue_exchange.specs.Answers.{stands, waits, some_waits, devices_of}
-use Rattle.cue_exchange.specs.Live.{are_live, is_attempt, is_sound, is_open, is_number, is_moment, have_sound_devices}
+use Rattle.cue_exchange.specs.Answers.{may_be_in, waits, some_waits, devices_of}
+use Rattle.cue_exchange.specs.Live.{are_live, is_attempt, is_sound, is_open, is_number, is_time, have_sound_devices}
 use Rattle.cue_exchange.specs.Live.{pairwise, goes_before, disjoint, distinct}
 use Rattle.cue_show.specs.Show.{is_show}
 use Rattle.cue_core.specs.declared.event.Event.{Event}
@@ -64,15 +64,15 @@ some_left P S f (x ∷ xs) w k = let s = both (S x) (list_all S xs) k in
 not_all : (b : Bool) → b ≡ false → IsTrue (not b)
 not_all b e = rw e refl
 
-waits_left : (stage : Stage) (xs : List DeviceAnswer) → IsTrue (list_all (stands stage) xs) → IsTrue (some_waits xs)
+waits_left : (stage : Stage) (xs : List DeviceAnswer) → IsTrue (list_all (may_be_in stage) xs) → IsTrue (some_waits xs)
     → IsTrue (not (all_last xs))
 waits_left stage xs k o =
-    not_all (all_last xs) (some_left waits (stands stage) (λ x w s. waiting_left x.answer w) xs o k)
+    not_all (all_last xs) (some_left waits (may_be_in stage) (λ x w s. waiting_left x.answer w) xs o k)
 
-one_left : (stage : Stage) (xs : List DeviceAnswer) → IsTrue (has_required xs) → IsTrue (list_all (stands stage) xs)
+one_left : (stage : Stage) (xs : List DeviceAnswer) → IsTrue (has_required xs) → IsTrue (list_all (may_be_in stage) xs)
     → IsTrue (is_open stage xs) → IsTrue (not (all_last xs))
 one_left Preparing xs n k o =
-    not_all (all_last xs) (some_left is_required (stands Preparing)
+    not_all (all_last xs) (some_left is_required (may_be_in Preparing)
     (λ x r s. required_left Preparing x.optional x.answer refl r s) xs n k)
 one_left Decided xs n k o = waits_left Decided xs k o
 one_left (Cancelling r) xs n k o = waits_left (Cancelling r) xs k o
@@ -80,21 +80,21 @@ one_left (Cancelling r) xs n k o = waits_left (Cancelling r) xs k o
 -- the rules of one attempt, one by one
 pub record AttemptRules (a : Attempt) : Type 0 where
   pub number : IsTrue (is_number a.seq)
-  pub moment : IsTrue (is_moment a.deadline)
+  pub time : IsTrue (is_time a.deadline)
   pub required : IsTrue (has_required a.answers)
   pub distinct : IsTrue (distinct (devices_of a.answers))
-  pub stand : IsTrue (list_all (stands a.stage) a.answers)
+  pub stand : IsTrue (list_all (may_be_in a.stage) a.answers)
   pub open_one : IsTrue (is_open a.stage a.answers)
 
 pub attempt_rules : (a : Attempt) → IsTrue (is_attempt a) → AttemptRules a
 attempt_rules a h =
     let p = both (is_sound a) (is_open a.stage a.answers) h in
     let q = both (is_number a.seq)
-    (is_moment a.deadline && (have_sound_devices a.answers && list_all (stands a.stage) a.answers)) p.0 in
-    let r = both (is_moment a.deadline) (have_sound_devices a.answers && list_all (stands a.stage) a.answers) q.1 in
-    let t = both (have_sound_devices a.answers) (list_all (stands a.stage) a.answers) r.1 in
+    (is_time a.deadline && (have_sound_devices a.answers && list_all (may_be_in a.stage) a.answers)) p.0 in
+    let r = both (is_time a.deadline) (have_sound_devices a.answers && list_all (may_be_in a.stage) a.answers) q.1 in
+    let t = both (have_sound_devices a.answers) (list_all (may_be_in a.stage) a.answers) r.1 in
     let u = both (has_required a.answers) (distinct (devices_of a.answers)) t.0 in
-    record { number = q.0; moment = r.0; required = u.0; distinct = u.1; stand = t.1; open_one = p.1 }
+    record { number = q.0; time = r.0; required = u.0; distinct = u.1; stand = t.1; open_one = p.1 }
 
 pub sound_of : (s : ShowState) → IsTrue (is_state s) → IsSound s
 sound_of s h =
@@ -105,7 +105,8 @@ sound_of s h =
     record {
       rises = pairwise_from goes_before (λ a b. nat_lt a.seq b.seq) s.live
           (λ a b k. (both (nat_lt a.seq b.seq) (disjoint (devices_of a.answers) (devices_of b.answers)) k).0) t.1;
-      stand = all_from is_attempt (λ a. list_all (stands a.stage) a.answers) s.live (λ a k. (attempt_rules a k).stand)
+      stand = all_from is_attempt (λ a. list_all (may_be_in a.stage) a.answers) s.live
+          (λ a k. (attempt_rules a k).stand)
           t.0;
       within = rules.within;
       left = all_from is_attempt (λ a. not (all_last a.answers)) s.live

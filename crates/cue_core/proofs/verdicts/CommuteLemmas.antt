@@ -1,4 +1,4 @@
--- Replies of two devices to one attempt give the same state in either order.
+-- Answers of two devices to one attempt give the same state in either order.
 use Rattle.std.proofs.Common.{◌≡◌, ◌≢◌, ℕ, List, length, refl, sym, ◌∙◌, ap, subst, Bool, true, false, not, ◌&&◌, inl}
 use Rattle.std.proofs.Common.{inr, nat_eq, nat_le, Option, None, Some}
 use Rattle.std.specs.Prelude.{IsTrue, if◌then◌else◌, option_and_then}
@@ -18,53 +18,55 @@ use Rattle.cue_exchange.specs.Answers.{answers_on_entry, devices_of}
 use Rattle.cue_exchange.specs.Live.{attempt_of, has_number, distinct, are_live, is_attempt, pairwise, goes_before}
 use Rattle.cue_exchange.specs.Steps.{answers_as, moves_to, after_answer, after_move, without_ended}
 use Rattle.cue_core.specs.declared.command.Code.TheVariants as code
-use Rattle.cue_core.specs.declared.command.ReplyKind.{ReplyKind}
+use Rattle.cue_core.specs.declared.command.AnswerKind.{AnswerKind}
 use Rattle.cue_core.specs.State.{ShowState, with_live, is_state, are_tied}
 use Rattle.cue_core.specs.Steps.{after_events, after_last_answer}
-use Rattle.cue_core.specs.Judge.{Judgement, refused_with, on_reply_to, on_reply_in}
-use Rattle.cue_core.specs.Replies.{Said, is_made, is_reply_made, after_reply, RepliesCommute}
+use Rattle.cue_core.specs.Judge.{Judgement, refused_with, on_answer_to, on_answer_in}
+use Rattle.cue_core.specs.Answers.{Said, is_made, is_answer_made, after_said, AnswersCommute}
 use Rattle.cue_core.proofs.lists.ConditionLemmas.{both, same_number, number_sym}
 use Rattle.cue_core.proofs.live.FindingLemmas.{rising, rising-changed, found-changed, found_has}
 use Rattle.cue_core.proofs.live.FindingLemmas.{attempt_of-without_ended, if_open}
 use Rattle.cue_core.proofs.live.ChangeLemmas.{given_number, moved_number, answered_both, moved_excused, moved_over}
 use Rattle.cue_core.proofs.live.ChangeLemmas.{asked_anew, unexcused, settled_open, device_answer-other}
 use Rattle.cue_core.proofs.live.ChangeLemmas.{device_answer-entered, waiting_some}
-use Rattle.cue_core.proofs.verdicts.CellLemmas.{comes, comes_made, reply_of, device_found, cell_at, Falls, falls, Ends}
-use Rattle.cue_core.proofs.verdicts.CellLemmas.{ends, anew, Stays, Readies, Excuses, Aborts, Prepares, ready_stays}
+use Rattle.cue_core.proofs.verdicts.CellLemmas.{comes, comes_made, answer_judged, device_found, cell_at, Falls, falls}
+use Rattle.cue_core.proofs.verdicts.CellLemmas.{Ends}
+use Rattle.cue_core.proofs.verdicts.CellLemmas.{ends, asked_again, Stays, Readies, Excuses, Aborts, Prepares}
+use Rattle.cue_core.proofs.verdicts.CellLemmas.{ready_stays}
 use Rattle.cue_core.proofs.verdicts.CellLemmas.{excused_stays, prepares}
 use Rattle.cue_core.proofs.rules.RuleLemmas.{rules_of}
 use Rattle.cue_core.proofs.rules.SoundLemmas.{attempt_rules, sound_of}
 
-abbrev says : ℕ → ReplyKind → ℕ → ℕ → Said
+abbrev says : ℕ → AnswerKind → ℕ → ℕ → Said
 says from kind d q = record { from = from; kind = kind; device = d; number = q }
 
--- a reply to q that is judged by the table: the device is one of the attempt
+-- an answer to q that is judged by the table: the device is one of the attempt
 pub record Heard (s : ShowState) (q : ℕ) (a : Attempt) : Type 0 where
   pub from : ℕ
-  pub kind : ReplyKind
+  pub kind : AnswerKind
   pub given : DeviceAnswer
   pub comes : IsTrue (comes s (says from kind given.device q))
   pub answered : device_answer a.answers given.device ≡ Some given
 
 module _ (s : ShowState) (q : ℕ) (a : Attempt) (rises : IsTrue (rising s.live))
     (apart : IsTrue (distinct (devices_of a.answers))) (here : attempt_of s.live q ≡ Some a) where
-  -- what the reply says
+  -- what the answer says
   abbrev said : Heard s q a → Said
   said r = says r.from r.kind r.given.device q
 
-  -- the state after the reply
+  -- the state after the answer
   abbrev heard : ShowState → Heard s q a → ShowState
-  heard z r = after_reply z (said r)
+  heard z r = after_said z (said r)
 
-  -- the cell of the reply
+  -- the cell of the answer
   abbrev cell : Heard s q a → Judgement
-  cell r = on_reply_in r.kind q r.given a.stage r.given.answer
+  cell r = on_answer_in r.kind q r.given a.stage r.given.answer
 
-  -- the devices of the two replies differ
+  -- the devices of the two answers differ
   abbrev Differ : Heard s q a → Heard s q a → Type 0
   Differ r t = nat_eq r.given.device t.given.device ≡ false
 
-  -- what the reply makes
+  -- what the answer makes
   abbrev Closes : Heard s q a → Type 0
   Closes r = Ends q r.given r.given.answer (cell r)
 
@@ -89,21 +91,21 @@ module _ (s : ShowState) (q : ℕ) (a : Attempt) (rises : IsTrue (rising s.live)
 
   second_is : (r : Heard s q a) (l : List Attempt) (b : Attempt) (x : DeviceAnswer) → attempt_of l q ≡ Some b
       → device_answer b.answers r.given.device ≡ Some x
-      → heard (with_live s l) r ≡ after_events (with_live s l) (on_reply_in r.kind q x b.stage x.answer).1
+      → heard (with_live s l) r ≡ after_events (with_live s l) (on_answer_in r.kind q x b.stage x.answer).1
   second_is r l b x e g = ap (λ (j : Judgement). after_events (with_live s l) j.1)
       (cell_at (with_live s l) (said r) b x r.comes e g)
 
-  -- the attempt, once the device of a reply has answered
+  -- the attempt, once the device of an answer has answered
   answered_here : (r : Heard s q a) (x : Answer)
       → attempt_of (after_answer q r.given.device x s.live) q ≡ Some (answers_as r.given.device x a)
   answered_here r x = found-changed q (answers_as r.given.device x) (given_number r.given.device x) s.live a here
 
-  -- the device of the other reply is as it was
+  -- the device of the other answer is as it was
   other_answered : (r t : Heard s q a) (x : Answer) → Differ r t
       → device_answer (with_answer r.given.device x a.answers) t.given.device ≡ Some t.given
   other_answered r t x n = device_answer-other r.given.device t.given.device x a.answers n ∙ t.answered
 
-  -- the first reply, and then the second, where both are last answers
+  -- the first answer, and then the second, where both are last answers
   ends_then : (r t : Heard s q a) → Differ r t → (u : Closes r) (v : Closes t)
       → heard (heard s r) t ≡ after_last_answer s q
       (after_answer q t.given.device v.last (after_answer q r.given.device u.last s.live))
@@ -139,7 +141,7 @@ module _ (s : ShowState) (q : ℕ) (a : Attempt) (rises : IsTrue (rising s.live)
       ∙ (second_is t l (answers_as r.given.device u.last a) t.given (answered_here r u.last)
       (other_answered r t u.last n) ∙ v.makes (with_live s l))
 
-  -- the attempt as it is given up, and the device of a reply has failed
+  -- the attempt as it is given up, and the device of an answer has failed
   abbrev failed_one : Heard s q a → Attempt
   failed_one r = answers_as r.given.device answer.Failed (moves_to (Cancelling Abort) a)
 
@@ -164,47 +166,48 @@ module _ (s : ShowState) (q : ℕ) (a : Attempt) (rises : IsTrue (rising s.live)
       ∙ ap (λ o. option_and_then if_open o) (failed_here r) in
       ap (λ z. heard z t) (first_is r ∙ u.makes s)
       ∙ (ap (λ (j : Judgement). after_events (after_last_answer s q (failed_all r)) j.1)
-      (reply_of (after_last_answer s q (failed_all r)) (said t) (if_open (failed_one r)) t.comes gone)
+      (answer_judged (after_last_answer s q (failed_all r)) (said t) (if_open (failed_one r)) t.comes gone)
       ∙ at (failed_all r) (failed_one r) refl (some_waits (failed_one r).answers))
     where
       told : (l : List Attempt) (b : Attempt) (o : Option DeviceAnswer)
           → after_events (after_last_answer s q l)
-          (option_map_or (λ w. on_reply_in t.kind b.seq w (Cancelling Abort) w.answer) o (refused_with code.NotPart)).1
+          (option_map_or (λ w. on_answer_in t.kind b.seq w (Cancelling Abort) w.answer) o (refused_with code.NotPart)).1
           ≡ after_last_answer s q l
       told l b None = refl
       told l b (Some z) = v.late (after_last_answer s q l) b.seq z
 
       staged : (l : List Attempt) (b : Attempt) → b.stage ≡ Cancelling Abort
-          → after_events (after_last_answer s q l) (on_reply_to t.kind t.given.device b).1 ≡ after_last_answer s q l
+          → after_events (after_last_answer s q l) (on_answer_to t.kind t.given.device b).1 ≡ after_last_answer s q l
       staged l b p = ap (λ (stage : Stage). after_events (after_last_answer s q l)
-          (option_map_or (λ w. on_reply_in t.kind b.seq w stage w.answer) (device_answer b.answers t.given.device)
+          (option_map_or (λ w. on_answer_in t.kind b.seq w stage w.answer) (device_answer b.answers t.given.device)
           (refused_with code.NotPart)).1) p ∙ told l b (device_answer b.answers t.given.device)
 
       at : (l : List Attempt) (b : Attempt) → b.stage ≡ Cancelling Abort → (w : Bool)
           → after_events (after_last_answer s q l)
-          (option_map_or (on_reply_to t.kind t.given.device) (if w then Some b else None) (refused_with code.Stale)).1
+          (option_map_or (on_answer_to t.kind t.given.device) (if w then Some b else None) (refused_with code.Stale)).1
           ≡ after_last_answer s q l
       at l b p true = staged l b p
       at l b p false = refl
 
   -- where the first aborts, and the second is the device's last answer
   abort_then : (r t : Heard s q a) → Differ r t → GivesUp r → IsTrue (not (is_excused t.given.answer))
-      → (v : Ends q t.given answer.Waiting (on_reply_in t.kind q (anew t.given) (Cancelling Abort) answer.Waiting))
+      → (v : Ends q t.given answer.Waiting (on_answer_in t.kind q
+      (asked_again t.given) (Cancelling Abort) answer.Waiting))
       → heard (heard s r) t ≡ after_last_answer s q (after_answer q t.given.device v.last (failed_all r))
   abort_then r t n u k v =
       let e : ℕ = t.given.device in
       let l : List Attempt = failed_all r in
       let b : Attempt = failed_one r in
-      let fresh : enters (Cancelling Abort) t.given ≡ anew t.given =
+      let fresh : enters (Cancelling Abort) t.given ≡ asked_again t.given =
       ap (λ (x : Answer). record t.given { answer = x }) (asked_anew (Cancelling Abort) t.given.answer k) in
-      let gb : device_answer b.answers e ≡ Some (anew t.given) =
+      let gb : device_answer b.answers e ≡ Some (asked_again t.given) =
       device_answer-other r.given.device e answer.Failed (answers_on_entry (Cancelling Abort) a.answers) n
       ∙ (device_answer-entered (Cancelling Abort) e t.given a.answers t.answered
       ∙ ap (λ (x : DeviceAnswer). Some x) fresh) in
       let first : heard s r ≡ with_live s l = first_is r
       ∙ (u.makes s ∙ settled_open s q l b (failed_rise r) (failed_here r)
-      (waiting_some e (anew t.given) b.answers gb refl)) in
-      ap (λ z. heard z t) first ∙ (second_is t l b (anew t.given) (failed_here r) gb ∙ v.makes (with_live s l))
+      (waiting_some e (asked_again t.given) b.answers gb refl)) in
+      ap (λ z. heard z t) first ∙ (second_is t l b (asked_again t.given) (failed_here r) gb ∙ v.makes (with_live s l))
 
   -- ---- either order
 
@@ -288,10 +291,10 @@ apart_in s q a h e =
     in
     (attempt_rules a (found_has is_attempt (has_number q) s.live a each e)).distinct
 
--- the two replies name one attempt
-one_number : (s : ShowState) (f g : ℕ) (k m : ReplyKind) (d e q : ℕ) → IsTrue (is_state s) → d ≢ e
-    → IsTrue (is_reply_made s (says f k d q)) → IsTrue (is_reply_made s (says g m e q))
-    → after_reply (after_reply s (says f k d q)) (says g m e q) ≡ after_reply (after_reply s (says g m e q))
+-- the two answers name one attempt
+one_number : (s : ShowState) (f g : ℕ) (k m : AnswerKind) (d e q : ℕ) → IsTrue (is_state s) → d ≢ e
+    → IsTrue (is_answer_made s (says f k d q)) → IsTrue (is_answer_made s (says g m e q))
+    → after_said (after_said s (says f k d q)) (says g m e q) ≡ after_said (after_said s (says g m e q))
     (says f k d q)
 one_number s f g k m d e q h n hr ht =
     let r : Said = says f k d q in
@@ -328,22 +331,22 @@ one_number s f g k m d e q h n hr ht =
     let apart : nat_eq u.given.device v.given.device ≡ false = ap (λ (c : ℕ). nat_eq c v.given.device) pd
     ∙ (ap (λ (c : ℕ). nat_eq d c) pe ∙ unlike d e n) in
     let apart_too : nat_eq v.given.device u.given.device ≡ false = number_sym v.given.device u.given.device ∙ apart in
-    let both_ways : after_reply (after_reply s (says f k u.given.device q)) (says g m v.given.device q) ≡ after_reply
-    (after_reply s (says g m v.given.device q)) (says f k u.given.device q) =
+    let both_ways : after_said (after_said s (says f k u.given.device q)) (says g m v.given.device q) ≡ after_said
+    (after_said s (says g m v.given.device q)) (says f k u.given.device q) =
     either_order s q a (sound_of s h).rises (apart_in s q a h u.found) u.found x y apart apart_too
     (subst made_here (cell_at s r a u.given cr u.found u.answered) hr)
     (subst made_here (cell_at s t a v.given ct u.found ge) ht) in
-    subst (λ (c : ℕ). after_reply (after_reply s (says f k d q)) (says g m c q) ≡ after_reply
-    (after_reply s (says g m c q)) (says f k d q)) pe
-    (subst (λ (c : ℕ). after_reply (after_reply s (says f k c q)) (says g m v.given.device q) ≡ after_reply
-    (after_reply s (says g m v.given.device q)) (says f k c q)) pd both_ways)
+    subst (λ (c : ℕ). after_said (after_said s (says f k d q)) (says g m c q) ≡ after_said
+    (after_said s (says g m c q)) (says f k d q)) pe
+    (subst (λ (c : ℕ). after_said (after_said s (says f k c q)) (says g m v.given.device q) ≡ after_said
+    (after_said s (says g m v.given.device q)) (says f k c q)) pd both_ways)
   where
     some_same : (x y : Attempt) → Some x ≡ Some y → x ≡ y
     some_same x y p = cc
 
-pub replies-commute : RepliesCommute
-replies-commute s r t h same n hr ht =
-    let P : ℕ → Type 0 = λ q. IsTrue (is_reply_made s (says t.from t.kind t.device q))
-    → after_reply (after_reply s r) (says t.from t.kind t.device q) ≡ after_reply
-    (after_reply s (says t.from t.kind t.device q)) r in
+pub answers-commute : AnswersCommute
+answers-commute s r t h same n hr ht =
+    let P : ℕ → Type 0 = λ q. IsTrue (is_answer_made s (says t.from t.kind t.device q))
+    → after_said (after_said s r) (says t.from t.kind t.device q) ≡ after_said
+    (after_said s (says t.from t.kind t.device q)) r in
     subst P same (one_number s r.from t.from r.kind t.kind r.device t.device r.number h n hr) ht

@@ -15,12 +15,12 @@ use Rattle.cue_core.specs.declared.event.Event.TheVariants as event
 use Rattle.cue_core.specs.declared.command.Code.{Code}
 use Rattle.cue_core.specs.declared.command.Command.{Command}
 use Rattle.cue_core.specs.declared.command.Command.TheVariants as command
-use Rattle.cue_core.specs.declared.command.ReplyKind.{ReplyKind}
-use Rattle.cue_core.specs.declared.command.ReplyKind.TheVariants as reply
+use Rattle.cue_core.specs.declared.command.AnswerKind.{AnswerKind}
+use Rattle.cue_core.specs.declared.command.AnswerKind.TheVariants as answer_kind
 use Rattle.cue_core.specs.declared.command.Verdict.TheVariants.{Made, Known, No}
 use Rattle.cue_core.specs.State.{ShowState}
-use Rattle.cue_core.specs.Judge.{Judgement, judgement_of, made_by, abort_early, abort_late, release_early, on_reply_in}
-use Rattle.cue_core.specs.Judge.{on_reply_to, on_release_in, on_release_of}
+use Rattle.cue_core.specs.Judge.{Judgement, judgement_of, made_by, abort_early, abort_late, release_early, on_answer_in}
+use Rattle.cue_core.specs.Judge.{on_answer_to, on_release_in, on_release_of}
 
 pub record HasItsEvents (j : Judgement) : Type 0 where
   pub few : length j.1 ≤ 2
@@ -48,7 +48,7 @@ two : {e f : Event} → HasItsEvents (Made, e ∷ f ∷ [])
 two = record { few = omega arith; made = (λ h k. cc, λ h. refl) }
 
 standing_by-has : (q : ℕ) (d : DeviceAnswer) (g : Stage) (x : Answer)
-    → HasItsEvents (on_reply_in reply.StandingBy q d g x)
+    → HasItsEvents (on_answer_in answer_kind.StandingBy q d g x)
 standing_by-has q d Preparing answer.Waiting = one
 standing_by-has q d Preparing answer.Ready = none-known
 standing_by-has q d Preparing answer.Done = none-known
@@ -68,7 +68,8 @@ standing_by-has q d (Cancelling r) answer.LetGo = none-refused
 standing_by-has q d (Cancelling r) answer.Failed = none-refused
 standing_by-has q d (Cancelling r) answer.Excused = none-refused
 
-complete-has : (q : ℕ) (d : DeviceAnswer) (g : Stage) (x : Answer) → HasItsEvents (on_reply_in reply.Complete q d g x)
+complete-has : (q : ℕ) (d : DeviceAnswer) (g : Stage) (x : Answer)
+    → HasItsEvents (on_answer_in answer_kind.Complete q d g x)
 complete-has q d Preparing answer.Waiting = none-refused
 complete-has q d Preparing answer.Ready = none-refused
 complete-has q d Preparing answer.Done = none-refused
@@ -88,7 +89,8 @@ complete-has q d (Cancelling r) answer.LetGo = none-refused
 complete-has q d (Cancelling r) answer.Failed = none-refused
 complete-has q d (Cancelling r) answer.Excused = none-refused
 
-cancelled-has : (q : ℕ) (d : DeviceAnswer) (g : Stage) (x : Answer) → HasItsEvents (on_reply_in reply.Cancelled q d g x)
+cancelled-has : (q : ℕ) (d : DeviceAnswer) (g : Stage) (x : Answer)
+    → HasItsEvents (on_answer_in answer_kind.Cancelled q d g x)
 cancelled-has q d Preparing answer.Waiting = none-refused
 cancelled-has q d Preparing answer.Ready = none-refused
 cancelled-has q d Preparing answer.Done = none-refused
@@ -117,7 +119,7 @@ abort_late-has q d = if-has d.optional (made_by (event.LetGo q d.device ∷ []))
     one
     one
 
-abort-has : (q : ℕ) (d : DeviceAnswer) (g : Stage) (x : Answer) → HasItsEvents (on_reply_in reply.Abort q d g x)
+abort-has : (q : ℕ) (d : DeviceAnswer) (g : Stage) (x : Answer) → HasItsEvents (on_answer_in answer_kind.Abort q d g x)
 abort-has q d Preparing answer.Waiting = abort_early-has q d
 abort-has q d Preparing answer.Ready = abort_early-has q d
 abort-has q d Preparing answer.Done = abort_early-has q d
@@ -161,16 +163,16 @@ release_in-has q d (Cancelling r) answer.LetGo = none-known
 release_in-has q d (Cancelling r) answer.Failed = none-known
 release_in-has q d (Cancelling r) answer.Excused = none-known
 
-reply-has : (kind : ReplyKind) (q : ℕ) (d : DeviceAnswer) (g : Stage) (x : Answer)
-    → HasItsEvents (on_reply_in kind q d g x)
-reply-has reply.StandingBy q d g x = standing_by-has q d g x
-reply-has reply.Complete q d g x = complete-has q d g x
-reply-has reply.Cancelled q d g x = cancelled-has q d g x
-reply-has reply.Abort q d g x = abort-has q d g x
+answer-has : (kind : AnswerKind) (q : ℕ) (d : DeviceAnswer) (g : Stage) (x : Answer)
+    → HasItsEvents (on_answer_in kind q d g x)
+answer-has answer_kind.StandingBy q d g x = standing_by-has q d g x
+answer-has answer_kind.Complete q d g x = complete-has q d g x
+answer-has answer_kind.Cancelled q d g x = cancelled-has q d g x
+answer-has answer_kind.Abort q d g x = abort-has q d g x
 
-reply_to-has : (kind : ReplyKind) (d : ℕ) (a : Attempt) → HasItsEvents (on_reply_to kind d a)
-reply_to-has kind d a = or-has (λ x. on_reply_in kind a.seq x a.stage x.answer) (device_answer a.answers d) _
-    (λ x. reply-has kind a.seq x a.stage x.answer) none-refused
+answer_to-has : (kind : AnswerKind) (d : ℕ) (a : Attempt) → HasItsEvents (on_answer_to kind d a)
+answer_to-has kind d a = or-has (λ x. on_answer_in kind a.seq x a.stage x.answer) (device_answer a.answers d) _
+    (λ x. answer-has kind a.seq x a.stage x.answer) none-refused
 
 release_of-has : (d : ℕ) (a : Attempt) → HasItsEvents (on_release_of d a)
 release_of-has d a = or-has (λ x. on_release_in a.seq x a.stage x.answer) (device_answer a.answers d) _
@@ -186,7 +188,7 @@ judgement_of-has s now from (command.Go c) = search (if-has, or-has, none-known,
 judgement_of-has s now from (command.Cancel c) = search (if-has, or-has, none-known, none-refused, one, two)
 judgement_of-has s now from (command.Goto c) = search (if-has, or-has, none-known, none-refused, one, two)
 judgement_of-has s now from (command.RemoveCue c) = search (if-has, or-has, none-known, none-refused, one, two)
-judgement_of-has s now from (command.Reply k d q) = search (if-has, or-has, none-known, none-refused, reply_to-has)
+judgement_of-has s now from (command.Reply k d q) = search (if-has, or-has, none-known, none-refused, answer_to-has)
     depth 12
 judgement_of-has s now from (command.Release d) = search (if-has, or-has, none-known, none-refused, release_of-has)
     depth 12

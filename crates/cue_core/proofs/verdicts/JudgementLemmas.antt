@@ -13,7 +13,7 @@ use Rattle.cue_exchange.specs.declared.attempt.Stage.TheVariants.{Preparing, Dec
 use Rattle.cue_exchange.specs.declared.attempt.DeviceAnswer.{DeviceAnswer}
 use Rattle.cue_exchange.specs.declared.attempt.Attempt.{Attempt}
 use Rattle.cue_exchange.specs.Answers.{is_waiting, is_preparing, is_decided, is_cancelling, is_concluding, is_ready}
-use Rattle.cue_exchange.specs.Answers.{is_excused, is_excusable, is_known_in, can_be_excused, is_required, stands}
+use Rattle.cue_exchange.specs.Answers.{is_excused, is_excusable, is_known_in, can_be_excused, is_required, may_be_in}
 use Rattle.cue_exchange.specs.Answers.{entering, answers_on_entry, answer_of, device_answer, answer_passes}
 use Rattle.cue_exchange.specs.Live.{attempt_of, attempt_of_cue, attempt_of_device, has_number}
 use Rattle.cue_exchange.specs.Live.{has_device as is_of_device, has_cue as is_of_cue, is_attempt}
@@ -22,8 +22,8 @@ use Rattle.cue_exchange.proofs.AnswerLemmas.{is_waiting-entering}
 use Rattle.cue_exchange.proofs.LiveLemmas.{attempts_of, is_sound-of_attempt, sound_of}
 use Rattle.cue_core.specs.declared.event.Event.{Event}
 use Rattle.cue_core.specs.declared.event.Event.TheVariants as event
-use Rattle.cue_core.specs.declared.command.ReplyKind.{ReplyKind}
-use Rattle.cue_core.specs.declared.command.ReplyKind.TheVariants as reply
+use Rattle.cue_core.specs.declared.command.AnswerKind.{AnswerKind}
+use Rattle.cue_core.specs.declared.command.AnswerKind.TheVariants as answer_kind
 use Rattle.cue_core.specs.declared.command.Code.TheVariants as code
 use Rattle.cue_core.specs.declared.command.Command.{Command}
 use Rattle.cue_core.specs.declared.command.Command.TheVariants as command
@@ -32,7 +32,7 @@ use Rattle.cue_core.specs.Steps.{acceptable, after, are_acceptable}
 use Rattle.cue_core.specs.Judge.{made_by, known_already, refused_with, judgement_of, is_fit, on_go, on_go_of, on_cancel}
 use Rattle.cue_core.specs.Judge.{on_cancel_of}
 use Rattle.cue_core.specs.Judge.{on_release, on_release_of, on_release_in, release_early, abort_early, abort_late}
-use Rattle.cue_core.specs.Judge.{on_reply, on_reply_to, on_reply_in, is_from_another}
+use Rattle.cue_core.specs.Judge.{on_answer, on_answer_to, on_answer_in, is_from_another}
 use Rattle.cue_core.proofs.lists.ConditionLemmas.{both, join, same_number, same_self}
 use Rattle.cue_core.proofs.live.FindingLemmas.{found_has, found_passes}
 use Rattle.cue_core.proofs.rules.RuleLemmas.{Rules, rules_of}
@@ -162,7 +162,7 @@ cancelled_then s t a r d x stage e p m n k = (
       (asked_anew (Cancelling r) d x a.answers m n)),
 )
 
--- ---- replies and release
+-- ---- answers and release
 
 -- the device is one of the attempt, and its answer passes the tests that it passes
 answer_told : (d : ℕ) (xs : List DeviceAnswer) (x : Answer) → answer_of xs d ≡ Some x → (test : Answer → Bool)
@@ -278,84 +278,84 @@ module _ (s : ShowState) (t : Attempt → Bool) (a : Attempt) (w : DeviceAnswer)
   release_in_fits (Cancelling r) answer.Failed f g k = refl
   release_in_fits (Cancelling r) answer.Excused f g k = refl
 
-  reply_in_fits : (kind : ReplyKind) (stage : Stage) (x : Answer) → a.stage ≡ stage → Told a w x
-      → IsTrue (is_known_in stage x) → IsTrue (are_acceptable s (on_reply_in kind a.seq w stage x).1)
-  reply_in_fits reply.StandingBy Preparing answer.Waiting f g k =
+  answer_in_fits : (kind : AnswerKind) (stage : Stage) (x : Answer) → a.stage ≡ stage → Told a w x
+      → IsTrue (is_known_in stage x) → IsTrue (are_acceptable s (on_answer_in kind a.seq w stage x).1)
+  answer_in_fits answer_kind.StandingBy Preparing answer.Waiting f g k =
       one s (event.Ready a.seq w.device) (waits_fits Preparing is_preparing answer.Waiting f g refl refl)
-  reply_in_fits reply.StandingBy Preparing answer.Ready f g k = refl
-  reply_in_fits reply.StandingBy Preparing answer.Done f g k = refl
-  reply_in_fits reply.StandingBy Preparing answer.LetGo f g k = refl
-  reply_in_fits reply.StandingBy Preparing answer.Failed f g k = refl
-  reply_in_fits reply.StandingBy Preparing answer.Excused f g k = refl
-  reply_in_fits reply.StandingBy Decided answer.Waiting f g k = refl
-  reply_in_fits reply.StandingBy Decided answer.Ready f g k = refl
-  reply_in_fits reply.StandingBy Decided answer.Done f g k = refl
-  reply_in_fits reply.StandingBy Decided answer.LetGo f g k = refl
-  reply_in_fits reply.StandingBy Decided answer.Failed f g k = refl
-  reply_in_fits reply.StandingBy Decided answer.Excused f g k = refl
-  reply_in_fits reply.StandingBy (Cancelling r) answer.Waiting f g k = refl
-  reply_in_fits reply.StandingBy (Cancelling r) answer.Ready f g k = refl
-  reply_in_fits reply.StandingBy (Cancelling r) answer.Done f g k = refl
-  reply_in_fits reply.StandingBy (Cancelling r) answer.LetGo f g k = refl
-  reply_in_fits reply.StandingBy (Cancelling r) answer.Failed f g k = refl
-  reply_in_fits reply.StandingBy (Cancelling r) answer.Excused f g k = refl
-  reply_in_fits reply.Complete Preparing answer.Waiting f g k = refl
-  reply_in_fits reply.Complete Preparing answer.Ready f g k = refl
-  reply_in_fits reply.Complete Preparing answer.Done f g k = refl
-  reply_in_fits reply.Complete Preparing answer.LetGo f g k = refl
-  reply_in_fits reply.Complete Preparing answer.Failed f g k = refl
-  reply_in_fits reply.Complete Preparing answer.Excused f g k = refl
-  reply_in_fits reply.Complete Decided answer.Waiting f g k =
+  answer_in_fits answer_kind.StandingBy Preparing answer.Ready f g k = refl
+  answer_in_fits answer_kind.StandingBy Preparing answer.Done f g k = refl
+  answer_in_fits answer_kind.StandingBy Preparing answer.LetGo f g k = refl
+  answer_in_fits answer_kind.StandingBy Preparing answer.Failed f g k = refl
+  answer_in_fits answer_kind.StandingBy Preparing answer.Excused f g k = refl
+  answer_in_fits answer_kind.StandingBy Decided answer.Waiting f g k = refl
+  answer_in_fits answer_kind.StandingBy Decided answer.Ready f g k = refl
+  answer_in_fits answer_kind.StandingBy Decided answer.Done f g k = refl
+  answer_in_fits answer_kind.StandingBy Decided answer.LetGo f g k = refl
+  answer_in_fits answer_kind.StandingBy Decided answer.Failed f g k = refl
+  answer_in_fits answer_kind.StandingBy Decided answer.Excused f g k = refl
+  answer_in_fits answer_kind.StandingBy (Cancelling r) answer.Waiting f g k = refl
+  answer_in_fits answer_kind.StandingBy (Cancelling r) answer.Ready f g k = refl
+  answer_in_fits answer_kind.StandingBy (Cancelling r) answer.Done f g k = refl
+  answer_in_fits answer_kind.StandingBy (Cancelling r) answer.LetGo f g k = refl
+  answer_in_fits answer_kind.StandingBy (Cancelling r) answer.Failed f g k = refl
+  answer_in_fits answer_kind.StandingBy (Cancelling r) answer.Excused f g k = refl
+  answer_in_fits answer_kind.Complete Preparing answer.Waiting f g k = refl
+  answer_in_fits answer_kind.Complete Preparing answer.Ready f g k = refl
+  answer_in_fits answer_kind.Complete Preparing answer.Done f g k = refl
+  answer_in_fits answer_kind.Complete Preparing answer.LetGo f g k = refl
+  answer_in_fits answer_kind.Complete Preparing answer.Failed f g k = refl
+  answer_in_fits answer_kind.Complete Preparing answer.Excused f g k = refl
+  answer_in_fits answer_kind.Complete Decided answer.Waiting f g k =
       one s (event.Done a.seq w.device) (waits_fits Decided is_decided answer.Waiting f g refl refl)
-  reply_in_fits reply.Complete Decided answer.Ready f g k = refl
-  reply_in_fits reply.Complete Decided answer.Done f g k = refl
-  reply_in_fits reply.Complete Decided answer.LetGo f g k = refl
-  reply_in_fits reply.Complete Decided answer.Failed f g k = refl
-  reply_in_fits reply.Complete Decided answer.Excused f g k = refl
-  reply_in_fits reply.Complete (Cancelling r) answer.Waiting f g k = refl
-  reply_in_fits reply.Complete (Cancelling r) answer.Ready f g k = refl
-  reply_in_fits reply.Complete (Cancelling r) answer.Done f g k = refl
-  reply_in_fits reply.Complete (Cancelling r) answer.LetGo f g k = refl
-  reply_in_fits reply.Complete (Cancelling r) answer.Failed f g k = refl
-  reply_in_fits reply.Complete (Cancelling r) answer.Excused f g k = refl
-  reply_in_fits reply.Cancelled Preparing answer.Waiting f g k = refl
-  reply_in_fits reply.Cancelled Preparing answer.Ready f g k = refl
-  reply_in_fits reply.Cancelled Preparing answer.Done f g k = refl
-  reply_in_fits reply.Cancelled Preparing answer.LetGo f g k = refl
-  reply_in_fits reply.Cancelled Preparing answer.Failed f g k = refl
-  reply_in_fits reply.Cancelled Preparing answer.Excused f g k = refl
-  reply_in_fits reply.Cancelled Decided answer.Waiting f g k = refl
-  reply_in_fits reply.Cancelled Decided answer.Ready f g k = refl
-  reply_in_fits reply.Cancelled Decided answer.Done f g k = refl
-  reply_in_fits reply.Cancelled Decided answer.LetGo f g k = refl
-  reply_in_fits reply.Cancelled Decided answer.Failed f g k = refl
-  reply_in_fits reply.Cancelled Decided answer.Excused f g k = refl
-  reply_in_fits reply.Cancelled (Cancelling r) answer.Waiting f g k =
+  answer_in_fits answer_kind.Complete Decided answer.Ready f g k = refl
+  answer_in_fits answer_kind.Complete Decided answer.Done f g k = refl
+  answer_in_fits answer_kind.Complete Decided answer.LetGo f g k = refl
+  answer_in_fits answer_kind.Complete Decided answer.Failed f g k = refl
+  answer_in_fits answer_kind.Complete Decided answer.Excused f g k = refl
+  answer_in_fits answer_kind.Complete (Cancelling r) answer.Waiting f g k = refl
+  answer_in_fits answer_kind.Complete (Cancelling r) answer.Ready f g k = refl
+  answer_in_fits answer_kind.Complete (Cancelling r) answer.Done f g k = refl
+  answer_in_fits answer_kind.Complete (Cancelling r) answer.LetGo f g k = refl
+  answer_in_fits answer_kind.Complete (Cancelling r) answer.Failed f g k = refl
+  answer_in_fits answer_kind.Complete (Cancelling r) answer.Excused f g k = refl
+  answer_in_fits answer_kind.Cancelled Preparing answer.Waiting f g k = refl
+  answer_in_fits answer_kind.Cancelled Preparing answer.Ready f g k = refl
+  answer_in_fits answer_kind.Cancelled Preparing answer.Done f g k = refl
+  answer_in_fits answer_kind.Cancelled Preparing answer.LetGo f g k = refl
+  answer_in_fits answer_kind.Cancelled Preparing answer.Failed f g k = refl
+  answer_in_fits answer_kind.Cancelled Preparing answer.Excused f g k = refl
+  answer_in_fits answer_kind.Cancelled Decided answer.Waiting f g k = refl
+  answer_in_fits answer_kind.Cancelled Decided answer.Ready f g k = refl
+  answer_in_fits answer_kind.Cancelled Decided answer.Done f g k = refl
+  answer_in_fits answer_kind.Cancelled Decided answer.LetGo f g k = refl
+  answer_in_fits answer_kind.Cancelled Decided answer.Failed f g k = refl
+  answer_in_fits answer_kind.Cancelled Decided answer.Excused f g k = refl
+  answer_in_fits answer_kind.Cancelled (Cancelling r) answer.Waiting f g k =
       one s (event.LetGo a.seq w.device) (waits_fits (Cancelling r) is_cancelling answer.Waiting f g refl refl)
-  reply_in_fits reply.Cancelled (Cancelling r) answer.Ready f g k = refl
-  reply_in_fits reply.Cancelled (Cancelling r) answer.Done f g k = refl
-  reply_in_fits reply.Cancelled (Cancelling r) answer.LetGo f g k = refl
-  reply_in_fits reply.Cancelled (Cancelling r) answer.Failed f g k = refl
-  reply_in_fits reply.Cancelled (Cancelling r) answer.Excused f g k = refl
-  reply_in_fits reply.Abort Preparing answer.Waiting f g k = abort_early_fits answer.Waiting f g refl refl
-  reply_in_fits reply.Abort Preparing answer.Ready f g k = abort_early_fits answer.Ready f g refl refl
-  reply_in_fits reply.Abort Preparing answer.Done f g k = absurd (true≢false (sym k))
-  reply_in_fits reply.Abort Preparing answer.LetGo f g k = absurd (true≢false (sym k))
-  reply_in_fits reply.Abort Preparing answer.Failed f g k = absurd (true≢false (sym k))
-  reply_in_fits reply.Abort Preparing answer.Excused f g k = refl
-  reply_in_fits reply.Abort Decided answer.Waiting f g k =
+  answer_in_fits answer_kind.Cancelled (Cancelling r) answer.Ready f g k = refl
+  answer_in_fits answer_kind.Cancelled (Cancelling r) answer.Done f g k = refl
+  answer_in_fits answer_kind.Cancelled (Cancelling r) answer.LetGo f g k = refl
+  answer_in_fits answer_kind.Cancelled (Cancelling r) answer.Failed f g k = refl
+  answer_in_fits answer_kind.Cancelled (Cancelling r) answer.Excused f g k = refl
+  answer_in_fits answer_kind.Abort Preparing answer.Waiting f g k = abort_early_fits answer.Waiting f g refl refl
+  answer_in_fits answer_kind.Abort Preparing answer.Ready f g k = abort_early_fits answer.Ready f g refl refl
+  answer_in_fits answer_kind.Abort Preparing answer.Done f g k = absurd (true≢false (sym k))
+  answer_in_fits answer_kind.Abort Preparing answer.LetGo f g k = absurd (true≢false (sym k))
+  answer_in_fits answer_kind.Abort Preparing answer.Failed f g k = absurd (true≢false (sym k))
+  answer_in_fits answer_kind.Abort Preparing answer.Excused f g k = refl
+  answer_in_fits answer_kind.Abort Decided answer.Waiting f g k =
       one s (event.Failed a.seq w.device) (waits_fits Decided is_concluding answer.Waiting f g refl refl)
-  reply_in_fits reply.Abort Decided answer.Ready f g k = refl
-  reply_in_fits reply.Abort Decided answer.Done f g k = refl
-  reply_in_fits reply.Abort Decided answer.LetGo f g k = refl
-  reply_in_fits reply.Abort Decided answer.Failed f g k = refl
-  reply_in_fits reply.Abort Decided answer.Excused f g k = refl
-  reply_in_fits reply.Abort (Cancelling r) answer.Waiting f g k = abort_late_fits r f g
-  reply_in_fits reply.Abort (Cancelling r) answer.Ready f g k = refl
-  reply_in_fits reply.Abort (Cancelling r) answer.Done f g k = refl
-  reply_in_fits reply.Abort (Cancelling r) answer.LetGo f g k = refl
-  reply_in_fits reply.Abort (Cancelling r) answer.Failed f g k = refl
-  reply_in_fits reply.Abort (Cancelling r) answer.Excused f g k = refl
+  answer_in_fits answer_kind.Abort Decided answer.Ready f g k = refl
+  answer_in_fits answer_kind.Abort Decided answer.Done f g k = refl
+  answer_in_fits answer_kind.Abort Decided answer.LetGo f g k = refl
+  answer_in_fits answer_kind.Abort Decided answer.Failed f g k = refl
+  answer_in_fits answer_kind.Abort Decided answer.Excused f g k = refl
+  answer_in_fits answer_kind.Abort (Cancelling r) answer.Waiting f g k = abort_late_fits r f g
+  answer_in_fits answer_kind.Abort (Cancelling r) answer.Ready f g k = refl
+  answer_in_fits answer_kind.Abort (Cancelling r) answer.Done f g k = refl
+  answer_in_fits answer_kind.Abort (Cancelling r) answer.LetGo f g k = refl
+  answer_in_fits answer_kind.Abort (Cancelling r) answer.Failed f g k = refl
+  answer_in_fits answer_kind.Abort (Cancelling r) answer.Excused f g k = refl
 
 -- the device that is found is the one that was looked for, with its answer
 found_told : (d : ℕ) (a : Attempt) (w : DeviceAnswer) → device_answer a.answers d ≡ Some w → Told a w w.answer
@@ -375,7 +375,7 @@ found_known d s t a w r e g =
     let attempt = found_has is_attempt t s.live a (attempts_of s.live r.live) e in
     let stand = (sound_of a (is_sound-of_attempt a attempt)).stand in
     (both (is_known_in a.stage w.answer) (not (is_required w && is_excused w.answer))
-    (found_has (stands a.stage) (λ x. nat_eq x.device d) a.answers w stand g)).0
+    (found_has (may_be_in a.stage) (λ x. nat_eq x.device d) a.answers w stand g)).0
 
 release_of_fits : (s : ShowState) (d : ℕ) (a : Attempt) → Rules s → attempt_of_device s.live d ≡ Some a
     → IsTrue (are_acceptable s (on_release_of d a).1)
@@ -388,15 +388,15 @@ release_of_fits s d a r e = by (device_answer a.answers d) refl
     by (Some w) g = release_in_fits s (is_of_device d) a w e a.stage w.answer refl (found_told d a w g)
         (found_known d s (is_of_device d) a w r e g)
 
-reply_to_fits : (s : ShowState) (q d : ℕ) (a : Attempt) → Rules s → attempt_of s.live q ≡ Some a → (kind : ReplyKind)
-    → IsTrue (are_acceptable s (on_reply_to kind d a).1)
-reply_to_fits s q d a r e kind = by (device_answer a.answers d) refl
+answer_to_fits : (s : ShowState) (q d : ℕ) (a : Attempt) → Rules s → attempt_of s.live q ≡ Some a → (kind : AnswerKind)
+    → IsTrue (are_acceptable s (on_answer_to kind d a).1)
+answer_to_fits s q d a r e kind = by (device_answer a.answers d) refl
   where
     by : (o : Option DeviceAnswer) → device_answer a.answers d ≡ o
         → IsTrue (are_acceptable s
-        (option_map_or (λ x. on_reply_in kind a.seq x a.stage x.answer) o (refused_with code.NotPart)).1)
+        (option_map_or (λ x. on_answer_in kind a.seq x a.stage x.answer) o (refused_with code.NotPart)).1)
     by None g = refl
-    by (Some w) g = reply_in_fits s (has_number q) a w e kind a.stage w.answer refl (found_told d a w g)
+    by (Some w) g = answer_in_fits s (has_number q) a w e kind a.stage w.answer refl (found_told d a w g)
         (found_known d s (has_number q) a w r e g)
 
 release_fits : (s : ShowState) (d : ℕ) → Rules s → IsTrue (are_acceptable s (on_release s d).1)
@@ -409,20 +409,20 @@ release_fits s d r = by (has_device s.show d) (attempt_of_device s.live d) refl
     by true None e = refl
     by true (Some a) e = release_of_fits s d a r e
 
-reply_fits : (s : ShowState) (from : ℕ) (kind : ReplyKind) (d q : ℕ) → Rules s
-    → IsTrue (are_acceptable s (on_reply s from kind d q).1)
-reply_fits s from kind d q r = by (has_device s.show d) (is_from_another s d from) (nat_lt s.last_seq q)
+answer_fits : (s : ShowState) (from : ℕ) (kind : AnswerKind) (d q : ℕ) → Rules s
+    → IsTrue (are_acceptable s (on_answer s from kind d q).1)
+answer_fits s from kind d q r = by (has_device s.show d) (is_from_another s d from) (nat_lt s.last_seq q)
     (attempt_of s.live q) refl
   where
     by : (b p l : Bool) (o : Option Attempt) → attempt_of s.live q ≡ o
         → IsTrue (are_acceptable s (if not b then refused_with code.NoMethod else if p then refused_with code.WrongPort
         else if l
-        then refused_with code.Early else option_map_or (on_reply_to kind d) o (refused_with code.Stale)).1)
+        then refused_with code.Early else option_map_or (on_answer_to kind d) o (refused_with code.Stale)).1)
     by false p l o e = refl
     by true true l o e = refl
     by true false true o e = refl
     by true false false None e = refl
-    by true false false (Some a) e = reply_to_fits s q d a r e kind
+    by true false false (Some a) e = answer_to_fits s q d a r e kind
 
 -- ---- all commands
 
@@ -436,7 +436,7 @@ judgement_of-acceptable s now from (command.Go c) h fit = go_fits s c
 judgement_of-acceptable s now from (command.Cancel c) h fit = cancel_fits s c
 judgement_of-acceptable s now from (command.Goto c) h fit = goto_fits s c
 judgement_of-acceptable s now from (command.RemoveCue c) h fit = remove_cue_fits s c
-judgement_of-acceptable s now from (command.Reply kind d q) h fit = reply_fits s from kind d q (rules_of s h)
+judgement_of-acceptable s now from (command.Reply kind d q) h fit = answer_fits s from kind d q (rules_of s h)
 judgement_of-acceptable s now from (command.Release d) h fit = release_fits s d (rules_of s h)
 judgement_of-acceptable s now from (command.RemoveDevice d) h fit = remove_device_fits s d
 judgement_of-acceptable s now from (command.Bad c) h fit = refl

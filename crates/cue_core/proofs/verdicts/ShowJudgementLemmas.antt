@@ -16,7 +16,7 @@ use Rattle.cue_show.specs.Show.{are_known, is_cue_of}
 use Rattle.cue_show.proofs.ShowLemmas.{show_rules, stack_parts}
 use Rattle.cue_show.specs.declared.limits.TheConstants.{MAX_PARTS}
 use Rattle.cue_exchange.specs.declared.limits.TheConstants.{MAX_NUMBER}
-use Rattle.cue_exchange.specs.Live.{devices_in, attempt_of_cue, is_number, is_moment}
+use Rattle.cue_exchange.specs.Live.{devices_in, attempt_of_cue, is_number, is_time}
 use Rattle.cue_exchange.specs.Steps.{are_free, are_sound_parts, has_room, are_below, can_start}
 use Rattle.cue_core.specs.declared.limits.TheConstants.{STANDBY_MS}
 use Rattle.cue_core.specs.declared.event.Event.{Event}
@@ -150,19 +150,19 @@ sound_parts parts h =
 
 start_fits : (s : ShowState) (c : List ℕ) (t : ℕ) (parts : List Part) → Rules s → parts_of s.show c ≡ Some parts
     → IsTrue (are_free (devices_in parts) s.live) → IsTrue (has_room s.live) → nat_le MAX_NUMBER s.last_seq ≡ false
-    → IsTrue (is_moment t)
+    → IsTrue (is_time t)
     → IsTrue (acceptable s (event.Start (s.last_seq + 1) c t))
-start_fits s c t parts r e free room below moment =
+start_fits s c t parts r e free room below time =
     join (nat_eq (s.last_seq + 1) (s.last_seq + 1))
     (has_cue s.show c && can_start (s.last_seq + 1) t (cue_parts s.show c) s.live) (same_self (s.last_seq + 1))
     (join (has_cue s.show c) (can_start (s.last_seq + 1) t (cue_parts s.show c) s.live) (rw e refl)
     (rw e
     (join (is_number (s.last_seq + 1))
-    (is_moment t && (has_room s.live &&
+    (is_time t && (has_room s.live &&
     (are_below (s.last_seq + 1) s.live && (are_free (devices_in parts) s.live && are_sound_parts parts))))
     (number s.last_seq below)
-    (join (is_moment t) (has_room s.live &&
-    (are_below (s.last_seq + 1) s.live && (are_free (devices_in parts) s.live && are_sound_parts parts))) moment
+    (join (is_time t) (has_room s.live &&
+    (are_below (s.last_seq + 1) s.live && (are_free (devices_in parts) s.live && are_sound_parts parts))) time
     (join (has_room s.live) (are_below (s.last_seq + 1) s.live &&
     (are_free (devices_in parts) s.live && are_sound_parts parts)) room
     (join (are_below (s.last_seq + 1) s.live) (are_free (devices_in parts) s.live && are_sound_parts parts)
@@ -183,10 +183,10 @@ start_fits s c t parts r e free room below moment =
 standby_of_fits : (s : ShowState) (now : ℕ) (c : List ℕ) (parts : List Part) → Rules s → parts_of s.show c ≡ Some parts
     → IsTrue (are_acceptable s (on_standby_of s now c parts).1)
 standby_of_fits s now c parts r e = by (prepares s c) (are_free (devices_in parts) s.live) (has_room s.live)
-    (nat_le MAX_NUMBER s.last_seq) (is_moment (now + STANDBY_MS)) refl refl refl refl
+    (nat_le MAX_NUMBER s.last_seq) (is_time (now + STANDBY_MS)) refl refl refl refl
   where
     by : (p f h l m : Bool) → are_free (devices_in parts) s.live ≡ f → has_room s.live ≡ h
-        → nat_le MAX_NUMBER s.last_seq ≡ l → is_moment (now + STANDBY_MS) ≡ m
+        → nat_le MAX_NUMBER s.last_seq ≡ l → is_time (now + STANDBY_MS) ≡ m
         → IsTrue (are_acceptable s (if p then known_already else if not f then refused_with code.Busy else if not h then
         refused_with
         code.Full else if l then refused_with code.Exhausted else if not m then refused_with code.Clock else made_by

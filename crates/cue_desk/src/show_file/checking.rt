@@ -1,5 +1,5 @@
 //! What a controller with an empty show makes of a show file: each device and each cue in turn is put into a show, or
-//! it is told why that cannot be.
+//! it is said why that cannot be.
 ghost use Rattle.std.specs.Prelude.{◌≡◌, ◌==◌, ◌&&◌, IfOk, IsTrue, false, is_some, length};
 ghost use Rattle.cue_show.specs.Show.{empty_show};
 ghost use Rattle.cue_desk.specs.Accepted.{after_cue, after_cues, after_device, after_devices, after_file, if_all};

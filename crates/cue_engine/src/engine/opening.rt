@@ -14,7 +14,7 @@ ghost use Rattle.cue_core.specs.Happenings.{events_at, recovered};
 ghost use Rattle.cue_engine.specs.Recovery.{ClosedFrom, IsLeftOrStands, MustBeRefusedAs, NoGenerationLeft, NoRoomLeft};
 ghost use Rattle.cue_engine.specs.Recovery.{RefusedBut};
 ghost use Rattle.cue_engine.specs.Taking.{IsOffered};
-ghost use Rattle.cue_engine.specs.Words.{keeper_of, state_of, queue_of, first_of, second_of, last_batches_of};
+ghost use Rattle.cue_engine.specs.Observed.{keeper_of, state_of, queue_of, first_of, second_of, last_batches_of};
 
 use super::{Engine, discard};
 use crate::drafts::Draft;

@@ -19,8 +19,8 @@ use cue_keeper::Fault;
 
 impl<D: Disk> Engine<D> {
     ghost use Rattle.cue_engine.specs.Taking.{Offers, IsOffered, TakesTogether};
-    ghost use Rattle.cue_engine.specs.Words.{keeper_of, state_of, queue_of, latest_of, has_room, last_batches_of};
-    ghost use Rattle.cue_engine.specs.Words.{offered_of, offered_sends_of, FitsTogether};
+    ghost use Rattle.cue_engine.specs.Observed.{keeper_of, state_of, queue_of, latest_of, has_room, last_batches_of};
+    ghost use Rattle.cue_engine.specs.Observed.{offered_of, offered_sends_of, FitsTogether};
 
     /// Judges what came after all that was offered before, and keeps what it gives until `commit`; it answers how many
     /// commands are made, known and refused then. It makes no device call, and state and queue stay as they are. Where

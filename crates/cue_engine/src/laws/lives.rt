@@ -10,7 +10,7 @@ ghost use Rattle.cue_outbox.specs.Sending.{datagrams};
 ghost use Rattle.cue_snap.specs.Pair.{IsUnformedOr};
 ghost use Rattle.cue_keeper.specs.Stands.{first_area};
 ghost use Rattle.cue_engine.specs.Taking.{IsOffered, WhateverWasOffered};
-ghost use Rattle.cue_engine.specs.Words.{keeper_of, state_of, queue_of, first_of, second_of};
+ghost use Rattle.cue_engine.specs.Observed.{keeper_of, state_of, queue_of, first_of, second_of};
 ghost use Rattle.cue_engine.specs.Inputs.{input_view};
 ghost use Rattle.cue_engine.specs.Wires.{AllHanded, AreHanded};
 ghost use Rattle.cue_engine.specs.Recovery.{IsLeftOrStands, RefusedBut};

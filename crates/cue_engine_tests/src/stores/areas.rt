@@ -90,7 +90,7 @@ fn move_by_draft(
     }
     draft.apply(&event)?;
     let events = [event];
-    if batch_len(&events) > PAYLOAD_LIMIT as u64 {
+    if batch_len(&events) > MAX_PAYLOAD as u64 {
         return Err("the batch is too long".into());
     }
     assert!(rt; keeper.accept_draft(draft, &events).is_ok());

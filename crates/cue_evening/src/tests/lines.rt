@@ -94,7 +94,7 @@ const ORDERS: [(&str, bool); 5] = [
 // What the line of an entry says, where nothing is known of events and state.
 fn text_of(alloc: Global, entry: &Entry) -> Result<String, AllocError> {
     match entry {
-        Entry::Answered(reply) => {
+        Entry::Replied(reply) => {
             let answer = replies::Answer {
                 reply,
                 is_sent: true,
@@ -103,7 +103,7 @@ fn text_of(alloc: Global, entry: &Entry) -> Result<String, AllocError> {
             };
             answer.text(alloc)
         }
-        Entry::Ordered(command) => command.text(alloc, None, true),
+        Entry::Ordered(order) => order.text(alloc, None, true),
     }
 }
 

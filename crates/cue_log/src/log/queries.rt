@@ -1,6 +1,6 @@
 // What a log says of itself. None of it makes a device call.
 use super::Log;
-use crate::area::{AREA_LIMIT, FRAME_LEN};
+use crate::area::{FRAME_LEN, MAX_AREA};
 use crate::group::RecordGroup;
 use crate::record::Record;
 use cue_disk::Disk;
@@ -11,26 +11,26 @@ impl<D: Disk> Log<D> {
     ghost use Rattle.cue_log.specs.Log.{ReadsAs};
     ghost use Rattle.cue_log.specs.Observed.{disk_of, generation_of, end_of, count_of, is_broken, area_of};
 
-    /// Whether the area's encoding would stay within `AREA_LIMIT` with this record.
+    /// Whether the area's encoding would stay within `MAX_AREA` with this record.
     pub fn has_room(&self, added: &Record) -> bool
-        ensures { IsTrue result ↔ (end_of self.now + (FRAME_LEN + 1) + length added.now ≤ AREA_LIMIT) }
+        ensures { IsTrue result ↔ (end_of self.now + (FRAME_LEN + 1) + length added.now ≤ MAX_AREA) }
     {
-        self.end + added.text().len() as u64 <= AREA_LIMIT
+        self.end + added.text().len() as u64 <= MAX_AREA
     }
 
     /// The same of records that come together.
     pub fn has_room_for_all(&self, added: &RecordGroup) -> bool
-        ensures { IsTrue result ↔ (end_of self.now + 1 + room_of added.now ≤ AREA_LIMIT) }
+        ensures { IsTrue result ↔ (end_of self.now + 1 + room_of added.now ≤ MAX_AREA) }
     {
-        added.text().len() as u64 <= AREA_LIMIT - self.end
+        added.text().len() as u64 <= MAX_AREA - self.end
     }
 
     /// Whether it would stay within it with so many records more, whose payloads have so many bytes together. A caller
     /// asks it before it makes the records.
     pub fn has_room_for(&self, count: u64, bytes: u64) -> bool
-        ensures { IsTrue result ↔ (end_of self.now + 1 + FRAME_LEN * count + bytes ≤ AREA_LIMIT) }
+        ensures { IsTrue result ↔ (end_of self.now + 1 + FRAME_LEN * count + bytes ≤ MAX_AREA) }
     {
-        let room = AREA_LIMIT - 1 - self.end;
+        let room = MAX_AREA - 1 - self.end;
         bytes <= room && count <= (room - bytes) / FRAME_LEN as u64
     }
 

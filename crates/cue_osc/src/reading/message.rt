@@ -5,7 +5,7 @@ ghost use Rattle.std.specs.List.{list_all};
 ghost use Rattle.cue_osc.specs.Argument.{arg_view};
 ghost use Rattle.cue_osc.specs.Content.{view};
 ghost use Rattle.cue_osc.specs.Spelling.{is_known_tag};
-ghost use Rattle.cue_osc.specs.Reading.{Gives, all_args_at, behind_address, tagged_at, message_at};
+ghost use Rattle.cue_osc.specs.Reading.{Gives, all_args_at, after_address, tagged_at, message_at};
 ghost use Rattle.cue_osc.specs.Understood.{message_with};
 
 use super::fields::{arg, string};
@@ -55,7 +55,7 @@ fn tagged<'a>(alloc: Global, bytes: &'a [u8]) -> Result<Option<Args<'a>>, Fault>
 }
 
 /// A message, all of the bytes. It is inlined where elements are read, so that it is made in its place.
-#[tactic(auto, unfolding(crate::specs::Reading::message_at, crate::specs::Reading::behind_address))]
+#[tactic(auto, unfolding(crate::specs::Reading::message_at, crate::specs::Reading::after_address))]
 #[inline(always)]
 pub(crate) fn message<'a>(alloc: Global, bytes: &'a [u8]) -> Result<Packet<'a>, Fault>
     ensures { Gives view result (message_at bytes.now) }

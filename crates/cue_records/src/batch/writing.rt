@@ -2,7 +2,7 @@
 ghost use Rattle.std.specs.Prelude.{◌≡◌, ◌++◌, IsTrue, OnOk};
 ghost use Rattle.std.specs.List.{flat_map, list_all};
 ghost use Rattle.cue_records.specs.Batch.{is_event, event_text, body_text};
-ghost use Rattle.cue_records.specs.Fields.{number_text, moment_text, text_text};
+ghost use Rattle.cue_records.specs.Fields.{number_text, time_text, text_text};
 
 use crate::batch::kind::event_number;
 use crate::fields::{put_byte, put_cue, put_entry, put_new_cue, put_numbered, reason_number};
@@ -55,7 +55,7 @@ fn put_body(out: &mut Vec<u8>, event: &Event) -> Result<(), AllocError>
 // A number, a cue and a time.
 fn put_start(out: &mut Vec<u8>, seq: u32, cue: CueNo, deadline: u64) -> Result<(), AllocError>
     ensures { OnOk result (out.new.items ≡ out.old.items
-        ++ (number_text seq ++ (text_text cue ++ moment_text deadline))) }
+        ++ (number_text seq ++ (text_text cue ++ time_text deadline))) }
 {
     out.extend_from_slice(&seq.to_be_bytes())?;
     put_cue(out, cue)?;

@@ -3,7 +3,7 @@ ghost use Rattle.std.specs.Prelude.{◌≡◌, [], MatchResult, IsErrOf};
 ghost use Rattle.std.specs.Result.{result_err};
 ghost use Rattle.cue_keeper.specs.Accepting.{AcceptsTogether};
 ghost use Rattle.cue_engine.specs.Taking.{IsOffered};
-ghost use Rattle.cue_engine.specs.Words.{keeper_of, queue_of, offered_of, offered_sends_of, FitsTogether};
+ghost use Rattle.cue_engine.specs.Observed.{keeper_of, queue_of, offered_of, offered_sends_of, FitsTogether};
 ghost use Rattle.cue_run.specs.Grouping.{HandedCounted};
 
 use crate::watch::Watch;

@@ -3,7 +3,7 @@ ghost use Rattle.std.specs.Prelude.{◌≡◌, ◌≤◌, ◌<◌, ◌+◌, ◌+
 ghost use Rattle.std.specs.Prelude.{vec_len, vec_capacity, OnOk, IfErr};
 ghost use Rattle.cue_engine.specs.Inputs.{input_view};
 ghost use Rattle.cue_engine.specs.Taking.{IsOffered, WhateverWasOffered};
-ghost use Rattle.cue_engine.specs.Words.{keeper_of, queue_of, FitsTogether};
+ghost use Rattle.cue_engine.specs.Observed.{keeper_of, queue_of, FitsTogether};
 ghost use Rattle.cue_run.specs.Grouping.{StaysOffered, StillFits, IsTurnedDown, OfferedNext};
 ghost use Rattle.cue_run.specs.Grouping.{OfferedFirst, OfferedGroup, Gathered};
 

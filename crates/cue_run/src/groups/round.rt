@@ -1,7 +1,7 @@
 // One round of a run by groups: one group, from its first input to its last datagram.
 ghost use Rattle.std.specs.Prelude.{◌≡◌, ◌≤◌, ◌⊎◌, [], length, vec_capacity, Some};
 ghost use Rattle.cue_engine.specs.Taking.{IsOffered};
-ghost use Rattle.cue_engine.specs.Words.{queue_of};
+ghost use Rattle.cue_engine.specs.Observed.{queue_of};
 ghost use Rattle.cue_run.specs.Grouping.{HasRound, LostGroup, TookGroup, stop_of};
 
 use super::handing::take_group;

@@ -3,13 +3,13 @@ ghost use Rattle.std.specs.Prelude.{◌≡◌, List, Option, length, IfOk};
 ghost use Rattle.cue_run.specs.Sources.{IsWithin};
 ghost use Rattle.cue_run.specs.Udp.{NextWithin};
 ghost use Rattle.cue_run.specs.Tries.{Try, try_of, Tried, GaveFirst};
-ghost use Rattle.cue_run.specs.declared.udp.tries.TheConstants.{MOST_DROPPED};
+ghost use Rattle.cue_run.specs.declared.udp.tries.TheConstants.{MAX_DROPPED};
 
 use crate::source::{SourceFault, Turn};
 use std::io;
 
 /// How many datagrams of the own port are dropped in one call, before the call is a fault.
-pub const MOST_DROPPED: u32 = 65_536;
+pub const MAX_DROPPED: u32 = 65_536;
 
 /// One call of a source is made of tries.
 pub trait Tries {
@@ -43,5 +43,5 @@ pub fn first_turn<T: Tries>(
 
 /// One call of a `UdpSource` drops 65,536 datagrams at most.
 pub fn udp_limits()
-    ensures { MOST_DROPPED ≡ 65536 }
+    ensures { MAX_DROPPED ≡ 65536 }
 {}

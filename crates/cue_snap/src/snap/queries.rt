@@ -5,7 +5,7 @@ use cue_log::Record;
 
 impl<D: Disk> Snap<D> {
     ghost use Rattle.std.specs.Prelude.{◌≡◌, ◌≤◌, ◌+◌, ◌*◌, ◌↔◌, false, length, IsTrue};
-    ghost use Rattle.cue_log.specs.declared.area.TheConstants.{AREA_LIMIT, FRAME_LEN};
+    ghost use Rattle.cue_log.specs.declared.area.TheConstants.{MAX_AREA, FRAME_LEN};
     ghost use Rattle.cue_log.specs.Area.{area_text};
     ghost use Rattle.cue_snap.specs.Pair.{PairLeaves};
     ghost use Rattle.cue_snap.specs.Observed.{live_of, spare_of, first_of, second_of, generation_of, end_of, count_of};
@@ -13,7 +13,7 @@ impl<D: Disk> Snap<D> {
 
     /// Whether the live area's encoding would stay within its limit with this record.
     pub fn has_room(&self, added: &Record) -> bool
-        ensures { IsTrue result ↔ (end_of self.now + (FRAME_LEN + 1) + length added.now ≤ AREA_LIMIT) }
+        ensures { IsTrue result ↔ (end_of self.now + (FRAME_LEN + 1) + length added.now ≤ MAX_AREA) }
     {
         self.log.has_room(added)
     }
@@ -21,7 +21,7 @@ impl<D: Disk> Snap<D> {
     /// Whether it would stay within it with so many records more, whose payloads have so many bytes together. A caller
     /// asks it before it makes the records.
     pub fn has_room_for(&self, count: u64, bytes: u64) -> bool
-        ensures { IsTrue result ↔ (end_of self.now + 1 + FRAME_LEN * count + bytes ≤ AREA_LIMIT) }
+        ensures { IsTrue result ↔ (end_of self.now + 1 + FRAME_LEN * count + bytes ≤ MAX_AREA) }
     {
         self.log.has_room_for(count, bytes)
     }

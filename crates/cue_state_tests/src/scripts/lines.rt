@@ -162,7 +162,7 @@ release 3 = known
 release 4 = made Failed 1 4
 release 4 = 12 NotLive
 state = devices 3:9001 4:9002 | cue 1 3:up 4: | cue 2 3: | place 2 | last 1 | ended 1 Failed",
-    // Replies are sorted before they are judged.
+    // Answers are sorted before they are judged.
     // No such device, then another port, then a number above the last, then one that is not live, then a device that
     // is not of the attempt; two devices may share a port.
     "\

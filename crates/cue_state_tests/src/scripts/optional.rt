@@ -1,4 +1,4 @@
-//! Optional devices: the table of replies and releases for one of them, and cues that go with it and without it.
+//! Optional devices: the table of answers and releases for one of them, and cues that go with it and without it.
 
 use super::{run, run_each};
 use cue_core::State;
@@ -15,7 +15,7 @@ add_device 4 9002 = made Device 4 9002
 add_cue 1 3:up 4? = made Cue 1 3:up 4?
 add_cue 2 4: = made Cue 2 4:";
 
-// What each reply and a release becomes in each of the ten situations of device 4 in attempt 1.
+// What each answer and a release becomes in each of the ten situations of device 4 in attempt 1.
 const TABLE: [&str; 6] = [
     // While preparing.
     "\

@@ -1,6 +1,6 @@
 //! Commands and events from their words.
 
-use cue_core::{Command, Event, ReplyKind};
+use cue_core::{AnswerKind, Command, Event};
 use cue_exchange::Reason;
 use cue_show::{CueNo, DeviceNo, Part, Parts};
 use std::alloc::Global;
@@ -57,7 +57,7 @@ impl Request {
     }
 }
 
-fn by_device(kind: ReplyKind, number: &str, seq: &str, from: &str) -> Result<Request, Fail> {
+fn by_device(kind: AnswerKind, number: &str, seq: &str, from: &str) -> Result<Request, Fail> {
     Ok(Request {
         command: Command::Reply(kind, device(number)?, seq.parse()?),
         now: 0,
@@ -70,12 +70,12 @@ fn standby(text: &str, now: &str) -> Result<Request, Fail> {
     Ok(Request::of_operator(command, now.parse()?))
 }
 
-fn reply_kind(name: &str) -> Option<ReplyKind> {
+fn answer_kind(name: &str) -> Option<AnswerKind> {
     match name {
-        "standing_by" => Some(ReplyKind::StandingBy),
-        "complete" => Some(ReplyKind::Complete),
-        "cancelled" => Some(ReplyKind::Cancelled),
-        "abort" => Some(ReplyKind::Abort),
+        "standing_by" => Some(AnswerKind::StandingBy),
+        "complete" => Some(AnswerKind::Complete),
+        "cancelled" => Some(AnswerKind::Cancelled),
+        "abort" => Some(AnswerKind::Abort),
         _ => None,
     }
 }
@@ -83,7 +83,7 @@ fn reply_kind(name: &str) -> Option<ReplyKind> {
 pub(super) fn read(alloc: Global, words: &[&str]) -> Result<Request, Fail> {
     match words {
         ["standby", text, now] => standby(text, now),
-        [name, number, seq, from] => match reply_kind(name) {
+        [name, number, seq, from] => match answer_kind(name) {
             Some(kind) => by_device(kind, number, seq, from),
             None => at_zero(alloc, words),
         },

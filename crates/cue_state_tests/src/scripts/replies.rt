@@ -1,11 +1,11 @@
-//! The table of replies: what each of the four, and a release, becomes in each of the eight situations of device 3 in
+//! The table of answers: what each of the four, and a release, becomes in each of the eight situations of device 3 in
 //! attempt 1. It is a required device, and device 4 is in the attempt too.
 
 use super::{SHOW, run_each};
 use std::test::Fail;
 
 const TABLE: [&str; 5] = [
-    // Replies while preparing.
+    // Answers while preparing.
     "\
 standby 1 1000 = made Start 1 1 11000
 live = live | attempt 1 1 until 11000 Preparing 3 Waiting 4 Waiting
@@ -21,7 +21,7 @@ judge complete 3 1 9001 = 16 Early
 judge cancelled 3 1 9001 = 16 Early
 judge abort 3 1 9001 = made Cancel 1 Abort Failed 1 3
 judge release 3 = made Cancel 1 Release LetGo 1 3",
-    // Replies once decided.
+    // Answers once decided.
     "\
 standby 1 1000 = made Start 1 1 11000
 standing_by 3 1 9001 = made Ready 1 3
@@ -40,7 +40,7 @@ judge complete 3 1 9001 = known
 judge cancelled 3 1 9001 = 14 Decided
 judge abort 3 1 9001 = 15 Stale
 judge release 3 = known",
-    // Replies of a device that failed once decided.
+    // Answers of a device that failed once decided.
     "\
 standby 1 1000 = made Start 1 1 11000
 standing_by 3 1 9001 = made Ready 1 3
@@ -53,7 +53,7 @@ judge complete 3 1 9001 = 15 Stale
 judge cancelled 3 1 9001 = 14 Decided
 judge abort 3 1 9001 = known
 judge release 3 = known",
-    // Replies while cancelling.
+    // Answers while cancelling.
     "\
 standby 1 1000 = made Start 1 1 11000
 cancel 1 = made Cancel 1 Operator
@@ -70,7 +70,7 @@ judge complete 3 1 9001 = 15 Stale
 judge cancelled 3 1 9001 = known
 judge abort 3 1 9001 = 15 Stale
 judge release 3 = known",
-    // Replies of a device that failed while cancelling.
+    // Answers of a device that failed while cancelling.
     "\
 standby 1 1000 = made Start 1 1 11000
 cancel 1 = made Cancel 1 Operator

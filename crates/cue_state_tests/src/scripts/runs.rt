@@ -46,7 +46,7 @@ state = devices 3:9001 4:9002 | cue 1 3:up 4: | cue 2 3: | place 2 | last 1 | en
     | attempt 1 1 until 11000 Decided 3 Failed 4 Waiting
 complete 4 1 9002 = made Done 1 4
 state = devices 3:9001 4:9002 | cue 1 3:up 4: | cue 2 3: | place 2 | last 1 | ended 1 Failed",
-    // A reply of another port or attempt changes nothing.
+    // An answer of another port or attempt changes nothing.
     "\
 standby 1 1000 = made Start 1 1 11000
 standing_by 3 1 8000 = 17 WrongPort

@@ -2,7 +2,7 @@
 use super::words::LineFault;
 use super::{over_file, text_in};
 use clap::{Arg, ArgAction, ArgMatches, Command, value_parser};
-use cue_rehearsal::{MOST_TIME, Plan, read_devices};
+use cue_rehearsal::{MAX_TIME, Plan, read_devices};
 use cue_show::DeviceNo;
 use std::alloc::{AllocError, Global};
 
@@ -131,9 +131,9 @@ pub fn rehearsal_in(alloc: Global, found: &ArgMatches<'_>) -> Result<Rehearsal, 
         file: text_in(alloc, found, "FILE")?,
         seed: found.get_one::<u64>("seed").unwrap_or(1),
         flags: Flags {
-            prepare: number_in(found, "prepare", MOST_TIME)?,
-            moving: number_in(found, "move", MOST_TIME)?,
-            spread: number_in(found, "spread", MOST_TIME)?,
+            prepare: number_in(found, "prepare", MAX_TIME)?,
+            moving: number_in(found, "move", MAX_TIME)?,
+            spread: number_in(found, "spread", MAX_TIME)?,
             loss: number_in(found, "loss", 100)?,
             silent: devices_in(alloc, found, "silent")?,
             refuses: devices_in(alloc, found, "refuses")?,

@@ -4,7 +4,7 @@ mod screen;
 
 use super::ending::{Ending, print, say};
 use super::files::read_file;
-use super::reading::{Reading, Store, moment_now};
+use super::reading::{Reading, Store, time_now};
 use crate::line::words::Watched;
 pub use beside::read_status;
 use beside::{read_heard, read_log};
@@ -33,11 +33,11 @@ fn lines_of(
     alloc: Global,
     reading: &Reading,
     file: Option<&ShowFile>,
-    moment: u64,
+    time: u64,
     trouble: &str,
 ) -> Result<Vec<String>, AllocError> {
-    let mut lines = board_lines(alloc, reading.state(), file, moment)?;
-    lines.push(age_line(alloc, reading.moment(), moment)?)?;
+    let mut lines = board_lines(alloc, reading.state(), file, time)?;
+    lines.push(age_line(alloc, reading.time(), time)?)?;
     if !trouble.is_empty() {
         let text = format!(in alloc; "OLD    {trouble}")?;
         lines.push(fitted(alloc, text.as_str(), COLUMNS)?)?;
@@ -56,9 +56,9 @@ struct Board<'a, R> {
 
 impl<'a, R: Files<File = File> + Clock + AllocGlobal> Board<'a, R> {
     // Puts what is read beside the store after the lines.
-    fn push_beside(&self, lines: &mut Vec<String>, moment: u64) -> Result<(), AllocError> {
+    fn push_beside(&self, lines: &mut Vec<String>, time: u64) -> Result<(), AllocError> {
         if let Some(path) = &self.watched.relay {
-            append(lines, read_heard(self.rt, path.as_str(), moment)?)?;
+            append(lines, read_heard(self.rt, path.as_str(), time)?)?;
         }
         if let Some(path) = &self.watched.log {
             append(lines, read_log(self.rt, path.as_str())?)?;
@@ -69,13 +69,13 @@ impl<'a, R: Files<File = File> + Clock + AllocGlobal> Board<'a, R> {
     // The lines as of now; the outer `Err` is why there is no board at all.
     fn lines(&mut self) -> Result<Result<Vec<String>, String>, AllocError> {
         let trouble = self.store.look(self.rt);
-        let (alloc, moment) = (self.rt.alloc(), moment_now(self.rt));
+        let (alloc, time) = (self.rt.alloc(), time_now(self.rt));
         let Some(reading) = self.store.last() else {
             return Ok(Err(trouble));
         };
         let file = self.file.as_ref();
-        let mut lines = lines_of(alloc, reading, file, moment, trouble.as_str())?;
-        self.push_beside(&mut lines, moment)?;
+        let mut lines = lines_of(alloc, reading, file, time, trouble.as_str())?;
+        self.push_beside(&mut lines, time)?;
         Ok(Ok(lines))
     }
 }

@@ -14,7 +14,7 @@ use std::time::Clock;
 pub struct Reading {
     keeper: Keeper<MemDisk>,
     // When it was read or its files were found to be as they were, in milliseconds since 1970.
-    moment: u64,
+    time: u64,
     // When it was begun, and what the system said of the files then; none where it said nothing.
     begun: u64,
     stamps: Option<Stamps>,
@@ -28,7 +28,7 @@ pub struct Store {
 }
 
 /// Milliseconds since 1970; 0 where the clock has none.
-pub fn moment_now<C: Clock>(clock: &C) -> u64 {
+pub fn time_now<C: Clock>(clock: &C) -> u64 {
     match clock.since_1970() {
         Ok(since) => u64::try_from(since.as_millis()).unwrap_or(0),
         Err(_) => 0,
@@ -42,8 +42,8 @@ impl Reading {
     }
 
     /// The time at which that was so, in milliseconds since 1970.
-    pub fn moment(&self) -> u64 {
-        self.moment
+    pub fn time(&self) -> u64 {
+        self.time
     }
 
     // Whether it is what another reading of these files would give, too.
@@ -72,7 +72,7 @@ impl Store {
             Some(reading) => {
                 let holds = reading.holds(seen);
                 if holds {
-                    reading.moment = begun;
+                    reading.time = begun;
                 }
                 holds
             }
@@ -84,7 +84,7 @@ impl Store {
     /// done the last reading stays, and why is answered; else nothing.
     pub fn look<R: Files<File = File> + Clock + AllocGlobal>(&mut self, rt: &R) -> String {
         let alloc = rt.alloc();
-        let begun = moment_now(rt);
+        let begun = time_now(rt);
         let stamps = Stamps::at(rt, self.dir.as_str());
         if self.renew(begun, stamps) {
             return String::new(alloc);
@@ -93,7 +93,7 @@ impl Store {
             Ok(keeper) => {
                 self.last = Some(Reading {
                     keeper,
-                    moment: begun,
+                    time: begun,
                     begun,
                     stamps,
                 });

@@ -1,7 +1,7 @@
 use Rattle.std.proofs.Common.{◌≡◌, min, ◌∙◌, ap, sym, subst, arith, List, ℕ, length, take, get_or}
 use Rattle.std.specs.Prelude.{IfOk}
 use Rattle.cue_disk.specs.Disk.{Contents}
-use Rattle.cue_log.specs.declared.area.TheConstants.{AREA_LIMIT}
+use Rattle.cue_log.specs.declared.area.TheConstants.{MAX_AREA}
 use Rattle.cue_log.proofs.ClosedLemmas.{first_read, sync_leaves, length_leaves, read_leaves}
 use Rattle.cue_log.proofs.FetchedLemmas.{synced_reads, front_after}
 use Rattle.cue_log.proofs.fetching.fetch.Goals as goal
@@ -34,7 +34,7 @@ returns-clause-front g c = λ honest.
     first_read (held c.len.new.self).bytes c.read_at.new.buf (c.in_ok-read_at.ensures.read honest2)
     ∙ ap (λ (l : List ℕ). get_or l 0 0) same2 in
     front_after (λ text. text.items) c.read_text.result (held c.args.disk.now).bytes c.min.result
-    (c.min.ensures ∙ ap (λ (n : ℕ). min n AREA_LIMIT) long) (omega (arith, long, c.if-len-lt2.false)) (sym gate
+    (c.min.ensures ∙ ap (λ (n : ℕ). min n MAX_AREA) long) (omega (arith, long, c.if-len-lt2.false)) (sym gate
     ∙ c.if-gate-ne-OPEN.false)
     (subst (λ (bytes : List ℕ). IfOk c.read_text.result (λ text. text.items ≡ take (length text.items) bytes)) same3
     (c.read_text.ensures.text honest3)) c.read_text.ensures.enough

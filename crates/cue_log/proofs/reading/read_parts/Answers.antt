@@ -14,9 +14,9 @@ returns-clause-end c =
       payloads =
           c.in_ok-records.records;
     } in
-    let gate = last_gate area (length c.args.text.now) c.in-Some-len_behind.behind front.tail.now
-    c.in-Some-len_behind.ensures (read_in front.tail.now c.in-Some-len_behind.behind c.in_ok-records.records
-    c.in-Some-len_behind.ensures c.in_ok-records.ensures)
+    let gate = last_gate area (length c.args.text.now) c.in-Some-len_left.behind front.tail.now
+    c.in-Some-len_left.ensures (read_in front.tail.now c.in-Some-len_left.behind c.in_ok-records.records
+    c.in-Some-len_left.ensures c.in_ok-records.ensures)
     (omega (arith, c.in-Some.ensures.len, c.in_ok-snapshot.ensures.len)) in
     gate.0
 
@@ -29,9 +29,9 @@ returns-clause-few c =
       payloads =
           c.in_ok-records.records;
     } in
-    let gate = last_gate area (length c.args.text.now) c.in-Some-len_behind.behind front.tail.now
-    c.in-Some-len_behind.ensures (read_in front.tail.now c.in-Some-len_behind.behind c.in_ok-records.records
-    c.in-Some-len_behind.ensures c.in_ok-records.ensures)
+    let gate = last_gate area (length c.args.text.now) c.in-Some-len_left.behind front.tail.now
+    c.in-Some-len_left.ensures (read_in front.tail.now c.in-Some-len_left.behind c.in_ok-records.records
+    c.in-Some-len_left.ensures c.in_ok-records.ensures)
     (omega (arith, c.in-Some.ensures.len, c.in_ok-snapshot.ensures.len)) in
     omega (arith, gate.0, few_records area)
 
@@ -49,7 +49,7 @@ returns-clause-found c =
     sound_at c.args.text.now area (λ i. (c.type_inv.text i).fits) c.requires
     (c.in-Some.ensures.front
     ∙ (λ i. area_with front.generation (sym same i)
-    (read_in front.tail.now c.in-Some-len_behind.behind c.in_ok-records.records c.in-Some-len_behind.ensures
+    (read_in front.tail.now c.in-Some-len_left.behind c.in_ok-records.records c.in-Some-len_left.ensures
     c.in_ok-records.ensures i)))
 
 pub returns-clause-within : goal.returns-clause-within
@@ -61,8 +61,8 @@ returns-clause-within c =
       payloads =
           c.in_ok-records.records;
     } in
-    let gate = last_gate area (length c.args.text.now) c.in-Some-len_behind.behind front.tail.now
-    c.in-Some-len_behind.ensures (read_in front.tail.now c.in-Some-len_behind.behind c.in_ok-records.records
-    c.in-Some-len_behind.ensures c.in_ok-records.ensures)
+    let gate = last_gate area (length c.args.text.now) c.in-Some-len_left.behind front.tail.now
+    c.in-Some-len_left.ensures (read_in front.tail.now c.in-Some-len_left.behind c.in_ok-records.records
+    c.in-Some-len_left.ensures c.in_ok-records.ensures)
     (omega (arith, c.in-Some.ensures.len, c.in_ok-snapshot.ensures.len)) in
     gate.1

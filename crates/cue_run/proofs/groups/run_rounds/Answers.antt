@@ -1,6 +1,6 @@
 use Rattle.std.proofs.Common.{◌≡◌, ◌∙◌, List, ℕ, length, refl, ap, subst, inl, arith}
 use Rattle.cue_keeper.specs.Observed as kept
-use Rattle.cue_engine.specs.Words.{keeper_of, state_of, queue_of}
+use Rattle.cue_engine.specs.Observed.{keeper_of, state_of, queue_of}
 use Rattle.cue_engine.specs.Wires.{AllHanded}
 use Rattle.cue_keeper.specs.declared.fault.Fault.TheVariants.{Disk}
 use Rattle.cue_run.specs.declared.turns.RunFault.TheVariants as fault

@@ -1,7 +1,7 @@
 use Rattle.std.proofs.Common.{◌≡◌, ◌≤◌, ◌-◌, true, [], length, vec_capacity}
 use Rattle.cue_keeper.specs.Observed.{is_broken}
 use Rattle.cue_engine.specs.Taking.{IsOffered}
-use Rattle.cue_engine.specs.Words.{keeper_of, state_of, queue_of}
+use Rattle.cue_engine.specs.Observed.{keeper_of, state_of, queue_of}
 use Rattle.cue_run.specs.Running.{HasRun, Works}
 use Rattle.cue_run.proofs.groups.run_rounds.Given as goal
 

@@ -1,7 +1,7 @@
 use Rattle.std.proofs.Common.{◌≡◌, ◌+◌, length, refl, sym, ◌∙◌, ap, inl, arith, true≢false}
 use Rattle.cue_keeper.specs.Observed as kept
 use Rattle.cue_engine.specs.Given.{given_of}
-use Rattle.cue_engine.specs.Words.{keeper_of, state_of, queue_of}
+use Rattle.cue_engine.specs.Observed.{keeper_of, state_of, queue_of}
 use Rattle.cue_run.proofs.RunLemmas.{begun, still, run_more, ended_there, ended_by, keeps_after, works_after}
 use Rattle.cue_run.proofs.RunLemmas.{state_after}
 use Rattle.cue_run.proofs.WorkLemmas.{begins, works_on, still_works, worked}

@@ -1,6 +1,6 @@
 use Rattle.std.proofs.Common.{◌≡◌, ◌≤◌, true, [], length}
 use Rattle.cue_keeper.specs.Observed.{is_broken}
-use Rattle.cue_engine.specs.Words.{keeper_of, state_of, queue_of}
+use Rattle.cue_engine.specs.Observed.{keeper_of, state_of, queue_of}
 use Rattle.cue_run.specs.Running.{HasRun, Works}
 use Rattle.cue_run.proofs.turns.run_turns.Given as goal
 

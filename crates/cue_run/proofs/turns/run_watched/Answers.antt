@@ -1,5 +1,5 @@
 use Rattle.std.proofs.Common.{◌≡◌, ℕ, length, refl, inl, ◌∙◌, subst, arith}
-use Rattle.cue_engine.specs.Words.{keeper_of, state_of, queue_of}
+use Rattle.cue_engine.specs.Observed.{keeper_of, state_of, queue_of}
 use Rattle.cue_run.specs.Running.{Ran}
 use Rattle.cue_run.specs.declared.turns.TheConstants.{BUFFER}
 use Rattle.cue_run.proofs.RunLemmas.{begun}

@@ -3,7 +3,7 @@ use Rattle.std.proofs.Common.{subst, sym}
 use Rattle.cue_core.specs.State.{empty_state}
 use Rattle.cue_script.specs.Script.{Wrote}
 use Rattle.cue_script.specs.Streams.{HasCause, FailedAs}
-use Rattle.cue_script.specs.declared.entry.TheConstants.{SCRIPT_LIMIT}
+use Rattle.cue_script.specs.declared.entry.TheConstants.{MAX_SCRIPT}
 use Rattle.cue_script.specs.declared.ending.StreamFailure.{StreamFailure}
 use Rattle.cue_script.specs.declared.stream.Streams.{Streams}
 use Rattle.cue_script.proofs.ScriptLemmas.{of_known, too_long, stopped_known}
@@ -14,7 +14,7 @@ returns-in-Ok-Some-clause-wrote g c =
     let P : List ℕ → Type 0 =
     λ text. Wrote c.play_text.result empty_state text [] (g.W.Write.contents c.args.writer.now)
     (g.W.Write.contents c.play_text.new.writer) in
-    of_known (g.R.Read.remaining c.args.reader.now) SCRIPT_LIMIT c.in-Ok-Some.text.items P
+    of_known (g.R.Read.remaining c.args.reader.now) MAX_SCRIPT c.in-Ok-Some.text.items P
     (rw c.in-Ok-Some.field-0-is at c.in-Ok-Some.ensures.read)
     (subst P c.as_slice.ensures.value c.play_text.ensures.wrote)
 

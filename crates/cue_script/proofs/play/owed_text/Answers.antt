@@ -1,7 +1,7 @@
 use Rattle.std.specs.Prelude.{◌≡◌, ℕ, List, IfOk}
 use Rattle.std.proofs.Common.{subst}
 use Rattle.cue_engine.specs.Told.{told_by}
-use Rattle.cue_engine.specs.Words.{queue_of}
+use Rattle.cue_engine.specs.Observed.{queue_of}
 use Rattle.cue_script.specs.Script.{printed_lines}
 use Rattle.cue_script.proofs.ScriptLemmas.{told_whole}
 use Rattle.cue_script.proofs.play.owed_text.Goals as goal

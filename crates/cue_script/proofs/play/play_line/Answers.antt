@@ -1,5 +1,5 @@
 use Rattle.std.proofs.Common.{sym}
-use Rattle.cue_engine.specs.Words.{state_of}
+use Rattle.cue_engine.specs.Observed.{state_of}
 use Rattle.cue_script.specs.ScriptViews.{line_view}
 use Rattle.cue_script.proofs.ScriptLemmas.{goes_behind, ends_behind}
 use Rattle.cue_script.proofs.play.play_line.Goals as goal

@@ -1,6 +1,6 @@
 use Rattle.std.specs.Prelude.{[]}
 use Rattle.std.proofs.Common.{refl, ◌∙◌, subst}
-use Rattle.cue_engine.specs.Words.{state_of}
+use Rattle.cue_engine.specs.Observed.{state_of}
 use Rattle.cue_script.specs.Streams.{HasCause}
 use Rattle.cue_script.specs.declared.stream.Streams.{Streams}
 use Rattle.cue_script.proofs.ScriptLineLemmas.{lines-none}

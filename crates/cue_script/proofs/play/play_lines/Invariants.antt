@@ -1,5 +1,5 @@
 use Rattle.std.specs.Prelude.{◌≡◌, length}
-use Rattle.cue_engine.specs.Words.{state_of}
+use Rattle.cue_engine.specs.Observed.{state_of}
 use Rattle.cue_script.specs.Playing.{IsReady}
 use Rattle.cue_script.proofs.ScriptLemmas.{IsRunning}
 use Rattle.cue_script.proofs.play.play_lines.Given as goal

@@ -1,7 +1,7 @@
 use Rattle.std.specs.Prelude.{◌≡◌, IfOk}
 use Rattle.std.proofs.Common.{subst}
 use Rattle.cue_core.specs.State.{ShowState}
-use Rattle.cue_engine.specs.Words.{state_of}
+use Rattle.cue_engine.specs.Observed.{state_of}
 use Rattle.cue_script.proofs.play.run_line.Goals as goal
 
 pub returns-in-Ok-clause-state : goal.returns-in-Ok-clause-state

@@ -99,7 +99,7 @@ pub fn bind<R: Net + Eprint + AllocGlobal>(
 }
 
 // Milliseconds since 1970.
-fn moment<C: Clock>(clock: &C) -> io::Result<u64> {
+fn now_of<C: Clock>(clock: &C) -> io::Result<u64> {
     match u64::try_from(clock.since_1970()?.as_millis()) {
         Ok(now) => Ok(now),
         Err(_) => Err(io::Error::from(ErrorKind::InvalidData)),
@@ -145,7 +145,7 @@ impl<'a, C: Clock> NetSource<'a, C> {
             poll,
             events: Events::with_capacity(alloc, count.max(1))?,
             ready: Ready::new(alloc, count)?,
-            last_tick: moment(clock)?,
+            last_tick: now_of(clock)?,
             left: 0,
         })
     }
@@ -223,7 +223,7 @@ impl<'a, C: Clock> NetSource<'a, C> {
     fn try_next(&mut self, buffer: &mut [u8]) -> io::Result<Try>
         ensures { IfOk result (λ brought. IsTryWithin brought (length buffer.old)) }
     {
-        let now = moment(self.clock)?;
+        let now = now_of(self.clock)?;
         if self.is_due(now) {
             return Ok(Try::Brings(Turn::Tick { now }));
         }

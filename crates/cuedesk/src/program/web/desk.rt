@@ -6,7 +6,7 @@ use super::super::answered::Answered;
 use super::super::board::read_status;
 use super::super::ending::Ending;
 use super::super::files::words;
-use super::super::reading::{Reading, Store, moment_now};
+use super::super::reading::{Reading, Store, time_now};
 use super::super::wire::Wire;
 use super::visitor::Asking;
 use cue_desk::asking::Asked;
@@ -138,8 +138,8 @@ impl Desk {
         let around = Around {
             file: self.sources.file.as_ref(),
             relay: &read_relay(rt, self.sources.relay.as_deref())?,
-            read: reading.moment(),
-            now: moment_now(rt),
+            read: reading.time(),
+            now: time_now(rt),
             trouble: trouble.as_str(),
         };
         let text = board_text(alloc, reading.state(), &around)?;

@@ -9,8 +9,9 @@ use Rattle.cue_keeper.proofs.MovingLemmas.{opened_then, leaves_weaker}
 use Rattle.cue_keeper.proofs.RefusedLemmas.{is_opened}
 use Rattle.cue_core.specs.Batches.{closed_state}
 use Rattle.cue_engine.specs.Recovery.{IsLeftOrStands}
-use Rattle.cue_engine.specs.Words.{state_of, first_of, second_of, last_batches_of}
-use Rattle.cue_engine.proofs.ReopenedLemmas.{closed_from, left_or_stands, unwritten, went_through, left_over, cancels_of}
+use Rattle.cue_engine.specs.Observed.{state_of, first_of, second_of, last_batches_of}
+use Rattle.cue_engine.proofs.ReopenedLemmas.{closed_from, left_or_stands, unwritten, went_through, left_over}
+use Rattle.cue_engine.proofs.ReopenedLemmas.{cancels_of}
 use Rattle.cue_engine.proofs.engine.Engine.recover.Goals as goal
 
 pub returns-in-Ok-clause-any_moment : goal.returns-in-Ok-clause-any_moment

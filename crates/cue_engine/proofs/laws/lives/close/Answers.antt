@@ -1,4 +1,4 @@
-use Rattle.cue_engine.specs.Words.{state_of, queue_of}
+use Rattle.cue_engine.specs.Observed.{state_of, queue_of}
 use Rattle.cue_engine.proofs.LifeLemmas.{rests_closed}
 use Rattle.cue_engine.proofs.laws.lives.close.Goals as goal
 

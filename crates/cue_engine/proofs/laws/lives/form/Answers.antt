@@ -1,5 +1,5 @@
 use Rattle.cue_snap.specs.Observed.{first_after, second_after}
-use Rattle.cue_engine.specs.Words.{state_of, queue_of, first_of, second_of}
+use Rattle.cue_engine.specs.Observed.{state_of, queue_of, first_of, second_of}
 use Rattle.cue_engine.proofs.LifeLemmas.{lives_formed, rests_in_form}
 use Rattle.cue_engine.proofs.laws.lives.form.Goals as goal
 

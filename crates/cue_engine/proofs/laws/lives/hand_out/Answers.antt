@@ -1,6 +1,6 @@
 use Rattle.std.proofs.Common.{ap}
 use Rattle.cue_keeper.specs.Observed as keeper
-use Rattle.cue_engine.specs.Words.{state_of, queue_of}
+use Rattle.cue_engine.specs.Observed.{state_of, queue_of}
 use Rattle.cue_engine.proofs.LifeLemmas.{lives_handed}
 use Rattle.cue_engine.proofs.laws.lives.hand_out.Goals as goal
 

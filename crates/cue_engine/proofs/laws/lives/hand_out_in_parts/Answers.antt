@@ -1,7 +1,7 @@
 use Rattle.std.proofs.Common.{◌+◌, List, ℕ, Option, refl, ◌∙◌, ap, subst}
 use Rattle.cue_keeper.specs.Observed as keeper
 use Rattle.cue_engine.specs.Wires.{AreHanded}
-use Rattle.cue_engine.specs.Words.{state_of, queue_of}
+use Rattle.cue_engine.specs.Observed.{state_of, queue_of}
 use Rattle.cue_engine.proofs.LifeLemmas.{lives_handed, handed_what_is_owed}
 use Rattle.cue_engine.proofs.WireLemmas.{handed_none, part_more, parts_all}
 use Rattle.cue_engine.proofs.laws.lives.hand_out_in_parts.Goals as goal

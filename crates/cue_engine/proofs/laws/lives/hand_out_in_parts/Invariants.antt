@@ -1,6 +1,6 @@
 use Rattle.std.proofs.Common.{◌≡◌, ℕ}
 use Rattle.cue_engine.specs.Wires.{HandedSoFar}
-use Rattle.cue_engine.specs.Words.{keeper_of, queue_of}
+use Rattle.cue_engine.specs.Observed.{keeper_of, queue_of}
 use Rattle.cue_engine.proofs.laws.lives.hand_out_in_parts.Given as goal
 
 abbrev pub invariant-loop-most : goal.invariant-loop-most

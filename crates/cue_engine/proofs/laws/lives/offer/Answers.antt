@@ -1,7 +1,7 @@
 use Rattle.std.proofs.Common.{◌≡◌, ap}
 use Rattle.cue_keeper.specs.Observed as kept
 use Rattle.cue_engine.specs.Inputs.{input_view}
-use Rattle.cue_engine.specs.Words.{state_of, queue_of}
+use Rattle.cue_engine.specs.Observed.{state_of, queue_of}
 use Rattle.cue_engine.proofs.CommittingLemmas.{offered_next}
 use Rattle.cue_engine.proofs.LifeLemmas.{lives_as_before, from_answer}
 use Rattle.cue_engine.proofs.laws.lives.offer.Goals as goal

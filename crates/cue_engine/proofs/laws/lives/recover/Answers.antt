@@ -1,5 +1,5 @@
 use Rattle.cue_snap.specs.Observed.{first_after, second_after}
-use Rattle.cue_engine.specs.Words.{state_of, queue_of, first_of, second_of}
+use Rattle.cue_engine.specs.Observed.{state_of, queue_of, first_of, second_of}
 use Rattle.cue_engine.proofs.LifeLemmas.{given_back, lives_recovered, lives_refused, rests_stand, rests_in_recovery}
 use Rattle.cue_engine.proofs.laws.lives.recover.Goals as goal
 use Rattle.cue_keeper.specs.declared.fault.StoreFault.TheVariants.{Disk}

@@ -1,5 +1,5 @@
 use Rattle.std.proofs.Common.{◌+◌, refl, ◌∙◌}
-use Rattle.cue_engine.specs.Words.{state_of, queue_of, keeper_of}
+use Rattle.cue_engine.specs.Observed.{state_of, queue_of, keeper_of}
 use Rattle.cue_engine.proofs.StoppedLemmas.{stops_after_some, stays_so}
 use Rattle.cue_engine.proofs.WireLemmas.{handed_none, part_more}
 use Rattle.cue_engine.proofs.laws.lives.stop_in_hand_out.Goals as goal

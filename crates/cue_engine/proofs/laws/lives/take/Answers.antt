@@ -1,4 +1,4 @@
-use Rattle.cue_engine.specs.Words.{state_of, queue_of, first_of, second_of}
+use Rattle.cue_engine.specs.Observed.{state_of, queue_of, first_of, second_of}
 use Rattle.cue_engine.specs.Inputs.{input_view}
 use Rattle.cue_engine.proofs.LifeLemmas.{lives_taken, lives_still, from_answer, promised_in_take, rests_in_take}
 use Rattle.cue_engine.proofs.laws.lives.take.Goals as goal

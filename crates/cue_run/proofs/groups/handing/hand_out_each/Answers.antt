@@ -1,5 +1,5 @@
 use Rattle.std.proofs.Common.{refl, ◌∙◌}
-use Rattle.cue_engine.specs.Words.{queue_of}
+use Rattle.cue_engine.specs.Observed.{queue_of}
 use Rattle.cue_run.proofs.GroupLemmas.{so_far_none, so_far_more, so_far_all}
 use Rattle.cue_run.proofs.groups.handing.hand_out_each.Goals as goal
 

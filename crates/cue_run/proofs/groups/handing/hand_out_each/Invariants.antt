@@ -1,5 +1,5 @@
 use Rattle.std.proofs.Common.{◌≡◌}
-use Rattle.cue_engine.specs.Words.{keeper_of, queue_of, offered_of, offered_sends_of}
+use Rattle.cue_engine.specs.Observed.{keeper_of, queue_of, offered_of, offered_sends_of}
 use Rattle.cue_run.specs.Grouping.{CountedSoFar}
 use Rattle.cue_run.proofs.groups.handing.hand_out_each.Given as goal
 

@@ -1,5 +1,5 @@
 use Rattle.std.proofs.Common.{◌≡◌, length, vec_len, vec_capacity}
-use Rattle.cue_engine.specs.Words.{FitsTogether}
+use Rattle.cue_engine.specs.Observed.{FitsTogether}
 use Rattle.cue_run.specs.Grouping.{HasOffered}
 use Rattle.cue_run.proofs.groups.offering.gather.Given as goal
 

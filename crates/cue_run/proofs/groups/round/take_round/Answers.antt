@@ -1,5 +1,5 @@
 use Rattle.std.proofs.Common.{◌∙◌, [], length, vec_len, refl, sym, subst}
-use Rattle.cue_engine.specs.Words.{keeper_of}
+use Rattle.cue_engine.specs.Observed.{keeper_of}
 use Rattle.cue_run.specs.declared.groups.round.Round.{Round}
 use Rattle.cue_run.specs.Grouping.{HasRound}
 use Rattle.cue_run.proofs.OfferLemmas.{stays_offered}

@@ -1,5 +1,5 @@
 use Rattle.std.proofs.Common.{◌+◌, ◌∙◌, refl, arith}
-use Rattle.cue_log.specs.declared.area.TheConstants.{AREA_LIMIT}
+use Rattle.cue_log.specs.declared.area.TheConstants.{MAX_AREA}
 use Rattle.cue_log.specs.Area.{room_of}
 use Rattle.cue_log.proofs.AddingLemmas.{none_counted, some_counted}
 use Rattle.cue_snap.specs.Observed.{end_of}
@@ -21,7 +21,7 @@ returns-then-not-has_room_for_all g c =
     let payloads = c.args.added.now in
     record {
       appends = no_room payloads pair c.if-self.false (g.met.D.Disk.held_now pair.log.disk)
-          (too_long c.has_room_for_all.result (end_of pair + 1 + room_of payloads) AREA_LIMIT c.has_room_for_all.ensures
+          (too_long c.has_room_for_all.result (end_of pair + 1 + room_of payloads) MAX_AREA c.has_room_for_all.ensures
           c.if-not-has_room_for_all.true);
     }
 
@@ -32,7 +32,7 @@ returns g c =
     record {
       appends = handed_on payloads pair c.if-self.false _ refl refl c.is_broken-self.ensures.broken
           (some_counted payloads _ (λ none. c.if-count-eq0.false (c.count.ensures ∙ none)))
-          (not_too_long c.has_room_for_all.result (end_of pair + 1 + room_of payloads) AREA_LIMIT
+          (not_too_long c.has_room_for_all.result (end_of pair + 1 + room_of payloads) MAX_AREA
           c.has_room_for_all.ensures c.if-not-has_room_for_all.false)
           c.append_all-appended.result c.append_all-appended.ensures.appends;
     }

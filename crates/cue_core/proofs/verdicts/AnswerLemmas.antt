@@ -1,4 +1,4 @@
--- A reply leaves all else as it was.
+-- An answer leaves all else as it was.
 use Rattle.std.proofs.Common.{◌≡◌, ◌≢◌, ℕ, List, [], ◌∷◌, refl, sym, ◌∙◌, Bool, true, false, not, ◌&&◌, nat_eq, nat_lt}
 use Rattle.std.proofs.Common.{Option, None, Some}
 use Rattle.std.specs.Prelude.{IsTrue, if◌then◌else◌}
@@ -17,17 +17,17 @@ use Rattle.cue_exchange.specs.Live.{attempt_of, has_number}
 use Rattle.cue_core.specs.declared.event.Event.{Event}
 use Rattle.cue_core.specs.declared.event.Event.TheVariants as event
 use Rattle.cue_core.specs.declared.command.Code.TheVariants as code
-use Rattle.cue_core.specs.declared.command.ReplyKind.{ReplyKind}
-use Rattle.cue_core.specs.declared.command.ReplyKind.TheVariants as reply
+use Rattle.cue_core.specs.declared.command.AnswerKind.{AnswerKind}
+use Rattle.cue_core.specs.declared.command.AnswerKind.TheVariants as answer_kind
 use Rattle.cue_core.specs.State.{ShowState}
 use Rattle.cue_core.specs.Steps.{after, after_events}
-use Rattle.cue_core.specs.Judge.{made_by, refused_with, on_reply, on_reply_to, on_reply_in, is_from_another}
-use Rattle.cue_core.specs.Replies.{Said, LeavesOthers, RepliesLeaveOthers}
+use Rattle.cue_core.specs.Judge.{made_by, refused_with, on_answer, on_answer_to, on_answer_in, is_from_another}
+use Rattle.cue_core.specs.Answers.{Said, LeavesOthers, AnswersLeaveOthers}
 use Rattle.cue_core.proofs.lists.ConditionLemmas.{both, join, same_number, same_self}
 use Rattle.cue_core.proofs.live.FindingLemmas.{found_passes}
 use Rattle.cue_core.proofs.history.NumberLemmas.{attempt_of-after_other}
 
--- the event is one that a reply to q makes
+-- the event is one that an answer to q makes
 abbrev of_reply : ℕ → Event → Bool
 of_reply q (event.Device d port) = false
 of_reply q (event.NoDevice d) = false
@@ -135,93 +135,93 @@ late_of q d true = itself q
 late_of q d false = itself q
 
 -- each cell of the table makes events of the attempt alone
-cell_of : (kind : ReplyKind) (q : ℕ) (d : DeviceAnswer) (stage : Stage) (x : Answer)
-    → IsTrue (list_all (of_reply q) (on_reply_in kind q d stage x).1)
-cell_of reply.StandingBy q d Preparing answer.Waiting = itself q
-cell_of reply.StandingBy q d Preparing answer.Ready = refl
-cell_of reply.StandingBy q d Preparing answer.Done = refl
-cell_of reply.StandingBy q d Preparing answer.LetGo = refl
-cell_of reply.StandingBy q d Preparing answer.Failed = refl
-cell_of reply.StandingBy q d Preparing answer.Excused = refl
-cell_of reply.StandingBy q d Decided answer.Waiting = refl
-cell_of reply.StandingBy q d Decided answer.Ready = refl
-cell_of reply.StandingBy q d Decided answer.Done = refl
-cell_of reply.StandingBy q d Decided answer.LetGo = refl
-cell_of reply.StandingBy q d Decided answer.Failed = refl
-cell_of reply.StandingBy q d Decided answer.Excused = refl
-cell_of reply.StandingBy q d (Cancelling r) answer.Waiting = refl
-cell_of reply.StandingBy q d (Cancelling r) answer.Ready = refl
-cell_of reply.StandingBy q d (Cancelling r) answer.Done = refl
-cell_of reply.StandingBy q d (Cancelling r) answer.LetGo = refl
-cell_of reply.StandingBy q d (Cancelling r) answer.Failed = refl
-cell_of reply.StandingBy q d (Cancelling r) answer.Excused = refl
-cell_of reply.Complete q d Preparing answer.Waiting = refl
-cell_of reply.Complete q d Preparing answer.Ready = refl
-cell_of reply.Complete q d Preparing answer.Done = refl
-cell_of reply.Complete q d Preparing answer.LetGo = refl
-cell_of reply.Complete q d Preparing answer.Failed = refl
-cell_of reply.Complete q d Preparing answer.Excused = refl
-cell_of reply.Complete q d Decided answer.Waiting = itself q
-cell_of reply.Complete q d Decided answer.Ready = refl
-cell_of reply.Complete q d Decided answer.Done = refl
-cell_of reply.Complete q d Decided answer.LetGo = refl
-cell_of reply.Complete q d Decided answer.Failed = refl
-cell_of reply.Complete q d Decided answer.Excused = refl
-cell_of reply.Complete q d (Cancelling r) answer.Waiting = refl
-cell_of reply.Complete q d (Cancelling r) answer.Ready = refl
-cell_of reply.Complete q d (Cancelling r) answer.Done = refl
-cell_of reply.Complete q d (Cancelling r) answer.LetGo = refl
-cell_of reply.Complete q d (Cancelling r) answer.Failed = refl
-cell_of reply.Complete q d (Cancelling r) answer.Excused = refl
-cell_of reply.Cancelled q d Preparing answer.Waiting = refl
-cell_of reply.Cancelled q d Preparing answer.Ready = refl
-cell_of reply.Cancelled q d Preparing answer.Done = refl
-cell_of reply.Cancelled q d Preparing answer.LetGo = refl
-cell_of reply.Cancelled q d Preparing answer.Failed = refl
-cell_of reply.Cancelled q d Preparing answer.Excused = refl
-cell_of reply.Cancelled q d Decided answer.Waiting = refl
-cell_of reply.Cancelled q d Decided answer.Ready = refl
-cell_of reply.Cancelled q d Decided answer.Done = refl
-cell_of reply.Cancelled q d Decided answer.LetGo = refl
-cell_of reply.Cancelled q d Decided answer.Failed = refl
-cell_of reply.Cancelled q d Decided answer.Excused = refl
-cell_of reply.Cancelled q d (Cancelling r) answer.Waiting = itself q
-cell_of reply.Cancelled q d (Cancelling r) answer.Ready = refl
-cell_of reply.Cancelled q d (Cancelling r) answer.Done = refl
-cell_of reply.Cancelled q d (Cancelling r) answer.LetGo = refl
-cell_of reply.Cancelled q d (Cancelling r) answer.Failed = refl
-cell_of reply.Cancelled q d (Cancelling r) answer.Excused = refl
-cell_of reply.Abort q d Preparing answer.Waiting = early_of q d d.optional
-cell_of reply.Abort q d Preparing answer.Ready = early_of q d d.optional
-cell_of reply.Abort q d Preparing answer.Done = early_of q d d.optional
-cell_of reply.Abort q d Preparing answer.LetGo = early_of q d d.optional
-cell_of reply.Abort q d Preparing answer.Failed = early_of q d d.optional
-cell_of reply.Abort q d Preparing answer.Excused = refl
-cell_of reply.Abort q d Decided answer.Waiting = itself q
-cell_of reply.Abort q d Decided answer.Ready = refl
-cell_of reply.Abort q d Decided answer.Done = refl
-cell_of reply.Abort q d Decided answer.LetGo = refl
-cell_of reply.Abort q d Decided answer.Failed = refl
-cell_of reply.Abort q d Decided answer.Excused = refl
-cell_of reply.Abort q d (Cancelling r) answer.Waiting = late_of q d d.optional
-cell_of reply.Abort q d (Cancelling r) answer.Ready = refl
-cell_of reply.Abort q d (Cancelling r) answer.Done = refl
-cell_of reply.Abort q d (Cancelling r) answer.LetGo = refl
-cell_of reply.Abort q d (Cancelling r) answer.Failed = refl
-cell_of reply.Abort q d (Cancelling r) answer.Excused = refl
+cell_of : (kind : AnswerKind) (q : ℕ) (d : DeviceAnswer) (stage : Stage) (x : Answer)
+    → IsTrue (list_all (of_reply q) (on_answer_in kind q d stage x).1)
+cell_of answer_kind.StandingBy q d Preparing answer.Waiting = itself q
+cell_of answer_kind.StandingBy q d Preparing answer.Ready = refl
+cell_of answer_kind.StandingBy q d Preparing answer.Done = refl
+cell_of answer_kind.StandingBy q d Preparing answer.LetGo = refl
+cell_of answer_kind.StandingBy q d Preparing answer.Failed = refl
+cell_of answer_kind.StandingBy q d Preparing answer.Excused = refl
+cell_of answer_kind.StandingBy q d Decided answer.Waiting = refl
+cell_of answer_kind.StandingBy q d Decided answer.Ready = refl
+cell_of answer_kind.StandingBy q d Decided answer.Done = refl
+cell_of answer_kind.StandingBy q d Decided answer.LetGo = refl
+cell_of answer_kind.StandingBy q d Decided answer.Failed = refl
+cell_of answer_kind.StandingBy q d Decided answer.Excused = refl
+cell_of answer_kind.StandingBy q d (Cancelling r) answer.Waiting = refl
+cell_of answer_kind.StandingBy q d (Cancelling r) answer.Ready = refl
+cell_of answer_kind.StandingBy q d (Cancelling r) answer.Done = refl
+cell_of answer_kind.StandingBy q d (Cancelling r) answer.LetGo = refl
+cell_of answer_kind.StandingBy q d (Cancelling r) answer.Failed = refl
+cell_of answer_kind.StandingBy q d (Cancelling r) answer.Excused = refl
+cell_of answer_kind.Complete q d Preparing answer.Waiting = refl
+cell_of answer_kind.Complete q d Preparing answer.Ready = refl
+cell_of answer_kind.Complete q d Preparing answer.Done = refl
+cell_of answer_kind.Complete q d Preparing answer.LetGo = refl
+cell_of answer_kind.Complete q d Preparing answer.Failed = refl
+cell_of answer_kind.Complete q d Preparing answer.Excused = refl
+cell_of answer_kind.Complete q d Decided answer.Waiting = itself q
+cell_of answer_kind.Complete q d Decided answer.Ready = refl
+cell_of answer_kind.Complete q d Decided answer.Done = refl
+cell_of answer_kind.Complete q d Decided answer.LetGo = refl
+cell_of answer_kind.Complete q d Decided answer.Failed = refl
+cell_of answer_kind.Complete q d Decided answer.Excused = refl
+cell_of answer_kind.Complete q d (Cancelling r) answer.Waiting = refl
+cell_of answer_kind.Complete q d (Cancelling r) answer.Ready = refl
+cell_of answer_kind.Complete q d (Cancelling r) answer.Done = refl
+cell_of answer_kind.Complete q d (Cancelling r) answer.LetGo = refl
+cell_of answer_kind.Complete q d (Cancelling r) answer.Failed = refl
+cell_of answer_kind.Complete q d (Cancelling r) answer.Excused = refl
+cell_of answer_kind.Cancelled q d Preparing answer.Waiting = refl
+cell_of answer_kind.Cancelled q d Preparing answer.Ready = refl
+cell_of answer_kind.Cancelled q d Preparing answer.Done = refl
+cell_of answer_kind.Cancelled q d Preparing answer.LetGo = refl
+cell_of answer_kind.Cancelled q d Preparing answer.Failed = refl
+cell_of answer_kind.Cancelled q d Preparing answer.Excused = refl
+cell_of answer_kind.Cancelled q d Decided answer.Waiting = refl
+cell_of answer_kind.Cancelled q d Decided answer.Ready = refl
+cell_of answer_kind.Cancelled q d Decided answer.Done = refl
+cell_of answer_kind.Cancelled q d Decided answer.LetGo = refl
+cell_of answer_kind.Cancelled q d Decided answer.Failed = refl
+cell_of answer_kind.Cancelled q d Decided answer.Excused = refl
+cell_of answer_kind.Cancelled q d (Cancelling r) answer.Waiting = itself q
+cell_of answer_kind.Cancelled q d (Cancelling r) answer.Ready = refl
+cell_of answer_kind.Cancelled q d (Cancelling r) answer.Done = refl
+cell_of answer_kind.Cancelled q d (Cancelling r) answer.LetGo = refl
+cell_of answer_kind.Cancelled q d (Cancelling r) answer.Failed = refl
+cell_of answer_kind.Cancelled q d (Cancelling r) answer.Excused = refl
+cell_of answer_kind.Abort q d Preparing answer.Waiting = early_of q d d.optional
+cell_of answer_kind.Abort q d Preparing answer.Ready = early_of q d d.optional
+cell_of answer_kind.Abort q d Preparing answer.Done = early_of q d d.optional
+cell_of answer_kind.Abort q d Preparing answer.LetGo = early_of q d d.optional
+cell_of answer_kind.Abort q d Preparing answer.Failed = early_of q d d.optional
+cell_of answer_kind.Abort q d Preparing answer.Excused = refl
+cell_of answer_kind.Abort q d Decided answer.Waiting = itself q
+cell_of answer_kind.Abort q d Decided answer.Ready = refl
+cell_of answer_kind.Abort q d Decided answer.Done = refl
+cell_of answer_kind.Abort q d Decided answer.LetGo = refl
+cell_of answer_kind.Abort q d Decided answer.Failed = refl
+cell_of answer_kind.Abort q d Decided answer.Excused = refl
+cell_of answer_kind.Abort q d (Cancelling r) answer.Waiting = late_of q d d.optional
+cell_of answer_kind.Abort q d (Cancelling r) answer.Ready = refl
+cell_of answer_kind.Abort q d (Cancelling r) answer.Done = refl
+cell_of answer_kind.Abort q d (Cancelling r) answer.LetGo = refl
+cell_of answer_kind.Abort q d (Cancelling r) answer.Failed = refl
+cell_of answer_kind.Abort q d (Cancelling r) answer.Excused = refl
 
-to_attempt : (kind : ReplyKind) (d q : ℕ) (a : Attempt) → a.seq ≡ q
-    → IsTrue (list_all (of_reply q) (on_reply_to kind d a).1)
+to_attempt : (kind : AnswerKind) (d q : ℕ) (a : Attempt) → a.seq ≡ q
+    → IsTrue (list_all (of_reply q) (on_answer_to kind d a).1)
 to_attempt kind d q a e = rw (← e) (at (device_answer a.answers d))
   where
     at : (o : Option DeviceAnswer)
         → IsTrue (list_all (of_reply a.seq)
-        (option_map_or (λ x. on_reply_in kind a.seq x a.stage x.answer) o (refused_with code.NotPart)).1)
+        (option_map_or (λ x. on_answer_in kind a.seq x a.stage x.answer) o (refused_with code.NotPart)).1)
     at None = refl
     at (Some x) = cell_of kind a.seq x a.stage x.answer
 
 of_attempt : (s : ShowState) (r : Said)
-    → IsTrue (list_all (of_reply r.number) (on_reply s r.from r.kind r.device r.number).1)
+    → IsTrue (list_all (of_reply r.number) (on_answer s r.from r.kind r.device r.number).1)
 of_attempt s r = at (has_device s.show r.device) (is_from_another s r.device r.from) (nat_lt s.last_seq r.number)
     (attempt_of s.live r.number) refl
   where
@@ -229,7 +229,7 @@ of_attempt s r = at (has_device s.show r.device) (is_from_another s r.device r.f
         → IsTrue (list_all (of_reply r.number)
         (if not b then refused_with code.NoMethod else if p then refused_with code.WrongPort else if l then refused_with
         code.Early
-        else option_map_or (on_reply_to r.kind r.device) o (refused_with code.Stale)).1)
+        else option_map_or (on_answer_to r.kind r.device) o (refused_with code.Stale)).1)
     at false p l o e = refl
     at true true l o e = refl
     at true false true o e = refl
@@ -238,5 +238,5 @@ of_attempt s r = at (has_device s.show r.device) (is_from_another s r.device r.f
         to_attempt r.kind r.device r.number a
         (same_number a.seq r.number (found_passes (has_number r.number) s.live a e))
 
-pub replies-leave-others : RepliesLeaveOthers
-replies-leave-others s r h = leaves_all r.number (on_reply s r.from r.kind r.device r.number).1 s (of_attempt s r)
+pub answers-leave-others : AnswersLeaveOthers
+answers-leave-others s r h = leaves_all r.number (on_answer s r.from r.kind r.device r.number).1 s (of_attempt s r)

@@ -3,10 +3,10 @@ ghost use Rattle.std.specs.Prelude.{◌≡◌, [], ◌∷◌};
 ghost use Rattle.cue_exchange.specs.declared.attempt.Reason.TheVariants as reason;
 ghost use Rattle.cue_core.specs.declared.event.Event.TheVariants as event;
 ghost use Rattle.cue_core.specs.declared.command.Code.TheVariants as code;
-ghost use Rattle.cue_core.specs.Judge.{made_by, refused_with, on_reply, on_reply_to, on_reply_in, is_from_another};
+ghost use Rattle.cue_core.specs.Judge.{made_by, refused_with, on_answer, on_answer_to, on_answer_in, is_from_another};
 ghost use Rattle.cue_core.specs.Judge.{on_standing_by, on_complete, on_cancelled, on_abort, abort_early, abort_late};
 
-use crate::command::{Code, ReplyKind, Verdict};
+use crate::command::{AnswerKind, Code, Verdict};
 use crate::event::Event;
 use crate::events::Events;
 use crate::judging::verdicts::{known, made, made_by_two, refused};
@@ -14,14 +14,14 @@ use crate::state::State;
 use cue_exchange::{Answer, Attempt, DeviceAnswer, Reason, Stage};
 use cue_show::DeviceNo;
 
-pub(crate) fn on_reply(
+pub(crate) fn on_answer(
     state: &State,
     from: u16,
-    kind: ReplyKind,
+    kind: AnswerKind,
     device: DeviceNo,
     seq: u32,
 ) -> (Verdict, Events)
-    ensures { result ≡ on_reply state.now from kind device seq }
+    ensures { result ≡ on_answer state.now from kind device seq }
 {
     if !state.show().has_device(device) {
         return refused(Code::NoMethod);
@@ -34,7 +34,7 @@ pub(crate) fn on_reply(
     }
     match state.live().of_seq(seq) {
         None => refused(Code::Stale),
-        Some(attempt) => on_reply_to(attempt, kind, device),
+        Some(attempt) => on_answer_to(attempt, kind, device),
     }
 }
 
@@ -48,23 +48,23 @@ fn is_from_another(state: &State, device: DeviceNo, from: u16) -> bool
     }
 }
 
-fn on_reply_to(attempt: &Attempt, kind: ReplyKind, device: DeviceNo) -> (Verdict, Events)
-    ensures { result ≡ on_reply_to kind device attempt.now }
+fn on_answer_to(attempt: &Attempt, kind: AnswerKind, device: DeviceNo) -> (Verdict, Events)
+    ensures { result ≡ on_answer_to kind device attempt.now }
 {
     match attempt.answers.device_answer(device) {
         None => refused(Code::NotPart),
-        Some(told) => on_reply_in(kind, attempt.seq, *told, attempt.stage),
+        Some(told) => on_answer_in(kind, attempt.seq, *told, attempt.stage),
     }
 }
 
-fn on_reply_in(kind: ReplyKind, seq: u32, told: DeviceAnswer, stage: Stage) -> (Verdict, Events)
-    ensures { result ≡ on_reply_in kind seq told stage told.answer }
+fn on_answer_in(kind: AnswerKind, seq: u32, told: DeviceAnswer, stage: Stage) -> (Verdict, Events)
+    ensures { result ≡ on_answer_in kind seq told stage told.answer }
 {
     match kind {
-        ReplyKind::StandingBy => on_standing_by(seq, told, stage),
-        ReplyKind::Complete => on_complete(seq, told, stage),
-        ReplyKind::Cancelled => on_cancelled(seq, told, stage),
-        ReplyKind::Abort => on_abort(seq, told, stage),
+        AnswerKind::StandingBy => on_standing_by(seq, told, stage),
+        AnswerKind::Complete => on_complete(seq, told, stage),
+        AnswerKind::Cancelled => on_cancelled(seq, told, stage),
+        AnswerKind::Abort => on_abort(seq, told, stage),
     }
 }
 

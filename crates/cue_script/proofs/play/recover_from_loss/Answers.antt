@@ -1,5 +1,5 @@
 use Rattle.cue_script.proofs.ScriptLemmas.{closed_by_recovery, closed_sends, comes_of_recovery}
-use Rattle.cue_script.proofs.play.recovered.Goals as goal
+use Rattle.cue_script.proofs.play.recover_from_loss.Goals as goal
 
 pub returns-in-Ok-recover-clause-after : goal.returns-in-Ok-recover-clause-after
 returns-in-Ok-recover-clause-after c = record {

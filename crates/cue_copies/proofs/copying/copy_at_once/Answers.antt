@@ -2,7 +2,7 @@ use Rattle.std.proofs.Common.{◌≡◌, ap, ◌∙◌}
 use Rattle.cue_copies.specs.Copies.{copy_of}
 use Rattle.cue_copies.specs.declared.copying.Copies.{Copies}
 use Rattle.cue_copies.proofs.CopyLemmas.{some_copies}
-use Rattle.cue_copies.proofs.copying.copied_at_once.Goals as goal
+use Rattle.cue_copies.proofs.copying.copy_at_once.Goals as goal
 
 pub returns-clause-first : goal.returns-clause-first
 returns-clause-first g c = λ honest.

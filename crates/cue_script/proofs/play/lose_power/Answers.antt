@@ -1,4 +1,4 @@
-use Rattle.cue_script.proofs.play.crashed.Goals as goal
+use Rattle.cue_script.proofs.play.lose_power.Goals as goal
 
 pub returns : goal.returns
 returns c = c.close-first.ensures.stands tt tt c.requires.works _ _ c.in_ok-left.ensures.image

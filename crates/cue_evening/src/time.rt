@@ -4,19 +4,19 @@ use std::time::Clock;
 
 /// A time of the machine's clock.
 #[derive(Clone, Copy)]
-pub struct Moment {
+pub struct Time {
     /// To the second, in UTC.
     pub date: Timestamp,
     /// In milliseconds since 1970.
     pub millis: u64,
 }
 
-impl Moment {
+impl Time {
     /// The time now. None where the clock has none, or one after the year 9999.
-    pub fn now<R: Clock>(clock: &R) -> Option<Moment> {
+    pub fn now<R: Clock>(clock: &R) -> Option<Time> {
         let since = clock.since_1970().ok()?;
         let date = Timestamp::from_second(i64::try_from(since.as_secs()).ok()?).ok()?;
         let millis = u64::try_from(since.as_millis()).ok()?;
-        Some(Moment { date, millis })
+        Some(Time { date, millis })
     }
 }

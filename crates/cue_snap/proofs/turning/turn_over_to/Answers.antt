@@ -8,7 +8,7 @@ use Rattle.cue_log.proofs.SettledLemmas.{if_ok}
 use Rattle.cue_snap.specs.Pair.{IsOldOrNew}
 use Rattle.cue_snap.proofs.BarrierLemmas.{none_or_new}
 use Rattle.cue_snap.proofs.RenewalLemmas.{over_closed}
-use Rattle.cue_snap.proofs.turning.turn.Goals as goal
+use Rattle.cue_snap.proofs.turning.turn_over_to.Goals as goal
 
 pub returns-clause-bytes : goal.returns-clause-bytes
 returns-clause-bytes g c = λ honest.

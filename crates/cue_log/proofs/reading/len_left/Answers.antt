@@ -1,6 +1,6 @@
 use Rattle.std.proofs.Common.{◌∙◌}
 use Rattle.cue_log.proofs.StepLemmas.{bytes_behind_next}
-use Rattle.cue_log.proofs.reading.len_behind.Goals as goal
+use Rattle.cue_log.proofs.reading.len_left.Goals as goal
 
 pub loop-gate-preserved : goal.loop-gate-preserved
 loop-gate-preserved c =

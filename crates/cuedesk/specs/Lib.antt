@@ -6,3 +6,4 @@ pub mod Readings
 pub mod Replies
 pub mod Sockets
 pub mod Told
+pub mod Windows

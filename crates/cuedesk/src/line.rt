@@ -90,6 +90,11 @@ fn board<'a>(alloc: Global) -> Result<Command<'a>, AllocError> {
         .help("Print it once, as text")
         .long("once")
         .action(ArgAction::SetTrue);
+    let rows = Arg::new(alloc, "rows")
+        .help("How many rows the window has; 24 where nothing is said")
+        .long("rows")
+        .action(ArgAction::Set)
+        .value_parser(value_parser!(u16));
     over_dir(
         alloc,
         "board",
@@ -98,6 +103,7 @@ fn board<'a>(alloc: Global) -> Result<Command<'a>, AllocError> {
     .arg(file)?
     .arg(log)?
     .arg(relay_status(alloc))?
+    .arg(rows)?
     .arg(once)
 }
 
@@ -315,6 +321,7 @@ fn board_in(alloc: Global, found: &ArgMatches<'_>) -> Result<Line, LineFault> {
     Ok(Line::Board {
         watched,
         once: found.get_flag("once"),
+        rows: found.get_one::<u16>("rows"),
     })
 }
 

@@ -18,7 +18,7 @@ mod wire;
 
 use crate::line::line;
 use crate::line::words::{Line, LineFault};
-use board::show_board;
+use board::{show_board, window_of};
 use ending::{Ending, print, say};
 use files::{check_file, export};
 use loading::{How, load};
@@ -88,7 +88,14 @@ fn carry_out<R: Files<File = File> + Net + Clock + RandomSource + Eprint + Alloc
             load(rt, file.as_str(), *port, how, writer)
         }
         Line::Export { dir } => export(rt, dir.as_str(), writer),
-        Line::Board { watched, once } => show_board(rt, watched, *once || !is_terminal, writer),
+        Line::Board {
+            watched,
+            once,
+            rows,
+        } => {
+            let is_once = *once || !is_terminal;
+            show_board(rt, watched, window_of(is_once, *rows), writer)
+        }
         Line::Web(web) => serve_page(rt, web, writer),
         Line::Rehearse(rehearsal) => rehearse(rt, rehearsal, writer),
         Line::Relay { file, port, status } => {

@@ -49,6 +49,8 @@ pub enum Line {
     Board {
         watched: Watched,
         once: bool,
+        /// The rows of the window, where they are given.
+        rows: Option<u16>,
     },
     /// Show the board of a folder with buttons in a browser.
     Web(Web),

@@ -1,4 +1,7 @@
-//! The command `board`: once as text, or on a terminal, four times in a second.
+//! The command `board`: once as text, or on a terminal, four times a second.
+ghost use Rattle.std.specs.Prelude.{◌≡◌, ◌-◌, ◌+◌};
+ghost use Rattle.cuedesk.specs.Windows.{window_of};
+
 mod beside;
 mod screen;
 
@@ -8,7 +11,7 @@ use super::reading::{Reading, Store, time_now};
 use crate::line::words::Watched;
 pub use beside::read_status;
 use beside::{read_heard, read_log};
-use cue_desk::board::{COLUMNS, age_line, board_lines, fitted};
+use cue_desk::board::{COLUMNS, age_line, board_lines, board_lines_within, fitted};
 use cue_desk::show_file::ShowFile;
 use screen::Screen;
 use std::alloc::{AllocError, Global};
@@ -20,6 +23,27 @@ use std::time::{Clock, Duration};
 /// The time between two readings, in milliseconds.
 const PAUSE: u64 = 250;
 
+/// The rows of a window, where they are not given.
+const ROWS: u16 = 24;
+
+/// The rows of the window that the board is drawn in; none where it is printed once, as text.
+pub fn window_of(is_once: bool, given: Option<u16>) -> Option<u16>
+    ensures { result ≡ window_of is_once given }
+{
+    if is_once {
+        None
+    } else {
+        Some(given.unwrap_or(ROWS))
+    }
+}
+
+// How many lines the state has in a window of so many rows, with so many other lines and a row for the cursor.
+fn room_in(rows: u16, others: usize) -> usize
+    ensures { result ≡ rows - (others + 1) }
+{
+    usize::from(rows).saturating_sub(1).saturating_sub(others)
+}
+
 // Puts these lines after the others.
 fn append(lines: &mut Vec<String>, more: Vec<String>) -> Result<(), AllocError> {
     for line in more {
@@ -28,28 +52,13 @@ fn append(lines: &mut Vec<String>, more: Vec<String>) -> Result<(), AllocError> 
     Ok(())
 }
 
-// The lines of the state, with its age, and why it is old, where it is.
-fn lines_of(
-    alloc: Global,
-    reading: &Reading,
-    file: Option<&ShowFile>,
-    time: u64,
-    trouble: &str,
-) -> Result<Vec<String>, AllocError> {
-    let mut lines = board_lines(alloc, reading.state(), file, time)?;
-    lines.push(age_line(alloc, reading.time(), time)?)?;
-    if !trouble.is_empty() {
-        let text = format!(in alloc; "OLD    {trouble}")?;
-        lines.push(fitted(alloc, text.as_str(), COLUMNS)?)?;
-    }
-    Ok(lines)
-}
-
 /// The board of one folder.
 #[derive(Drop)]
 struct Board<'a, R> {
     rt: &'a R,
     watched: &'a Watched,
+    // the rows of its window; none where it is printed once
+    rows: Option<u16>,
     file: Option<ShowFile>,
     store: Store,
 }
@@ -66,16 +75,51 @@ impl<'a, R: Files<File = File> + Clock + AllocGlobal> Board<'a, R> {
         Ok(())
     }
 
+    // The lines after those of the state: its age, why it is old where it is, and what is read beside the store.
+    fn others(
+        &self,
+        reading: &Reading,
+        time: u64,
+        trouble: &str,
+    ) -> Result<Vec<String>, AllocError> {
+        let alloc = self.rt.alloc();
+        let mut lines = Vec::new(alloc);
+        lines.push(age_line(alloc, reading.time(), time)?)?;
+        if !trouble.is_empty() {
+            let text = format!(in alloc; "OLD    {trouble}")?;
+            lines.push(fitted(alloc, text.as_str(), COLUMNS)?)?;
+        }
+        self.push_beside(&mut lines, time)?;
+        Ok(lines)
+    }
+
+    // The lines of the state, beside so many others.
+    fn state_lines(
+        &self,
+        reading: &Reading,
+        time: u64,
+        others: usize,
+    ) -> Result<Vec<String>, AllocError> {
+        let (alloc, file) = (self.rt.alloc(), self.file.as_ref());
+        match self.rows {
+            Some(rows) => {
+                let room = room_in(rows, others);
+                board_lines_within(alloc, reading.state(), file, time, room)
+            }
+            None => board_lines(alloc, reading.state(), file, time),
+        }
+    }
+
     // The lines as of now; the outer `Err` is why there is no board at all.
     fn lines(&mut self) -> Result<Result<Vec<String>, String>, AllocError> {
         let trouble = self.store.look(self.rt);
-        let (alloc, time) = (self.rt.alloc(), time_now(self.rt));
+        let time = time_now(self.rt);
         let Some(reading) = self.store.last() else {
             return Ok(Err(trouble));
         };
-        let file = self.file.as_ref();
-        let mut lines = lines_of(alloc, reading, file, time, trouble.as_str())?;
-        self.push_beside(&mut lines, time)?;
+        let others = self.others(reading, time, trouble.as_str())?;
+        let mut lines = self.state_lines(reading, time, others.len())?;
+        append(&mut lines, others)?;
         Ok(Ok(lines))
     }
 }
@@ -138,11 +182,11 @@ fn show_on<R: Files<File = File> + Clock + AllocGlobal, W: Write>(
     Ok(())
 }
 
-/// The command `board`: once as text, or again and again on a terminal.
+/// The command `board`: once as text, or again and again in a window of so many rows.
 pub fn show_board<R: Files<File = File> + Clock + Eprint + AllocGlobal, W: Write>(
     rt: &R,
     watched: &Watched,
-    is_once: bool,
+    rows: Option<u16>,
     writer: &mut W,
 ) -> Result<(), Ending> {
     let file = match &watched.file {
@@ -153,10 +197,11 @@ pub fn show_board<R: Files<File = File> + Clock + Eprint + AllocGlobal, W: Write
     let mut board = Board {
         rt,
         watched,
+        rows,
         file,
         store: Store::new(dir),
     };
-    if is_once {
+    if rows.is_none() {
         print_once(&mut board, writer)
     } else {
         show_on(&mut board, writer)

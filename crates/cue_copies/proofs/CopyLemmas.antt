@@ -8,8 +8,8 @@ use Rattle.cue_keeper.specs.declared.fault.StoreFault.{StoreFault}
 use Rattle.cue_keeper.specs.declared.fault.StoreFault.TheVariants as store
 use Rattle.cue_snap.specs.Pair.{IsSpoiled, NeitherHas}
 use Rattle.cue_keeper.specs.Refusals.{HasOtherVersion, StandsForNone}
-use Rattle.cue_engine.specs.Recovery.{NoGenerationLeft, NoRoomLeft}
-use Rattle.cue_copies.specs.Copies.{CannotBeOpened, CannotBeRecovered, IsFront, IsOfMachine, fault_in_memory, filled}
+use Rattle.cue_engine.specs.Recovery.{CannotBeRecovered}
+use Rattle.cue_copies.specs.Copies.{CannotBeOpened, IsFront, IsOfMachine, fault_in_memory, filled}
 use Rattle.cue_copies.specs.declared.copying.Copies.{Copies}
 
 -- a part of the front is a front
@@ -97,20 +97,17 @@ unread fault x y (inl same) = subst (λ (f : StoreFault). CannotBeOpened f x y) 
 unread fault x y (inr same) = subst (λ (f : StoreFault). CannotBeOpened f x y) (sym same) tt
 
 -- what is answered of a recovery over disks in memory says why the two cannot be recovered
-pub refused_in_memory : (fault : StoreFault) (x y : List ℕ)
-    → (fault ≡ store.NotEmpty → ⊥) → (fault ≡ store.Unformed → NeitherHas x y) → (fault ≡ store.Damaged → IsSpoiled x y)
-    → (fault ≡ store.Version → HasOtherVersion x y) → (fault ≡ store.Malformed → StandsForNone x y)
-    → (fault ≡ store.Full → NoRoomLeft x y) → (fault ≡ store.Exhausted → NoGenerationLeft x y)
+pub refused_in_memory : (fault : StoreFault) (x y : List ℕ) → CannotBeRecovered fault x y
     → CannotBeRecovered (fault_in_memory fault) x y
-refused_in_memory store.NotEmpty x y not_empty unformed damaged version malformed full exhausted = not_empty refl
-refused_in_memory store.Unformed x y not_empty unformed damaged version malformed full exhausted = unformed refl
-refused_in_memory store.Damaged x y not_empty unformed damaged version malformed full exhausted = damaged refl
-refused_in_memory store.Version x y not_empty unformed damaged version malformed full exhausted = version refl
-refused_in_memory store.Malformed x y not_empty unformed damaged version malformed full exhausted = malformed refl
-refused_in_memory store.Full x y not_empty unformed damaged version malformed full exhausted = full refl
-refused_in_memory store.Exhausted x y not_empty unformed damaged version malformed full exhausted = exhausted refl
-refused_in_memory store.Memory x y not_empty unformed damaged version malformed full exhausted = tt
-refused_in_memory store.Disk x y not_empty unformed damaged version malformed full exhausted = tt
+refused_in_memory store.NotEmpty x y why = why
+refused_in_memory store.Unformed x y why = why
+refused_in_memory store.Damaged x y why = why
+refused_in_memory store.Version x y why = why
+refused_in_memory store.Malformed x y why = why
+refused_in_memory store.Full x y why = why
+refused_in_memory store.Exhausted x y why = why
+refused_in_memory store.Memory x y why = tt
+refused_in_memory store.Disk x y why = tt
 
 -- a fault of the machine says nothing of the two
 pub of_machine : (fault : StoreFault) (x y : List ℕ) → IsOfMachine fault → CannotBeRecovered fault x y

@@ -7,7 +7,7 @@ use Rattle.cue_snap.specs.Pair.{IsSpoiled, NeitherHas}
 use Rattle.cue_core.specs.State.{ShowState}
 use Rattle.cue_keeper.specs.Stands.{Stands}
 use Rattle.cue_keeper.specs.Refusals.{HasOtherVersion, StandsForNone}
-use Rattle.cue_engine.specs.Recovery.{NoGenerationLeft, NoRoomLeft}
+use Rattle.cue_engine.specs.Recovery.{CannotBeRecovered}
 use Rattle.cue_keeper.specs.declared.fault.StoreFault.{StoreFault}
 use Rattle.cue_keeper.specs.declared.fault.StoreFault.TheVariants as store
 
@@ -55,18 +55,6 @@ CannotBeOpened store.Disk x y = Unit {0}
 pub record StandForSome (x y : List ℕ) : Type 0 where
   pub state : ShowState
   pub stand : Stands x y state
-
--- why the two cannot be recovered; where memory or a device failed, nothing is said of them
-abbrev pub CannotBeRecovered : StoreFault → List ℕ → List ℕ → Type 0
-CannotBeRecovered store.NotEmpty x y = ⊥
-CannotBeRecovered store.Unformed x y = NeitherHas x y
-CannotBeRecovered store.Damaged x y = IsSpoiled x y
-CannotBeRecovered store.Version x y = HasOtherVersion x y
-CannotBeRecovered store.Malformed x y = StandsForNone x y
-CannotBeRecovered store.Full x y = NoRoomLeft x y
-CannotBeRecovered store.Exhausted x y = NoGenerationLeft x y
-CannotBeRecovered store.Memory x y = Unit {0}
-CannotBeRecovered store.Disk x y = Unit {0}
 
 -- it is said why the two cannot be recovered, or none is said and they stand for a state
 abbrev pub IsRefusalOf : Option StoreFault → List ℕ → List ℕ → Type 0

@@ -1,14 +1,15 @@
 -- What an input comes to, put together from what judging and keeping say.
 use Rattle.std.specs.Prelude.{IfOk, OnOk, OnErr, MatchResult}
-use Rattle.std.specs.Result.{result_err}
+use Rattle.std.specs.Result.{result_err, IsErrOf}
 use Rattle.std.proofs.Common.{◌≡◌, ℕ, [], ◌∷◌, ◌++◌, List, Result, Ok, Err, IsTrue, false, ap, sym, subst, ◌∙◌}
 use Rattle.cue_disk.specs.declared.disk.Disk.{Ghosts}
 use Rattle.cue_core.specs.declared.event.Event.{Event}
 use Rattle.cue_core.specs.State.{ShowState}
 use Rattle.cue_core.specs.Steps.{after_events, are_acceptable}
 use Rattle.cue_keeper.specs.declared.fault.Fault.{Fault}
+use Rattle.cue_keeper.specs.declared.fault.Fault.TheVariants as fault
 use Rattle.cue_keeper.specs.declared.keeper.Keeper.{Keeper}
-use Rattle.cue_keeper.specs.Accepting.{Accepts}
+use Rattle.cue_keeper.specs.Accepting.{Accepts, HasCause}
 use Rattle.cue_keeper.specs.Groups.{are_all_acceptable, batches_view}
 use Rattle.cue_keeper.specs.Stands.{folded_all}
 use Rattle.cue_keeper.specs.Observed as kept
@@ -54,6 +55,14 @@ takes old new what heard (Ok counts) gives owes accepts = record {
   counts = owes.0 ∙ gives.counts;
 }
 takes old new what heard (Err fault) gives owes accepts = tt
+
+-- a batch that is given alone is never refused as Full
+pub never_full : {D : Type 0} {disk : Ghosts D} (batch : List Event) (old new : Keeper D disk) (r : Result Taken Fault)
+    → Accepts batch (result_err r) old new → IsErrOf r fault.Full → ⊥
+never_full batch old new (Ok counts) accepts is = cc
+never_full batch old new (Err f) accepts is =
+    let same : f ≡ fault.Full = cc in
+    subst (λ (g : Fault). HasCause batch (kept.pair_of old) (kept.pair_of new) g) same accepts.pair.cause
 
 -- on a fault state and queue are as they were
 pub same : {D : Type 0} {disk : Ghosts D} (old new : Keeper D disk) (owed owes : List (ℕ × List ℕ)) (heard : Heard)

@@ -1,25 +1,25 @@
 -- What a store that is opened and then closed comes to.
-use Rattle.std.proofs.Common.{◌≡◌, ◌⊎◌, inl, inr, ℕ, ◌+◌, ◌-◌, ◌^◌, ◌<◌, ◌≤◌, List, length, Some, None, Result, Ok, Err}
+use Rattle.std.proofs.Common.{◌≡◌, ◌⊎◌, inl, inr, ℕ, ◌-◌, ◌^◌, ◌≤◌, List, length, Some, None, Result, Ok, Err}
 use Rattle.std.proofs.Common.{[], ◌∷◌, refl, ◌∙◌, ap, sym, subst, IsTrue}
-use Rattle.std.specs.Prelude.{IfOk}
+use Rattle.std.specs.Prelude.{IfOk, IfErr}
 use Rattle.cue_disk.specs.Disk.{Contents, IsImage}
 use Rattle.cue_log.specs.Area.{Area, area_text}
-use Rattle.cue_log.specs.declared.area.TheConstants.{MAX_AREA}
 use Rattle.cue_snap.specs.Observed.{first_after, second_after, RefusedAs}
+use Rattle.cue_snap.specs.Pair.{IsSpoiled, NeitherHas}
 use Rattle.cue_snap.proofs.ReaderLemmas.{one_of_a_pair}
 use Rattle.cue_core.specs.declared.event.Event.{Event}
 use Rattle.cue_core.specs.State.{ShowState}
 use Rattle.cue_core.specs.Steps.{after_events}
 use Rattle.cue_core.specs.Happenings.{events_at, recovered}
-use Rattle.cue_records.specs.State.{state_text}
 use Rattle.cue_keeper.specs.declared.fault.Fault.{Fault}
 use Rattle.cue_keeper.specs.declared.fault.StoreFault.{StoreFault}
 use Rattle.cue_keeper.specs.declared.fault.StoreFault.TheVariants as store
 use Rattle.cue_keeper.proofs.StandingLemmas.{one_state}
 use Rattle.cue_keeper.specs.Due.{is_due}
+use Rattle.cue_keeper.specs.Refusals.{HasOtherVersion, StandsForNone}
 use Rattle.cue_keeper.specs.Stands.{Stands, StandsEither, IsKept}
 use Rattle.cue_core.specs.Batches.{closed_state}
-use Rattle.cue_engine.specs.Recovery.{ClosedFrom, IsLeftOrStands, NeedsArea, NoGenerationLeft, NoRoomLeft, RefusedBut}
+use Rattle.cue_engine.specs.Recovery.{ClosedFrom, IsLeftOrStands, NeedsArea, NoGenerationLeft, RefusedBut, CannotBeRecovered}
 use Rattle.cue_engine.specs.Recovery.{cancels_length}
 
 -- ---- what a crash leaves
@@ -62,17 +62,6 @@ no_generation one other s generation count end kept first second some due last =
   last = sym kept.same_generation ∙ last;
 }
 
-pub no_room : (one other : Contents) (s : ShowState) (generation count end : ℕ)
-    → IsKept one other s generation count end → IsImage one one.bytes → IsImage other other.bytes
-    → 1 ≤ length (events_at s recovered) → IsTrue (is_due count end (cancels_length s))
-    → MAX_AREA < 19 + length (state_text s) + cancels_length s → NoRoomLeft one.bytes other.bytes
-no_room one other s generation count end kept first second some due long = record {
-  area = kept.area;
-  state = s;
-  needs = needs_area one other s generation count end kept first second some due;
-  long = long;
-}
-
 -- what the two read as is the area of the kept state
 the_area : (one other : Contents) (s : ShowState) (generation count end : ℕ)
     (kept : IsKept one other s generation count end) → IsImage one one.bytes → IsImage other other.bytes
@@ -109,16 +98,6 @@ generation_is one other s generation count end kept first second area t needs =
     kept.same_generation ∙ ap (λ (a : Area). a.generation)
     (sym (the_area one other s generation count end kept first second area t needs).0)
 
--- and there is no more room for the kept state than for it
-pub has_no_room : (one other : Contents) (s : ShowState) (generation count end : ℕ)
-    → IsKept one other s generation count end → IsImage one one.bytes → IsImage other other.bytes
-    → (area : Area) (t : ShowState) → NeedsArea one.bytes other.bytes area t
-    → MAX_AREA < 19 + length (state_text t) + cancels_length t
-    → MAX_AREA < 19 + length (state_text s) + cancels_length s
-has_no_room one other s generation count end kept first second area t needs long =
-    subst (λ (x : ShowState). MAX_AREA < 19 + length (state_text x) + cancels_length x)
-    (the_area one other s generation count end kept first second area t needs).1 long
-
 -- one fault or the other was reported, and is one of the store
 pub told_one : (f x y : Fault) (g gx gy : StoreFault) → (Some f ≡ Some x) ⊎ (Some f ≡ Some y) → (f ≡ x → g ≡ gx)
     → (f ≡ y → g ≡ gy) → (g ≡ gy) ⊎ (g ≡ gx) ⊎ (g ≡ store.Disk)
@@ -143,6 +122,31 @@ left_over store.Full g a b c d e h k = absurd (h refl)
 left_over store.Exhausted g a b c d e h k = absurd (k refl)
 left_over store.Memory g a b c d e h k = inr (inl refl)
 left_over store.Disk g a b c d e h k = inr (inr refl)
+
+-- a fault that has its reason says why the two cannot be recovered
+pub has_reason : (fault : StoreFault) (x y : List ℕ)
+    → (fault ≡ store.NotEmpty → ⊥) → (fault ≡ store.Unformed → NeitherHas x y) → (fault ≡ store.Damaged → IsSpoiled x y)
+    → (fault ≡ store.Version → HasOtherVersion x y) → (fault ≡ store.Malformed → StandsForNone x y)
+    → (fault ≡ store.Full → ⊥) → (fault ≡ store.Exhausted → NoGenerationLeft x y) → CannotBeRecovered fault x y
+has_reason store.NotEmpty x y not_empty unformed damaged version malformed full exhausted = not_empty refl
+has_reason store.Unformed x y not_empty unformed damaged version malformed full exhausted = unformed refl
+has_reason store.Damaged x y not_empty unformed damaged version malformed full exhausted = damaged refl
+has_reason store.Version x y not_empty unformed damaged version malformed full exhausted = version refl
+has_reason store.Malformed x y not_empty unformed damaged version malformed full exhausted = malformed refl
+has_reason store.Full x y not_empty unformed damaged version malformed full exhausted = full refl
+has_reason store.Exhausted x y not_empty unformed damaged version malformed full exhausted = exhausted refl
+has_reason store.Memory x y not_empty unformed damaged version malformed full exhausted = tt
+has_reason store.Disk x y not_empty unformed damaged version malformed full exhausted = tt
+
+-- where a store was opened, only its cancels can be refused
+pub cancels_refused : {T D : Type 0} (r : Result T (StoreFault × D × D)) (x y : List ℕ)
+    → RefusedAs store.NotEmpty ⊥ r × RefusedAs store.Unformed ⊥ r × RefusedAs store.Damaged ⊥ r
+    × RefusedAs store.Version ⊥ r × RefusedAs store.Malformed ⊥ r × RefusedAs store.Full ⊥ r
+    → RefusedAs store.Exhausted (NoGenerationLeft x y) r → IfErr r (λ refused. CannotBeRecovered refused.0 x y)
+cancels_refused (Ok made) x y no_other exhausted = tt
+cancels_refused (Err refused) x y no_other exhausted =
+    has_reason refused.0 x y no_other.0 (λ is. absurd (no_other.1 is)) (λ is. absurd (no_other.2 is))
+    (λ is. absurd (no_other.3 is)) (λ is. absurd (no_other.4 is)) no_other.5 exhausted
 
 -- being out of memory has hidden no fault of a device
 pub went_through : {T D : Type 0} (failures : D → ℕ) (first_in second_in : T → D) (a b : D) (n m : ℕ)

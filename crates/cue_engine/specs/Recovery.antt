@@ -1,16 +1,15 @@
 -- What a recovery leaves on two disks, and why it is refused.
-use Rattle.std.specs.Prelude.{◌≡◌, ◌⊎◌, ◌<◌, ◌≤◌, ◌+◌, ◌-◌, ◌^◌, ℕ, List, length, IsTrue, Result, Ok, Err}
+use Rattle.std.specs.Prelude.{◌≡◌, ◌⊎◌, ◌≤◌, ◌-◌, ◌^◌, ℕ, List, length, IsTrue, Result, Ok, Err}
 use Rattle.cue_disk.specs.Disk.{Contents, IsImage}
 use Rattle.cue_log.specs.Area.{Area, area_text}
-use Rattle.cue_log.specs.declared.area.TheConstants.{MAX_AREA, FRAME_LEN, HEAD_LEN}
-use Rattle.cue_snap.specs.Pair.{PairReads}
+use Rattle.cue_snap.specs.Pair.{PairReads, IsSpoiled, NeitherHas}
 use Rattle.cue_core.specs.State.{ShowState}
 use Rattle.cue_core.specs.Happenings.{events_at, recovered}
 use Rattle.cue_records.specs.Batch.{batch_text}
-use Rattle.cue_records.specs.State.{state_text}
 use Rattle.cue_keeper.specs.declared.fault.StoreFault.{StoreFault}
 use Rattle.cue_keeper.specs.declared.fault.StoreFault.TheVariants as store
 use Rattle.cue_keeper.specs.Due.{is_due}
+use Rattle.cue_keeper.specs.Refusals.{HasOtherVersion, StandsForNone}
 use Rattle.cue_keeper.specs.Stands.{StandsFor, Stands, StandsEither}
 use Rattle.cue_core.specs.Batches.{closed_state}
 
@@ -52,12 +51,17 @@ pub record NoGenerationLeft (x y : List ℕ) : Type 0 where
   pub needs : NeedsArea x y area state
   pub last : area.generation ≡ 2 ^ 64 - 1
 
--- A new area is needed, and the state and its cancels together do not fit into one.
-pub record NoRoomLeft (x y : List ℕ) : Type 0 where
-  pub area : Area
-  pub state : ShowState
-  pub needs : NeedsArea x y area state
-  pub long : MAX_AREA < HEAD_LEN + FRAME_LEN + 1 + length (state_text state) + cancels_length state
+-- why the two cannot be recovered; where memory or a device failed, nothing is said of them
+abbrev pub CannotBeRecovered : StoreFault → List ℕ → List ℕ → Type 0
+CannotBeRecovered store.NotEmpty x y = ⊥
+CannotBeRecovered store.Unformed x y = NeitherHas x y
+CannotBeRecovered store.Damaged x y = IsSpoiled x y
+CannotBeRecovered store.Version x y = HasOtherVersion x y
+CannotBeRecovered store.Malformed x y = StandsForNone x y
+CannotBeRecovered store.Full x y = ⊥
+CannotBeRecovered store.Exhausted x y = NoGenerationLeft x y
+CannotBeRecovered store.Memory x y = Unit {0}
+CannotBeRecovered store.Disk x y = Unit {0}
 
 -- it is so where any other fault is answered
 abbrev pub RefusedBut : {T E D : Type 0} → E → Type 0 → Result T (E × D × D) → Type 0

@@ -1,5 +1,5 @@
 // What a recovery from power loss gives up: each attempt that is undecided is cancelled, in one batch.
-ghost use Rattle.std.specs.Prelude.{◌≡◌, [], ◌∷◌, false, IsTrue, IfOk, OnOk, IsErrOf};
+ghost use Rattle.std.specs.Prelude.{◌≡◌, [], ◌∷◌, false, IsTrue, IfOk, OnOk};
 ghost use Rattle.std.specs.Result.{result_err};
 ghost use Rattle.cue_core.specs.Happenings.{events_at, recovered};
 ghost use Rattle.cue_core.specs.Steps.{are_acceptable};
@@ -82,7 +82,6 @@ pub(crate) fn close_undecided<D: Disk>(
     ensures draft { InStep (state_of keeper.new) draft.new }
     ensures last { OnOk result
         (batches_view draft.new.missing.items ≡ events_at (state_of keeper.old) recovered ∷ []) }
-    ensures no_full { IsErrOf result Fault.Full → ⊥ }
 {
     // Called for its clause that a keeper that is not broken stands for its state.
     let _broken = keeper.is_broken();

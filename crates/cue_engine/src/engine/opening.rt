@@ -1,22 +1,21 @@
 // How an engine comes to be: over a store that is formed, or over one that is recovered.
-ghost use Rattle.std.specs.Prelude.{◌≡◌, ◌≤◌, ◌<◌, ◌-◌, ◌^◌, ◌⊎◌, ◌↔◌, [], ◌∷◌, false, IfOk, OnOk};
+ghost use Rattle.std.specs.Prelude.{◌≡◌, ◌≤◌, ◌⊎◌, ◌↔◌, [], ◌∷◌, false, IfOk, IfErr, OnOk};
 ghost use Rattle.cue_disk.specs.Disk.{LeavesAtEachMoment, IsImage, MoreFailures};
-ghost use Rattle.cue_snap.specs.Pair.{NeitherHas, SomeIsThere, IsSpoiled, IsUnformedOr, PairLeaves, AfterBarrier};
+ghost use Rattle.cue_snap.specs.Pair.{NeitherHas, SomeIsThere, IsUnformedOr, PairLeaves, AfterBarrier};
 ghost use Rattle.cue_snap.specs.Observed.{first_after, second_after, RefusedAs};
 ghost use Rattle.cue_core.specs.State.{ShowState, empty_state};
 ghost use Rattle.cue_keeper.specs.Pairs.{LeavesPairsAtEachMoment};
 ghost use Rattle.cue_keeper.specs.Stands.{Stands, StandsEither, StandsAs, first_area};
-ghost use Rattle.cue_keeper.specs.Refusals.{HasOtherVersion, StandsForNone};
 ghost use Rattle.cue_keeper.specs.Observed as kept;
 ghost use Rattle.cue_outbox.specs.Sending.{datagrams, all_pending};
 ghost use Rattle.cue_core.specs.Batches.{closed_state};
 ghost use Rattle.cue_core.specs.Happenings.{events_at, recovered};
-ghost use Rattle.cue_engine.specs.Recovery.{ClosedFrom, IsLeftOrStands, MustBeRefusedAs, NoGenerationLeft, NoRoomLeft};
-ghost use Rattle.cue_engine.specs.Recovery.{RefusedBut};
+ghost use Rattle.cue_engine.specs.Recovery.{ClosedFrom, IsLeftOrStands, CannotBeRecovered, MustBeRefusedAs};
+ghost use Rattle.cue_engine.specs.Recovery.{NoGenerationLeft, RefusedBut};
 ghost use Rattle.cue_engine.specs.Taking.{IsOffered};
 ghost use Rattle.cue_engine.specs.Observed.{keeper_of, state_of, queue_of, first_of, second_of, last_batches_of};
 
-use super::{Engine, discard};
+use super::Engine;
 use crate::drafts::Draft;
 use crate::recovering::close_undecided;
 use cue_disk::Disk;
@@ -104,32 +103,20 @@ impl<D: Disk> Engine<D> {
             → IfOk result (λ engine. last_batches_of engine ≡ events_at s recovered ∷ []) }
 
         // Each refusal has its reason.
-        ensures damaged { D.is_honest first → D.is_honest second
-            → RefusedAs StoreFault.Damaged (IsSpoiled (D.held first).bytes (D.held second).bytes) result }
-        ensures unformed { D.is_honest first → D.is_honest second
-            → RefusedAs StoreFault.Unformed (NeitherHas (D.held first).bytes (D.held second).bytes) result }
-        ensures version { D.is_honest first → D.is_honest second
-            → RefusedAs StoreFault.Version (HasOtherVersion (D.held first).bytes (D.held second).bytes) result }
-        ensures malformed { D.is_honest first → D.is_honest second
-            → RefusedAs StoreFault.Malformed (StandsForNone (D.held first).bytes (D.held second).bytes) result }
-        ensures exhausted { D.is_honest first → D.is_honest second
-            → RefusedAs StoreFault.Exhausted (NoGenerationLeft (D.held first).bytes (D.held second).bytes) result }
-        ensures full { D.is_honest first → D.is_honest second
-            → RefusedAs StoreFault.Full (NoRoomLeft (D.held first).bytes (D.held second).bytes) result }
+        ensures refused { D.is_honest first → D.is_honest second → IfErr result
+            (λ refused. CannotBeRecovered refused.0 (D.held first).bytes (D.held second).bytes) }
         ensures disk { RefusedAs StoreFault.Disk (MoreFailures (D.failures first)
             (D.failures (first_after first_of result))
             ⊎ MoreFailures (D.failures second) (D.failures (second_after second_of result))) result }
         // Out of memory hides no fault of a device: each call went through.
         ensures memory { RefusedAs StoreFault.Memory ((D.failures (first_after first_of result) ≡ D.failures first)
             × (D.failures (second_after second_of result) ≡ D.failures second)) result }
+        // A new area has room for any state and the cancels.
         ensures no_other { RefusedAs StoreFault.NotEmpty ⊥ result × RefusedAs StoreFault.Full ⊥ result }
-        // Exhausted and Full come wherever they can.
+        // Exhausted comes wherever it can.
         ensures due_at_the_last { D.is_honest first → D.is_honest second
             → NoGenerationLeft (D.held first).bytes (D.held second).bytes
             → MustBeRefusedAs StoreFault.Exhausted result }
-        ensures due_without_room { D.is_honest first → D.is_honest second
-            → (none : NoRoomLeft (D.held first).bytes (D.held second).bytes) → none.area.generation < 2 ^ 64 - 1
-            → MustBeRefusedAs StoreFault.Full result }
         // A store that stands for a state is never called unformed, damaged, of another version or malformed.
         ensures readable { D.is_honest first → D.is_honest second → (s : ShowState)
             → Stands (D.held first).bytes (D.held second).bytes s
@@ -169,9 +156,6 @@ fn close_opened<D: Disk>(alloc: Global, keeper: Keeper<D>) -> Result<Engine<D>, 
     ensures exhausted { D.is_honest (kept.first_of keeper) → D.is_honest (kept.second_of keeper)
         → RefusedAs StoreFault.Exhausted (NoGenerationLeft (D.held (kept.first_of keeper)).bytes
         (D.held (kept.second_of keeper)).bytes) result }
-    ensures full { D.is_honest (kept.first_of keeper) → D.is_honest (kept.second_of keeper)
-        → RefusedAs StoreFault.Full (NoRoomLeft (D.held (kept.first_of keeper)).bytes
-        (D.held (kept.second_of keeper)).bytes) result }
     ensures disk { RefusedAs StoreFault.Disk (MoreFailures (D.failures (kept.first_of keeper))
         (D.failures (first_after first_of result)) ⊎ MoreFailures (D.failures (kept.second_of keeper))
         (D.failures (second_after second_of result))) result }
@@ -181,9 +165,6 @@ fn close_opened<D: Disk>(alloc: Global, keeper: Keeper<D>) -> Result<Engine<D>, 
     ensures due_at_the_last { D.is_honest (kept.first_of keeper) → D.is_honest (kept.second_of keeper)
         → NoGenerationLeft (D.held (kept.first_of keeper)).bytes (D.held (kept.second_of keeper)).bytes
         → MustBeRefusedAs StoreFault.Exhausted result }
-    ensures due_without_room { D.is_honest (kept.first_of keeper) → D.is_honest (kept.second_of keeper)
-        → (none : NoRoomLeft (D.held (kept.first_of keeper)).bytes (D.held (kept.second_of keeper)).bytes)
-        → none.area.generation < 2 ^ 64 - 1 → MustBeRefusedAs StoreFault.Full result }
     ensures any_moment { D.is_honest (kept.first_of keeper) → D.is_honest (kept.second_of keeper)
         → LeavesPairsAtEachMoment D.moment D.held_at (kept.first_of keeper) (kept.second_of keeper)
         (first_after first_of result) (second_after second_of result)
@@ -211,7 +192,7 @@ fn close_opened<D: Disk>(alloc: Global, keeper: Keeper<D>) -> Result<Engine<D>, 
             queue,
         }),
         Err(fault) => {
-            discard(draft);
+            drop(draft);
             let (first, second) = keeper.close();
             Err((store_fault(fault), first, second))
         }
@@ -220,19 +201,17 @@ fn close_opened<D: Disk>(alloc: Global, keeper: Keeper<D>) -> Result<Engine<D>, 
 
 // Why the cancels are not accepted, as a fault of the store.
 fn store_fault(fault: Fault) -> StoreFault
-    requires { fault ≡ Fault.Broken → ⊥ }
+    requires works { fault ≡ Fault.Broken → ⊥ }
+    requires room { fault ≡ Fault.Full → ⊥ }
     ensures memory { (result ≡ StoreFault.Memory) ↔ (fault ≡ Fault.Memory) }
     ensures exhausted { (result ≡ StoreFault.Exhausted) ↔ (fault ≡ Fault.Exhausted) }
-    ensures full { (result ≡ StoreFault.Full) ↔ (fault ≡ Fault.Full) }
     ensures disk { (result ≡ StoreFault.Disk) ↔ (fault ≡ Fault.Disk) }
-    ensures no_other { (result ≡ StoreFault.Memory) ⊎ (result ≡ StoreFault.Exhausted) ⊎ (result ≡ StoreFault.Full)
-        ⊎ (result ≡ StoreFault.Disk) }
+    ensures no_other { (result ≡ StoreFault.Memory) ⊎ (result ≡ StoreFault.Exhausted) ⊎ (result ≡ StoreFault.Disk) }
 {
     match fault {
-        Fault::Broken => unreachable!(),
+        Fault::Broken | Fault::Full => unreachable!(),
         Fault::Memory => StoreFault::Memory,
         Fault::Exhausted => StoreFault::Exhausted,
-        Fault::Full => StoreFault::Full,
         Fault::Disk => StoreFault::Disk,
     }
 }

@@ -8,7 +8,7 @@ ghost use Rattle.cue_keeper.specs.Observed as kept;
 ghost use Rattle.cue_engine.specs.Given.{given_of};
 ghost use Rattle.cue_engine.specs.Inputs.{input_view};
 
-use super::{Engine, discard, drop_offered};
+use super::{Engine, drop_offered};
 use crate::input::Input;
 use crate::keeping::keep_together;
 use crate::offers::{offer_first, offer_next};
@@ -114,7 +114,7 @@ impl<D: Disk> Engine<D> {
     {
         let offered = self.offered.take();
         if self.keeper.is_broken() {
-            discard(offered);
+            drop(offered);
             self.spare.is_valid = false;
             return Err(Fault::Broken);
         }

@@ -1,7 +1,7 @@
 use Rattle.std.proofs.Common.{sym, subst}
 use Rattle.cue_disk.specs.Memory.{memory_bytes}
 use Rattle.cue_keeper.specs.declared.fault.StoreFault.{StoreFault}
-use Rattle.cue_copies.specs.Copies.{CannotBeRecovered}
+use Rattle.cue_engine.specs.Recovery.{CannotBeRecovered}
 use Rattle.cue_copies.proofs.CopyLemmas.{refused_in_memory}
 use Rattle.cue_copies.proofs.copying.recovery_refusal.Goals as goal
 
@@ -14,7 +14,5 @@ pub returns-clause-refusal : goal.returns-clause-refusal
 returns-clause-refusal c =
     let x = memory_bytes c.args.first in
     let y = memory_bytes c.args.second in
-    let why = c.in-Err.ensures in
     subst (λ (fault : StoreFault). CannotBeRecovered fault x y) (sym c.fault_in_memory.ensures)
-    (refused_in_memory c.in-Err.fault x y why.no_other.0 (why.unformed tt tt) (why.damaged tt tt) (why.version tt tt)
-    (why.malformed tt tt) (why.full tt tt) (why.exhausted tt tt))
+    (refused_in_memory c.in-Err.fault x y (c.in-Err.ensures.refused tt tt))

@@ -11,7 +11,7 @@ use Rattle.cue_core.specs.Batches.{closed_state}
 use Rattle.cue_engine.specs.Recovery.{IsLeftOrStands}
 use Rattle.cue_engine.specs.Observed.{state_of, first_of, second_of, last_batches_of}
 use Rattle.cue_engine.proofs.ReopenedLemmas.{closed_from, left_or_stands, unwritten, went_through, left_over}
-use Rattle.cue_engine.proofs.ReopenedLemmas.{cancels_of}
+use Rattle.cue_engine.proofs.ReopenedLemmas.{cancels_of, has_reason, cancels_refused}
 use Rattle.cue_engine.proofs.engine.Engine.recover.Goals as goal
 
 pub returns-in-Ok-clause-any_moment : goal.returns-in-Ok-clause-any_moment
@@ -73,16 +73,19 @@ pub returns-in-Ok-clause-stands : goal.returns-in-Ok-clause-stands
 returns-in-Ok-clause-stands g c = λ first second. c.close_opened.ensures.stands (c.in-Ok.ensures.first_honest.1 first)
     (c.in-Ok.ensures.second_honest.1 second)
 
-pub returns-in-Ok-clause-exhausted : goal.returns-in-Ok-clause-exhausted
-returns-in-Ok-clause-exhausted g c = λ first second.
+pub returns-in-Ok-clause-refused : goal.returns-in-Ok-clause-refused
+returns-in-Ok-clause-refused g c = λ first second.
     rw (← c.in-Ok.ensures.first_bytes first, ← c.in-Ok.ensures.second_bytes second)
+    (cancels_refused c.close_opened.result _ _ c.close_opened.ensures.no_other
     (c.close_opened.ensures.exhausted (c.in-Ok.ensures.first_honest.1 first)
-    (c.in-Ok.ensures.second_honest.1 second))
+    (c.in-Ok.ensures.second_honest.1 second)))
 
-pub returns-in-Ok-clause-full : goal.returns-in-Ok-clause-full
-returns-in-Ok-clause-full g c = λ first second.
-    rw (← c.in-Ok.ensures.first_bytes first, ← c.in-Ok.ensures.second_bytes second)
-    (c.close_opened.ensures.full (c.in-Ok.ensures.first_honest.1 first) (c.in-Ok.ensures.second_honest.1 second))
+pub returns-in-Err-clause-refused : goal.returns-in-Err-clause-refused
+returns-in-Err-clause-refused g c = λ first second.
+    let told = c.in-Err.ensures in
+    has_reason c.in-Err.refused.0 (g.D.Disk.held c.args.first).bytes (g.D.Disk.held c.args.second).bytes
+    told.no_other.0 (told.unformed first second) (told.damaged first second) (told.version first second)
+    (told.malformed first second) told.no_other.1 (λ is. absurd (told.no_other.2 is))
 
 pub returns-in-Ok-clause-memory : goal.returns-in-Ok-clause-memory
 returns-in-Ok-clause-memory g c =
@@ -96,12 +99,6 @@ returns-in-Ok-clause-due_at_the_last g c = λ first second.
     (c.close_opened.ensures.due_at_the_last (c.in-Ok.ensures.first_honest.1 first)
     (c.in-Ok.ensures.second_honest.1 second))
 
-pub returns-in-Ok-clause-due_without_room : goal.returns-in-Ok-clause-due_without_room
-returns-in-Ok-clause-due_without_room g c = λ first second.
-    rw (← c.in-Ok.ensures.first_bytes first, ← c.in-Ok.ensures.second_bytes second)
-    (c.close_opened.ensures.due_without_room (c.in-Ok.ensures.first_honest.1 first)
-    (c.in-Ok.ensures.second_honest.1 second))
-
 pub returns-in-Err-clause-due_at_the_last : goal.returns-in-Err-clause-due_at_the_last
 returns-in-Err-clause-due_at_the_last g c = λ first second none.
     let needs = none.needs in
@@ -109,16 +106,6 @@ returns-in-Err-clause-due_at_the_last g c = λ first second none.
     (record { area = none.area; reads = needs.reads; stands = needs.stands }) in
     let told = c.in-Err.ensures in
     left_over c.in-Err.refused.0 store.Exhausted told.no_other.0 (λ is. never.0 (told.unformed first second is))
-    (λ is. never.1 (told.damaged first second is)) (λ is. never.2 (told.version first second is))
-    (λ is. never.3 (told.malformed first second is)) told.no_other.1 told.no_other.2
-
-pub returns-in-Err-clause-due_without_room : goal.returns-in-Err-clause-due_without_room
-returns-in-Err-clause-due_without_room g c = λ first second none below.
-    let needs = none.needs in
-    let never = is_opened (g.D.Disk.held c.args.first).bytes (g.D.Disk.held c.args.second).bytes none.state
-    (record { area = none.area; reads = needs.reads; stands = needs.stands }) in
-    let told = c.in-Err.ensures in
-    left_over c.in-Err.refused.0 store.Full told.no_other.0 (λ is. never.0 (told.unformed first second is))
     (λ is. never.1 (told.damaged first second is)) (λ is. never.2 (told.version first second is))
     (λ is. never.3 (told.malformed first second is)) told.no_other.1 told.no_other.2
 

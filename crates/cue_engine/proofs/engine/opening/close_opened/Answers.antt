@@ -1,4 +1,4 @@
-use Rattle.std.proofs.Common.{◌≡◌, ◌<◌, ◌-◌, ◌^◌, ℕ, ap, sym, ◌∙◌, subst, true≢false}
+use Rattle.std.proofs.Common.{◌≡◌, ap, sym, ◌∙◌, subst, true≢false}
 use Rattle.cue_core.specs.Happenings.{events_at, recovered}
 use Rattle.cue_core.specs.State.{ShowState}
 use Rattle.cue_keeper.specs.declared.fault.Fault.{Fault}
@@ -10,38 +10,31 @@ use Rattle.cue_keeper.proofs.CommittedLemmas.{unless_disk}
 use Rattle.cue_snap.specs.Observed as snap
 use Rattle.cue_keeper.specs.declared.fault.Fault.TheVariants as fault
 use Rattle.cue_keeper.specs.declared.fault.StoreFault.TheVariants as store
-use Rattle.cue_engine.proofs.ReopenedLemmas.{no_generation, no_room, needs_new_area, generation_is, has_no_room}
+use Rattle.cue_engine.proofs.ReopenedLemmas.{no_generation, needs_new_area, generation_is}
 use Rattle.cue_engine.proofs.ReopenedLemmas.{told_one, none_told, closed_so}
 use Rattle.cue_engine.proofs.engine.opening.close_opened.Goals as goal
 
-pub store_fault-requires : goal.store_fault-requires
-store_fault-requires g c = λ broken.
+pub store_fault-requires-clause-works : goal.store_fault-requires-clause-works
+store_fault-requires-clause-works g c = λ broken.
     let keeper = c.args.keeper in
-    let why = subst (λ (f : Fault). HasCause (state_of keeper) (events_at (state_of keeper) recovered) (pair_of keeper)
+    let why = subst (λ (f : Fault). HasCause (events_at (state_of keeper) recovered) (pair_of keeper)
     (pair_of c.close_undecided.new.keeper) f) broken c.in-Err.ensures.accepts.pair.cause in
     absurd (true≢false (sym why ∙ c.requires.works))
+
+pub store_fault-requires-clause-room : goal.store_fault-requires-clause-room
+store_fault-requires-clause-room g c = λ full.
+    let keeper = c.args.keeper in
+    subst (λ (f : Fault). HasCause (events_at (state_of keeper) recovered) (pair_of keeper)
+    (pair_of c.close_undecided.new.keeper) f) full c.in-Err.ensures.accepts.pair.cause
 
 pub returns-in-Err-clause-exhausted : goal.returns-in-Err-clause-exhausted
 returns-in-Err-clause-exhausted g c = λ first second refused.
     let d = g.D.Disk in
     let keeper = c.args.keeper in
-    let told = subst (λ (f : Fault). HasCause (state_of keeper) (events_at (state_of keeper) recovered) (pair_of keeper)
+    let told = subst (λ (f : Fault). HasCause (events_at (state_of keeper) recovered) (pair_of keeper)
     (pair_of c.close_undecided.new.keeper) f) (c.store_fault.ensures.exhausted.0 refused)
     c.in-Err.ensures.accepts.pair.cause in
     no_generation (d.held (first_of keeper)) (d.held (second_of keeper)) (state_of keeper) (generation_of keeper)
-    (count_of keeper) (end_of keeper)
-    (c.is_broken-broken.ensures.kept first second c.requires.works)
-    (g.met.D.Disk.reads_as_image (first_of keeper) first) (g.met.D.Disk.reads_as_image (second_of keeper) second)
-    told.0.0 told.0.1 told.1
-
-pub returns-in-Err-clause-full : goal.returns-in-Err-clause-full
-returns-in-Err-clause-full g c = λ first second refused.
-    let d = g.D.Disk in
-    let keeper = c.args.keeper in
-    let told = subst (λ (f : Fault). HasCause (state_of keeper) (events_at (state_of keeper) recovered) (pair_of keeper)
-    (pair_of c.close_undecided.new.keeper) f) (c.store_fault.ensures.full.0 refused)
-    c.in-Err.ensures.accepts.pair.cause in
-    no_room (d.held (first_of keeper)) (d.held (second_of keeper)) (state_of keeper) (generation_of keeper)
     (count_of keeper) (end_of keeper)
     (c.is_broken-broken.ensures.kept first second c.requires.works)
     (g.met.D.Disk.reads_as_image (first_of keeper) first) (g.met.D.Disk.reads_as_image (second_of keeper) second)
@@ -51,7 +44,7 @@ pub returns-in-Err-clause-disk : goal.returns-in-Err-clause-disk
 returns-in-Err-clause-disk g c = λ refused.
     let keeper = c.args.keeper in
     rw (c.close-first.ensures.first, c.close-first.ensures.second)
-    (subst (λ (f : Fault). HasCause (state_of keeper) (events_at (state_of keeper) recovered) (pair_of keeper)
+    (subst (λ (f : Fault). HasCause (events_at (state_of keeper) recovered) (pair_of keeper)
     (pair_of c.close_undecided.new.keeper) f) (c.store_fault.ensures.disk.0 refused)
     c.in-Err.ensures.accepts.pair.cause)
 
@@ -145,26 +138,6 @@ returns-in-Err-clause-due_at_the_last g c = λ first second none.
     (c.in-Err.ensures.accepts.pair.due_at_the_last c.requires.works needs last) c.store_fault.ensures.memory.1
     c.store_fault.ensures.exhausted.1
 
-pub returns-in-Err-clause-due_without_room : goal.returns-in-Err-clause-due_without_room
-returns-in-Err-clause-due_without_room g c = λ first second none below.
-    let d = g.D.Disk in
-    let keeper = c.args.keeper in
-    let one = d.held (first_of keeper) in
-    let other = d.held (second_of keeper) in
-    let kept = c.is_broken-broken.ensures.kept first second c.requires.works in
-    let image_one = g.met.D.Disk.reads_as_image (first_of keeper) first in
-    let image_other = g.met.D.Disk.reads_as_image (second_of keeper) second in
-    let needs = needs_new_area one other (state_of keeper) (generation_of keeper) (count_of keeper) (end_of keeper) kept
-    image_one image_other none.area none.state none.needs in
-    let same = generation_is one other (state_of keeper) (generation_of keeper) (count_of keeper) (end_of keeper) kept
-    image_one image_other none.area none.state none.needs in
-    let long = has_no_room one other (state_of keeper) (generation_of keeper) (count_of keeper) (end_of keeper) kept
-    image_one image_other none.area none.state none.needs none.long in
-    told_one c.in-Err.fault fault.Memory fault.Full c.store_fault.result store.Memory store.Full
-    (c.in-Err.ensures.accepts.pair.due_without_room c.requires.works needs
-    (subst (λ (n : ℕ). n < 2 ^ 64 - 1) (sym same) below) long) c.store_fault.ensures.memory.1
-    c.store_fault.ensures.full.1
-
 pub returns-in-Ok-clause-due_at_the_last : goal.returns-in-Ok-clause-due_at_the_last
 returns-in-Ok-clause-due_at_the_last g c = λ first second none.
     let d = g.D.Disk in
@@ -179,21 +152,3 @@ returns-in-Ok-clause-due_at_the_last g c = λ first second none.
     let last = generation_is one other (state_of keeper) (generation_of keeper) (count_of keeper) (end_of keeper) kept
     image_one image_other none.area none.state none.needs ∙ none.last in
     none_told fault.Memory fault.Exhausted (c.in-Ok.ensures.accepts.pair.due_at_the_last c.requires.works needs last)
-
-pub returns-in-Ok-clause-due_without_room : goal.returns-in-Ok-clause-due_without_room
-returns-in-Ok-clause-due_without_room g c = λ first second none below.
-    let d = g.D.Disk in
-    let keeper = c.args.keeper in
-    let one = d.held (first_of keeper) in
-    let other = d.held (second_of keeper) in
-    let kept = c.is_broken-broken.ensures.kept first second c.requires.works in
-    let image_one = g.met.D.Disk.reads_as_image (first_of keeper) first in
-    let image_other = g.met.D.Disk.reads_as_image (second_of keeper) second in
-    let needs = needs_new_area one other (state_of keeper) (generation_of keeper) (count_of keeper) (end_of keeper) kept
-    image_one image_other none.area none.state none.needs in
-    let same = generation_is one other (state_of keeper) (generation_of keeper) (count_of keeper) (end_of keeper) kept
-    image_one image_other none.area none.state none.needs in
-    let long = has_no_room one other (state_of keeper) (generation_of keeper) (count_of keeper) (end_of keeper) kept
-    image_one image_other none.area none.state none.needs none.long in
-    none_told fault.Memory fault.Full (c.in-Ok.ensures.accepts.pair.due_without_room c.requires.works needs
-    (subst (λ (n : ℕ). n < 2 ^ 64 - 1) (sym same) below) long)

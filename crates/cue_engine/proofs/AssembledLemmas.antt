@@ -1,7 +1,7 @@
 -- What an input comes to, put together from what judging and keeping say.
-use Rattle.std.specs.Prelude.{IfOk, OnOk, OnErr, MatchResult}
+use Rattle.std.specs.Prelude.{IfOk, OnOk, OnErr, MatchResult, Some, length, ◌≤◌}
 use Rattle.std.specs.Result.{result_err, IsErrOf}
-use Rattle.std.proofs.Common.{◌≡◌, ℕ, [], ◌∷◌, ◌++◌, List, Result, Ok, Err, IsTrue, false, ap, sym, subst, ◌∙◌}
+use Rattle.std.proofs.Common.{◌≡◌, ℕ, [], ◌∷◌, ◌++◌, List, Result, Ok, Err, IsTrue, false, ap, sym, subst, refl, arith, ◌∙◌}
 use Rattle.cue_disk.specs.declared.disk.Disk.{Ghosts}
 use Rattle.cue_core.specs.declared.event.Event.{Event}
 use Rattle.cue_core.specs.State.{ShowState}
@@ -9,8 +9,8 @@ use Rattle.cue_core.specs.Steps.{after_events, are_acceptable}
 use Rattle.cue_keeper.specs.declared.fault.Fault.{Fault}
 use Rattle.cue_keeper.specs.declared.fault.Fault.TheVariants as fault
 use Rattle.cue_keeper.specs.declared.keeper.Keeper.{Keeper}
-use Rattle.cue_keeper.specs.Accepting.{Accepts, HasCause}
-use Rattle.cue_keeper.specs.Groups.{are_all_acceptable, batches_view}
+use Rattle.cue_keeper.specs.Accepting.{Accepts, HasCause, AcceptsTogether, HasCauseTogether, AreSeveral, HaveRoom}
+use Rattle.cue_keeper.specs.Groups.{are_all_acceptable, batches_view, with_events}
 use Rattle.cue_keeper.specs.Stands.{folded_all}
 use Rattle.cue_keeper.specs.Observed as kept
 use Rattle.cue_outbox.specs.Views.{outs_view}
@@ -63,6 +63,22 @@ never_full batch old new (Ok counts) accepts is = cc
 never_full batch old new (Err f) accepts is =
     let same : f ≡ fault.Full = cc in
     subst (λ (g : Fault). HasCause batch (kept.pair_of old) (kept.pair_of new) g) same accepts.pair.cause
+
+-- nor are batches that are given together, where there is room for them
+pub never_full_together : {D : Type 0} {disk : Ghosts D} (batches : List (List Event)) (old new : Keeper D disk)
+    (f : Fault) → AcceptsTogether batches (Some f) old new → HaveRoom (kept.pair_of old) batches → f ≡ fault.Full → ⊥
+never_full_together batches old new f accepts room full = by (with_events batches) refl
+  where
+    by : (some : List (List Event)) → with_events batches ≡ some → ⊥
+    by [] none =
+        subst (λ (g : Fault). HasCause [] (kept.pair_of old) (kept.pair_of new) g) full (accepts.pair.quiet none).cause
+    by (one ∷ []) alone =
+        subst (λ (g : Fault). HasCause one (kept.pair_of old) (kept.pair_of new) g) full
+        (accepts.pair.alone one alone).cause
+    by (one ∷ another ∷ others) is =
+        let several : AreSeveral batches = subst (λ (l : List (List Event)). 2 ≤ length l) (sym is) (omega arith) in
+        room several (subst (λ (g : Fault). HasCauseTogether batches (kept.pair_of old) (kept.pair_of new) g) full
+        (accepts.pair.cause several))
 
 -- on a fault state and queue are as they were
 pub same : {D : Type 0} {disk : Ghosts D} (old new : Keeper D disk) (owed owes : List (ℕ × List ℕ)) (heard : Heard)

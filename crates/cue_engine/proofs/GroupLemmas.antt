@@ -2,7 +2,7 @@
 use Rattle.std.specs.List.{slice_get}
 use Rattle.std.proofs.lemmas.Option.{slice_get_within}
 use Rattle.cue_records.proofs.TakingLemmas.{some_is}
-use Rattle.std.proofs.Common.{◌≡◌, ℕ, zero, suc, ◌+◌, ◌-◌, arith, length, Some, Vec, Global, Bool, true, ◌&&◌, List, []}
+use Rattle.std.proofs.Common.{◌≡◌, ℕ, zero, suc, ◌+◌, ◌-◌, arith, length, Some, Vec, Global, true, List, []}
 use Rattle.std.proofs.Common.{◌∷◌, ◌++◌, IsTrue, refl, sym, ◌∙◌, ap, append-nil, append_assoc}
 use Rattle.cue_core.specs.declared.event.Event.{Event}
 use Rattle.cue_core.specs.State.{ShowState, is_state}
@@ -15,8 +15,8 @@ use Rattle.cue_keeper.specs.Stands.{folded_all}
 use Rattle.cue_keeper.proofs.GroupLemmas.{folded_append}
 use Rattle.cue_outbox.specs.Sending.{Send}
 use Rattle.cue_engine.specs.Given.{Input, given_of}
-use Rattle.cue_engine.specs.Groups.{batches_given, sends_given, all_took, last_of, GroupIsARun}
-use Rattle.cue_engine.specs.Runs.{with_batch, joined_list, run}
+use Rattle.cue_engine.specs.Groups.{batches_given, sends_given, last_of, GroupIsARun}
+use Rattle.cue_engine.specs.Runs.{with_batch, joined_list}
 use Rattle.cue_engine.proofs.HistoryLemmas.{input-ok}
 
 -- ---- one batch more

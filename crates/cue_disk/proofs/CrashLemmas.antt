@@ -20,7 +20,7 @@ torn_front : (at n : ℕ) (old new : List ℕ) → Torn at n old new → (i : �
 torn_front at n old new torn i within = sym (get_or-take at new i 0 within)
     ∙ ap (λ (l : List ℕ). get_or l i 0) torn.before ∙ get_or-take at old i 0 within
 
--- the bytes behind it
+-- the bytes after it
 torn_behind : (at n : ℕ) (old new : List ℕ) → Torn at n old new → (i : ℕ) → at + n ≤ i → get_or new i 0 ≡ get_or old i 0
 torn_behind at n old new torn i past =
     let at_i : at + n + (i - (at + n)) ≡ i = omega arith in
@@ -101,7 +101,7 @@ overwritten_within old bytes at i room low =
     ∙ get_or-append_right (take at old) bytes at (at + i) 0 long (omega arith)
     ∙ ap (λ (k : ℕ). get_or bytes k 0) (omega arith)
 
--- and behind it
+-- and after it
 pub overwritten_behind : (old bytes : List ℕ) (at i : ℕ) → at ≤ length old → at + length bytes ≤ i
     → get_or (overwritten_bytes old at bytes) i 0 ≡ get_or old i 0
 overwritten_behind old bytes at i room past =

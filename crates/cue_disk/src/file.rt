@@ -67,8 +67,8 @@ impl DiskOver<File> {
         opened.and_then(FileDisk::over).map_err(opening_fault)
     }
 
-    /// Opens a file that is there, to read it alone: the system refuses each write. For whoever looks at a store, and so
-    /// cannot change it, and needs no permission to.
+    /// Opens a file that is there, to read it alone: the system refuses each write. For whoever looks at a store: so it
+    /// cannot be changed, and no permission to change it is needed.
     pub fn open_to_read<R: Files<File = File>>(rt: &R, path: &str) -> Result<FileDisk, FileFault>
         ensures { IfOk result (λ disk. file_failures disk ≡ 0) }
     {

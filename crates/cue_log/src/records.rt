@@ -76,16 +76,17 @@ impl<'a> Model for Payloads<'a> {
 }
 
 impl<'a> Payloads<'a> {
-    /// The next payload; none at the end.
+    /// The next payload; none at the end, however often it is asked for.
     pub fn next(&mut self) -> Option<&'a [u8]>
-        ensures { MatchOption result (self.old ≡ []) (λ payload. self.old ≡ payload.now ∷ self.new) }
+        ensures { MatchOption result ((self.old ≡ []) × (self.new ≡ []))
+            (λ payload. self.old ≡ payload.now ∷ self.new) }
     {
         let (gate, after) = self.rest.split_first()?;
         if *gate != OPEN {
             return None;
         }
-        let (payload, behind) = frame(after, MAX_PAYLOAD)?;
-        self.rest = behind;
+        let (payload, rest) = frame(after, MAX_PAYLOAD)?;
+        self.rest = rest;
         Some(payload)
     }
 }

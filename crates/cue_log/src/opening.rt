@@ -81,8 +81,8 @@ impl<D: Disk> Log<D> {
         ensures disk { FailsAs OpenFault.Disk (MoreFailures (D.failures disk)
             (D.failures (disk_after opened_disk result))) result }
 
-        // No other answer hides a fault of the device: out of memory is reported only where each call went through.
-        ensures memory { CountsOnlyAs OpenFault.Disk (D.failures disk)
+        // No other answer hides a fault of the device: each call went through.
+        ensures went_through { CountsOnlyAs OpenFault.Disk (D.failures disk)
             (D.failures (disk_after opened_disk result)) result }
 
         // A stop at any moment leaves what one at entry might have left.

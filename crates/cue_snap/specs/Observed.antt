@@ -62,7 +62,12 @@ abbrev pub RefusedAs : {T E D : Type 0} → E → Type 0 → Result T (E × D ×
 RefusedAs fault reason (Ok made) = Unit {0}
 RefusedAs fault reason (Err refused) = refused.0 ≡ fault → reason
 
--- the same of a call on one disk, which comes back with the fault
+-- this is so, unless this fault is answered
+abbrev pub UnlessRefusedAs : {T E D : Type 0} → E → Type 0 → Result T (E × D × D) → Type 0
+UnlessRefusedAs fault fact (Ok made) = fact
+UnlessRefusedAs fault fact (Err refused) = refused.0 ≢ fault → fact
+
+-- a fault of a call on one disk, which comes back with it, is answered only where it is so
 abbrev pub FailsAs : {T E D : Type 0} → E → Type 0 → Result T (E × D) → Type 0
 FailsAs fault reason (Ok made) = Unit {0}
 FailsAs fault reason (Err refused) = refused.0 ≡ fault → reason

@@ -44,7 +44,8 @@ fn find<D: Disk>(alloc: Global, disk: D) -> Result<Found<D>, (OpenFault, D)>
     ensures works { IfOk result FoundWorks }
     ensures disk { FailsAs OpenFault.Disk (MoreFailures (D.failures disk)
         (D.failures (disk_after disk_in result))) result }
-    ensures memory { CountsOnlyAs OpenFault.Disk (D.failures disk) (D.failures (disk_after disk_in result)) result }
+    ensures went_through { CountsOnlyAs OpenFault.Disk (D.failures disk)
+        (D.failures (disk_after disk_in result)) result }
     ensures damaged { FailsAs OpenFault.Damaged ⊥ result }
     ensures unformed { FailsAs OpenFault.Unformed ⊥ result }
     ensures any_moment { D.is_honest disk → LeavesAtEachMoment D.moment D.held_at disk (disk_after disk_in result)
@@ -93,7 +94,8 @@ impl<D: Disk> Snap<D> {
     ghost use Rattle.cue_disk.specs.Disk.{LeavesAtEachMoment, IsImage, MoreFailures};
     ghost use Rattle.cue_snap.specs.Opened.{live_area_read, first_opened, second_opened};
     ghost use Rattle.cue_snap.specs.Pair.{PairReads, PairLeaves, NeitherHas, IsSpoiled};
-    ghost use Rattle.cue_snap.specs.Observed.{count_of, is_broken, live_area_of, first_after, second_after, RefusedAs};
+    ghost use Rattle.cue_snap.specs.Observed.{count_of, is_broken, live_area_of, first_after, second_after};
+    ghost use Rattle.cue_snap.specs.Observed.{RefusedAs, UnlessRefusedAs};
 
     /// Opens a pair, pending writes included: from Ok on whatever a stop leaves reads as what is answered. It writes
     /// nothing, and takes memory in proportion to the areas. A refusal hands both disks back.
@@ -107,8 +109,6 @@ impl<D: Disk> Snap<D> {
         ensures area { D.is_honest first → D.is_honest second
             → IfOk result (λ opened. live_area_of D.held opened.snap ≡ live_area_read opened) }
         ensures works { IfOk result (λ opened. is_broken opened.snap ≡ false) }
-        ensures went_through { IfOk result (λ opened. (D.failures (first_opened opened) ≡ D.failures first)
-            × (D.failures (second_opened opened) ≡ D.failures second)) }
         ensures counted { IfOk result (λ opened. count_of opened.snap ≡ length opened.tail) }
 
         // Each refusal has its reason.
@@ -119,8 +119,9 @@ impl<D: Disk> Snap<D> {
         ensures disk { RefusedAs OpenFault.Disk (MoreFailures (D.failures first)
             (D.failures (first_after first_opened result))
             ⊎ MoreFailures (D.failures second) (D.failures (second_after second_opened result))) result }
-        // Out of memory hides no fault of a device: each call went through.
-        ensures memory { RefusedAs OpenFault.Memory ((D.failures (first_after first_opened result) ≡ D.failures first)
+        // No other answer hides a fault of a device: each call went through.
+        ensures went_through { UnlessRefusedAs OpenFault.Disk
+            ((D.failures (first_after first_opened result) ≡ D.failures first)
             × (D.failures (second_after second_opened result) ≡ D.failures second)) result }
 
         // A stop at any moment leaves of each disk what one at entry might have left.

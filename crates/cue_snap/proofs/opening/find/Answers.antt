@@ -41,12 +41,12 @@ returns-in-Err-clause-disk g c =
     c.in-Err.fault c.in-Err.disk c.found_by.result c.found_by.ensures.table
     (λ is. tt) (λ is. tt) (λ is _. c.in-Err.ensures.disk is) (λ is wrong. absurd (cc wrong))
 
-pub returns-in-Err-clause-memory : goal.returns-in-Err-clause-memory
-returns-in-Err-clause-memory g c =
+pub returns-in-Err-clause-went_through : goal.returns-in-Err-clause-went_through
+returns-in-Err-clause-went_through g c =
     let failures = g.D.Disk.failures in
     let other : (f : AreaFault) → c.in-Err.fault ≡ f → (f ≡ area.Disk → ⊥)
     → failures c.in-Err.disk ≡ failures c.args.disk =
-    λ f is not. c.in-Err.ensures.memory (λ wrong. not (sym is ∙ wrong)) in
+    λ f is not. c.in-Err.ensures.went_through (λ wrong. not (sym is ∙ wrong)) in
     by_fault (λ r. CountsOnlyAs fault.Disk (failures c.args.disk) (failures (disk_after disk_in r)) r) c.in-Err.fault
     c.in-Err.disk c.found_by.result c.found_by.ensures.table
     (λ is. other area.Absent is (λ wrong. cc wrong)) (λ is. other area.Damaged is (λ wrong. cc wrong))

@@ -43,9 +43,20 @@ returns-in-Ok-choose-clause-area g c =
 
 pub returns-in-Ok-choose-clause-went_through : goal.returns-in-Ok-choose-clause-went_through
 returns-in-Ok-choose-clause-went_through g c = (
-  ap g.D.Disk.failures c.in-Ok-choose.ensures.first
-      ∙ c.in-Ok.ensures.memory,
-  ap g.D.Disk.failures c.in-Ok-choose.ensures.second ∙ c.in-Ok-find.ensures.memory,
+  ap g.D.Disk.failures c.in-Ok-choose.ensures.first ∙ c.in-Ok.ensures.went_through,
+  ap g.D.Disk.failures c.in-Ok-choose.ensures.second ∙ c.in-Ok-find.ensures.went_through,
+)
+
+pub returns-in-Err-choose-clause-went_through : goal.returns-in-Err-choose-clause-went_through
+returns-in-Err-choose-clause-went_through g c = λ other. (
+  ap g.D.Disk.failures c.in-Err-choose.ensures.first ∙ c.in-Ok.ensures.went_through,
+  ap g.D.Disk.failures c.in-Err-choose.ensures.second ∙ c.in-Ok-find.ensures.went_through,
+)
+
+pub returns-in-Err-find-clause-went_through : goal.returns-in-Err-find-clause-went_through
+returns-in-Err-find-clause-went_through g c = λ other. (
+  ap g.D.Disk.failures c.into_disk.ensures ∙ c.in-Ok.ensures.went_through,
+  c.in-Err-find.ensures.went_through other,
 )
 
 pub returns-in-Ok-choose-clause-first_moments : goal.returns-in-Ok-choose-clause-first_moments

@@ -19,7 +19,7 @@ use Rattle.cue_records.specs.State.{state_text}
 use Rattle.cue_keeper.specs.declared.fault.Fault.{Fault}
 use Rattle.cue_keeper.specs.declared.fault.Fault.TheVariants as fault
 use Rattle.cue_keeper.specs.Due.{is_due}
-use Rattle.cue_keeper.specs.Turning.{NeedsNewArea, IsAtTheLast, HasAGeneration, HasNoRoom}
+use Rattle.cue_keeper.specs.Turning.{NeedsNewArea, IsAtTheLast}
 use Rattle.cue_keeper.specs.declared.keeper.Keeper.{Keeper}
 use Rattle.cue_keeper.specs.Accepting.{HasFailed, HasCause, LeavesPair, Commits, Accepts}
 use Rattle.cue_keeper.specs.Observed as kept
@@ -43,16 +43,16 @@ pub where_false : (test : Bool) (x y z : ℕ) → test ≡ false → z ≡ y →
 where_false test x y z is same = rw is same
 
 -- the fault of a result that has just this one
-told_as : {T : Type 0} (r : Result T Fault) (f : Fault) → IsErrAnd r (λ g. g ≡ f) → result_err r ≡ Some f
-told_as (Ok x) f is = absurd is
-told_as (Err g) f is = ap Some is
+pub fault_is : {T : Type 0} (r : Result T Fault) (f : Fault) → IsErrAnd r (λ g. g ≡ f) → result_err r ≡ Some f
+fault_is (Ok x) f is = absurd is
+fault_is (Err g) f is = ap Some is
 
 module _ {D : Type 0} {disk : Ghosts D} where
-  -- the same, told by a result
+  -- the same, said of a result
   pub refused_as : {T : Type 0} (s : ShowState) (batch : List Event) (r : Result T Fault) (f : Fault)
       (old new : Snap D disk) → IsErrAnd r (λ g. g ≡ f) → Commits s batch (Some f) old new
       → Commits s batch (result_err r) old new
-  refused_as s batch r f old new is commits = subst (λ o. Commits s batch o old new) (sym (told_as r f is)) commits
+  refused_as s batch r f old new is commits = subst (λ o. Commits s batch o old new) (sym (fault_is r f is)) commits
 
   -- what the live area stands for, the two disks stand for in their order
   pub stands_as : (s : ShowState) (pair : Snap D disk)
@@ -75,17 +75,15 @@ module _ {D : Type 0} {disk : Ghosts D} where
       → (disk.is_honest (first_of pair) → disk.is_honest (second_of pair)
       → StandsAs (disk.held (first_of pair)) (disk.held (second_of pair)) s)
       → is_broken pair ≡ false
-      → HasCause s batch pair pair f
+      → HasCause batch pair pair f
       → LeavesPair pair pair f
       → (NeedsNewArea pair batch → IsAtTheLast pair → (f ≡ fault.Memory) ⊎ (f ≡ fault.Exhausted))
-      → (NeedsNewArea pair batch → HasAGeneration pair → HasNoRoom s batch → (f ≡ fault.Memory) ⊎ (f ≡ fault.Full))
       → Commits s batch (Some f) pair pair
-  not_tried s batch f pair now stands works cause after last room = record {
+  not_tried s batch f pair now stands works cause after last = record {
     cause = cause;
     after = after;
     broken = λ is. absurd (true≢false (sym is ∙ works));
     due_at_the_last = λ _ due is. either_some (last due is);
-    due_without_room = λ _ due left none. either_some (room due left none);
     quiet = λ _. refl;
     works = tt;
     generation = λ _. tt;
@@ -110,18 +108,16 @@ module _ {D : Type 0} {disk : Ghosts D} where
       → 1 ≤ length batch
       → is_broken old ≡ false
       → (NeedsNewArea old batch → IsAtTheLast old → ⊥)
-      → (NeedsNewArea old batch → HasAGeneration old → HasNoRoom s batch → ⊥)
       → Moves disk.moment disk.held_at disk.failures disk.is_honest (first_of old) (second_of old) (first_of new)
       (second_of new) (StandsEither s (after_events s batch))
       → HasFailed old new
       → is_broken new ≡ true
       → Commits s batch (Some fault.Disk) old new
-  failed s batch old new some works not_last has_room moves told breaks = record {
-    cause = told;
+  failed s batch old new some works not_last moves failure breaks = record {
+    cause = failure;
     after = breaks;
     broken = λ is. absurd (true≢false (sym is ∙ works));
     due_at_the_last = λ _ due is. absurd (not_last due is);
-    due_without_room = λ _ due left none. absurd (has_room due left none);
     quiet = λ none. absurd (not_none batch some none);
     works = tt;
     generation = λ _. tt;
@@ -142,7 +138,6 @@ module _ {D : Type 0} {disk : Ghosts D} where
       → 1 ≤ length batch
       → is_broken old ≡ false
       → (NeedsNewArea old batch → IsAtTheLast old → ⊥)
-      → (NeedsNewArea old batch → HasAGeneration old → HasNoRoom s batch → ⊥)
       → Moves disk.moment disk.held_at disk.failures disk.is_honest (first_of old) (second_of old) (first_of new)
       (second_of new) (StandsEither s (after_events s batch))
       → is_broken new ≡ false
@@ -152,12 +147,11 @@ module _ {D : Type 0} {disk : Ghosts D} where
       → (disk.is_honest (first_of old) → disk.is_honest (second_of old) → NeedsNewArea old batch
       → live_area_of disk.held new ≡ with_payload (fresh (generation_of old + 1) (state_text s)) (batch_text batch))
       → Commits s batch None old new
-  done s batch old new some works not_last has_room moves still generation count area = record {
+  done s batch old new some works not_last moves still generation count area = record {
     cause = tt;
     after = tt;
     broken = λ is. absurd (true≢false (sym is ∙ works));
     due_at_the_last = λ _ due is. absurd (not_last due is);
-    due_without_room = λ _ due left none. absurd (has_room due left none);
     quiet = λ none. absurd (not_none batch some none);
     works = still;
     generation = λ _. generation;
@@ -181,7 +175,6 @@ module _ {D : Type 0} {disk : Ghosts D} where
     after = refl;
     broken = λ _. refl;
     due_at_the_last = λ works. absurd (true≢false (sym is ∙ works));
-    due_without_room = λ works. absurd (true≢false (sym is ∙ works));
     quiet = λ _. refl;
     works = tt;
     generation = λ _. tt;
@@ -207,7 +200,6 @@ module _ {D : Type 0} {disk : Ghosts D} where
     after = tt;
     broken = λ is. absurd (true≢false (sym is ∙ works));
     due_at_the_last = λ _ needs _. absurd (not_some batch none needs.0);
-    due_without_room = λ _ needs _ _. absurd (not_some batch none needs.0);
     quiet = λ _. refl;
     works = works;
     generation = λ some. absurd (not_some batch none some);
@@ -234,7 +226,7 @@ module _ {D : Type 0} {disk : Ghosts D} where
       → is_broken pair ≡ false
       → Commits s batch (Some fault.Memory) pair pair
   out_of_memory s batch pair now stands works = not_tried s batch fault.Memory pair now stands works tt refl
-      (λ _ _. inl refl) (λ _ _ _. inl refl)
+      (λ _ _. inl refl)
 
   -- what works on after a fault has not been changed
   pub unless_broken : (old new : Snap D disk) (f : Fault) → LeavesPair old new f → is_broken new ≡ false → new ≡ old
@@ -249,17 +241,17 @@ module _ {D : Type 0} {disk : Ghosts D} where
       → IsErrAnd r (λ g. g ≡ f) → kept.state_of new ≡ kept.state_of old
       → Commits (kept.state_of old) batch (Some f) (kept.pair_of old) (kept.pair_of new)
       → Accepts batch (result_err r) old new
-  refuses batch r f old new is same commits = subst (λ o. Accepts batch o old new) (sym (told_as r f is))
+  refuses batch r f old new is same commits = subst (λ o. Accepts batch o old new) (sym (fault_is r f is))
       (record {
         state = same;
         stands = λ _ _. tt;
         pair = commits;
       })
 
-  -- the same refusal, told by another result
+  -- the same refusal, said of another result
   pub refuses_too : {T : Type 0} (batch : List Event) (r : Result T Fault) (f : Fault) (old new : Keeper D disk)
       → IsErrAnd r (λ g. g ≡ f) → Accepts batch (Some f) old new → Accepts batch (result_err r) old new
-  refuses_too batch r f old new is accepts = subst (λ o. Accepts batch o old new) (sym (told_as r f is)) accepts
+  refuses_too batch r f old new is accepts = subst (λ o. Accepts batch o old new) (sym (fault_is r f is)) accepts
 
   -- a fault that is no device's own has changed nothing
   pub unless_disk : (old new : Snap D disk) (f : Fault) → LeavesPair old new f → (f ≡ fault.Disk → ⊥) → new ≡ old

@@ -1,5 +1,5 @@
 -- What became of batches that were given together, put together from what the calls on the pair say.
-use Rattle.std.specs.Prelude.{IsErrAnd}
+use Rattle.std.specs.Prelude.{IsErrAnd, IsErrOf}
 use Rattle.std.specs.Result.{result_err}
 use Rattle.std.proofs.Common.{◌≡◌, inl, inr, ◌+◌, true, false, List, [], ◌∷◌, length, Option, Some, None, Result, Ok}
 use Rattle.std.proofs.Common.{Err, refl, sym, ◌∙◌, ap, subst, arith, true≢false}
@@ -12,19 +12,15 @@ use Rattle.cue_core.specs.State.{ShowState}
 use Rattle.cue_keeper.specs.declared.fault.Fault.{Fault}
 use Rattle.cue_keeper.specs.declared.fault.Fault.TheVariants as fault
 use Rattle.cue_keeper.specs.declared.keeper.Keeper.{Keeper}
-use Rattle.cue_keeper.specs.Accepting.{HasFailed, Commits, AreSeveral, LackRoom, CommitsTogether, AcceptsTogether}
+use Rattle.cue_keeper.specs.Accepting.{HasFailed, Commits, AreSeveral, LackRoom, HaveRoom, CommitsTogether}
+use Rattle.cue_keeper.specs.Accepting.{AcceptsTogether}
 use Rattle.cue_keeper.specs.Groups.{with_events, records_of}
 use Rattle.cue_keeper.specs.Observed as kept
 use Rattle.cue_keeper.specs.Pairs.{Moves, LeavesPairsAtEachMoment}
 use Rattle.cue_keeper.specs.Stands.{StandsEither, StandsAs, folded_all}
 use Rattle.cue_keeper.proofs.MovingLemmas.{rests}
 use Rattle.cue_keeper.proofs.GroupLemmas.{folded_only}
-use Rattle.cue_keeper.proofs.CommittedLemmas.{still_broken, none_given, out_of_memory}
-
--- the fault of a result that has just this one
-told_as : {T : Type 0} (r : Result T Fault) (f : Fault) → IsErrAnd r (λ g. g ≡ f) → result_err r ≡ Some f
-told_as (Ok x) f is = absurd is
-told_as (Err g) f is = ap Some is
+use Rattle.cue_keeper.proofs.CommittedLemmas.{fault_is, still_broken, none_given, out_of_memory}
 
 not_several : (batches : List (List Event)) (batch : List Event) → AreSeveral batches → with_events batches ≡ batch ∷ []
     → ⊥
@@ -34,12 +30,12 @@ not_none : (batches : List (List Event)) → AreSeveral batches → with_events 
 not_none batches several none = omega (arith, several, ap length none)
 
 module _ {D : Type 0} {disk : Ghosts D} where
-  -- the same, told by a result
+  -- the same, said of a result
   pub refused_together : {T : Type 0} (s : ShowState) (batches : List (List Event)) (r : Result T Fault) (f : Fault)
       (old new : Snap D disk) → IsErrAnd r (λ g. g ≡ f) → CommitsTogether s batches (Some f) old new
       → CommitsTogether s batches (result_err r) old new
   refused_together s batches r f old new is commits =
-      subst (λ o. CommitsTogether s batches o old new) (sym (told_as r f is)) commits
+      subst (λ o. CommitsTogether s batches o old new) (sym (fault_is r f is)) commits
 
   -- one has an event: it is as one that comes alone
   pub one_together : (s : ShowState) (batches : List (List Event)) (batch : List Event) (refused : Option Fault)
@@ -193,10 +189,10 @@ module _ {D : Type 0} {disk : Ghosts D} where
       → HasFailed old new
       → is_broken new ≡ true
       → CommitsTogether s batches (Some fault.Disk) old new
-  failed_together s batches old new several works has_room moves told breaks = record {
+  failed_together s batches old new several works has_room moves failure breaks = record {
     alone = λ batch one. absurd (not_several batches batch several one);
     quiet = λ none. absurd (not_none batches several none);
-    cause = λ _. told;
+    cause = λ _. failure;
     full = λ _ _ lacks. absurd (has_room lacks);
     after = breaks;
     broken = λ is. absurd (true≢false (sym is ∙ works));
@@ -248,9 +244,27 @@ module _ {D : Type 0} {disk : Ghosts D} where
       → CommitsTogether (kept.state_of old) batches (Some f) (kept.pair_of old) (kept.pair_of new)
       → AcceptsTogether batches (result_err r) old new
   refuses_together batches r f old new is same commits =
-      subst (λ o. AcceptsTogether batches o old new) (sym (told_as r f is))
+      subst (λ o. AcceptsTogether batches o old new) (sym (fault_is r f is))
       (record {
         state = same;
         stands = λ _ _. tt;
         pair = commits;
       })
+
+  -- Only several are refused as Full, and only where the area lacks room for them.
+  full_lacks : (s : ShowState) (batches given : List (List Event)) (old new : Snap D disk) → with_events batches ≡ given
+      → CommitsTogether s batches (Some fault.Full) old new → HaveRoom old batches → ⊥
+  full_lacks s batches [] old new is commits room = (commits.quiet is).cause
+  full_lacks s batches (batch ∷ []) old new is commits room = (commits.alone batch is).cause
+  full_lacks s batches (batch ∷ other ∷ more) old new is commits room =
+      let several : AreSeveral batches = omega (arith, ap length is) in
+      room several (commits.cause several)
+
+  pub never_full : {T : Type 0} (s : ShowState) (batches : List (List Event)) (r : Result T Fault)
+      (old new : Snap D disk) → CommitsTogether s batches (result_err r) old new → HaveRoom old batches
+      → IsErrOf r fault.Full → ⊥
+  never_full s batches (Ok x) old new commits room is = cc
+  never_full s batches (Err f) old new commits room is =
+      let same : f ≡ fault.Full = cc in
+      full_lacks s batches (with_events batches) old new refl
+      (subst (λ (g : Fault). CommitsTogether s batches (Some g) old new) same commits) room

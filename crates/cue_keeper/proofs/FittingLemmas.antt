@@ -1,12 +1,13 @@
 -- What has room in an area: batches together with one more, and a state with a batch in a new one.
-use Rattle.std.proofs.Common.{◌≡◌, ℕ, ◌+◌, ◌*◌, ◌≤◌, Bool, true, false, ◌&&◌, ◌||◌, List, [], ◌∷◌, ◌++◌, length, map}
-use Rattle.std.proofs.Common.{sum_by, nat_le, nat_lt, ◌<◌, IsTrue, refl, sym, ◌∙◌, ap, subst, arith, length-append}
+use Rattle.std.proofs.Common.{◌≡◌, ℕ, ◌+◌, ◌≤◌, true, false, ◌||◌, List, [], ◌∷◌, ◌++◌, length, map}
+use Rattle.std.proofs.Common.{nat_le, nat_lt, ◌<◌, IsTrue, refl, sym, ◌∙◌, ap, subst, arith, length-append}
 use Rattle.std.proofs.lemmas.Bool.Decides.{nat_tests}
 use Rattle.std.proofs.lemmas.List.{map-append, length-map}
 use Rattle.std.proofs.lemmas.List.Sums.{sum_by_push}
-use Rattle.cue_log.specs.declared.area.TheConstants.{MAX_AREA, FRAME_LEN, MAX_PAYLOAD}
+use Rattle.cue_log.specs.declared.area.TheConstants.{MAX_AREA, HEAD_LEN, FRAME_LEN, MAX_PAYLOAD}
 use Rattle.cue_log.specs.Area.{room_of}
 use Rattle.cue_core.specs.declared.event.Event.{Event}
+use Rattle.cue_core.specs.State.{ShowState, is_state}
 use Rattle.cue_core.proofs.lists.ConditionLemmas.{both}
 use Rattle.cue_records.specs.Batch.{batch_text}
 use Rattle.cue_records.specs.State.{state_text}
@@ -97,10 +98,23 @@ room_beside count end batches (e ∷ es) room short several =
 
 -- ---- a new area
 
-fits_anew : (text batch : ℕ) → text ≤ 592607 → batch ≤ 32768 → 16777216 < 19 + text + batch → ⊥
-fits_anew text batch few short over = omega (arith, few, short, over)
+-- for the longest encodings of a state and of a batch
+longest_fit : HEAD_LEN + FRAME_LEN + 1 + MAX_STATE_BYTES + MAX_PAYLOAD ≤ MAX_AREA
+longest_fit = omega arith
+
+no_longer : (around text batch most_text most_batch limit : ℕ) → around + most_text + most_batch ≤ limit
+    → text ≤ most_text → batch ≤ most_batch → around + text + batch ≤ limit
+no_longer around text batch most_text most_batch limit fit few short = omega (arith, fit, few, short)
+
+pub fits_anew : (s : ShowState) (batch : List Event) → IsTrue (is_state s) → length (batch_text batch) ≤ MAX_PAYLOAD
+    → HEAD_LEN + FRAME_LEN + 1 + length (state_text s) + length (batch_text batch) ≤ MAX_AREA
+fits_anew s batch rules short = no_longer (HEAD_LEN + FRAME_LEN + 1) (length (state_text s)) (length (batch_text batch))
+    MAX_STATE_BYTES MAX_PAYLOAD MAX_AREA longest_fit (state_short (state_text s) s rules (written s)) short
 
 pub new_area : ANewAreaHasRoom
 new_area s batch rules short over =
-    fits_anew (length (state_text s)) (length (batch_text batch)) (state_short (state_text s) s rules (written s)) short
-    over
+    not_both (HEAD_LEN + FRAME_LEN + 1 + length (state_text s) + length (batch_text batch)) MAX_AREA
+    (fits_anew s batch rules short) over
+  where
+    not_both : (n limit : ℕ) → n ≤ limit → limit < n → ⊥
+    not_both n limit a b = omega (arith, a, b)

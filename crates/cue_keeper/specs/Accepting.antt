@@ -16,7 +16,7 @@ use Rattle.cue_records.specs.State.{state_text}
 use Rattle.cue_keeper.specs.declared.fault.Fault.{Fault}
 use Rattle.cue_keeper.specs.declared.fault.Fault.TheVariants as fault
 use Rattle.cue_keeper.specs.declared.keeper.Keeper.{Keeper}
-use Rattle.cue_keeper.specs.Turning.{turns_over, NeedsNewArea, IsAtTheLast, HasAGeneration, HasNoRoom}
+use Rattle.cue_keeper.specs.Turning.{turns_over, NeedsNewArea, IsAtTheLast}
 use Rattle.cue_keeper.specs.Due.{lacks_room}
 use Rattle.cue_keeper.specs.Groups.{with_events, records_of}
 use Rattle.cue_keeper.specs.Pairs.{LeavesPairsAtEachMoment}
@@ -29,14 +29,13 @@ HasFailed {D} {disk} old new =
     MoreFailures (disk.failures (first_of old)) (disk.failures (first_of new))
     ⊎ MoreFailures (disk.failures (second_of old)) (disk.failures (second_of new))
 
--- why a batch is refused with this fault
-abbrev pub HasCause :
-    {D : Type 0} {disk : Ghosts D} → ShowState → List Event → (old new : Snap D disk) → Fault → Type 0
-HasCause s batch old new fault.Broken = is_broken old ≡ true
-HasCause s batch old new fault.Memory = ⊤
-HasCause s batch old new fault.Exhausted = NeedsNewArea old batch × IsAtTheLast old
-HasCause s batch old new fault.Full = NeedsNewArea old batch × HasNoRoom s batch
-HasCause s batch old new fault.Disk = HasFailed old new
+-- why a batch is refused with this fault: never as Full, since a new area has room for any state and one batch
+abbrev pub HasCause : {D : Type 0} {disk : Ghosts D} → List Event → (old new : Snap D disk) → Fault → Type 0
+HasCause batch old new fault.Broken = is_broken old ≡ true
+HasCause batch old new fault.Memory = ⊤
+HasCause batch old new fault.Exhausted = NeedsNewArea old batch × IsAtTheLast old
+HasCause batch old new fault.Full = ⊥
+HasCause batch old new fault.Disk = HasFailed old new
 
 -- What is left of the pair: only a device's own failure has changed anything, and it breaks the pair.
 abbrev pub LeavesPair : {D : Type 0} {disk : Ghosts D} → Snap D disk → Snap D disk → Fault → Type 0
@@ -50,21 +49,15 @@ LeavesPair old new fault.Disk = is_broken new ≡ true
 pub record Commits {D : Type 0} {disk : Ghosts D} (s : ShowState) (batch : List Event) (refused : Option Fault)
     (old new : Snap D disk) : Type 0 where
   -- each fault has its reason
-  pub cause : IfSome refused (HasCause s batch old new)
+  pub cause : IfSome refused (HasCause batch old new)
   pub after : IfSome refused (LeavesPair old new)
-  -- Broken comes first, then Memory, then Exhausted and Full: where memory is there, each comes wherever it can.
+  -- Broken comes first, then Memory, then Exhausted: where memory is there, it comes wherever it can.
   pub broken : is_broken old ≡ true → refused ≡ Some fault.Broken
   pub due_at_the_last :
       is_broken old ≡ false
       → NeedsNewArea old batch
       → IsAtTheLast old
       → (refused ≡ Some fault.Memory) ⊎ (refused ≡ Some fault.Exhausted)
-  pub due_without_room :
-      is_broken old ≡ false
-      → NeedsNewArea old batch
-      → HasAGeneration old
-      → HasNoRoom s batch
-      → (refused ≡ Some fault.Memory) ⊎ (refused ≡ Some fault.Full)
   -- an empty batch makes no device call
   pub quiet : batch ≡ [] → new ≡ old
   -- with no fault it works on, and turns over exactly where that is due

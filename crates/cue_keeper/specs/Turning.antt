@@ -22,10 +22,6 @@ NeedsNewArea snap batch = (1 ≤ length batch) × IsTrue (turns_over snap batch)
 abbrev pub IsAtTheLast : {D : Type 0} {disk : Ghosts D} → Snap D disk → Type 0
 IsAtTheLast snap = generation_of snap ≡ 2 ^ 64 - 1
 
--- a generation is left
-abbrev pub HasAGeneration : {D : Type 0} {disk : Ghosts D} → Snap D disk → Type 0
-HasAGeneration snap = generation_of snap < 2 ^ 64 - 1
-
 -- a new area has no room for the state and the batch
 abbrev pub HasNoRoom : ShowState → List Event → Type 0
 HasNoRoom s batch = MAX_AREA < HEAD_LEN + FRAME_LEN + 1 + length (state_text s) + length (batch_text batch)

@@ -3,7 +3,7 @@
 ghost use Rattle.std.specs.Prelude.{◌≡◌, ◌≤◌, false, true, length, IsTrue, OnOk, IsErrOf};
 ghost use Rattle.std.specs.Result.{result_err};
 ghost use Rattle.cue_snap.specs.Observed.{live_of, spare_of, end_of, count_of, is_broken, live_area_of};
-ghost use Rattle.cue_keeper.specs.Accepting.{CommitsTogether, AreSeveral, HaveRoom};
+ghost use Rattle.cue_keeper.specs.Accepting.{CommitsTogether, AreSeveral};
 ghost use Rattle.cue_keeper.specs.Due.{lacks_room, has_room_beside};
 ghost use Rattle.cue_keeper.specs.Groups.{with_events, records_of, are_all_acceptable};
 ghost use Rattle.cue_keeper.specs.Stands.{StandsFor, folded_all};
@@ -57,7 +57,6 @@ fn commit_several<D: Disk>(
     ensures stands { D.is_honest (live_of snap.new) → D.is_honest (spare_of snap.new)
         → OnOk result (StandsFor (live_area_of D.held snap.new) (folded_all state.now group.now)) }
     ensures no_memory { IsErrOf result Fault.Memory → ⊥ }
-    ensures no_full { HaveRoom snap.old group.now → IsErrOf result Fault.Full → ⊥ }
 {
     // Called for its clause that a pair that is not broken reads as its live area.
     let _broken = snap.is_broken();
@@ -84,7 +83,6 @@ pub(crate) fn commit_together<D: Disk>(
     ensures stands { D.is_honest (live_of snap.new) → D.is_honest (spare_of snap.new)
         → OnOk result (StandsFor (live_area_of D.held snap.new) (folded_all state.now group.now)) }
     ensures no_memory { AreSeveral group.now → IsErrOf result Fault.Memory → ⊥ }
-    ensures no_full { HaveRoom snap.old group.now → IsErrOf result Fault.Full → ⊥ }
 {
     // Called for its clause that a pair that is not broken reads as its live area.
     let _broken = snap.is_broken();

@@ -19,7 +19,7 @@ use Rattle.cue_records.specs.State.{state_text}
 use Rattle.cue_keeper.specs.declared.fault.Fault.{Fault}
 use Rattle.cue_keeper.specs.declared.fault.Fault.TheVariants as fault
 use Rattle.cue_keeper.specs.Due.{is_due}
-use Rattle.cue_keeper.specs.Turning.{NeedsNewArea, IsAtTheLast}
+use Rattle.cue_keeper.specs.Turning.{NeedsNewArea, IsAtTheLast, turns_over}
 use Rattle.cue_keeper.specs.declared.keeper.Keeper.{Keeper}
 use Rattle.cue_keeper.specs.Accepting.{HasFailed, HasCause, LeavesPair, Commits, Accepts}
 use Rattle.cue_keeper.specs.Observed as kept
@@ -89,6 +89,7 @@ module _ {D : Type 0} {disk : Ghosts D} where
     generation = λ _. tt;
     count = λ _. tt;
     area = λ _ _ _. tt;
+    record_ = λ _ _ _ _. tt;
     any_moment = λ first second _.
         rests disk.moment disk.held disk.held_at disk.failures disk.is_honest (first_of pair) (second_of pair)
         (StandsEither s (after_events s batch)) (now (first_of pair)) (now (second_of pair))
@@ -123,6 +124,7 @@ module _ {D : Type 0} {disk : Ghosts D} where
     generation = λ _. tt;
     count = λ _. tt;
     area = λ _ _ _. tt;
+    record_ = λ _ _ _ _. tt;
     any_moment = λ first second _. moves.leaves first second;
     first_failures = moves.failures_a;
     second_failures = moves.failures_b;
@@ -146,8 +148,10 @@ module _ {D : Type 0} {disk : Ghosts D} where
       → count_of new ≡ (if is_due (count_of old) (end_of old) (length (batch_text batch)) then 1 else count_of old + 1)
       → (disk.is_honest (first_of old) → disk.is_honest (second_of old) → NeedsNewArea old batch
       → live_area_of disk.held new ≡ with_payload (fresh (generation_of old + 1) (state_text s)) (batch_text batch))
+      → (disk.is_honest (first_of old) → disk.is_honest (second_of old) → turns_over old batch ≡ false
+      → live_area_of disk.held new ≡ with_payload (live_area_of disk.held old) (batch_text batch))
       → Commits s batch None old new
-  done s batch old new some works not_last moves still generation count area = record {
+  done s batch old new some works not_last moves still generation count area one_more = record {
     cause = tt;
     after = tt;
     broken = λ is. absurd (true≢false (sym is ∙ works));
@@ -157,6 +161,7 @@ module _ {D : Type 0} {disk : Ghosts D} where
     generation = λ _. generation;
     count = λ _. count;
     area = area;
+    record_ = λ first second _ stays. one_more first second stays;
     any_moment = λ first second _. moves.leaves first second;
     first_failures = moves.failures_a;
     second_failures = moves.failures_b;
@@ -180,6 +185,7 @@ module _ {D : Type 0} {disk : Ghosts D} where
     generation = λ _. tt;
     count = λ _. tt;
     area = λ _ _ _. tt;
+    record_ = λ _ _ _ _. tt;
     any_moment = λ _ _ works. absurd (true≢false (sym is ∙ works));
     first_failures = omega arith;
     second_failures = omega arith;
@@ -205,6 +211,7 @@ module _ {D : Type 0} {disk : Ghosts D} where
     generation = λ some. absurd (not_some batch none some);
     count = λ some. absurd (not_some batch none some);
     area = λ _ _ needs. absurd (not_some batch none needs.0);
+    record_ = λ _ _ some _. absurd (not_some batch none some);
     any_moment = λ first second _.
         rests disk.moment disk.held disk.held_at disk.failures disk.is_honest (first_of pair) (second_of pair)
         (StandsEither s (after_events s batch)) (now (first_of pair)) (now (second_of pair))

@@ -76,6 +76,14 @@ pub record Commits {D : Type 0} {disk : Ghosts D} (s : ShowState) (batch : List 
       → NeedsNewArea old batch
       → IfNone refused
       (live_area_of disk.held new ≡ with_payload (fresh (generation_of old + 1) (state_text s)) (batch_text batch))
+  -- the live area, where it stays, has the batch as one record more
+  pub record_ :
+      disk.is_honest (first_of old)
+      → disk.is_honest (second_of old)
+      → 1 ≤ length batch
+      → turns_over old batch ≡ false
+      → IfNone refused
+      (live_area_of disk.held new ≡ with_payload (live_area_of disk.held old) (batch_text batch))
   -- a stop at any moment leaves the state from before or the one after the whole batch
   pub any_moment :
       disk.is_honest (first_of old)

@@ -6,7 +6,6 @@ ghost use Rattle.cue_records.specs.Batch.{is_batch, batch_text};
 ghost use Rattle.cue_keeper.specs.Groups.{with_events, records_of, are_records, is_record, batches_view};
 
 use crate::framing::frame_batch;
-use crate::keeper::discard;
 use cue_core::Event;
 use cue_log::RecordGroup;
 use std::alloc::{AllocError, Global};
@@ -81,7 +80,7 @@ impl BatchGroup {
             records,
             ..
         } = self;
-        discard(records);
+        drop(records);
         batches
     }
 

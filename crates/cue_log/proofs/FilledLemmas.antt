@@ -20,11 +20,11 @@ not_open [] closed = tt
 not_open (gate ∷ []) closed = tt
 not_open (gate ∷ byte ∷ bytes) closed = closed
 
--- Whatever a crash leaves behind a gate that is shut is no area.
+-- Whatever a crash leaves after a gate that is shut is no area.
 pub shut_absent : (held : Contents) (image : List ℕ) → IsShut held → IsImage held image → IsAbsent image
 shut_absent held image shut left = not_open image (λ opened. shut.2 (sym (left.untouched 0 shut.0 shut.1) ∙ opened))
 
--- A write behind the head gate leaves it shut.
+-- A write after the head gate leaves it shut.
 pub shut_stays : (at n : ℕ) (old new : Contents) → 0 < at → Writes at n old new → IsShut old → IsShut new
 shut_stays at n old new behind writes shut = (
   omega (arith, shut.0, writes.synced),
@@ -48,36 +48,36 @@ written_front old bytes at within =
     take_at (take at old ++ bytes) (drop (at + length bytes) old) (at + length bytes)
     (omega (arith, length-append (take at old) bytes, length-take at old))
 
--- Three writes, one behind the other: what stands behind the head gate.
+-- Three writes, one after the other: what stands after the head gate.
 pub body_written : (b0 b1 b2 b3 header snapshot : List ℕ) → 0 < length b0 → length header ≡ 12
-    → b1 ≡ overwritten_bytes b0 1 header → b2 ≡ overwritten_bytes b1 13 snapshot
-    → b3 ≡ overwritten_bytes b2 (13 + length snapshot) (0 ∷ [])
-    → drop 1 b3 ≡ (header ++ snapshot) ++ 0 ∷ drop (13 + length snapshot + 1) b2
+    → b1 ≡ overwritten_bytes b0 1 header → b2 ≡ overwritten_bytes b1 HEAD_LEN snapshot
+    → b3 ≡ overwritten_bytes b2 (HEAD_LEN + length snapshot) (0 ∷ [])
+    → drop 1 b3 ≡ (header ++ snapshot) ++ 0 ∷ drop (HEAD_LEN + length snapshot + 1) b2
 body_written b0 b1 b2 b3 header snapshot some long is1 is2 is3 =
-    let first : take 13 b1 ≡ take 1 b0 ++ header =
-    let thirteen : 13 ≡ 1 + length header = omega (arith, long) in
-    ap (λ (l : List ℕ). take 13 l) is1 ∙ ap (λ (n : ℕ). take n (overwritten_bytes b0 1 header)) thirteen
+    let first : take HEAD_LEN b1 ≡ take 1 b0 ++ header =
+    let ends : HEAD_LEN ≡ 1 + length header = omega (arith, long) in
+    ap (λ (l : List ℕ). take HEAD_LEN l) is1 ∙ ap (λ (n : ℕ). take n (overwritten_bytes b0 1 header)) ends
     ∙ written_front b0 header 1 (omega (arith, some)) in
-    let reach1 : 13 ≤ length b1 =
+    let reach1 : HEAD_LEN ≤ length b1 =
     omega (
       arith,
       ap length first,
       length-append (take 1 b0) header,
       length-take 1 b0,
-      length-take 13 b1,
+      length-take HEAD_LEN b1,
       some,
       long,
     ) in
-    let second : take (13 + length snapshot) b2 ≡ (take 1 b0 ++ header) ++ snapshot =
-    ap (λ (l : List ℕ). take (13 + length snapshot) l) is2 ∙ written_front b1 snapshot 13 reach1
+    let second : take (HEAD_LEN + length snapshot) b2 ≡ (take 1 b0 ++ header) ++ snapshot =
+    ap (λ (l : List ℕ). take (HEAD_LEN + length snapshot) l) is2 ∙ written_front b1 snapshot HEAD_LEN reach1
     ∙ ap (λ (l : List ℕ). l ++ snapshot) first in
-    let rest : List ℕ = drop (13 + length snapshot + 1) b2 in
+    let rest : List ℕ = drop (HEAD_LEN + length snapshot + 1) b2 in
     let whole : b3 ≡ take 1 b0 ++ ((header ++ snapshot) ++ 0 ∷ rest) =
     is3 ∙ ap (λ (l : List ℕ). l ++ (0 ∷ []) ++ rest) second ∙ simp append_assoc in
     ap (λ (l : List ℕ). drop 1 l) whole
     ∙ drop_at (take 1 b0) ((header ++ snapshot) ++ 0 ∷ rest) 1 (omega (arith, length-take 1 b0, some))
 
--- A body that was written and synced behind a gate that is shut.
+-- A body that was written and synced after a gate that is shut.
 pub filled_after : (generation : ℕ) (snapshot header : List ℕ) (written synced : Contents) (rest : List ℕ)
     → header ≡ eight_bytes generation ++ four_bytes (length snapshot) → IsShut written
     → drop 1 written.bytes ≡ (header ++ snapshot) ++ 0 ∷ rest → synced.bytes ≡ written.bytes → IsStable synced
@@ -93,7 +93,7 @@ filled_after generation snapshot header written synced rest is shut body same st
       snapshot);
 }
 
--- A body behind a gate: the gate says whether it is an area.
+-- A body after a gate: the gate says whether it is an area.
 module _ (held : Contents) (generation : ℕ) (snapshot : List ℕ) (filled : IsFilled held generation snapshot)
     (numbered : generation < 2 ^ 64) (room : HEAD_LEN + length snapshot < MAX_AREA) where
   abbrev area : Area
@@ -111,7 +111,7 @@ module _ (held : Contents) (generation : ℕ) (snapshot : List ℕ) (filled : Is
         (0 ∷ filled.rest),
   )
 
-  length-area_text : length (area_text area) ≡ 13 + length snapshot
+  length-area_text : length (area_text area) ≡ HEAD_LEN + length snapshot
   length-area_text =
       omega (
         arith,
@@ -142,7 +142,7 @@ module _ (held : Contents) (generation : ℕ) (snapshot : List ℕ) (filled : Is
   gate_written bytes is = opened bytes (is ∙ ap (λ (l : List ℕ). 1 ∷ l) filled.text)
 
   pub settled_area : (after : Contents) → IsArea area after.bytes → IsStable after
-      → IsSettled after (13 + length snapshot)
+      → IsSettled after (HEAD_LEN + length snapshot)
   settled_area after is stable =
       let same : area_in after.bytes ≡ area = area_in_is area after.bytes is in
       record {

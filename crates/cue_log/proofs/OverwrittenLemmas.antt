@@ -4,10 +4,11 @@ use Rattle.std.proofs.Common.{append_assoc, length-append}
 use Rattle.std.proofs.lemmas.List.{drop_all, length-take, take_at, drop_at, drop-drop, take-take, take-append-le}
 use Rattle.std.proofs.Math.Seq.{drop-nil}
 use Rattle.cue_disk.specs.Disk.{overwritten_bytes}
+use Rattle.cue_log.specs.declared.area.TheConstants.{HEAD_LEN}
 use Rattle.cue_log.specs.Area.{body_text, eight_bytes, four_bytes}
 use Rattle.cue_log.specs.Log.{prepared_bytes}
 
--- the second write right behind the first
+-- the second write right after the first
 pub overwritten-behind : (old first second : List ℕ) (at to : ℕ) → at ≤ length old → to ≡ at + length first
     → overwritten_bytes (overwritten_bytes old at first) to second ≡ overwritten_bytes old at (first ++ second)
 overwritten-behind old first second at to within ends =
@@ -41,22 +42,23 @@ overwritten-front old first second at to within ends =
     ∙ ap (λ (n : ℕ). second ++ drop n old) (omega (arith, ends, length-append first second)) in
     (λ i. left i ++ first ++ right i) ∙ (simp append_assoc)
 
--- a body that was written in two parts, and the gate behind it
+-- a body that was written in two parts, and the gate after it
 pub body-overwritten : (old header snapshot : List ℕ) (generation : ℕ) → 0 < length old → length header ≡ 12
     → header ≡ eight_bytes generation ++ four_bytes (length snapshot)
-    → overwritten_bytes (overwritten_bytes (overwritten_bytes old 1 header) 13 snapshot) (13 + length snapshot) (0 ∷ [])
+    → overwritten_bytes (overwritten_bytes (overwritten_bytes old 1 header) HEAD_LEN snapshot)
+    (HEAD_LEN + length snapshot) (0 ∷ [])
     ≡ overwritten_bytes old
     1 (body_text generation snapshot ++ 0 ∷ [])
 body-overwritten old header snapshot generation some long is =
-    ap (λ (l : List ℕ). overwritten_bytes l (13 + length snapshot) (0 ∷ []))
-    (overwritten-behind old header snapshot 1 13 (omega (arith, some)) (omega (arith, long)))
-    ∙ overwritten-behind old (header ++ snapshot) (0 ∷ []) 1 (13 + length snapshot) (omega (arith, some))
+    ap (λ (l : List ℕ). overwritten_bytes l (HEAD_LEN + length snapshot) (0 ∷ []))
+    (overwritten-behind old header snapshot 1 HEAD_LEN (omega (arith, some)) (omega (arith, long)))
+    ∙ overwritten-behind old (header ++ snapshot) (0 ∷ []) 1 (HEAD_LEN + length snapshot) (omega (arith, some))
     (omega (arith, long, length-append header snapshot))
     ∙ ap (λ (l : List ℕ). overwritten_bytes old 1 ((l ++ snapshot) ++ 0 ∷ [])) is
     ∙ ap (λ (l : List ℕ). overwritten_bytes old 1 (l ++ 0 ∷ []))
     (append_assoc (eight_bytes generation) (four_bytes (length snapshot)) snapshot)
 
--- a closed gate, what stands behind it, and the gate opened
+-- a closed gate, what stands after it, and the gate opened
 pub formed-overwritten : (old body : List ℕ)
     → overwritten_bytes (overwritten_bytes (prepared_bytes old) 1 body) 0 (1 ∷ []) ≡ overwritten_bytes
     old 0 (1 ∷ body)

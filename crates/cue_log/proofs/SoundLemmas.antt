@@ -9,7 +9,7 @@ use Rattle.std.proofs.lemmas.Bool.{cases_eq, cases_lt, le-leb, and_from}
 use Rattle.std.proofs.lemmas.Bool.Decides.{nat_tests}
 use Rattle.std.proofs.lemmas.List.{length-take, drop-drop, get_or-drop, get_or-take, get_or_past}
 use Rattle.std.proofs.lemmas.Nat.{be_bytes_4, be_bytes_8}
-use Rattle.cue_log.specs.declared.area.TheConstants.{MAX_AREA, MAX_PAYLOAD}
+use Rattle.cue_log.specs.declared.area.TheConstants.{MAX_AREA, MAX_PAYLOAD, HEAD_LEN}
 use Rattle.cue_log.specs.Area.{Area, IsArea, IsAbsent, area_text, frame_of, records_text, are_records, four_bytes}
 use Rattle.cue_log.specs.Area.{eight_bytes}
 use Rattle.cue_log.specs.Reading.{frame_at, four_at, eight_at, in_front, payloads_after, payloads_at, area_with}
@@ -20,7 +20,7 @@ use Rattle.cue_log.proofs.CompleteLemmas.{complete, length-records_text}
 use Rattle.cue_log.proofs.TextLemmas.{length-framed, length-area_text, reads, longer_reads}
 use Rattle.cue_log.proofs.StepLemmas.{frame_parts, length-frame_at}
 
--- one record that is read, and those behind it
+-- one record that is read, and those after it
 pub record OneMore (most : ℕ) (bytes : List ℕ) (payloads : List (List ℕ)) : Type 0 where
   pub payload : List ℕ
   pub rest : List ℕ
@@ -82,7 +82,7 @@ length-read (suc most) (gate ∷ bytes) payloads is = elim (gate_read most gate 
 
 -- Where the last gate stands, counted from the end.
 pub last_gate : (area : Area) (len behind : ℕ) (tail : List ℕ) → Some behind ≡ bytes_left tail
-    → payloads_at (length tail) tail ≡ Some area.payloads → 13 + length area.snapshot + length tail ≡ len
+    → payloads_at (length tail) tail ≡ Some area.payloads → HEAD_LEN + length area.snapshot + length tail ≡ len
     → (len - behind ≡ length (area_text area)) × (len - behind < len)
 last_gate area len behind tail counted read parts =
     let left : Some behind ≡ Some (length tail - length (records_text area.payloads)) = counted
@@ -131,7 +131,7 @@ frame_short most bytes text rest is =
     let parts = frame_parts most bytes text rest is in
     omega (arith, parts.within, ap length parts.text_is, length-take (four_at bytes) (drop 4 bytes))
 
--- what stands behind a frame is bytes, where all is
+-- what stands after a frame is bytes, where all is
 frame_bytes : (most : ℕ) (bytes text rest : List ℕ) → AreBytes bytes → frame_at most bytes ≡ Some (text, rest)
     → AreBytes rest
 frame_bytes most bytes text rest are is = subst AreBytes (sym (frame_parts most bytes text rest is).rest_is)
@@ -189,7 +189,7 @@ unfolding eight_at eight_bytes
 eight_text bytes are long = be_bytes_8 (take 8 bytes) (eight_at bytes) (omega (arith, length-take 8 bytes, long))
     (bytes_of_take 8 bytes are) refl
 
--- what is behind an open head gate that was read as an area
+-- what is after an open head gate that was read as an area
 record Behind (bytes : List ℕ) (area : Area) : Type 0 where
   snapshot : List ℕ
   tail : List ℕ
@@ -298,7 +298,7 @@ front_missing text bytes front none = (
   ],
 )
 
--- an area has an open head gate and more behind it
+-- an area has an open head gate and more after it
 pub area_not_absent : NoAreaIsAbsent
 area_not_absent area [] is absent = absurd (omega (arith, is.ends))
 area_not_absent area (gate ∷ []) is absent = absurd (omega (arith, is.ends, length-area_text area))

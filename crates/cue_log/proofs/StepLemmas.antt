@@ -6,7 +6,7 @@ use Rattle.std.specs.Option.{option_map}
 use Rattle.std.proofs.lemmas.Bool.{cases_Bool}
 use Rattle.std.proofs.lemmas.Bool.Decides.{nat_tests}
 use Rattle.std.proofs.lemmas.List.{length-take}
-use Rattle.cue_log.specs.declared.area.TheConstants.{MAX_PAYLOAD}
+use Rattle.cue_log.specs.declared.area.TheConstants.{FRAME_LEN, MAX_PAYLOAD}
 use Rattle.cue_log.specs.Area.{frame_of, records_text}
 use Rattle.cue_log.specs.Reading.{frame_at, four_at, in_front, payloads_after, payloads_at, behind, bytes_left}
 use Rattle.cue_log.proofs.TextLemmas.{length-framed}
@@ -81,7 +81,7 @@ payloads_enough (suc m) (suc n) (gate ∷ bytes) enough_m enough_n =
     (omega (arith, enough_n, length-frame_at MAX_PAYLOAD bytes text rest is))) in
     ap (λ (o : Option (List (List ℕ))). if gate == 1 then o else Some []) same
 
--- An open gate and a frame: one payload, and those behind it.
+-- An open gate and a frame: one payload, and those after it.
 pub payloads_step : (after payload rest : List ℕ) → frame_at MAX_PAYLOAD after ≡ Some (payload, rest)
     → payloads_at (length (1 ∷ after)) (1 ∷ after) ≡ in_front payload (payloads_at (length rest) rest)
 payloads_step after payload rest is =
@@ -89,8 +89,9 @@ payloads_step after payload rest is =
     ∙ ap (in_front payload) (payloads_enough (length after) (length rest) rest
     (omega (arith, length-frame_at MAX_PAYLOAD after payload rest is)) (omega arith))
 
--- the length behind one record more
-behind_one : (long short : ℕ) (payload : List ℕ) (rest : Option (List (List ℕ))) → long ≡ 5 + length payload + short
+-- the length after one record more
+behind_one : (long short : ℕ) (payload : List ℕ) (rest : Option (List (List ℕ)))
+    → long ≡ FRAME_LEN + length payload + short
     → option_map (λ (payloads : List (List ℕ)). long - length (records_text payloads)) (in_front payload rest)
     ≡ option_map (λ (payloads : List (List ℕ)). short - length (records_text payloads)) rest
 behind_one long short payload None is = refl

@@ -4,15 +4,15 @@ use Rattle.std.proofs.Common.{refl, sym, ◌∙◌, ap, arith, append_assoc, len
 use Rattle.std.proofs.lemmas.Bool.{and_parts, and_from}
 use Rattle.std.proofs.lemmas.List.Sums.{sum_by-cons}
 use Rattle.std.proofs.lemmas.List.{length-take, take_at, take-take, get_or_at, get_or-take, drop_more}
-use Rattle.cue_log.specs.declared.area.TheConstants.{MAX_AREA, MAX_PAYLOAD}
+use Rattle.cue_log.specs.declared.area.TheConstants.{MAX_AREA, MAX_PAYLOAD, HEAD_LEN}
 use Rattle.cue_log.specs.Area.{Area, IsArea, area_text, records_text, are_records, frame_of, with_payloads, group_text}
 use Rattle.cue_log.specs.Area.{room_of, body_text, four_bytes, eight_bytes}
 
--- a list in front of an index, at it and behind it
+-- a list in front of an index, at it and after it
 pub split_at : (l : List ℕ) (n : ℕ) → n < length l → l ≡ take n l ++ get_or l n 0 ∷ drop (n + 1) l
 split_at l n within = sym (take-append-drop n l) ∙ ap (λ (r : List ℕ). take n l ++ r) (drop_more l n 0 within)
 
--- Bytes in which a gate that is not open stands behind the text read as the area.
+-- Bytes in which a gate that is not open stands after the text read as the area.
 pub reads : (area : Area) (gate : ℕ) (rest bytes : List ℕ) → bytes ≡ area_text area ++ gate ∷ rest → gate ≢ 1
     → length (area_text area) < MAX_AREA → area.generation < 2 ^ 64 → are_records area.payloads ≡ true
     → IsArea area bytes
@@ -101,7 +101,7 @@ are_records-append (first ∷ payloads) more records short =
 
 -- where the last gate stands
 pub length-area_text : (area : Area)
-    → length (area_text area) ≡ 13 + length area.snapshot + length (records_text area.payloads)
+    → length (area_text area) ≡ HEAD_LEN + length area.snapshot + length (records_text area.payloads)
 length-area_text area =
     omega (
       arith,
@@ -111,7 +111,7 @@ length-area_text area =
       length-eight_bytes area.generation,
     )
 
--- What stands behind the front of some bytes does not matter, where an area stands in front.
+-- What stands after the front of some bytes does not matter, where an area stands in front.
 pub longer_reads : (area : Area) (n : ℕ) (bytes : List ℕ) → IsArea area (take n bytes) → IsArea area bytes
 longer_reads area n bytes is =
     front_reads area (take n bytes) bytes is

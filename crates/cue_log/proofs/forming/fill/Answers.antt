@@ -1,6 +1,7 @@
 use Rattle.std.proofs.Common.{◌≡◌, ◌+◌, ◌<◌, ◌∷◌, [], ◌∙◌, List, ℕ, arith, ap, length, length-append}
 use Rattle.cue_disk.specs.Disk.{overwritten_bytes}
 use Rattle.cue_disk.proofs.MomentLemmas.{started, goes_on}
+use Rattle.cue_log.specs.declared.area.TheConstants.{HEAD_LEN}
 use Rattle.cue_log.specs.Area.{IsAbsent, eight_bytes, four_bytes}
 use Rattle.cue_log.proofs.OverwrittenLemmas.{body-overwritten}
 use Rattle.cue_log.proofs.SettledLemmas.{at_ok, if_ok}
@@ -15,7 +16,7 @@ returns-in_err-write_at-2-clause-any_moment g c = λ honest.
     let honest1 = c.write_at.ensures.honest.1 honest in
     let shut1 = shut_stays 1 (length c.header_of-header.result) (held c.args.disk.now) (held c.write_at.new.self)
     (omega arith) (c.write_at.ensures.crash honest) shut in
-    let shut2 = shut_stays 13 (length c.args.snapshot.now) (held c.write_at.new.self) (held c.write_at-2.new.self)
+    let shut2 = shut_stays HEAD_LEN (length c.args.snapshot.now) (held c.write_at.new.self) (held c.write_at-2.new.self)
     (omega arith) (c.write_at-2.ensures.crash honest1) shut1 in
     let at_start = started g.D.Disk.moment g.D.Disk.held_at c.args.disk.now (held c.args.disk.now) IsAbsent
     (g.met.D.Disk.held_now c.args.disk.now honest)
@@ -33,9 +34,10 @@ returns-in_err-write_at-3-clause-any_moment g c = λ honest.
     let honest2 = c.write_at-2.ensures.honest.1 honest1 in
     let shut1 = shut_stays 1 (length c.header_of-header.result) (held c.args.disk.now) (held c.write_at.new.self)
     (omega arith) (c.write_at.ensures.crash honest) shut in
-    let shut2 = shut_stays 13 (length c.args.snapshot.now) (held c.write_at.new.self) (held c.write_at-2.new.self)
+    let shut2 = shut_stays HEAD_LEN (length c.args.snapshot.now) (held c.write_at.new.self) (held c.write_at-2.new.self)
     (omega arith) (c.write_at-2.ensures.crash honest1) shut1 in
-    let shut3 = shut_stays (13 + length c.args.snapshot.now) 1 (held c.write_at-2.new.self) (held c.write_at-3.new.self)
+    let shut3 = shut_stays (HEAD_LEN + length c.args.snapshot.now) 1 (held c.write_at-2.new.self)
+    (held c.write_at-3.new.self)
     (omega arith) (c.write_at-3.ensures.crash honest2) shut2 in
     let at_start = started g.D.Disk.moment g.D.Disk.held_at c.args.disk.now (held c.args.disk.now) IsAbsent
     (g.met.D.Disk.held_now c.args.disk.now honest)
@@ -56,9 +58,10 @@ returns-clause-any_moment g c = λ honest.
     let honest3 = c.write_at-3.ensures.honest.1 honest2 in
     let shut1 = shut_stays 1 (length c.header_of-header.result) (held c.args.disk.now) (held c.write_at.new.self)
     (omega arith) (c.write_at.ensures.crash honest) shut in
-    let shut2 = shut_stays 13 (length c.args.snapshot.now) (held c.write_at.new.self) (held c.write_at-2.new.self)
+    let shut2 = shut_stays HEAD_LEN (length c.args.snapshot.now) (held c.write_at.new.self) (held c.write_at-2.new.self)
     (omega arith) (c.write_at-2.ensures.crash honest1) shut1 in
-    let shut3 = shut_stays (13 + length c.args.snapshot.now) 1 (held c.write_at-2.new.self) (held c.write_at-3.new.self)
+    let shut3 = shut_stays (HEAD_LEN + length c.args.snapshot.now) 1 (held c.write_at-2.new.self)
+    (held c.write_at-3.new.self)
     (omega arith) (c.write_at-3.ensures.crash honest2) shut2 in
     let at_start = started g.D.Disk.moment g.D.Disk.held_at c.args.disk.now (held c.args.disk.now) IsAbsent
     (g.met.D.Disk.held_now c.args.disk.now honest)
@@ -82,9 +85,10 @@ returns-clause-filled g c = λ honest.
     let honest3 = c.write_at-3.ensures.honest.1 honest2 in
     let shut1 = shut_stays 1 (length c.header_of-header.result) (held c.args.disk.now) (held c.write_at.new.self)
     (omega arith) (c.write_at.ensures.crash honest) shut in
-    let shut2 = shut_stays 13 (length c.args.snapshot.now) (held c.write_at.new.self) (held c.write_at-2.new.self)
+    let shut2 = shut_stays HEAD_LEN (length c.args.snapshot.now) (held c.write_at.new.self) (held c.write_at-2.new.self)
     (omega arith) (c.write_at-2.ensures.crash honest1) shut1 in
-    let shut3 = shut_stays (13 + length c.args.snapshot.now) 1 (held c.write_at-2.new.self) (held c.write_at-3.new.self)
+    let shut3 = shut_stays (HEAD_LEN + length c.args.snapshot.now) 1 (held c.write_at-2.new.self)
+    (held c.write_at-3.new.self)
     (omega arith) (c.write_at-3.ensures.crash honest2) shut2 in
     let some : 0 < length (held c.args.disk.now).bytes =
     omega (arith, shut.0, (g.met.D.Disk.reads_as_image c.args.disk.now honest).no_shorter) in
@@ -131,7 +135,7 @@ returns-clause-bytes g c = λ honest.
     ) in
     at_ok c.sync.result
     (c.sync.ensures.bytes honest3 ∙ c.in_ok-write_at-3.ensures.written honest2
-    ∙ ap (λ (l : List ℕ). overwritten_bytes l (13 + length snapshot) (0 ∷ []))
+    ∙ ap (λ (l : List ℕ). overwritten_bytes l (HEAD_LEN + length snapshot) (0 ∷ []))
     (c.in_ok-write_at-2.ensures.written honest1
-    ∙ ap (λ (l : List ℕ). overwritten_bytes l 13 snapshot) (c.in_ok-write_at.ensures.written honest))
+    ∙ ap (λ (l : List ℕ). overwritten_bytes l HEAD_LEN snapshot) (c.in_ok-write_at.ensures.written honest))
     ∙ body-overwritten (held c.args.disk.now).bytes header.result snapshot c.args.generation some twelve header.ensures)

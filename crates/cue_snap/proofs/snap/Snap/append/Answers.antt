@@ -1,5 +1,5 @@
 use Rattle.std.proofs.Common.{◌+◌, ◌∷◌, [], length, refl, arith}
-use Rattle.cue_log.specs.declared.area.TheConstants.{MAX_AREA}
+use Rattle.cue_log.specs.declared.area.TheConstants.{MAX_AREA, FRAME_LEN}
 use Rattle.cue_snap.specs.Observed.{end_of}
 use Rattle.cue_snap.proofs.AppendingLemmas.{too_long, not_too_long, no_room, handed_on}
 use Rattle.cue_snap.proofs.snap.Snap.append.Goals as goal
@@ -11,7 +11,7 @@ returns-then-not-has_room g c =
       appends = no_room (c.args.added.now ∷ []) pair c.if-self.false (g.met.D.Disk.held_now pair.log.disk)
           (omega (
             arith,
-            too_long c.has_room.result (end_of pair + 6 + length c.args.added.now) MAX_AREA
+            too_long c.has_room.result (end_of pair + (FRAME_LEN + 1) + length c.args.added.now) MAX_AREA
                 c.has_room.ensures c.if-not-has_room.true,
           ));
     }
@@ -22,7 +22,7 @@ returns g c =
     record {
       appends = handed_on (c.args.added.now ∷ []) pair c.if-self.false _ refl refl c.is_broken-self.ensures.broken
           (λ none. absurd (cc (none)))
-          (λ lacks. not_too_long c.has_room.result (end_of pair + 6 + length c.args.added.now) MAX_AREA
+          (λ lacks. not_too_long c.has_room.result (end_of pair + (FRAME_LEN + 1) + length c.args.added.now) MAX_AREA
           c.has_room.ensures c.if-not-has_room.false (omega (arith, lacks)))
           c.append-appended.result c.append-appended.ensures.appends;
     }

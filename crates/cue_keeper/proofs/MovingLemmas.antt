@@ -8,7 +8,7 @@ use Rattle.cue_snap.specs.Pair.{PairIsEither, AfterBarrier}
 use Rattle.cue_snap.proofs.PairLemmas.{swapped}
 use Rattle.cue_keeper.specs.Pairs.{LeavesPairsAtEachMoment, Moves, Writes, PairIsAny}
 
--- a fact of two disks and of the two that they become, told of them in their order
+-- a fact of two disks and of the two that they become, said of them in their order
 pub in_order : {D : Type 0} (Q : D → D → D → D → Type 0)
     → ((a b new_a new_b : D) → Q a b new_a new_b → Q b a new_b new_a)
     → (was is : Bool) (live spare new_live new_spare : D) → is ≡ was → Q live spare new_live new_spare
@@ -173,7 +173,7 @@ module _ {D : Type 0} (moment : D → ℕ) (held : D → Contents) (held_at : D 
       (moves_swapped P turn) was is live spare new_live new_spare same
       (subst (λ (d : D). Moves moment held_at failures is_honest live spare d new_live P) (sym rest) moves)
 
-  -- two facts, told of the disks in their order, and back
+  -- two facts, said of the disks in their order, and back
   pub in_sides : (was : Bool) (live spare : D) → is_honest live → is_honest spare
       → is_honest (if was then live else spare) × is_honest (if was then spare else live)
   in_sides true live spare one other = (one, other)

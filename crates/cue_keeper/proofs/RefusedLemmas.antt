@@ -21,11 +21,11 @@ own_version bytes s text = by text.form text.is
     by Plain is = ap is_other_version is
     by Flagged is = ap is_other_version is
 
--- what is malformed is told of no other version
+-- what is malformed is of no other version
 pub other_than : {T U : Type 0} (f : StateFault) (other : Bool) → IsErrOf {T = T} (Err f) fault.Malformed
     → (IsErrOf {T = U} (Err f) fault.Version ↔ IsTrue other) → other ≡ false
-other_than f true is told = let version : IsErrOf (Err f) fault.Version = told.1 refl in cc
-other_than f false is told = refl
+other_than f true is answered = let version : IsErrOf (Err f) fault.Version = answered.1 refl in cc
+other_than f false is answered = refl
 
 pub is_opened : WhatStandsIsOpened
 is_opened x y s stands =

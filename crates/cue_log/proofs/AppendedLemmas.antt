@@ -71,7 +71,7 @@ module _ {D : Type 0} (disk : Ghosts D) (text : List ℕ) (end : ℕ) (framed : 
         (image_torn (end + 1) (length stored) (held d0) (held d1) image
         (omega (arith, settled.is.ends, settled.same_end)) settled.stable writes left))
 
-    -- the records behind the closed gate
+    -- the records after the closed gate
     pub body_leaves : LeavesAtEachMoment moment held_at d0 d1 Either
     body_leaves =
         goes_on moment held_at d0 d0 d1 Either (held d1)

@@ -18,7 +18,7 @@ module _ (area : Area) (payloads : List (List ℕ)) (bytes stored : List ℕ) (e
   abbrev rest : List ℕ
   rest = drop (end + 1 + length stored) bytes
 
-  -- the bytes once what is framed stands behind the last gate
+  -- the bytes once what is framed stands after the last gate
   abbrev pub behind_gate : List ℕ
   behind_gate = overwritten_bytes bytes (end + 1) stored
 
@@ -81,7 +81,7 @@ module _ (area : Area) (payloads : List (List ℕ)) (bytes stored : List ℕ) (e
         | inr closed ↦ inl (closed_at gate image closed split)
       ]
 
-  -- what is written behind the last gate leaves the area
+  -- what is written after the last gate leaves the area
   pub body_torn : (image : List ℕ) → Torn (end + 1) (length stored) bytes image → IsArea area image
   body_torn image torn =
       front_reads area bytes image is

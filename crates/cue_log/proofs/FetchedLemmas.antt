@@ -44,7 +44,7 @@ take_both n more bytes =
     sym (take-append-drop n (take (n + more) bytes))
     ∙ (λ i. take-take n (n + more) bytes (omega arith) i ++ drop-take n more bytes i)
 
--- What is read behind a front makes a longer front.
+-- What is read after a front makes a longer front.
 pub front_more : (bytes text next : List ℕ) (more : ℕ) → text ≡ take (length text) bytes
     → next ≡ text ++ take more (drop (length text) bytes) → length next ≡ length text + more
     → next ≡ take (length next) bytes

@@ -13,7 +13,7 @@ pub some_is : (found : Option (List (List ℕ))) → IsSome found → found ≡ 
 some_is None has = absurd (cc (has))
 some_is (Some payloads) has = refl
 
--- They are read where the length behind them is.
+-- They are read where the length after them is.
 pub read_in : (bytes : List ℕ) (behind : ℕ) (payloads : List (List ℕ)) → Some behind ≡ bytes_left bytes
     → payloads ≡ payloads_in bytes → payloads_at (length bytes) bytes ≡ Some payloads
 read_in bytes behind payloads counted is = by (payloads_at (length bytes) bytes) refl
@@ -41,7 +41,7 @@ in_front_of payload whole None has is =
     absurd (cc (none))
 in_front_of payload whole (Some payloads) has is = (refl, ap or_none is)
 
--- A gate that was read as open, and a frame behind it.
+-- A gate that was read as open, and a frame after it.
 module _ (bytes after : List ℕ) (gate : ℕ) (is : bytes ≡ gate ∷ after) (opened : gate ≡ 1) where
   first : bytes ≡ 1 ∷ after
   first = is ∙ ap (λ (n : ℕ). n ∷ after) opened

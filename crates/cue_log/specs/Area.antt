@@ -22,12 +22,12 @@ eight_bytes n = to_be_bytes w64 n
 abbrev pub frame_of : List ℕ → List ℕ
 frame_of bytes = four_bytes (length bytes) ++ bytes
 
--- records, each behind an open gate
+-- records, each after an open gate
 abbrev pub records_text : List (List ℕ) → List ℕ
 records_text [] = []
 records_text (payload ∷ payloads) = 1 ∷ frame_of payload ++ records_text payloads
 
--- what stands behind the head gate, up to the records
+-- what stands after the head gate, up to the records
 abbrev pub body_text : ℕ → List ℕ → List ℕ
 body_text generation snapshot = eight_bytes generation ++ frame_of snapshot
 

@@ -51,7 +51,7 @@ abbrev pub prepared_bytes : List ℕ → List ℕ
 prepared_bytes [] = 0 ∷ []
 prepared_bytes (gate ∷ bytes) = gate ∷ bytes
 
--- Behind a gate that is not open stand this generation and snapshot and a gate that is not open, and a crash leaves it
+-- After a gate that is not open stand this generation and snapshot and a gate that is not open, and a crash leaves it
 -- so.
 pub record IsFilled (held : Contents) (generation : ℕ) (snapshot : List ℕ) : Type 0 where
   pub stable : IsStable held
@@ -75,7 +75,7 @@ pub record OnlyReads {D : Type 0} (moment : D → ℕ) (held : D → Contents) (
   pub same : held new ≡ held old
   pub leaves : LeavesAtEachMoment moment held_at old new (IsImage (held old))
 
--- a front of the bytes, long enough that an area is there in whole, behind an open head gate
+-- a front of the bytes, long enough that an area is there in whole, after an open head gate
 pub record IsFront (text bytes : List ℕ) : Type 0 where
   pub front : text ≡ take (length text) bytes
   pub enough : IsSome (area_at text) ⊎ (take MAX_AREA bytes ≡ text)

@@ -14,7 +14,7 @@ pub record IsFramed (bytes : List ℕ) : Type 0 where
   pub short : length (payload_in bytes) ≤ MAX_PAYLOAD
   pub len : length bytes ≡ FRAME_LEN + 1 + length (payload_in bytes)
 
--- records that are not too long, each behind an open gate, and a closed gate after them
+-- records that are not too long, each after an open gate, and a closed gate after them
 pub record AreFramed (bytes : List ℕ) : Type 0 where
   pub text : bytes ≡ group_text (payloads_in bytes)
   pub short : are_records (payloads_in bytes) ≡ true

@@ -1,7 +1,7 @@
-// How records come to be: they are on the disk behind a closed gate before that gate is opened.
+// How records come to be: they are on the disk, after a closed gate, before that gate is opened.
 //
 // The gate of the first record is the last gate of the area: it is closed, and synced. All that follows it is written
-// at once: the first record, each further one behind its gate, which is open already, and a closed gate. A reader stops
+// at once: the first record, each further one after its gate, which is open already, and a closed gate. A reader stops
 // at the first gate that is not open. So none of it is read until that one gate is opened, and from then on all of it.
 ghost use Rattle.std.specs.Prelude.{◌≤◌, ◌<◌, ◌+◌, length};
 ghost use Rattle.cue_log.specs.Reading.{payloads_in};

@@ -1,4 +1,4 @@
-// How an area comes to be: its body is on the disk, behind a closed head gate, before that gate is opened.
+// How an area comes to be: its body is on the disk, after a closed head gate, before that gate is opened.
 ghost use Rattle.std.specs.Prelude.{◌≡◌, ◌<◌, ◌≤◌, ◌+◌, ◌↔◌, [], ◌∷◌, ◌++◌, length};
 ghost use Rattle.std.specs.Prelude.{OnOk};
 ghost use Rattle.cue_disk.specs.Disk.{LeavesAtEachMoment, CountsFailure, overwritten_bytes};
@@ -36,7 +36,7 @@ fn header_of(generation: u64, len: u32) -> [u8; 12]
     [g0, g1, g2, g3, g4, g5, g6, g7, l0, l1, l2, l3]
 }
 
-// Writes the body behind the closed head gate, and a closed gate after the body.
+// Writes the body after the closed head gate, and a closed gate after the body.
 fn fill<D: Disk>(disk: &mut D, generation: u64, snapshot: &[u8]) -> Result<(), DiskFault>
     requires room { HEAD_LEN + length snapshot.now < MAX_AREA }
     requires shut { D.is_honest disk.old → IsShut (D.held disk.old) }

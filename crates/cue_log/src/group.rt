@@ -13,7 +13,7 @@ use std::marker::Model;
 /// of their payloads.
 #[derive(Debug, Drop)]
 pub struct RecordGroup {
-    // each record behind an open gate, and a closed gate after the last
+    // each record after an open gate, and a closed gate after the last
     bytes: Vec<u8>,
     count: u64,
 }

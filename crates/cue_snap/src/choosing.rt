@@ -30,7 +30,7 @@ pub(crate) enum Found<D: Disk> {
     Area(Opened<D>),
     /// No area.
     Absent(D),
-    /// An open head gate, and no area behind it.
+    /// An open head gate, and no area after it.
     Damaged(D),
 }
 

@@ -148,19 +148,16 @@ cancels_refused (Err refused) x y no_other exhausted =
     has_reason refused.0 x y no_other.0 (λ is. absurd (no_other.1 is)) (λ is. absurd (no_other.2 is))
     (λ is. absurd (no_other.3 is)) (λ is. absurd (no_other.4 is)) no_other.5 exhausted
 
--- being out of memory has hidden no fault of a device
+-- no other refusal has hidden a fault of a device
 pub went_through : {T D : Type 0} (failures : D → ℕ) (first_in second_in : T → D) (a b : D) (n m : ℕ)
     (r : Result T (StoreFault × D × D))
     → RefusedBut store.Disk ((first_after first_in r ≡ a) × (second_after second_in r ≡ b)) r
     → failures a ≡ n → failures b ≡ m
-    → RefusedAs store.Memory ((failures (first_after first_in r) ≡ n) × (failures (second_after second_in r) ≡ m)) r
+    → RefusedBut store.Disk ((failures (first_after first_in r) ≡ n) × (failures (second_after second_in r) ≡ m)) r
 went_through failures first_in second_in a b n m (Ok made) same p q = tt
-went_through failures first_in second_in a b n m (Err refused) same p q = λ is.
-    let unwritten = same (λ disk. memory_is_no_disk (sym is ∙ disk)) in
+went_through failures first_in second_in a b n m (Err refused) same p q = λ other.
+    let unwritten = same other in
     (ap failures unwritten.0 ∙ p, ap failures unwritten.1 ∙ q)
-  where
-    memory_is_no_disk : store.Memory ≡ store.Disk → ⊥
-    memory_is_no_disk is = cc
 
 -- ---- what a refusal has written
 

@@ -89,7 +89,7 @@ module _ {D : Type 0} {disk : Ghosts D} where
     generation = λ _. tt;
     count = λ _. tt;
     area = λ _ _ _. tt;
-    record_ = λ _ _ _ _. tt;
+    added = λ _ _ _ _. tt;
     any_moment = λ first second _.
         rests disk.moment disk.held disk.held_at disk.failures disk.is_honest (first_of pair) (second_of pair)
         (StandsEither s (after_events s batch)) (now (first_of pair)) (now (second_of pair))
@@ -124,7 +124,7 @@ module _ {D : Type 0} {disk : Ghosts D} where
     generation = λ _. tt;
     count = λ _. tt;
     area = λ _ _ _. tt;
-    record_ = λ _ _ _ _. tt;
+    added = λ _ _ _ _. tt;
     any_moment = λ first second _. moves.leaves first second;
     first_failures = moves.failures_a;
     second_failures = moves.failures_b;
@@ -161,7 +161,7 @@ module _ {D : Type 0} {disk : Ghosts D} where
     generation = λ _. generation;
     count = λ _. count;
     area = area;
-    record_ = λ first second _ stays. one_more first second stays;
+    added = λ first second _ stays. one_more first second stays;
     any_moment = λ first second _. moves.leaves first second;
     first_failures = moves.failures_a;
     second_failures = moves.failures_b;
@@ -185,7 +185,7 @@ module _ {D : Type 0} {disk : Ghosts D} where
     generation = λ _. tt;
     count = λ _. tt;
     area = λ _ _ _. tt;
-    record_ = λ _ _ _ _. tt;
+    added = λ _ _ _ _. tt;
     any_moment = λ _ _ works. absurd (true≢false (sym is ∙ works));
     first_failures = omega arith;
     second_failures = omega arith;
@@ -211,7 +211,7 @@ module _ {D : Type 0} {disk : Ghosts D} where
     generation = λ some. absurd (not_some batch none some);
     count = λ some. absurd (not_some batch none some);
     area = λ _ _ needs. absurd (not_some batch none needs.0);
-    record_ = λ _ _ some _. absurd (not_some batch none some);
+    added = λ _ _ some _. absurd (not_some batch none some);
     any_moment = λ first second _.
         rests disk.moment disk.held disk.held_at disk.failures disk.is_honest (first_of pair) (second_of pair)
         (StandsEither s (after_events s batch)) (now (first_of pair)) (now (second_of pair))

@@ -77,7 +77,7 @@ pub record Commits {D : Type 0} {disk : Ghosts D} (s : ShowState) (batch : List 
       → IfNone refused
       (live_area_of disk.held new ≡ with_payload (fresh (generation_of old + 1) (state_text s)) (batch_text batch))
   -- the live area, where it stays, has the batch as one record more
-  pub record_ :
+  pub added :
       disk.is_honest (first_of old)
       → disk.is_honest (second_of old)
       → 1 ≤ length batch

@@ -108,8 +108,9 @@ impl<D: Disk> Engine<D> {
         ensures disk { RefusedAs StoreFault.Disk (MoreFailures (D.failures first)
             (D.failures (first_after first_of result))
             ⊎ MoreFailures (D.failures second) (D.failures (second_after second_of result))) result }
-        // Out of memory hides no fault of a device: each call went through.
-        ensures memory { RefusedAs StoreFault.Memory ((D.failures (first_after first_of result) ≡ D.failures first)
+        // No other refusal hides a fault of a device: each call went through.
+        ensures went_through { RefusedBut StoreFault.Disk
+            ((D.failures (first_after first_of result) ≡ D.failures first)
             × (D.failures (second_after second_of result) ≡ D.failures second)) result }
         // A new area has room for any state and the cancels.
         ensures no_other { RefusedAs StoreFault.NotEmpty ⊥ result × RefusedAs StoreFault.Full ⊥ result }

@@ -87,8 +87,8 @@ returns-in-Err-clause-refused g c = λ first second.
     told.no_other.0 (told.unformed first second) (told.damaged first second) (told.version first second)
     (told.malformed first second) told.no_other.1 (λ is. absurd (told.no_other.2 is))
 
-pub returns-in-Ok-clause-memory : goal.returns-in-Ok-clause-memory
-returns-in-Ok-clause-memory g c =
+pub returns-in-Ok-clause-went_through : goal.returns-in-Ok-clause-went_through
+returns-in-Ok-clause-went_through g c =
     went_through g.D.Disk.failures first_of second_of (kept.first_of c.in-Ok.keeper) (kept.second_of c.in-Ok.keeper)
     (g.D.Disk.failures c.args.first) (g.D.Disk.failures c.args.second) c.close_opened.result
     c.close_opened.ensures.unwritten c.in-Ok.ensures.went_through.0 c.in-Ok.ensures.went_through.1

@@ -1,0 +1,106 @@
+"""The numbers of the sources, and what pages say of them, word by word. `tests/tools/pages` compares both."""
+import re
+from types import SimpleNamespace
+
+WORDS = "no one two three four five six seven eight nine ten".split()
+
+# A phrase a line: {cue_show.MAX_CUES} is that constant, and {of.NAME} what is computed below.
+PHRASES = {
+    "PROTOCOL.md": """
+| a datagram | {cue_osc.MAX_LEN:,} bytes, bundles {cue_osc.MAX_DEPTH} deep |
+| devices, cues | {cue_show.MAX_DEVICES}, {cue_show.MAX_CUES:,} |
+| parts of a cue, bytes of a part | {cue_show.MAX_PARTS}, {cue_show.MAX_PART_BYTES} |
+| bytes of a cue number | {cue_show.MAX_CUE_BYTES} |
+| live attempts | {cue_exchange.MAX_LIVE} |
+| numbers of attempts | 1 to {cue_exchange.MAX_NUMBER:,} |
+| commands of one datagram | {cue_engine.MAX_COMMANDS:,} |
+| events of one batch, bytes of its encoding: the payload of a record | {cue_records.MAX_EVENTS:,}, {of.PAYLOAD:,} |
+| datagrams that are kept together | {cue_run.MAX_TOGETHER} |
+| bytes of an area | {cue_log.MAX_AREA:,} |
+| records of an area before it is turned over | {cue_keeper.MAX_RECORDS} |
+| bytes of the encoding of a state, version 2 and version 1 | {cue_records.MAX_STATE_BYTES:,}, {of.OLD_STATE:,} |
+| from standby to the deadline | {of.SECONDS} seconds |
+`,ii`: number 0 to {cue_show.MAX_DEVICE_NUMBER}, port 1 to {cue_show.MAX_PORT} |
+a device and 0 to {cue_show.MAX_PART_BYTES} bytes |
+more than {cue_show.MAX_PARTS} parts, a part of more than {cue_show.MAX_PART_BYTES} bytes
+a cue number not 1 to {cue_show.MAX_CUE_BYTES} bytes of digits and single points
+no room: {cue_show.MAX_CUES:,} cues, or {cue_exchange.MAX_LIVE} live attempts
+up to {cue_run.MAX_TOGETHER}, are kept together
+the datagram is longer than {cue_osc.MAX_LEN:,} bytes
+the datagram asks for more than {cue_engine.MAX_COMMANDS:,} commands
+would have {of.GOTOS:,} bytes
+A tick of the clock (some {of.TICKS} a second)
+""",
+    "OPERATING.md": """
+not given within {of.SECONDS_WORD} seconds is cancelled
+in which they are added, {cue_show.MAX_CUES:,} at most
+up to {of.READINGS} times in all
+up to {cue_desk.MAX_TOGETHER} messages by one datagram
+The board wants {cue_desk.COLUMNS} columns and {cuedesk.ROWS} rows
+the last {of.LOG_LINES} lines of the log
+else that of the show file, else {cuedesk.PORT}
+at most once in {of.DROPPED} seconds
+is more than {of.STALE} seconds ago, the relay has stopped
+""",
+    "DEVICES.md": """
+A device has a number, 0 to {cue_show.MAX_DEVICE_NUMBER},
+*Your bytes* are 0 to {cue_show.MAX_PART_BYTES} bytes
+You have {of.SECONDS_WORD} seconds
+""",
+    "FORMAT.md": """
+length of the payload, k, at most {cue_log.MAX_PAYLOAD:,}
+has at most {cue_log.MAX_AREA:,} bytes
+at most {cue_show.MAX_CUES:,}; then for each in the order of the stack
+at most {cue_records.OLD_MAX_CUES}; then for each a cue and its plain parts
+A batch is a count of 2 bytes, 1 to {cue_records.MAX_EVENTS:,}
+Once it has {cue_keeper.MAX_RECORDS} of them
+{cue_keeper.MAX_RECORDS} records take {of.RECORDS:,} bytes at most
+with its {of.FRAME} other bytes {of.FULL_AREA:,} of them at most
+more than 4,194,304 bytes, or the other area has
+""",
+}
+
+
+def numbers_of(top):
+    """The value of each constant of the crates that is a number: by crate, and there by name."""
+    said, found = {}, {}
+    for path in sorted(top.glob("crates/*/src/**/*.rt")):
+        crate = path.relative_to(top / "crates").parts[0]
+        for name, value in re.findall(r"const ([A-Z_]+): [ui](?:\d+|size) =([^;]*);", path.read_text()):
+            said.setdefault((crate, name), re.sub(r" as \w+|(?<=\d)_(?=\d)", "", " ".join(value.split())))
+
+    def value_of(crate, name):
+        """A constant of this crate, else that of the crate that has it."""
+        key = (crate, name) if (crate, name) in said else next((key for key in said if key[1] == name), None)
+        if key and key not in found:
+            plain = re.sub(r"\b[A-Z][A-Z_]+\b", lambda other: str(value_of(key[0], other[0])), said[key])
+            found[key] = eval(plain) if re.fullmatch(r"[\d ()+*<-]+", plain) else None
+        return found.get(key)
+
+    crates = {}
+    for crate, name in said:
+        crates.setdefault(crate, {})[name] = value_of(crate, name)
+    return {crate: SimpleNamespace(**named) for crate, named in crates.items()}
+
+
+def computed(at):
+    """What follows from constants, and times as the pages say them."""
+    show, log, records, program = at["cue_show"], at["cue_log"], at["cue_records"], at["cuedesk"]
+    old_parts = show.MAX_PARTS * (2 + show.MAX_PART_BYTES)
+    old_stack = 2 + records.OLD_MAX_CUES * (records.NUMBER_BYTES + 1 + old_parts)
+    seconds, frame = at["cue_core"].STANDBY_MS // 1000, log.HEAD_LEN + 1
+    of_records = at["cue_keeper"].MAX_RECORDS * (log.FRAME_LEN + log.MAX_PAYLOAD)
+    return SimpleNamespace(
+        PAYLOAD=log.MAX_PAYLOAD, OLD_STATE=records.MAX_STATE_BYTES - records.STACK_BYTES + old_stack,
+        SECONDS=seconds, SECONDS_WORD=WORDS[seconds], TICKS=WORDS[1000 // at["cue_run"].TICK],
+        GOTOS=2 + at["cue_engine"].MAX_COMMANDS * (2 + show.MAX_CUE_BYTES), READINGS=WORDS[at["cue_copies"].READINGS],
+        LOG_LINES=WORDS[program.LOG_LINES], DROPPED=WORDS[program.DROPPED_PAUSE // 1000],
+        STALE=WORDS[at["cue_relay"].STALE // 1000], RECORDS=of_records, FRAME=frame,
+        FULL_AREA=frame + records.MAX_STATE_BYTES + of_records)
+
+
+def phrases(top):
+    """What each page is to say of limits, and all numbers of the sources."""
+    at = numbers_of(top)
+    said = {page: text.strip().format(**at, of=computed(at)).split("\n") for page, text in PHRASES.items()}
+    return said, {value for crate in at.values() for value in vars(crate).values()}

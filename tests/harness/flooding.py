@@ -1,5 +1,7 @@
 """A flood of commands that move the place of a served show, and where the place may be."""
+import os
 import socket
+import sys
 import threading
 import time
 
@@ -63,3 +65,23 @@ def add_show(serve):
     answers.append(desk.ask(model.message(f"/cue/{place(0)}/goto")))
     desk.close()
     return answers == [MADE] * (CUES + 2)
+
+
+def beside(serve, calls, read):
+    """Floods a served show, and calls `read(flood, least)` so many times meanwhile: it gives the number of the command
+    whose state it saw, at least the given one. How long that took, and what was beside it."""
+    before, flood = generation(serve.folder), Flood(serve)
+    flood.start()
+    began, at = time.monotonic(), 0
+    for n in range(calls):
+        at = read(flood, at)
+        if n % 1000 == 0:
+            os.truncate(serve.said.name, 0)  # its log
+    seconds = time.monotonic() - began
+    flood.stopped = True
+    flood.join()
+    turned = generation(serve.folder) - before
+    serve.kill()
+    if not turned:
+        sys.exit("FAIL the files were turned over")
+    return f"{seconds:.0f} s", f"beside {flood.answered / seconds:.0f} commands a second and {turned} turn-overs"

@@ -3,15 +3,14 @@ import json
 import re
 import socket
 import subprocess
-import sys
 import tempfile
 import time
 from pathlib import Path
 
 import serving
 from checking import check
+from desk_show import EVENING, at_own_ports
 
-EVENING = serving.ROOT / "examples" / "evening.toml"
 NASTY = "<script>alert(1)</script> & \\\"'<b>"
 SHOWN = "<script>alert(1)</script> & \"'<b>"
 
@@ -26,13 +25,8 @@ class Evening:
     """A served store with the show of a file, its devices rehearsed, and its page. `relay` is the file of a relay."""
 
     def __init__(self, desk, cuectl, folder, text, relay=None):
-        self.desk, self.cuectl, self.folder = desk, cuectl, folder / "show"
-        self.folder.mkdir(parents=True)
-        subprocess.run([cuectl, "form", self.folder], stdout=subprocess.DEVNULL, check=True)
-        self.serve = serving.Serve(cuectl, self.folder)
-        if not self.serve.ready():
-            sys.exit(f"serve does not start: {self.serve.errors()}")
-        self.file = folder / "evening.toml"
+        self.desk, self.cuectl, self.folder, self.file = desk, cuectl, folder / "show", folder / "evening.toml"
+        self.serve = serving.served(cuectl, self.folder)
         self.file.write_text(text)
         check("the show is loaded", serving.run(desk, "load", self.file, "--port", self.serve.port)[1] == 0)
         self.children, self.http = {}, free_tcp()
@@ -136,8 +130,7 @@ def is_answered(evening, within=1.2):
 
 def evening_text():
     """The evening of the examples at ports of this run, with names that a page could take for more than texts."""
-    free = iter(range(serving.device_port(0), serving.device_port(0) + 100))
-    text = re.sub(r"(number = \d+\nport = )\d+", lambda m: f"{m[1]}{next(free)}", EVENING.read_text())
+    text = at_own_ports(EVENING.read_text())
     return text.replace("House to half", NASTY).replace("Winch 4, forest drop", f"Winch {NASTY}")
 
 

@@ -70,8 +70,8 @@ def free_port():
 
 
 def device_port(k):
-    """The k-th port for a device, k below 10; another one in each process, so that two tests may run at once."""
-    return 20000 + os.getpid() % 1200 * 10 + k
+    """The k-th port for a device, k below 20; another one in each process, so that two tests may run at once."""
+    return 20000 + os.getpid() % 600 * 20 + k
 
 
 class Serve:
@@ -122,6 +122,16 @@ class Serve:
             for pid in [*children(self.child.pid), self.child.pid]:
                 os.kill(pid, 9)
             self.child.communicate()
+
+
+def served(cuectl, folder, *around, **more):
+    """`cuectl serve` of a new store in this folder, once it is ready."""
+    Path(folder).mkdir(parents=True, exist_ok=True)
+    subprocess.run([cuectl, "form", str(folder)], stdout=subprocess.DEVNULL, check=True)
+    serve = Serve(cuectl, folder, *around, **more)
+    if not serve.ready():
+        sys.exit(f"serve does not start: {serve.errors()}")
+    return serve
 
 
 def children(pid):

@@ -7,19 +7,23 @@ WORDS = "no one two three four five six seven eight nine ten".split()
 # A phrase a line: {cue_show.MAX_CUES} is that constant, and {of.NAME} what is computed below.
 PHRASES = {
     "PROTOCOL.md": """
-| a datagram | {cue_osc.MAX_LEN:,} bytes, bundles {cue_osc.MAX_DEPTH} deep |
-| devices, cues | {cue_show.MAX_DEVICES}, {cue_show.MAX_CUES:,} |
-| parts of a cue, bytes of a part | {cue_show.MAX_PARTS}, {cue_show.MAX_PART_BYTES} |
+| bytes of a datagram | {cue_osc.MAX_LEN:,} |
+| bundles one in the other | {cue_osc.MAX_DEPTH} |
+| commands of one datagram | {cue_engine.MAX_COMMANDS:,} |
+| datagrams that are kept together | {cue_run.MAX_TOGETHER} |
+| devices | {cue_show.MAX_DEVICES} |
+| cues | {cue_show.MAX_CUES:,} |
+| parts of a cue | {cue_show.MAX_PARTS} |
+| bytes of a part | {cue_show.MAX_PART_BYTES} |
 | bytes of a cue number | {cue_show.MAX_CUE_BYTES} |
 | live attempts | {cue_exchange.MAX_LIVE} |
-| numbers of attempts | 1 to {cue_exchange.MAX_NUMBER:,} |
-| commands of one datagram | {cue_engine.MAX_COMMANDS:,} |
-| events of one batch, bytes of its encoding: the payload of a record | {cue_records.MAX_EVENTS:,}, {of.PAYLOAD:,} |
-| datagrams that are kept together | {cue_run.MAX_TOGETHER} |
-| bytes of an area | {cue_log.MAX_AREA:,} |
-| records of an area before it is turned over | {cue_keeper.MAX_RECORDS} |
-| bytes of the encoding of a state, version 2 and version 1 | {cue_records.MAX_STATE_BYTES:,}, {of.OLD_STATE:,} |
+| number of an attempt | 1 to {cue_exchange.MAX_NUMBER:,} |
 | from standby to the deadline | {of.SECONDS} seconds |
+| events of one batch | {cue_records.MAX_EVENTS:,} |
+| bytes of the encoding of a batch, which is the payload of a record | {cue_log.MAX_PAYLOAD:,} |
+| bytes of the encoding of a state | {cue_records.MAX_STATE_BYTES:,}; in version 1 {of.OLD_STATE:,} |
+| records of an area before it is turned over | {cue_keeper.MAX_RECORDS} |
+| bytes of an area | {cue_log.MAX_AREA:,} |
 `,ii`: number 0 to {cue_show.MAX_DEVICE_NUMBER}, port 1 to {cue_show.MAX_PORT} |
 a device and 0 to {cue_show.MAX_PART_BYTES} bytes |
 more than {cue_show.MAX_PARTS} parts, a part of more than {cue_show.MAX_PART_BYTES} bytes
@@ -91,7 +95,7 @@ def computed(at):
     seconds, frame = at["cue_core"].STANDBY_MS // 1000, log.HEAD_LEN + 1
     of_records = at["cue_keeper"].MAX_RECORDS * (log.FRAME_LEN + log.MAX_PAYLOAD)
     return SimpleNamespace(
-        PAYLOAD=log.MAX_PAYLOAD, OLD_STATE=records.MAX_STATE_BYTES - records.STACK_BYTES + old_stack,
+        OLD_STATE=records.MAX_STATE_BYTES - records.STACK_BYTES + old_stack,
         SECONDS=seconds, SECONDS_WORD=WORDS[seconds], TICKS=WORDS[1000 // at["cue_run"].TICK],
         GOTOS=2 + at["cue_engine"].MAX_COMMANDS * (2 + show.MAX_CUE_BYTES), READINGS=WORDS[at["cue_copies"].READINGS],
         LOG_LINES=WORDS[program.LOG_LINES], DROPPED=WORDS[program.DROPPED_PAUSE // 1000],

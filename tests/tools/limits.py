@@ -36,20 +36,22 @@ would have {of.GOTOS:,} bytes
 A tick of the clock (some {of.TICKS} a second)
 """,
     "OPERATING.md": """
-not given within {of.SECONDS_WORD} seconds is cancelled
+not given within {of.STANDBY} is cancelled
 in which they are added, {cue_show.MAX_CUES:,} at most
 up to {of.READINGS} times in all
 up to {cue_desk.MAX_TOGETHER} messages by one datagram
 The board wants {cue_desk.COLUMNS} columns and {cuedesk.ROWS} rows
 the last {of.LOG_LINES} lines of the log
 else that of the show file, else {cuedesk.PORT}
-at most once in {of.DROPPED} seconds
-is more than {of.STALE} seconds ago, the relay has stopped
+silent: nothing came for {of.SILENCE}, and something is pending
+at most once in {of.DROPPED}
+`--status FILE` is replaced whole once {of.STATUS}.
+is more than {of.STALE} ago, the relay has stopped
 """,
     "DEVICES.md": """
 A device has a number, 0 to {cue_show.MAX_DEVICE_NUMBER},
 *Your bytes* are 0 to {cue_show.MAX_PART_BYTES} bytes
-You have {of.SECONDS_WORD} seconds
+You have {of.STANDBY}:
 """,
     "FORMAT.md": """
 length of the payload, k, at most {cue_log.MAX_PAYLOAD:,}
@@ -63,6 +65,12 @@ with its {of.FRAME} other bytes {of.FULL_AREA:,} of them at most
 more than 4,194,304 bytes, or the other area has
 """,
 }
+
+
+def seconds(milliseconds):
+    """A time as the pages say it."""
+    count = milliseconds // 1000
+    return "a second" if count == 1 else f"{WORDS[count]} seconds"
 
 
 def numbers_of(top):
@@ -92,14 +100,15 @@ def computed(at):
     show, log, records, program = at["cue_show"], at["cue_log"], at["cue_records"], at["cuedesk"]
     old_parts = show.MAX_PARTS * (2 + show.MAX_PART_BYTES)
     old_stack = 2 + records.OLD_MAX_CUES * (records.NUMBER_BYTES + 1 + old_parts)
-    seconds, frame = at["cue_core"].STANDBY_MS // 1000, log.HEAD_LEN + 1
+    standby, frame = at["cue_core"].STANDBY_MS, log.HEAD_LEN + 1
     of_records = at["cue_keeper"].MAX_RECORDS * (log.FRAME_LEN + log.MAX_PAYLOAD)
     return SimpleNamespace(
         OLD_STATE=records.MAX_STATE_BYTES - records.STACK_BYTES + old_stack,
-        SECONDS=seconds, SECONDS_WORD=WORDS[seconds], TICKS=WORDS[1000 // at["cue_run"].TICK],
+        SECONDS=standby // 1000, STANDBY=seconds(standby), TICKS=WORDS[1000 // at["cue_run"].TICK],
         GOTOS=2 + at["cue_engine"].MAX_COMMANDS * (2 + show.MAX_CUE_BYTES), READINGS=WORDS[at["cue_copies"].READINGS],
-        LOG_LINES=WORDS[program.LOG_LINES], DROPPED=WORDS[program.DROPPED_PAUSE // 1000],
-        STALE=WORDS[at["cue_relay"].STALE // 1000], RECORDS=of_records, FRAME=frame,
+        LOG_LINES=WORDS[program.LOG_LINES], DROPPED=seconds(program.DROPPED_PAUSE),
+        STATUS=seconds(program.STATUS_PAUSE), SILENCE=seconds(at["cue_relay"].SILENCE),
+        STALE=seconds(at["cue_relay"].STALE), RECORDS=of_records, FRAME=frame,
         FULL_AREA=frame + records.MAX_STATE_BYTES + of_records)
 
 

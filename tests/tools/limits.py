@@ -52,6 +52,7 @@ is more than {of.STALE} ago, the relay has stopped
 A device has a number, 0 to {cue_show.MAX_DEVICE_NUMBER},
 *Your bytes* are 0 to {cue_show.MAX_PART_BYTES} bytes
 You have {of.STANDBY}:
+No order has more than {of.ORDER} bytes, and no `/reply` more than {of.REPLY}.
 """,
     "FORMAT.md": """
 length of the payload, k, at most {cue_log.MAX_PAYLOAD:,}
@@ -65,6 +66,11 @@ with its {of.FRAME} other bytes {of.FULL_AREA:,} of them at most
 more than 4,194,304 bytes, or the other area has
 """,
 }
+
+
+def padded(count):
+    """How many bytes an OSC-string of so many takes, with its zero."""
+    return (count + 4) // 4 * 4
 
 
 def seconds(milliseconds):
@@ -109,7 +115,8 @@ def computed(at):
         LOG_LINES=WORDS[program.LOG_LINES], DROPPED=seconds(program.DROPPED_PAUSE),
         STATUS=seconds(program.STATUS_PAUSE), SILENCE=seconds(at["cue_relay"].SILENCE),
         STALE=seconds(at["cue_relay"].STALE), RECORDS=of_records, FRAME=frame,
-        FULL_AREA=frame + records.MAX_STATE_BYTES + of_records)
+        ORDER=16 + 8 + 8 + padded(show.MAX_CUE_BYTES) + 4 + padded(show.MAX_PART_BYTES - 1),
+        REPLY=8 + 8 + padded(at["cue_outbox"].SHOWN) + 16, FULL_AREA=frame + records.MAX_STATE_BYTES + of_records)
 
 
 def phrases(top):

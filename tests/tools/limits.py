@@ -29,6 +29,7 @@ a device and 0 to {cue_show.MAX_PART_BYTES} bytes |
 more than {cue_show.MAX_PARTS} parts, a part of more than {cue_show.MAX_PART_BYTES} bytes
 a cue number not 1 to {cue_show.MAX_CUE_BYTES} bytes of digits and single points
 no room: {cue_show.MAX_CUES:,} cues, or {cue_exchange.MAX_LIVE} live attempts
+{cue_exchange.MAX_LIVE} attempts are live: 7;
 up to {cue_run.MAX_TOGETHER}, are kept together
 the datagram is longer than {cue_osc.MAX_LEN:,} bytes
 the datagram asks for more than {cue_engine.MAX_COMMANDS:,} commands

@@ -49,7 +49,7 @@ static void carry_out(uint32_t order, const struct cue_device *device)
                (unsigned)device->last, (int)device->cue_length, (const char *)device->cue);
 }
 
-/* Tells what the motor has done; no answer where it is still at work. */
+/* Reports what the motor has done; no answer where it is still at work. */
 static void look_at_motor(struct cue_device *device, struct cue_answer *answer)
 {
     uint32_t order = motor.order;

@@ -58,9 +58,9 @@ def prepares(page, evening, pictures):
     if pictures:
         page.picture(pictures / "page-preparing.png")
         evening.printed, _, _ = serving.run(evening.desk, "board", evening.folder, evening.file, "--once")
-    told = page.run("return fetch('/command', {method: 'POST', headers: {'Cuedesk-Token': arguments[0]}, body: 'go 5'})"
+    said = page.run("return fetch('/command', {method: 'POST', headers: {'Cuedesk-Token': arguments[0]}, body: 'go 5'})"
                     ".then(r => r.json())", evening.token)
-    check("a GO all the same is refused", told["outcome"] == "refused" and "not every device is ready" in told["words"])
+    check("a GO all the same is refused", said["outcome"] == "refused" and "not every device is ready" in said["words"])
     releases(page, 22)
     check("it is released and excused", page.shows("live", "excused"))
     check("then GO lights", page.waits_for(lambda: page.find("go").is_enabled()))
@@ -163,7 +163,7 @@ def hears(page, evening, relay, pictures):
     page.open(f"http://127.0.0.1:{evening.http}/")
     evening.read_token()
     evening.ask(b"goto 5")
-    check("a status that is missing is told", page.shows("relay", "No such file"))
+    check("a status that is missing is reported", page.shows("relay", "No such file"))
     write_status(relay, {4: (3, False), 20: (3, False), 22: (None, False)})
     check("when a device was heard stands there", page.shows("heard-4", "heard 3 s ago"))
     check("with its name", SHOWN in page.text("heard"))
@@ -172,7 +172,7 @@ def hears(page, evening, relay, pictures):
     page.click("standby")
     check("beside what it has answered, too", page.waits_for(lambda: page.run(ROWS) > 0))
     write_status(relay, {1: (2, False), 3: (12, False), 20: (3, False), 22: (7, True)})
-    check("who is silent is told in words", page.shows("heard-22", "silent, heard 7 s ago"))
+    check("who is silent is reported in words", page.shows("heard-22", "silent, heard 7 s ago"))
     check("and to a screen reader", page.waits_for(lambda: "Device 22 Fog machine is silent" in page.run(SPOKEN)))
     check("with contrast", page.run(CONTRAST)[0] >= 7)
     if pictures:
@@ -182,7 +182,7 @@ def hears(page, evening, relay, pictures):
     check("the words change", page.shows("heard-22", "heard 8 s ago"))
     check("and what has the focus keeps it", page.run("return document.activeElement.id") == "release-1-22")
     write_status(relay, {4: (4, False)}, 1_000_000)
-    check("a relay that has stopped is told", page.shows("relay", "the relay has stopped"))
+    check("a relay that has stopped is reported", page.shows("relay", "the relay has stopped"))
     check("no device is shown as heard", page.text("heard") == "")
     check("the board stays", page.shows("stack", "Finale, all in") and page.text("age").startswith("read"))
 
@@ -221,7 +221,7 @@ def is_readable(page, evening):
     roles = page.run("return [document.querySelector('#words').getAttribute('role'), document.querySelector('#spoken')"
                      ".getAttribute('aria-live'), "
                      "document.querySelector('[role=progressbar]').getAttribute('aria-label')]")
-    check("refusals, stages and seconds are told to a screen reader",
+    check("refusals, stages and seconds reach a screen reader",
           roles == ["alert", "polite", "Seconds left for cue 5"])
     least = page.run(CONTRAST)
     print(f"     the least contrast is {least[0]:.1f} to 1 ({least[1]})")

@@ -182,7 +182,7 @@ class Session:
         address = r.choice(PATTERNS).format(verb=r.choice(VERBS), cue=cue, device=device,
                                             dverb=r.choice(REPLIES + ["release"]))
         if address.startswith("/show") and r.random() < 0.5:
-            arguments = r.choice([show_cue(b"1", self.some_parts()), self.mixed_message()])[12:]  # behind their address
+            arguments = r.choice([show_cue(b"1", self.some_parts()), self.mixed_message()])[12:]  # after their address
             return model.padded(address.encode() + b"\0") + arguments
         return model.message(address, *([r.choice([1, 2])] if r.random() < 0.5 else []))
 

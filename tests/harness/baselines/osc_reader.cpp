@@ -34,7 +34,7 @@ using Arg = std::variant<int32_t, Text, Blob>;
 struct Bundle;
 enum class Kind { message, discarded, bundle };
 
-// A message has an address and arguments, a discarded one an address, a bundle what stands behind `bundle`.
+// A message has an address and arguments, a discarded one an address, a bundle what stands after `bundle`.
 struct Packet {
     Kind kind = Kind::message;
     Bytes address;

@@ -149,8 +149,8 @@ static void hear(void)
     compare("cue_hear", cue_hear(&device, datagram, length, &answer), wanted);
 }
 
-/* The machine tells something: mostly the end of what it was ordered. */
-static void tell(void)
+/* The machine reports something: mostly the end of what it was ordered. */
+static void report(void)
 {
     uint32_t order = table.doing && below(8) ? table.doing : 1 + below(3);
     uint32_t of = table.doing && below(8) ? table.doing_number : number();
@@ -243,7 +243,7 @@ int main(int words, char **word)
         if (below(3))
             hear();
         else
-            tell();
+            report();
         if (count % 250000 == 0)
             printf("     %lu of %lu\n", count, wanted), fflush(stdout);
     }

@@ -228,7 +228,7 @@ struct outcome table_hear(struct table *device, const uint8_t *datagram, size_t 
     return outcome(CUE_NO_ORDER, SILENCE, 0);
 }
 
-/* The machine tells the end of an order. */
+/* The machine reports the end of an order. */
 struct outcome table_told(struct table *device, uint32_t order, uint32_t number)
 {
     static const struct {
@@ -244,7 +244,7 @@ struct outcome table_told(struct table *device, uint32_t order, uint32_t number)
     return outcome(CUE_NO_ORDER, END[order].word, number);
 }
 
-/* The machine tells that it cannot go on. */
+/* The machine reports that it cannot go on. */
 struct outcome table_cannot(struct table *device, uint32_t number)
 {
     if (device->doing_number == number)

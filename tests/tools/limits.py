@@ -81,7 +81,7 @@ def seconds(milliseconds):
 
 
 def numbers_of(top):
-    """The value of each constant of the crates that is a number: by crate, and there by name."""
+    """The value of each constant of the crates that is a number: by crate, and there by name, also without `MAX_`."""
     said, found = {}, {}
     for path in sorted(top.glob("crates/*/src/**/*.rt")):
         crate = path.relative_to(top / "crates").parts[0]
@@ -98,30 +98,70 @@ def numbers_of(top):
 
     crates = {}
     for crate, name in said:
-        crates.setdefault(crate, {})[name] = value_of(crate, name)
+        named = crates.setdefault(crate, {})
+        named[name] = value_of(crate, name)
+        named.setdefault(name.removeprefix("MAX_"), named[name])
     return {crate: SimpleNamespace(**named) for crate, named in crates.items()}
 
 
-def computed(at):
+class Computed:
     """What follows from constants, and times as the pages say them."""
-    show, log, records, program = at["cue_show"], at["cue_log"], at["cue_records"], at["cuedesk"]
-    old_parts = show.MAX_PARTS * (2 + show.MAX_PART_BYTES)
-    old_stack = 2 + records.OLD_MAX_CUES * (records.NUMBER_BYTES + 1 + old_parts)
-    standby, frame = at["cue_core"].STANDBY_MS, log.HEAD_LEN + 1
-    of_records = at["cue_keeper"].MAX_RECORDS * (log.FRAME_LEN + log.MAX_PAYLOAD)
-    return SimpleNamespace(
-        OLD_STATE=records.MAX_STATE_BYTES - records.STACK_BYTES + old_stack,
-        SECONDS=standby // 1000, STANDBY=seconds(standby), TICKS=WORDS[1000 // at["cue_run"].TICK],
-        GOTOS=2 + at["cue_engine"].MAX_COMMANDS * (2 + show.MAX_CUE_BYTES), READINGS=WORDS[at["cue_copies"].READINGS],
-        LOG_LINES=WORDS[program.LOG_LINES], DROPPED=seconds(program.DROPPED_PAUSE),
-        STATUS=seconds(program.STATUS_PAUSE), SILENCE=seconds(at["cue_relay"].SILENCE),
-        STALE=seconds(at["cue_relay"].STALE), RECORDS=of_records, FRAME=frame,
-        ORDER=16 + 8 + 8 + padded(show.MAX_CUE_BYTES) + 4 + padded(show.MAX_PART_BYTES - 1),
-        REPLY=8 + 8 + padded(at["cue_outbox"].SHOWN) + 16, FULL_AREA=frame + records.MAX_STATE_BYTES + of_records)
+
+    def __init__(self, at):
+        self.at = at
+
+    def __getattr__(self, name):
+        return COMPUTED[name](self.at)
+
+
+def old_state(at):
+    """The longest encoding of a state in version 1."""
+    show, records = at["cue_show"], at["cue_records"]
+    parts = show.MAX_PARTS * (2 + show.MAX_PART_BYTES)
+    stack = 2 + records.OLD_MAX_CUES * (records.NUMBER_BYTES + 1 + parts)
+    return records.MAX_STATE_BYTES - records.STACK_BYTES + stack
+
+
+def order(at):
+    """The longest order: `/msc/standby` with its tags, two numbers, a cue number, and the bytes of a part."""
+    return 16 + 8 + 8 + padded(at["cue_show"].MAX_CUE_BYTES) + 4 + padded(at["cue_show"].MAX_PART_BYTES - 1)
+
+
+def records(at):
+    """So many records as an area may have, each as long as it may be."""
+    return at["cue_keeper"].MAX_RECORDS * (at["cue_log"].FRAME_LEN + at["cue_log"].MAX_PAYLOAD)
+
+
+COMPUTED = {
+    "OLD_STATE": old_state,
+    "ORDER": order,
+    "REPLY": lambda at: 8 + 8 + padded(at["cue_outbox"].SHOWN) + 16,
+    "GOTOS": lambda at: 2 + at["cue_engine"].MAX_COMMANDS * (2 + at["cue_show"].MAX_CUE_BYTES),
+    "RECORDS": records,
+    "FRAME": lambda at: at["cue_log"].HEAD_LEN + 1,
+    "FULL_AREA": lambda at: at["cue_log"].HEAD_LEN + 1 + at["cue_records"].MAX_STATE_BYTES + records(at),
+    "SECONDS": lambda at: at["cue_core"].STANDBY_MS // 1000,
+    "STANDBY": lambda at: seconds(at["cue_core"].STANDBY_MS),
+    "TICKS": lambda at: WORDS[1000 // at["cue_run"].TICK],
+    "READINGS": lambda at: WORDS[at["cue_copies"].READINGS],
+    "LOG_LINES": lambda at: WORDS[at["cuedesk"].LOG_LINES],
+    "DROPPED": lambda at: seconds(at["cuedesk"].DROPPED_PAUSE),
+    "STATUS": lambda at: seconds(at["cuedesk"].STATUS_PAUSE),
+    "SILENCE": lambda at: seconds(at["cue_relay"].SILENCE),
+    "STALE": lambda at: seconds(at["cue_relay"].STALE),
+}
 
 
 def phrases(top):
-    """What each page is to say of limits, and all numbers of the sources."""
+    """What each page is to say of limits, a phrase of which a constant is gone as it stands above; and all numbers of
+    the sources."""
     at = numbers_of(top)
-    said = {page: text.strip().format(**at, of=computed(at)).split("\n") for page, text in PHRASES.items()}
+
+    def filled(phrase):
+        try:
+            return phrase.format(**at, of=Computed(at))
+        except (AttributeError, KeyError):
+            return phrase
+
+    said = {page: [filled(phrase) for phrase in text.strip().split("\n")] for page, text in PHRASES.items()}
     return said, {value for crate in at.values() for value in vars(crate).values()}

@@ -4,8 +4,8 @@
     device.py NUMBER PORT            the device's number (0 to 111) and its port on 127.0.0.1
     device.py NUMBER PORT unable     it cannot prepare: each cue is given up, or goes without it where it is optional
 
-    --prepare SECONDS    how long it prepares, 0 at first
-    --motion SECONDS     how long it moves, 0 at first
+    --prepare SECONDS    how long it prepares, 0 by default
+    --motion SECONDS     how long it moves, 0 by default
     --fault SECONDS      so long after it is ready it finds that it cannot go on
 """
 import argparse

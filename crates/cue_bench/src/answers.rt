@@ -3,7 +3,7 @@
 use crate::datagrams::{port_of, reply};
 use crate::forgetful::ForgetfulDisk;
 use crate::raw::{OPEN, Raw, file_in};
-use crate::served::{OPERATOR, Served, discard};
+use crate::served::{OPERATOR, Served};
 use crate::shows::{self, WIDTH};
 use crate::timing::{ROUNDS, Rounds, Work, is_asked, say_wrong};
 use cue_disk::{Disk, DiskFault};
@@ -232,7 +232,7 @@ fn measure_on<R: Clock + Print + AllocGlobal, D: Disk + Raw + Drop>(
     match shows::wide_on(rt.alloc(), CUES, false, first, second) {
         Some(mut served) => {
             let measured = measure_in_turn(rt, names, &mut served, &mut alone);
-            discard(served);
+            drop(served);
             measured
         }
         None => say_wrong(rt, names.one_by_one),

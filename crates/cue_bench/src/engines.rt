@@ -1,6 +1,6 @@
 //! Whole inputs, over a full show and over a small one.
 use crate::datagrams::bundle;
-use crate::served::{GOTO_FIRST, GOTO_LAST, OPERATOR, Served, discard};
+use crate::served::{GOTO_FIRST, GOTO_LAST, OPERATOR, Served};
 use crate::shows::{self, FULL, SMALL, Size};
 use crate::timing::{Work, is_asked, say_wrong, time};
 use cue_disk::Disk;
@@ -90,7 +90,7 @@ pub fn measure_over<R: Clock + Print + AllocGlobal, D: Disk + Drop>(
                 is_other: false,
             };
             let measured = time(rt, datagrams.name, datagrams.calls, &mut taking);
-            discard(served);
+            drop(served);
             measured
         }
         None => say_wrong(rt, datagrams.name),

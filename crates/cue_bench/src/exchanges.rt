@@ -1,6 +1,6 @@
 //! A cue of 16 devices from its standby to the last complete, over a full show and over a small one.
 use crate::datagrams::{port_of, reply};
-use crate::served::{OPERATOR, discard};
+use crate::served::OPERATOR;
 use crate::shows::{self, PARTS, Remembered, Size};
 use crate::timing::{Work, is_asked, say_wrong, time};
 use std::alloc::{AllocError, AllocGlobal, Global};
@@ -73,7 +73,7 @@ fn measure_over<R: Clock + Print + AllocGlobal>(
                 number: 0,
             };
             let measured = time(rt, name, CALLS, &mut playing);
-            discard(served);
+            drop(served);
             measured
         }
         None => say_wrong(rt, name),

@@ -1,6 +1,5 @@
 //! Reading packets, finding commands, and writing a state.
 use crate::datagrams::bundle;
-use crate::served::discard;
 use crate::shows::{self, FULL};
 use crate::timing::{Work, is_asked, say_wrong, time};
 use cue_core::{AnswerKind, Command, State, judge};
@@ -278,7 +277,7 @@ fn measure_full<R: Clock + Print + AllocGlobal>(
     match shows::made(rt.alloc(), FULL) {
         Some(full) => {
             let measured = measure_over(rt, word, empty, full.state());
-            discard(full);
+            drop(full);
             measured
         }
         None => say_wrong(rt, word),
@@ -293,7 +292,7 @@ fn measure_shows<R: Clock + Print + AllocGlobal>(rt: &R, word: &str) -> io::Resu
     match shows::empty(rt.alloc()) {
         Some(empty) => {
             let measured = measure_full(rt, word, empty.state());
-            discard(empty);
+            drop(empty);
             measured
         }
         None => say_wrong(rt, word),

@@ -158,6 +158,3 @@ pub fn formed<D: Disk + Drop>(alloc: Global, first: D, second: D) -> Option<Serv
         Err(_) => None,
     }
 }
-
-// Drops a value. It stands apart, since what is dropped fills the goals of the function around it.
-pub fn discard<T: Drop>(_value: T) {}

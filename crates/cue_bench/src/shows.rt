@@ -1,7 +1,7 @@
 //! The shows that are measured.
 use crate::datagrams::{NewCue, add_cue, add_device};
 use crate::forgetful::ForgetfulDisk;
-use crate::served::{OPERATOR, Served, discard, formed};
+use crate::served::{OPERATOR, Served, formed};
 use cue_disk::Disk;
 use std::alloc::{AllocError, Global};
 
@@ -160,7 +160,7 @@ fn if_filled<D: Disk + Drop>(served: Served<D>, filled: bool) -> Option<Served<D
     if filled {
         Some(served)
     } else {
-        discard(served);
+        drop(served);
         None
     }
 }

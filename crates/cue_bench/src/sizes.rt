@@ -1,7 +1,7 @@
 //! Whole inputs of two sizes each: the larger one has twice as much to do.
 use crate::datagrams::bundle;
 use crate::engines::{InTurn, measure_over};
-use crate::served::{OPERATOR, discard};
+use crate::served::OPERATOR;
 use crate::shows::{self, FULL, Remembered};
 use crate::timing::{Work, is_asked, say_wrong, time};
 use std::alloc::AllocGlobal;
@@ -110,7 +110,7 @@ fn measure_removal<R: Clock + Print + AllocGlobal>(
                 are_there: true,
             };
             let measured = time(rt, name, 1, &mut removing);
-            discard(served);
+            drop(served);
             measured
         }
         None => say_wrong(rt, name),

@@ -1,7 +1,7 @@
 //! What a turn-over takes, and beside it what its writes and syncs take alone: in memory, and on files.
 use crate::forgetful::ForgetfulDisk;
 use crate::raw::{OPEN, Raw, file_in};
-use crate::served::{Served, discard};
+use crate::served::Served;
 use crate::shows::{self, FULL, SMALL, Size};
 use crate::timing::{ROUNDS, Rounds, Work, is_asked, say_wrong, time};
 use cue_disk::{Disk, DiskFault};
@@ -249,7 +249,7 @@ fn measure_on<R: Clock + Print + AllocGlobal, D: Disk + Raw + Drop>(
     match shows::made_on(rt.alloc(), names.size, first, second) {
         Some(mut served) => {
             let measured = measure_served(rt, word, names, &mut served, &mut alone);
-            discard(served);
+            drop(served);
             measured
         }
         None => say_wrong(rt, names.turn_over),

@@ -292,7 +292,7 @@ fn recovery_refusal(alloc: Global, first: MemDisk, second: MemDisk) -> Option<St
 {
     match Engine::recover(alloc, first, second) {
         Ok(engine) => {
-            discard(engine);
+            drop(engine);
             None
         }
         Err((fault, _, _)) => Some(fault_in_memory(fault)),
@@ -338,6 +338,3 @@ pub fn refusal_of<D: Disk>(alloc: Global, first: &mut D, second: &mut D) -> Opti
         Err(fault) => Some(fault),
     }
 }
-
-// Drops an engine. It stands apart, since what is dropped fills the goals of the function around it.
-fn discard(_engine: Engine<MemDisk>) {}

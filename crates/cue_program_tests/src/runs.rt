@@ -36,9 +36,6 @@ impl Watch<MemWire> for Count {
     }
 }
 
-// Drops an engine. It stands apart, since what is dropped fills the goals of the function around it.
-fn discard<T: Drop>(_engine: T) {}
-
 // Takes the datagram and a tick from a source that then fails, and looks at what was sent.
 fn take_two(rt: &impl Abort, alloc: Global, engine: &mut Engine<MemDisk>) -> Result<(), Fail> {
     let bytes = Vec::from_slice(alloc, &DEVICE)?;
@@ -87,7 +84,7 @@ fn a_run_in_memory(rt: HostRuntime) -> Result<(), Fail> {
     match Engine::form(alloc, MemDisk::new(alloc), MemDisk::new(alloc)) {
         Ok(mut engine) => {
             let took = take_two(&rt, alloc, &mut engine);
-            discard(engine);
+            drop(engine);
             took
         }
         Err((fault, _, _)) => Err(Fail::from(fault)),

@@ -26,14 +26,11 @@ use cue_keeper::StoreFault;
 use std::alloc::{AllocError, Global};
 use std::io::Write;
 
-// Drops an engine. It stands apart, since what is dropped fills the goals of the function around it.
-fn discard(_engine: Engine<MemDisk>) {}
-
 // Drops the engine of a line that is not carried out.
 fn refuse(engine: Engine<MemDisk>, failure: Failure) -> Result<Engine<MemDisk>, Failure>
     ensures { result ≡ Err failure }
 {
-    discard(engine);
+    drop(engine);
     Err(failure)
 }
 
@@ -41,7 +38,7 @@ fn refuse(engine: Engine<MemDisk>, failure: Failure) -> Result<Engine<MemDisk>, 
 fn end_with(engine: Engine<MemDisk>, ending: Ending) -> Result<Engine<MemDisk>, Ending>
     ensures { result ≡ Err ending }
 {
-    discard(engine);
+    drop(engine);
     Err(ending)
 }
 
@@ -222,6 +219,6 @@ pub fn play_lines<W: Write>(
             Err(ending) => return ending,
         }
     }
-    discard(engine);
+    drop(engine);
     Ending::Done
 }

@@ -71,9 +71,6 @@ fn print<W: Write>(writer: &mut W, text: &[u8]) -> Result<(), ProgramFault>
     }
 }
 
-// Drops an engine. It stands apart, since what is dropped fills the goals of the function around it.
-fn discard(_engine: Engine<FileDisk>) {}
-
 // The engine of an empty show on two files. It is asked for where it is said that one was formed.
 fn form_on<R: Eprint>(
     rt: &R,
@@ -105,7 +102,7 @@ fn form<R: Files<File = File> + Eprint, W: Write>(
     match print(writer, b"formed\n") {
         Ok(()) => Ok(engine),
         Err(fault) => {
-            discard(engine);
+            drop(engine);
             Err(fault)
         }
     }
@@ -181,7 +178,7 @@ fn refused_run<R: Eprint>(
 {
     match why {
         RunFault::Source => {
-            discard(engine);
+            drop(engine);
             say(rt, "127.0.0.1", "the socket or the clock failed");
         }
         RunFault::Engine(fault) => say_fault(rt, dir, engine, fault),
@@ -204,7 +201,7 @@ fn finish<R: Eprint, W: Write>(
 {
     match ended.fault {
         None => {
-            discard(engine);
+            drop(engine);
             print_turns(alloc, &ended, writer)
         }
         Some(why) => Err(refused_run(rt, dir, engine, why)),
@@ -278,7 +275,7 @@ fn serve<R: Files<File = File> + Net + Clock + Eprint, W: Write>(
     match serve_at(rt, alloc, dir, &mut engine, &socket, port, turns, &lock) {
         Ok(ended) => finish(rt, alloc, dir, engine, ended, writer),
         Err(fault) => {
-            discard(engine);
+            drop(engine);
             Err(fault)
         }
     }

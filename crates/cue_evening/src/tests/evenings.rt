@@ -261,9 +261,6 @@ struct Part {
     text: &'static str,
 }
 
-// Drops a value. It stands apart, since what is dropped fills the goals of the function around it.
-fn discard<T: Drop>(_value: T) {}
-
 // Plays a part of an evening, and gives the engine back.
 fn played(
     rt: &impl Abort,
@@ -274,7 +271,7 @@ fn played(
     match follow(rt, paper, &mut engine, part.refused, part.text) {
         Ok(()) => Ok(engine),
         Err(fail) => {
-            discard(engine);
+            drop(engine);
             Err(fail)
         }
     }
@@ -285,7 +282,7 @@ fn play(rt: &impl Abort, alloc: Global, before: Part, after: Part) -> Result<(),
     let paper = Paper::new(alloc);
     let engine = played(rt, &paper, formed(alloc)?, before)?;
     let engine = restarted(alloc, engine)?;
-    discard(played(rt, &paper, engine, after)?);
+    drop(played(rt, &paper, engine, after)?);
     Ok(())
 }
 
@@ -362,7 +359,7 @@ fn logged(alloc: Global, text: &str, most: Option<u64>) -> Result<Paper, Fail> {
     let answers = answers(alloc, text)?;
     let mut engine = formed(alloc)?;
     run_logged(&paper, &mut engine, answers, most);
-    discard(engine);
+    drop(engine);
     Ok(paper)
 }
 

@@ -71,9 +71,6 @@ impl<'a, C: Clock> Eprint for Counted<'a, C> {
     }
 }
 
-// Drops an engine. It stands apart, since what is dropped fills the goals of the function around it.
-fn discard(_engine: Engine<FileDisk>) {}
-
 // The show of both files, recovered.
 fn recovered(alloc: Global, first: FileDisk, second: FileDisk) -> Result<Engine<FileDisk>, Fail> {
     match Engine::recover(alloc, first, second) {
@@ -102,7 +99,7 @@ fn serve_two<R: Clock + Eprint>(
     match recovered(alloc, disks.0, disks.1) {
         Ok(mut engine) => {
             let ended = serve_on(rt, alloc, &mut engine, socket, port, 2);
-            discard(engine);
+            drop(engine);
             Ok(ended)
         }
         Err(fail) => Err(fail),

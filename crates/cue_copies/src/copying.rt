@@ -45,8 +45,8 @@ use std::alloc::{AllocError, Global};
 /// snapshot. A file with an area is changed without a change there in one way: records are added at its end.
 const HEAD: usize = HEAD_LEN as usize;
 
-/// How many times a file is read on at most, because it has grown meanwhile.
-const GROWTHS: u32 = 100;
+/// The most times that a file is read on, because it has grown meanwhile.
+const MAX_GROWTHS: u32 = 100;
 
 /// The heads of both files at one moment. Where a file is shorter, zeros stand for what is missing.
 #[derive(Clone, Copy, PartialEq, Eq)]
@@ -188,7 +188,7 @@ fn bytes_of<D: Disk>(alloc: Global, disk: &mut D) -> Result<Vec<u8>, StoreFault>
 {
     let mut bytes = Vec::new(alloc);
     read_grown(disk, &mut bytes)?;
-    for _ in 1..GROWTHS {
+    for _ in 1..MAX_GROWTHS {
         if !read_grown(disk, &mut bytes)? {
             return Ok(bytes);
         }

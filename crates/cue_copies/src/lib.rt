@@ -6,4 +6,4 @@ mod copying;
 mod looking;
 
 pub use copying::{Copies, copy_at_once, copy_both, is_read_again, refusal_of};
-pub use looking::{READINGS, Seen, look, look_again};
+pub use looking::{MAX_READINGS, Seen, look, look_again};

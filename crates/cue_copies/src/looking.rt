@@ -9,8 +9,8 @@ use cue_disk::{Disk, MemDisk};
 use cue_keeper::{Keeper, StoreFault};
 use std::alloc::Global;
 
-/// How many times both files are read at most.
-pub const READINGS: u32 = 10;
+/// The most times that both files are read.
+pub const MAX_READINGS: u32 = 10;
 
 /// What a reading of both files gave.
 pub enum Seen {
@@ -46,8 +46,8 @@ pub fn look<D: Disk>(alloc: Global, first: &mut D, second: &mut D) -> Seen
     }
 }
 
-/// Reads both files until they give a store or a fault that another reading would not mend, `READINGS` times at most.
-/// For whoever does not ask whether the store is served.
+/// Reads both files until they give a store or a fault that another reading would not mend, `MAX_READINGS` times at
+/// most. For whoever does not ask whether the store is served.
 pub fn look_again<D: Disk>(alloc: Global, first: &mut D, second: &mut D) -> Seen
     ensures first_kept { D.is_honest first.old → D.held first.new ≡ D.held first.old }
     ensures second_kept { D.is_honest second.old → D.held second.new ≡ D.held second.old }
@@ -61,7 +61,7 @@ pub fn look_again<D: Disk>(alloc: Global, first: &mut D, second: &mut D) -> Seen
     ensures stood { D.is_honest first.old → D.is_honest second.old
         → StandsAsSeen (D.held first.old) (D.held second.old) result }
 {
-    for _ in 1..READINGS {
+    for _ in 1..MAX_READINGS {
         match look(alloc, first, second) {
             Seen::Changing => {}
             Seen::Refused(fault) if is_read_again(fault) => {}

@@ -3,8 +3,8 @@ use cue_show::{CueNo, DeviceNo};
 use std::alloc::AllocError;
 use std::fmt::Write;
 
-/// How many of a list have their number in a line.
-const MOST_NAMED: usize = 16;
+/// The most of a list that have their number in a line.
+const MAX_NAMED: usize = 16;
 
 // What stands before the number at this place of so many.
 fn mark_before(place: usize, count: usize) -> &'static str {
@@ -19,8 +19,8 @@ fn mark_before(place: usize, count: usize) -> &'static str {
 
 // Says how many there are beside those that have their number in the line.
 fn push_rest(text: &mut String, count: usize) -> Result<(), AllocError> {
-    if count > MOST_NAMED {
-        write!(text, " and {} more", count - MOST_NAMED)?;
+    if count > MAX_NAMED {
+        write!(text, " and {} more", count - MAX_NAMED)?;
     }
     Ok(())
 }
@@ -32,7 +32,7 @@ fn word_for(count: usize, one: &'static str, more: &'static str) -> &'static str
 
 /// Writes numbers of devices, as `3, 4 and 5`.
 pub fn push_numbers(text: &mut String, devices: &[DeviceNo]) -> Result<(), AllocError> {
-    for (place, device) in devices.iter().take(MOST_NAMED).enumerate() {
+    for (place, device) in devices.iter().take(MAX_NAMED).enumerate() {
         let mark = mark_before(place, devices.len());
         write!(text, "{mark}{}", device.number())?;
     }
@@ -48,7 +48,7 @@ pub fn push_devices(text: &mut String, devices: &[DeviceNo]) -> Result<(), Alloc
 /// Writes cues, as `cue 12` or `cues 12 and 13`.
 pub fn push_cues(text: &mut String, cues: &[CueNo]) -> Result<(), AllocError> {
     text.push_str(word_for(cues.len(), "cue ", "cues "))?;
-    for (place, cue) in cues.iter().take(MOST_NAMED).enumerate() {
+    for (place, cue) in cues.iter().take(MAX_NAMED).enumerate() {
         let mark = mark_before(place, cues.len());
         write!(text, "{mark}{}", cue.text().escape_ascii())?;
     }

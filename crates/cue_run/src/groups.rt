@@ -1,14 +1,14 @@
 //! The run of a show by groups: what waits together is committed together, and then handed out input by input.
 ghost use Rattle.std.specs.Prelude.{◌≡◌, ◌≤◌, length, max, vec_capacity, IfOk};
 ghost use Rattle.cue_run.specs.Grouping.{RanByGroups, fault_of};
-ghost use Rattle.cue_run.specs.declared.turns.TheConstants.{BUFFER};
+ghost use Rattle.cue_run.specs.declared.turns.TheConstants.{MAX_RECEIVED};
 
 mod handing;
 mod offering;
 mod round;
 
 use crate::source::Source;
-use crate::turns::{BUFFER, Ended, RunFault};
+use crate::turns::{Ended, MAX_RECEIVED, RunFault};
 use crate::watch::Watch;
 use cue_disk::Disk;
 use cue_engine::{Engine, Wire};
@@ -32,10 +32,10 @@ fn fault_of(stop: Stop) -> Option<RunFault>
 
 // Room for a datagram, and for a number of each input of a group.
 fn places(alloc: Global, most: u64) -> Result<(Vec<u8>, Vec<usize>), AllocError>
-    ensures buffer { IfOk result (λ places. length places.0.items ≡ BUFFER) }
+    ensures buffer { IfOk result (λ places. length places.0.items ≡ MAX_RECEIVED) }
     ensures ends { IfOk result (λ places. vec_capacity places.1 ≡ max 1 most) }
 {
-    let buffer = vec![in alloc; 0u8; BUFFER]?;
+    let buffer = vec![in alloc; 0u8; MAX_RECEIVED]?;
     let ends = Vec::with_capacity(alloc, most.max(1) as usize)?;
     Ok((buffer, ends))
 }
@@ -94,7 +94,7 @@ pub fn run_grouped<D: Disk, S: Source, W: Wire, V: Watch<W>>(
 ) -> Ended
     // What was taken is what the source gave first, the state and the wire are what the definition of a run makes of
     // it, one input after the other; it ended for its reason, and the engine works on unless a device failed.
-    ensures ran { RanByGroups BUFFER turns result engine.old engine.new
+    ensures ran { RanByGroups MAX_RECEIVED turns result engine.old engine.new
         (S.left source.old) (S.left source.new) (W.told wire.old) (W.told wire.new) }
 {
     match places(alloc, most) {

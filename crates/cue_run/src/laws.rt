@@ -2,12 +2,12 @@
 ghost use Rattle.std.specs.Prelude.{◌≡◌, ◌<◌};
 ghost use Rattle.cue_osc.specs.declared.limits.TheConstants.{MAX_LEN};
 ghost use Rattle.cue_run.specs.declared.groups.TheConstants.{MAX_TOGETHER};
-ghost use Rattle.cue_run.specs.declared.turns.TheConstants.{BUFFER};
+ghost use Rattle.cue_run.specs.declared.turns.TheConstants.{MAX_RECEIVED};
 
 /// The buffer has 4,100 bytes: more than the longest datagram, so that a longer one is seen to be too long. A served
 /// show commits 128 inputs together at most.
 pub fn limits()
-    ensures buffer { BUFFER ≡ 4100 }
-    ensures longer { MAX_LEN < BUFFER }
+    ensures buffer { MAX_RECEIVED ≡ 4100 }
+    ensures longer { MAX_LEN < MAX_RECEIVED }
     ensures together { MAX_TOGETHER ≡ 128 }
 {}

@@ -16,8 +16,8 @@ use cue_engine::{Engine, Input, Wire};
 use cue_keeper::Fault;
 use std::alloc::Global;
 
-/// The buffer is longer than the longest datagram, so that one that is too long is seen to be so.
-pub(crate) const BUFFER: usize = 4_100;
+/// The most bytes of a datagram that are read: more than the longest has, so that one that is too long is seen to be so.
+pub(crate) const MAX_RECEIVED: usize = 4_100;
 
 /// Why a run ended before its turns and before its source did.
 #[derive(Clone, Copy, Debug, PartialEq, Eq)]
@@ -147,10 +147,10 @@ pub fn run_watched<D: Disk, S: Source, W: Wire, V: Watch<W>>(
 ) -> Ended
     // What was taken is what the source gave first, the state and the wire are what the definition makes of it, it
     // ended for its reason, and the engine works on unless a device failed.
-    ensures ran { Ran BUFFER turns result engine.old engine.new
+    ensures ran { Ran MAX_RECEIVED turns result engine.old engine.new
         (S.left source.old) (S.left source.new) (W.told wire.old) (W.told wire.new) }
 {
-    match vec![in alloc; 0u8; BUFFER] {
+    match vec![in alloc; 0u8; MAX_RECEIVED] {
         Ok(mut buffer) => run_turns(engine, source, wire, watch, &mut buffer, turns),
         Err(_) => {
             // Called for its clause that an engine that works stands for its state.
@@ -175,7 +175,7 @@ pub fn run<D: Disk, S: Source, W: Wire>(
 ) -> Ended
     // What was taken is what the source gave first, the state and the wire are what the definition makes of it, it
     // ended for its reason, and the engine works on unless a device failed.
-    ensures ran { Ran BUFFER turns result engine.old engine.new
+    ensures ran { Ran MAX_RECEIVED turns result engine.old engine.new
         (S.left source.old) (S.left source.new) (W.told wire.old) (W.told wire.new) }
 {
     run_watched(alloc, engine, source, wire, turns, &mut Unwatched)

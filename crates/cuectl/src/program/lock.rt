@@ -12,8 +12,9 @@ use std::alloc::Global;
 use std::fs::{File, Files, OpenOptions, TryLockError};
 use std::io::{self, Eprint};
 
-/// How many times the lock is asked for. A `show` may hold it for a moment; a `serve` holds it for as long as it runs.
-const LOCK_TRIES: u32 = 1_000;
+/// The most times that the lock is asked for. A `show` may hold it for a moment; a `serve` holds it for as long as it
+/// runs.
+const MAX_LOCK_TRIES: u32 = 1_000;
 
 /// The lock of a store: held until it is dropped, and by no process that has ended.
 #[derive(Drop)]
@@ -24,7 +25,7 @@ pub struct StoreLock {
 
 // Asks for the lock, some times where another holds it.
 fn ask(file: &File) -> Result<(), TryLockError> {
-    for _ in 1..LOCK_TRIES {
+    for _ in 1..MAX_LOCK_TRIES {
         match file.try_lock() {
             Err(TryLockError::WouldBlock) => {}
             answer => return answer,

@@ -19,7 +19,7 @@ use super::files::{open_both_to_read, say, say_failures};
 use super::lock::is_served;
 use super::print;
 use crate::show_text::show_text;
-use cue_copies::{READINGS, Seen, is_read_again, look};
+use cue_copies::{MAX_READINGS, Seen, is_read_again, look};
 use cue_core::State;
 use cue_disk::{Disk, MemDisk};
 use cue_keeper::{Keeper, StoreFault};
@@ -27,9 +27,9 @@ use std::alloc::Global;
 use std::fs::{File, Files};
 use std::io::{Eprint, Write};
 
-// Reads both files until the answer is one of a single moment, `READINGS` times at most. What a store at rest answers
-// is answered at once. No write and no sync of them is made.
-fn look_again<R: Files<File = File>, D: Disk>(
+// Reads both files until the answer is one of a single moment, `MAX_READINGS` times at most. What a store at rest
+// answers is answered at once. No write and no sync of them is made.
+pub(crate) fn look_again<R: Files<File = File>, D: Disk>(
     rt: &R,
     alloc: Global,
     dir: &str,
@@ -47,7 +47,7 @@ fn look_again<R: Files<File = File>, D: Disk>(
     ensures stood { D.is_honest first.old → D.is_honest second.old
         → StandsAsSeen (D.held first.old) (D.held second.old) result }
 {
-    for _ in 1..READINGS {
+    for _ in 1..MAX_READINGS {
         match look(alloc, first, second) {
             Seen::Changing => {}
             Seen::Refused(fault) if is_read_again(fault) && is_served(rt, alloc, dir) => {}

@@ -1,6 +1,6 @@
 use Rattle.std.proofs.Common.{◌≡◌, refl, inl, arith}
 use Rattle.cue_engine.specs.Observed.{keeper_of, state_of, queue_of}
-use Rattle.cue_run.specs.declared.turns.TheConstants.{BUFFER}
+use Rattle.cue_run.specs.declared.turns.TheConstants.{MAX_RECEIVED}
 use Rattle.cue_run.proofs.RunLemmas.{begun}
 use Rattle.cue_run.proofs.WorkLemmas.{begins}
 use Rattle.cue_run.proofs.groups.run_grouped.Goals as goal
@@ -15,7 +15,7 @@ returns-in-Err g c =
     let works = begins (keeper_of old) (keeper_of new) same c.state-state.ensures.stands in record {
       ran = record {
         mid = left;
-        taken = begun BUFFER left (state_of old) (state_of new) (queue_of old) (g.W.Wire.told c.args.wire.now)
+        taken = begun MAX_RECEIVED left (state_of old) (state_of new) (queue_of old) (g.W.Wire.told c.args.wire.now)
             (g.W.Wire.told c.hand_out-unsent.new.wire) c.hand_out-unsent.result
             (omega (arith, c.hand_out-unsent.type_inv)) state c.hand_out-unsent.ensures.handed;
         why = inl (inl (refl, refl, refl, same));

@@ -1,14 +1,14 @@
 use Rattle.std.proofs.Common.{◌≡◌, ℕ, length, refl, inl, ◌∙◌, subst, arith}
 use Rattle.cue_engine.specs.Observed.{keeper_of, state_of, queue_of}
 use Rattle.cue_run.specs.Running.{Ran}
-use Rattle.cue_run.specs.declared.turns.TheConstants.{BUFFER}
+use Rattle.cue_run.specs.declared.turns.TheConstants.{MAX_RECEIVED}
 use Rattle.cue_run.proofs.RunLemmas.{begun}
 use Rattle.cue_run.proofs.WorkLemmas.{begins}
 use Rattle.cue_run.proofs.turns.run_watched.Goals as goal
 
 pub returns-in-Ok : goal.returns-in-Ok
 returns-in-Ok g c =
-    let size : length c.deref_mut.result.now ≡ BUFFER = c.deref_mut.ensures.len ∙ c.in-Ok.ensures.len in
+    let size : length c.deref_mut.result.now ≡ MAX_RECEIVED = c.deref_mut.ensures.len ∙ c.in-Ok.ensures.len in
     let left = g.S.Source.left in
     let told = g.W.Wire.told in record {
       ran = subst (λ (n : ℕ). Ran n c.args.turns c.run_turns.result c.args.engine.now c.run_turns.new.engine
@@ -26,7 +26,7 @@ returns-in-Err g c =
     let works = begins (keeper_of old) (keeper_of new) same c.state-state.ensures.stands in record {
       ran = record {
         mid = left;
-        taken = begun BUFFER left (state_of old) (state_of new) (queue_of old) (g.W.Wire.told c.args.wire.now)
+        taken = begun MAX_RECEIVED left (state_of old) (state_of new) (queue_of old) (g.W.Wire.told c.args.wire.now)
             (g.W.Wire.told c.hand_out-unsent.new.wire) c.hand_out-unsent.result
             (omega (arith, c.hand_out-unsent.type_inv)) state c.hand_out-unsent.ensures.handed;
         why = inl (refl, refl, refl, same);

@@ -36,7 +36,7 @@ ghost use Rattle.cuectl.specs.declared.program.fault.ProgramFault.TheVariants.{I
 pub mod fault;
 mod files;
 mod lock;
-mod looking;
+pub(crate) mod looking;
 
 use crate::line::line;
 use crate::line::words::{Line, LineFault};

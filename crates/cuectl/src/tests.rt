@@ -1,9 +1,12 @@
 //! The program on files of its own. The tables are written by hand.
+mod beside;
 mod serving;
 mod sockets;
 mod stores;
+mod unwritten;
 
 use crate::program::perform;
+use std::alloc::Global;
 use std::fs::{self, File, Files};
 use std::io::Eprint;
 use std::net::Net;
@@ -11,7 +14,16 @@ use std::process::Abort;
 use std::test::Fail;
 use std::time::Clock;
 
-/// Runs a command line, its words apart by spaces, and compares its status and its whole output.
+/// The words of a command line, which stand apart by spaces.
+fn words_of(alloc: Global, line: &str) -> Result<Vec<String>, Fail> {
+    let mut words = Vec::new(alloc);
+    for word in line.split(' ') {
+        words.push(String::from_str(alloc, word)?)?;
+    }
+    Ok(words)
+}
+
+/// Runs a command line, and compares its status and its whole output.
 fn expect<R: Files<File = File> + Net + Clock + Eprint + AllocGlobal + Abort>(
     rt: &R,
     line: &str,
@@ -19,10 +31,7 @@ fn expect<R: Files<File = File> + Net + Clock + Eprint + AllocGlobal + Abort>(
     output: &str,
 ) -> Result<(), Fail> {
     let alloc = rt.alloc();
-    let mut words = Vec::new(alloc);
-    for word in line.split(' ') {
-        words.push(String::from_str(alloc, word)?)?;
-    }
+    let words = words_of(alloc, line)?;
     let mut reader = "".as_bytes();
     let mut written = Vec::new(alloc);
     let got = perform(rt, &words, &mut reader, &mut written);

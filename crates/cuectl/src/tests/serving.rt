@@ -7,7 +7,7 @@ use std::io::Eprint;
 use std::net::{IpAddr, Ipv4Addr, Net, SocketAddr, UdpSocket};
 use std::process::Abort;
 use std::test::Fail;
-use std::time::Clock;
+use std::time::{Clock, Instant};
 
 /// The first file of a store whose cue 1 prepares, with the device 3: the attempt 1, whose deadline has passed.
 const PREPARING: [u8; 54] =
@@ -54,6 +54,43 @@ fn turns(rt: HostRuntime) -> Result<(), Fail> {
     expect_served(&rt, "ticked", port, 0, 0, "turns 0 unsent 0\n")?;
     expect_served(&rt, "ticked", port, 1, 0, "turns 1 unsent 0\n")?;
     fs::remove_dir_all(&rt, "ticked")?;
+    Ok(())
+}
+
+// Serves a store whose cue is cancelled, so that its device is sent an order to this port.
+fn expect_cancelled<R: Files<File = File> + Net + Clock + Eprint + AllocGlobal + Abort>(
+    rt: &R,
+    device: u16,
+    port: u16,
+    turns: u64,
+    output: &str,
+) -> Result<(), Fail> {
+    let mut first = PREPARING;
+    let [high, low] = device.to_be_bytes();
+    first[16] = high;
+    first[17] = low;
+    fs::write(rt, "own/a.area", first.as_slice())?;
+    fs::write(rt, "own/b.area", b"".as_slice())?;
+    expect_served(rt, "own", port, turns, 0, output)
+}
+
+/// An order leaves from the port that was named. One that the show sends to that port itself is not taken: so the one
+/// turn is a tick, which comes after 250 ms at the earliest.
+#[test]
+fn the_own_port(rt: HostRuntime) -> Result<(), Fail> {
+    make_folder(&rt, "own")?;
+    let device = UdpSocket::bind(&rt, local(0))?;
+    let listens = device.local_addr()?.port();
+    let port = free_port(&rt)?;
+    expect_cancelled(&rt, listens, port, 0, "turns 0 unsent 0\n")?;
+    let mut order = [0; 64];
+    let (_, sender) = device.recv_from(&mut order)?;
+    assert_eq!(rt; sender.port(), port);
+    let start = Instant::now(&rt)?;
+    expect_cancelled(&rt, port, port, 1, "turns 1 unsent 0\n")?;
+    let passed = start.elapsed(&rt)?.as_millis();
+    assert!(rt; passed >= 200, "{passed} ms for a tick");
+    fs::remove_dir_all(&rt, "own")?;
     Ok(())
 }
 

@@ -13,17 +13,13 @@ use Rattle.cue_engine.proofs.GroupLemmas.{is_a_run}
 use Rattle.cue_run.specs.Sources.{Answer, comes, GaveAll}
 use Rattle.cue_run.specs.Running.{given_answers, story, HasRun}
 use Rattle.cue_run.specs.Grouping.{HandedCounted, CountedSoFar}
-use Rattle.cue_run.proofs.RunLemmas.{gave_all_more, datagrams_more, all_handed_both}
+use Rattle.cue_run.proofs.RunLemmas.{gave_none, gave_all_more, datagrams_more, all_handed_both}
 
 -- ---- answers
 
 pub answers_join : (is js : List (ℕ × Input)) → given_answers is ++ given_answers js ≡ given_answers (is ++ js)
 answers_join [] js = refl
 answers_join (i ∷ is) js = ap (λ (others : List Answer). comes i.0 i.1 ∷ others) (answers_join is js)
-
-pub gave_none : (size : ℕ) (left : Option (List Answer)) → GaveAll size left [] left
-gave_none size None = tt
-gave_none size (Some answers) = refl
 
 -- inputs, and then others
 pub gave_join : (size : ℕ) (left mid left_then : Option (List Answer)) (is js : List (ℕ × Input))

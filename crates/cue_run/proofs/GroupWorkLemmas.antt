@@ -23,18 +23,14 @@ use Rattle.cue_run.specs.declared.groups.offering.Stop.TheVariants as stop
 use Rattle.cue_run.specs.Running.{given_answers, Keeps, Works, Refuses}
 use Rattle.cue_run.specs.Grouping.{RefusesTogether, EndedByGroup, IsTurnedDown, CutShort, StoppedAtFirst, StoppedBy}
 use Rattle.cue_run.specs.Grouping.{stop_of, fault_of}
-use Rattle.cue_run.proofs.GroupLemmas.{gave_none}
-use Rattle.cue_run.proofs.RunLemmas.{gave_all_more}
+use Rattle.cue_run.proofs.RunLemmas.{gave_none, gave_all_more}
 use Rattle.cue_run.proofs.StandLemmas.{left_now}
+use Rattle.cue_run.proofs.WorkLemmas.{no_fault}
 
 -- Broken and Memory are not Full
 neither : (f : Fault) → (f ≡ Broken) ⊎ (f ≡ Memory) → f ≡ Full → ⊥
 neither f (inl broken) full = cc
 neither f (inr memory) full = cc
-
--- no fault is none of these
-no_fault : {P : Type 0} (f : Fault) → None ≡ Some f → P
-no_fault f same = cc
 
 module _ {D : Type 0} {disk : Ghosts D} where
   -- ---- calls, and then others

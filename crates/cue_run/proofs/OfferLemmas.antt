@@ -16,7 +16,8 @@ use Rattle.cue_run.specs.Sources.{Answer, comes, GaveAll}
 use Rattle.cue_run.specs.declared.turns.RunFault.{RunFault}
 use Rattle.cue_run.specs.Running.{given_answers}
 use Rattle.cue_run.specs.Grouping.{StaysOffered, HasOffered, CutShort, Gathered, OfferedNext}
-use Rattle.cue_run.proofs.GroupLemmas.{gave_none, gave_join}
+use Rattle.cue_run.proofs.GroupLemmas.{gave_join}
+use Rattle.cue_run.proofs.RunLemmas.{gave_none}
 
 module _ {D : Type 0} {disk : Ghosts D} where
   -- what was offered stays

@@ -23,6 +23,11 @@ gave_more : (size : ℕ) (old : List Answer) (gs : List Answer) (mid : List Answ
 gave_more size old [] mid hs new e h = subst (λ (xs : List Answer). GaveInTurn size xs hs new) e h
 gave_more size old (g ∷ gs) mid hs new k h = (k.0, gave_more size (others_left old) gs mid hs new k.1 h)
 
+-- no answer was taken
+pub gave_none : (size : ℕ) (left : Option (List Answer)) → GaveAll size left [] left
+gave_none size None = tt
+gave_none size (Some answers) = refl
+
 pub gave_all_more : (size : ℕ) (old : Option (List Answer)) (gs : List Answer) (mid : Option (List Answer))
     (hs : List Answer) (new : Option (List Answer)) → GaveAll size old gs mid → GaveAll size mid hs new
     → GaveAll size old (gs ++ hs) new
@@ -91,17 +96,13 @@ pub begun : (size : ℕ) (left : Option (List Answer)) (s s_then : ShowState) (o
     → HasRun size left s owed told 0 n left s_then told_then
 begun size left s s_then owed told told_then n fits same h = record {
   inputs = [];
-  gave = none left;
+  gave = gave_none size left;
   number = refl;
   state = same;
   refused = n;
   handed = subst (λ (os : List (ℕ × List ℕ)). AllHanded told os n told_then) (sym (append-nil owed)) h;
   counted = omega (arith, fits);
 }
-  where
-    none : (l : Option (List Answer)) → GaveAll size l [] l
-    none None = tt
-    none (Some answers) = refl
 
 -- one input more was taken
 pub run_more : (size now_size : ℕ) (left mid left_then : Option (List Answer)) (s now_s s_then : ShowState)

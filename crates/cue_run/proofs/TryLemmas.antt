@@ -1,5 +1,5 @@
 -- Tries that are passed over, and the first turn.
-use Rattle.std.specs.Prelude.{◌≡◌, ℕ, zero, suc, ◌+◌, ◌-◌, ◌<◌, List, [], ◌∷◌, Option, Some, None, Result, Ok, Err}
+use Rattle.std.specs.Prelude.{◌≡◌, ℕ, zero, suc, ◌+◌, ◌-◌, ◌<◌, List, [], ◌∷◌, Option, Some, None, Ok, Err}
 use Rattle.std.proofs.Common.{refl, sym, ◌∙◌, arith}
 use Rattle.cue_run.specs.declared.source.Turn.{Turn}
 use Rattle.cue_run.specs.declared.source.SourceFault.{SourceFault}

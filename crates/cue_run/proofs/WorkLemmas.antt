@@ -14,7 +14,7 @@ use Rattle.cue_keeper.proofs.CommittedLemmas.{unless_disk}
 use Rattle.cue_run.specs.Running.{Keeps, Works}
 
 -- no fault is none of these
-no_fault : {P : Type 0} (f : Fault) → None ≡ Some f → P
+pub no_fault : {P : Type 0} (f : Fault) → None ≡ Some f → P
 no_fault f same = cc
 
 both_ways : {A B C : Type 0} → (B ↔ A) → (C ↔ B) → (C ↔ A)

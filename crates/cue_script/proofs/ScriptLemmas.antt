@@ -1,9 +1,9 @@
 -- What a script has written, line by line.
-use Rattle.std.specs.Prelude.{◌≡◌, ◌≢◌, ℕ, ◌+◌, ◌<◌, ◌≤◌, ◌++◌, Bool, true, List, [], ◌∷◌, length, map, take, Option}
+use Rattle.std.specs.Prelude.{◌≡◌, ℕ, ◌+◌, ◌<◌, ◌≤◌, ◌++◌, Bool, true, List, [], ◌∷◌, length, map, take, Option}
 use Rattle.std.specs.Prelude.{Some, None, slice_index_or, IfSome, IfOk, IfErr, OnOk, Result, Ok, Err}
 use Rattle.std.specs.Option.{option_map}
 use Rattle.std.specs.Io.KnownBytes.{Appends}
-use Rattle.std.proofs.Common.{ap, refl, arith, sym, ◌∙◌, append_assoc, subst, lit≤, inl, inr}
+use Rattle.std.proofs.Common.{ap, refl, arith, sym, ◌∙◌, append_assoc, subst, inl, inr}
 use Rattle.std.proofs.lemmas.Grind.{flat_map-append}
 use Rattle.std.proofs.lemmas.List.{append-nil, map-append, take_more, take_all, length-take}
 use Rattle.cue_core.specs.State.{ShowState}
@@ -26,9 +26,9 @@ use Rattle.cue_script.specs.declared.ending.Ending.{Ending}
 use Rattle.cue_script.specs.declared.ending.Ending.TheVariants.{Done, BadLine, BadInput, Failed, Stopped}
 use Rattle.cue_keeper.specs.declared.fault.StoreFault.{StoreFault}
 use Rattle.cue_keeper.specs.declared.fault.StoreFault.TheVariants as store
-use Rattle.cue_script.specs.declared.ending.Failure.TheVariants.{Broken, Store}
+use Rattle.cue_script.specs.declared.ending.Failure.TheVariants.{Store}
 use Rattle.cue_script.specs.declared.ending.StreamFailure.{StreamFailure}
-use Rattle.cue_script.specs.Endings.{can_come, ending_line, status_of, store_status}
+use Rattle.cue_script.specs.Endings.{can_come, ending_line, status_of}
 use Rattle.cue_script.specs.ScriptLines.{lines_of, happening_in}
 use Rattle.cue_script.specs.ScriptViews.{sent_view}
 use Rattle.cue_script.specs.Playing.{Goes, EndsAt, EndsUnheard}
@@ -336,40 +336,10 @@ has_run (Some text) ending first line status old mid new wrote is last ends =
           (subst P is last);
     }
 
-pub has_stopped : (known : Option (List ℕ)) (failure : StreamFailure) (first : ShowState) (status : ℕ)
-    (old new : Option (List ℕ)) → status ≡ status_of (Stopped failure)
-    → IfSome known (λ text. HasRun first text status old new)
-has_stopped None failure first status old new ends = tt
-has_stopped (Some text) failure first status old new ends = record { ending = Stopped failure; is = ends; wrote = tt }
-
 pub stopped_known : (known : Option (List ℕ)) (failure : StreamFailure) (first : ShowState) (old new : Option (List ℕ))
     → IfSome known (λ text. Wrote (Stopped failure) first text [] old new)
 stopped_known None failure first old new = tt
 stopped_known (Some text) failure first old new = tt
-
-pub small_store : (fault : StoreFault) → (store_status fault ≤ 3) × (store_status fault ≢ 2)
-small_store store.NotEmpty = (lit≤ tt, λ is. cc)
-small_store store.Unformed = (lit≤ tt, λ is. cc)
-small_store store.Damaged = (lit≤ tt, λ is. cc)
-small_store store.Version = (lit≤ tt, λ is. cc)
-small_store store.Malformed = (lit≤ tt, λ is. cc)
-small_store store.Full = (lit≤ tt, λ is. cc)
-small_store store.Exhausted = (lit≤ tt, λ is. cc)
-small_store store.Memory = (lit≤ tt, λ is. cc)
-small_store store.Disk = (lit≤ tt, λ is. cc)
-
-small : (ending : Ending) → (status_of ending ≤ 3) × (status_of ending ≢ 2)
-small Done = (lit≤ tt, λ is. cc)
-small BadLine = (lit≤ tt, λ is. cc)
-small BadInput = (lit≤ tt, λ is. cc)
-small (Failed Broken) = (lit≤ tt, λ is. cc)
-small (Failed (Store fault)) = small_store fault
-small (Stopped failure) = (lit≤ tt, λ is. cc)
-
-pub small_status : (ending : Ending) (status : ℕ) → status ≡ status_of ending → (status ≤ 3) × (status ≢ 2)
-small_status ending status is =
-    let P : ℕ → Type 0 = λ n. (n ≤ 3) × (n ≢ 2) in
-    subst P (sym is) (small ending)
 
 -- an empty disk has no area
 absent : (held : Contents) → held ≡ settled_contents [] → IsAbsent held.bytes

@@ -1,7 +1,7 @@
 -- How a command line ends, from how it was read.
 use Rattle.std.proofs.Common.{◌≡◌, ◌≢◌, ◌≤◌, ◌⊎◌, inl, inr, ℕ, List, [], Option, Some, None, sym, ◌∙◌, subst, refl}
 use Rattle.std.proofs.Common.{lit≤}
-use Rattle.std.specs.Prelude.{codes, IfSome, OnOk, Result, Ok, Err}
+use Rattle.std.specs.Prelude.{codes, OnOk, Result, Ok, Err}
 use Rattle.std.specs.Io.KnownBytes.{Appends}
 use Rattle.clap.specs.Words.{Row, Text, fault_of, subcommand_of}
 use Rattle.cue_core.specs.State.{ShowState}
@@ -11,7 +11,6 @@ use Rattle.cuectl.specs.declared.line.words.LineFault.{LineFault}
 use Rattle.cuectl.specs.declared.line.words.LineFault.TheVariants.{Help, Usage, Memory}
 use Rattle.cuectl.specs.Lines.{AsksForText, HasPortZero, IsHelp, IsLineOf, IsNoCommand, IsRefused, cuectl_app}
 use Rattle.cue_keeper.specs.Stands.{Stands}
-use Rattle.cue_keeper.specs.declared.fault.StoreFault.{StoreFault}
 use Rattle.cue_keeper.specs.declared.fault.StoreFault.TheVariants as store
 use Rattle.cuectl.specs.declared.program.fault.ProgramFault.{ProgramFault}
 use Rattle.cuectl.specs.declared.program.fault.ProgramFault.TheVariants as program
@@ -19,10 +18,7 @@ use Rattle.cue_script.specs.declared.ending.Failure.TheVariants.{Broken, Store}
 use Rattle.cuectl.specs.Endings.{done_status, program_status}
 use Rattle.cuectl.specs.Performing.{EndsSo, IsStateShown, IsStateTold, NamesScript}
 use Rattle.cuectl.specs.ShowText.{show_text}
-use Rattle.cue_script.specs.declared.ending.Ending.TheVariants.{Stopped}
-use Rattle.cue_script.specs.declared.ending.StreamFailure.{StreamFailure}
-use Rattle.cue_script.specs.Endings.{status_of, store_status}
-use Rattle.cue_script.specs.Script.{HasRun}
+use Rattle.cue_script.proofs.EndingLemmas.{small_store}
 
 -- the line of words that name a script is a script
 pub is_script : (o : Option (Text × List Row)) (line : Line) → IsLineOf o line → NamesScript o → line ≡ Script
@@ -105,24 +101,6 @@ pub told_at_zero : {T : Type 0} (done : Result T ProgramFault) (status : ℕ) (m
     → P new
 told_at_zero (Ok done) status mid new P is told kept zero = subst P (sym kept) told
 told_at_zero (Err fault) status mid new P is told kept zero = absurd (never_zero fault (sym is ∙ zero))
-
--- a script that ends so was run, whatever its text is
-pub has_stopped : (known : Option (List ℕ)) (failure : StreamFailure) (first : ShowState) (status : ℕ)
-    (old new : Option (List ℕ)) → status ≡ status_of (Stopped failure)
-    → IfSome known (λ text. HasRun first text status old new)
-has_stopped None failure first status old new ends = tt
-has_stopped (Some text) failure first status old new ends = record { ending = Stopped failure; is = ends; wrote = tt }
-
-small_store : (fault : StoreFault) → (store_status fault ≤ 3) × (store_status fault ≢ 2)
-small_store store.NotEmpty = (lit≤ tt, λ is. cc)
-small_store store.Unformed = (lit≤ tt, λ is. cc)
-small_store store.Damaged = (lit≤ tt, λ is. cc)
-small_store store.Version = (lit≤ tt, λ is. cc)
-small_store store.Malformed = (lit≤ tt, λ is. cc)
-small_store store.Full = (lit≤ tt, λ is. cc)
-small_store store.Exhausted = (lit≤ tt, λ is. cc)
-small_store store.Memory = (lit≤ tt, λ is. cc)
-small_store store.Disk = (lit≤ tt, λ is. cc)
 
 small_fault : (fault : ProgramFault) → (program_status fault ≤ 3) × (program_status fault ≢ 2)
 small_fault (program.Failed Broken) = (lit≤ tt, λ is. cc)

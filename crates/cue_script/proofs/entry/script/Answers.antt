@@ -1,6 +1,7 @@
 use Rattle.cue_core.specs.State.{empty_state}
 use Rattle.cue_script.specs.declared.ending.Ending.TheVariants.{Stopped}
-use Rattle.cue_script.proofs.ScriptLemmas.{has_run, has_stopped, small_status}
+use Rattle.cue_script.proofs.EndingLemmas.{has_stopped, small_status}
+use Rattle.cue_script.proofs.ScriptLemmas.{has_run}
 use Rattle.cue_script.proofs.entry.script.Goals as goal
 
 pub returns-in-Ok : goal.returns-in-Ok

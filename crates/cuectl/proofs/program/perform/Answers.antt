@@ -4,7 +4,8 @@ use Rattle.clap.specs.Words.{subcommand_of}
 use Rattle.cue_core.specs.State.{empty_state}
 use Rattle.cuectl.specs.Lines.{cuectl_app}
 use Rattle.cue_script.specs.declared.ending.StreamFailure.TheVariants.{Memory}
-use Rattle.cuectl.proofs.PerformLemmas.{is_script, ends_so, has_stopped, only_memory}
+use Rattle.cue_script.proofs.EndingLemmas.{has_stopped}
+use Rattle.cuectl.proofs.PerformLemmas.{is_script, ends_so, only_memory}
 use Rattle.cuectl.proofs.program.perform.Goals as goal
 
 pub returns-in-Ok-clause-done : goal.returns-in-Ok-clause-done

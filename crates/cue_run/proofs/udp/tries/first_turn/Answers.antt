@@ -1,5 +1,5 @@
 use Rattle.std.proofs.Common.{◌≡◌, arith}
-use Rattle.cue_run.proofs.TryLemmas.{Passed, passed_none, passed_more, gave_turn, gave_fault, gave_none}
+use Rattle.cue_run.proofs.TryLemmas.{passed_none, passed_more, gave_turn, gave_fault, gave_none}
 use Rattle.cue_run.proofs.udp.tries.first_turn.Goals as goal
 
 pub loop-init : goal.loop-init

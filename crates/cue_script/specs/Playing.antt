@@ -1,11 +1,13 @@
 -- Helper: a script that is being run, step by step.
 use Rattle.std.specs.Prelude.{◌≡◌, ℕ, false, true, List, [], Option, Some, None}
 use Rattle.std.specs.Io.KnownBytes.{Appends}
+use Rattle.cue_disk.specs.Disk.{Contents, IsImage}
 use Rattle.cue_core.specs.State.{ShowState}
 use Rattle.cue_core.specs.Steps.{after_events}
 use Rattle.cue_keeper.specs.Observed.{is_broken}
 use Rattle.cue_outbox.specs.Sending.{datagrams}
 use Rattle.cue_engine.specs.declared.engine.Engine.{Engine}
+use Rattle.cue_engine.specs.Recovery.{NoGenerationLeft}
 use Rattle.cue_engine.specs.Runs.{Happening, given_at}
 use Rattle.cue_engine.specs.Observed.{keeper_of, queue_of, state_of}
 use Rattle.cue_script.specs.declared.ending.Ending.{Ending}
@@ -24,6 +26,14 @@ pub record IsAfter {D : Type 0} {disk : _} (s : ShowState) (h : Happening) (engi
   pub works : is_broken (keeper_of engine) ≡ false
   pub is : state_of engine ≡ after_events s (given_at s h).batch
   pub owes : queue_of engine ≡ datagrams (given_at s h).sends
+
+-- A power loss may leave bytes of two disks that have no generation left for the area that a recovery of them needs.
+pub record MayLeaveNoGeneration (first second : Contents) : Type 0 where
+  pub left : List ℕ
+  pub other : List ℕ
+  pub first_image : IsImage first left
+  pub second_image : IsImage second other
+  pub none : NoGenerationLeft left other
 
 -- A line stands for what happened, the state is the one after it, and what is sent then was written.
 pub record Goes (line : List ℕ) (s t : ShowState) (old new : Option (List ℕ)) : Type 0 where

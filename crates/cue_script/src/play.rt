@@ -1,17 +1,19 @@
 //! Running a script line by line.
-ghost use Rattle.std.specs.Prelude.{◌≡◌, ◌≤◌, [], length, false, true, IfOk, IfErr, OnOk};
+ghost use Rattle.std.specs.Prelude.{◌≡◌, ◌≤◌, ◌^◌, ◌-◌, [], length, false, true, IfOk, IfErr, OnOk};
 ghost use Rattle.std.specs.Io.KnownBytes.{Appends};
 ghost use Rattle.cue_core.specs.Steps.{after_events};
 ghost use Rattle.cue_outbox.specs.Sending.{datagrams};
 ghost use Rattle.cue_engine.specs.Inputs.{input_view};
 ghost use Rattle.cue_engine.specs.Runs.{took, recovered, given_at};
-ghost use Rattle.cue_engine.specs.Observed.{state_of, queue_of, keeper_of};
-ghost use Rattle.cue_disk.specs.Memory.{memory_bytes};
+ghost use Rattle.cue_engine.specs.Observed.{state_of, queue_of, keeper_of, first_of, second_of};
+ghost use Rattle.cue_disk.specs.Disk.{IsImage};
+ghost use Rattle.cue_disk.specs.Memory.{memory_bytes, memory_held};
 ghost use Rattle.cue_keeper.specs.Stands.{Stands};
-ghost use Rattle.cue_keeper.specs.Observed.{is_broken};
+ghost use Rattle.cue_keeper.specs.Observed.{is_broken, generation_of};
 ghost use Rattle.cue_script.specs.Endings.{can_come};
 ghost use Rattle.cue_script.specs.ScriptViews.{line_view};
-ghost use Rattle.cue_script.specs.Playing.{IsReady, IsAfter, Goes, EndsAt, EndsUnheard};
+ghost use Rattle.cue_script.specs.Playing.{IsReady, IsAfter, MayLeaveNoGeneration, Goes, EndsAt, EndsUnheard};
+ghost use Rattle.cue_script.specs.declared.ending.Failure.TheVariants.{Store};
 ghost use Rattle.cue_script.specs.Script.{printed_lines, Wrote};
 ghost use Rattle.cue_script.specs.Streams.{HasCause};
 
@@ -51,6 +53,8 @@ fn take_input(
     requires { IsReady engine }
     ensures after { IfOk result (λ next. IsAfter (state_of engine) (took now (input_view input.entry)) next) }
     ensures failure { IfErr result (λ failure. can_come failure ≡ true) }
+    ensures exhausted { IfErr result (λ failure. failure ≡ Store StoreFault.Exhausted
+        → generation_of (keeper_of engine) ≡ 2 ^ 64 - 1) }
 {
     match engine.take(now, input) {
         Ok(_) => Ok(engine),
@@ -61,7 +65,9 @@ fn take_input(
 // What power loss leaves of the two disks: bytes that stand for the engine's state.
 fn lose_power(engine: Engine<MemDisk>) -> Result<(MemDisk, MemDisk), AllocError>
     requires { IsReady engine }
-    ensures { IfOk result (λ left. Stands (memory_bytes left.0) (memory_bytes left.1) (state_of engine)) }
+    ensures stand { IfOk result (λ left. Stands (memory_bytes left.0) (memory_bytes left.1) (state_of engine)) }
+    ensures images { IfOk result (λ left. IsImage (memory_held (first_of engine)) (memory_bytes left.0)
+        × IsImage (memory_held (second_of engine)) (memory_bytes left.1)) }
 {
     let (first, second) = engine.close();
     let left = first.crash(0, &[])?;
@@ -74,6 +80,8 @@ fn recover_from_loss(alloc: Global, engine: Engine<MemDisk>) -> Result<Engine<Me
     requires { IsReady engine }
     ensures after { IfOk result (λ next. IsAfter (state_of engine) recovered next) }
     ensures failure { IfErr result (λ failure. can_come failure ≡ true) }
+    ensures exhausted { IfErr result (λ failure. failure ≡ Store StoreFault.Exhausted
+        → MayLeaveNoGeneration (memory_held (first_of engine)) (memory_held (second_of engine))) }
 {
     match lose_power(engine) {
         Ok((first, second)) => match Engine::recover(alloc, first, second) {

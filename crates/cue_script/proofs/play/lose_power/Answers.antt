@@ -1,5 +1,5 @@
 use Rattle.cue_script.proofs.play.lose_power.Goals as goal
 
-pub returns : goal.returns
-returns c = c.close-first.ensures.stands tt tt c.requires.works _ _ c.in_ok-left.ensures.image
+pub returns-clause-stand : goal.returns-clause-stand
+returns-clause-stand c = c.close-first.ensures.stands tt tt c.requires.works _ _ c.in_ok-left.ensures.image
     c.in_ok-other.ensures.image

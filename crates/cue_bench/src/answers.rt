@@ -148,7 +148,7 @@ impl<'a, D: Disk> Work for Answering<'a, D> {
     }
 }
 
-// The records of all answers behind a gate: two writes and two syncs.
+// The records of all answers after a gate: two writes and two syncs.
 #[derive(Drop)]
 struct Calls<'a, D> {
     disk: &'a mut D,

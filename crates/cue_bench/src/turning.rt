@@ -59,7 +59,7 @@ const CLOSED: &[u8] = b"\0";
 // A generation and a length.
 const HEADER: &[u8] = b"\0\0\0\0\0\0\0\x02\0\x09\x09\x09";
 
-// What stands behind the gate of a record that goes to a cue: length, batch and the next gate.
+// What stands after the gate of a record that goes to a cue: length, batch and the next gate.
 const RECORD: &[u8] = b"\0\0\0\x07\0\x01\x05\x03100\0";
 
 // A command that is made, while the area does not turn over.
@@ -107,7 +107,7 @@ impl<'a, D: Raw> Alone<'a, D> {
         (self.text.len() as u64).saturating_add(13)
     }
 
-    // Closes the older area, writes the new one behind its gate, and opens it.
+    // Closes the older area, writes the new one after its gate, and opens it.
     fn form(&mut self) -> Result<(), DiskFault> {
         let end = self.end();
         self.disk.store(0, CLOSED)?;
@@ -120,7 +120,7 @@ impl<'a, D: Raw> Alone<'a, D> {
         self.disk.settle()
     }
 
-    // Writes a record behind its gate, and opens it.
+    // Writes a record after its gate, and opens it.
     fn append(&mut self, gate: u64) -> Result<(), DiskFault> {
         self.disk.store(gate.saturating_add(1), RECORD)?;
         self.disk.settle()?;

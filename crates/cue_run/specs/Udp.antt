@@ -1,6 +1,6 @@
 -- Helper: what a call at a socket means: whether something came, when a tick is due, and what was sent whole.
 use Rattle.std.specs.Prelude.{◌≤◌, ◌-◌, ◌||◌, ◌==◌, if◌then◌else◌, ℕ, Bool, false, nat_le, nat_lt, Option, Some, None}
-use Rattle.std.specs.Prelude.{◌≡◌, List, [], ◌∷◌, Result, Ok, Err}
+use Rattle.std.specs.Prelude.{◌≡◌, [], ◌∷◌, Result, Ok, Err}
 use Rattle.std.specs.Net.Addr.{ipv4_octets}
 use Rattle.std.specs.declared.net.ip_addr.IpAddr.{IpAddr}
 use Rattle.std.specs.declared.net.ip_addr.IpAddr.TheVariants as ip

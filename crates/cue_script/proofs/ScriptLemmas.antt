@@ -252,7 +252,7 @@ ran_until (Failed failure) first text rest others line s old mid new held split 
     )
 ran_until (Stopped failure) first text rest others line s old mid new held split short ends = tt
 
--- a last line behind it
+-- a last line after it
 ran_with : (first : ShowState) (text last : List ℕ) (left : List (List ℕ)) (old mid new : Option (List ℕ))
     → Ran first text left [] old mid → Appends mid new last → Ran first text left last old new
 ran_with first text last left old mid new held more =

@@ -73,7 +73,7 @@ refused kinds kind Usage is (inl no_memory) e = absurd (is.1 no_memory)
 refused kinds kind Usage is (inr among) e = record { kind = kind; among = among; other = is.0 }
 refused kinds kind Memory is has e = cc
 
--- serve is no line where it lacks what stands behind it
+-- serve is no line where it lacks what stands after it
 pub no_serve : (rows : List Row) → LacksDir rows ⊎ LacksPort rows ⊎ LacksTurns rows → IsNoLine (codes "serve", rows)
 no_serve rows lacks = record {
   form = λ other. let bad : codes "serve" ≡ codes "form" = other in cc;

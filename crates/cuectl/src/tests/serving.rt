@@ -11,7 +11,8 @@ use std::time::{Clock, Instant};
 
 /// The first file of a store whose cue 1 prepares, with the device 3: the attempt 1, whose deadline has passed.
 const PREPARING: [u8; 54] =
-    *b"\x01\0\0\0\0\0\0\0\x01\0\0\0\x28\x02\x01\x03\x23\x29\0\x01\x011\x01\x03\0\0\0\0\0\0\x01\0\0\0\0\0\x01\0\0\0\x01\x011\0\0\0\0\0\0\0\0\x01\0\0";
+    *b"\x01\0\0\0\0\0\0\0\x01\0\0\0\x28\x02\x01\x03\x23\x29\0\x01\x011\x01\x03\0\0\
+        \0\0\0\0\x01\0\0\0\0\0\x01\0\0\0\x01\x011\0\0\0\0\0\0\0\0\x01\0\0";
 
 /// What `show` prints of it.
 const SHOWN: &str = "last 1\nplace -\nended 0 0\ndevice 3 9001\ncue 1 1\nattempt 1 1 preparing\n";

@@ -40,13 +40,15 @@ const STORES: [(&[u8], &[u8], u8, &str); 10] = [
     // The second file has the higher generation, and a snapshot of version 2.
     (
         &FORMED,
-        b"\x01\0\0\0\0\0\0\0\x02\0\0\0\x1f\x02\x01\x03\x23\x29\0\x02\x011\x01\x03\0\0\x012\x01\x03\0\0\x011\0\0\0\0\0\0\0\0\0\0\0",
+        b"\x01\0\0\0\0\0\0\0\x02\0\0\0\x1f\x02\x01\x03\x23\x29\0\x02\x011\x01\x03\0\0\
+            \x012\x01\x03\0\0\x011\0\0\0\0\0\0\0\0\0\0\0",
         0,
         "last 0\nplace 1\nended 0 0\ndevice 3 9001\ncue 1 1\ncue 2 1\n",
     ),
     // The first file has it, and the same show in version 1.
     (
-        b"\x01\0\0\0\0\0\0\0\x02\0\0\0\x1d\x01\x01\x03\x23\x29\0\x02\x011\x01\x03\0\x012\x01\x03\0\x011\0\0\0\0\0\0\0\0\0\0\0",
+        b"\x01\0\0\0\0\0\0\0\x02\0\0\0\x1d\x01\x01\x03\x23\x29\0\x02\x011\x01\x03\0\
+            \x012\x01\x03\0\x011\0\0\0\0\0\0\0\0\0\0\0",
         &FORMED,
         0,
         "last 0\nplace 1\nended 0 0\ndevice 3 9001\ncue 1 1\ncue 2 1\n",

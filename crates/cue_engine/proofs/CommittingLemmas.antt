@@ -7,7 +7,6 @@ use Rattle.cue_disk.specs.declared.disk.Disk.{Ghosts}
 use Rattle.cue_disk.specs.Disk.{Contents}
 use Rattle.cue_core.specs.declared.event.Event.{Event}
 use Rattle.cue_core.specs.State.{ShowState}
-use Rattle.cue_core.specs.Steps.{after_events}
 use Rattle.cue_keeper.specs.Accepting.{HaveRoom}
 use Rattle.cue_keeper.specs.Due.{lacks_room}
 use Rattle.cue_keeper.specs.Groups.{records_of}

@@ -5,7 +5,6 @@ use Rattle.cue_disk.specs.Disk.{Contents, IsImage, IsStable}
 use Rattle.cue_disk.specs.Effect.{settled_contents}
 use Rattle.cue_disk.proofs.CrashLemmas.{image_stable}
 use Rattle.cue_snap.specs.Pair.{AfterBarrier, IsUnformedOr}
-use Rattle.cue_core.specs.State.{empty_state}
 use Rattle.cue_keeper.specs.Stands.{first_area}
 use Rattle.cue_engine.specs.Recovery.{IsLeftOrStands}
 use Rattle.cue_engine.specs.Incidents.{Incident, recovered, stopped_in_recovery, refused, Store, LeavesOnly, RecoversAs}

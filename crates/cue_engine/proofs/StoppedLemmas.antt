@@ -9,7 +9,7 @@ use Rattle.cue_keeper.specs.declared.keeper.Keeper.{Keeper}
 use Rattle.cue_keeper.specs.Stands.{StandsAs}
 use Rattle.cue_keeper.specs.Observed as kept
 use Rattle.cue_outbox.specs.Sending.{Send, datagram, datagrams}
-use Rattle.cue_engine.specs.Incidents.{Incident, Store, running, left_by_all}
+use Rattle.cue_engine.specs.Incidents.{Incident, Store, left_by_all}
 use Rattle.cue_engine.specs.Headline.{owed_by}
 use Rattle.cue_engine.specs.Lives.{RunsWith, StopsAfterSome}
 use Rattle.cue_engine.specs.Wires.{Handed, AllHanded, HandedSoFar}

@@ -7,7 +7,7 @@ use Rattle.std.specs.Prelude.{◌≡◌, ◌⊎◌, ◌≤◌, ℕ, List}
 use Rattle.cue_disk.specs.Disk.{Contents, IsImage, LeavesAtEachMoment}
 use Rattle.cue_disk.specs.Effect.{settled_contents}
 use Rattle.cue_snap.specs.Pair.{AfterBarrier, IsUnformedOr}
-use Rattle.cue_core.specs.State.{ShowState, empty_state}
+use Rattle.cue_core.specs.State.{ShowState}
 use Rattle.cue_core.specs.Steps.{after_events}
 use Rattle.cue_keeper.specs.Pairs.{LeavesPairsAtEachMoment}
 use Rattle.cue_keeper.specs.Stands.{StandsEither, StandsAs, first_area, folded_all}

@@ -22,5 +22,6 @@ returns-in-Ok-clause-exhausted c = λ is. record {
   other = _;
   first_image = c.in-Ok.ensures.images.0;
   second_image = c.in-Ok.ensures.images.1;
-  none = c.in-Err-recover.ensures.exhausted tt tt (same_store c.in-Err-recover.fault StoreFault.Exhausted is);
+  none = rw (same_store c.in-Err-recover.fault StoreFault.Exhausted is)
+      at c.in-Err-recover.ensures.refused tt tt;
 }

@@ -1,4 +1,3 @@
-use Rattle.std.proofs.Common.{◌≡◌, ◌∙◌, ap, subst}
 use Rattle.cue_engine.specs.Observed.{state_of, queue_of, first_of, second_of}
 use Rattle.cue_engine.proofs.LifeLemmas.{lives_together, lives_still, promised_in_commit, rests_in_commit}
 use Rattle.cue_engine.proofs.CommittingLemmas.{state_taken, queue_taken, leaves_taken}

@@ -1,4 +1,4 @@
-use Rattle.std.proofs.Common.{◌+◌, List, ℕ, Option, refl, ◌∙◌, ap, subst}
+use Rattle.std.proofs.Common.{◌+◌, List, ℕ, refl, ◌∙◌, ap, subst}
 use Rattle.cue_keeper.specs.Observed as keeper
 use Rattle.cue_engine.specs.Wires.{AreHanded}
 use Rattle.cue_engine.specs.Observed.{state_of, queue_of}

@@ -1,4 +1,4 @@
-use Rattle.std.proofs.Common.{◌≡◌, ap}
+use Rattle.std.proofs.Common.{ap}
 use Rattle.cue_keeper.specs.Observed as kept
 use Rattle.cue_engine.specs.Inputs.{input_view}
 use Rattle.cue_engine.specs.Observed.{state_of, queue_of}

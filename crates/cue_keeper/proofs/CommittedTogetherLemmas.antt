@@ -1,5 +1,5 @@
 -- What became of batches that were given together, put together from what the calls on the pair say.
-use Rattle.std.specs.Prelude.{IsErrAnd, IsErrOf}
+use Rattle.std.specs.Prelude.{IsErrAnd}
 use Rattle.std.specs.Result.{result_err}
 use Rattle.std.proofs.Common.{◌≡◌, inl, inr, ◌+◌, true, false, List, [], ◌∷◌, length, Option, Some, None, Result, Ok}
 use Rattle.std.proofs.Common.{Err, refl, sym, ◌∙◌, ap, subst, arith, true≢false}
@@ -12,8 +12,7 @@ use Rattle.cue_core.specs.State.{ShowState}
 use Rattle.cue_keeper.specs.declared.fault.Fault.{Fault}
 use Rattle.cue_keeper.specs.declared.fault.Fault.TheVariants as fault
 use Rattle.cue_keeper.specs.declared.keeper.Keeper.{Keeper}
-use Rattle.cue_keeper.specs.Accepting.{HasFailed, Commits, AreSeveral, LackRoom, HaveRoom, CommitsTogether}
-use Rattle.cue_keeper.specs.Accepting.{AcceptsTogether}
+use Rattle.cue_keeper.specs.Accepting.{HasFailed, Commits, AreSeveral, LackRoom, CommitsTogether, AcceptsTogether}
 use Rattle.cue_keeper.specs.Groups.{with_events, records_of}
 use Rattle.cue_keeper.specs.Observed as kept
 use Rattle.cue_keeper.specs.Pairs.{Moves, LeavesPairsAtEachMoment}
@@ -250,21 +249,3 @@ module _ {D : Type 0} {disk : Ghosts D} where
         stands = λ _ _. tt;
         pair = commits;
       })
-
-  -- Only several are refused as Full, and only where the area lacks room for them.
-  full_lacks : (s : ShowState) (batches given : List (List Event)) (old new : Snap D disk) → with_events batches ≡ given
-      → CommitsTogether s batches (Some fault.Full) old new → HaveRoom old batches → ⊥
-  full_lacks s batches [] old new is commits room = (commits.quiet is).cause
-  full_lacks s batches (batch ∷ []) old new is commits room = (commits.alone batch is).cause
-  full_lacks s batches (batch ∷ other ∷ more) old new is commits room =
-      let several : AreSeveral batches = omega (arith, ap length is) in
-      room several (commits.cause several)
-
-  pub never_full : {T : Type 0} (s : ShowState) (batches : List (List Event)) (r : Result T Fault)
-      (old new : Snap D disk) → CommitsTogether s batches (result_err r) old new → HaveRoom old batches
-      → IsErrOf r fault.Full → ⊥
-  never_full s batches (Ok x) old new commits room is = cc
-  never_full s batches (Err f) old new commits room is =
-      let same : f ≡ fault.Full = cc in
-      full_lacks s batches (with_events batches) old new refl
-      (subst (λ (g : Fault). CommitsTogether s batches (Some g) old new) same commits) room

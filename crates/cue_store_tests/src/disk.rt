@@ -26,7 +26,7 @@ fn syncs(rt: &impl Abort, disk: &mut MemDisk, answer: Result<(), DiskFault>) {
     assert_eq!(rt; disk.sync(), answer);
 }
 
-fn tells_its_length(rt: &impl Abort, disk: &mut MemDisk, answer: Result<u64, DiskFault>) {
+fn reports_its_length(rt: &impl Abort, disk: &mut MemDisk, answer: Result<u64, DiskFault>) {
     assert_eq!(rt; disk.len(), answer);
 }
 
@@ -82,7 +82,7 @@ fn what_was_written_is_read(rt: HostRuntime) {
     puts(&rt, &mut disk, 0, &[1, 2, 3], Ok(()));
     puts(&rt, &mut disk, 2, &[4, 5], Ok(()));
     syncs(&rt, &mut disk, Ok(()));
-    tells_its_length(&rt, &mut disk, Ok(4));
+    reports_its_length(&rt, &mut disk, Ok(4));
     has(&rt, &disk, &[1, 2, 4, 5], 4);
     assert_eq!(rt; two_bytes(&mut disk), Ok([2, 4]));
     has(&rt, &disk, &[1, 2, 4, 5], 5);
@@ -110,7 +110,7 @@ fn a_crash_leaves_the_junk_that_it_is_handed(rt: HostRuntime) -> Result<(), Fail
 // The second call, a write of five bytes at 1, fails.
 fn fails_within(rt: &impl Abort, disk: &mut MemDisk) -> Result<(), Fail> {
     disk.fail_at(2);
-    tells_its_length(rt, disk, Ok(6));
+    reports_its_length(rt, disk, Ok(6));
     puts(rt, disk, 1, &[9, 9, 9, 9, 9], Err(DiskFault));
     has(rt, disk, &[1, 9, 9, 4, 5, 6], 2);
     // All of the range is touched, and not only what was stored.
@@ -147,7 +147,7 @@ fn stops_within(rt: &impl Abort, disk: &mut MemDisk) {
 fn is_stopped(rt: &impl Abort, disk: &mut MemDisk) {
     puts(rt, disk, 3, &[7, 7, 7], Err(DiskFault));
     syncs(rt, disk, Err(DiskFault));
-    tells_its_length(rt, disk, Err(DiskFault));
+    reports_its_length(rt, disk, Err(DiskFault));
     has(rt, disk, &[9, 8, 3, 4], 5);
 }
 
@@ -176,7 +176,7 @@ fn add<D: Disk>(disk: &mut D, byte: u8) -> Result<u64, DiskFault> {
     disk.len()
 }
 
-// A byte is added, and the disk then tells this length.
+// A byte is added, and the disk then reports this length.
 fn adds<D: Disk>(rt: &impl Abort, disk: &mut D, byte: u8, answer: Result<u64, DiskFault>) {
     assert_eq!(rt; add(disk, byte), answer);
 }

@@ -35,7 +35,7 @@ const BOTH: [u8; 41] = [
     0, 1, 6, 1, 0, 0, 0, 1, 7, 0,
 ];
 
-// Damage: an open head gate, and no area behind it.
+// Damage: an open head gate, and no area after it.
 const DAMAGED: [u8; 5] = [1, 0, 0, 0, 0];
 
 // Forms a pair with that snapshot; a refusal drops the disks.

@@ -49,7 +49,7 @@ fn followed(alloc: Global, disk: &MemDisk) -> Result<Vec<u8>, AllocError> {
     Ok(bytes)
 }
 
-// Such an area is read, and what stands behind its last gate is not.
+// Such an area is read, and what stands after its last gate is not.
 fn is_read(rt: &impl Abort, alloc: Global, snapshot: &[u8], payload: &[u8]) -> Result<(), Fail> {
     let disk = with_four(rt, alloc, snapshot, payload)?;
     assert_eq!(rt; disk.bytes().len(), 13 + 70_000 + 4 * 32_773 + 1);

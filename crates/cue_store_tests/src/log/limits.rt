@@ -37,14 +37,6 @@ fn refuses(
     Ok(())
 }
 
-// The disk has an area as long as one may be.
-fn is_full(rt: &impl Abort, alloc: Global, disk: MemDisk) -> Result<(), Fail> {
-    assert_eq!(rt; disk.bytes().len(), 16_777_216);
-    let area = opened(alloc, disk)?;
-    assert_eq!(rt; (area.log.count(), area.records.count()), (512, 512));
-    Ok(())
-}
-
 #[test]
 fn an_area_that_is_filled(rt: HostRuntime) -> Result<(), Fail> {
     let mut log = formed(MemDisk::new(rt.alloc()), 1, &SNAPSHOT)?;
@@ -53,7 +45,9 @@ fn an_area_that_is_filled(rt: HostRuntime) -> Result<(), Fail> {
     is_at(&rt, &log, 1, 511);
     appends(&rt, &mut log, &record_of(rt.alloc(), 30_179)?, Ok(()));
     refuses(&rt, rt.alloc(), &mut log, 0)?;
-    is_full(&rt, rt.alloc(), log.retire())
+    is_at(&rt, &log, 1, 512);
+    assert_eq!(rt; log.retire().bytes().len(), 16_777_216);
+    Ok(())
 }
 
 // So many records of that length.
@@ -102,13 +96,11 @@ fn records_that_do_not_fit_together(rt: HostRuntime) -> Result<(), Fail> {
     Ok(())
 }
 
-// A file longer than an area may be: the head of an area with a snapshot of so many bytes 7, and zeros after it.
+// A file longer than an area may be: the head of an area with a snapshot of so many bytes, and all of it bytes 7.
 fn long_file(alloc: Global, len: u32) -> Result<Vec<u8>, AllocError> {
     let mut bytes = [1, 0, 0, 0, 0, 0, 0, 0, 1].to_vec(alloc)?;
     bytes.extend_from_slice(&len.to_be_bytes())?;
-    let snapshot: Vec<u8> = vec![in alloc; 7; len as usize]?;
-    bytes.extend_from_slice(&snapshot)?;
-    bytes.resize(16_777_316, 0)?;
+    bytes.resize(16_777_316, 7)?;
     Ok(bytes)
 }
 
@@ -118,10 +110,14 @@ fn read_of(alloc: Global, len: u32) -> Result<(usize, u64), OpenFault> {
     Ok((area.snapshot.as_slice().len(), area.log.count()))
 }
 
+// The last gate is the last byte that an area may have; a byte 7 is not an open one.
 #[test]
 fn a_file_longer_than_an_area(rt: HostRuntime) {
-    // The last gate is the last byte that an area may have.
     assert_eq!(rt; read_of(rt.alloc(), 16_777_202), Ok((16_777_202, 0)));
-    // And one byte beyond it.
+}
+
+// It stands one byte beyond that.
+#[test]
+fn an_area_that_is_too_long(rt: HostRuntime) {
     assert_eq!(rt; read_of(rt.alloc(), 16_777_203), Err(OpenFault::Damaged));
 }

@@ -246,7 +246,7 @@ const FIRST: Turn = Turn {
     after: TURNED_ONCE,
 };
 
-// The first turn-over after one that a crash tore: a body behind a gate that is not open.
+// The first turn-over after one that a crash tore: a body after a gate that is not open.
 const BEHIND_TORN: Turn = Turn {
     spare: &[0, 1, 1, 1, 1, 0xff, 0xff, 0, 1, 1, 0, 0, 0, 0, 1, 1],
     ..FIRST
@@ -298,7 +298,7 @@ fn a_turn_over_with_trouble_at_each_call(rt: HostRuntime) -> Result<(), Fail> {
 }
 
 #[test]
-fn a_turn_over_behind_a_torn_one(rt: HostRuntime) -> Result<(), Fail> {
+fn a_turn_over_after_a_torn_one(rt: HostRuntime) -> Result<(), Fail> {
     turns(&rt, rt.alloc(), BEHIND_TORN, 0, 10)
 }
 

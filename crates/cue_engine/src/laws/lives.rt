@@ -149,8 +149,8 @@ pub fn hand_out_in_parts<D: Disk, W: Wire>(engine: &mut Engine<D>, wire: &mut W,
     let _refused = engine.hand_out(wire);
 }
 
-/// A stop between two parts of a hand-out, in the life of a store: `Engine::hand_out_first` with each of these numbers in
-/// turn, and no call after them. The life goes on at rest, and has as handed over what these calls handed over.
+/// A stop between two parts of a hand-out, in the life of a store: `Engine::hand_out_first` with each of these numbers
+/// in turn, and no call after them. The life goes on at rest, and has as handed over what these calls handed over.
 pub fn stop_in_hand_out<D: Disk, W: Wire>(
     mut engine: Engine<D>,
     wire: &mut W,

@@ -1,7 +1,8 @@
 -- What an input comes to, put together from what judging and keeping say.
 use Rattle.std.specs.Prelude.{IfOk, OnOk, OnErr, MatchResult, Some, length, ◌≤◌}
 use Rattle.std.specs.Result.{result_err, IsErrOf}
-use Rattle.std.proofs.Common.{◌≡◌, ℕ, [], ◌∷◌, ◌++◌, List, Result, Ok, Err, IsTrue, false, ap, sym, subst, refl, arith, ◌∙◌}
+use Rattle.std.proofs.Common.{◌≡◌, ℕ, [], ◌∷◌, ◌++◌, List, Result, Ok, Err, IsTrue, false, ap, sym, subst, refl}
+use Rattle.std.proofs.Common.{arith, ◌∙◌}
 use Rattle.cue_disk.specs.declared.disk.Disk.{Ghosts}
 use Rattle.cue_core.specs.declared.event.Event.{Event}
 use Rattle.cue_core.specs.State.{ShowState}

@@ -19,7 +19,8 @@ use Rattle.cue_keeper.specs.Due.{is_due}
 use Rattle.cue_keeper.specs.Refusals.{HasOtherVersion, StandsForNone}
 use Rattle.cue_keeper.specs.Stands.{Stands, StandsEither, IsKept}
 use Rattle.cue_core.specs.Batches.{closed_state}
-use Rattle.cue_engine.specs.Recovery.{ClosedFrom, IsLeftOrStands, NeedsArea, NoGenerationLeft, RefusedBut, CannotBeRecovered}
+use Rattle.cue_engine.specs.Recovery.{ClosedFrom, IsLeftOrStands, NeedsArea, NoGenerationLeft, RefusedBut}
+use Rattle.cue_engine.specs.Recovery.{CannotBeRecovered}
 use Rattle.cue_engine.specs.Recovery.{cancels_length}
 
 -- ---- what a crash leaves

@@ -43,7 +43,9 @@ const ASKED: [Step; 3] = [
 
 // A device, a message that nobody reads, and a cue that needs the device.
 const BUNDLE: &[u8] =
-    b"#bundle\0\0\0\0\0\0\0\0\x01\0\0\0\x1c/show/device\0\0\0\0,ii\0\0\0\0\x03\0\0\x23\x29\0\0\0\x0c/x\0\0,f\0\0\x3f\x80\0\0\0\0\0\x24/show/cue\0\0\0,sib\0\0\0\x001\0\0\0\0\0\0\x03\0\0\0\x02\x0a\x0b\0\0";
+    b"#bundle\0\0\0\0\0\0\0\0\x01\0\0\0\x1c/show/device\0\0\0\0,ii\0\0\0\0\x03\0\0\x23\x29\
+        \0\0\0\x0c/x\0\0,f\0\0\x3f\x80\0\0\
+        \0\0\0\x24/show/cue\0\0\0,sib\0\0\0\x001\0\0\0\0\0\0\x03\0\0\0\x02\x0a\x0b\0\0";
 
 const BUNDLED: [Step; 4] = [
     Step::Hears(0, 8000, BUNDLE, [2, 0, 1]),
@@ -224,12 +226,14 @@ fn limits_of_attempts(rt: HostRuntime) -> Result<(), Fail> {
 }
 
 // Three records: device 3 at port 9001, and cues 1 and 2 for it.
-const THREE_RECORDS: &[u8] =
-    b"\x01\0\0\0\x06\0\x01\x01\x03\x23\x29\x01\0\0\0\x08\0\x01\x03\x011\x01\x03\0\x01\0\0\0\x08\0\x01\x03\x012\x01\x03\0";
+const THREE_RECORDS: &[u8] = b"\x01\0\0\0\x06\0\x01\x01\x03\x23\x29\
+        \x01\0\0\0\x08\0\x01\x03\x011\x01\x03\0\
+        \x01\0\0\0\x08\0\x01\x03\x012\x01\x03\0";
 
 // What turns over to the next generation: the state as it was, and the batch.
 const TURNED: &[u8] =
-    b"\x01\0\0\0\0\0\0\0\x02\0\0\0\x1f\x02\x01\x03\x23\x29\0\x02\x011\x01\x03\0\0\x012\x01\x03\0\0\x011\0\0\0\0\0\0\0\0\0\0\x01\0\0\0\x05\0\x01\x05\x012\0";
+    b"\x01\0\0\0\0\0\0\0\x02\0\0\0\x1f\x02\x01\x03\x23\x29\0\x02\x011\x01\x03\0\0\x012\x01\x03\0\0\
+        \x011\0\0\0\0\0\0\0\0\0\0\x01\0\0\0\x05\0\x01\x05\x012\0";
 
 const GOTO_2: &[u8] = b"/cue/2/goto\0";
 

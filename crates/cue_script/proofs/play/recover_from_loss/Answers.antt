@@ -7,7 +7,8 @@ pub returns-in-Ok-recover-clause-after : goal.returns-in-Ok-recover-clause-after
 returns-in-Ok-recover-clause-after c = record {
   works = c.in-Ok-recover.ensures.works;
   is = closed_by_recovery _ _ _ _ c.in-Ok.ensures.stand (c.in-Ok-recover.ensures.stood tt tt);
-  owes = closed_sends _ _ _ _ _ c.in-Ok.ensures.stand (c.in-Ok-recover.ensures.stood tt tt) c.in-Ok-recover.ensures.queue;
+  owes = closed_sends _ _ _ _ _ c.in-Ok.ensures.stand (c.in-Ok-recover.ensures.stood tt tt)
+      c.in-Ok-recover.ensures.queue;
 }
 
 pub returns-in-Ok-clause-failure : goal.returns-in-Ok-clause-failure

@@ -6,5 +6,3 @@ pub mod board;
 pub mod laws;
 pub mod replying;
 pub mod show_file;
-#[cfg(test)]
-mod tests;

@@ -9,6 +9,4 @@ pub mod pressing;
 pub mod relay;
 pub mod replying;
 pub mod request;
-#[cfg(test)]
-mod tests;
 mod texts;

@@ -6,8 +6,6 @@ mod manner;
 mod plan;
 mod player;
 mod telling;
-#[cfg(test)]
-mod tests;
 
 pub use chance::Chance;
 pub use manner::{Fate, Manner};

@@ -9,8 +9,6 @@ mod relaying;
 mod route;
 mod source;
 pub mod status;
-#[cfg(test)]
-mod tests;
 mod wire;
 
 pub use hearing::{Contact, News, SILENCE, hearing_limits};

@@ -1,5 +1,5 @@
 //! What the controller replies, byte for byte as docs/PROTOCOL.md has it.
-use crate::replying::{Replied, Status, read_reply};
+use cue_desk::replying::{Replied, Status, read_reply};
 use cue_show::CueNo;
 
 /// `/reply` to `/cue/1/go`: one refused, code 13.

@@ -1,5 +1,5 @@
 //! A small show file, read, checked and written.
-use crate::show_file::{Checked, Finding, check, of_show, read, written};
+use cue_desk::show_file::{Checked, Finding, check, of_show, read, written};
 use std::alloc::{AllocError, Global};
 
 /// A file with nothing wrong.

@@ -1,7 +1,7 @@
 //! The board of a show that is at rest.
-use crate::board::{board_lines, board_lines_within, heard_lines, log_lines, next_cue};
-use crate::show_file::{Checked, check, read};
 use cue_core::{Ended, Event, State};
+use cue_desk::board::{board_lines, board_lines_within, heard_lines, log_lines, next_cue};
+use cue_desk::show_file::{Checked, check, read};
 use cue_exchange::{Live, Outcome};
 use cue_relay::status;
 use cue_show::CueNo;

@@ -1,8 +1,8 @@
 //! What the desk asks, by itself and with others, byte for byte as docs/PROTOCOL.md has it.
-use crate::asking::{
+use cue_desk::asking::{
     Asked, bundle_of_cues, bundle_of_devices, cues_that_fit, datagram, devices_that_fit,
 };
-use crate::show_file::read;
+use cue_desk::show_file::read;
 use cue_operator::CueVerb;
 use std::alloc::{AllocError, Global};
 use std::ops::Range;

@@ -1,14 +1,14 @@
 //! Requests as browsers and strangers send them, presses, and what they are answered.
-use crate::answering::{Kind, NOTHING, Outcome, answer};
-use crate::board::{Around, board_text};
-use crate::page::{page_text, policy};
-use crate::pressing::read_press;
-use crate::relay::{Relay, relay_value};
-use crate::replying::{Told, told_text, trouble_text};
-use crate::request::{Door, Refusal, Wish, judge, read_head};
 use cue_core::State;
 use cue_desk::asking::Asked;
 use cue_operator::CueVerb;
+use cue_page::answering::{Kind, NOTHING, Outcome, answer};
+use cue_page::board::{Around, board_text};
+use cue_page::page::{page_text, policy};
+use cue_page::pressing::read_press;
+use cue_page::relay::{Relay, relay_value};
+use cue_page::replying::{Told, told_text, trouble_text};
+use cue_page::request::{Door, Refusal, Wish, judge, read_head};
 use cue_relay::status::read;
 use std::alloc::{AllocError, Global};
 
@@ -170,11 +170,11 @@ fn board_of_an_empty_show_is_empty(rt: HostRuntime) {
     assert!(rt; text.as_str() == wanted);
 }
 
-/// What a relay tells of two devices.
+/// What a relay reports of two devices.
 const STATUS: &str = "relay 1 1000000\npassed 7 lost 0 dropped 2\n\
 device 3 10.0.7.31:9001 heard 997000\ndevice 4 10.0.7.32:7000 never silent\nend\n";
 
-/// The times at which it is asked, and what is told then.
+/// The times at which it is asked, and what is reported then.
 const TOLD: [(u64, &str); 2] = [
     (
         1_000_000,
@@ -187,7 +187,7 @@ const TOLD: [(u64, &str); 2] = [
     ),
 ];
 
-// What is told of a relay at a time; none where its status is none.
+// What is reported of a relay at a time; none where its status is none.
 fn told_at(alloc: Global, now: u64) -> Result<Option<String>, AllocError> {
     let Some(status) = read(alloc, STATUS)? else {
         return Ok(None);

@@ -1,6 +1,6 @@
 //! A relay over a list in memory, and the text of a status.
-use crate::status::{Status, heard_words, read, written};
-use crate::{
+use cue_relay::status::{Status, heard_words, read, written};
+use cue_relay::{
     Address, Contact, Counts, MemAnswer, MemSource, MemWire, Opening, Relay, Route, Side,
     Unwatched, run,
 };

@@ -1,6 +1,6 @@
 //! A plan as the documents write it, and an evening of one player.
-use crate::{Chance, Deed, Fate, Line, Manner, Plan, Player, read_devices, read_plan};
 use cue_device::{Answer, MAX_ANSWER, Order};
+use cue_rehearsal::{Chance, Deed, Fate, Line, Manner, Plan, Player, read_devices, read_plan};
 use cue_show::{CueNo, DeviceNo};
 use std::alloc::Global;
 use std::process::Abort;

@@ -1,5 +1,0 @@
-//! A small show file, read, checked and written; replies; the board.
-mod boards;
-mod files;
-mod messages;
-mod replies;

@@ -1,0 +1,18 @@
+//! Tests of the desk over public calls: show files, what is asked and replied, the board, the page, rehearsed devices
+//! and the relay.
+#![tactic(auto)]
+
+#[cfg(test)]
+mod boards;
+#[cfg(test)]
+mod files;
+#[cfg(test)]
+mod messages;
+#[cfg(test)]
+mod pages;
+#[cfg(test)]
+mod rehearsals;
+#[cfg(test)]
+mod relays;
+#[cfg(test)]
+mod replies;

@@ -34,7 +34,7 @@ pub only-known : (keys : List (List ℕ)) (es : List (String Global × Value))
 only-known keys [] = refl
 only-known keys (e ∷ es) = rw (only-known keys es) refl
 
--- where no key is left, what was found tells of all
+-- where no key is left, what was found speaks of all
 pub all-known : (keys : List (List ℕ)) (es : List (String Global × Value)) (left : List (String Global))
     (before now : Bool) → (before && are_known keys (keys_of es)) ≡ (now && are_known keys left) → left ≡ []
     → now ≡ (before && has_only keys (members_view es))

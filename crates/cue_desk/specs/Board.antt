@@ -1,6 +1,6 @@
 -- The board: what each line says of the state, from its front on. Names and notes of the show file follow after that.
-use Rattle.std.specs.Prelude.{◌≡◌, ℕ, suc, Bool, true, false, ◌||◌, ◌==◌, nat_le, length, replicate, ◌-◌, ◌/◌, ◌%◌, List, [], ◌∷◌, ◌++◌, map, take, drop, codes}
-use Rattle.std.specs.Prelude.{string_bytes}
+use Rattle.std.specs.Prelude.{◌≡◌, ℕ, suc, Bool, true, false, ◌||◌, ◌==◌, nat_le, length, replicate, ◌-◌, ◌/◌, ◌%◌}
+use Rattle.std.specs.Prelude.{List, [], ◌∷◌, ◌++◌, map, take, drop, codes, string_bytes}
 use Rattle.std.specs.Prelude.{Option, None, Some, if◌then◌else◌}
 use Rattle.std.specs.Fmt.{decimal}
 use Rattle.std.specs.List.{flat_map, list_any}
@@ -183,7 +183,8 @@ room_after room (a ∷ live) = room_after (room - 1 - length a.answers) live
 
 -- how many cues have room beside these attempts and the lines that are always there
 abbrev pub cues_within : ℕ → List Attempt → ℕ
-cues_within room live = if nat_le SHOWN (room_after (room - ALWAYS) live) then SHOWN else room_after (room - ALWAYS) live
+cues_within room live =
+    if nat_le SHOWN (room_after (room - ALWAYS) live) then SHOWN else room_after (room - ALWAYS) live
 
 -- the same where there are so many lines: the stack gives way to the attempts, and then their devices share lines
 abbrev pub board_within : ℕ → ShowState → ℕ → List (List ℕ)

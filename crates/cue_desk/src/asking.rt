@@ -22,7 +22,7 @@ use std::alloc::{AllocError, Global};
 /// What the desk asks of the controller.
 #[derive(Clone, Copy)]
 pub enum Asked<'a> {
-    /// To be told the state.
+    /// To have the status replied.
     Status,
     /// To put the device with its port, 1 to 65,535, into the table.
     AddDevice(DeviceNo, u16),

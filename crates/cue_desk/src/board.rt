@@ -109,8 +109,8 @@ fn lines_within(
 }
 
 /// The same where there are so many lines: the stack has fewer cues where the live attempts need the room. So a cue of
-/// 16 devices has its place in 22 lines, with the cue that is next and the last attempt. Where no cue has room any more,
-/// the devices of an attempt that have answered the same share a line, by their numbers.
+/// 16 devices has its place in 22 lines, with the cue that is next and the last attempt. Where no cue has room any
+/// more, the devices of an attempt that have answered the same share a line, by their numbers.
 pub fn board_lines_within(
     alloc: Global,
     state: &State,

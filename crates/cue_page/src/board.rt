@@ -167,7 +167,7 @@ fn ended_value(alloc: Global, ended: Option<Ended>) -> Result<Value, AllocError>
 }
 
 /// The board as JSON: the next cue, the stack around the place, each live attempt with its devices, how the last one
-/// ended, what a relay tells, and how old all that is.
+/// ended, what a relay reports, and how old all that is.
 pub fn board_text(alloc: Global, state: &State, around: &Around<'_>) -> Result<String, AllocError> {
     let (show, file) = (state.show(), around.file);
     let next = next_value(alloc, state, file)?;

@@ -9,7 +9,7 @@ use cue_relay::status::{STALE, Seen, Status, heard_words};
 use serde_json::{Value, json};
 use std::alloc::{AllocError, Global};
 
-/// What the page is told of a relay.
+/// What the page shows of a relay.
 #[derive(Drop)]
 pub enum Relay {
     /// None is watched.
@@ -48,7 +48,7 @@ fn words_value(alloc: Global, words: &str) -> Result<Value, AllocError> {
     json!(in alloc; {"words": words, "devices": []})
 }
 
-/// What is told of a relay at this time, in milliseconds since 1970: its devices, or why it tells of none.
+/// What is reported of a relay at this time, in milliseconds since 1970: its devices, or why there are none.
 pub fn relay_value(
     alloc: Global,
     relay: &Relay,

@@ -64,7 +64,7 @@ told_at_end fate order = if breaks_at fate order then Cannot (ordered_for order)
 abbrev pub player_of : Device → Manner → Player
 player_of d m = record { device = d; manner = m; work = None }
 
--- after the end of an order the machine is at rest, and the device was told
+-- after the end of an order the machine is at rest, and the device knows what became of it
 abbrev pub after_end : Order → Player → Player
 after_end order p = record p { device = after_told (told_at_end p.manner.fate order) p.device; work = None }
 

@@ -2,7 +2,7 @@
 ghost use Rattle.std.specs.Prelude.{◌≡◌, ◌<◌};
 ghost use Rattle.cue_osc.specs.declared.limits.TheConstants.{MAX_LEN};
 ghost use Rattle.cue_relay.specs.Laws.{NothingOfStrangers, NothingToStrangers, CutIsTheSame};
-ghost use Rattle.cue_relay.specs.declared.relaying.TheConstants.{BUFFER};
+ghost use Rattle.cue_relay.specs.declared.relaying.TheConstants.{MAX_RECEIVED};
 
 /// What is handed to the controller came from the device's own address, at the device's own local port, with the same
 /// bytes: whatever else came, nothing of it is ever handed to the controller.
@@ -18,11 +18,11 @@ pub fn nothing_to_strangers()
 
 /// A datagram that is cut to the buffer was too long already: it is dropped, as it would be whole.
 pub fn cut_is_the_same()
-    ensures { CutIsTheSame BUFFER }
+    ensures { CutIsTheSame MAX_RECEIVED }
 {}
 
-/// The buffer has 4,100 bytes: more than the longest datagram, so that a longer one is seen to be too long.
+/// At most 4,100 bytes of a datagram are read: more than the longest one has, so that a longer one is seen to be so.
 pub fn limits()
-    ensures buffer { BUFFER ≡ 4100 }
-    ensures longer { MAX_LEN < BUFFER }
+    ensures buffer { MAX_RECEIVED ≡ 4100 }
+    ensures longer { MAX_LEN < MAX_RECEIVED }
 {}

@@ -8,8 +8,8 @@ use crate::source::{Source, Turn};
 use crate::wire::Wire;
 use std::alloc::Global;
 
-/// The buffer is longer than the longest datagram, so that one that is too long is seen to be so.
-const BUFFER: usize = 4_100;
+/// The most bytes of a datagram that are read. The longest datagram has fewer, so one that is too long is seen to be so.
+const MAX_RECEIVED: usize = 4_100;
 
 /// A relay: where the controller is, and the ways to its devices.
 #[derive(Clone, Copy)]
@@ -190,10 +190,10 @@ pub fn run<S: Source, W: Wire, V: Watch>(
 ) -> Ended
     // What was taken is what the source gave first, the wire was handed what the definition makes of it, all of it is
     // counted, and it ended for its reason.
-    ensures ran { Ran relay.entry BUFFER turns result (S.left source.old) (S.left source.new)
+    ensures ran { Ran relay.entry MAX_RECEIVED turns result (S.left source.old) (S.left source.new)
         (W.told wire.old) (W.told wire.new) }
 {
-    match vec![in alloc; 0u8; BUFFER] {
+    match vec![in alloc; 0u8; MAX_RECEIVED] {
         Ok(mut buffer) => relay_turns(relay, source, wire, watch, &mut buffer, turns),
         Err(_) => Ended {
             turns: 0,

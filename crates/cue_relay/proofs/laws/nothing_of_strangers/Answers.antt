@@ -1,5 +1,3 @@
-use Rattle.std.proofs.Common.{lit<}
-use Rattle.cue_relay.specs.declared.relaying.TheConstants.{BUFFER}
 use Rattle.cue_relay.proofs.WayLemmas.{nothing-of-strangers}
 use Rattle.cue_relay.proofs.laws.nothing_of_strangers.Goals as goal
 

@@ -1,5 +1,5 @@
 use Rattle.std.proofs.Common.{refl, arith}
-use Rattle.cue_relay.specs.declared.relaying.TheConstants.{BUFFER}
+use Rattle.cue_relay.specs.declared.relaying.TheConstants.{MAX_RECEIVED}
 use Rattle.cue_relay.proofs.RunLemmas.{begun}
 use Rattle.cue_relay.proofs.relaying.run.Goals as goal
 
@@ -9,7 +9,7 @@ returns-in-Err g c =
     record {
       ran = record {
         mid = left;
-        taken = begun c.args.relay BUFFER left (g.W.Wire.told c.args.wire.now);
+        taken = begun c.args.relay MAX_RECEIVED left (g.W.Wire.told c.args.wire.now);
         why = (refl, refl);
         at_most = omega arith;
       };

@@ -4,7 +4,7 @@ use Rattle.cue_desk.specs.Reading.{is_clean}
 use Rattle.cue_desk.proofs.ReadingLemmas.{are_known}
 use Rattle.cue_desk.proofs.show_file.reading.keys.note_unknown.Given as goal
 
--- what was found, and the keys that are left, tell of all keys
+-- what was found, and the keys that are left, speak of all keys
 abbrev pub invariant-loop-key : goal.invariant-loop-key
 invariant-loop-key l =
     (is_clean l.fn.findings && are_known (map (λ k. k.now) l.known) (keys_of l.table.entries))

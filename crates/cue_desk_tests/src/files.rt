@@ -22,6 +22,31 @@ fn good_file_is_written_as_it_was_read(rt: HostRuntime) {
     assert!(rt; text.as_str() == GOOD, "{}", text.as_str());
 }
 
+/// What an editor may put before a text, and at the end of each line.
+const EDITORS: [(&str, &str); 3] = [("\u{feff}", "\n"), ("", "\r\n"), ("\u{feff}", "\r\n")];
+
+// A text as such an editor writes it.
+fn edited(alloc: Global, text: &str, front: &str, end: &str) -> Result<String, AllocError> {
+    let mut edited = String::from_str(alloc, front)?;
+    for line in text.lines() {
+        edited.push_str(line)?;
+        edited.push_str(end)?;
+    }
+    Ok(edited)
+}
+
+#[test]
+fn a_file_of_any_editor_is_the_same_show(rt: HostRuntime) {
+    let alloc = rt.alloc();
+    for (front, end) in EDITORS {
+        let text = edited(alloc, GOOD, front, end).expect(&rt, "memory");
+        let draft = read(alloc, text.as_str()).expect(&rt, "memory");
+        assert!(rt; draft.findings.is_empty());
+        let again = written(alloc, &draft.file).expect(&rt, "memory");
+        assert!(rt; again.as_str() == GOOD, "{}", again.as_str());
+    }
+}
+
 #[test]
 fn show_is_written_without_names(rt: HostRuntime) {
     let alloc = rt.alloc();
@@ -51,6 +76,17 @@ fn mistake_is_told_with_its_line(rt: HostRuntime) {
     let wanted = "3: the 1. device: no device has that number: take one of 0 to 111";
     assert!(rt; said.as_str() == wanted, "{}", said.as_str());
 }
+
+/// A file that lacks keys, and has values of another kind.
+const LACKS: &str = "[[device]]\nport = \"9001\"\n\n[[cue]]\nnumber = 5\n";
+
+/// What is wrong with it.
+const LACKING: [&str; 4] = [
+    "1: the 1. device: a line as `number = 3` is missing, or its value is of another kind",
+    "1: the 1. device: a line as `port = 9001` is missing, or its value is of another kind",
+    "4: the 1. cue: a line as `number = \"12.5\"` is missing, or its value is of another kind",
+    "4: the 1. cue: a line as `parts = [{ device = 3, hex = \"0a0b\" }]` is missing, or its value is of another kind",
+];
 
 /// A file with several slips in one entry.
 const SLIPS: &str = "\
@@ -106,4 +142,16 @@ fn all_slips_of_an_entry_are_said(rt: HostRuntime) {
     assert!(rt; are_said(alloc, &draft.findings, &READ).expect(&rt, "memory"));
     let trial = check(alloc, &draft.file).expect(&rt, "memory");
     assert!(rt; are_said(alloc, &trial.findings, &REFUSED).expect(&rt, "memory"));
+}
+
+#[test]
+fn mistakes_have_their_lines_with_any_editor(rt: HostRuntime) {
+    let alloc = rt.alloc();
+    let draft = read(alloc, LACKS).expect(&rt, "memory");
+    assert!(rt; are_said(alloc, &draft.findings, &LACKING).expect(&rt, "memory"));
+    for (front, end) in EDITORS {
+        let text = edited(alloc, LACKS, front, end).expect(&rt, "memory");
+        let draft = read(alloc, text.as_str()).expect(&rt, "memory");
+        assert!(rt; are_said(alloc, &draft.findings, &LACKING).expect(&rt, "memory"));
+    }
 }

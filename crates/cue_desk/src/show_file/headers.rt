@@ -8,9 +8,13 @@ pub(crate) struct Headers {
     pub(crate) cues: Vec<usize>,
 }
 
+/// What an editor may put before a text, to say how it is encoded. TOML passes it over.
+const MARK: char = '\u{feff}';
+
 /// The headers of a text, found in one pass.
 pub(crate) fn headers_of(alloc: Global, text: &str) -> Result<Headers, AllocError> {
     let (mut devices, mut cues) = (Vec::new(alloc), Vec::new(alloc));
+    let text = text.strip_prefix(MARK).unwrap_or(text);
     for (index, line) in text.lines().enumerate() {
         let line = line.trim_start();
         if line.starts_with("[[device]]") {

@@ -82,10 +82,10 @@ const LACKS: &str = "[[device]]\nport = \"9001\"\n\n[[cue]]\nnumber = 5\n";
 
 /// What is wrong with it.
 const LACKING: [&str; 4] = [
-    "1: the 1. device: a line as `number = 3` is missing, or its value is of another kind",
-    "1: the 1. device: a line as `port = 9001` is missing, or its value is of another kind",
-    "4: the 1. cue: a line as `number = \"12.5\"` is missing, or its value is of another kind",
-    "4: the 1. cue: a line as `parts = [{ device = 3, hex = \"0a0b\" }]` is missing, or its value is of another kind",
+    "1: the 1. device: a line as `number = 3` is missing",
+    "1: the 1. device: a value is of another kind: write it as `port = 9001`",
+    "4: the 1. cue: a value is of another kind: write it as `number = \"12.5\"`",
+    "4: the 1. cue: a line as `parts = [{ device = 3, hex = \"0a0b\" }]` is missing",
 ];
 
 /// A file with several slips in one entry.
@@ -101,17 +101,17 @@ const SLIPS: &str = "\
 /// What is wrong with each entry by itself.
 const READ: [&str; 14] = [
     "1: the 1. device: no device has that number: take one of 0 to 111",
-    "1: the 1. device: a line as `name = \"Winch 3\"` is missing, or its value is of another kind",
+    "1: the 1. device: a value is of another kind: write it as `name = \"Winch 3\"`",
     "1: the 1. device: that is no port: take one of 1 to 65535",
     "10: the 1. cue: that is no cue number: write digits with single points, as \"12.5\", 16 characters at most",
     "10: the 1. cue: `names` is no key that stands here: look for a slip",
-    "10: the 1. cue: a line as `optional = true` is missing, or its value is of another kind",
+    "10: the 1. cue: a value is of another kind: write it as `optional = true`",
     "10: the 1. cue: hex is no pairs of hexadecimal digits: write them as \"0a0b\"",
     "10: the 1. cue: two parts are for device 3: take one of them out",
     "10: the 1. cue: a part is for device 4, which the file does not have: add a [[device]] with that number",
-    "19: cue 2: a line as `note = \"wait for the lamp\"` is missing, or its value is of another kind",
+    "19: cue 2: a value is of another kind: write it as `note = \"wait for the lamp\"`",
     "26: cue 2: no device has that number: take one of 0 to 111",
-    "26: cue 2: a line as `optional = true` is missing, or its value is of another kind",
+    "26: cue 2: a value is of another kind: write it as `optional = true`",
     "26: cue 2: the part has hex and text: take one of them out",
     "26: cue 2: a part is for device 6, which the file does not have: add a [[device]] with that number",
 ];

@@ -76,8 +76,10 @@ pub enum Mistake {
     NoTables,
     /// This key is none that a show file has here.
     UnknownKey(String),
-    /// A key has to be there, and is not, or is of another kind.
-    Wanted(Key),
+    /// A key that has to be there is not.
+    Missing(Key),
+    /// The value of a key is of another kind.
+    OtherKind(Key),
     /// A port is 1 to 65,535.
     BadPort,
     /// The address of a device is four numbers of 0 to 255 and a port, neither all of them 0.
@@ -151,12 +153,8 @@ fn write_of_device<W: fmt::Write>(
 // Writes a mistake by which a number is none, or something is missing.
 fn write_of_key<W: fmt::Write>(f: &mut fmt::Formatter<W>, mistake: &Mistake) -> fmt::Result {
     match mistake {
-        Mistake::Wanted(key) => {
-            write!(
-                f,
-                "a line as `{key}` is missing, or its value is of another kind"
-            )
-        }
+        Mistake::Missing(key) => write!(f, "a line as `{key}` is missing"),
+        Mistake::OtherKind(key) => { write!(f, "a value is of another kind: write it as `{key}`") }
         Mistake::BadDevice => write!(
             f,
             "no device has that number: take one of 0 to {MAX_DEVICE_NUMBER}"

@@ -21,7 +21,7 @@ fn address_in(table: &Table) -> Result<Option<Address>, Mistake>
             Some(address) => Ok(Some(address)),
             None => Err(Mistake::BadAddress),
         },
-        Some(_) => Err(Mistake::Wanted(Key::Address)),
+        Some(_) => Err(Mistake::OtherKind(Key::Address)),
     }
 }
 
@@ -45,7 +45,7 @@ fn listen_in(table: &Table) -> Result<Option<u32>, Mistake>
             Some(host) => Ok(Some(host)),
             None => Err(Mistake::BadListen),
         },
-        Some(_) => Err(Mistake::Wanted(Key::Listen)),
+        Some(_) => Err(Mistake::OtherKind(Key::Listen)),
     }
 }
 

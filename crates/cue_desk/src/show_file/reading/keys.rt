@@ -64,6 +64,14 @@ pub(in super::super) fn value_at<'a>(table: &'a Table, key: &str) -> Option<&'a 
     table.get(key)
 }
 
+// What is wrong with a key that has to be there, and has no value of its kind.
+pub(super) fn wanted(table: &Table, name: &str, key: Key) -> Mistake {
+    match value_at(table, name) {
+        Some(_) => Mistake::OtherKind(key),
+        None => Mistake::Missing(key),
+    }
+}
+
 // The number at a key.
 fn number_at(table: &Table, key: &str) -> Option<i64>
     ensures { result ≡ option_and_then (λ d. as_integer d) (get_member key.now (table_view table.now)) }
@@ -98,7 +106,7 @@ pub(super) fn text_in(
         None => Ok(None),
         Some(Value::String(text)) => Ok(Some(text.clone()?)),
         Some(_) => {
-            findings.note(Mistake::Wanted(key))?;
+            findings.note(Mistake::OtherKind(key))?;
             Ok(None)
         }
     }
@@ -130,7 +138,7 @@ pub(super) fn port_in(table: &Table) -> Result<u16, Mistake>
 {
     match number_at(table, "port") {
         Some(number) => port_of(number).ok_or(Mistake::BadPort),
-        None => Err(Mistake::Wanted(Key::Port)),
+        None => Err(wanted(table, "port", Key::Port)),
     }
 }
 
@@ -140,7 +148,7 @@ pub(super) fn device_in(table: &Table, name: &str, key: Key) -> Result<DeviceNo,
 {
     match number_at(table, name) {
         Some(number) => device_of(number).ok_or(Mistake::BadDevice),
-        None => Err(Mistake::Wanted(key)),
+        None => Err(wanted(table, name, key)),
     }
 }
 
@@ -150,7 +158,7 @@ pub(super) fn cue_in(table: &Table) -> Result<CueNo, Mistake>
 {
     match text_at(table, "number") {
         Some(text) => CueNo::read(text.as_bytes()).ok_or(Mistake::BadCue),
-        None => Err(Mistake::Wanted(Key::CueNumber)),
+        None => Err(wanted(table, "number", Key::CueNumber)),
     }
 }
 
@@ -161,6 +169,6 @@ pub(super) fn optional_in(table: &Table) -> Result<bool, Mistake>
     match value_at(table, "optional") {
         None => Ok(false),
         Some(Value::Boolean(optional)) => Ok(*optional),
-        Some(_) => Err(Mistake::Wanted(Key::Optional)),
+        Some(_) => Err(Mistake::OtherKind(Key::Optional)),
     }
 }

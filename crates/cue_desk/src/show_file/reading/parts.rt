@@ -9,7 +9,7 @@ ghost use Rattle.cue_desk.specs.Said.{bytes_by, device_at, each_said, list_said,
 ghost use Rattle.cue_desk.specs.Said.{table_said};
 
 use super::super::mistake::{Findings, Key, Mistake};
-use super::keys::{device_in, note_unknown, optional_in, value_at};
+use super::keys::{device_in, note_unknown, optional_in, value_at, wanted};
 use cue_show::{Bytes, DeviceNo, Part, Parts};
 use std::alloc::{AllocError, Global};
 use toml::{Table, Value};
@@ -19,7 +19,7 @@ fn hex_of(alloc: Global, value: &Value) -> Result<Result<Vec<u8>, Mistake>, Allo
     ensures { IfOk result (λ r. option_map (λ b. b.items) (result_ok r) ≡ bytes_by (Some (view value.now)) None) }
 {
     let Value::String(text) = value else {
-        return Ok(Err(Mistake::Wanted(Key::Hex)));
+        return Ok(Err(Mistake::OtherKind(Key::Hex)));
     };
     match hex::decode(alloc, text.as_bytes()) {
         Ok(bytes) => Ok(Ok(bytes)),
@@ -34,7 +34,7 @@ fn text_of(alloc: Global, value: &Value) -> Result<Result<Vec<u8>, Mistake>, All
 {
     match value {
         Value::String(text) => Ok(Ok(Vec::from_slice(alloc, text.as_bytes())?)),
-        _ => Ok(Err(Mistake::Wanted(Key::Text))),
+        _ => Ok(Err(Mistake::OtherKind(Key::Text))),
     }
 }
 
@@ -137,7 +137,7 @@ fn read_part(
         ≡ if_clean findings.old (then_one parts.old (table_said part_said (view value.now)))) }
 {
     let Value::Table(table) = value else {
-        return findings.note(Mistake::Wanted(Key::Parts));
+        return findings.note(Mistake::OtherKind(Key::Parts));
     };
     note_unknown(
         alloc,
@@ -175,7 +175,7 @@ pub(super) fn read_parts(
     match value_at(table, "parts") {
         Some(Value::Array(values)) => read_each(alloc, findings, values),
         _ => {
-            findings.note(Mistake::Wanted(Key::Parts))?;
+            findings.note(wanted(table, "parts", Key::Parts))?;
             Ok(Parts::new(alloc))
         }
     }

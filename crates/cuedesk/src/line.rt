@@ -37,7 +37,7 @@ fn port<'a>(alloc: Global) -> Arg<'a> {
         .value_parser(value_parser!(u16))
 }
 
-// The file in which a relay tells of itself.
+// The file in which a relay reports.
 fn relay_status<'a>(alloc: Global) -> Arg<'a> {
     Arg::new(alloc, "relay")
         .help("What `cuedesk relay --status` writes: when each device was heard")

@@ -11,7 +11,7 @@ pub struct Web {
     pub dir: String,
     /// The show file, for names and notes.
     pub file: Option<String>,
-    /// What a relay tells of itself.
+    /// The file in which a relay reports.
     pub relay: Option<String>,
     /// The port of 127.0.0.1 at which the page is.
     pub http: u16,

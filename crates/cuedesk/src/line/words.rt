@@ -23,7 +23,7 @@ pub struct Watched {
     pub file: Option<String>,
     /// The log of `serve`.
     pub log: Option<String>,
-    /// What a relay tells of itself.
+    /// The file in which a relay reports.
     pub relay: Option<String>,
 }
 

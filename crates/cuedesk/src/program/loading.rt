@@ -24,7 +24,7 @@ use std::net::Net;
 pub struct How {
     /// What is there and differs is replaced, and the stack gets the order of the file.
     pub replaces: bool,
-    /// Where the loading is, is told on the way.
+    /// Whether it says on the way how far it has come.
     pub tells: bool,
 }
 

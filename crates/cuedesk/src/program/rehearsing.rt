@@ -6,6 +6,7 @@ use super::files::read_draft;
 use crate::line::rehearsing::{Rehearsal, with_flags};
 use cue_desk::show_file::{DeviceEntry, ShowFile};
 use cue_device::{Answer, MAX_ANSWER, Order};
+use cue_osc::MAX_LEN;
 use cue_rehearsal::{Chance, Deed, Line, Plan, Player, read_plan};
 use cue_show::DeviceNo;
 use std::fs::{File, Files};
@@ -21,11 +22,8 @@ const PAUSE: u64 = 4;
 /// How many rounds there are from one tick of the devices to the next: some four ticks in a second.
 const ROUNDS: u64 = 60;
 
-/// How many datagrams of one device are heard in a round.
-const MOST_HEARD: u32 = 16;
-
-/// The longest datagram.
-const LONGEST: usize = 4096;
+/// The most datagrams of one device that are heard in a round.
+const MAX_HEARD: u32 = 16;
 
 /// A rehearsed device at its socket.
 #[derive(Drop)]
@@ -47,7 +45,7 @@ struct Hall {
 
 impl Seat {
     // The next datagram: its length. None where none waits.
-    fn next(&mut self, buffer: &mut [u8; LONGEST]) -> Option<usize>
+    fn next(&mut self, buffer: &mut [u8; MAX_LEN]) -> Option<usize>
         ensures { IfSome result (λ n. n ≤ length buffer.new) }
     {
         match self.socket.recv_from(buffer) {
@@ -109,8 +107,8 @@ impl Seat {
         hall: &mut Hall,
         writer: &mut W,
     ) -> Result<(), Ending> {
-        let mut buffer = [0; LONGEST];
-        for _ in 0..MOST_HEARD {
+        let mut buffer = [0; MAX_LEN];
+        for _ in 0..MAX_HEARD {
             let Some(n) = self.next(&mut buffer) else {
                 return Ok(());
             };

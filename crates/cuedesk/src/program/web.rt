@@ -21,8 +21,8 @@ use std::random::RandomSource;
 use std::time::{Clock, Duration, Instant};
 use visitor::Visitor;
 
-/// How many connections are open at once; the next ones wait until one is closed.
-const MOST_VISITORS: usize = 32;
+/// The most connections that are open at once; the next ones wait until one is closed.
+const MAX_VISITORS: usize = 32;
 
 /// How long a round waits at most, in milliseconds.
 const PAUSE: u64 = 100;
@@ -61,8 +61,8 @@ impl Hall {
         Ok(Hall {
             listener,
             poll,
-            events: Events::with_capacity(rt.alloc(), MOST_VISITORS)?,
-            visitors: Vec::with_capacity(rt.alloc(), MOST_VISITORS)?,
+            events: Events::with_capacity(rt.alloc(), MAX_VISITORS)?,
+            visitors: Vec::with_capacity(rt.alloc(), MAX_VISITORS)?,
             start: Instant::now(rt)?,
         })
     }
@@ -75,7 +75,7 @@ impl Hall {
 
     // Takes the connections that wait, as many as there is room for.
     fn admit(&mut self, alloc: Global, now: u64) -> io::Result<()> {
-        for _ in self.visitors.len()..MOST_VISITORS {
+        for _ in self.visitors.len()..MAX_VISITORS {
             let Ok((mut stream, _)) = self.listener.accept() else {
                 return Ok(());
             };

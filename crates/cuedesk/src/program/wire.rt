@@ -8,6 +8,7 @@ use super::answered::{Answered, push};
 use super::ending::{Ending, say};
 use cue_desk::asking::{Asked, address, datagram};
 use cue_desk::replying::{Replied, read_reply};
+use cue_osc::MAX_LEN;
 use std::alloc::{AllocError, Global};
 use std::io::{Eprint, ErrorKind};
 use std::net::{IpAddr, Ipv4Addr, Net, SocketAddr, UdpSocket};
@@ -19,11 +20,8 @@ const WAIT: u64 = 250;
 /// How many bytes of an address a reply shows.
 const SHOWN: usize = 64;
 
-/// How many datagrams are heard for one message, before nobody has replied.
-const MOST_HEARD: u32 = 1_000;
-
-/// The longest datagram.
-const LONGEST: usize = 4096;
+/// The most datagrams that are heard for one message: after these nobody has replied.
+const MAX_HEARD: u32 = 1_000;
 
 /// A port of this machine.
 fn local(port: u16) -> SocketAddr
@@ -113,7 +111,7 @@ impl Wire {
 
     // What the next datagram says to who asked at this address.
     fn hear(&self, alloc: Global, asked: &[u8]) -> Result<Heard, Ending> {
-        let mut buffer = [0; LONGEST];
+        let mut buffer = [0; MAX_LEN];
         match self.socket.recv_from(&mut buffer) {
             Ok((n, peer)) => {
                 if peer.port() == self.port {
@@ -207,7 +205,7 @@ impl Wire {
         silences: u32,
     ) -> Result<Heard, Ending> {
         let mut silent = 0u32;
-        for _ in 0..MOST_HEARD {
+        for _ in 0..MAX_HEARD {
             let heard = self.hear(alloc, asked)?;
             if is_wanted(heard, wants_status) {
                 return Ok(heard);

@@ -6,19 +6,19 @@ use std::alloc::{AllocError, Global};
 use std::fs::{self, File, Files};
 use std::io::{self, Read, Seek, SeekFrom};
 
-/// How many lines of the log are shown.
-const LOG_LINES: usize = 3;
+/// The most lines of the log that are shown.
+const MAX_LOG_LINES: usize = 3;
 
-/// How many bytes of the log are read, from its end.
-const LOG_BYTES: u64 = 4_096;
+/// The most bytes of the log that are read, from its end.
+const MAX_LOG_BYTES: u64 = 4_096;
 
 // The end of a file, as text.
 fn end_of<R: Files<File = File> + AllocGlobal>(rt: &R, path: &str) -> io::Result<String> {
     let mut file = File::open(rt, path)?;
     let len = file.metadata()?.len();
-    file.seek(SeekFrom::Start(len.saturating_sub(LOG_BYTES)))?;
+    file.seek(SeekFrom::Start(len.saturating_sub(MAX_LOG_BYTES)))?;
     let mut bytes = Vec::new(rt.alloc());
-    file.take(LOG_BYTES).read_to_end(&mut bytes)?;
+    file.take(MAX_LOG_BYTES).read_to_end(&mut bytes)?;
     Ok(String::from_utf8_lossy(rt.alloc(), &bytes)?)
 }
 
@@ -36,12 +36,12 @@ pub fn read_log<R: Files<File = File> + AllocGlobal>(
     path: &str,
 ) -> Result<Vec<String>, AllocError> {
     match end_of(rt, path) {
-        Ok(text) => log_lines(rt.alloc(), text.as_str(), LOG_LINES),
+        Ok(text) => log_lines(rt.alloc(), text.as_str(), MAX_LOG_LINES),
         Err(why) => why_not(rt.alloc(), path, &why),
     }
 }
 
-/// What the relay that writes this file tells of itself; none where the file is no status.
+/// What the relay that writes this file reports; none where the file is no status.
 pub fn read_status<R: Files<File = File> + AllocGlobal>(
     rt: &R,
     path: &str,

@@ -13,8 +13,8 @@ use std::alloc::Global;
 use std::io::Eprint;
 use std::net::Net;
 
-/// How many times a message is sent at most.
-const SENDINGS: u32 = 4;
+/// The most times that a message is sent.
+const MAX_SENDINGS: u32 = 4;
 
 /// Asks one thing after the other.
 #[derive(Drop)]
@@ -45,7 +45,7 @@ impl<'a, R: Net + Eprint + AllocGlobal> Asker<'a, R> {
     // Sends the message, and again where no reply came. Each sending after the first has a socket of its own, so that a
     // late reply to an earlier one is not taken for the reply to another message.
     fn hear(&mut self, asked: &Asked<'_>) -> Result<Option<Replied>, Ending> {
-        for _ in 0..SENDINGS {
+        for _ in 0..MAX_SENDINGS {
             let heard = self.wire.ask(self.rt.alloc(), asked, Sendings::OfSome)?;
             if let Some(replied) = reply_in(heard) {
                 return Ok(Some(replied));

@@ -86,7 +86,7 @@ impl Counts {
         }
     }
 
-    /// The line that says so. What was replaced is told where something may be.
+    /// The line that says so. What was replaced is said where something may be.
     pub fn text(self, alloc: Global, what: &str, replaces: bool) -> Result<String, AllocError> {
         let Counts {
             added,

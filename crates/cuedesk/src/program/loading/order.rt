@@ -1,4 +1,4 @@
-//! What the replies to a show file tell of the order of the stack: a cue that is added is the last one.
+//! What the replies to a show file say of the order of the stack: a cue that is added is the last one.
 ghost use Rattle.std.specs.Prelude.{◌≡◌};
 ghost use Rattle.cuedesk.specs.Loading.{comes_late, refusal_of_addition, some_was_there, was_there};
 

@@ -3,7 +3,7 @@ use super::super::ending::{Ending, print};
 use std::alloc::{AllocError, Global};
 use std::io::Write;
 
-/// After so many steps it is told again.
+/// After so many steps the line is drawn again.
 const STEPS: usize = 16;
 
 /// How many of all steps are done.
@@ -17,7 +17,7 @@ pub struct Progress<'a, W: Write> {
 }
 
 impl<'a, W: Write> Progress<'a, W> {
-    /// None of so many; it tells nothing where it is not to.
+    /// None of so many; it says nothing where it is not to.
     pub fn new(alloc: Global, tells: bool, all: usize, writer: &'a mut W) -> Progress<'a, W> {
         Progress {
             alloc,

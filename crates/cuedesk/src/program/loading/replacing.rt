@@ -118,7 +118,7 @@ impl<'a, R: Net + Eprint + AllocGlobal, W: Write> Loading<'a, R, W> {
 
     // Adds the cues of the file, in the place of those that differ, and counts what became of them. Nobody can see from
     // here in which order those stand that were there before: so if one was, all are put at the end of the stack, one
-    // after the other. Those that were removed before are told from new ones by what was noted then.
+    // after the other. Those that were removed before differ from new ones by what was noted then.
     pub(super) fn put_cues(
         &mut self,
         cues: &[CueEntry],

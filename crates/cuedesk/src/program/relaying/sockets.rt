@@ -20,8 +20,8 @@ const TICK: u64 = 250;
 /// How many datagrams are read before it is looked again which sockets have some.
 const BATCH: u32 = 64;
 
-/// How often one call of the source looks at most, before it answers a tick.
-const MOST_TRIES: u32 = 65_536;
+/// The most tries of one call of the source, before it answers a tick.
+const MAX_TRIES: u32 = 65_536;
 
 /// The addresses of the two sides: the controller's whole one, and this machine's own on the stage's network.
 #[derive(Clone, Copy)]
@@ -106,7 +106,7 @@ fn now_of<C: Clock>(clock: &C) -> io::Result<u64> {
     }
 }
 
-/// The datagrams of the sockets, and a tick four times a second. It tells nothing.
+/// The datagrams of the sockets, and a tick four times a second. It reports nothing of what it gave.
 #[derive(Drop)]
 pub struct NetSource<'a, C: Clock> {
     clock: &'a C,
@@ -119,7 +119,7 @@ pub struct NetSource<'a, C: Clock> {
     left: u32,
 }
 
-// Has each socket tell when it has something to read.
+// Has each socket say when it has something to read.
 fn register(poll: &Poll, sockets: &mut [UdpSocket]) -> io::Result<()> {
     for (place, socket) in sockets.iter_mut().enumerate() {
         poll.registry()
@@ -246,7 +246,7 @@ impl<'a, C: Clock> Source for NetSource<'a, C> {
     ghost left = { λ _. None };
 
     fn next(&mut self, buffer: &mut [u8]) -> Result<Turn, SourceFault> {
-        for _ in 0..MOST_TRIES {
+        for _ in 0..MAX_TRIES {
             match self.try_next(buffer) {
                 Ok(Try::Brings(turn)) => return Ok(turn),
                 Ok(Try::Passes) => {}
@@ -259,7 +259,7 @@ impl<'a, C: Clock> Source for NetSource<'a, C> {
     }
 }
 
-/// Sends by the sockets. It tells nothing.
+/// Sends by the sockets. It reports nothing of what it sent.
 #[derive(Drop)]
 pub struct NetWire<'a> {
     sockets: &'a [UdpSocket],

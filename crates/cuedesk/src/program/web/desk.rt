@@ -27,7 +27,7 @@ pub struct Sources {
     pub store: Store,
     /// The show file, for names and notes.
     pub file: Option<ShowFile>,
-    /// Where a relay tells of itself.
+    /// The file in which a relay reports.
     pub relay: Option<String>,
     /// The controller.
     pub wire: Wire,
@@ -87,7 +87,7 @@ fn refused_answer(alloc: Global, refusal: Refusal) -> Result<String, AllocError>
     json_answer(alloc, Outcome::Refused(refusal), text.as_str())
 }
 
-// What a relay tells that writes this file.
+// What the relay that writes this file reports.
 fn read_relay<R: Files<File = File> + AllocGlobal>(
     rt: &R,
     path: Option<&str>,

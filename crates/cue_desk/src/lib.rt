@@ -1,8 +1,15 @@
-//! The desk beside the controller: show files, the messages that it sends, and the board that it shows.
+//! The desk beside the controller: show files, the messages that it sends, what becomes of them, and the board that it
+//! shows.
 #![tactic(auto)]
 
+pub mod answered;
 pub mod asking;
 pub mod board;
+pub mod ending;
+pub mod hearing;
 pub mod laws;
+pub mod line;
+pub mod orders;
 pub mod replying;
 pub mod show_file;
+pub mod stamps;

@@ -4,3 +4,4 @@ pub mod Presses
 pub mod Board
 pub mod Heard
 pub mod Answers
+pub mod Told

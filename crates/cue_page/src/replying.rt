@@ -1,7 +1,11 @@
-//! What the page is told of a press: what became of it, in words.
+//! What the page is sent of a press: what became of it, in words.
 ghost use Rattle.std.specs.Prelude.{◌≡◌};
 ghost use Rattle.cue_page.specs.Answers.{outcome_word};
+ghost use Rattle.cue_page.specs.Told.{outcome_of, told_of};
 
+use crate::answering::Outcome;
+use crate::request::Refusal;
+use cue_desk::answered::Answered;
 use cue_words::code_words;
 use serde_json::json;
 use std::alloc::{AllocError, Global};
@@ -19,6 +23,28 @@ pub enum Told {
     Silent,
     /// It is no press of a button: nothing was sent.
     Unread,
+}
+
+/// What the page is sent of what the controller replied; none where nobody did.
+pub fn told_of(answered: Option<Answered>) -> Told
+    ensures { result ≡ told_of answered }
+{
+    match answered {
+        Some(Answered::Made) => Told::Made,
+        Some(Answered::Known) => Told::Known,
+        Some(Answered::Refused(code)) => Told::Refused(code),
+        None => Told::Silent,
+    }
+}
+
+/// How the answer to a press begins.
+pub fn outcome_of(told: Told) -> Outcome
+    ensures { result ≡ outcome_of told }
+{
+    match told {
+        Told::Unread => Outcome::Refused(Refusal::Unreadable),
+        Told::Made | Told::Known | Told::Refused(_) | Told::Silent => Outcome::Done,
+    }
 }
 
 // What became of it, as one word.

@@ -1,8 +1,10 @@
 -- What a loading makes of the replies to a show file.
 use Rattle.std.specs.Prelude.{ℕ, ◌+◌, ◌-◌, ◌^◌, min, ℤ, pos, negsuc, ◌==◌, if◌then◌else◌, Bool, true, false, ◌||◌}
 use Rattle.std.specs.Prelude.{List, [], ◌∷◌, Option, Some, None}
-use Rattle.cuedesk.specs.declared.program.answered.Answered.{Answered}
-use Rattle.cuedesk.specs.declared.program.answered.Answered.TheVariants as answered
+use Rattle.cue_core.specs.Codes.{code_number}
+use Rattle.cue_core.specs.declared.command.Code.TheVariants.{Duplicate}
+use Rattle.cue_desk.specs.declared.answered.Answered.{Answered}
+use Rattle.cue_desk.specs.declared.answered.Answered.TheVariants as answered
 use Rattle.cuedesk.specs.declared.program.loading.counts.Became.{Became}
 use Rattle.cuedesk.specs.declared.program.loading.counts.Became.TheVariants as became
 use Rattle.cuedesk.specs.declared.program.loading.counts.Counts.{Counts}
@@ -38,19 +40,24 @@ rewritten answered.Known answered.Known = became.Known
 rewritten (answered.Refused code) answered.Made = became.Replaced
 rewritten (answered.Refused code) answered.Known = became.Replaced
 
--- it was there already: it is known, or differs by code 6
+-- it is there, and differs: it was refused by the code that says so
+abbrev pub differs : Answered → Bool
+differs answered.Made = false
+differs answered.Known = false
+differs (answered.Refused (pos n)) = n == code_number Duplicate
+differs (answered.Refused (negsuc n)) = false
+
+-- it was there already: it is known, or differs
 abbrev pub was_there : Answered → Bool
 was_there answered.Made = false
 was_there answered.Known = true
-was_there (answered.Refused (pos n)) = n == 6
-was_there (answered.Refused (negsuc n)) = false
+was_there (answered.Refused code) = differs (answered.Refused code)
 
--- the code by which it could not be added; none by code 6
+-- the code by which it could not be added; none where it is there, and differs
 abbrev pub refusal_of_addition : Answered → Option ℤ
 refusal_of_addition answered.Made = None
 refusal_of_addition answered.Known = None
-refusal_of_addition (answered.Refused (pos n)) = if n == 6 then None else Some (pos n)
-refusal_of_addition (answered.Refused (negsuc n)) = Some (negsuc n)
+refusal_of_addition (answered.Refused code) = if differs (answered.Refused code) then None else Some code
 
 -- ---- all of them
 

@@ -1,22 +1,22 @@
 //! The command line, read over `clap`.
 ghost use Rattle.std.specs.Prelude.{IfOk, codes};
-ghost use Rattle.clap.specs.Words.{kind_of};
 ghost use Rattle.cue_operator.specs.Methods.{cue_verb_text};
-ghost use Rattle.cuedesk.specs.Lines.{IsFaultOf};
+ghost use Rattle.cue_desk.specs.Orders.{spelling_of};
 ghost use Rattle.cuedesk.specs.Orders.{IsAskedBy};
 
 pub mod rehearsing;
 pub mod web;
 pub mod words;
 
-use clap::error::ErrorKind;
-use clap::{Arg, ArgAction, ArgMatches, Command, Error, value_parser};
+use clap::{Arg, ArgAction, ArgMatches, Command, value_parser};
+use cue_desk::line::{LineFault, fault_of};
+use cue_desk::orders::{Order, Word, word_in};
 use cue_operator::CueVerb;
 use cue_show::{CueNo, DeviceNo};
 use rehearsing::{rehearsal_in, rehearse};
 use std::alloc::{AllocError, Global};
 use web::{web_command, web_in};
-use words::{Line, LineFault, Order, Watched};
+use words::{Line, Watched};
 
 // A word that has to be there.
 fn word<'a>(alloc: Global, id: &'a str, help: &'a str) -> Arg<'a> {
@@ -325,25 +325,31 @@ fn board_in(alloc: Global, found: &ArgMatches<'_>) -> Result<Line, LineFault> {
     })
 }
 
+// A command that asks of the controller what this word says.
+fn asked_in(word: Word, found: &ArgMatches<'_>) -> Result<Line, LineFault>
+    ensures { IfOk result (IsAskedBy (spelling_of word)) }
+{
+    match word {
+        Word::OfCue(verb) => of_cue_in(verb, found),
+        Word::Release => Ok(Line::Ask {
+            order: Order::Release(device_in(found)?),
+            port: port_in(found)?,
+        }),
+        Word::Remove => remove_in(found),
+        Word::Status => Ok(Line::Ask {
+            order: Order::Status,
+            port: port_in(found)?,
+        }),
+    }
+}
+
 // A command that asks of the controller what its word says.
 fn order_in(name: &str, found: &ArgMatches<'_>) -> Result<Line, LineFault>
     ensures { IfOk result (IsAskedBy name.now) }
 {
-    match name {
-        "standby" => of_cue_in(CueVerb::Standby, found),
-        "go" => of_cue_in(CueVerb::Go, found),
-        "cancel" => of_cue_in(CueVerb::Cancel, found),
-        "goto" => of_cue_in(CueVerb::Goto, found),
-        "release" => Ok(Line::Ask {
-            order: Order::Release(device_in(found)?),
-            port: port_in(found)?,
-        }),
-        "remove" => remove_in(found),
-        "status" => Ok(Line::Ask {
-            order: Order::Status,
-            port: port_in(found)?,
-        }),
-        _ => Err(LineFault::Usage),
+    match word_in(name) {
+        Some(word) => asked_in(word, found),
+        None => Err(LineFault::Usage),
     }
 }
 
@@ -352,20 +358,6 @@ fn line_in(alloc: Global, name: &str, found: &ArgMatches<'_>) -> Result<Line, Li
     match file_line_in(alloc, name, found)? {
         Some(line) => Ok(line),
         None => order_in(name, found),
-    }
-}
-
-// Why there is no match: the text of the help and of the version is clap's.
-fn fault_of(alloc: Global, error: &Error) -> LineFault
-    ensures { IsFaultOf (kind_of error.now) result }
-{
-    match error.kind() {
-        ErrorKind::DisplayHelp | ErrorKind::DisplayVersion => match error.to_string(alloc) {
-            Ok(text) => LineFault::Help(text),
-            Err(_) => LineFault::Memory,
-        },
-        ErrorKind::OutOfMemory => LineFault::Memory,
-        _ => LineFault::Usage,
     }
 }
 

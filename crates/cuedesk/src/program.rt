@@ -1,30 +1,31 @@
 //! The program: what each command does, prints and answers.
 ghost use Rattle.std.specs.Prelude.{◌≡◌, ◌↔◌};
-ghost use Rattle.cuedesk.specs.Endings.{ending_status};
-ghost use Rattle.cuedesk.specs.Lines.{IsHelp};
-ghost use Rattle.cuedesk.specs.declared.line.words.LineFault.TheVariants.{Memory, Usage};
+ghost use Rattle.cue_desk.specs.Endings.{ending_status};
+ghost use Rattle.cue_desk.specs.Lines.{IsHelp};
+ghost use Rattle.cue_desk.specs.declared.line.LineFault.TheVariants.{Memory, Usage};
 
-mod answered;
 mod board;
-mod ending;
 mod files;
 mod loading;
 mod orders;
 mod reading;
 mod rehearsing;
 mod relaying;
+mod saying;
 mod web;
 mod wire;
 
 use crate::line::line;
-use crate::line::words::{Line, LineFault};
+use crate::line::words::Line;
 use board::{show_board, window_of};
-use ending::{Ending, print, say};
+use cue_desk::ending::Ending;
+use cue_desk::line::LineFault;
 use files::{check_file, export};
 use loading::{How, load};
 use orders::carry_order;
 use rehearsing::rehearse;
 use relaying::relay_devices;
+use saying::{print, say};
 use std::fs::{File, Files};
 use std::io::{Eprint, Write};
 use std::net::Net;

@@ -1,7 +1,7 @@
 //! The command `rehearse`, and what stands after it.
-use super::words::LineFault;
 use super::{over_file, text_in};
 use clap::{Arg, ArgAction, ArgMatches, Command, value_parser};
+use cue_desk::line::LineFault;
 use cue_rehearsal::{MAX_TIME, Plan, read_devices};
 use cue_show::DeviceNo;
 use std::alloc::{AllocError, Global};

@@ -1,7 +1,7 @@
 //! The command `web`, and what stands after it.
-use super::words::LineFault;
 use super::{option_in, over_dir, port, port_in, relay_status, text_in};
 use clap::{Arg, ArgAction, ArgMatches, Command, value_parser};
+use cue_desk::line::LineFault;
 use std::alloc::{AllocError, Global};
 
 /// What is shown as a page, and where.

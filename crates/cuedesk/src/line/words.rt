@@ -1,18 +1,7 @@
 //! What a command line can say.
 use super::rehearsing::Rehearsal;
 use super::web::Web;
-use cue_operator::CueVerb;
-use cue_show::{CueNo, DeviceNo};
-use std::alloc::AllocError;
-
-/// What one command asks of the controller.
-#[derive(Clone, Copy)]
-pub enum Order {
-    Status,
-    OfCue(CueVerb, CueNo),
-    Release(DeviceNo),
-    RemoveDevice(DeviceNo),
-}
+use cue_desk::orders::Order;
 
 /// What a board is made of: the paths of what it reads.
 #[derive(Drop)]
@@ -67,25 +56,4 @@ pub enum Line {
         order: Order,
         port: Option<u16>,
     },
-}
-
-/// Why the words give no command.
-#[derive(Drop)]
-pub enum LineFault {
-    /// They ask for help or for the version: this is its text.
-    Help(String),
-    /// They are no command.
-    Usage,
-    Memory,
-}
-
-impl From<AllocError> for LineFault {
-    ghost use Rattle.std.specs.Prelude.{◌≡◌};
-    ghost use Rattle.cuedesk.specs.declared.line.words.LineFault.TheVariants.{Memory};
-
-    ghost from_gives = { λ _ fault. fault ≡ Memory };
-
-    fn from(_: AllocError) -> LineFault {
-        LineFault::Memory
-    }
 }

@@ -5,13 +5,14 @@ ghost use Rattle.cuedesk.specs.Windows.{window_of};
 mod beside;
 mod screen;
 
-use super::ending::{Ending, print, say};
 use super::files::read_file;
 use super::reading::{Reading, Store, time_now};
+use super::saying::{print, say};
 use crate::line::words::Watched;
 pub use beside::read_status;
 use beside::{read_heard, read_log};
 use cue_desk::board::{COLUMNS, age_line, board_lines, board_lines_within, fitted};
+use cue_desk::ending::Ending;
 use cue_desk::show_file::ShowFile;
 use screen::Screen;
 use std::alloc::{AllocError, Global};

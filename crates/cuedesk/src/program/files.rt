@@ -1,7 +1,8 @@
 //! Show files and stores, as the commands read them.
-use super::ending::{Ending, print, say};
 use super::rehearsing::{knows_plan, plan_of};
+use super::saying::{print, say};
 use cue_copies::{Seen, look_again};
+use cue_desk::ending::Ending;
 use cue_desk::show_file::{Draft, Finding, ShowFile, check, of_show, read, written};
 use cue_disk::{FileDisk, MemDisk};
 use cue_keeper::Keeper;

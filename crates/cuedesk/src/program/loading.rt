@@ -7,11 +7,11 @@ mod progress;
 mod replacing;
 
 use super::PORT;
-use super::ending::Ending;
 use super::files::read_file;
 use super::wire::Wire;
 use asking::Asker;
 use counts::{Became, Counts};
+use cue_desk::ending::Ending;
 use cue_desk::show_file::{ShowFile, Subject};
 use cue_show::CueNo;
 use progress::Progress;

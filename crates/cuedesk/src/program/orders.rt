@@ -1,12 +1,10 @@
 //! The commands of an evening: one message each.
-ghost use Rattle.std.specs.Prelude.{◌≡◌};
-ghost use Rattle.cuedesk.specs.Orders.{asked_of};
-
-use super::answered::{Answered, ending_of};
-use super::ending::{Ending, print, say};
-use super::wire::{Sendings, Wire, reply_in};
-use crate::line::words::Order;
-use cue_desk::asking::Asked;
+use super::saying::{print, say};
+use super::wire::{Sendings, Wire};
+use cue_desk::answered::{Answered, ending_of};
+use cue_desk::ending::Ending;
+use cue_desk::hearing::reply_in;
+use cue_desk::orders::{Order, asked_by};
 use cue_desk::replying::{Replied, Status};
 use cue_exchange::Outcome;
 use cue_words::{code_words, outcome_words};
@@ -14,18 +12,6 @@ use std::alloc::{AllocError, Global};
 use std::fmt::Write as _;
 use std::io::{Eprint, Write};
 use std::net::Net;
-
-// What is asked by an order.
-fn asked_by(order: Order) -> Asked<'static>
-    ensures { result ≡ asked_of order }
-{
-    match order {
-        Order::Status => Asked::Status,
-        Order::OfCue(verb, cue) => Asked::OfCue(verb, cue),
-        Order::Release(device) => Asked::Release(device),
-        Order::RemoveDevice(device) => Asked::RemoveDevice(device),
-    }
-}
 
 // How the attempt with this outcome ended; there is none before the first has ended.
 fn ended_words(outcome: i32) -> &'static str {

@@ -3,9 +3,10 @@ mod stamps;
 
 use super::files::open_store;
 use cue_core::State;
+use cue_desk::stamps::Stamps;
 use cue_disk::MemDisk;
 use cue_keeper::Keeper;
-use stamps::Stamps;
+use stamps::stamps_at;
 use std::fs::{File, Files};
 use std::time::Clock;
 
@@ -85,7 +86,7 @@ impl Store {
     pub fn look<R: Files<File = File> + Clock + AllocGlobal>(&mut self, rt: &R) -> String {
         let alloc = rt.alloc();
         let begun = time_now(rt);
-        let stamps = Stamps::at(rt, self.dir.as_str());
+        let stamps = stamps_at(rt, self.dir.as_str());
         if self.renew(begun, stamps) {
             return String::new(alloc);
         }

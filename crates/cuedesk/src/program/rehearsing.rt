@@ -1,9 +1,10 @@
 //! The command `rehearse`: every device of a show file at its own port, in one loop over their sockets.
 ghost use Rattle.std.specs.Prelude.{◌≤◌, IfSome, length};
 
-use super::ending::{Ending, print, say};
 use super::files::read_draft;
+use super::saying::{print, say};
 use crate::line::rehearsing::{Rehearsal, with_flags};
+use cue_desk::ending::Ending;
 use cue_desk::show_file::{DeviceEntry, ShowFile};
 use cue_device::{Answer, MAX_ANSWER, Order};
 use cue_osc::MAX_LEN;

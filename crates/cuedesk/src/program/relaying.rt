@@ -4,8 +4,9 @@ mod reporting;
 mod sockets;
 
 use super::PORT;
-use super::ending::{Ending, print, say};
 use super::files::read_file;
+use super::saying::{print, say};
+use cue_desk::ending::Ending;
 use cue_desk::show_file::{ShowFile, routes, shared_port};
 use cue_relay::{Address, Relay, RelayFault, Route, run};
 use reporting::Reporter;

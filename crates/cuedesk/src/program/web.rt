@@ -3,11 +3,12 @@ mod desk;
 mod visitor;
 
 use super::PORT;
-use super::ending::{Ending, print, say};
 use super::files::read_file;
 use super::reading::Store;
+use super::saying::{print, say};
 use super::wire::Wire;
 use crate::line::web::Web;
+use cue_desk::ending::Ending;
 use cue_page::request::Door;
 use desk::{Desk, Sources};
 use hex::encode;

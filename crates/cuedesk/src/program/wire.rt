@@ -1,16 +1,17 @@
 //! The socket of the desk: one datagram, and what the controller replies to each of its messages.
 ghost use Rattle.std.specs.Prelude.{◌≡◌, IfOk, IfSome, length};
 ghost use Rattle.std.specs.Net.Socket.{socket_ip, socket_port};
-ghost use Rattle.cuedesk.specs.Replies.{is_wanted, reply_in, unheard};
 ghost use Rattle.cuedesk.specs.Sockets.{IsHome};
 
-use super::answered::{Answered, push};
-use super::ending::{Ending, say};
+use super::saying::say;
+use cue_desk::answered::{Answered, push};
 use cue_desk::asking::{Asked, address, datagram};
+use cue_desk::ending::Ending;
+use cue_desk::hearing::{Heard, is_wanted, unheard};
 use cue_desk::replying::{Replied, read_reply};
 use cue_osc::MAX_LEN;
 use std::alloc::{AllocError, Global};
-use std::io::{Eprint, ErrorKind};
+use std::io::Eprint;
 use std::net::{IpAddr, Ipv4Addr, Net, SocketAddr, UdpSocket};
 use std::time::Duration;
 
@@ -38,58 +39,12 @@ pub struct Wire {
     port: u16,
 }
 
-/// What comes to one message.
-#[derive(Clone, Copy, Debug, PartialEq, Eq)]
-pub enum Heard {
-    /// The controller replied.
-    Replied(Replied),
-    /// Nothing came in time.
-    Silence,
-    /// Something else came.
-    Noise,
-}
-
 // What a datagram of the controller says to who asked at this address.
 fn said(alloc: Global, asked: &[u8], datagram: &[u8]) -> Result<Heard, Ending> {
     match read_reply(alloc, asked, datagram) {
         Ok(Some(replied)) => Ok(Heard::Replied(replied)),
         Ok(None) => Ok(Heard::Noise),
         Err(AllocError) => Err(Ending::Failed),
-    }
-}
-
-/// What it means that no datagram was heard; none where the socket failed.
-pub fn unheard(kind: ErrorKind) -> Option<Heard>
-    ensures { result ≡ unheard kind }
-{
-    match kind {
-        ErrorKind::WouldBlock => Some(Heard::Silence),
-        ErrorKind::TimedOut => Some(Heard::Silence),
-        ErrorKind::ConnectionRefused => Some(Heard::Noise),
-        ErrorKind::Interrupted => Some(Heard::Noise),
-        _ => None,
-    }
-}
-
-/// What the controller replied; none where it did not.
-pub fn reply_in(heard: Heard) -> Option<Replied>
-    ensures { result ≡ reply_in heard }
-{
-    match heard {
-        Heard::Replied(replied) => Some(replied),
-        Heard::Silence => None,
-        Heard::Noise => None,
-    }
-}
-
-// Whether it is what is waited for: the status after its reply, and else the reply.
-fn is_wanted(heard: Heard, wants_status: bool) -> bool
-    ensures { result ≡ is_wanted heard wants_status }
-{
-    match heard {
-        Heard::Replied(Replied::Status(_)) => wants_status,
-        Heard::Replied(Replied::Reply { .. }) => !wants_status,
-        Heard::Silence | Heard::Noise => false,
     }
 }
 

@@ -1,12 +1,12 @@
 //! What a show file has is added: as many devices or cues by one datagram as fit into it.
 ghost use Rattle.std.specs.Prelude.{◌≡◌, IfOk, length};
 
-use super::super::answered::Answered;
-use super::super::ending::Ending;
 use super::Loading;
 use super::counts::{Counts, became_of};
 use super::order::comes_late;
+use cue_desk::answered::Answered;
 use cue_desk::asking::{cues_that_fit, devices_that_fit};
+use cue_desk::ending::Ending;
 use cue_desk::show_file::{CueEntry, DeviceEntry, Subject};
 use std::io::{Eprint, Write};
 use std::net::Net;

@@ -2,7 +2,7 @@
 ghost use Rattle.std.specs.Prelude.{◌≡◌};
 ghost use Rattle.cuedesk.specs.Loading.{became_of, counted, one_more, replaced, rewritten};
 
-use super::super::answered::Answered;
+use cue_desk::answered::Answered;
 use std::alloc::{AllocError, Global};
 
 /// What became of a device or of a cue.

@@ -1,11 +1,20 @@
 //! What the replies to a show file say of the order of the stack: a cue that is added is the last one.
 ghost use Rattle.std.specs.Prelude.{◌≡◌};
-ghost use Rattle.cuedesk.specs.Loading.{comes_late, refusal_of_addition, some_was_there, was_there};
+ghost use Rattle.cuedesk.specs.Loading.{comes_late, differs, refusal_of_addition, some_was_there, was_there};
 
-use super::super::answered::Answered;
+use cue_core::Code;
+use cue_desk::answered::Answered;
 
-/// The code of what is there already, and differs.
-pub const DUPLICATE: i32 = 6;
+/// Whether one that was to be added is there, and differs.
+pub fn differs(answered: Answered) -> bool
+    ensures { result ≡ differs answered }
+{
+    match answered {
+        Answered::Made => false,
+        Answered::Known => false,
+        Answered::Refused(code) => code == i32::from(Code::Duplicate.number()),
+    }
+}
 
 /// Whether one that was to be added was there already.
 fn was_there(answered: Answered) -> bool
@@ -14,7 +23,7 @@ fn was_there(answered: Answered) -> bool
     match answered {
         Answered::Made => false,
         Answered::Known => true,
-        Answered::Refused(code) => code == DUPLICATE,
+        Answered::Refused(_) => differs(answered),
     }
 }
 
@@ -25,7 +34,7 @@ pub fn refusal_of_addition(answered: Answered) -> Option<i32>
     match answered {
         Answered::Made => None,
         Answered::Known => None,
-        Answered::Refused(code) => { if code == DUPLICATE { None } else { Some(code) } }
+        Answered::Refused(code) => { if differs(answered) { None } else { Some(code) } }
     }
 }
 

@@ -1,5 +1,6 @@
-//! Where a loading is, told on a terminal: a line that is drawn over itself.
-use super::super::ending::{Ending, print};
+//! How far a loading has come, on a terminal: a line that is drawn over itself.
+use super::super::saying::print;
+use cue_desk::ending::Ending;
 use std::alloc::{AllocError, Global};
 use std::io::Write;
 

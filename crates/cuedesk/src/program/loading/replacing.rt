@@ -2,12 +2,12 @@
 ghost use Rattle.std.specs.Prelude.{◌≡◌, ◌++◌, ◌∷◌, [], OnOk};
 ghost use Rattle.cuedesk.specs.Loading.{since_removal};
 
-use super::super::answered::{Answered, refusal_of_removal};
-use super::super::ending::Ending;
 use super::Loading;
 use super::counts::{Became, Counts, became_of, replaced, rewritten};
-use super::order::{DUPLICATE, refusal_of_addition, some_was_there};
+use super::order::{differs, refusal_of_addition, some_was_there};
+use cue_desk::answered::{Answered, refusal_of_removal};
 use cue_desk::asking::Asked;
+use cue_desk::ending::Ending;
 use cue_desk::show_file::{CueEntry, DeviceEntry, ShowFile, Subject};
 use cue_operator::CueVerb;
 use cue_show::CueNo;
@@ -92,11 +92,10 @@ impl<'a, R: Net + Eprint + AllocGlobal, W: Write> Loading<'a, R, W> {
         let answers = self.add_devices(&file.devices)?;
         let mut counts = Counts::NONE;
         for (index, entry) in file.devices.iter().enumerate() {
-            let became = match answers[index] {
-                Answered::Refused(DUPLICATE) => {
-                    self.replace_device(entry, &file.cues, were_there)?
-                }
-                other => became_of(other),
+            let became = if differs(answers[index]) {
+                self.replace_device(entry, &file.cues, were_there)?
+            } else {
+                became_of(answers[index])
             };
             self.count(&mut counts, Subject::Device(entry.number), became);
         }

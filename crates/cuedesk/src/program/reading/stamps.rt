@@ -1,82 +1,18 @@
-//! What the system says of the files of a store without reading them.
-ghost use Rattle.std.specs.Prelude.{◌≡◌, ◌≢◌, ◌<◌, ◌≤◌, ◌+◌, ◌*◌, ◌↔◌, ℕ, IsTrue};
-ghost use Rattle.std.specs.Fs.{metadata_len};
-ghost use Rattle.cuedesk.specs.Readings.{Holds, IsSettled};
-ghost use Rattle.cuedesk.specs.declared.program.reading.stamps.Stamp.{Stamp};
+//! What the system says of the files of a store in a folder.
+use cue_desk::stamps::{Stamp, Stamps};
+use std::fs::{self, File, Files};
 
-use std::fs::{self, File, Files, Metadata};
-use std::os::unix::fs::MetadataExt;
-
-/// How long ago a file has to be changed, in milliseconds, so that each later change gives it another time. Most file
-/// systems count time in some milliseconds, and some in two seconds; a second more is for what is cut off here.
-const SETTLED: u64 = 4_000;
-
-/// What the system says of a file.
-#[derive(Clone, Copy, Debug, PartialEq, Eq)]
-struct Stamp {
-    /// Its number in its file system.
-    node: u64,
-    len: u64,
-    /// When it was changed last: seconds since 1970, and nanoseconds after that.
-    seconds: u64,
-    nanos: u64,
+// What it says of the file of this name in a folder; none where it says nothing.
+fn stamp_at<R: Files<File = File> + AllocGlobal>(rt: &R, dir: &str, name: &str) -> Option<Stamp> {
+    let path = format!(in rt.alloc(); "{dir}/{name}").ok()?;
+    let metadata = fs::metadata(rt, path.as_str()).ok()?;
+    Some(Stamp::of(&metadata))
 }
 
-/// What the system says of both files of a store.
-#[derive(Clone, Copy, Debug, PartialEq, Eq)]
-pub struct Stamps {
-    first: Stamp,
-    second: Stamp,
+/// What it says of both files; none where it does not say it of both.
+pub fn stamps_at<R: Files<File = File> + AllocGlobal>(rt: &R, dir: &str) -> Option<Stamps> {
+    Some(Stamps {
+        first: stamp_at(rt, dir, "a.area")?,
+        second: stamp_at(rt, dir, "b.area")?,
+    })
 }
-
-impl Stamp {
-    // What the system says of a file. A time before 1970 counts as one that is still to come.
-    fn of(metadata: &Metadata) -> Stamp
-        ensures { result.len ≡ metadata_len metadata.now }
-    {
-        Stamp {
-            node: metadata.ino(),
-            len: metadata.len(),
-            seconds: u64::try_from(metadata.ctime()).unwrap_or(u64::MAX),
-            nanos: u64::try_from(metadata.ctime_nsec()).unwrap_or(u64::MAX),
-        }
-    }
-
-    // What it says of the file of this name in a folder; none where it says nothing.
-    fn at<R: Files<File = File> + AllocGlobal>(rt: &R, dir: &str, name: &str) -> Option<Stamp> {
-        let path = format!(in rt.alloc(); "{dir}/{name}").ok()?;
-        let metadata = fs::metadata(rt, path.as_str()).ok()?;
-        Some(Stamp::of(&metadata))
-    }
-
-    // Whether each change after this time gives the file another time.
-    fn is_settled(self, now: u64) -> bool
-        ensures { IsTrue result ↔ IsSettled self now }
-    {
-        u128::from(self.seconds) * 1_000 + u128::from(SETTLED) <= u128::from(now)
-    }
-}
-
-impl Stamps {
-    /// What the system says of the files of a store; none where it does not say it of both.
-    pub fn at<R: Files<File = File> + AllocGlobal>(rt: &R, dir: &str) -> Option<Stamps> {
-        Some(Stamps {
-            first: Stamp::at(rt, dir, "a.area")?,
-            second: Stamp::at(rt, dir, "b.area")?,
-        })
-    }
-
-    /// Whether what was read of files with these stamps, from a moment on, is what files with the seen stamps hold.
-    pub fn holds(self, begun: u64, seen: Stamps) -> bool
-        ensures { IsTrue result ↔ Holds self begun seen }
-    {
-        self == seen && self.first.is_settled(begun) && self.second.is_settled(begun)
-    }
-}
-
-/// A law: a change after that moment gives a settled file another time, where the file system counts time in steps of
-/// two seconds at most. The seconds of that change are cut off to whole ones.
-pub fn later_changes_show()
-    ensures { (stamp : Stamp) → (begun time seconds : ℕ) → IsSettled stamp begun → begun ≤ time
-        → time < seconds * 1000 + 3000 → seconds ≢ stamp.seconds }
-{}

@@ -1,5 +1,5 @@
 //! What the relay says while it runs: a line when a device is heard or falls silent, and the status for the desk.
-use super::super::ending::{print, say};
+use super::super::saying::{print, say};
 use cue_relay::status::{Status, written};
 use cue_relay::{Contact, Counts, Happening, News, Opening, Route, Side, Watch};
 use std::alloc::{AllocError, Global};

@@ -3,9 +3,10 @@ ghost use Rattle.std.specs.Prelude.{◌≡◌, None, IfOk, length};
 ghost use Rattle.cuedesk.specs.declared.program.relaying.sockets.Try.TheVariants.{Passes};
 ghost use Rattle.cuedesk.specs.Sockets.{IsTryWithin};
 
-use super::super::ending::{Ending, say};
-use super::super::wire::{Heard, unheard};
+use super::super::saying::say;
 use super::ready::Ready;
+use cue_desk::ending::Ending;
+use cue_desk::hearing::{Heard, unheard};
 use cue_relay::{Address, Opening, Route, Side, Source, SourceFault, Turn, Way, Wire, WireFault};
 use mio::net::UdpSocket;
 use mio::{Events, Interest, Poll, Token};

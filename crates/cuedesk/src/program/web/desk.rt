@@ -1,21 +1,17 @@
 //! What the page is answered: itself, the board, the show file, and what became of a press.
-ghost use Rattle.std.specs.Prelude.{◌≡◌};
-ghost use Rattle.cuedesk.specs.Told.{outcome_of, told_of};
-
-use super::super::answered::Answered;
 use super::super::board::read_status;
-use super::super::ending::Ending;
 use super::super::files::words;
 use super::super::reading::{Reading, Store, time_now};
 use super::super::wire::Wire;
 use super::visitor::Asking;
 use cue_desk::asking::Asked;
+use cue_desk::ending::Ending;
 use cue_desk::show_file::{ShowFile, of_show, written};
 use cue_page::answering::{Kind, NOTHING, Outcome, answer, refusal_words};
 use cue_page::board::{Around, board_text};
 use cue_page::page::{page_text, policy};
 use cue_page::relay::Relay;
-use cue_page::replying::{Told, told_text, trouble_text};
+use cue_page::replying::{Told, outcome_of, told_of, told_text, trouble_text};
 use cue_page::request::Refusal;
 use std::alloc::{AllocError, Global};
 use std::fs::{File, Files};
@@ -40,28 +36,6 @@ pub struct Desk {
     // The page with its token, and what it may do in a browser.
     page: String,
     policy: String,
-}
-
-// What the page is told of what the controller replied; none where nobody did.
-fn told_of(answered: Option<Answered>) -> Told
-    ensures { result ≡ told_of answered }
-{
-    match answered {
-        Some(Answered::Made) => Told::Made,
-        Some(Answered::Known) => Told::Known,
-        Some(Answered::Refused(code)) => Told::Refused(code),
-        None => Told::Silent,
-    }
-}
-
-// How the answer to a press begins.
-fn outcome_of(told: Told) -> Outcome
-    ensures { result ≡ outcome_of told }
-{
-    match told {
-        Told::Unread => Outcome::Refused(Refusal::Unreadable),
-        Told::Made | Told::Known | Told::Refused(_) | Told::Silent => Outcome::Done,
-    }
 }
 
 // Asks one thing of the controller, once.

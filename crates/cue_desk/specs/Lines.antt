@@ -2,8 +2,8 @@
 use Rattle.std.specs.Prelude.{◌≡◌, ◌⊎◌, Bool, true, false}
 use Rattle.clap.specs.declared.error.kind.ErrorKind.{ErrorKind}
 use Rattle.clap.specs.declared.error.kind.ErrorKind.TheVariants.{DisplayHelp, DisplayVersion, OutOfMemory}
-use Rattle.cuedesk.specs.declared.line.words.LineFault.{LineFault}
-use Rattle.cuedesk.specs.declared.line.words.LineFault.TheVariants.{Help, Usage, Memory}
+use Rattle.cue_desk.specs.declared.line.LineFault.{LineFault}
+use Rattle.cue_desk.specs.declared.line.LineFault.TheVariants.{Help, Usage, Memory}
 
 -- clap stops for another reason than the help and the version
 abbrev pub asks_for_none : ErrorKind → Bool

@@ -1,8 +1,8 @@
 -- When what was read of a store is what its files hold.
 use Rattle.std.specs.Prelude.{◌≡◌, ◌≤◌, ◌+◌, ◌*◌, ℕ}
-use Rattle.cuedesk.specs.declared.program.reading.stamps.Stamp.{Stamp}
-use Rattle.cuedesk.specs.declared.program.reading.stamps.Stamps.{Stamps}
-use Rattle.cuedesk.specs.declared.program.reading.stamps.TheConstants.{SETTLED}
+use Rattle.cue_desk.specs.declared.stamps.Stamp.{Stamp}
+use Rattle.cue_desk.specs.declared.stamps.Stamps.{Stamps}
+use Rattle.cue_desk.specs.declared.stamps.TheConstants.{SETTLED}
 
 -- its last change is so long before the moment that each one after it has another time
 abbrev pub IsSettled : Stamp → ℕ → Type 0

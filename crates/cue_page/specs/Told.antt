@@ -1,12 +1,12 @@
--- What the page is told of a press.
+-- What the page is sent of a press.
 use Rattle.std.specs.Prelude.{Option, Some, None}
 use Rattle.cue_page.specs.declared.answering.Outcome.{Outcome}
 use Rattle.cue_page.specs.declared.answering.Outcome.TheVariants as outcome
 use Rattle.cue_page.specs.declared.replying.Told.{Told}
 use Rattle.cue_page.specs.declared.replying.Told.TheVariants as told
 use Rattle.cue_page.specs.declared.request.Refusal.TheVariants as refusal
-use Rattle.cuedesk.specs.declared.program.answered.Answered.{Answered}
-use Rattle.cuedesk.specs.declared.program.answered.Answered.TheVariants as answered
+use Rattle.cue_desk.specs.declared.answered.Answered.{Answered}
+use Rattle.cue_desk.specs.declared.answered.Answered.TheVariants as answered
 
 -- what the controller replied; none where nobody did
 abbrev pub told_of : Option Answered → Told

@@ -1,7 +1,7 @@
 -- How a command ends that is not done.
 use Rattle.std.specs.Prelude.{ℕ}
-use Rattle.cuedesk.specs.declared.program.ending.Ending.{Ending}
-use Rattle.cuedesk.specs.declared.program.ending.Ending.TheVariants as ending
+use Rattle.cue_desk.specs.declared.ending.Ending.{Ending}
+use Rattle.cue_desk.specs.declared.ending.Ending.TheVariants as ending
 
 -- 1 where it was refused, 3 where nobody replied or something failed
 abbrev pub ending_status : Ending → ℕ

@@ -1,10 +1,8 @@
-//! How a command ends that is not done, and what is said then.
+//! How a command ends that is not done.
 ghost use Rattle.std.specs.Prelude.{◌≡◌};
-ghost use Rattle.cuedesk.specs.Endings.{ending_status};
+ghost use Rattle.cue_desk.specs.Endings.{ending_status};
 
 use std::alloc::AllocError;
-use std::fmt::Display;
-use std::io::{Eprint, Write};
 
 /// Why a command was not done. What it was is on standard error already, but for memory and the output.
 #[derive(Clone, Copy, Debug, PartialEq, Eq)]
@@ -32,27 +30,11 @@ impl Ending {
 }
 
 impl From<AllocError> for Ending {
-    ghost use Rattle.cuedesk.specs.declared.program.ending.Ending.TheVariants.{Failed};
+    ghost use Rattle.cue_desk.specs.declared.ending.Ending.TheVariants.{Failed};
 
     ghost from_gives = { λ _ ending. ending ≡ Failed };
 
     fn from(_: AllocError) -> Ending {
         Ending::Failed
-    }
-}
-
-/// Says something on standard error. Where that cannot be written, the ending is the same.
-pub fn say<R: Eprint, D: Display + Drop>(rt: &R, what: D) {
-    let _ = rt.eprintln(format_args!("cuedesk: {what}"));
-}
-
-/// Prints, and sees that all of it left.
-pub fn print<W: Write>(writer: &mut W, text: &str) -> Result<(), Ending> {
-    match writer.write_all(text.as_bytes()) {
-        Ok(()) => match writer.flush() {
-            Ok(()) => Ok(()),
-            Err(_) => Err(Ending::Unwritten),
-        },
-        Err(_) => Err(Ending::Unwritten),
     }
 }

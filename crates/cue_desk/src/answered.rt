@@ -1,9 +1,10 @@
-//! What became of one thing that was asked, as the controller's reply tells it.
+//! What became of one thing that was asked, as the controller's reply says.
 ghost use Rattle.std.specs.Prelude.{◌≡◌, ◌++◌, ◌∷◌, [], OnOk};
-ghost use Rattle.cuedesk.specs.Replies.{Tells, ending_of, refusal_of_removal};
+ghost use Rattle.cue_desk.specs.Answered.{Tells, ending_of, refusal_of_removal};
 
-use super::ending::Ending;
-use cue_desk::replying::Replied;
+use crate::ending::Ending;
+use crate::replying::Replied;
+use cue_core::Code;
 use std::alloc::AllocError;
 
 /// What became of it.
@@ -17,7 +18,7 @@ pub enum Answered {
 }
 
 impl Answered {
-    /// What a reply tells of the one command that was asked.
+    /// What a reply says of the one command that was asked.
     pub fn of(replied: Replied) -> Answered
         ensures { Tells replied result }
     {
@@ -52,9 +53,6 @@ pub fn ending_of(answered: Answered) -> Option<Ending>
     }
 }
 
-/// The code of what is not there.
-const NO_METHOD: i32 = 3;
-
 /// The code by which a removal was refused; none where what was to be removed is not there.
 pub fn refusal_of_removal(answered: Answered) -> Option<i32>
     ensures { result ≡ refusal_of_removal answered }
@@ -62,7 +60,13 @@ pub fn refusal_of_removal(answered: Answered) -> Option<i32>
     match answered {
         Answered::Made => None,
         Answered::Known => None,
-        Answered::Refused(code) => { if code == NO_METHOD { None } else { Some(code) } }
+        Answered::Refused(code) => {
+            if code == i32::from(Code::NoMethod.number()) {
+                None
+            } else {
+                Some(code)
+            }
+        }
     }
 }
 

@@ -1,0 +1,32 @@
+-- What a reply of the controller says of the command that was asked.
+use Rattle.std.specs.Prelude.{◌≡◌, ◌==◌, if◌then◌else◌, pos, negsuc, ◌<ℤ◌, ◌≤ℤ◌, ℤ, Option, Some, None}
+use Rattle.cue_core.specs.Codes.{code_number}
+use Rattle.cue_core.specs.declared.command.Code.TheVariants.{NoMethod}
+use Rattle.cue_desk.specs.declared.answered.Answered.{Answered}
+use Rattle.cue_desk.specs.declared.answered.Answered.TheVariants as answered
+use Rattle.cue_desk.specs.declared.ending.Ending.{Ending}
+use Rattle.cue_desk.specs.declared.ending.Ending.TheVariants as ending
+use Rattle.cue_desk.specs.declared.replying.Replied.{Replied}
+use Rattle.cue_desk.specs.declared.replying.Replied.TheVariants as replied
+
+-- refused where one was refused, with its code; else made where one was made; else it was so already
+abbrev pub Tells : Replied → Answered → Type 0
+Tells (replied.Reply made known refused code) (answered.Refused told) = (pos 0 <ℤ refused) × (told ≡ code)
+Tells (replied.Reply made known refused code) answered.Made = (refused ≤ℤ pos 0) × (pos 0 <ℤ made)
+Tells (replied.Reply made known refused code) answered.Known = (refused ≤ℤ pos 0) × (made ≤ℤ pos 0)
+Tells (replied.Status status) (answered.Refused told) = ⊥
+Tells (replied.Status status) answered.Made = ⊥
+Tells (replied.Status status) answered.Known = Unit {0}
+
+-- how a command ends of which this became; none where it is done
+abbrev pub ending_of : Answered → Option Ending
+ending_of answered.Made = None
+ending_of answered.Known = None
+ending_of (answered.Refused code) = Some ending.Refused
+
+-- the code by which a removal was refused; none by the code of what is not there
+abbrev pub refusal_of_removal : Answered → Option ℤ
+refusal_of_removal answered.Made = None
+refusal_of_removal answered.Known = None
+refusal_of_removal (answered.Refused (pos n)) = if n == code_number NoMethod then None else Some (pos n)
+refusal_of_removal (answered.Refused (negsuc n)) = Some (negsuc n)

@@ -1,0 +1,30 @@
+-- What a command of an evening asks of the controller, and by which word it is given.
+use Rattle.std.specs.Prelude.{ℕ, List, codes}
+use Rattle.cue_operator.specs.Methods.{cue_verb_text}
+use Rattle.cue_desk.specs.declared.asking.Asked.{Asked}
+use Rattle.cue_desk.specs.declared.asking.Asked.TheVariants as asked
+use Rattle.cue_desk.specs.declared.orders.Order.{Order}
+use Rattle.cue_desk.specs.declared.orders.Order.TheVariants as order
+use Rattle.cue_desk.specs.declared.orders.Word.{Word}
+use Rattle.cue_desk.specs.declared.orders.Word.TheVariants as word
+
+-- what is asked
+abbrev pub asked_of : Order → Asked
+asked_of order.Status = asked.Status
+asked_of (order.OfCue verb cue) = asked.OfCue verb cue
+asked_of (order.Release device) = asked.Release device
+asked_of (order.RemoveDevice device) = asked.RemoveDevice device
+
+-- how a word is spelled: for a cue as the method
+abbrev pub spelling_of : Word → List ℕ
+spelling_of word.Status = codes "status"
+spelling_of (word.OfCue verb) = cue_verb_text verb
+spelling_of word.Release = codes "release"
+spelling_of word.Remove = codes "remove"
+
+-- the word of the command line: for a cue that of the method
+abbrev pub word_of : Order → List ℕ
+word_of order.Status = codes "status"
+word_of (order.OfCue verb cue) = cue_verb_text verb
+word_of (order.Release device) = codes "release"
+word_of (order.RemoveDevice device) = codes "remove"

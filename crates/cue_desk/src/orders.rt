@@ -1,0 +1,54 @@
+//! The commands of an evening: the word of each on the command line, and what it asks of the controller.
+ghost use Rattle.std.specs.Prelude.{◌≡◌, IfSome};
+ghost use Rattle.cue_desk.specs.Orders.{asked_of, spelling_of};
+
+use crate::asking::Asked;
+use cue_operator::CueVerb;
+use cue_show::{CueNo, DeviceNo};
+
+/// What one command asks of the controller.
+#[derive(Clone, Copy)]
+pub enum Order {
+    Status,
+    OfCue(CueVerb, CueNo),
+    Release(DeviceNo),
+    RemoveDevice(DeviceNo),
+}
+
+/// What the word of a command asks for. The number of the cue or of the device stands after it.
+#[derive(Clone, Copy, Debug, PartialEq, Eq)]
+pub enum Word {
+    Status,
+    OfCue(CueVerb),
+    Release,
+    /// Of a cue or of a device.
+    Remove,
+}
+
+/// The word that is spelled so; none where no command of an evening is.
+pub fn word_in(name: &str) -> Option<Word>
+    ensures { IfSome result (λ word. spelling_of word ≡ name.now) }
+{
+    match name {
+        "standby" => Some(Word::OfCue(CueVerb::Standby)),
+        "go" => Some(Word::OfCue(CueVerb::Go)),
+        "cancel" => Some(Word::OfCue(CueVerb::Cancel)),
+        "goto" => Some(Word::OfCue(CueVerb::Goto)),
+        "release" => Some(Word::Release),
+        "remove" => Some(Word::Remove),
+        "status" => Some(Word::Status),
+        _ => None,
+    }
+}
+
+/// What is asked by an order.
+pub fn asked_by(order: Order) -> Asked<'static>
+    ensures { result ≡ asked_of order }
+{
+    match order {
+        Order::Status => Asked::Status,
+        Order::OfCue(verb, cue) => Asked::OfCue(verb, cue),
+        Order::Release(device) => Asked::Release(device),
+        Order::RemoveDevice(device) => Asked::RemoveDevice(device),
+    }
+}

@@ -107,8 +107,8 @@ fn carry_out<R: Files<File = File> + Net + Clock + RandomSource + Eprint + Alloc
 }
 
 /// Carries a command line out, the program's name first, and answers the exit status: 0 where it is done, 1 where the
-/// controller refuses or a show file has mistakes, 2 where the words are no command, 3 where nobody replies or the
-/// machine fails. Why stands on standard error.
+/// controller refuses or a show file has mistakes, 2 where the command line is not understood, 3 where nobody
+/// replies or the machine fails. Why stands on standard error.
 pub fn perform<R: Files<File = File> + Net + Clock + RandomSource + Eprint + AllocGlobal, W: Write>(
     rt: &R,
     words: &[String],

@@ -8,7 +8,18 @@ use cue_disk::{FileDisk, MemDisk};
 use cue_keeper::Keeper;
 use std::alloc::Global;
 use std::fs::{self, File, Files};
-use std::io::{Eprint, Write};
+use std::io::{self, Eprint, ErrorKind, Write};
+
+// Says why a show file was not read.
+fn say_unread<R: Eprint>(rt: &R, path: &str, why: &io::Error) {
+    match why.kind() {
+        ErrorKind::InvalidData => say(
+            rt,
+            format_args!("{path}: this is no text in UTF-8: save it as UTF-8"),
+        ),
+        _ => say(rt, format_args!("{path}: {why}")),
+    }
+}
 
 /// Reads a show file that has no mistake, with all that TOML reads from it; else each mistake is on standard error,
 /// with the file and the line.
@@ -19,7 +30,7 @@ pub fn read_draft<R: Files<File = File> + Eprint + AllocGlobal>(
     let text = match fs::read_to_string(rt, path) {
         Ok(text) => text,
         Err(why) => {
-            say(rt, format_args!("{path}: {why}"));
+            say_unread(rt, path, &why);
             return Err(Ending::Failed);
         }
     };

@@ -5,6 +5,7 @@
 pub mod answered;
 pub mod asking;
 pub mod board;
+pub mod counting;
 pub mod ending;
 pub mod hearing;
 pub mod laws;

@@ -1,4 +1,5 @@
 //! A small show file, read, checked and written.
+use cue_desk::counting::Count;
 use cue_desk::show_file::{Checked, Finding, check, of_show, read, written};
 use std::alloc::{AllocError, Global};
 
@@ -153,5 +154,14 @@ fn mistakes_have_their_lines_with_any_editor(rt: HostRuntime) {
         let text = edited(alloc, LACKS, front, end).expect(&rt, "memory");
         let draft = read(alloc, text.as_str()).expect(&rt, "memory");
         assert!(rt; are_said(alloc, &draft.findings, &LACKING).expect(&rt, "memory"));
+    }
+}
+
+#[test]
+fn one_device_is_not_said_as_many(rt: HostRuntime) {
+    for (count, wanted) in [(0, "0 devices"), (1, "1 device"), (2, "2 devices")] {
+        let what = "device";
+        let said = format!(in rt.alloc(); "{}", Count { count, what }).expect(&rt, "memory");
+        assert!(rt; said.as_str() == wanted);
     }
 }

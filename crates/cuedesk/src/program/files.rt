@@ -2,6 +2,7 @@
 use super::rehearsing::{knows_plan, plan_of};
 use super::saying::{print, say};
 use cue_copies::{Seen, look_again};
+use cue_desk::counting::Count;
 use cue_desk::ending::Ending;
 use cue_desk::show_file::{Draft, Finding, ShowFile, check, of_show, read, written};
 use cue_disk::{FileDisk, MemDisk};
@@ -68,8 +69,15 @@ pub fn check_file<R: Files<File = File> + Eprint + AllocGlobal, W: Write>(
 ) -> Result<(), Ending> {
     let draft = read_draft(rt, path)?;
     knows_plan(rt, &draft.file, &plan_of(rt, path, &draft.table)?)?;
-    let (devices, cues) = (draft.file.devices.len(), draft.file.cues.len());
-    let text = format!(in rt.alloc(); "no mistake: {devices} devices, {cues} cues\n")?;
+    let devices = Count {
+        count: draft.file.devices.len(),
+        what: "device",
+    };
+    let cues = Count {
+        count: draft.file.cues.len(),
+        what: "cue",
+    };
+    let text = format!(in rt.alloc(); "no mistake: {devices}, {cues}\n")?;
     print(writer, text.as_str())
 }
 

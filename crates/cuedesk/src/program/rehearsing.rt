@@ -4,6 +4,7 @@ ghost use Rattle.std.specs.Prelude.{◌≤◌, IfSome, length};
 use super::files::read_draft;
 use super::saying::{print, say};
 use crate::line::rehearsing::{Rehearsal, with_flags};
+use cue_desk::counting::Count;
 use cue_desk::ending::Ending;
 use cue_desk::show_file::{DeviceEntry, ShowFile};
 use cue_device::{Answer, MAX_ANSWER, Order};
@@ -268,6 +269,26 @@ fn play<R: Clock + AllocGlobal, W: Write>(
     Ok(())
 }
 
+// Says how many devices play.
+fn say_who_plays<R: AllocGlobal, W: Write>(
+    rt: &R,
+    count: usize,
+    writer: &mut W,
+) -> Result<(), Ending> {
+    let devices = Count {
+        count,
+        what: "device",
+    };
+    let play = match count {
+        1 => "plays, at its port",
+        _ => "play, each at its port",
+    };
+    print(
+        writer,
+        format!(in rt.alloc(); "{devices} {play}; Ctrl-C ends it\n")?.as_str(),
+    )
+}
+
 /// The command `rehearse`.
 pub fn rehearse<R: Files<File = File> + Net + Clock + Eprint + AllocGlobal, W: Write>(
     rt: &R,
@@ -279,13 +300,7 @@ pub fn rehearse<R: Files<File = File> + Net + Clock + Eprint + AllocGlobal, W: W
     with_flags(rt.alloc(), &mut plan, &rehearsal.flags)?;
     knows_plan(rt, &draft.file, &plan)?;
     let mut seats = seats_of(rt, &draft.file, &plan)?;
-    let count = seats.len();
-    print(
-        writer,
-        format!(in rt.alloc();
-            "{count} devices play, each at its port; Ctrl-C ends it\n"
-        )?.as_str(),
-    )?;
+    say_who_plays(rt, seats.len(), writer)?;
     let mut hall = Hall {
         plan,
         chance: Chance::new(rehearsal.seed),

@@ -6,6 +6,7 @@ mod sockets;
 use super::PORT;
 use super::files::read_file;
 use super::saying::{print, say};
+use cue_desk::counting::Count;
 use cue_desk::ending::Ending;
 use cue_desk::show_file::{ShowFile, routes, shared_port};
 use cue_relay::{Address, Relay, RelayFault, Route, run};
@@ -61,9 +62,11 @@ fn begun<R: AllocGlobal, W: Write>(
     writer: &mut W,
 ) -> Result<(), Ending> {
     let (controller, stage) = (sides.controller, Ipv4Addr::from_bits(sides.stage));
-    let text = format!(in rt.alloc();
-        "relaying {count} devices between {controller} and {stage}\n"
-    )?;
+    let devices = Count {
+        count,
+        what: "device",
+    };
+    let text = format!(in rt.alloc(); "relaying {devices} between {controller} and {stage}\n")?;
     print(writer, text.as_str())
 }
 

@@ -16,7 +16,8 @@ use cue_engine::{Engine, Input, Wire};
 use cue_keeper::Fault;
 use std::alloc::Global;
 
-/// The most bytes of a datagram that are read: more than the longest has, so that one that is too long is seen to be so.
+/// The most bytes of a datagram that are read: more than the longest one has, so that one that is too long is seen to
+/// be so.
 pub(crate) const MAX_RECEIVED: usize = 4_100;
 
 /// Why a run ended before its turns and before its source did.

@@ -81,7 +81,8 @@ fn expect_unwritten<R: Files<File = File> + Net + Clock + Eprint + AllocGlobal +
     Ok(())
 }
 
-/// Output that is not written, or not handed on, is reported as `Io` and by the status. The show is formed all the same.
+/// Output that is not written, or not handed on, is reported as `Io` and by the status. The show is formed all the
+/// same.
 #[test]
 fn unwritten_output(rt: HostRuntime) -> Result<(), Fail> {
     make_folder(&rt, "unwritten")?;

@@ -7,7 +7,8 @@ pub returns-in-Ok-recover-clause-after : goal.returns-in-Ok-recover-clause-after
 returns-in-Ok-recover-clause-after c = record {
   works = c.in-Ok-recover.ensures.works;
   is = closed_by_recovery _ _ _ _ c.in-Ok.ensures.stand (c.in-Ok-recover.ensures.stood tt tt);
-  owes = closed_sends _ _ _ _ _ c.in-Ok.ensures.stand (c.in-Ok-recover.ensures.stood tt tt) c.in-Ok-recover.ensures.queue;
+  owes = closed_sends _ _ _ _ _ c.in-Ok.ensures.stand (c.in-Ok-recover.ensures.stood tt tt)
+      c.in-Ok-recover.ensures.queue;
 }
 
 pub returns-in-Ok-clause-failure : goal.returns-in-Ok-clause-failure
@@ -22,5 +23,6 @@ returns-in-Ok-clause-exhausted c = λ is. record {
   other = _;
   first_image = c.in-Ok.ensures.images.0;
   second_image = c.in-Ok.ensures.images.1;
-  none = c.in-Err-recover.ensures.exhausted tt tt (same_store c.in-Err-recover.fault StoreFault.Exhausted is);
+  none = rw (same_store c.in-Err-recover.fault StoreFault.Exhausted is)
+      at c.in-Err-recover.ensures.refused tt tt;
 }

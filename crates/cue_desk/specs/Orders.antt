@@ -22,9 +22,9 @@ spelling_of (word.OfCue verb) = cue_verb_text verb
 spelling_of word.Release = codes "release"
 spelling_of word.Remove = codes "remove"
 
--- the word of the command line: for a cue that of the method
+-- the word that an order was given by
 abbrev pub word_of : Order → List ℕ
-word_of order.Status = codes "status"
-word_of (order.OfCue verb cue) = cue_verb_text verb
-word_of (order.Release device) = codes "release"
-word_of (order.RemoveDevice device) = codes "remove"
+word_of order.Status = spelling_of word.Status
+word_of (order.OfCue verb cue) = spelling_of (word.OfCue verb)
+word_of (order.Release device) = spelling_of word.Release
+word_of (order.RemoveDevice device) = spelling_of word.Remove

@@ -1,6 +1,7 @@
 //! The commands of an evening: the word of each on the command line, and what it asks of the controller.
-ghost use Rattle.std.specs.Prelude.{◌≡◌, IfSome};
+ghost use Rattle.std.specs.Prelude.{◌≡◌, ⊥, None, IfSome};
 ghost use Rattle.cue_desk.specs.Orders.{asked_of, spelling_of};
+ghost use Rattle.cue_desk.specs.declared.orders.Word.{Word};
 
 use crate::asking::Asked;
 use cue_operator::CueVerb;
@@ -27,7 +28,8 @@ pub enum Word {
 
 /// The word that is spelled so; none where no command of an evening is.
 pub fn word_in(name: &str) -> Option<Word>
-    ensures { IfSome result (λ word. spelling_of word ≡ name.now) }
+    ensures spelled { IfSome result (λ word. spelling_of word ≡ name.now) }
+    ensures none { result ≡ None → (word : Word) → spelling_of word ≡ name.now → ⊥ }
 {
     match name {
         "standby" => Some(Word::OfCue(CueVerb::Standby)),

@@ -8,7 +8,8 @@ use crate::source::{Source, Turn};
 use crate::wire::Wire;
 use std::alloc::Global;
 
-/// The most bytes of a datagram that are read. The longest datagram has fewer, so one that is too long is seen to be so.
+/// The most bytes of a datagram that are read. The longest datagram has fewer, so one that is too long is seen to be
+/// so.
 const MAX_RECEIVED: usize = 4_100;
 
 /// A relay: where the controller is, and the ways to its devices.

@@ -1,4 +1,5 @@
 -- What a history says by itself: of one attempt, of every number, and the facts that a theatre relies on.
+pub mod TellsLemmas
 pub mod AttemptLemmas
 pub mod NumberLemmas
 pub mod FactLemmas

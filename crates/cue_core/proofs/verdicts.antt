@@ -1,4 +1,5 @@
 -- What becomes of commands: the judgement of one, of several in turn, and the table of answers of devices.
+pub mod LiveJudgementLemmas
 pub mod JudgementLemmas
 pub mod ShowJudgementLemmas
 pub mod CountLemmas

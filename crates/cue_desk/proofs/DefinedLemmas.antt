@@ -22,7 +22,7 @@ use Rattle.cue_show.specs.Number.{is_cue_number, same_text}
 use Rattle.cue_show.specs.Parts.{are_parts, is_part}
 use Rattle.cue_show.specs.Show.{Cues, ShowLists, are_known, is_cue_of, is_entry}
 use Rattle.cue_show.proofs.TestLemmas.{both, join}
-use Rattle.cue_operator.proofs.FindingLemmas.{stack_of, table_of}
+use Rattle.cue_operator.proofs.NameLemmas.{stack_of, table_of}
 use Rattle.cue_desk.specs.declared.show_file.CueEntry.{CueEntry}
 use Rattle.cue_desk.specs.declared.show_file.DeviceEntry.{DeviceEntry}
 use Rattle.cue_desk.specs.declared.show_file.ShowFile.{ShowFile}

@@ -20,7 +20,7 @@ use Rattle.cue_show.specs.Number.{is_cue_number, same_text}
 use Rattle.cue_show.specs.Parts.{are_parts, is_part}
 use Rattle.cue_show.specs.Show.{Cues, ShowLists, are_known, is_cue_of, is_entry, is_show}
 use Rattle.cue_show.proofs.TestLemmas.{both}
-use Rattle.cue_operator.proofs.FindingLemmas.{stack_of, table_of}
+use Rattle.cue_operator.proofs.NameLemmas.{stack_of, table_of}
 use Rattle.cue_desk.specs.Reading.{ExportNamesNoPlace, names_no_place, no_place_in, no_places_in, said_of, said_without}
 use Rattle.cue_desk.specs.Said.{ExportSaysTheShow, cue_said, device_said, each_said, file_said, is_of_file}
 use Rattle.cue_desk.specs.Said.{list_or_none, part_said, text_said}

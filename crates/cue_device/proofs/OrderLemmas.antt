@@ -5,7 +5,7 @@ use Rattle.cue_device.specs.declared.words.Order.TheVariants.{Prepare, Move, Giv
 use Rattle.cue_device.specs.declared.words.Answer.{Answer}
 use Rattle.cue_device.specs.Hearing.{ordered_for}
 use Rattle.cue_device.specs.Laws.{MayCome}
-use Rattle.cue_device.proofs.HistoryLemmas.{Lawful, OnlyPrepares, UpTo, all_up_to}
+use Rattle.cue_device.proofs.FitsLemmas.{Lawful, OnlyPrepares, UpTo, all_up_to}
 
 gives_way : (q : ℕ) (u : Option Order) → OnlyPrepares q u → MayCome u (GiveUp q)
 gives_way q None h = tt

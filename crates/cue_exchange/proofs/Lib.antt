@@ -2,6 +2,8 @@ pub mod ListLemmas
 pub mod AnswerLemmas
 pub mod DeviceLemmas
 pub mod LiveLemmas
+pub mod StepLemmas
 pub mod LookUpLemmas
+pub mod RisingLemmas
 pub mod PlaceLemmas
 pub mod HolderLemmas

@@ -7,5 +7,6 @@ pub mod ReportLemmas
 pub mod WritableLemmas
 pub mod ApartLemmas
 pub mod SinceLemmas
+pub mod InTurnLemmas
 pub mod NewlyPendingLemmas
 pub mod CountedLemmas

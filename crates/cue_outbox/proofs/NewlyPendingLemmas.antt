@@ -31,7 +31,8 @@ use Rattle.cue_outbox.proofs.ReadBackLemmas.{read_back}
 use Rattle.cue_outbox.proofs.ReportLemmas.{IsTold, live_told}
 use Rattle.cue_outbox.proofs.WritableLemmas.{sent, if_waits, IsWritableOrder, writable_for, all_writable}
 use Rattle.cue_outbox.proofs.ApartLemmas.{Apart, key, content_key, key_in, all_other, apart_pending}
-use Rattle.cue_outbox.proofs.SinceLemmas.{told, Stays, Since, begun, moved_on, stayed, since, is_state-after_events}
+use Rattle.cue_outbox.proofs.SinceLemmas.{told, Stays, Since, begun, moved_on, stayed}
+use Rattle.cue_outbox.proofs.InTurnLemmas.{since, is_state-after_events}
 
 -- ---- orders of other attempts, or of another stage, are other datagrams
 

@@ -1,15 +1,13 @@
--- What events that are acceptable in turn leave of the orders of each live attempt: either they ask its devices again,
--- or what its
--- devices are still to be told was pending before.
+-- What an event that is acceptable leaves of the orders of each live attempt: either it asks its devices again, or what
+-- its devices are still to be told was pending before.
 use Rattle.std.proofs.Common.{◌≡◌, ℕ, ◌+◌, ◌<◌, ◌≤◌, List, [], ◌∷◌, map, find, refl, sym, ◌∙◌, ap, subst, Bool, true}
-use Rattle.std.proofs.Common.{false, not, cond, ◌&&◌, ◌||◌, nat_eq, nat_le, arith, Option, None, Some, IsTrue}
+use Rattle.std.proofs.Common.{false, not, cond, ◌&&◌, nat_eq, nat_le, arith, Option, None, Some, IsTrue}
 use Rattle.std.specs.Prelude.{IfSome, is_some, unwrap_or}
 use Rattle.std.specs.List.{AllByRecursion, list_all, filter_map, cons_option}
 use Rattle.std.specs.Option.{option_map, option_map_or, option_and_then, option_or}
 use Rattle.std.proofs.lemmas.Bool.{and_parts, leb-true, ne_eqb, eqb-false}
 use Rattle.std.proofs.lemmas.List.Folds.{find-append}
 use Rattle.std.proofs.lemmas.Option.{same_Some}
-use Rattle.cue_show.specs.Devices.{is_among}
 use Rattle.cue_show.specs.Number.{same_text, is_cue_number}
 use Rattle.cue_show.specs.Parts.{are_parts}
 use Rattle.cue_show.specs.DeviceNumber.{is_device, is_port}
@@ -36,14 +34,14 @@ use Rattle.cue_exchange.specs.Steps.{without_ended, can_go_now}
 use Rattle.cue_core.specs.declared.event.Event.{Event}
 use Rattle.cue_core.specs.declared.event.Event.TheVariants as event
 use Rattle.cue_core.specs.State.{ShowState, cue_parts, are_of_parts, is_at_cue, is_state}
-use Rattle.cue_core.specs.Steps.{acceptable, after, are_acceptable, after_events}
+use Rattle.cue_core.specs.Steps.{acceptable, after}
 use Rattle.cue_core.specs.Pending.{Order, order_at, order_for, bytes_for}
 use Rattle.cue_core.proofs.lists.ConditionLemmas.{both, join, same_number, same_self}
 use Rattle.cue_core.proofs.live.FindingLemmas.{rising, found, found_has, found_passes, if_open, attempt_of-changed}
 use Rattle.cue_core.proofs.live.FindingLemmas.{attempt_of-without_ended, attempt_of-without_ended_other, rising-changed}
 use Rattle.cue_core.proofs.rules.RuleLemmas.{Rules, rules_of, begins, is_state-after}
 use Rattle.cue_core.proofs.rules.SoundLemmas.{sound_of}
-use Rattle.cue_outbox.specs.Asked.{number_asked, is_asked}
+use Rattle.cue_outbox.specs.Asked.{number_asked}
 use Rattle.cue_outbox.proofs.ReportLemmas.{devices_same, devices_each}
 
 -- what the devices of the attempt are still to be told
@@ -67,7 +65,7 @@ pub data Since (s t : ShowState) (p : ℕ) (b : Attempt) (asked : Bool) : Type 0
   stayed : asked ≡ false → (a : Attempt) → attempt_of s.live p ≡ Some a → Stays s a t b → Since s t p b asked
 
 -- the event asks the devices of q again
-abbrev asks : ℕ → Event → Bool
+abbrev pub asks : ℕ → Event → Bool
 asks q e = option_map_or (λ p. nat_eq p q) (number_asked e) false
 
 -- ---- the same ports and parts
@@ -91,7 +89,7 @@ told_same s t a (x ∷ xs) parts ports =
     ∙ ap (λ (os : List (ℕ × Order)). cons_option (order_for s a x) os) (told_same s t a xs parts ports.1)
 
 -- no event of the attempts, and the orders of the attempt as they were
-same_since : (s t : ShowState) (p : ℕ) (b : Attempt) → told t b ≡ told s b → attempt_of s.live p ≡ Some b
+pub same_since : (s t : ShowState) (p : ℕ) (b : Attempt) → told t b ≡ told s b → attempt_of s.live p ≡ Some b
     → Since s t p b false
 same_since s t p b e h =
     stayed refl b h
@@ -341,7 +339,7 @@ started_since s t q p c d b r next same h =
 
 -- ---- each event
 
-since_event : (s : ShowState) (e : Event) (p : ℕ) (b : Attempt) → IsTrue (is_state s) → IsTrue (acceptable s e)
+pub since_event : (s : ShowState) (e : Event) (p : ℕ) (b : Attempt) → IsTrue (is_state s) → IsTrue (acceptable s e)
     → attempt_of (after s e).live p ≡ Some b → Since s (after s e) p b (asks p e)
 since_event s (event.Device d port) p b i g h =
     let r = rules_of s i in
@@ -394,86 +392,3 @@ since_event s (event.Failed q d) p b i g h = settled_since s (after s (event.Fai
     refl (sound_of s i).rises h
 since_event s (event.Excuse q d) p b i g h = answered_since s (after s (event.Excuse q d)) q d p answer.Excused b refl
     refl h
-
--- ---- events in turn
-
-grows : (s : ShowState) (e : Event) → IsTrue (acceptable s e) → s.last_seq ≤ (after s e).last_seq
-grows s (event.Device d port) g = omega arith
-grows s (event.NoDevice d) g = omega arith
-grows s (event.Cue c parts) g = omega arith
-grows s (event.NoCue c) g = omega arith
-grows s (event.Place c) g = omega arith
-grows s (event.Start q c t) g = let n : q ≡ s.last_seq + 1 = (begins s q c t g).next in omega arith
-grows s (event.Ready q d) g = omega arith
-grows s (event.Go q) g = omega arith
-grows s (event.Done q d) g = omega arith
-grows s (event.Cancel q r) g = omega arith
-grows s (event.LetGo q d) g = omega arith
-grows s (event.Failed q d) g = omega arith
-grows s (event.Excuse q d) g = omega arith
-
-among-trans : (xs ys zs : List (ℕ × Order)) → AreAmong xs ys → AreAmong ys zs → AreAmong xs zs
-among-trans xs ys zs h k = record { each = λ test t. k.each test (h.each test t) }
-
-stays-trans : (s t u : ShowState) (a b c : Attempt) → Stays s a t b → Stays t b u c → Stays s a u c
-stays-trans s t u a b c h k =
-    record { stage = k.stage ∙ h.stage; among = among-trans (told s a) (told t b) (told u c) h.among k.among }
-
-asked_first : (x y : Bool) → x ≡ true → (x || y) ≡ true
-asked_first true y e = refl
-asked_first false y e = absurd cc
-
-asked_later : (x y : Bool) → y ≡ true → (x || y) ≡ true
-asked_later true y e = refl
-asked_later false y e = e
-
-asked_never : (x y : Bool) → x ≡ false → y ≡ false → (x || y) ≡ false
-asked_never true y e k = absurd cc
-asked_never false y e k = k
-
--- what came first, and then what came since
-joined : (s t u : ShowState) (p : ℕ) (c : Attempt) (x y : Bool) → s.last_seq ≤ t.last_seq
-    → ((b : Attempt) → attempt_of t.live p ≡ Some b → Since s t p b x) → Since t u p c y → Since s u p c (x || y)
-joined s t u p c x y grown before (begun k lt) = begun (asked_later x y k) (omega arith)
-joined s t u p c x y grown before (moved_on k b e prepares ends) = by (before b e)
-  where
-    by : Since s t p b x → Since s u p c (x || y)
-    by (begun m lt) = begun (asked_first x y m) lt
-    by (moved_on m a f first other) = absurd cc
-    by (stayed m a f same) = let P : Stage → Type 0 = λ g. IsTrue (is_preparing g) in
-        moved_on (asked_later x y k) a f (subst P same.stage prepares) ends
-joined s t u p c x y grown before (stayed k b e same) = by (before b e)
-  where
-    by : Since s t p b x → Since s u p c (x || y)
-    by (begun m lt) = begun (asked_first x y m) lt
-    by (moved_on m a f first other) = let P : Stage → Type 0 = λ g. is_preparing g ≡ false in
-        moved_on (asked_first x y m) a f first (subst P (sym same.stage) other)
-    by (stayed m a f earlier) = stayed (asked_never x y m k) a f (stays-trans s t u a b c earlier same)
-
-asked-next : (q : ℕ) (e : Event) (events : List Event) → is_asked q (e ∷ events) ≡ (asks q e || is_asked q events)
-asked-next q e events = by (number_asked e)
-  where
-    by : (o : Option ℕ) → is_among q (cons_option o (filter_map number_asked events))
-        ≡ (option_map_or (λ p. nat_eq p q) o false || is_asked q events)
-    by None = refl
-    by (Some p) = refl
-
--- how each attempt that is live after the events came to be so
-pub since : (s : ShowState) (events : List Event) (p : ℕ) (b : Attempt) → IsTrue (is_state s)
-    → IsTrue (are_acceptable s events) → attempt_of (after_events s events).live p ≡ Some b
-    → Since s (after_events s events) p b (is_asked p events)
-since s [] p b i g h = same_since s s p b refl h
-since s (e ∷ events) p b i g h =
-    let k = both (acceptable s e) (are_acceptable (after s e) events) g in
-    let P : Bool → Type 0 = λ z. Since s (after_events (after s e) events) p b z in
-    subst P (sym (asked-next p e events))
-    (joined s (after s e) (after_events (after s e) events) p b (asks p e) (is_asked p events) (grows s e k.0)
-    (λ a f. since_event s e p a i k.0 f)
-    (since (after s e) events p b (is_state-after s e i k.0) k.1 h))
-
--- the state after the events keeps its rules
-pub is_state-after_events : (s : ShowState) (events : List Event) → IsTrue (is_state s)
-    → IsTrue (are_acceptable s events) → IsTrue (is_state (after_events s events))
-is_state-after_events s [] i g = i
-is_state-after_events s (e ∷ events) i g = let k = both (acceptable s e) (are_acceptable (after s e) events) g in
-    is_state-after_events (after s e) events (is_state-after s e i k.0) k.1

@@ -24,7 +24,7 @@ use Rattle.cue_exchange.specs.declared.attempt.Stage.TheVariants.{Preparing, Dec
 use Rattle.cue_exchange.specs.declared.limits.TheConstants.{MAX_LIVE}
 use Rattle.cue_exchange.proofs.ListLemmas.{all_weaker, before_next}
 use Rattle.cue_exchange.proofs.LiveLemmas.{order_of}
-use Rattle.cue_exchange.proofs.LookUpLemmas.{can_put-next}
+use Rattle.cue_exchange.proofs.RisingLemmas.{can_put-next}
 use Rattle.cue_core.specs.State.{is_of_part, are_of_parts, is_at_cue}
 use Rattle.cue_core.proofs.lists.ConditionLemmas.{both, join, same_number, same_self}
 use Rattle.cue_records.specs.Fields.{byte_text, number_text, time_text, text_text}

@@ -11,7 +11,7 @@ use Rattle.cue_core.specs.Happenings.{onto}
 use Rattle.cue_core.specs.History.{is_history, parts_by, state_of}
 use Rattle.cue_core.specs.State.{ShowState, empty_state}
 use Rattle.cue_core.specs.Steps.{acceptable}
-use Rattle.cue_core.proofs.history.AttemptLemmas.{parts_by-on, quiet}
+use Rattle.cue_core.proofs.history.TellsLemmas.{parts_by-on, quiet}
 use Rattle.cue_core.proofs.history.HappeningLemmas.{history-onto}
 use Rattle.cue_core.proofs.lists.AnyLemmas.{any-append, or_left, or_right}
 use Rattle.cue_core.proofs.lists.ConditionLemmas.{both, neither}

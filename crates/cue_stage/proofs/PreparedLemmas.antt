@@ -25,7 +25,8 @@ use Rattle.cue_device.specs.Histories.{answers_of, device_after, latest, orders_
 use Rattle.cue_device.specs.Laws.{has_stood_by, is_standing_by}
 use Rattle.cue_device.specs.Table.{new_number, answer_over, new_standby, other_standby, same_cancel, same_go}
 use Rattle.cue_device.specs.Table.{same_standby}
-use Rattle.cue_device.proofs.HistoryLemmas.{Stands, all_fits}
+use Rattle.cue_device.proofs.HistoryLemmas.{all_fits}
+use Rattle.cue_device.proofs.FitsLemmas.{Stands}
 use Rattle.cue_stage.proofs.SayingLemmas.{further}
 
 -- ---- what an answer comes of

@@ -25,8 +25,9 @@ use Rattle.cue_core.specs.History.{FactsByHistory}
 use Rattle.cue_core.specs.InOrder.{may_go_by, keeps_order, is_in_order, GoAfterReady}
 use Rattle.cue_core.proofs.lists.ConditionLemmas.{both, join, cases, agrees, same-agrees, all_zip, any_not, same_number}
 use Rattle.cue_core.proofs.live.FindingLemmas.{found, found_has}
-use Rattle.cue_core.proofs.history.AttemptLemmas.{not_decided, Tells, devices_told, is_last, last_by, ready_by}
-use Rattle.cue_core.proofs.history.AttemptLemmas.{excused_by}
+use Rattle.cue_core.proofs.history.AttemptLemmas.{not_decided}
+use Rattle.cue_core.proofs.history.TellsLemmas.{Tells, devices_told, is_last, last_by, ready_by}
+use Rattle.cue_core.proofs.history.TellsLemmas.{excused_by}
 use Rattle.cue_core.proofs.history.NumberLemmas.{IsSound, Kept, Settles}
 use Rattle.cue_core.proofs.rules.SoundLemmas.{kept-history, sound-history}
 

@@ -31,9 +31,11 @@ use Rattle.cue_core.proofs.lists.ConditionLemmas.{both, cases, all_from, all_map
 use Rattle.cue_core.proofs.live.FindingLemmas.{rising, lacks-below, attempt_of-lacks, attempt_of-without_ended}
 use Rattle.cue_core.proofs.live.FindingLemmas.{attempt_of-without_ended_other, if_open, rising-changed, found}
 use Rattle.cue_core.proofs.live.FindingLemmas.{found-changed, found-others, found_has, found_passes}
-use Rattle.cue_core.proofs.history.AttemptLemmas.{Tells, IsQuiet, quiet, tells-on, devices_by-on, tells-start}
+use Rattle.cue_core.proofs.history.AttemptLemmas.{tells-start}
+use Rattle.cue_core.proofs.history.TellsLemmas.{Tells, IsQuiet, quiet, tells-on, devices_by-on}
 use Rattle.cue_core.proofs.history.AttemptLemmas.{tells-ready, tells-excuse, tells-go, tells-cancel, IsLastAnswer}
-use Rattle.cue_core.proofs.history.AttemptLemmas.{tells-end, of_device, is_last, gone_by}
+use Rattle.cue_core.proofs.history.AttemptLemmas.{tells-end, of_device, gone_by}
+use Rattle.cue_core.proofs.history.TellsLemmas.{is_last}
 
 -- what the rules of a state say that is used here
 pub record IsSound (s : ShowState) : Type 0 where

@@ -25,7 +25,8 @@ use Rattle.cue_core.specs.Safety.{NeverAskedBoth, NothingMoreIsAsked, OneHolder,
 use Rattle.cue_core.proofs.lists.ConditionLemmas.{both, same_number, pairwise_from}
 use Rattle.cue_core.proofs.live.FindingLemmas.{found}
 use Rattle.cue_core.proofs.rules.RuleLemmas.{rules_of}
-use Rattle.cue_core.proofs.history.AttemptLemmas.{Tells, is_last, waiting_not}
+use Rattle.cue_core.proofs.history.AttemptLemmas.{waiting_not}
+use Rattle.cue_core.proofs.history.TellsLemmas.{Tells, is_last}
 use Rattle.cue_core.proofs.rules.SoundLemmas.{is_state-history, sound-history, kept-history}
 use Rattle.cue_core.proofs.history.FactLemmas.{facts-by-history, go-after-ready, told_of}
 use Rattle.cue_show.proofs.TestLemmas.{not_so}

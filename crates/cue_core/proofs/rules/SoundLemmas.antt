@@ -20,7 +20,7 @@ use Rattle.cue_core.specs.Steps.{acceptable}
 use Rattle.cue_core.specs.History.{state_of, is_history}
 use Rattle.cue_core.proofs.lists.ConditionLemmas.{both, all_from, pairwise_from}
 use Rattle.cue_core.proofs.rules.RuleLemmas.{is_state-after, rules_of}
-use Rattle.cue_core.proofs.history.AttemptLemmas.{is_last}
+use Rattle.cue_core.proofs.history.TellsLemmas.{is_last}
 use Rattle.cue_core.proofs.history.NumberLemmas.{IsSound, Kept, kept-step, kept-none}
 
 -- a device that is Waiting is not done with

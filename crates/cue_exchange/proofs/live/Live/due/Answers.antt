@@ -1,7 +1,7 @@
 use Rattle.std.proofs.Common.{◌≡◌, IsTrue, nat_lt}
 use Rattle.std.proofs.lemmas.Result.{IfOk-weaker}
 use Rattle.cue_exchange.specs.Live.{due, pairwise}
-use Rattle.cue_exchange.proofs.LookUpLemmas.{rising-due}
+use Rattle.cue_exchange.proofs.RisingLemmas.{rising-due}
 use Rattle.cue_exchange.proofs.live.Live.due.Goals as goal
 
 pub returns-clause-rising : goal.returns-clause-rising

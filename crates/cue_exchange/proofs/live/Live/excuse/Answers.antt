@@ -1,6 +1,7 @@
 use Rattle.cue_exchange.specs.declared.attempt.Answer.TheVariants.{Excused}
 use Rattle.cue_exchange.specs.Steps.{answers_as}
-use Rattle.cue_exchange.proofs.LiveLemmas.{inside-answers_as, are_live-excused}
+use Rattle.cue_exchange.proofs.LiveLemmas.{inside-answers_as}
+use Rattle.cue_exchange.proofs.StepLemmas.{are_live-excused}
 use Rattle.cue_exchange.proofs.HolderLemmas.{holders-changed}
 use Rattle.cue_exchange.proofs.live.Live.excuse.Goals as goal
 

@@ -1,4 +1,4 @@
-use Rattle.cue_exchange.proofs.LiveLemmas.{are_live-failed}
+use Rattle.cue_exchange.proofs.StepLemmas.{are_live-failed}
 use Rattle.cue_exchange.proofs.live.Live.failed.Goals as goal
 
 pub invariant_of-self : goal.invariant_of-self

@@ -1,6 +1,7 @@
 use Rattle.cue_exchange.specs.declared.attempt.Stage.TheVariants.{Decided}
 use Rattle.cue_exchange.specs.Steps.{moves_to}
-use Rattle.cue_exchange.proofs.LiveLemmas.{inside-moves_to, are_live-go}
+use Rattle.cue_exchange.proofs.LiveLemmas.{inside-moves_to}
+use Rattle.cue_exchange.proofs.StepLemmas.{are_live-go}
 use Rattle.cue_exchange.proofs.HolderLemmas.{holders-changed}
 use Rattle.cue_exchange.proofs.live.Live.go.Goals as goal
 

@@ -1,4 +1,4 @@
-use Rattle.cue_exchange.proofs.LiveLemmas.{are_live-started}
+use Rattle.cue_exchange.proofs.StepLemmas.{are_live-started}
 use Rattle.cue_exchange.proofs.live.Live.start.Goals as goal
 
 pub invariant_of-self-2 : goal.invariant_of-self-2

@@ -1,5 +1,5 @@
 //! The commands of an evening: the word of each on the command line, and what it asks of the controller.
-ghost use Rattle.std.specs.Prelude.{◌≡◌, ⊥, None, IfSome};
+ghost use Rattle.std.specs.Prelude.{◌≡◌, None, IfSome};
 ghost use Rattle.cue_desk.specs.Orders.{asked_of, spelling_of};
 ghost use Rattle.cue_desk.specs.declared.orders.Word.{Word};
 

@@ -6,16 +6,16 @@ use Rattle.std.specs.List.{list_all}
 use Rattle.std.proofs.lemmas.Bool.{and_parts}
 use Rattle.cue_show.specs.Bytes.{are_bytes}
 use Rattle.cue_show.specs.declared.part.Part.{Part}
-use Rattle.cue_show.specs.declared.limits.TheConstants.{MAX_PARTS, MAX_PART_BYTES}
+use Rattle.cue_show.specs.declared.limits.TheConstants.{MAX_PART_BYTES}
 use Rattle.cue_show.specs.DeviceNumber.{is_device, is_port}
-use Rattle.cue_show.specs.Devices.{distinct, devices_in}
 use Rattle.cue_show.specs.Number.{is_cue_number}
-use Rattle.cue_show.specs.Parts.{is_part, are_parts, has_required_part}
+use Rattle.cue_show.specs.Parts.{is_part, are_parts}
 use Rattle.cue_osc.specs.Argument.{Argument}
 use Rattle.cue_osc.specs.Content.{message}
 use Rattle.cue_osc.specs.Reading.{datagram_at}
 use Rattle.cue_operator.specs.Methods.{address_of}
 use Rattle.cue_operator.specs.Arguments.{are_triples, triples_in, optional_by, part_by, command_by}
+use Rattle.cue_show_file.proofs.PartLemmas.{are_parts-each}
 use Rattle.cue_desk.specs.declared.asking.Asked.{Asked}
 use Rattle.cue_desk.specs.declared.asking.Asked.TheVariants as asked
 use Rattle.cue_desk.specs.Asks.{AsksFor, arguments_of, command_of, flag_of, flagged_parts, is_askable, method_of}
@@ -39,13 +39,6 @@ parts-read [] h = refl
 parts-read (p ∷ ps) h =
     let k = and_parts (is_part p) (list_all is_part ps) h in
     rw (part-read p k.0, parts-read ps k.1) refl
-
-pub are_parts-each : (ps : List Part) → IsTrue (are_parts ps) → IsTrue (list_all is_part ps)
-are_parts-each ps h =
-    let some = and_parts (has_required_part ps)
-    (nat_le (length ps) MAX_PARTS && (distinct (devices_in ps) && list_all is_part ps)) h in
-    let few = and_parts (nat_le (length ps) MAX_PARTS) (distinct (devices_in ps) && list_all is_part ps) some.1 in
-    (and_parts (distinct (devices_in ps)) (list_all is_part ps) few.1).1
 
 pub asked-read : (a : Asked) → IsTrue (is_askable a) → command_by (arguments_of a) (method_of a) ≡ command_of a
 unfolding command_by

@@ -1,9 +1,4 @@
 pub mod AskLemmas
 pub mod BoardLemmas
-pub mod DefinedLemmas
 pub mod ReadLemmas
-pub mod ReadingLemmas
-pub mod SaidLemmas
-pub mod StepLemmas
 pub mod TakenLemmas
-pub mod WrittenLemmas

@@ -24,9 +24,9 @@ use Rattle.cue_core.specs.Steps.{after_events}
 use Rattle.cue_operator.specs.declared.method.CueVerb.TheVariants as on_cue
 use Rattle.cue_desk.specs.declared.asking.Asked.{Asked}
 use Rattle.cue_desk.specs.declared.asking.Asked.TheVariants as asked
-use Rattle.cue_desk.specs.declared.show_file.CueEntry.{CueEntry}
-use Rattle.cue_desk.specs.declared.show_file.DeviceEntry.{DeviceEntry}
-use Rattle.cue_desk.specs.Accepted.{after_cues, after_devices}
+use Rattle.cue_show_file.specs.declared.file.CueEntry.{CueEntry}
+use Rattle.cue_show_file.specs.declared.file.DeviceEntry.{DeviceEntry}
+use Rattle.cue_show_file.specs.Accepted.{after_cues, after_devices}
 use Rattle.cue_desk.specs.Asks.{command_of}
 use Rattle.cue_desk.specs.Loading.{CheckedIsTaken, IsTaken, cue_command, device_command, is_there, read_by}
 use Rattle.cue_desk.proofs.ReadLemmas.{asked-is_read}

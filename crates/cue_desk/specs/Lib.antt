@@ -1,15 +1,10 @@
-pub mod Asks
-pub mod Accepted
 pub mod Answered
+pub mod Asks
 pub mod Board
 pub mod Endings
 pub mod Hearing
 pub mod Lines
 pub mod Loading
 pub mod Orders
-pub mod Routes
-pub mod Reading
 pub mod Readings
 pub mod Replies
-pub mod Said
-pub mod Written

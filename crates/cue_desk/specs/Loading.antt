@@ -15,10 +15,10 @@ use Rattle.cue_operator.specs.Commands.{commands_of}
 use Rattle.cue_operator.specs.declared.method.Method.TheVariants as method
 use Rattle.cue_desk.specs.declared.asking.Asked.{Asked}
 use Rattle.cue_desk.specs.declared.asking.Asked.TheVariants as asked
-use Rattle.cue_desk.specs.declared.show_file.CueEntry.{CueEntry}
-use Rattle.cue_desk.specs.declared.show_file.DeviceEntry.{DeviceEntry}
-use Rattle.cue_desk.specs.declared.show_file.ShowFile.{ShowFile}
-use Rattle.cue_desk.specs.Accepted.{after_file}
+use Rattle.cue_show_file.specs.declared.file.CueEntry.{CueEntry}
+use Rattle.cue_show_file.specs.declared.file.DeviceEntry.{DeviceEntry}
+use Rattle.cue_show_file.specs.declared.file.ShowFile.{ShowFile}
+use Rattle.cue_show_file.specs.Accepted.{after_file}
 use Rattle.cue_desk.specs.Asks.{arguments_of, command_of, flagged_parts, is_askable, method_of}
 
 -- ---- one message

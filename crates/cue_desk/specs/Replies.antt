@@ -2,7 +2,7 @@
 use Rattle.std.specs.Prelude.{ℕ, List, [], ◌∷◌, Option, None, Some, if◌then◌else◌, codes}
 use Rattle.cue_osc.specs.Argument.{Argument, int, text}
 use Rattle.cue_show.specs.Number.{same_text}
-use Rattle.cue_desk.specs.Said.{cue_number_of}
+use Rattle.cue_show_file.specs.Said.{cue_number_of}
 use Rattle.cue_desk.specs.declared.replying.Replied.{Replied}
 use Rattle.cue_desk.specs.declared.replying.Replied.TheVariants as replied
 

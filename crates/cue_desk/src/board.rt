@@ -12,13 +12,12 @@ mod live;
 mod next;
 mod stack;
 
-use crate::show_file::ShowFile;
 pub use beside::{heard_lines, log_lines};
 use brief::push_live_brief;
 pub use columns::{COLUMNS, fitted};
 use cue_core::{Ended, State};
+use cue_show_file::ShowFile;
 use cue_words::outcome_words;
-pub(crate) use line::cue_text;
 use line::{BoardLine, texts};
 use live::push_live;
 pub use next::next_cue;

@@ -1,13 +1,5 @@
-//! Laws of what the desk asks, reads and writes, each the contract of a function. Only the last one does anything.
-ghost use Rattle.std.specs.Prelude.{◌≡◌, [], IfOk};
+//! Laws of what the desk asks, each the contract of a function that does nothing.
 ghost use Rattle.cue_desk.specs.Loading.{AskedIsRead, CheckedIsTaken};
-ghost use Rattle.cue_desk.specs.Reading.{CheckedIsSaid, ExportNamesNoPlace, said_of};
-ghost use Rattle.cue_desk.specs.Said.{ExportSaysTheShow};
-ghost use Rattle.cue_desk.specs.Written.{ExportIsRead, WrittenIsRead};
-
-use crate::show_file::{Draft, of_show, read, written};
-use cue_show::Show;
-use std::alloc::{AllocError, Global};
 
 /// From the message that asks for something a controller reads exactly that command: one, and no other. The cue or the
 /// device is in its show, unless it is to be added.
@@ -20,44 +12,3 @@ pub fn asked_is_read()
 pub fn checked_is_taken()
     ensures { CheckedIsTaken }
 {}
-
-/// The show that the check finds has exactly the devices and the cues of the file, in order. So what the text says,
-/// what is loaded and what the controller has are one.
-pub fn checked_is_said()
-    ensures { CheckedIsSaid }
-{}
-
-/// The text that is written of a show file is, by the grammar of TOML, the table of that file: each device and each cue
-/// with its number, its port, its names and its parts, in order, and nothing else.
-pub fn written_is_read()
-    ensures { WrittenIsRead }
-{}
-
-/// So the text that is exported of a show is read as exactly the devices and cues of this show.
-pub fn export_is_read()
-    ensures { ExportIsRead }
-{}
-
-/// And that table says the show, by the definition of a show file: the same devices with their ports and the same cues
-/// with their parts, in the same order. So nothing is lost in an export.
-pub fn export_says_the_show()
-    ensures { ExportSaysTheShow }
-{}
-
-/// Nor does that text name a place on the stage's network, which no controller keeps.
-pub fn export_names_no_place()
-    ensures { ExportNamesNoPlace }
-{}
-
-/// So the text that is exported of a show reads back, with no mistake, as a file of this very show. This is no law of
-/// definitions alone: it makes the calls.
-pub fn export_reads_back(alloc: Global, show: &Show) -> Result<Draft, AllocError>
-    ensures clean { IfOk result (λ draft. draft.findings.items ≡ []) }
-    ensures same { IfOk result (λ draft. said_of draft.file ≡ (show.now.devices, show.now.cues)) }
-{
-    // Called for its clause that the show keeps its rules.
-    let _ = show.place();
-    let file = of_show(alloc, show)?;
-    let text = written(alloc, &file)?;
-    read(alloc, text.as_str())
-}

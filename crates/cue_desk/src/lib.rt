@@ -1,5 +1,4 @@
-//! The desk beside the controller: show files, the messages that it sends, what becomes of them, and the board that it
-//! shows.
+//! The desk beside the controller: the messages that it sends, what becomes of them, and the board that it shows.
 #![tactic(auto)]
 
 pub mod answered;
@@ -12,5 +11,4 @@ pub mod laws;
 pub mod line;
 pub mod orders;
 pub mod replying;
-pub mod show_file;
 pub mod stamps;

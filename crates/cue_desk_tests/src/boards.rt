@@ -1,10 +1,10 @@
 //! The board of a show that is at rest.
 use cue_core::{Ended, Event, State};
 use cue_desk::board::{board_lines, board_lines_within, heard_lines, log_lines, next_cue};
-use cue_desk::show_file::{Checked, check, read};
 use cue_exchange::{Live, Outcome};
 use cue_relay::status;
 use cue_show::CueNo;
+use cue_show_file::{Checked, check, read};
 use std::alloc::{AllocError, Global};
 
 /// A show of two cues; the second one has no name.

@@ -1,6 +1,6 @@
 //! A small show file, read, checked and written.
 use cue_desk::counting::Count;
-use cue_desk::show_file::{Checked, Finding, check, of_show, read, written};
+use cue_show_file::{Checked, Finding, check, of_show, read, written};
 use std::alloc::{AllocError, Global};
 
 /// A file with nothing wrong.

@@ -2,8 +2,8 @@
 use cue_desk::asking::{
     Asked, bundle_of_cues, bundle_of_devices, cues_that_fit, datagram, devices_that_fit,
 };
-use cue_desk::show_file::read;
 use cue_operator::CueVerb;
+use cue_show_file::read;
 use std::alloc::{AllocError, Global};
 use std::ops::Range;
 

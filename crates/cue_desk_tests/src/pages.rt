@@ -2,14 +2,14 @@
 use cue_core::State;
 use cue_desk::asking::Asked;
 use cue_operator::CueVerb;
-use cue_page::answering::{Kind, NOTHING, Outcome, answer};
 use cue_page::board::{Around, board_text};
 use cue_page::page::{page_text, policy};
-use cue_page::pressing::read_press;
 use cue_page::relay::{Relay, relay_value};
-use cue_page::replying::{Told, told_text, trouble_text};
-use cue_page::request::{Door, Refusal, Wish, judge, read_head};
 use cue_relay::status::read;
+use cue_request::answering::{Kind, NOTHING, Outcome, answer};
+use cue_request::pressing::read_press;
+use cue_request::replying::{Told, told_text, trouble_text};
+use cue_request::request::{Door, Refusal, Wish, judge, read_head};
 use std::alloc::{AllocError, Global};
 
 const DOOR: Door<'static> = Door {

@@ -4,8 +4,8 @@ use Rattle.cue_exchange.specs.declared.attempt.Reason.{Reason}
 use Rattle.cue_exchange.specs.declared.attempt.Reason.TheVariants as reason
 use Rattle.cue_exchange.specs.declared.attempt.Stage.{Stage}
 use Rattle.cue_exchange.specs.declared.attempt.Stage.TheVariants.{Preparing, Decided, Cancelling}
-use Rattle.cue_evening.specs.declared.course.Cause.{Cause}
-use Rattle.cue_evening.specs.declared.course.Cause.TheVariants as cause
+use Rattle.cue_course.specs.declared.course.Cause.{Cause}
+use Rattle.cue_course.specs.declared.course.Cause.TheVariants as cause
 
 -- what a recovery found an attempt at, and what becomes of it
 abbrev pub recovered_words : Stage → List ℕ

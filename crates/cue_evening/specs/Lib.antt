@@ -1,5 +1,1 @@
-pub mod Alone
 pub mod AttemptWords
-pub mod Busy
-pub mod Ends
-pub mod Entries

@@ -1,18 +1,13 @@
 //! The log: what it writes at each look.
-ghost use Rattle.std.specs.Prelude.{◌≡◌, true, Some, IfSome};
-ghost use Rattle.cue_core.specs.Steps.{after, after_events};
+ghost use Rattle.std.specs.Prelude.{◌≡◌, Some};
 
-use crate::alone::standby_line;
-use crate::commands::cut;
-use crate::course::{Cause, Course};
-use crate::entry::{Entry, Reply};
-use crate::logged::LoggedWire;
-use crate::notes::Notes;
 use crate::page::Page;
-use crate::reasons::{cancel_line, device_of_cancel, end_line, recovered_line};
+use crate::reasons::{cancel_line, device_of_cancel, end_line, recovered_line, standby_line};
 use crate::replies::{Answer, cause_in};
 use crate::time::Time;
 use cue_core::{Event, State};
+use cue_course::commands::cut;
+use cue_course::{Cause, Course, Entry, LoggedWire, Notes, Reply, state_after};
 use cue_engine::Wire;
 use cue_run::Watch;
 use std::alloc::Global;
@@ -150,29 +145,6 @@ impl<'a, R: Clock + Eprint> EveningLog<'a, R> {
         self.tell_ends(&page, state);
         self.last = Some(state.last_seq());
     }
-}
-
-// The state after the events of an input: the one before it with these, where it is known. Else a copy of the state
-// that the run shows, which may be ahead of the input until its group ends. None where there is no memory for it.
-fn state_after(before: Option<State>, shown: &State, batch: &[Event]) -> Option<State>
-    ensures { IfSome before (λ s. IfSome result (λ t. t ≡ after_events s batch.now)) }
-{
-    let Some(mut state) = before else {
-        return shown.try_clone().ok();
-    };
-    for event in batch {
-        if !has_applied(&mut state, event) {
-            return None;
-        }
-    }
-    Some(state)
-}
-
-// Lets an event happen to a state, where it may and there is memory for it; answers whether it happened.
-fn has_applied(state: &mut State, event: &Event) -> bool
-    ensures { result ≡ true → state.new ≡ after state.old event.now }
-{
-    state.can_apply(event) && state.apply(event).is_ok()
 }
 
 // How many commands of a reply made events, where each reply that made some has a note.

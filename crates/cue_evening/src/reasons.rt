@@ -2,8 +2,8 @@
 ghost use Rattle.std.specs.Prelude.{◌≡◌};
 ghost use Rattle.cue_evening.specs.AttemptWords.{cause_words, recovered_words};
 
-use crate::course::{Cause, Failure, Followed};
 use cue_core::Event;
+use cue_course::{Cause, Failure, Followed, named_device};
 use cue_exchange::{Attempt, Reason, Stage};
 use cue_show::{CueNo, DeviceNo};
 use cue_words::{outcome_words, reason_words};
@@ -34,6 +34,18 @@ pub fn recovered_line(alloc: Global, live: &[Attempt]) -> Result<String, AllocEr
         write!(text, "attempt {} cue {cue} {words}", attempt.seq)?;
     }
     Ok(text)
+}
+
+/// The line of an attempt that began after the last one that was seen, which has this number, and hangs on one device.
+/// None where it has no line, or there is no memory for it.
+pub fn standby_line(alloc: Global, last: u32, attempt: &Attempt) -> Option<String> {
+    let device = named_device(last, attempt)?.number();
+    let cue = attempt.cue.text().escape_ascii();
+    let number = attempt.seq;
+    let text = format!(in alloc;
+        "STANDBY attempt {number} cue {cue}: device {device} alone is required"
+    );
+    text.ok()
 }
 
 /// The device by which a preparation was given up, where the event at this place gives it up.

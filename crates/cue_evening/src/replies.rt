@@ -1,9 +1,7 @@
 //! The lines of replies.
-use crate::busy::{held_device, waiting_devices};
-use crate::course::Cause;
-use crate::entry::Reply;
 use crate::names::{push_cues, push_devices, push_numbers};
 use cue_core::{Code, Event, State};
+use cue_course::{Cause, Reply, held_device, waiting_devices};
 use cue_exchange::{Attempt, Live};
 use cue_show::{CueNo, DeviceNo, Part, Parts};
 use cue_words::code_words;

@@ -4,8 +4,8 @@ ghost use Rattle.serde_json.specs.View.{view};
 ghost use Rattle.cue_page.specs.Heard.{heard_data};
 
 use crate::board::device_name;
-use cue_desk::show_file::ShowFile;
 use cue_relay::status::{STALE, Seen, Status, heard_words};
+use cue_show_file::ShowFile;
 use serde_json::{Value, json};
 use std::alloc::{AllocError, Global};
 

@@ -4,6 +4,10 @@
 #[cfg(test)]
 mod bursts;
 #[cfg(test)]
+mod evening;
+#[cfg(test)]
+mod program;
+#[cfg(test)]
 mod runs;
 #[cfg(test)]
 mod scripts;

@@ -5,12 +5,6 @@ ghost use Rattle.std.specs.Prelude.{◌≡◌};
 ghost use Rattle.cue_script.specs.Endings.{failure_of};
 ghost use Rattle.cue_script.specs.declared.ending.Ending.TheVariants.{Stopped};
 
-mod line;
-mod program;
-mod show_text;
-#[cfg(test)]
-mod tests;
-
 use cue_script::{Ending, StreamFailure};
 use std::env;
 use std::io::{self, BufWriter, Write};
@@ -27,7 +21,7 @@ fn perform(rt: &HostRuntime) -> io::Result<u8> {
     let words = words(rt)?;
     let mut reader = rt.reader();
     let mut writer = BufWriter::new(alloc, io::writer(rt))?;
-    Ok(program::perform(rt, &words, &mut reader, &mut writer))
+    Ok(cue_program::perform(rt, &words, &mut reader, &mut writer))
 }
 
 // How the program ends where it did not begin.

@@ -10,9 +10,9 @@ ghost use Rattle.cue_desk.specs.Loading.{cue_message, device_message};
 ghost use Rattle.cue_desk.specs.declared.asking.bundling.TheConstants.{MAX_TOGETHER};
 
 use super::{AskFault, cue_args};
-use crate::show_file::{CueEntry, DeviceEntry};
 use cue_osc::{Arg, Args, MAX_LEN, Message, Packet};
 use cue_show::Part;
+use cue_show_file::{CueEntry, DeviceEntry};
 use std::alloc::{AllocError, Global};
 
 /// The most messages of one bundle: no more replies than these wait at the desk's socket at once.

@@ -3,9 +3,7 @@ ghost use Rattle.std.specs.Prelude.{◌≡◌, ◌++◌, IfOk, OnOk, map, replic
 ghost use Rattle.cue_desk.specs.Board.{said_of, text_of};
 
 use super::columns::{COLUMNS, fitted};
-use cue_show::CueNo;
 use std::alloc::{AllocError, Global};
-use std::str;
 
 /// A line of the board: what the state says, and what follows after it.
 #[derive(Drop)]
@@ -52,16 +50,6 @@ impl BoardLine {
         let mut text = String::from_str(alloc, self.said.as_str())?;
         text.push_str(self.rest.as_str())?;
         Ok(text)
-    }
-}
-
-/// The text of a cue number.
-pub(crate) fn cue_text(cue: &CueNo) -> &str
-    ensures { result.now ≡ cue.now }
-{
-    match str::from_utf8(cue.text()) {
-        Ok(text) => text,
-        Err(_) => unreachable!(),
     }
 }
 

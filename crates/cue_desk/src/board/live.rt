@@ -4,10 +4,10 @@ ghost use Rattle.std.specs.List.{flat_map};
 ghost use Rattle.cue_desk.specs.Board as board;
 ghost use Rattle.cue_desk.specs.Board.{said_of};
 
-use super::line::{BoardLine, cue_text, push_spaces};
-use crate::show_file::ShowFile;
+use super::line::{BoardLine, push_spaces};
 use cue_exchange::{Attempt, DeviceAnswer, Stage};
 use cue_show::DeviceNo;
+use cue_show_file::{ShowFile, cue_text};
 use cue_words::{answer_words, reason_words};
 use std::alloc::{AllocError, Global};
 

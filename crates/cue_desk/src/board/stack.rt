@@ -4,12 +4,12 @@ ghost use Rattle.std.specs.Map.{keys_of};
 ghost use Rattle.cue_desk.specs.Board as board;
 ghost use Rattle.cue_desk.specs.Board.{said_of};
 
-use super::line::{BoardLine, cue_text, push_spaces};
+use super::line::{BoardLine, push_spaces};
 use super::next::next_cue;
-use crate::show_file::{CueEntry, ShowFile};
 use cue_core::State;
 use cue_exchange::Attempt;
 use cue_show::{CueNo, Show};
+use cue_show_file::{CueEntry, ShowFile, cue_text};
 use std::alloc::{AllocError, Global};
 
 /// How many cues are shown at most.

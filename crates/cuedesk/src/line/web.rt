@@ -1,5 +1,6 @@
 //! The command `web`, and what stands after it.
-use super::{option_in, over_dir, port, port_in, relay_status, text_in};
+use super::commands::{names_file, over_dir, port, relay_status};
+use super::{option_in, port_in, text_in};
 use clap::{Arg, ArgAction, ArgMatches, Command, value_parser};
 use cue_desk::line::LineFault;
 use std::alloc::{AllocError, Global};
@@ -19,26 +20,29 @@ pub struct Web {
     pub port: Option<u16>,
 }
 
-/// The command `web`.
-pub fn web_command<'a>(alloc: Global) -> Result<Command<'a>, AllocError> {
-    let file = Arg::new(alloc, "FILE")
-        .help("The show file, for names and notes")
-        .action(ArgAction::Set);
-    let http = Arg::new(alloc, "http")
+// The port of 127.0.0.1 at which the page is.
+fn http<'a>(alloc: Global) -> Arg<'a> {
+    Arg::new(alloc, "http")
         .help("The port of 127.0.0.1 at which the page is served")
         .long("http")
         .required(true)
         .action(ArgAction::Set)
-        .value_parser(value_parser!(u16));
-    over_dir(
-        alloc,
-        "web",
-        "Show the board with buttons in a browser:  cuedesk web show evening.toml --http 8080",
-    )?
-    .arg(file)?
-    .arg(http)?
-    .arg(relay_status(alloc))?
-    .arg(port(alloc))
+        .value_parser(value_parser!(u16))
+}
+
+// The command `web`, without its options.
+fn web_of_files<'a>(alloc: Global) -> Result<Command<'a>, AllocError> {
+    let about =
+        "Show the board with buttons in a browser:  cuedesk web show evening.toml --http 8080";
+    over_dir(alloc, "web", about)?.arg(names_file(alloc))
+}
+
+/// The command `web`.
+pub fn web_command<'a>(alloc: Global) -> Result<Command<'a>, AllocError> {
+    web_of_files(alloc)?
+        .arg(http(alloc))?
+        .arg(relay_status(alloc))?
+        .arg(port(alloc))
 }
 
 /// The command `web`, with what stands after it.

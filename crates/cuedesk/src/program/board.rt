@@ -13,7 +13,7 @@ pub use beside::read_status;
 use beside::{read_heard, read_log};
 use cue_desk::board::{COLUMNS, age_line, board_lines, board_lines_within, fitted};
 use cue_desk::ending::Ending;
-use cue_desk::show_file::ShowFile;
+use cue_show_file::ShowFile;
 use screen::Screen;
 use std::alloc::{AllocError, Global};
 use std::fs::{File, Files};

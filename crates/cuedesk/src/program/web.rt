@@ -9,7 +9,7 @@ use super::saying::{print, say};
 use super::wire::Wire;
 use crate::line::web::Web;
 use cue_desk::ending::Ending;
-use cue_page::request::Door;
+use cue_request::request::Door;
 use desk::{Desk, Sources};
 use hex::encode;
 use mio::net::TcpListener;

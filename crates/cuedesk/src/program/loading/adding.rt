@@ -7,7 +7,7 @@ use super::order::comes_late;
 use cue_desk::answered::Answered;
 use cue_desk::asking::{cues_that_fit, devices_that_fit};
 use cue_desk::ending::Ending;
-use cue_desk::show_file::{CueEntry, DeviceEntry, Subject};
+use cue_show_file::{CueEntry, DeviceEntry, Subject};
 use std::io::{Eprint, Write};
 use std::net::Net;
 

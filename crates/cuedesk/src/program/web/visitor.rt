@@ -2,8 +2,8 @@
 ghost use Rattle.std.specs.Prelude.{◌≤◌, length, IfOk, IfSome};
 
 use cue_desk::asking::Asked;
-use cue_page::pressing::read_press;
-use cue_page::request::{Door, MAX_BODY, MAX_HEAD, Refusal, Wish, read_request};
+use cue_request::pressing::read_press;
+use cue_request::request::{Door, MAX_BODY, MAX_HEAD, Refusal, Wish, read_request};
 use mio::net::TcpStream;
 use std::alloc::Global;
 use std::io::{self, ErrorKind, Read, Write};

@@ -1,0 +1,4 @@
+mod ClapRowLemmas
+mod ClapWalkLemmas
+mod CommandLemmas
+mod LineLemmas

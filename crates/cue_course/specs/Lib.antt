@@ -1,0 +1,4 @@
+pub mod Alone
+pub mod Busy
+pub mod Ends
+pub mod Entries

@@ -1,5 +1,0 @@
-use Rattle.cue_desk.proofs.SaidLemmas.{export-names_no_place}
-use Rattle.cue_desk.proofs.laws.export_names_no_place.Goals as goal
-
-pub returns : goal.returns
-returns c = export-names_no_place

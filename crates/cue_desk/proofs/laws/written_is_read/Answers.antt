@@ -1,5 +1,0 @@
-use Rattle.cue_desk.proofs.DefinedLemmas.{written-is_read}
-use Rattle.cue_desk.proofs.laws.written_is_read.Goals as goal
-
-pub returns : goal.returns
-returns c = written-is_read

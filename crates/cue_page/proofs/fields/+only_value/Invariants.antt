@@ -1,5 +1,0 @@
-use Rattle.std.proofs.Common.{length}
-use Rattle.cue_page.proofs.fields.+only_value.Given as goal
-
-abbrev pub decreases-only_value : goal.decreases-only_value
-decreases-only_value l = length l.fields.now

@@ -1,0 +1,5 @@
+pub mod Endings
+pub mod Files
+pub mod Locking
+pub mod Performing
+pub mod Showing

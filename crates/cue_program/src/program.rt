@@ -1,0 +1,359 @@
+//! The program: what each command does, prints and answers.
+ghost use Rattle.std.specs.Prelude.{
+  ◌≡◌,
+  ◌≢◌,
+  ◌≤◌,
+  ◌⊎◌,
+  [],
+  false,
+  map,
+  string_bytes,
+  IfErr,
+  IfOk,
+  IfSome,
+  IsErrOf,
+  OnOk,
+};
+ghost use Rattle.std.specs.Io.KnownBytes.{Appends};
+ghost use Rattle.clap.specs.Words.{fault_of, subcommand_of};
+ghost use Rattle.cue_core.specs.State.{empty_state};
+ghost use Rattle.cue_command_line.specs.Lines.{AsksForText, IsHelp, IsNoCommand, cuectl_app};
+ghost use Rattle.cue_keeper.specs.Observed.{is_broken};
+ghost use Rattle.cue_engine.specs.Observed.{state_of, keeper_of};
+ghost use Rattle.cue_program.specs.Endings.{run_fault, unbound_fault};
+ghost use Rattle.cue_program.specs.Performing.{
+  EndsSo,
+  HasEnded,
+  IsRunTold,
+  NamesScript,
+  formed_text,
+  turns_text,
+};
+ghost use Rattle.cue_script.specs.Script.{HasRun};
+ghost use Rattle.cue_command_line.specs.declared.words.LineFault.TheVariants.{Memory, Usage};
+ghost use Rattle.cue_program.specs.declared.program.fault.ProgramFault.TheVariants.{Io, Net};
+
+pub mod fault;
+mod files;
+mod lock;
+pub(crate) mod looking;
+
+use cue_command_line::{Line, LineFault, line};
+use cue_copies::refusal_of;
+use cue_course::LoggedWire;
+use cue_disk::{Disk, FileDisk};
+use cue_engine::Engine;
+use cue_evening::{EveningLog, say_ready};
+use cue_keeper::{Fault, StoreFault};
+use cue_run::{Ended, MAX_TOGETHER, RunFault, UdpReceiver, UdpSource, UdpWire, local, run_grouped};
+use cue_script::script;
+use fault::{ProgramFault, print_fault, run_fault, status_of};
+use files::{create_both, open_both, refused_store, say, say_failures};
+use lock::{StoreLock, lock_store};
+use looking::show;
+use std::alloc::Global;
+use std::fs::{File, Files};
+use std::io::{self, Eprint, Read, Write};
+use std::net::{Net, UdpSocket};
+use std::time::Clock;
+
+// Prints, and sees that all of it left.
+fn print<W: Write>(writer: &mut W, text: &[u8]) -> Result<(), ProgramFault>
+    ensures printed { OnOk result (Appends (W.contents writer.old) (W.contents writer.new) text.now) }
+    ensures io { IfErr result (λ fault. fault ≡ Io) }
+{
+    match writer.write_all(text) {
+        Ok(()) => match writer.flush() {
+            Ok(()) => Ok(()),
+            Err(_) => Err(ProgramFault::Io),
+        },
+        Err(_) => Err(ProgramFault::Io),
+    }
+}
+
+// The engine of an empty show on two files. It is asked for where it is said that one was formed.
+fn form_on<R: Eprint>(
+    rt: &R,
+    alloc: Global,
+    dir: &str,
+    first: FileDisk,
+    second: FileDisk,
+) -> Result<Engine<FileDisk>, ProgramFault>
+    ensures { IfOk result (λ engine. state_of engine ≡ empty_state) }
+{
+    match Engine::form(alloc, first, second) {
+        Ok(engine) => Ok(engine),
+        Err(refused) => Err(refused_store(rt, dir, refused)),
+    }
+}
+
+// Makes an empty show in a folder. Its engine is the witness that it was formed.
+fn form<R: Files<File = File> + Eprint, W: Write>(
+    rt: &R,
+    alloc: Global,
+    dir: &str,
+    writer: &mut W,
+) -> Result<Engine<FileDisk>, ProgramFault>
+    ensures formed { IfOk result (λ engine. state_of engine ≡ empty_state) }
+    ensures printed { OnOk result (Appends (W.contents writer.old) (W.contents writer.new) formed_text) }
+{
+    let (first, second) = create_both(rt, alloc, dir)?;
+    let engine = form_on(rt, alloc, dir, first, second)?;
+    match print(writer, b"formed\n") {
+        Ok(()) => Ok(engine),
+        Err(fault) => {
+            drop(engine);
+            Err(fault)
+        }
+    }
+}
+
+/// Runs the show over a socket that is bound to this port, for so many turns at most, and keeps the log of the evening on
+/// standard error. It fails where the socket cannot be read, or there is no memory to begin.
+pub fn serve_on<'a, R: Clock + Eprint, D: Disk>(
+    rt: &'a R,
+    alloc: Global,
+    engine: &mut Engine<D>,
+    socket: &'a UdpSocket,
+    port: u16,
+    turns: u64,
+) -> io::Result<Ended>
+    ensures { IfOk result (λ ended. ended.turns ≤ turns) }
+{
+    let mut source = UdpSource::new(rt, UdpReceiver::new(socket)?, port)?;
+    let mut wire = LoggedWire::new(alloc, UdpWire::new(socket));
+    let mut log = EveningLog::new(rt, alloc);
+    let most = MAX_TOGETHER;
+    Ok(run_grouped(alloc, engine, &mut source, &mut wire, turns, most, &mut log))
+}
+
+// Why the port cannot be served.
+fn refused_port<R: Eprint>(rt: &R, port: u16, why: io::Error) -> ProgramFault
+    ensures { result ≡ Net }
+{
+    let _ = rt.eprintln(format_args!("cuectl: 127.0.0.1:{port}: {why}"));
+    ProgramFault::Net
+}
+
+// Says that it is ready, and runs the show. The lock of its store is asked for, so that it is held all the while.
+fn serve_at<R: Net + Clock + Eprint>(
+    rt: &R,
+    alloc: Global,
+    dir: &str,
+    engine: &mut Engine<FileDisk>,
+    socket: &UdpSocket,
+    port: u16,
+    turns: u64,
+    _lock: &StoreLock,
+) -> Result<Ended, ProgramFault>
+    ensures { IfOk result (λ ended. ended.turns ≤ turns) }
+{
+    say_ready(rt, dir, port);
+    serve_on(rt, alloc, engine, socket, port, turns).map_err(|why| refused_port(rt, port, why))
+}
+
+// Prints how a run ended.
+fn print_turns<W: Write>(alloc: Global, ended: &Ended, writer: &mut W) -> Result<(), ProgramFault>
+    ensures { OnOk result (Appends (W.contents writer.old) (W.contents writer.new)
+        (turns_text ended.now.turns ended.now.unsent)) }
+{
+    let text = format!(in alloc; "turns {} unsent {}\n", ended.turns, ended.unsent)?;
+    print(writer, text.as_bytes())
+}
+
+// Says why a run was not carried on; where a disk failed, which file, and how.
+fn say_fault<R: Eprint>(rt: &R, dir: &str, engine: Engine<FileDisk>, fault: Fault) {
+    let (first, second) = engine.close();
+    say(rt, dir, fault);
+    say_failures(rt, &first, &second);
+}
+
+// Why a run was not carried on.
+fn refused_run<R: Eprint>(
+    rt: &R,
+    dir: &str,
+    engine: Engine<FileDisk>,
+    why: RunFault,
+) -> ProgramFault
+    ensures { result ≡ run_fault why }
+{
+    match why {
+        RunFault::Source => {
+            drop(engine);
+            say(rt, "127.0.0.1", "the socket or the clock failed");
+        }
+        RunFault::Engine(fault) => say_fault(rt, dir, engine, fault),
+    }
+    run_fault(why)
+}
+
+// Prints how a run ended, or says why it failed.
+fn finish<R: Eprint, W: Write>(
+    rt: &R,
+    alloc: Global,
+    dir: &str,
+    engine: Engine<FileDisk>,
+    ended: Ended,
+    writer: &mut W,
+) -> Result<(), ProgramFault>
+    ensures refused { IfSome ended.fault (λ why. IsErrOf result (run_fault why)) }
+    ensures printed { OnOk result (Appends (W.contents writer.old) (W.contents writer.new)
+        (turns_text ended.turns ended.unsent)) }
+{
+    match ended.fault {
+        None => {
+            drop(engine);
+            print_turns(alloc, &ended, writer)
+        }
+        Some(why) => Err(refused_run(rt, dir, engine, why)),
+    }
+}
+
+// Why a folder is not served whose port cannot be had: for the fault of its store, where it has one.
+fn refused_as<R: Eprint>(
+    rt: &R,
+    dir: &str,
+    port: u16,
+    why: io::Error,
+    refusal: Option<StoreFault>,
+    disks: (FileDisk, FileDisk),
+) -> ProgramFault
+    ensures { result ≡ unbound_fault refusal }
+{
+    match refusal {
+        Some(fault) => refused_store(rt, dir, (fault, disks.0, disks.1)),
+        None => refused_port(rt, port, why),
+    }
+}
+
+// The same, where it is still to be seen what the store has. Nothing is written.
+fn refused_unbound<R: Eprint>(
+    rt: &R,
+    alloc: Global,
+    dir: &str,
+    port: u16,
+    why: io::Error,
+    disks: (FileDisk, FileDisk),
+) -> ProgramFault {
+    let (mut first, mut second) = disks;
+    let refusal = refusal_of(alloc, &mut first, &mut second);
+    refused_as(rt, dir, port, why, refusal, (first, second))
+}
+
+// Binds the port, and then recovers the show of both files. Nothing is written before the port is bound.
+fn bound<R: Net + Eprint>(
+    rt: &R,
+    alloc: Global,
+    dir: &str,
+    port: u16,
+    disks: (FileDisk, FileDisk),
+) -> Result<(UdpSocket, Engine<FileDisk>), ProgramFault>
+    ensures works { IfOk result (λ bound. is_broken (keeper_of bound.1) ≡ false) }
+{
+    match UdpSocket::bind(rt, local(port)) {
+        Ok(socket) => match Engine::recover(alloc, disks.0, disks.1) {
+            Ok(engine) => Ok((socket, engine)),
+            Err(refused) => Err(refused_store(rt, dir, refused)),
+        },
+        Err(why) => Err(refused_unbound(rt, alloc, dir, port, why, disks)),
+    }
+}
+
+// Runs the show of a folder at a port, and holds the lock of its store meanwhile.
+fn serve<R: Files<File = File> + Net + Clock + Eprint, W: Write>(
+    rt: &R,
+    alloc: Global,
+    dir: &str,
+    port: u16,
+    turns: u64,
+    writer: &mut W,
+) -> Result<(), ProgramFault>
+    ensures { OnOk result (IsRunTold turns (W.contents writer.old) (W.contents writer.new)) }
+{
+    let disks = open_both(rt, alloc, dir)?;
+    let lock = lock_store(rt, alloc, dir)?;
+    let (socket, mut engine) = bound(rt, alloc, dir, port, disks)?;
+    match serve_at(rt, alloc, dir, &mut engine, &socket, port, turns, &lock) {
+        Ok(ended) => finish(rt, alloc, dir, engine, ended, writer),
+        Err(fault) => {
+            drop(engine);
+            Err(fault)
+        }
+    }
+}
+
+// The exit status where there is no command, or where help was asked for.
+fn refused_line<R: Eprint, W: Write>(rt: &R, fault: LineFault, writer: &mut W) -> u8
+    ensures help { result ≡ 0 → IsHelp fault }
+    ensures usage { result ≡ 2 → fault ≡ Usage }
+    ensures memory { fault ≡ Memory → result ≡ 3 }
+    ensures statuses { (result ≤ 3) × (result ≢ 1) }
+{
+    match fault {
+        LineFault::Help(text) => status_of(print(writer, text.as_bytes()), writer),
+        LineFault::Usage => {
+            say(
+                rt,
+                "the command line is not understood",
+                "see cuectl --help",
+            );
+            print_fault(writer, b"! Usage\n");
+            2
+        }
+        LineFault::Memory => {
+            let refused: Result<(), ProgramFault> = Err(ProgramFault::MEMORY);
+            status_of(refused, writer)
+        }
+    }
+}
+
+// Carries out a command, and answers the exit status.
+fn carry_out<R: Files<File = File> + Net + Clock + Eprint, I: Read, W: Write>(
+    rt: &R,
+    alloc: Global,
+    line: Line,
+    reader: &mut I,
+    writer: &mut W,
+) -> u8
+    ensures ends { EndsSo line result (I.remaining reader.old) (W.contents writer.old) (W.contents writer.new) }
+    ensures statuses { (result ≤ 3) × (result ≢ 2) }
+{
+    match line {
+        Line::Form { dir } => status_of(form(rt, alloc, dir.as_str(), writer), writer),
+        Line::Serve { dir, port, turns } => {
+            status_of(serve(rt, alloc, dir.as_str(), port, turns, writer), writer)
+        }
+        Line::Show { dir } => status_of(show(rt, alloc, dir.as_str(), writer), writer),
+        Line::Script => script(alloc, reader, writer),
+    }
+}
+
+/// Carries a command line out, the program's name first, and answers the exit status: 0 where it is done, 1 where the
+/// show or the script refuses, 2 where the words are no command, 3 where the machine does. A refusal is printed as
+/// `! NAME`; why, and of which file or port, stands on standard error.
+pub fn perform<R: Files<File = File> + Net + Clock + Eprint + AllocGlobal, I: Read, W: Write>(
+    rt: &R,
+    words: &[String],
+    reader: &mut I,
+    writer: &mut W,
+) -> u8
+    ensures statuses { result ≤ 3 }
+    // 0 comes where a text was asked for, or where a command was carried out; then it is known what was printed.
+    ensures done { result ≡ 0 → AsksForText (fault_of cuectl_app (map string_bytes words.now))
+        ⊎ HasEnded (map string_bytes words.now) result (I.remaining reader.old) (W.contents writer.old)
+        (W.contents writer.new) }
+    // 1 comes only of words that clap takes, and 2 only where they are no command.
+    ensures refused { result ≡ 1 → fault_of cuectl_app (map string_bytes words.now) ≡ [] }
+    ensures usage { result ≡ 2 → IsNoCommand (map string_bytes words.now) }
+    // Where they name a script, what is written is what its lines make, by its status.
+    ensures script { fault_of cuectl_app (map string_bytes words.now) ≡ []
+        → NamesScript (subcommand_of cuectl_app (map string_bytes words.now))
+        → IfSome (I.remaining reader.old)
+        (λ text. HasRun empty_state text result (W.contents writer.old) (W.contents writer.new)) }
+{
+    let alloc = rt.alloc();
+    match line(alloc, words) {
+        Ok(line) => carry_out(rt, alloc, line, reader, writer),
+        Err(fault) => refused_line(rt, fault, writer),
+    }
+}

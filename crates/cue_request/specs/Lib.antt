@@ -1,0 +1,5 @@
+pub mod Answers
+pub mod Fields
+pub mod Presses
+pub mod Requests
+pub mod Told

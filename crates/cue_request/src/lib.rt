@@ -1,0 +1,9 @@
+//! What a request to the page may ask, and what it is answered. Nothing here opens a socket.
+#![tactic(auto)]
+
+pub mod answering;
+mod fields;
+pub mod pressing;
+pub mod replying;
+pub mod request;
+mod texts;

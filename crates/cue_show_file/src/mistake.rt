@@ -1,0 +1,298 @@
+//! What may be wrong with a show file, and what to do about it.
+use cue_show::limits::{MAX_CUE_BYTES, MAX_CUES, MAX_DEVICE_NUMBER, MAX_PART_BYTES, MAX_PARTS};
+use cue_show::{CueNo, DeviceNo};
+use std::alloc::{AllocError, Global};
+use std::fmt;
+
+/// What a finding is about.
+#[derive(Clone, Copy, Debug, PartialEq, Eq)]
+pub enum Subject {
+    /// The file as a whole.
+    File,
+    /// The device with this number.
+    Device(DeviceNo),
+    /// The cue with this number.
+    Cue(CueNo),
+    /// The device at this place of the file, from 1, which has no number that it could have.
+    DeviceAt(usize),
+    /// The cue at this place of the file, from 1, which has no number that it could have.
+    CueAt(usize),
+}
+
+impl fmt::Display for Subject {
+    fn fmt<W: fmt::Write>(&self, f: &mut fmt::Formatter<W>) -> fmt::Result {
+        match self {
+            Subject::File => f.write_str("the file"),
+            Subject::Device(device) => write!(f, "device {}", device.number()),
+            Subject::Cue(cue) => write!(f, "cue {}", cue.text().escape_ascii()),
+            Subject::DeviceAt(place) => write!(f, "the {place}. device"),
+            Subject::CueAt(place) => write!(f, "the {place}. cue"),
+        }
+    }
+}
+
+/// A key of a show file, named with a line that has it.
+#[derive(Clone, Copy, Debug, PartialEq, Eq)]
+pub enum Key {
+    Port,
+    Address,
+    Listen,
+    Number,
+    CueNumber,
+    Name,
+    Note,
+    Parts,
+    Device,
+    Hex,
+    Text,
+    Optional,
+}
+
+impl fmt::Display for Key {
+    fn fmt<W: fmt::Write>(&self, f: &mut fmt::Formatter<W>) -> fmt::Result {
+        f.write_str(match self {
+            Key::Port => "port = 9001",
+            Key::Address => "address = \"10.0.7.31:9001\"",
+            Key::Listen => "listen = \"10.0.7.1\"",
+            Key::Number => "number = 3",
+            Key::CueNumber => "number = \"12.5\"",
+            Key::Name => "name = \"Winch 3\"",
+            Key::Note => "note = \"wait for the lamp\"",
+            Key::Parts => "parts = [{ device = 3, hex = \"0a0b\" }]",
+            Key::Device => "device = 3",
+            Key::Hex => "hex = \"0a0b\"",
+            Key::Text => "text = \"speed=30\"",
+            Key::Optional => "optional = true",
+        })
+    }
+}
+
+/// What is wrong with a show file. Each is said with what to do.
+#[derive(Debug, Drop, PartialEq, Eq)]
+pub enum Mistake {
+    /// The text is no TOML: why not.
+    NotToml(String),
+    /// `device` or `cue` of the file is no list of tables.
+    NoTables,
+    /// This key is none that a show file has here.
+    UnknownKey(String),
+    /// A key that has to be there is not.
+    Missing(Key),
+    /// The value of a key is of another kind.
+    OtherKind(Key),
+    /// A port is 1 to 65,535.
+    BadPort,
+    /// The address of a device is four numbers of 0 to 255 and a port, neither all of them 0.
+    BadAddress,
+    /// The address of this machine is four numbers of 0 to 255, neither 0.0.0.0 nor 127.0.0.1.
+    BadListen,
+    /// A device number is 0 to 111.
+    BadDevice,
+    /// A cue number is digits with single points between them, 16 characters at most.
+    BadCue,
+    /// The bytes of a part are no hexadecimal digits in pairs.
+    BadHex,
+    /// The part for this device has both `hex` and `text`; the device is none where it cannot be read.
+    TwoBytes(Option<DeviceNo>),
+    /// An earlier device of the file has the number.
+    DeviceTwice,
+    /// An earlier cue of the file has the number.
+    CueTwice,
+    /// The stack has no room.
+    TooManyCues,
+    /// The cue has no part.
+    NoPart,
+    /// All parts are optional.
+    NoRequiredPart,
+    /// The cue has more parts than a cue can have.
+    TooManyParts,
+    /// Two parts are for this device.
+    PartTwice(DeviceNo),
+    /// The part for this device has more bytes than a part can have.
+    TooLong(DeviceNo),
+    /// A part is for this device, and the file has none with the number.
+    UnknownDevice(DeviceNo),
+    /// A show would refuse the cue, and none of the others says why. No file is known that has it.
+    Refused,
+}
+
+// Writes that a part has both.
+fn write_two_bytes<W: fmt::Write>(
+    f: &mut fmt::Formatter<W>,
+    device: Option<DeviceNo>,
+) -> fmt::Result {
+    f.write_str("the part ")?;
+    if let Some(device) = device {
+        write!(f, "for device {} ", device.number())?;
+    }
+    f.write_str("has hex and text: take one of them out")
+}
+
+// Writes a mistake that names a device.
+fn write_of_device<W: fmt::Write>(
+    f: &mut fmt::Formatter<W>,
+    mistake: &Mistake,
+    device: DeviceNo,
+) -> fmt::Result {
+    let device = device.number();
+    match mistake {
+        Mistake::PartTwice(_) => {
+            write!(f, "two parts are for device {device}: take one of them out")
+        }
+        Mistake::TooLong(_) => write!(
+            f,
+            "the part for device {device} is longer than {MAX_PART_BYTES} bytes: shorten it"
+        ),
+        _ => write!(
+            f,
+            "a part is for device {device}, which the file does not have: add a [[device]] with that number"
+        ),
+    }
+}
+
+// Writes a mistake by which a number is none, or something is missing.
+fn write_of_key<W: fmt::Write>(f: &mut fmt::Formatter<W>, mistake: &Mistake) -> fmt::Result {
+    match mistake {
+        Mistake::Missing(key) => write!(f, "a line as `{key}` is missing"),
+        Mistake::OtherKind(key) => { write!(f, "a value is of another kind: write it as `{key}`") }
+        Mistake::BadDevice => write!(
+            f,
+            "no device has that number: take one of 0 to {MAX_DEVICE_NUMBER}"
+        ),
+        Mistake::BadCue => write!(
+            f,
+            "that is no cue number: write digits with single points, as \"12.5\", {MAX_CUE_BYTES} characters at most"
+        ),
+        Mistake::BadPort => f.write_str("that is no port: take one of 1 to 65535"),
+        Mistake::BadAddress => {
+            f.write_str("that is no address of a device: write it as \"10.0.7.31:9001\"")
+        }
+        Mistake::BadListen => f.write_str(
+            "that is no address at which to listen: write this machine's own on the stage's network, as \"10.0.7.1\"",
+        ),
+        Mistake::BadHex => f.write_str(
+            "hex is no pairs of hexadecimal digits: write them as \"0a0b\"",
+        ),
+        Mistake::NoTables => f.write_str("it is written as [[device]] and [[cue]], one for each"),
+        Mistake::UnknownKey(key) => write!(
+            f,
+            "`{}` is no key that stands here: look for a slip",
+            key.as_str()
+        ),
+        Mistake::NotToml(why) => f.write_str(why.as_str()),
+        _ => Ok(()),
+    }
+}
+
+impl fmt::Display for Mistake {
+    fn fmt<W: fmt::Write>(&self, f: &mut fmt::Formatter<W>) -> fmt::Result {
+        match self {
+            Mistake::TwoBytes(device) => write_two_bytes(f, *device),
+            Mistake::PartTwice(device)
+            | Mistake::TooLong(device)
+            | Mistake::UnknownDevice(device) => write_of_device(f, self, *device),
+            Mistake::DeviceTwice => {
+                f.write_str(
+                    "the file has this device twice: take one of them out, or give it another number",
+                )
+            }
+            Mistake::CueTwice => {
+                f.write_str(
+                    "the file has this cue twice: take one of them out, or give it another number",
+                )
+            }
+            Mistake::TooManyCues => {
+                write!(f, "a show has {MAX_CUES} cues at most: take this one out")
+            }
+            Mistake::NoPart => f.write_str("it has no part: give it one at least"),
+            Mistake::Refused => f.write_str("a show would refuse it: write it again"),
+            Mistake::NoRequiredPart => {
+                f.write_str("all its parts are optional: one at least has to be required")
+            }
+            Mistake::TooManyParts => {
+                write!(
+                    f,
+                    "a cue has {MAX_PARTS} parts at most: make two cues of it"
+                )
+            }
+            _ => write_of_key(f, self),
+        }
+    }
+}
+
+/// A mistake, with what it is about and where that stands.
+#[derive(Debug, Drop, PartialEq, Eq)]
+pub struct Finding {
+    /// The line, from 1; none where the file does not say.
+    pub line: Option<usize>,
+    pub subject: Subject,
+    pub mistake: Mistake,
+}
+
+impl fmt::Display for Finding {
+    fn fmt<W: fmt::Write>(&self, f: &mut fmt::Formatter<W>) -> fmt::Result {
+        if let Some(line) = self.line {
+            write!(f, "{line}: ")?;
+        }
+        write!(f, "{}: {}", self.subject, self.mistake)
+    }
+}
+
+/// The findings so far, and where the next one stands.
+#[derive(Drop)]
+pub(crate) struct Findings {
+    found: Vec<Finding>,
+    line: Option<usize>,
+    subject: Subject,
+}
+
+impl Findings {
+    ghost use Rattle.std.specs.Prelude.{◌≡◌, IfOk, false, length, true};
+    ghost use Rattle.cue_show_file.specs.Reading.{is_clean};
+
+    /// None yet; the file as a whole is looked at.
+    pub(crate) fn new(alloc: Global) -> Findings
+        ensures { is_clean result ≡ true }
+    {
+        Findings {
+            found: Vec::new(alloc),
+            line: None,
+            subject: Subject::File,
+        }
+    }
+
+    /// How many there are.
+    pub(crate) fn len(&self) -> usize
+        ensures { result ≡ length self.now.found.items }
+    {
+        self.found.len()
+    }
+
+    /// From now on this is looked at.
+    pub(crate) fn look_at(&mut self, line: Option<usize>, subject: Subject)
+        ensures { self.new.found ≡ self.old.found }
+    {
+        self.line = line;
+        self.subject = subject;
+    }
+
+    /// One more.
+    pub(crate) fn note(&mut self, mistake: Mistake) -> Result<(), AllocError>
+        ensures { IfOk result (λ _. is_clean self.new ≡ false) }
+    {
+        self.found.push(Finding {
+            line: self.line,
+            subject: self.subject,
+            mistake,
+        })?;
+        Ok(())
+    }
+
+    /// All of them, in the order in which they were found.
+    pub(crate) fn into_vec(self) -> Vec<Finding>
+        ensures { result ≡ self.found }
+    {
+        let Findings { found, .. } = self;
+        found
+    }
+}

@@ -1,5 +1,0 @@
-mod ClapRowLemmas
-mod ClapWalkLemmas
-mod CommandLemmas
-mod LineLemmas
-mod PerformLemmas

@@ -1,9 +1,0 @@
-use Rattle.std.proofs.Common.{◌≡◌, ◌++◌}
-use Rattle.std.specs.List.{flat_map}
-use Rattle.cuectl.specs.ShowText.{cue_line}
-use Rattle.cuectl.proofs.show_text.print_cues.Given as goal
-
--- what was printed, and the cues that are left, are all
-abbrev pub invariant-loop-cue : goal.invariant-loop-cue
-invariant-loop-cue l = l.text.items ++ flat_map cue_line l.cue-iterator ≡ l.fn.text.items ++ flat_map cue_line
-    l.show.cues

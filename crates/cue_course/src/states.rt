@@ -1,4 +1,5 @@
-//! The state after each input of a run. Where inputs are committed together the run shows only the one after all of them.
+//! The state after each input of a run. Where inputs are committed together the run shows only the one after all of
+//! them.
 ghost use Rattle.std.specs.Prelude.{◌≡◌, true, IfSome};
 ghost use Rattle.cue_core.specs.Steps.{after, after_events};
 

@@ -108,8 +108,8 @@ fn form<R: Files<File = File> + Eprint, W: Write>(
     }
 }
 
-/// Runs the show over a socket that is bound to this port, for so many turns at most, and keeps the log of the evening on
-/// standard error. It fails where the socket cannot be read, or there is no memory to begin.
+/// Runs the show over a socket that is bound to this port, for so many turns at most, and keeps the log of the evening
+/// on standard error. It fails where the socket cannot be read, or there is no memory to begin.
 pub fn serve_on<'a, R: Clock + Eprint, D: Disk>(
     rt: &'a R,
     alloc: Global,

@@ -3,7 +3,15 @@ ghost use Rattle.std.specs.Prelude.{◌≡◌, ◌≤◌, ◌++◌, codes, drop,
 ghost use Rattle.std.specs.Prelude.{All, IfSome, IfOk, IsTrue};
 ghost use Rattle.httparse.specs.Grammar.{ReadsRequest, RequestHead};
 ghost use Rattle.httparse.specs.Spans.{header_bytes, name_and_value, span_bytes, IsHeaderWithin, IsWithin};
-ghost use Rattle.cue_request.specs.Requests.{IsCommand, IsCommandHead, IsFromPage, IsHeadOf, IsHome, OnCommand, origin_of};
+ghost use Rattle.cue_request.specs.Requests.{
+  IsCommand,
+  IsCommandHead,
+  IsFromPage,
+  IsHeadOf,
+  IsHome,
+  OnCommand,
+  origin_of,
+};
 
 use crate::fields::only_value;
 use crate::texts::after;

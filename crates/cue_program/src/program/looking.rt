@@ -28,7 +28,8 @@ use std::fs::{File, Files};
 use std::io::{Eprint, Write};
 
 /// Reads both files until the answer is one of a single moment, `MAX_READINGS` times at most. What a store at rest
-/// answers is answered at once. No write and no sync of them is made. Whether the store is served is asked of the folder.
+/// answers is answered at once. No write and no sync of them is made. Whether the store is served is asked of the
+/// folder.
 pub fn look_again<R: Files<File = File>, D: Disk>(
     rt: &R,
     alloc: Global,

@@ -2,7 +2,14 @@
 ghost use Rattle.std.specs.Prelude.{◌≡◌, ◌&&◌, IfOk, IsTrue, None, Some, codes, is_some, unwrap_or};
 ghost use Rattle.toml.specs.Data.{get_member};
 ghost use Rattle.toml.specs.View.{items_view, table_view, view};
-ghost use Rattle.cue_show_file.specs.Reading.{devices_of, if_clean, is_clean, is_without_place, no_places_at, no_places_in};
+ghost use Rattle.cue_show_file.specs.Reading.{
+  devices_of,
+  if_clean,
+  is_clean,
+  is_without_place,
+  no_places_at,
+  no_places_in,
+};
 ghost use Rattle.cue_show_file.specs.Reading.{then_one};
 ghost use Rattle.cue_show_file.specs.Said.{device_at, device_said, each_said, list_or_none, port_at, table_said};
 

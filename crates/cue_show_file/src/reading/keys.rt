@@ -6,7 +6,15 @@ ghost use Rattle.toml.specs.View.{table_view, view};
 ghost use Rattle.cue_show.specs.DeviceNumber.{device_of as device_said};
 ghost use Rattle.cue_operator.specs.Arguments.{port_in as port_said};
 ghost use Rattle.cue_show_file.specs.Reading.{is_clean};
-ghost use Rattle.cue_show_file.specs.Said.{cue_at, device_at, has_only, is_among, is_text_or_none, optional_by, port_at};
+ghost use Rattle.cue_show_file.specs.Said.{
+  cue_at,
+  device_at,
+  has_only,
+  is_among,
+  is_text_or_none,
+  optional_by,
+  port_at,
+};
 
 use crate::mistake::{Findings, Key, Mistake};
 use cue_show::{CueNo, DeviceNo};

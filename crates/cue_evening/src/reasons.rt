@@ -1,26 +1,14 @@
 //! The lines of attempts: what was recovered, why a preparation was given up, and how an attempt ended.
 ghost use Rattle.std.specs.Prelude.{◌≡◌};
-ghost use Rattle.cue_evening.specs.AttemptWords.{cause_words, recovered_words};
+ghost use Rattle.cue_evening.specs.AttemptWords.{cause_words};
 
 use cue_core::Event;
 use cue_course::{Cause, Failure, Followed, named_device};
-use cue_exchange::{Attempt, Reason, Stage};
+use cue_exchange::{Attempt, Reason};
 use cue_show::{CueNo, DeviceNo};
-use cue_words::{outcome_words, reason_words};
+use cue_words::{outcome_words, reason_words, recovered_words};
 use std::alloc::{AllocError, Global};
 use std::fmt::Write;
-
-// What a recovery found an attempt at, and what becomes of it.
-fn recovered_words(stage: Stage) -> &'static str
-    ensures { result.now ≡ recovered_words stage }
-{
-    match stage {
-        Stage::Preparing => "is preparing",
-        Stage::Decided => "was given, GO is sent again",
-        Stage::Cancelling(Reason::Power) => "was preparing, given up",
-        Stage::Cancelling(_) => "was given up, CANCEL is sent again",
-    }
-}
 
 /// The line of the attempts that are live after a recovery.
 pub fn recovered_line(alloc: Global, live: &[Attempt]) -> Result<String, AllocError> {

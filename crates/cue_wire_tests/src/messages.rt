@@ -272,22 +272,6 @@ fn compare_repeated(
     compare(rt, alloc, state, datagram, repeated.as_str())
 }
 
-// An address of a slash and 4,090 stars, without type tags.
-fn stars(alloc: Global) -> Result<Vec<u8>, AllocError> {
-    let mut bytes = Vec::from_slice(alloc, b"/")?;
-    for _ in 0..4090 {
-        bytes.push(b'*')?;
-    }
-    bytes.push(0)?;
-    Ok(bytes)
-}
-
-// The longest address.
-fn compare_longest(rt: &impl Abort, alloc: Global, state: &State) -> Result<(), Fail> {
-    let datagram = stars(alloc)?;
-    compare(rt, alloc, state, &datagram, "status;")
-}
-
 // The most messages that fit in a datagram.
 fn compare_fullest(rt: &impl Abort, alloc: Global, state: &State) -> Result<(), Fail> {
     let datagram = bundle(alloc, b"\0\0\0\x08/status\0", 340)?;
@@ -323,7 +307,6 @@ fn compare_many(rt: &impl Abort, alloc: Global, state: &State) -> Result<(), Fai
 fn ask_each(rt: &impl Abort, alloc: Global, state: &mut State) -> Result<(), Fail> {
     make_show(rt, alloc, state)?;
     compare_rows(rt, alloc, state, &ASKED)?;
-    compare_longest(rt, alloc, state)?;
     compare_fullest(rt, alloc, state)
 }
 

@@ -9,7 +9,6 @@ use std::process::Abort;
 mod asked;
 mod commands;
 mod held;
-mod many;
 mod replies;
 mod status;
 

@@ -130,8 +130,3 @@ fn compare_rows(rt: &impl Abort, alloc: Global, rows: &[Row]) -> Result<(), Fail
     }
     Ok(())
 }
-
-/// Arguments for a message.
-fn args<'a>(alloc: Global, list: &[Arg<'a>]) -> Result<Args<'a>, AllocError> {
-    Ok(Args::from_vec(Vec::from_slice(alloc, list)?))
-}

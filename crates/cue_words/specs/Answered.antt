@@ -1,4 +1,4 @@
--- What devices have answered, why preparations are given up and how attempts end, in words.
+-- What devices have answered, why preparations are given up, how attempts end and what a recovery finds, in words.
 use Rattle.std.specs.Prelude.{ℕ, List, codes}
 use Rattle.cue_exchange.specs.declared.attempt.Answer.{Answer}
 use Rattle.cue_exchange.specs.declared.attempt.Answer.TheVariants as answer
@@ -6,6 +6,8 @@ use Rattle.cue_exchange.specs.declared.attempt.Outcome.{Outcome}
 use Rattle.cue_exchange.specs.declared.attempt.Outcome.TheVariants as outcome
 use Rattle.cue_exchange.specs.declared.attempt.Reason.{Reason}
 use Rattle.cue_exchange.specs.declared.attempt.Reason.TheVariants as reason
+use Rattle.cue_exchange.specs.declared.attempt.Stage.{Stage}
+use Rattle.cue_exchange.specs.declared.attempt.Stage.TheVariants.{Preparing, Decided, Cancelling}
 
 -- a word for each answer, and no two the same
 abbrev pub answer_words : Answer → List ℕ
@@ -29,3 +31,13 @@ abbrev pub outcome_words : Outcome → List ℕ
 outcome_words outcome.Complete = codes "complete"
 outcome_words outcome.Cancelled = codes "cancelled"
 outcome_words outcome.Failed = codes "failed"
+
+-- what a recovery found an attempt at, and what becomes of it
+abbrev pub recovered_words : Stage → List ℕ
+recovered_words Preparing = codes "is preparing"
+recovered_words Decided = codes "was given, GO is sent again"
+recovered_words (Cancelling reason.Operator) = codes "was given up, CANCEL is sent again"
+recovered_words (Cancelling reason.Deadline) = codes "was given up, CANCEL is sent again"
+recovered_words (Cancelling reason.Abort) = codes "was given up, CANCEL is sent again"
+recovered_words (Cancelling reason.Power) = codes "was preparing, given up"
+recovered_words (Cancelling reason.Release) = codes "was given up, CANCEL is sent again"

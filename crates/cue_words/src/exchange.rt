@@ -1,8 +1,8 @@
-//! What devices have answered, and how attempts end, in words.
+//! What devices have answered, how attempts end, and what a recovery finds, in words.
 ghost use Rattle.std.specs.Prelude.{◌≡◌};
-ghost use Rattle.cue_words.specs.Answered.{answer_words, outcome_words, reason_words};
+ghost use Rattle.cue_words.specs.Answered.{answer_words, outcome_words, reason_words, recovered_words};
 
-use cue_exchange::{Answer, Outcome, Reason};
+use cue_exchange::{Answer, Outcome, Reason, Stage};
 
 /// What a device of a live attempt has answered in its present stage.
 pub fn answer_words(answer: Answer) -> &'static str
@@ -39,5 +39,17 @@ pub fn outcome_words(outcome: Outcome) -> &'static str
         Outcome::Complete => "complete",
         Outcome::Cancelled => "cancelled",
         Outcome::Failed => "failed",
+    }
+}
+
+/// What a recovery found an attempt at, and what becomes of it.
+pub fn recovered_words(stage: Stage) -> &'static str
+    ensures { result.now ≡ recovered_words stage }
+{
+    match stage {
+        Stage::Preparing => "is preparing",
+        Stage::Decided => "was given, GO is sent again",
+        Stage::Cancelling(Reason::Power) => "was preparing, given up",
+        Stage::Cancelling(_) => "was given up, CANCEL is sent again",
     }
 }

@@ -7,5 +7,5 @@ pub mod laws;
 mod state;
 
 pub use codes::code_words;
-pub use exchange::{answer_words, outcome_words, reason_words};
+pub use exchange::{answer_words, outcome_words, reason_words, recovered_words};
 pub use state::show_text;

@@ -1,8 +1,7 @@
 //! Optional devices: when one may be excused, and what becomes of one that was.
-use super::{Step, device, put, run, stored, stored_with};
+use super::{Step, device, put, run, stored_with};
 use cue_exchange::attempt::{Answer, Attempt, Outcome, Reason, Stage};
 use cue_exchange::live::Live;
-use cue_show::DeviceNo;
 use std::alloc::Global;
 use std::process::Abort;
 
@@ -43,78 +42,6 @@ fn a_cue_goes_without_a_device_that_was_excused(rt: HostRuntime) {
                 "1 until 11000 Decided: 3 Waiting 4? Excused 5? Done\n",
             ),
             (Step::Done(1, 3), Some(Outcome::Complete), ""),
-        ],
-    );
-}
-
-#[test]
-fn a_device_that_stood_by_is_excused(rt: HostRuntime) {
-    run(
-        &rt,
-        rt.alloc(),
-        &[
-            (
-                Step::Start(1, &[3], &[4]),
-                None,
-                "1 until 11000 Preparing: 3 Waiting 4? Waiting\n",
-            ),
-            (
-                Step::Ready(1, 4),
-                None,
-                "1 until 11000 Preparing: 3 Waiting 4? Ready\n",
-            ),
-            (
-                Step::Excuse(1, 4),
-                None,
-                "1 until 11000 Preparing: 3 Waiting 4? Excused\n",
-            ),
-            (
-                Step::Ready(1, 3),
-                None,
-                "1 until 11000 Preparing: 3 Ready 4? Excused\n",
-            ),
-            (
-                Step::Go(1),
-                None,
-                "1 until 11000 Decided: 3 Waiting 4? Excused\n",
-            ),
-            (Step::Failed(1, 3), Some(Outcome::Failed), ""),
-        ],
-    );
-}
-
-#[test]
-fn a_device_that_was_not_excused_counts_fully(rt: HostRuntime) {
-    run(
-        &rt,
-        rt.alloc(),
-        &[
-            (
-                Step::Start(1, &[3], &[4]),
-                None,
-                "1 until 11000 Preparing: 3 Waiting 4? Waiting\n",
-            ),
-            (
-                Step::Ready(1, 3),
-                None,
-                "1 until 11000 Preparing: 3 Ready 4? Waiting\n",
-            ),
-            (
-                Step::Ready(1, 4),
-                None,
-                "1 until 11000 Preparing: 3 Ready 4? Ready\n",
-            ),
-            (
-                Step::Go(1),
-                None,
-                "1 until 11000 Decided: 3 Waiting 4? Waiting\n",
-            ),
-            (
-                Step::Done(1, 3),
-                None,
-                "1 until 11000 Decided: 3 Done 4? Waiting\n",
-            ),
-            (Step::Failed(1, 4), Some(Outcome::Failed), ""),
         ],
     );
 }
@@ -185,62 +112,6 @@ fn an_optional_device_is_excused_while_preparing(rt: HostRuntime) {
         assert_may_be_excused(&rt, &live, *number, *may);
     }
     assert!(rt; !live.can_ready(1, device(&rt, 22)));
-}
-
-// Attempt 1 is Decided, with a device of each answer that its stage knows.
-fn decided(rt: &impl Abort, alloc: Global) -> Attempt {
-    let answers = [
-        (10, false, Answer::Waiting),
-        (11, true, Answer::Waiting),
-        (12, true, Answer::Done),
-        (13, true, Answer::Failed),
-        (14, true, Answer::Excused),
-    ];
-    stored_with(rt, alloc, 1, Stage::Decided, &answers)
-}
-
-// Attempt 2 is Cancelling, with a device of each answer that its stage knows.
-fn cancelling(rt: &impl Abort, alloc: Global) -> Attempt {
-    let answers = [
-        (20, false, Answer::Waiting),
-        (21, true, Answer::Waiting),
-        (22, true, Answer::LetGo),
-        (23, true, Answer::Failed),
-    ];
-    stored_with(rt, alloc, 2, Stage::Cancelling(Reason::Deadline), &answers)
-}
-
-// The devices of the two, each with its attempt.
-const LATER: [(u32, i32); 9] = [
-    (1, 10),
-    (1, 11),
-    (1, 12),
-    (1, 13),
-    (1, 14),
-    (2, 20),
-    (2, 21),
-    (2, 22),
-    (2, 23),
-];
-
-fn assert_is_not_excused(rt: &impl Abort, live: &Live, seq: u32, number: i32) {
-    assert!(rt; !live.can_excuse(seq, device(rt, number)), "{seq} {number}");
-}
-
-// One that was excused is asked nothing more.
-fn assert_asked_nothing(rt: &impl Abort, live: &Live, seq: u32, excused: DeviceNo) {
-    assert!(rt; !live.can_done(seq, excused));
-    assert!(rt; !live.can_fail(seq, excused));
-}
-
-#[test]
-fn no_device_is_excused_later(rt: HostRuntime) {
-    let mut live = live_with(&rt, rt.alloc(), decided(&rt, rt.alloc()));
-    put(&rt, &mut live, cancelling(&rt, rt.alloc()));
-    for (seq, number) in &LATER {
-        assert_is_not_excused(&rt, &live, *seq, *number);
-    }
-    assert_asked_nothing(&rt, &live, 1, device(&rt, 14));
 }
 
 // Whether the cue goes with a required device 3 and an optional device 4 that have these answers.
@@ -314,21 +185,6 @@ fn an_answer_stands_in_a_stored_attempt(rt: HostRuntime) {
     for (stage, answer, may) in &STORED {
         assert_may_be_put(&rt, rt.alloc(), *stage, *answer, *may);
     }
-}
-
-fn assert_not_excused(rt: &impl Abort, alloc: Global, stage: Stage) {
-    let answers = [(3, false, Answer::Waiting), (4, false, Answer::Excused)];
-    let attempt = stored_with(rt, alloc, 1, stage, &answers);
-    assert!(rt; !can_put(&attempt, alloc), "{stage:?}");
-    let attempt = stored(rt, alloc, 1, 3, stage, Answer::Waiting);
-    assert!(rt; can_put(&attempt, alloc));
-}
-
-#[test]
-fn no_required_device_is_excused(rt: HostRuntime) {
-    assert_not_excused(&rt, rt.alloc(), Stage::Preparing);
-    assert_not_excused(&rt, rt.alloc(), Stage::Decided);
-    assert_not_excused(&rt, rt.alloc(), Stage::Cancelling(Reason::Abort));
 }
 
 // Two devices, both optional.

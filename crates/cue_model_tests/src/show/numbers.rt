@@ -1,6 +1,6 @@
-//! Numbers at and beyond their ranges, and each shape of a cue number's text.
+//! Each shape of a cue number's text.
 
-use cue_show::{CueNo, DeviceNo};
+use cue_show::CueNo;
 use std::process::Abort;
 
 const CUE_NUMBERS: [&[u8]; 8] = [
@@ -29,24 +29,6 @@ const OTHER_TEXTS: [&[u8]; 12] = [
     b"1.234567890123456",
 ];
 
-// Numbers, and the number of the device, where there is one.
-const DEVICE_NUMBERS: [(i32, Option<u8>); 7] = [
-    (i32::MIN, None),
-    (-1, None),
-    (0, Some(0)),
-    (111, Some(111)),
-    (112, None),
-    (256, None),
-    (i32::MAX, None),
-];
-
-const DEVICE_BYTES: [(u8, Option<u8>); 4] = [
-    (0, Some(0)),
-    (111, Some(111)),
-    (112, None),
-    (255, None),
-];
-
 fn cue(rt: &impl Abort, text: &[u8]) -> CueNo {
     CueNo::read(text).expect(rt, "it is a cue number")
 }
@@ -66,30 +48,5 @@ fn cue_numbers_keep_their_text(rt: HostRuntime) {
 fn other_texts_are_no_cue_numbers(rt: HostRuntime) {
     for text in &OTHER_TEXTS {
         assert!(rt; CueNo::read(text).is_none(), "{text:?}");
-    }
-}
-
-#[test]
-fn cue_numbers_are_compared_byte_for_byte(rt: HostRuntime) {
-    let one = cue(&rt, b"1");
-    let padded = cue(&rt, b"01");
-    let pointed = cue(&rt, b"1.0");
-    assert!(rt; one == one);
-    assert!(rt; one != padded);
-    assert!(rt; one != pointed);
-    assert!(rt; padded != pointed);
-}
-
-fn assert_device(rt: &impl Abort, device: Option<DeviceNo>, expected: Option<u8>) {
-    assert_eq!(rt; device.map(|device| device.number()), expected);
-}
-
-#[test]
-fn device_numbers_are_0_to_111(rt: HostRuntime) {
-    for (number, expected) in &DEVICE_NUMBERS {
-        assert_device(&rt, DeviceNo::of(*number), *expected);
-    }
-    for (number, expected) in &DEVICE_BYTES {
-        assert_device(&rt, DeviceNo::of_byte(*number), *expected);
     }
 }

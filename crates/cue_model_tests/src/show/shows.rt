@@ -9,25 +9,6 @@ use std::process::Abort;
 // The bytes of the parts: the first part of a cue has none, the second one, and so on.
 const BYTES: [u8; 3] = [10, 11, 255];
 
-// Devices with their ports; whether the example's table takes them.
-const NEW_DEVICES: [(u8, u16, bool); 5] = [
-    (5, 1, true),
-    (5, 65535, true),
-    (5, 0, false),
-    (3, 9001, false),
-    (4, 9003, false),
-];
-
-// Cues and their devices; whether the example's table has the devices, and whether its stack takes the cue.
-const NEW_CUES: [(&[u8], &[u8], bool, bool); 6] = [
-    (b"02", &[4, 3], true, true),
-    (b"2", &[4, 3], true, false),
-    (b"3", &[4, 5], false, false),
-    (b"3", &[4, 4], true, false),
-    (b"3", &[], true, false),
-    (b"3", &[3], true, true),
-];
-
 fn device(rt: &impl Abort, number: u8) -> DeviceNo {
     DeviceNo::of_byte(number).expect(rt, "it is a device number")
 }
@@ -40,13 +21,6 @@ fn add_device(rt: &impl Abort, show: &mut Show, number: u8, port: u16) {
     let number = device(rt, number);
     assert!(rt; show.can_add_device(number, port));
     show.add_device(number, port).expect(rt, "there is memory");
-}
-
-fn remove_device(rt: &impl Abort, show: &mut Show, number: u8) {
-    let number = device(rt, number);
-    assert!(rt; show.can_remove_device(number));
-    show.remove_device(number);
-    assert!(rt; !show.has_device(number));
 }
 
 fn list(rt: &impl Abort, alloc: Global, devices: &[u8]) -> Parts {
@@ -115,20 +89,6 @@ fn devices_and_cues_stand_in_order_of_entry(rt: HostRuntime) {
 }
 
 #[test]
-fn a_removed_cue_leaves_the_others_in_order(rt: HostRuntime) {
-    let alloc = rt.alloc();
-    let mut show = example(&rt, alloc);
-    go_to(&rt, &mut show, b"1");
-    remove_cue(&rt, &mut show, b"2");
-    assert_show(
-        &rt,
-        alloc,
-        &show,
-        "3:Some(9001) 4:Some(9002) | 1>2.5 3=[] 4=[10] 2.5>- 4=[] | 1",
-    );
-}
-
-#[test]
 fn a_place_at_a_removed_cue_goes_on(rt: HostRuntime) {
     let alloc = rt.alloc();
     let mut show = example(&rt, alloc);
@@ -149,92 +109,8 @@ fn a_place_at_a_removed_cue_goes_on(rt: HostRuntime) {
     );
 }
 
-// The place becomes the cue after this one, or none.
-fn go_on(rt: &impl Abort, show: &mut Show, text: &[u8], expected: Option<CueNo>) {
-    let next = show.following(cue(rt, text));
-    show.set_place(next);
-    assert!(rt; show.place() == expected);
-}
-
-#[test]
-fn a_place_can_be_what_follows(rt: HostRuntime) {
-    let mut show = example(&rt, rt.alloc());
-    go_on(&rt, &mut show, b"1", Some(cue(&rt, b"2")));
-    go_on(&rt, &mut show, b"3", None);
-}
-
-// Devices 3, 0 and 111.
-fn three_devices(rt: &impl Abort, alloc: Global) -> Show {
-    let mut show = Show::new(alloc);
-    add_device(rt, &mut show, 3, 9001);
-    add_device(rt, &mut show, 0, 1);
-    add_device(rt, &mut show, 111, 65535);
-    show
-}
-
-#[test]
-fn a_removed_device_leaves_the_others_in_order(rt: HostRuntime) {
-    let alloc = rt.alloc();
-    let mut show = three_devices(&rt, alloc);
-    remove_device(&rt, &mut show, 0);
-    assert_show(&rt, alloc, &show, "3:Some(9001) 111:Some(65535) | | -");
-    assert!(rt; !show.can_remove_device(device(&rt, 0)));
-}
-
-fn assert_device(rt: &impl Abort, show: &Show, number: u8, port: u16, expected: bool) {
-    let number = device(rt, number);
-    assert_eq!(rt; show.can_add_device(number, port), expected);
-}
-
-#[test]
-fn a_device_is_added_once_and_with_a_port(rt: HostRuntime) {
-    let show = example(&rt, rt.alloc());
-    for (number, port, expected) in &NEW_DEVICES {
-        assert_device(&rt, &show, *number, *port, *expected);
-    }
-}
-
-// A cue has the device, so that it stays.
-fn assert_stays(rt: &impl Abort, show: &Show, number: u8) {
-    let number = device(rt, number);
-    assert!(rt; show.is_used(number));
-    assert!(rt; !show.can_remove_device(number));
-}
-
-#[test]
-fn a_device_that_a_cue_has_stays(rt: HostRuntime) {
-    let mut show = example(&rt, rt.alloc());
-    assert_stays(&rt, &show, 3);
-    remove_cue(&rt, &mut show, b"1");
-    assert_stays(&rt, &show, 3);
-    remove_cue(&rt, &mut show, b"2");
-    assert!(rt; !show.is_used(device(&rt, 3)));
-    remove_device(&rt, &mut show, 3);
-}
-
 fn can_add_cue(rt: &impl Abort, show: &Show, text: &[u8], parts: &Parts) -> bool {
     show.can_add_cue(cue(rt, text), parts)
-}
-
-fn assert_cue(
-    rt: &impl Abort,
-    show: &Show,
-    text: &[u8],
-    parts: &Parts,
-    known: bool,
-    expected: bool,
-) {
-    assert_eq!(rt; show.has_devices_of(parts), known);
-    assert_eq!(rt; can_add_cue(rt, show, text, parts), expected);
-}
-
-#[test]
-fn a_cue_has_parts_of_devices_of_the_table(rt: HostRuntime) {
-    let show = example(&rt, rt.alloc());
-    for (text, devices, known, expected) in &NEW_CUES {
-        let parts = list(&rt, rt.alloc(), devices);
-        assert_cue(&rt, &show, text, &parts, *known, *expected);
-    }
 }
 
 // Adds cue 3 once it has a required part after its optional one, and not before.

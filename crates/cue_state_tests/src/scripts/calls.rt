@@ -1,12 +1,11 @@
-//! Each call once, with its whole answer: events by themselves, codes, and the parts that make a state.
+//! Codes, commands that are fit, and events that are applied together.
 
 ghost use Rattle.std.specs.Prelude.{◌≡◌, [], ◌∷◌, IsTrue};
 ghost use Rattle.cue_core.specs.Steps.{are_acceptable};
 
 use super::reading::Request;
-use super::{SHOW, expect, judge_only, remade, run, run_both, run_each, told};
-use cue_core::{Code, Command, Ended, Event, Events, State, Verdict, judge};
-use cue_exchange::{Outcome, Reason};
+use super::{SHOW, expect, judge_only, run, run_both, run_each};
+use cue_core::{Code, Command, Event, Events, State, judge};
 use cue_show::DeviceNo;
 use std::alloc::{AllocError, Global};
 use std::process::Abort;
@@ -110,68 +109,6 @@ fn both(rt: &impl Abort, mut events: Events) -> (Event, Event)
     (first, second)
 }
 
-// So many events, and no more, as the text says.
-fn has(
-    rt: &impl Abort,
-    alloc: Global,
-    events: &Events,
-    len: usize,
-    text: &str,
-) -> Result<(), Fail> {
-    assert!(rt; count(events) == (len, len == 0, true), "{text}");
-    let said = told::of_judged(alloc, Verdict::Made, events)?;
-    expect(rt, said.as_str(), text, "events");
-    Ok(())
-}
-
-// How many events there are, whether there is none, and whether there is none after them.
-fn count(events: &Events) -> (usize, bool, bool) {
-    let len = events.len();
-    (len, events.is_empty(), events.get(len).is_none())
-}
-
-// The number of the attempt that is to go.
-fn to_go(event: Option<Event>) -> Option<u32> {
-    match event {
-        Some(Event::Go(seq)) => Some(seq),
-        _ => None,
-    }
-}
-
-// How many events are left each time, how they are written, and the number of the first of them.
-const LEFT: [(usize, &str, Option<u32>); 3] = [
-    (2, "made Go 1 Go 2", Some(1)),
-    (1, "made Go 2", Some(2)),
-    (0, "made", None),
-];
-
-fn take_both(rt: &impl Abort, alloc: Global, events: &mut Events) -> Result<(), Fail> {
-    for (len, text, first) in LEFT {
-        has(rt, alloc, events, len, text)?;
-        assert!(rt; to_go(events.take_first()) == first, "{text}");
-    }
-    Ok(())
-}
-
-fn has_none(rt: &impl Abort, alloc: Global) -> Result<(), Fail> {
-    has(rt, alloc, &Events::none(), 0, "made")
-}
-
-fn has_one(rt: &impl Abort, alloc: Global) -> Result<(), Fail> {
-    has(rt, alloc, &Events::one(Event::Go(7)), 1, "made Go 7")
-}
-
-fn has_two(rt: &impl Abort, alloc: Global) -> Result<(), Fail> {
-    take_both(rt, alloc, &mut Events::two(Event::Go(1), Event::Go(2)))
-}
-
-#[test]
-fn events_are_kept_in_order(rt: HostRuntime) -> Result<(), Fail> {
-    has_none(&rt, rt.alloc())?;
-    has_one(&rt, rt.alloc())?;
-    has_two(&rt, rt.alloc())
-}
-
 const RELEASED: &str = "\
 state = devices 3:9001 4:9002 | cue 1 3:up 4: | cue 2 3: | place - | last 1 | ended - \
     | attempt 1 1 until 11000 Cancelling(Release) 3 Waiting 4 LetGo";
@@ -214,69 +151,4 @@ fn release(rt: &impl Abort, alloc: Global, state: &mut State) -> Result<(), Fail
 #[test]
 fn events_are_applied_together(rt: HostRuntime) -> Result<(), Fail> {
     release(&rt, rt.alloc(), &mut State::empty(rt.alloc()))
-}
-
-const ENDED: [(u32, Option<Ended>, bool); 8] = [
-    (0, None, false),
-    (1, None, true),
-    (2147483647, None, true),
-    (2147483648, None, false),
-    (
-        2,
-        Some(Ended {
-            seq: 2,
-            outcome: Outcome::Failed,
-        }),
-        true,
-    ),
-    // A number that is live, one that was never drawn, and none at all.
-    (
-        2,
-        Some(Ended {
-            seq: 1,
-            outcome: Outcome::Failed,
-        }),
-        false,
-    ),
-    (
-        2,
-        Some(Ended {
-            seq: 3,
-            outcome: Outcome::Failed,
-        }),
-        false,
-    ),
-    (
-        2,
-        Some(Ended {
-            seq: 0,
-            outcome: Outcome::Failed,
-        }),
-        false,
-    ),
-];
-
-// Whether the parts of the state make one with this last number and this attempt that ended last.
-fn can_remake(state: &State, last_seq: u32, ended: Option<Ended>) -> Result<bool, AllocError> {
-    Ok(remade(state, last_seq, ended)?.is_some())
-}
-
-// Attempt 1 is live.
-fn make(rt: &impl Abort, alloc: Global, state: &mut State) -> Result<(), Fail> {
-    run_both(
-        rt,
-        alloc,
-        state,
-        SHOW,
-        "standby 1 1000 = made Start 1 1 11000",
-    )?;
-    for (last_seq, ended, may) in &ENDED {
-        assert_eq!(rt; can_remake(state, *last_seq, *ended)?, *may);
-    }
-    Ok(())
-}
-
-#[test]
-fn parts_that_keep_the_rules_make_a_state(rt: HostRuntime) -> Result<(), Fail> {
-    make(&rt, rt.alloc(), &mut State::empty(rt.alloc()))
 }

@@ -1,11 +1,6 @@
 //! Optional devices: the table of answers and releases for one of them, and cues that go with it and without it.
 
-use super::{run, run_each};
-use cue_core::State;
-use cue_exchange::{Answer, Answers, Attempt, DeviceAnswer, Live, Stage};
-use cue_show::{CueNo, DeviceNo, Show};
-use std::alloc::Global;
-use std::process::Abort;
+use super::run_each;
 use std::test::Fail;
 
 // Devices 3 and 4; cue 1 for both of them, where device 4 is optional, and cue 2 for device 4.
@@ -224,60 +219,4 @@ state = devices 3:9001 4:9002 | cue 1 3:up 4? | cue 2 4: | place - | last 1 | en
 #[test]
 fn a_preparation_with_an_optional_device_is_given_up(rt: HostRuntime) -> Result<(), Fail> {
     run_each(&rt, rt.alloc(), MIXED, &GIVEN_UP)
-}
-
-fn asked(number: i32, optional: bool) -> Result<DeviceAnswer, Fail> {
-    Ok(DeviceAnswer {
-        device: DeviceNo::of(number).ok_or("a device")?,
-        optional,
-        answer: Answer::Waiting,
-    })
-}
-
-// Attempt 1 at cue 1, with the devices 3 and 4.
-fn attempt(alloc: Global, first: bool, second: bool) -> Result<Attempt, Fail> {
-    let cue = CueNo::read(b"1").ok_or("a cue number")?;
-    let answers = vec![in alloc; asked(3, first)?, asked(4, second)?]?;
-    Ok(Attempt {
-        seq: 1,
-        cue,
-        deadline: 11000,
-        stage: Stage::Preparing,
-        answers: Answers::of(answers),
-    })
-}
-
-// The attempt is live, and no other.
-fn alone(rt: &impl Abort, alloc: Global, attempt: Attempt) -> Result<Live, Fail> {
-    let mut live = Live::new(alloc);
-    assert!(rt; live.can_put(&attempt));
-    live.put(attempt)?;
-    Ok(live)
-}
-
-// Whether the attempt and the show make a state.
-fn is_tied(rt: &impl Abort, alloc: Global, show: &Show, attempt: Attempt) -> Result<bool, Fail> {
-    let live = alone(rt, alloc, attempt)?;
-    Ok(State::of(show.try_clone()?, live, 1, None).is_some())
-}
-
-// Whether device 3 and device 4 are optional in the attempt, and whether it and the show make a state.
-const TIES: [(bool, bool, bool); 3] = [
-    (false, true, true),
-    (false, false, false),
-    (true, false, false),
-];
-
-fn tie_to_mixed(rt: &impl Abort, alloc: Global, state: &mut State) -> Result<(), Fail> {
-    run(rt, alloc, state, MIXED)?;
-    for (first, second, may) in TIES {
-        let made = is_tied(rt, alloc, state.show(), attempt(alloc, first, second)?)?;
-        assert_eq!(rt; made, may, "{first} {second}");
-    }
-    Ok(())
-}
-
-#[test]
-fn a_device_is_optional_where_its_part_is(rt: HostRuntime) -> Result<(), Fail> {
-    tie_to_mixed(&rt, rt.alloc(), &mut State::empty(rt.alloc()))
 }

@@ -1,11 +1,9 @@
 //! Batches that are read, measured and written again.
 
 use super::{assert_bytes, bytes, halves, told};
-use cue_core::{Event, State};
-use cue_records::laws::acceptable_events_fit;
-use cue_records::{Batch, ReadFault, batch_len, read_batch, write_batch};
-use cue_show::{Bytes, CueNo, DeviceNo, Part, Parts};
-use std::alloc::{AllocError, Global};
+use cue_records::{ReadFault, batch_len, read_batch, write_batch};
+use cue_show::Bytes;
+use std::alloc::Global;
 use std::process::Abort;
 use std::test::Fail;
 
@@ -86,121 +84,5 @@ fn each_kind_of_event(rt: HostRuntime) -> Result<(), Fail> {
         let (digits, words) = halves(line)?;
         assert_batch_of(&rt, alloc, digits, words)?;
     }
-    Ok(())
-}
-
-// The text of an event that may happen to the state.
-fn text_of(alloc: Global, state: &State, event: Event) -> Result<Bytes, Fail> {
-    acceptable_events_fit();
-    // Called for its clause that the state keeps the rules.
-    let _last = state.last_seq();
-    if !state.can_apply(&event) {
-        return Err("the event is not acceptable".into());
-    }
-    Ok(write_batch(alloc, &[event])?)
-}
-
-// The text of the event that device 3 listens at port 9001, where nothing happened before.
-fn text_of_device(alloc: Global) -> Result<Bytes, Fail> {
-    let device = DeviceNo::of_byte(3).ok_or("a device number")?;
-    text_of(alloc, &State::empty(alloc), Event::Device(device, 9001))
-}
-
-const DEVICE: [u8; 6] = [0, 1, 1, 3, 0x23, 0x29];
-
-#[test]
-fn an_event_that_may_happen(rt: HostRuntime) -> Result<(), Fail> {
-    let text = text_of_device(rt.alloc())?;
-    assert_eq!(rt; text.as_slice(), DEVICE.as_slice());
-    Ok(())
-}
-
-// A batch of so many events, each a Go of attempt 1.
-fn many(alloc: Global, count: u16) -> Result<Vec<u8>, AllocError> {
-    let mut text = Vec::new(alloc);
-    text.extend_from_slice(&count.to_be_bytes())?;
-    for _ in 0..count {
-        text.extend_from_slice(&[8, 0, 0, 0, 1])?;
-    }
-    Ok(text)
-}
-
-// There are 4,096 events of five bytes each.
-fn are_4096(rt: &impl Abort, events: &[Event]) {
-    assert_eq!(rt; events.len(), 4096);
-    assert_eq!(rt; batch_len(events), 20482);
-}
-
-// The text is read as 4,096 events.
-fn has_4096_events(rt: &impl Abort, alloc: Global, text: &[u8]) -> Result<(), ReadFault> {
-    let batch = read_batch(alloc, text)?;
-    are_4096(rt, batch.as_slice());
-    Ok(())
-}
-
-// 4,096 events are read, measured, and written again.
-fn read_4096_events(rt: &impl Abort, alloc: Global, text: &[u8]) -> Result<(), ReadFault> {
-    has_4096_events(rt, alloc, text)?;
-    has_text(rt, alloc, text)
-}
-
-fn has_text_of_4096(rt: &impl Abort, alloc: Global) -> Result<(), ReadFault> {
-    let text = many(alloc, 4096)?;
-    read_4096_events(rt, alloc, &text)
-}
-
-// Why the text of so many events is not read.
-fn refused(alloc: Global, count: u16) -> Result<Option<ReadFault>, AllocError> {
-    let text = many(alloc, count)?;
-    Ok(read_batch(alloc, &text).err())
-}
-
-#[test]
-fn a_batch_has_at_most_4096_events(rt: HostRuntime) -> Result<(), Fail> {
-    has_text_of_4096(&rt, rt.alloc())?;
-    assert_eq!(rt; refused(rt.alloc(), 4097)?, Some(ReadFault::Malformed));
-    Ok(())
-}
-
-// 300 parts of 300 bytes each.
-fn long_parts(alloc: Global, device: DeviceNo, optional: bool) -> Result<Parts, AllocError> {
-    let mut parts = Parts::new(alloc);
-    for _ in 0..300 {
-        parts.push(Part::of(alloc, device, optional, &[7; 300])?)?;
-    }
-    Ok(parts)
-}
-
-// The cue 1 with such parts.
-fn long_cue(alloc: Global, optional: bool) -> Result<Event, Fail> {
-    let device = DeviceNo::of_byte(3).ok_or("a device number")?;
-    let cue = CueNo::read(b"1").ok_or("a cue number")?;
-    let parts = long_parts(alloc, device, optional)?;
-    Ok(Event::Cue(cue, parts))
-}
-
-// The length of a batch of the long cue, as it is measured.
-fn long_cue_len(alloc: Global, optional: bool) -> Result<u64, Fail> {
-    let cue = long_cue(alloc, optional)?;
-    Ok(batch_len(&[cue]))
-}
-
-// The length is the expected one.
-fn assert_len(rt: &impl Abort, found: u64, expected: u64) {
-    assert_eq!(rt; found, expected);
-}
-
-fn two_events_len() -> u64 {
-    batch_len(&[Event::Go(0), Event::Go(0)])
-}
-
-#[test]
-fn events_out_of_range_are_measured(rt: HostRuntime) -> Result<(), Fail> {
-    assert_len(&rt, batch_len(&[]), 2);
-    assert_len(&rt, two_events_len(), 12);
-    let required = long_cue_len(rt.alloc(), false)?;
-    assert_len(&rt, required, 2 + 1 + 2 + 1 + 300 * 302);
-    let optional = long_cue_len(rt.alloc(), true)?;
-    assert_len(&rt, optional, 2 + 1 + 2 + 1 + 300 * 303);
     Ok(())
 }

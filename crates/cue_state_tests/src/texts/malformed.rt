@@ -44,15 +44,6 @@ const MALFORMED: &str = "\
 0001 08 00000001 08 00000002 = an event more
 0002 08 00000001 = an event less";
 
-// Batches that are read: each beginning of one is malformed, and so is one with a byte more.
-const WHOLE: &str = "\
-0002 01 03 2329 03 0131 01 03 02 0a0b
-0002 06 00000001 0131 0000000000002af8 0a 00000001 01
-0002 0d 0131 02 03 00 02 0a0b 04 01 00 0e 00000001 04
-0001 03 0131 10 0000 0100 0200 0300 0400 0500 0600 0700 0800 0900 0a00 0b00 0c00 0d00 0e00 0f00
-0001 03 0131 01 03 20 000102030405060708090a0b0c0d0e0f101112131415161718191a1b1c1d1e1f
-0003 07 00000001 03 09 00000001 03 0b 00000001 03";
-
 fn assert_malformed(rt: &impl Abort, alloc: Global, bytes: &[u8], what: &str) {
     let found = read_batch(alloc, bytes).err();
     assert_eq!(rt; found, Some(ReadFault::Malformed), "{what}");
@@ -64,31 +55,6 @@ fn texts_of_no_batch(rt: HostRuntime) -> Result<(), Fail> {
     for line in MALFORMED.lines() {
         let (digits, what) = halves(line)?;
         assert_malformed(&rt, alloc, &bytes(alloc, digits)?, what);
-    }
-    Ok(())
-}
-
-// The batch is read; no beginning of it is one.
-fn assert_cut(rt: &impl Abort, alloc: Global, text: &[u8], digits: &str) {
-    assert_eq!(rt; read_batch(alloc, text).err(), None, "{digits}");
-    for len in 0..text.len() {
-        assert_malformed(rt, alloc, &text[..len], digits);
-    }
-}
-
-// The batch is read. No beginning of it is one, nor the batch with a byte more.
-fn assert_whole(rt: &impl Abort, alloc: Global, digits: &str) -> Result<(), AllocError> {
-    let mut text = bytes(alloc, digits)?;
-    assert_cut(rt, alloc, &text, digits);
-    text.push(0)?;
-    assert_malformed(rt, alloc, &text, digits);
-    Ok(())
-}
-
-#[test]
-fn texts_that_are_cut_or_go_on(rt: HostRuntime) -> Result<(), Fail> {
-    for digits in WHOLE.lines() {
-        assert_whole(&rt, rt.alloc(), digits)?;
     }
     Ok(())
 }

@@ -1,8 +1,8 @@
 //! States that are read and written again, and bytes that are the text of none.
 
 use super::{assert_bytes, bytes, halves, told};
-use cue_core::{Event, State};
-use cue_records::{Batch, ReadFault, StateFault, read_batch, read_state, write_state};
+use cue_core::State;
+use cue_records::{StateFault, read_state, write_state};
 use std::alloc::{AllocError, Global};
 use std::process::Abort;
 use std::test::Fail;
@@ -174,65 +174,6 @@ pub(super) fn assert_line(
     Ok(())
 }
 
-// Applies the events of a batch.
-fn apply(rt: &impl Abort, state: &mut State, events: &[Event]) -> Result<(), AllocError> {
-    for event in events {
-        assert!(rt; state.can_apply(event));
-        state.apply(event)?;
-    }
-    Ok(())
-}
-
-// The devices 3 and 4, the cue 1 for both, the cue 2 for the first, and a start at the cue 1.
-const EVENTS: &str =
-    "0005 01032329 0104232a 0301310203020a0b0400 030132010300 06000000010131 0000000000002af8";
-
-// The same devices, the cue 1 for both, which may go without the second, a start at it, and how the two answer.
-const EXCUSING: &str =
-    "0006 01032329 0104232a 0d0131020300020a0b040100 06000000010131 0000000000002af8 070000000103 0e0000000104";
-
-// The batch that the digits stand for.
-fn batch_of(alloc: Global, digits: &str) -> Result<Batch, ReadFault> {
-    let text = bytes(alloc, digits)?;
-    read_batch(alloc, &text)
-}
-
-// Applies the events of the batch that the digits stand for.
-fn apply_told(
-    rt: &impl Abort,
-    alloc: Global,
-    state: &mut State,
-    events: &str,
-) -> Result<(), ReadFault> {
-    let batch = batch_of(alloc, events)?;
-    Ok(apply(rt, state, batch.as_slice())?)
-}
-
-// The state is the first of the table, and the events make the one of the line of it.
-fn assert_makes(
-    rt: &impl Abort,
-    alloc: Global,
-    state: &mut State,
-    events: &str,
-    line: usize,
-) -> Result<(), Fail> {
-    assert_line(rt, alloc, state, 0)?;
-    apply_told(rt, alloc, state, events)?;
-    assert_line(rt, alloc, state, line)
-}
-
-// From the empty state the events make the state of the line.
-fn assert_made(rt: &impl Abort, alloc: Global, events: &str, line: usize) -> Result<(), Fail> {
-    let mut state = State::empty(alloc);
-    assert_makes(rt, alloc, &mut state, events, line)
-}
-
-#[test]
-fn states_that_events_make(rt: HostRuntime) -> Result<(), Fail> {
-    assert_made(&rt, rt.alloc(), EVENTS, 2)?;
-    assert_made(&rt, rt.alloc(), EXCUSING, 9)
-}
-
 pub(super) fn assert_refused(
     rt: &impl Abort,
     alloc: Global,
@@ -269,7 +210,7 @@ fn assert_cut(rt: &impl Abort, alloc: Global, text: &[u8], digits: &str) {
 }
 
 // No beginning of the text is one, nor the text with a byte more.
-pub(super) fn assert_whole(rt: &impl Abort, alloc: Global, digits: &str) -> Result<(), AllocError> {
+fn assert_whole(rt: &impl Abort, alloc: Global, digits: &str) -> Result<(), AllocError> {
     let mut text = bytes(alloc, digits)?;
     assert_cut(rt, alloc, &text, digits);
     text.push(0)?;

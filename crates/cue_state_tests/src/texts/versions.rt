@@ -1,10 +1,9 @@
 //! Texts of this version, of the one before it, and of others.
 
-use super::states::{assert_line, assert_refused, assert_whole};
+use super::states::{assert_line, assert_refused};
 use super::{assert_bytes, bytes, halves};
 use cue_core::State;
-use cue_records::{ReadFault, StateFault, read_batch, read_state, write_batch, write_state};
-use cue_show::Bytes;
+use cue_records::{StateFault, read_state, write_state};
 use std::alloc::{AllocError, Global};
 use std::process::Abort;
 use std::test::Fail;
@@ -44,14 +43,6 @@ fn old_texts_are_read_and_written_anew(rt: HostRuntime) -> Result<(), Fail> {
     Ok(())
 }
 
-#[test]
-fn old_texts_that_are_cut_or_go_on(rt: HostRuntime) -> Result<(), Fail> {
-    for digits in OLD.lines() {
-        assert_whole(&rt, rt.alloc(), digits)?;
-    }
-    Ok(())
-}
-
 // Each with what is wrong with it.
 const MALFORMED: &str = "\
 02 01 032329 0001 0131010300 00 00000000 0000000000 00 = version 2 without flags
@@ -71,11 +62,6 @@ fn texts_of_no_state_in_their_version(rt: HostRuntime) -> Result<(), Fail> {
     Ok(())
 }
 
-// An area after a turn-over: its head, a snapshot of 31 bytes, and one record.
-const AREA: &str =
-    "01 0000000000000002 0000001f 02 01032329 0002 013101030000 013201030000 0131 00000000 0000000000 00 01 00000005 \
-        0001050132 00";
-
 // The state is written as these bytes.
 fn assert_text(
     rt: &impl Abort,
@@ -85,53 +71,6 @@ fn assert_text(
 ) -> Result<(), AllocError> {
     let text = write_state(alloc, state)?;
     assert_bytes(rt, text.as_slice(), bytes, "the state");
-    Ok(())
-}
-
-// The state is the one of the line, and is written as these bytes.
-fn assert_line_and_text(
-    rt: &impl Abort,
-    alloc: Global,
-    state: &State,
-    bytes: &[u8],
-    line: usize,
-) -> Result<(), Fail> {
-    assert_line(rt, alloc, state, line)?;
-    assert_text(rt, alloc, state, bytes)?;
-    Ok(())
-}
-
-// These bytes are read as the state of the line, which is written as these bytes.
-fn assert_snapshot(rt: &impl Abort, alloc: Global, bytes: &[u8], line: usize) -> Result<(), Fail> {
-    let state = read_state(alloc, bytes).expect(rt, "it is a state");
-    assert_line_and_text(rt, alloc, &state, bytes, line)
-}
-
-// The text of the batch that these bytes are read as.
-fn written_again(alloc: Global, bytes: &[u8]) -> Result<Bytes, ReadFault> {
-    let batch = read_batch(alloc, bytes)?;
-    Ok(write_batch(alloc, batch.as_slice())?)
-}
-
-// These bytes are read as a batch, which is written as this payload.
-fn assert_payload(
-    rt: &impl Abort,
-    alloc: Global,
-    bytes: &[u8],
-    payload: &[u8],
-) -> Result<(), ReadFault> {
-    let text = written_again(alloc, bytes)?;
-    assert_bytes(rt, text.as_slice(), payload, "the payload");
-    Ok(())
-}
-
-#[test]
-fn the_texts_in_an_area(rt: HostRuntime) -> Result<(), Fail> {
-    let alloc = rt.alloc();
-    let area = bytes(alloc, AREA)?;
-    assert_eq!(rt; area.len(), 55);
-    assert_snapshot(&rt, alloc, &area[13..44], 1)?;
-    assert_payload(&rt, alloc, &area[49..54], &[0, 1, 5, 1, 0x32])?;
     Ok(())
 }
 
@@ -214,15 +153,4 @@ fn texts_of_another_version(rt: HostRuntime) {
         assert_refused(&rt, rt.alloc(), &text, StateFault::Version, "a whole text");
         assert_refused(&rt, rt.alloc(), &[version], StateFault::Version, "one byte");
     }
-}
-
-// A whole text but for its first byte.
-const OTHER: &str = "03 01032329 0002 013101030000 013201030000 0131 00000000 0000000000 00";
-
-#[test]
-fn a_show_of_another_version(rt: HostRuntime) -> Result<(), Fail> {
-    let alloc = rt.alloc();
-    let text = bytes(alloc, OTHER)?;
-    assert_refused(&rt, alloc, &text, StateFault::Version, OTHER);
-    Ok(())
 }

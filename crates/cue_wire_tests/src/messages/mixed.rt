@@ -1,7 +1,7 @@
 //! Cues some of whose parts are optional, as messages ask for them.
-use super::{Row, compare, compare_rows, make_show};
+use super::{Row, compare_rows, make_show};
 use cue_core::State;
-use std::alloc::{AllocError, Global};
+use std::alloc::Global;
 use std::process::Abort;
 use std::test::Fail;
 
@@ -138,59 +138,13 @@ const MATCHED: [Row; 5] = [
     (b"/show/mixe\0\0,s\0\01\0\0\0", "refused 3"),
 ];
 
-// The type tags of so many parts after those of the cue.
-fn push_tags(bytes: &mut Vec<u8>, count: u8) -> Result<(), AllocError> {
-    for _ in 0..count {
-        bytes.extend_from_slice(b"iib")?;
-    }
-    for _ in 0..(4 - bytes.len() % 4) {
-        bytes.push(0)?;
-    }
-    Ok(())
-}
-
-// So many parts, each of its own device; the first of them is required.
-fn push_parts(bytes: &mut Vec<u8>, count: u8) -> Result<(), AllocError> {
-    for device in 0..count {
-        bytes.extend_from_slice(&[0, 0, 0, device, 0, 0, 0, device.min(1), 0, 0, 0, 0])?;
-    }
-    Ok(())
-}
-
-// A message that asks for cue 1 with so many parts.
-fn message_with_parts(alloc: Global, count: u8) -> Result<Vec<u8>, AllocError> {
-    let mut bytes = Vec::from_slice(alloc, b"/show/mixed\0,s")?;
-    push_tags(&mut bytes, count)?;
-    bytes.extend_from_slice(b"1\0\0\0")?;
-    push_parts(&mut bytes, count)?;
-    Ok(bytes)
-}
-
-fn compare_parts(
-    rt: &impl Abort,
-    alloc: Global,
-    state: &State,
-    count: u8,
-    wanted: &str,
-) -> Result<(), Fail> {
-    let datagram = message_with_parts(alloc, count)?;
-    compare(rt, alloc, state, &datagram, wanted)
-}
-
-fn compare_most_parts(rt: &impl Abort, alloc: Global, state: &State) -> Result<(), Fail> {
-    let most = "add cue 1 0: 1?: 2?: 3?: 4?: 5?: 6?: 7?: 8?: 9?: 10?: 11?: 12?: 13?: 14?: 15?:;";
-    compare_parts(rt, alloc, state, 16, most)?;
-    compare_parts(rt, alloc, state, 17, "bad 8;")
-}
-
 fn compare_all(rt: &impl Abort, alloc: Global, state: &mut State) -> Result<(), Fail> {
     make_show(rt, alloc, state)?;
     compare_rows(rt, alloc, state, &MADE)?;
     compare_rows(rt, alloc, state, &TAGS)?;
     compare_rows(rt, alloc, state, &NUMBERS)?;
     compare_rows(rt, alloc, state, &PARTS)?;
-    compare_rows(rt, alloc, state, &MATCHED)?;
-    compare_most_parts(rt, alloc, state)
+    compare_rows(rt, alloc, state, &MATCHED)
 }
 
 #[test]

@@ -1,8 +1,8 @@
 //! Datagrams that are read, and written again byte for byte.
 
-use super::{Row, args, bytes, compare, compare_rows};
-use cue_osc::{Arg, Message, Packet, WriteFault, read, write};
-use std::alloc::{AllocError, Global};
+use super::{Row, bytes, compare, compare_rows};
+use cue_osc::{Packet, WriteFault, read, write};
+use std::alloc::Global;
 use std::process::Abort;
 use std::test::Fail;
 
@@ -98,77 +98,6 @@ fn messages_are_read_and_written(rt: HostRuntime) -> Result<(), Fail> {
 }
 
 #[test]
-fn missing_tags_are_an_empty_tag_string(rt: HostRuntime) -> Result<(), Fail> {
-    let datagram = b"/status\0";
-    compare(&rt, rt.alloc(), datagram, "/status")?;
-    compare_written(&rt, rt.alloc(), datagram, b"/status\0,\0\0\0")
-}
-
-#[test]
 fn other_messages_are_discarded(rt: HostRuntime) -> Result<(), Fail> {
     compare_rows(&rt, rt.alloc(), &DISCARDED)
-}
-
-/// A bundle of so many messages `/status` that lack their tags.
-fn statuses(alloc: Global, count: usize) -> Result<Vec<u8>, AllocError> {
-    let mut datagram = Vec::from_slice(alloc, b"#bundle\0\0\0\0\0\0\0\0\x01")?;
-    for _ in 0..count {
-        datagram.extend_from_slice(b"\0\0\0\x08/status\0")?;
-    }
-    Ok(datagram)
-}
-
-fn leaf_count(alloc: Global, packet: &Packet<'_>) -> Result<usize, AllocError> {
-    Ok(packet.messages(alloc)?.len())
-}
-
-fn message_count(alloc: Global, datagram: &[u8]) -> Result<usize, Fail> {
-    let packet = read(alloc, datagram)?;
-    Ok(leaf_count(alloc, &packet)?)
-}
-
-/// The datagram with four bytes more, and with two bytes less.
-fn compare_other_lengths(
-    rt: &impl Abort,
-    alloc: Global,
-    datagram: &mut Vec<u8>,
-) -> Result<(), Fail> {
-    datagram.extend_from_slice(&[0, 0, 0, 0])?;
-    compare(rt, alloc, datagram, "TooLong")?;
-    datagram.truncate(4094);
-    compare(rt, alloc, datagram, "NotMultiple")
-}
-
-#[test]
-fn the_longest_bundle_has_340_messages(rt: HostRuntime) -> Result<(), Fail> {
-    let mut datagram = statuses(rt.alloc(), 340)?;
-    assert_eq!(rt; datagram.len(), 4096);
-    assert_eq!(rt; message_count(rt.alloc(), &datagram)?, 340);
-    compare_other_lengths(&rt, rt.alloc(), &mut datagram)
-}
-
-/// Writes the message `/a` with a blob of zeros.
-fn write_blob(alloc: Global, content: &[u8]) -> Result<Result<Vec<u8>, WriteFault>, AllocError> {
-    let packet = Packet::Message(Message {
-        address: b"/a",
-        args: args(alloc, &[Arg::Blob(content)])?,
-    });
-    Ok(write_plain(alloc, &packet))
-}
-
-#[test]
-fn longer_than_a_datagram_is_not_written(rt: HostRuntime) -> Result<(), Fail> {
-    let zeros = [0; 4085];
-    assert_eq!(rt; write_blob(rt.alloc(), &zeros[..4084])??.len(), 4096);
-    assert!(rt; matches!(write_blob(rt.alloc(), &zeros)?, Err(WriteFault::TooLong)));
-    Ok(())
-}
-
-#[test]
-fn arguments_go_in_and_come_out(rt: HostRuntime) -> Result<(), Fail> {
-    let list = [Arg::Int(-1), Arg::Text(b"go")];
-    let args = args(rt.alloc(), &list)?;
-    assert_eq!(rt; args.as_slice(), list.as_slice());
-    assert_eq!(rt; args.into_vec().len(), 2);
-    Ok(())
 }

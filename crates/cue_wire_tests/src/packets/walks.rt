@@ -1,7 +1,7 @@
-//! The messages of a packet, its time tags, and whether it can be written.
+//! The messages of a packet, and its time tags.
 
-use super::{args, bytes, show};
-use cue_osc::{Arg, Message, Packet, read};
+use super::{bytes, show};
+use cue_osc::{Packet, read};
 use std::alloc::{AllocError, Global};
 use std::process::Abort;
 use std::test::Fail;
@@ -69,28 +69,4 @@ fn a_time_tag_is_later_than_now(rt: HostRuntime) {
     ] {
         assert_eq!(rt; is_later(rt.alloc(), tag, now_ms), want);
     }
-}
-
-/// Whether a message with this address and one text can be written.
-fn is_plain(alloc: Global, address: &[u8], text: &[u8]) -> Result<bool, AllocError> {
-    let args = args(alloc, &[Arg::Text(text)])?;
-    Ok(Packet::Message(Message { address, args }).plain())
-}
-
-/// An address, a text, and whether a message with them can be written.
-const TEXTS: [(&[u8], &[u8], bool); 6] = [
-    (b"/a", b"", true),
-    (b"/", b"go", true),
-    (b"", b"go", false),
-    (b"a", b"go", false),
-    (b"/a\0", b"go", false),
-    (b"/a", b"g\0o", false),
-];
-
-#[test]
-fn plain_packets_hold_no_null(rt: HostRuntime) -> Result<(), Fail> {
-    for (address, text, want) in TEXTS {
-        assert_eq!(rt; is_plain(rt.alloc(), address, text)?, want);
-    }
-    Ok(())
 }

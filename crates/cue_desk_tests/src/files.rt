@@ -12,17 +12,6 @@ const GOOD: &str = "port = 9100\n\n\
 const BARE: &str = "\n[[device]]\nnumber = 3\nport = 9001\n\n\
 [[cue]]\nnumber = \"12.5\"\nparts = [{ device = 3, hex = \"0a0b\" }]\n";
 
-#[test]
-fn good_file_is_written_as_it_was_read(rt: HostRuntime) {
-    let alloc = rt.alloc();
-    let draft = read(alloc, GOOD).expect(&rt, "memory");
-    assert!(rt; draft.findings.is_empty());
-    let trial = check(alloc, &draft.file).expect(&rt, "memory");
-    assert!(rt; trial.findings.is_empty() && trial.show.is_some());
-    let text = written(alloc, &draft.file).expect(&rt, "memory");
-    assert!(rt; text.as_str() == GOOD, "{}", text.as_str());
-}
-
 /// What an editor may put before a text, and at the end of each line.
 const EDITORS: [(&str, &str); 3] = [("\u{feff}", "\n"), ("", "\r\n"), ("\u{feff}", "\r\n")];
 
@@ -60,22 +49,6 @@ fn show_is_written_without_names(rt: HostRuntime) {
     let file = of_show(alloc, &show).expect(&rt, "memory");
     let text = written(alloc, &file).expect(&rt, "memory");
     assert!(rt; text.as_str() == BARE, "{}", text.as_str());
-}
-
-#[test]
-fn mistake_is_told_with_its_line(rt: HostRuntime) {
-    let alloc = rt.alloc();
-    let draft = read(
-        alloc,
-        "port = 9100\n\n[[device]]\nnumber = 112\nport = 9001\n",
-    )
-    .expect(&rt, "memory");
-    let [finding] = draft.findings.as_slice() else {
-        panic!(rt; "not one finding");
-    };
-    let said = format!(in alloc; "{finding}").expect(&rt, "memory");
-    let wanted = "3: the 1. device: no device has that number: take one of 0 to 111";
-    assert!(rt; said.as_str() == wanted, "{}", said.as_str());
 }
 
 /// A file that lacks keys, and has values of another kind.

@@ -15,18 +15,6 @@ const STATUS: &[u8] = b"/status\0,isiii\0\0\0\0\0\x07\x31.5\0\
 \0\0\0\x02\0\0\0\x05\0\0\0\x03";
 
 #[test]
-fn refusal_is_read(rt: HostRuntime) {
-    let heard = read_reply(rt.alloc(), b"/cue/1/go", REFUSED).expect(&rt, "memory");
-    let wanted = Replied::Reply {
-        made: 0,
-        known: 0,
-        refused: 1,
-        code: 13,
-    };
-    assert!(rt; heard == Some(wanted));
-}
-
-#[test]
 fn each_number_of_a_reply_is_read(rt: HostRuntime) {
     let heard = read_reply(rt.alloc(), b"/cue/*/cancel", MIXED).expect(&rt, "memory");
     let wanted = Replied::Reply {

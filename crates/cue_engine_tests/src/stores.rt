@@ -1,4 +1,4 @@
-// Kept states by worked examples: the bytes of both disks, each refusal, and what a stop or a fault leaves.
+// Kept states by worked examples: older stores, damage, refusals in words, and what a stop or a fault leaves.
 use cue_core::Event;
 use cue_disk::MemDisk;
 use cue_keeper::{Fault, Keeper, StoreFault};
@@ -9,30 +9,19 @@ use std::alloc::{AllocError, Global};
 use std::process::Abort;
 use std::test::Fail;
 
-mod areas;
 mod damage;
 mod older;
 mod refusals;
 mod stops;
 
-// The area of generation 1 with the text of the first state.
-const FORMED: [u8; 29] = [
-    1, 0, 0, 0, 0, 0, 0, 0, 1, 0, 0, 0, 15, 2, 0, 0, 0, 0, 0, 0, 0, 0, 0, 0, 0, 0, 0, 0, 0,
-];
-
-// The same with a record: device 3 at port 9001.
+// The area of generation 1 with the text of the first state and a record: device 3 at port 9001.
 const ACCEPTED: [u8; 40] = [
     1, 0, 0, 0, 0, 0, 0, 0, 1, 0, 0, 0, 15, 2, 0, 0, 0, 0, 0, 0, 0, 0, 0, 0, 0, 0, 0, 0, 1, 0, 0,
     0, 6, 0x00, 0x01, 0x01, 0x03, 0x23, 0x29, 0,
 ];
 
-// The area of generation 2 with device 3, cues 1 and 2 and the place 1, and a record that moves to cue 2.
-const TURNED: [u8; 55] = [
-    1, 0, 0, 0, 0, 0, 0, 0, 2, 0, 0, 0, 0x1f, 2, 1, 3, 0x23, 0x29, 0, 2, 1, 0x31, 1, 3, 0, 0, 1,
-    0x32, 1, 3, 0, 0, 1, 0x31, 0, 0, 0, 0, 0, 0, 0, 0, 0, 0, 1, 0, 0, 0, 5, 0, 1, 5, 1, 0x32, 0,
-];
-
-// The same, as the program of version 1 wrote it.
+// The area of generation 2 with device 3, cues 1 and 2 and the place 1, and a record that moves to cue 2, as the
+// program of version 1 wrote it.
 const OLD_TURNED: [u8; 53] = [
     1, 0, 0, 0, 0, 0, 0, 0, 2, 0, 0, 0, 0x1d, 1, 1, 3, 0x23, 0x29, 0, 2, 1, 0x31, 1, 3, 0, 1, 0x32,
     1, 3, 0, 1, 0x31, 0, 0, 0, 0, 0, 0, 0, 0, 0, 0, 1, 0, 0, 0, 5, 0, 1, 5, 1, 0x32, 0,

@@ -1,13 +1,10 @@
-// A memory disk by worked examples, and a disk that promises nothing beside it.
+// A memory disk by worked examples.
 use cue_disk::*;
 use std::alloc::Global;
 use std::process::Abort;
 use std::test::Fail;
 
 mod files;
-mod unproven;
-
-use unproven::UnprovenDisk;
 
 // Writes where the disk has so many bytes; the test is at run time, so that a test needs no proof of a length.
 fn put(disk: &mut MemDisk, at: u64, bytes: &[u8]) -> Result<(), DiskFault> {
@@ -120,79 +117,8 @@ fn fails_within(rt: &impl Abort, disk: &mut MemDisk) -> Result<(), Fail> {
     after_crash(rt, disk, 0, &[50], &[1, 9, 9, 4, 5, 6])
 }
 
-// The end of a range that the write did not reach is not there.
-fn fails_at_the_end(rt: &impl Abort, disk: &mut MemDisk) -> Result<(), Fail> {
-    disk.fail_at(1);
-    puts(rt, disk, 5, &[7, 7, 7, 7], Err(DiskFault));
-    has(rt, disk, &[1, 9, 9, 4, 5, 7, 7], 4);
-    after_crash(rt, disk, 9, &[50, 51, 52], &[1, 9, 9, 4, 5, 50, 51])
-}
-
 #[test]
 fn a_write_that_fails_stores_its_first_half(rt: HostRuntime) -> Result<(), Fail> {
     let mut disk = MemDisk::from_bytes(rt.alloc(), &[1, 2, 3, 4, 5, 6])?;
-    fails_within(&rt, &mut disk)?;
-    fails_at_the_end(&rt, &mut disk)
-}
-
-// The second call, a write of three bytes at 1, fails and stops the disk.
-fn stops_within(rt: &impl Abort, disk: &mut MemDisk) {
-    disk.stop_at(2);
-    puts(rt, disk, 0, &[9], Ok(()));
-    puts(rt, disk, 1, &[8, 8, 8], Err(DiskFault));
-    has(rt, disk, &[9, 8, 3, 4], 2);
-}
-
-// Each call fails, and nothing changes.
-fn is_stopped(rt: &impl Abort, disk: &mut MemDisk) {
-    puts(rt, disk, 3, &[7, 7, 7], Err(DiskFault));
-    syncs(rt, disk, Err(DiskFault));
-    reports_its_length(rt, disk, Err(DiskFault));
-    has(rt, disk, &[9, 8, 3, 4], 5);
-}
-
-// A disk that is stopped before its first call.
-fn stops_at_once(rt: &impl Abort, disk: &mut MemDisk) -> Result<(), Fail> {
-    disk.stop_at(0);
-    puts(rt, disk, 0, &[9, 9], Err(DiskFault));
-    after_crash(rt, disk, 9, &[50, 51], &[1, 2])
-}
-
-#[test]
-fn a_stopped_disk_stays_as_it_is(rt: HostRuntime) -> Result<(), Fail> {
-    let mut disk = MemDisk::from_bytes(rt.alloc(), &[1, 2, 3, 4])?;
-    stops_within(&rt, &mut disk);
-    is_stopped(&rt, &mut disk);
-    after_crash(&rt, &disk, 9, &[50, 51, 52, 53, 54], &[50, 51, 52, 53])?;
-    has(&rt, &disk, &[9, 8, 3, 4], 5);
-    stops_at_once(&rt, &mut MemDisk::from_bytes(rt.alloc(), &[1, 2])?)
-}
-
-// Adds a byte at the end, on any disk.
-fn add<D: Disk>(disk: &mut D, byte: u8) -> Result<u64, DiskFault> {
-    let end = disk.len()?;
-    disk.write_at(end, &[byte])?;
-    disk.sync()?;
-    disk.len()
-}
-
-// A byte is added, and the disk then reports this length.
-fn adds<D: Disk>(rt: &impl Abort, disk: &mut D, byte: u8, answer: Result<u64, DiskFault>) {
-    assert_eq!(rt; add(disk, byte), answer);
-}
-
-fn takes_three_bytes(rt: &impl Abort, disk: &mut UnprovenDisk) {
-    adds(rt, disk, 7, Ok(1));
-    adds(rt, disk, 8, Ok(2));
-    adds(rt, disk, 9, Ok(3));
-    adds(rt, disk, 10, Err(DiskFault));
-}
-
-#[test]
-fn a_disk_that_promises_nothing_is_a_disk(rt: HostRuntime) {
-    let mut disk = MemDisk::new(rt.alloc());
-    adds(&rt, &mut disk, 7, Ok(1));
-    adds(&rt, &mut disk, 8, Ok(2));
-    has(&rt, &disk, &[7, 8], 8);
-    takes_three_bytes(&rt, &mut UnprovenDisk::new());
+    fails_within(&rt, &mut disk)
 }

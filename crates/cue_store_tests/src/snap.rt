@@ -1,4 +1,4 @@
-// Pairs of areas by worked examples: their bytes, each refusal, and what a stop or a fault leaves.
+// Pairs of areas by worked examples: their bytes, refusals, and what a stop or a fault leaves.
 use cue_disk::MemDisk;
 use cue_log::{AppendFault, Record, RecordGroup};
 use cue_snap::{FormFault, OpenFault, Opened2, Snap, TurnOverFault};

@@ -133,19 +133,6 @@ const LETS_GO: [Step; 2] = [
     Step::Answers(9001, b"/device/3/cancelled", [1, 0, 0, 0]),
 ];
 
-// The optional device cannot go on, and neither can the required one.
-const OPTIONAL_ABORTS: [Step; 2] = [
-    Step::Hears(1000, 9002, b"/device/4/abort\0,i\0\0\0\0\0\x01", [1, 0, 0]),
-    Step::Answers(9002, b"/device/4/abort", [1, 0, 0, 0]),
-];
-
-const REQUIRED_ABORTS: [Step; 2] = [
-    Step::Hears(1000, 9001, b"/device/3/abort\0,i\0\0\0\0\0\x01", [1, 0, 0]),
-    Step::Answers(9001, b"/device/3/abort", [1, 0, 0, 0]),
-];
-
-const CANCELS_OPTIONAL: [Step; 1] = [Step::Sends(9002, CANCEL_TO_4)];
-
 #[test]
 fn the_records_of_a_mixed_cue(rt: HostRuntime) -> Result<(), Fail> {
     let alloc = rt.alloc();
@@ -199,50 +186,6 @@ fn an_excused_device_hears_nothing_more(rt: HostRuntime) -> Result<(), Fail> {
             &LETS_GO,
             &CANCELLED,
         ],
-    )?;
-    Ok(())
-}
-
-#[test]
-fn devices_abort_in_either_order(rt: HostRuntime) -> Result<(), Fail> {
-    let alloc = rt.alloc();
-    let rows: [&[&[Step]]; 2] = [
-        &[
-            &MIXED_SHOW,
-            &STANDBY,
-            &STANDBYS,
-            &OPTIONAL_ABORTS,
-            &REQUIRED_ABORTS,
-            &CANCELLED,
-        ],
-        &[
-            &MIXED_SHOW,
-            &STANDBY,
-            &STANDBYS,
-            &REQUIRED_ABORTS,
-            &CANCELS_OPTIONAL,
-            &OPTIONAL_ABORTS,
-            &CANCELLED,
-        ],
-    ];
-    for row in rows {
-        show(&rt, alloc, row)?;
-    }
-    Ok(())
-}
-
-#[test]
-fn power_is_lost_with_an_excused_device(rt: HostRuntime) -> Result<(), Fail> {
-    let alloc = rt.alloc();
-    let excused: [&[Step]; 5] = [&MIXED_SHOW, &STANDBY, &STANDBYS, &ONE_READY, &EXCUSED];
-    let disks = show(&rt, alloc, &excused)?;
-    // What was prepared is given up: only the device that was not excused is told.
-    let cancelled: [Step; 1] = [Step::Sends(9001, CANCEL_TO_3)];
-    play(
-        &rt,
-        alloc,
-        crash(&disks, 0, &[])?,
-        &[&cancelled, &LETS_GO, &CANCELLED],
     )?;
     Ok(())
 }

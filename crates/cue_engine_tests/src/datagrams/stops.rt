@@ -10,7 +10,7 @@ const FAILED: [Step; 3] = [
     Step::Fails(1000, 8000, b"", Fault::Broken),
 ];
 
-#[derive(Clone, Copy, Debug)]
+#[derive(Clone, Copy)]
 enum Trouble {
     Fails(u64),
     Stops(u64),

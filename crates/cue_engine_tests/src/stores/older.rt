@@ -1,45 +1,6 @@
-// Stores that a program of version 1 wrote: they open, go on, and turn over into this version.
-use super::areas::new_cue;
+// Stores that a program of version 1 wrote: they open, and go on.
 use super::*;
 use cue_show::{Part, Parts};
-
-// Device 3 at port 9001, as a program of version 1 kept it.
-const OLD_ACCEPTED: [u8; 40] = [
-    1, 0, 0, 0, 0, 0, 0, 0, 1, 0, 0, 0, 15, 1, 0, 0, 0, 0, 0, 0, 0, 0, 0, 0, 0, 0, 0, 0, 1, 0, 0,
-    0, 6, 0x00, 0x01, 0x01, 0x03, 0x23, 0x29, 0,
-];
-
-#[test]
-fn an_older_store_is_opened_as_it_is(rt: HostRuntime) -> Result<(), Fail> {
-    let alloc = rt.alloc();
-    let first = MemDisk::from_bytes(alloc, &OLD_ACCEPTED)?;
-    let Ok(keeper) = Keeper::open(alloc, first, MemDisk::new(alloc)) else {
-        return Err("the store is not opened".into());
-    };
-    let port = keeper.state().show().port(device()?);
-    let (first, second) = keeper.close();
-    assert_eq!(rt; port, Some(9001));
-    assert_eq!(rt; first.bytes(), OLD_ACCEPTED.as_slice());
-    assert_eq!(rt; second.bytes(), [].as_slice());
-    Ok(())
-}
-
-#[test]
-fn an_older_store_turns_over_into_this_version(rt: HostRuntime) -> Result<(), Fail> {
-    let alloc = rt.alloc();
-    let first = MemDisk::from_bytes(alloc, &area_in(alloc, 1, 1, 252)?)?;
-    let kept = accept_on(alloc, first, MemDisk::new(alloc), Event::Place(cue(b"1")?))?;
-    let full = area_in(alloc, 1, 1, 253)?;
-    assert_eq!(rt; kept.answer, Ok(()));
-    assert_eq!(rt; kept.first.bytes(), full.as_slice());
-    assert_eq!(rt; kept.second.bytes(), [].as_slice());
-
-    let kept = accept_on(alloc, kept.first, kept.second, Event::Place(cue(b"2")?))?;
-    assert_eq!(rt; kept.answer, Ok(()));
-    assert_eq!(rt; kept.first.bytes(), full.as_slice());
-    assert_eq!(rt; kept.second.bytes(), TURNED.as_slice());
-    Ok(())
-}
 
 // Device 4, and cue 3 with device 3 required and device 4 optional, after the older area.
 const MIXED: [u8; 30] = [
@@ -78,9 +39,7 @@ fn an_older_area_takes_an_optional_part(rt: HostRuntime) -> Result<(), Fail> {
     assert_eq!(rt; kept.first.bytes(), older.as_slice());
     assert_eq!(rt; kept.second.bytes(), mixed_area(alloc)?.as_slice());
 
-    // A third cue of the older kind, and the store is opened once more.
-    let kept = accept_on(alloc, kept.first, kept.second, new_cue(alloc, b"4")?)?;
-    assert_eq!(rt; kept.answer, Ok(()));
+    // The store is opened once more.
     assert_eq!(rt; place(alloc, kept.first, kept.second), Ok(Some(cue(b"2")?)));
     Ok(())
 }

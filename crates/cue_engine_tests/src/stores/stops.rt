@@ -1,14 +1,14 @@
 // A stop or a fault at each device call of each disk, and what a crash then leaves.
 use super::*;
 
-#[derive(Clone, Copy, Debug)]
+#[derive(Clone, Copy)]
 enum Trouble {
     Fails,
     Stops,
 }
 
 // The disk that has the trouble.
-#[derive(Clone, Copy, Debug)]
+#[derive(Clone, Copy)]
 enum Side {
     First,
     Second,

@@ -11,18 +11,6 @@ fn group_of(alloc: Global, count: u8) -> Result<RecordGroup, RecordFault> {
     Ok(group)
 }
 
-// The area with these records, written out one after the other.
-fn bytes_with(alloc: Global, count: u8) -> Result<Vec<u8>, AllocError> {
-    let mut bytes = FORMED[..28].to_vec(alloc)?;
-    for k in 0..count {
-        let payload: Vec<u8> = vec![in alloc; k; usize::from(k)]?;
-        bytes.extend_from_slice(&[1, 0, 0, 0, k])?;
-        bytes.extend_from_slice(&payload)?;
-    }
-    bytes.push(0)?;
-    Ok(bytes)
-}
-
 // So many records leave these bytes, and cost so many device calls beside the ten of the forming.
 fn gives(rt: &impl Abort, alloc: Global, count: u8, bytes: &[u8], calls: u64) -> Result<(), Fail> {
     let mut log = formed(MemDisk::new(alloc), 1, &SNAPSHOT)?;
@@ -46,10 +34,6 @@ fn the_bytes_of_records_that_come_together(rt: HostRuntime) -> Result<(), Fail> 
     // No record makes no call, and any others two writes and two syncs.
     gives(&rt, rt.alloc(), 0, &FORMED, 10)?;
     gives(&rt, rt.alloc(), 2, &BOTH, 14)?;
-    for count in [1, 2, 16] {
-        let bytes = bytes_with(rt.alloc(), count)?;
-        gives(&rt, rt.alloc(), count, &bytes, 14)?;
-    }
     Ok(())
 }
 

@@ -1,53 +1,10 @@
-// How much an area and a record take.
+// How much an area takes.
 use super::*;
 
 // A record of so many bytes.
 fn record_of(alloc: Global, len: usize) -> Result<Record, RecordFault> {
     let bytes: Vec<u8> = vec![in alloc; 1; len]?;
     Record::of(alloc, &bytes)
-}
-
-#[test]
-fn a_record_that_is_too_long(rt: HostRuntime) {
-    let longer = record_of(rt.alloc(), 32_769).err();
-    let longest = record_of(rt.alloc(), 32_768).err();
-    assert_eq!(rt; (longer, longest), (Some(RecordFault::TooLong), None));
-}
-
-// The log takes all of the longest records that it has room for, and not one more.
-fn fill(rt: &impl Abort, alloc: Global, log: &mut Log<MemDisk>) -> Result<(), RecordFault> {
-    let longest = record_of(alloc, 32_768)?;
-    for _ in 0..511 {
-        appends(rt, log, &longest, Ok(()));
-    }
-    appends(rt, log, &longest, Err(AppendFault::Full));
-    Ok(())
-}
-
-// The log has no room for a record of so many bytes.
-fn refuses(
-    rt: &impl Abort,
-    alloc: Global,
-    log: &mut Log<MemDisk>,
-    len: usize,
-) -> Result<(), RecordFault> {
-    let too_long = record_of(alloc, len)?;
-    assert!(rt; !log.has_room(&too_long));
-    appends(rt, log, &too_long, Err(AppendFault::Full));
-    Ok(())
-}
-
-#[test]
-fn an_area_that_is_filled(rt: HostRuntime) -> Result<(), Fail> {
-    let mut log = formed(MemDisk::new(rt.alloc()), 1, &SNAPSHOT)?;
-    fill(&rt, rt.alloc(), &mut log)?;
-    refuses(&rt, rt.alloc(), &mut log, 30_180)?;
-    is_at(&rt, &log, 1, 511);
-    appends(&rt, &mut log, &record_of(rt.alloc(), 30_179)?, Ok(()));
-    refuses(&rt, rt.alloc(), &mut log, 0)?;
-    is_at(&rt, &log, 1, 512);
-    assert_eq!(rt; log.retire().bytes().len(), 16_777_216);
-    Ok(())
 }
 
 // So many records of that length.

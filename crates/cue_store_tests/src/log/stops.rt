@@ -62,16 +62,6 @@ fn an_append_with_trouble_at_each_call(rt: HostRuntime) -> Result<(), Fail> {
     Ok(())
 }
 
-#[test]
-fn opening_makes_what_was_read_stay(rt: HostRuntime) -> Result<(), Fail> {
-    let disk = troubled(&rt, rt.alloc(), Trouble::Fails, 4)?;
-    let area = opened(rt.alloc(), disk)?;
-    has(&rt, &area, &SNAPSHOT, &[PAYLOAD.as_slice()]);
-    let left = area.log.retire().crash(0, &[0])?;
-    is_left(&rt, rt.alloc(), left, true)?;
-    Ok(())
-}
-
 // The disk that a refused forming hands back, where it was refused.
 fn refused(disk: MemDisk) -> Result<Option<MemDisk>, DiskFault> {
     let mut disk = disk;

@@ -23,30 +23,6 @@ fn a_pair_is_formed(rt: HostRuntime) -> Result<(), Fail> {
 }
 
 #[test]
-fn a_pair_is_formed_where_no_area_is(rt: HostRuntime) -> Result<(), Fail> {
-    let alloc = rt.alloc();
-    let one = MemDisk::from_bytes(alloc, &[1])?;
-    assert_eq!(rt;
-        opened(alloc, one, MemDisk::new(alloc)).err(),
-        Some(OpenFault::Unformed)
-    );
-    let one = MemDisk::from_bytes(alloc, &[1])?;
-    let snap = formed(one, MemDisk::new(alloc))?;
-    assert_eq!(rt; snap.generation(), 1);
-    holds(&rt, snap, &FORMED, &[]);
-
-    // Bytes that no open head gate stands before stay on the second disk.
-    let second = MemDisk::from_bytes(alloc, &[0, 7, 7])?;
-    holds(
-        &rt,
-        formed(MemDisk::new(alloc), second)?,
-        &FORMED,
-        &[0, 7, 7],
-    );
-    Ok(())
-}
-
-#[test]
 fn a_pair_is_turned_over(rt: HostRuntime) -> Result<(), Fail> {
     let alloc = rt.alloc();
     let mut snap = opened_bytes(alloc, &APPENDED, &[])?.snap;

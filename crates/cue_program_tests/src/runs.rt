@@ -1,10 +1,8 @@
 //! A run in memory, with a watch that counts. The datagram and its reply are written by hand.
 use cue_core::{Event, State};
 use cue_disk::MemDisk;
-use cue_engine::{Engine, MemWire, Sent};
-use cue_run::{
-    Ended, MemAnswer, MemSource, RunFault, Source, Waiting, Watch, run_grouped, run_watched,
-};
+use cue_engine::{Engine, MemWire};
+use cue_run::{Ended, MemAnswer, MemSource, RunFault, Watch, run_grouped, run_watched};
 use std::alloc::{AllocError, Global};
 use std::process::Abort;
 use std::test::Fail;
@@ -91,32 +89,6 @@ fn a_run_in_memory(rt: HostRuntime) -> Result<(), Fail> {
     }
 }
 
-/// Of a source in memory a datagram is given that is the next answer; a tick, a fault and the end stay for the next
-/// turn.
-#[test]
-fn what_waits_in_memory(rt: HostRuntime) -> Result<(), Fail> {
-    let alloc = rt.alloc();
-    let bytes = Vec::from_slice(alloc, &DEVICE)?;
-    let mut source = MemSource::new(vec![in alloc;
-        MemAnswer::Datagram {
-            now: 7,
-            from: 8000,
-            bytes
-        },
-        MemAnswer::Tick { now: 250 },
-    ]?);
-    let mut buffer = [0; 64];
-    let expected = Waiting {
-        now: 7,
-        from: 8000,
-        n: 28,
-    };
-    assert!(rt; source.waiting(&mut buffer) == Ok(Some(expected)));
-    assert_eq!(rt; &buffer[..28], DEVICE.as_slice());
-    assert!(rt; source.waiting(&mut buffer) == Ok(None));
-    Ok(())
-}
-
 // What comes: three datagrams that wait together, a tick, and two more.
 fn answers(alloc: Global) -> Result<Vec<MemAnswer>, AllocError> {
     let mut answers = Vec::new(alloc);
@@ -142,7 +114,6 @@ pub struct Played {
     pub ended: Ended,
     pub looks: usize,
     pub events: usize,
-    pub wire: MemWire,
     pub disks: (MemDisk, MemDisk),
 }
 
@@ -183,7 +154,6 @@ fn play(
         ended,
         looks: count.looks,
         events: count.events,
-        wire,
         disks: engine.close(),
     }
 }
@@ -207,26 +177,11 @@ fn make_played(rt: &impl Abort, alloc: Global, most: Option<u64>) -> Played {
     play_empty(rt, alloc, answers, 5, most)
 }
 
-fn is_same(one: &Sent, other: &Sent) -> bool {
-    one.to == other.to && one.bytes == other.bytes && one.refused == other.refused
-}
-
-// Whether both wires report the same.
-fn are_same(one: &MemWire, other: &MemWire) -> bool {
-    match (one.sent(), other.sent()) {
-        (Some(one), Some(other)) => {
-            one.len() == other.len() && one.iter().zip(other).all(|(x, y)| is_same(x, y))
-        }
-        _ => false,
-    }
-}
-
-/// Both runs left the same: the end, the looks and their events, the wire, and the bytes of both files.
+/// Both runs left the same: the end, the looks and their events, and the bytes of both files.
 pub fn expect_same(rt: &impl Abort, one: &Played, other: &Played) {
     assert_eq!(rt; one.ended, other.ended);
     assert_eq!(rt; one.looks, other.looks);
     assert_eq!(rt; one.events, other.events);
-    assert!(rt; are_same(&one.wire, &other.wire), "the wire");
     assert!(rt;
         one.disks.0.bytes() == other.disks.0.bytes(),
         "the first file"
@@ -237,8 +192,8 @@ pub fn expect_same(rt: &impl Abort, one: &Played, other: &Played) {
     );
 }
 
-/// What waits together leaves the same replies, turns and files as one by one, and is looked at as often, with the same
-/// events. The run has 5 turns, so the last group has one of the two that wait.
+/// What waits together leaves the same turns and files as one by one, and is looked at as often, with the same events.
+/// The run has 5 turns, so the last group has one of the two that wait.
 #[test]
 fn a_run_by_groups(rt: HostRuntime) -> Result<(), Fail> {
     let alone = make_played(&rt, rt.alloc(), None);

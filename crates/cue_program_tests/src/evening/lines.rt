@@ -81,15 +81,6 @@ const LINES: [(u16, &str, &str); 13] = [
     ),
 ];
 
-/// GO of the attempts 7 and 8 to the device 3, and of 7 to the device 4; each with whether the log says it then.
-const ORDERS: [(&str, bool); 5] = [
-    ("2f6d73632f676f5f327063002c6969000000000700000003", true),
-    ("2f6d73632f676f5f327063002c6969000000000700000003", false),
-    ("2f6d73632f676f5f327063002c6969000000000800000003", true),
-    ("2f6d73632f676f5f327063002c6969000000000700000004", true),
-    ("2f6d73632f676f5f327063002c6969000000000700000003", false),
-];
-
 // What the line of an entry says, where nothing is known of events and state.
 fn text_of(alloc: Global, entry: &Entry) -> Result<String, AllocError> {
     match entry {
@@ -128,17 +119,6 @@ fn lines(rt: HostRuntime) -> Result<(), Fail> {
         let mut notebook = Notebook::new(rt.alloc());
         let text = line_or_none(rt.alloc(), &mut notebook, port, digits)?;
         assert!(rt; text.as_str() == line, "{text}");
-    }
-    Ok(())
-}
-
-/// A repeated order is not said again; one of a later attempt or to another device is.
-#[test]
-fn repeats(rt: HostRuntime) -> Result<(), Fail> {
-    let mut notebook = Notebook::new(rt.alloc());
-    for (digits, said) in ORDERS {
-        let text = line_or_none(rt.alloc(), &mut notebook, 9001, digits)?;
-        assert!(rt; text.is_empty() != said, "{digits}");
     }
     Ok(())
 }
@@ -226,33 +206,6 @@ fn attempt_of(
         stage,
         answers: Answers::of(items),
     })
-}
-
-/// Devices of an attempt, each with whether it is optional, and the line where the attempt begins.
-const STANDBYS: [(&[(i32, bool)], &str); 6] = [
-    (
-        &[(3, false), (4, true)],
-        "STANDBY attempt 7 cue 12.5: device 3 alone is required",
-    ),
-    (
-        &[(4, true), (0, true), (111, false)],
-        "STANDBY attempt 7 cue 12.5: device 111 alone is required",
-    ),
-    (&[(3, false)], ""),
-    (&[(3, false), (4, false)], ""),
-    (&[(3, false), (4, true), (5, false)], ""),
-    (&[(3, false), (4, false), (5, true), (6, true)], ""),
-];
-
-/// An attempt that hangs on one device has its line when it begins, and each other one has none.
-#[test]
-fn standbys(rt: HostRuntime) -> Result<(), Fail> {
-    for (devices, line) in STANDBYS {
-        let attempt = attempt_of(rt.alloc(), 7, Stage::Preparing, devices)?;
-        let text = standby_line(rt.alloc(), 6, &attempt).unwrap_or(String::new(rt.alloc()));
-        assert!(rt; text.as_str() == line, "{text}");
-    }
-    Ok(())
 }
 
 /// An attempt that was seen before has no line again, nor has one that is carried out or given up by then.

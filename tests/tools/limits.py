@@ -41,12 +41,10 @@ not given within {of.STANDBY} is cancelled
 in which they are added, {cue_show.MAX_CUES:,} at most
 up to {of.READINGS} times in all
 up to {cue_desk.MAX_TOGETHER} messages by one datagram
-The board wants {cue_board.COLUMNS} columns and {cuedesk.ROWS} rows
+The board wants {cue_desk.COLUMNS} columns and {cuedesk.ROWS} rows
 the last {of.LOG_LINES} lines of the log
-else that of the show file, else {cue_desk.PORT}
-silent: it was sent an order, and has answered nothing for {of.SILENCE}
-or more than {cue_relay.RATE} of one device within {of.SECOND}
-at most {cue_relay.RATE} times in {of.SECOND}
+else that of the show file, else {cuedesk.PORT}
+silent: nothing came for {of.SILENCE}, and something is pending
 at most once in {of.DROPPED}
 `--status FILE` is replaced whole once {of.STATUS}.
 is more than {of.STALE} ago, the relay has stopped
@@ -150,7 +148,6 @@ COMPUTED = {
     "DROPPED": lambda at: seconds(at["cuedesk"].DROPPED_PAUSE),
     "STATUS": lambda at: seconds(at["cuedesk"].STATUS_PAUSE),
     "SILENCE": lambda at: seconds(at["cue_relay"].SILENCE),
-    "SECOND": lambda at: seconds(at["cue_relay"].SECOND),
     "STALE": lambda at: seconds(at["cue_relay"].STALE),
 }
 

@@ -1,2 +1,1 @@
 mod CopyLemmas
-mod TellingLemmas

@@ -1,3 +1,2 @@
 pub mod Copies
 pub mod Looking
-pub mod Telling

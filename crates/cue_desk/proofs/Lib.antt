@@ -1,3 +1,4 @@
 pub mod AskLemmas
+pub mod BoardLemmas
 pub mod ReadLemmas
 pub mod TakenLemmas

@@ -6,6 +6,5 @@ pub mod Hearing
 pub mod Lines
 pub mod Loading
 pub mod Orders
-pub mod Ports
 pub mod Readings
 pub mod Replies

@@ -6,4 +6,3 @@ pub mod FitsLemmas
 pub mod HistoryLemmas
 pub mod OrderLemmas
 pub mod CopyLemmas
-pub mod CarryingLemmas

@@ -5,4 +5,3 @@ pub mod Datagrams
 pub mod Histories
 pub mod Laws
 pub mod Copies
-pub mod Carrying

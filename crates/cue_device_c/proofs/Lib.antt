@@ -1,2 +1,1 @@
 pub mod PlacesLemmas
-pub mod ReportLemmas

@@ -1,8 +1,2 @@
-pub mod Alarms
-pub mod Ends
-pub mod Lit
-pub mod Live
-pub mod Network
-pub mod Page
-pub mod Said
-pub mod Stack
+pub mod Board
+pub mod Heard

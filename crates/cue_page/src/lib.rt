@@ -1,5 +1,6 @@
-//! The desk as a page: its text, and the view of the desk as JSON.
+//! The desk as a page: its text, and the board as JSON.
 #![tactic(auto)]
 
 pub mod board;
 pub mod page;
+pub mod relay;

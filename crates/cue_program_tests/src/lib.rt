@@ -4,8 +4,6 @@
 #[cfg(test)]
 mod bursts;
 #[cfg(test)]
-mod copies;
-#[cfg(test)]
 mod evening;
 #[cfg(test)]
 mod program;

@@ -1,6 +1,2 @@
-pub mod HearingLemmas
-pub mod MessageLemmas
-pub mod MeterLemmas
-pub mod RateLemmas
 pub mod RunLemmas
 pub mod WayLemmas

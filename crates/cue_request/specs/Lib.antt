@@ -2,3 +2,4 @@ pub mod Answers
 pub mod Fields
 pub mod Presses
 pub mod Requests
+pub mod Told

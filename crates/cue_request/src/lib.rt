@@ -3,7 +3,6 @@
 
 pub mod answering;
 mod fields;
-mod numbers;
 pub mod pressing;
 pub mod replying;
 pub mod request;

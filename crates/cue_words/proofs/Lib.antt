@@ -1,2 +1,1 @@
 pub mod NumberLemmas
-mod SignLemmas

@@ -1,4 +1,3 @@
 pub mod Answered
 pub mod CodeWords
 pub mod ShowText
-pub mod Signs

@@ -1,2 +1,0 @@
-pub mod BoardLemmas
-pub mod ColumnLemmas

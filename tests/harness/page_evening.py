@@ -148,7 +148,7 @@ def full_text():
 def write_status(path, devices, now=None):
     """What a relay says of these devices: for each the seconds since it was heard, or none, and whether it is silent."""
     now = time.time_ns() // 10**6 if now is None else now
-    lines = [f"relay 1 {now}", "passed 7 lost 0 dropped 2"]
+    lines = [f"relay 2 {now}", "passed 7 lost 0 dropped 2"]
     for number, (ago, silent) in devices.items():
         heard = "never" if ago is None else f"heard {now - 1000 * ago}"
         lines.append(f"device {number} 10.0.7.31:{9000 + number} {heard}{' silent' if silent else ''}")

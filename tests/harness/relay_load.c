@@ -1,9 +1,11 @@
-/* Plays the controller at 127.0.0.1, devices at 127.0.0.3 and strangers, for a relay that listens at 127.0.0.2.
+/* Plays the controller at 127.0.0.1, devices at 127.0.0.3 and strangers, for a relay that listens at 127.0.0.2. Device
+   k is at the k-th port of each.
 
-   relay_load ping CONTROLLER_PORT LOCAL_PORT DEVICE_PORT COUNT
-        an order and its answer through the relay, one after the other: microseconds of each, the median
-   relay_load flow CONTROLLER_PORT FIRST_LOCAL FIRST_DEVICE DEVICES RATE SECONDS
-        so many datagrams a second for each device, half of them each way: how many were sent and came
+   relay_load ping CONTROLLER_PORT FIRST_LOCAL FIRST_DEVICE DEVICES COUNT
+        an order and its answer through the relay, one after the other, the devices by turns, so that none has more
+        than its rate: microseconds of each, the median
+   relay_load flow CONTROLLER_PORT FIRST_LOCAL FIRST_DEVICE DEVICES ORDERS ANSWERS SECONDS
+        so many orders a second for each device, and so many answers of each: how many were sent and came
    relay_load strangers FIRST_LOCAL PORTS COUNT
         datagrams of nobody whom the relay knows, to both of its sides */
 #include <arpa/inet.h>
@@ -38,11 +40,30 @@ static int bound(const char *host, int port) {
   return wire;
 }
 
-static void put(int wire, const char *host, int port, uint64_t number) {
-  char bytes[LENGTH] = "/device/3/complete";
+static void put(int wire, const char *host, int port, const uint8_t *bytes, int length) {
   struct sockaddr_in to = at(host, port);
-  memcpy(bytes + LENGTH - 8, &number, 8);
-  if (sendto(wire, bytes, LENGTH, 0, (struct sockaddr *)&to, sizeof to) != LENGTH) perror("sendto");
+  if (sendto(wire, bytes, length, 0, (struct sockaddr *)&to, sizeof to) != length) perror("sendto");
+}
+
+static int padded(int length) { return length + 4 - length % 4; }
+
+static int put_number(uint8_t *bytes, int at, uint32_t number) {
+  for (int k = 0; k < 4; k++) bytes[at + k] = number >> (24 - 8 * k);
+  return at + 4;
+}
+
+/* /msc/go_2pc ,ii: the attempt's number, and the device's. */
+static void order(int wire, const char *host, int port, int device, uint32_t seq) {
+  uint8_t bytes[LENGTH] = "/msc/go_2pc\0,ii";
+  put(wire, host, port, bytes, put_number(bytes, put_number(bytes, 16, seq), device));
+}
+
+/* /device/N/complete ,i: the attempt's number. */
+static void answer(int wire, const char *host, int port, int device, uint32_t seq) {
+  uint8_t bytes[LENGTH] = {0};
+  int tags = padded(sprintf((char *)bytes, "/device/%d/complete", device));
+  memcpy(bytes + tags, ",i", 2);
+  put(wire, host, port, bytes, put_number(bytes, tags + 4, seq));
 }
 
 static uint64_t nanoseconds(void) {
@@ -56,28 +77,40 @@ static int by_size(const void *one, const void *other) {
   return (a > b) - (a < b);
 }
 
-static int ping(int controller_port, int local, int device_port, int count) {
-  int controller = bound(CONTROLLER, controller_port), device = bound(DEVICES, device_port);
-  uint64_t *took = calloc(count, sizeof *took);
-  char bytes[LENGTH];
-  for (int k = 0; k < count; k++) {
-    uint64_t begun = nanoseconds();
-    put(controller, CONTROLLER, local, k);
-    while (recv(device, bytes, LENGTH, MSG_DONTWAIT) != LENGTH)
-      if (nanoseconds() - begun > 2000000000ull) return puts("lost"), 1;
-    put(device, RELAY, local, k);
-    while (recv(controller, bytes, LENGTH, MSG_DONTWAIT) != LENGTH)
-      if (nanoseconds() - begun > 2000000000ull) return puts("lost"), 1;
-    took[k] = nanoseconds() - begun;
-  }
-  qsort(took, count, sizeof *took, by_size);
-  printf("%.3f\n", took[count / 2] / 1000.0);
-  return 0;
-}
-
 static int sockets[MOST + 1], devices;
 static volatile int is_over;
 static uint64_t came;
+
+static void bind_all(int controller_port, int device, int count) {
+  devices = count;
+  for (int k = 0; k < count; k++) sockets[k] = bound(DEVICES, device + k);
+  sockets[count] = bound(CONTROLLER, controller_port);
+}
+
+/* Whether something comes at the socket within two seconds. */
+static int hears(int wire, uint64_t begun) {
+  char bytes[LENGTH];
+  while (recv(wire, bytes, LENGTH, MSG_DONTWAIT) <= 0)
+    if (nanoseconds() - begun > 2000000000ull) return 0;
+  return 1;
+}
+
+static int ping(int controller_port, int local, int device, int count, int rounds) {
+  bind_all(controller_port, device, count);
+  uint64_t *took = calloc(rounds, sizeof *took);
+  for (int k = 0; k < rounds; k++) {
+    int one = k % count;
+    uint64_t begun = nanoseconds();
+    order(sockets[count], CONTROLLER, local + one, one, k + 1);
+    if (!hears(sockets[one], begun)) return puts("lost"), 1;
+    answer(sockets[one], RELAY, local + one, one, k + 1);
+    if (!hears(sockets[count], begun)) return puts("lost"), 1;
+    took[k] = nanoseconds() - begun;
+  }
+  qsort(took, rounds, sizeof *took, by_size);
+  printf("%.3f\n", took[rounds / 2] / 1000.0);
+  return 0;
+}
 
 static void *drain(void *nothing) {
   int waiting = epoll_create1(0);
@@ -90,25 +123,24 @@ static void *drain(void *nothing) {
     char bytes[LENGTH];
     int ready = epoll_wait(waiting, events, 64, 100);
     for (int k = 0; k < ready; k++)
-      while (recv(events[k].data.fd, bytes, LENGTH, MSG_DONTWAIT) == LENGTH) came++;
+      while (recv(events[k].data.fd, bytes, LENGTH, MSG_DONTWAIT) > 0) came++;
   }
   return nothing;
 }
 
-static int flow(int controller_port, int local, int device, int count, int rate, int seconds) {
-  devices = count;
-  for (int k = 0; k < count; k++) sockets[k] = bound(DEVICES, device + k);
-  sockets[count] = bound(CONTROLLER, controller_port);
+static int flow(int controller_port, int local, int device, int count, int orders, int answers, int seconds) {
+  bind_all(controller_port, device, count);
   pthread_t drains;
   pthread_create(&drains, NULL, drain, NULL);
-  uint64_t begun = nanoseconds(), sent = 0, rounds = (uint64_t)rate / 2 * seconds;
+  uint64_t begun = nanoseconds(), sent = 0, rounds = (uint64_t)orders * seconds;
   for (uint64_t round = 0; round < rounds; round++) {
+    int is_answered = round * answers / orders != (round + 1) * answers / orders;
     for (int k = 0; k < count; k++) {
-      put(sockets[count], CONTROLLER, local + k, round);
-      put(sockets[k], RELAY, local + k, round);
-      sent += 2;
+      order(sockets[count], CONTROLLER, local + k, k, round + 1);
+      if (is_answered) answer(sockets[k], RELAY, local + k, k, round + 1);
+      sent += 1 + is_answered;
     }
-    uint64_t due = begun + (round + 1) * 2000000000ull / rate, now = nanoseconds();
+    uint64_t due = begun + (round + 1) * 1000000000ull / orders, now = nanoseconds();
     if (due > now) nanosleep(&(struct timespec){0, due - now}, NULL);
   }
   double took = (nanoseconds() - begun) / 1e9;
@@ -122,7 +154,9 @@ static int flow(int controller_port, int local, int device, int count, int rate,
 static int strangers(int local, int ports, int count) {
   int near = bound(CONTROLLER, 0), far = bound(DEVICES, 0);
   for (int k = 0; k < count; k++) {
-    put(k % 2 ? near : far, k % 2 ? CONTROLLER : RELAY, local + k / 2 % ports, k);
+    int one = k / 2 % ports;
+    if (k % 2) order(near, CONTROLLER, local + one, one, k + 1);
+    else answer(far, RELAY, local + one, one, k + 1);
     if (k % 32 == 31) nanosleep(&(struct timespec){0, 100000}, NULL);
   }
   return 0;
@@ -131,9 +165,9 @@ static int strangers(int local, int ports, int count) {
 int main(int count, char **words) {
   int numbers[8] = {0};
   for (int k = 2; k < count && k < 10; k++) numbers[k - 2] = atoi(words[k]);
-  if (count == 6 && !strcmp(words[1], "ping")) return ping(numbers[0], numbers[1], numbers[2], numbers[3]);
-  if (count == 8 && !strcmp(words[1], "flow"))
-    return flow(numbers[0], numbers[1], numbers[2], numbers[3], numbers[4], numbers[5]);
+  if (count == 7 && !strcmp(words[1], "ping")) return ping(numbers[0], numbers[1], numbers[2], numbers[3], numbers[4]);
+  if (count == 9 && !strcmp(words[1], "flow"))
+    return flow(numbers[0], numbers[1], numbers[2], numbers[3], numbers[4], numbers[5], numbers[6]);
   if (count == 5 && !strcmp(words[1], "strangers")) return strangers(numbers[0], numbers[1], numbers[2]);
   fputs("see the top of relay_load.c\n", stderr);
   return 2;

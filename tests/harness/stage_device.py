@@ -1,8 +1,9 @@
 """The device of examples/device.py at an address of its own, over a network that loses datagrams.
 
-    stage_device.py NUMBER HOST PORT LOSS SEED
+    stage_device.py NUMBER HOST PORT LOSS SEED [MOTION]
 
-It loses LOSS of those that come and of those that it sends, drawn by the seed, and prints a line for each step.
+It loses LOSS of those that come and of those that it sends, drawn by the seed, and prints a line for each step. It
+moves for MOTION seconds, 0.3 by default.
 """
 import importlib.util
 import random
@@ -41,11 +42,12 @@ class Lossy:
             self.wire.sendto(data, address)
 
 
-def main(number, host, port, loss, seed):
+def main(number, host, port, loss, seed, motion=0.3):
     module = example()
     with socket.socket(socket.AF_INET, socket.SOCK_DGRAM) as wire:
         wire.bind((host, int(port)))
-        module.run(Lossy(wire, float(loss), int(seed)), module.Device(int(number), prepare=0.1, motion=0.3))
+        device = module.Device(int(number), prepare=0.1, motion=float(motion))
+        module.run(Lossy(wire, float(loss), int(seed)), device)
 
 
 main(*sys.argv[1:])

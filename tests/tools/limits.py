@@ -44,7 +44,9 @@ up to {cue_desk.MAX_TOGETHER} messages by one datagram
 The board wants {cue_desk.COLUMNS} columns and {cuedesk.ROWS} rows
 the last {of.LOG_LINES} lines of the log
 else that of the show file, else {cuedesk.PORT}
-silent: nothing came for {of.SILENCE}, and something is pending
+silent: it was sent an order, and has answered nothing for {of.SILENCE}
+or more than {cue_relay.RATE} of one device within {of.SECOND}
+at most {cue_relay.RATE} times in {of.SECOND}
 at most once in {of.DROPPED}
 `--status FILE` is replaced whole once {of.STATUS}.
 is more than {of.STALE} ago, the relay has stopped
@@ -148,6 +150,7 @@ COMPUTED = {
     "DROPPED": lambda at: seconds(at["cuedesk"].DROPPED_PAUSE),
     "STATUS": lambda at: seconds(at["cuedesk"].STATUS_PAUSE),
     "SILENCE": lambda at: seconds(at["cue_relay"].SILENCE),
+    "SECOND": lambda at: seconds(at["cue_relay"].SECOND),
     "STALE": lambda at: seconds(at["cue_relay"].STALE),
 }
 

@@ -187,8 +187,8 @@ fn the_stack_gives_way_to_devices(rt: HostRuntime) {
 }
 
 /// What a relay says of two devices.
-const STATUS: &str = "relay 1 1000000\npassed 7 lost 0 dropped 2\n\
-device 3 10.0.7.31:9001 heard 997000\ndevice 4 10.0.7.32:7000 never silent\nend\n";
+const STATUS: &str = "relay 2 1000000\npassed 7 lost 0 dropped 2\n\
+device 3 10.0.7.31:9001 heard 997000\ndevice 4 10.0.7.32:7000 never standby silent\nend\n";
 
 #[test]
 fn devices_of_a_relay(rt: HostRuntime) {

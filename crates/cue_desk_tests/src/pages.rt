@@ -171,8 +171,8 @@ fn board_of_an_empty_show_is_empty(rt: HostRuntime) {
 }
 
 /// What a relay reports of two devices.
-const STATUS: &str = "relay 1 1000000\npassed 7 lost 0 dropped 2\n\
-device 3 10.0.7.31:9001 heard 997000\ndevice 4 10.0.7.32:7000 never silent\nend\n";
+const STATUS: &str = "relay 2 1000000\npassed 7 lost 0 dropped 2\n\
+device 3 10.0.7.31:9001 heard 997000\ndevice 4 10.0.7.32:7000 never standby silent\nend\n";
 
 /// The times at which it is asked, and what is reported then.
 const TOLD: [(u64, &str); 2] = [

@@ -1,2 +1,6 @@
+pub mod HearingLemmas
+pub mod MessageLemmas
+pub mod MeterLemmas
+pub mod RateLemmas
 pub mod RunLemmas
 pub mod WayLemmas

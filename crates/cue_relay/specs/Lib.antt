@@ -1,7 +1,11 @@
 pub mod Hearing
 pub mod Laws
 pub mod Memory
+pub mod Messages
+pub mod Rates
 pub mod Relayed
 pub mod Relaying
+pub mod Seeing
+pub mod Silences
 pub mod Sources
 pub mod Wires

@@ -2,12 +2,14 @@
 use Rattle.std.specs.Prelude.{ℕ, Bool, ◌&&◌, ◌==◌, nat_le, if◌then◌else◌, List, Option, None, Some}
 use Rattle.std.specs.Prelude.{slice_get, option_and_then}
 use Rattle.cue_osc.specs.declared.limits.TheConstants.{MAX_LEN}
+use Rattle.cue_relay.specs.declared.messages.Message.{Message}
 use Rattle.cue_relay.specs.declared.route.Address.{Address}
 use Rattle.cue_relay.specs.declared.route.Opening.{Opening}
 use Rattle.cue_relay.specs.declared.route.Route.{Route}
 use Rattle.cue_relay.specs.declared.route.Side.{Side}
 use Rattle.cue_relay.specs.declared.route.Side.TheVariants.{Controller, Stage}
 use Rattle.cue_relay.specs.declared.route.Way.{Way}
+use Rattle.cue_relay.specs.Messages.{message_in}
 
 -- the same host and the same port
 abbrev pub is_same : Address → Address → Bool
@@ -39,3 +41,8 @@ way_of controller routes at from len =
     if nat_le len MAX_LEN
     then option_and_then (λ route. way_by controller route at from) (slice_get routes at.route)
     else None
+
+-- what it says, where it says something that may go on there
+abbrev pub message_at : List Route → Opening → List ℕ → Option Message
+message_at routes at bytes =
+    option_and_then (λ route. message_in at.side route.device bytes) (slice_get routes at.route)

@@ -1,12 +1,15 @@
 //! The loop of the relay: what comes is handed on, or dropped, or lost.
-ghost use Rattle.std.specs.Prelude.{◌≡◌, ◌+◌, ◌-◌, ◌<◌, ◌^◌, length};
-ghost use Rattle.cue_relay.specs.Relayed.{Ran, Takes, Turned, counts_after};
+ghost use Rattle.std.specs.Prelude.{◌≡◌, ◌+◌, ◌-◌, ◌<◌, ◌^◌, [], IfOk, length, replicate};
+ghost use Rattle.cue_relay.specs.Relayed.{Ran, Takes, Turned, counts_after, no_times};
 ghost use Rattle.cue_relay.specs.Sources.{comes};
 
-use crate::route::{Address, Opening, Route, way_of};
+use crate::going::goes_on;
+use crate::messages::Message;
+use crate::rate::{Meter, meters};
+use crate::route::{Address, Opening, Route};
 use crate::source::{Source, Turn};
 use crate::wire::Wire;
-use std::alloc::Global;
+use std::alloc::{AllocError, Global};
 
 /// The most bytes of a datagram that are read. The longest datagram has fewer, so one that is too long is seen to be
 /// so.
@@ -23,13 +26,26 @@ pub struct Relay<'a> {
 #[derive(Clone, Copy, Debug, PartialEq, Eq)]
 pub enum Happening {
     /// A datagram that came at this opening was handed on.
-    Passed { now: u64, at: Opening },
+    Passed {
+        now: u64,
+        at: Opening,
+        message: Message,
+    },
     /// It was to be handed on, and could not be sent.
-    Lost { now: u64, at: Opening },
-    /// It was dropped: its sender is not the one at that side, or it is too long.
-    Dropped { now: u64 },
+    Lost {
+        now: u64,
+        at: Opening,
+        message: Message,
+    },
+    /// It was dropped: its sender is not the one at that side, it says nothing that may go on there, or a hundred of
+    /// that device went on within the last second.
+    Dropped {
+        now: u64,
+    },
     /// Nothing came.
-    Tick { now: u64 },
+    Tick {
+        now: u64,
+    },
 }
 
 /// How many datagrams were handed on, lost and dropped.
@@ -100,38 +116,43 @@ impl Counts {
 // Hands a datagram on, where it goes on.
 fn hand_on<W: Wire>(
     relay: Relay<'_>,
+    meters: &mut [Meter],
     wire: &mut W,
     now: u64,
     at: Opening,
     from: Address,
     bytes: &[u8],
 ) -> Happening
-    ensures { Takes relay.entry (comes now at from bytes.now) result (W.told wire.old) (W.told wire.new) }
+    ensures { Takes relay.entry (comes now at from bytes.now) result meters.old meters.new
+        (W.told wire.old) (W.told wire.new) }
 {
-    match way_of(relay.controller, relay.routes, at, from, bytes.len()) {
-        Some(way) => match wire.send(way, bytes) {
-            Ok(()) => Happening::Passed { now, at },
-            Err(_) => Happening::Lost { now, at },
-        },
-        None => Happening::Dropped { now },
+    let Some(going) = goes_on(relay, meters, now, at, from, bytes) else {
+        return Happening::Dropped { now };
+    };
+    let message = going.message;
+    match wire.send(going.way, bytes) {
+        Ok(()) => Happening::Passed { now, at, message },
+        Err(_) => Happening::Lost { now, at, message },
     }
 }
 
 // One turn. None: the source ended.
 fn turn_once<S: Source, W: Wire>(
     relay: Relay<'_>,
+    meters: &mut [Meter],
     source: &mut S,
     wire: &mut W,
     buffer: &mut [u8],
 ) -> Result<Option<Happening>, RelayFault>
-    ensures { Turned relay.entry (length buffer.old) result (S.left source.old) (S.left source.new)
-        (W.told wire.old) (W.told wire.new) }
+    ensures { Turned relay.entry (length buffer.old) result meters.old meters.new
+        (S.left source.old) (S.left source.new) (W.told wire.old) (W.told wire.new) }
 {
     match source.next(buffer) {
         Ok(Turn::End) => Ok(None),
         Ok(Turn::Tick { now }) => Ok(Some(Happening::Tick { now })),
         Ok(Turn::Datagram { now, at, from, n }) => {
-            Ok(Some(hand_on(relay, wire, now, at, from, &buffer[..n])))
+            let bytes = &buffer[..n];
+            Ok(Some(hand_on(relay, meters, wire, now, at, from, bytes)))
         }
         Err(_) => Err(RelayFault::Source),
     }
@@ -140,18 +161,20 @@ fn turn_once<S: Source, W: Wire>(
 // Takes turns in order.
 fn relay_turns<S: Source, W: Wire, V: Watch>(
     relay: Relay<'_>,
+    meters: &mut [Meter],
     source: &mut S,
     wire: &mut W,
     watch: &mut V,
     buffer: &mut [u8],
     turns: u64,
 ) -> Ended
+    requires { meters.old ≡ no_times relay.routes.now }
     ensures { Ran relay.entry (length buffer.old) turns result (S.left source.old) (S.left source.new)
         (W.told wire.old) (W.told wire.new) }
 {
     let mut counts = Counts::NONE;
     for taken in 0..turns {
-        match turn_once(relay, source, wire, buffer) {
+        match turn_once(relay, meters, source, wire, buffer) {
             Ok(Some(what)) => {
                 counts = counts.after(what);
                 watch.look(what, counts);
@@ -179,8 +202,19 @@ fn relay_turns<S: Source, W: Wire, V: Watch>(
     }
 }
 
+// What a relay works with: the buffer of a datagram, and a meter for each route.
+fn room(alloc: Global, routes: usize) -> Result<(Vec<u8>, Vec<Meter>), AllocError>
+    ensures buffer { IfOk result (λ room. length room.0.items ≡ MAX_RECEIVED) }
+    ensures meters { IfOk result (λ room. room.1.items ≡ replicate routes []) }
+{
+    let buffer = vec![in alloc; 0u8; MAX_RECEIVED]?;
+    let meters = meters(alloc, routes)?;
+    Ok((buffer, meters))
+}
+
 /// Takes so many datagrams and ticks at most, and hands on what goes on, each at once and with its own bytes. It ends
 /// at its turns, where the source ends, or at a fault of the source. After each turn `watch` looks at what happened.
+/// What it works with it takes before its first turn: none takes memory.
 pub fn run<S: Source, W: Wire, V: Watch>(
     alloc: Global,
     relay: Relay<'_>,
@@ -194,8 +228,10 @@ pub fn run<S: Source, W: Wire, V: Watch>(
     ensures ran { Ran relay.entry MAX_RECEIVED turns result (S.left source.old) (S.left source.new)
         (W.told wire.old) (W.told wire.new) }
 {
-    match vec![in alloc; 0u8; MAX_RECEIVED] {
-        Ok(mut buffer) => relay_turns(relay, source, wire, watch, &mut buffer, turns),
+    match room(alloc, relay.routes.len()) {
+        Ok((mut buffer, mut meters)) => {
+            relay_turns(relay, &mut meters, source, wire, watch, &mut buffer, turns)
+        }
         Err(_) => Ended {
             turns: 0,
             counts: Counts::NONE,

@@ -1,4 +1,7 @@
 //! What a relay says of itself, as a small text: the desk reads it to show when each device was heard.
+ghost use Rattle.std.specs.Prelude.{◌≡◌};
+ghost use Rattle.cue_relay.specs.Seeing.{seen_of};
+
 use crate::hearing::Contact;
 use crate::relaying::Counts;
 use crate::route::{Address, Route};
@@ -6,19 +9,32 @@ use cue_show::DeviceNo;
 use std::alloc::{AllocError, Global};
 use std::fmt::{self, Write};
 use std::net::{Ipv4Addr, SocketAddrV4};
-use std::str::Lines;
+use std::str::{Lines, Split};
 
 /// How old a status may be before the relay that wrote it counts as stopped, in milliseconds.
 pub const STALE: u64 = 5_000;
+
+/// What the controller orders a device.
+#[derive(Clone, Copy, Debug, PartialEq, Eq)]
+pub enum Ordered {
+    /// To prepare: it is preparing until it answers.
+    Standby,
+    /// To carry the cue out: it is moving until it answers.
+    Go,
+    /// To give the preparation up: it is letting go until it answers.
+    Cancel,
+}
 
 /// What a relay says of one device.
 #[derive(Clone, Copy, Debug, PartialEq, Eq)]
 pub struct Seen {
     pub device: DeviceNo,
     pub address: Address,
-    /// When it was heard last, in milliseconds since 1970.
+    /// When its last answer came, in milliseconds since 1970.
     pub heard: Option<u64>,
-    /// Whether something is pending for it for a second or more.
+    /// The order that it was sent and has not answered.
+    pub ordered: Option<Ordered>,
+    /// Whether it has answered nothing for five seconds, although a standby or a cancel is pending.
     pub silent: bool,
 }
 
@@ -29,6 +45,23 @@ pub struct Status {
     pub now: u64,
     pub counts: Counts,
     pub devices: Vec<Seen>,
+}
+
+// What is said of the device of a route: what is known of it.
+fn report_of(route: &Route, contact: &Contact) -> Seen
+    ensures { result ≡ seen_of route.now contact.now }
+{
+    let ordered = match contact.pending {
+        Some(pending) => Some(pending.order),
+        None => None,
+    };
+    Seen {
+        device: route.device,
+        address: route.address,
+        heard: contact.heard,
+        ordered,
+        silent: contact.silent,
+    }
 }
 
 impl Status {
@@ -42,12 +75,7 @@ impl Status {
     ) -> Result<Status, AllocError> {
         let mut devices = Vec::with_capacity(alloc, routes.len())?;
         for (route, contact) in routes.iter().zip(contacts) {
-            devices.push(Seen {
-                device: route.device,
-                address: route.address,
-                heard: contact.heard,
-                silent: contact.silent,
-            })?;
+            devices.push(report_of(route, contact))?;
         }
         Ok(Status {
             now,
@@ -80,6 +108,36 @@ impl Address {
     }
 }
 
+impl Ordered {
+    /// Its word in the text of a status.
+    pub fn word(self) -> &'static str {
+        match self {
+            Ordered::Standby => "standby",
+            Ordered::Go => "go",
+            Ordered::Cancel => "cancel",
+        }
+    }
+
+    // The order of which this is the word.
+    fn read(word: &str) -> Option<Ordered> {
+        match word {
+            "standby" => Some(Ordered::Standby),
+            "go" => Some(Ordered::Go),
+            "cancel" => Some(Ordered::Cancel),
+            _ => None,
+        }
+    }
+
+    // What a device does that was ordered this and has not answered.
+    fn doing(self) -> &'static str {
+        match self {
+            Ordered::Standby => "preparing",
+            Ordered::Go => "moving",
+            Ordered::Cancel => "letting go",
+        }
+    }
+}
+
 // One line of a device.
 fn push_device(text: &mut String, seen: &Seen) -> Result<(), AllocError> {
     let number = seen.device.number();
@@ -88,6 +146,9 @@ fn push_device(text: &mut String, seen: &Seen) -> Result<(), AllocError> {
         Some(heard) => write!(text, "heard {heard}")?,
         None => text.push_str("never")?,
     }
+    if let Some(ordered) = seen.ordered {
+        write!(text, " {}", ordered.word())?;
+    }
     text.push_str(if seen.silent { " silent\n" } else { "\n" })
 }
 
@@ -95,7 +156,7 @@ fn push_device(text: &mut String, seen: &Seen) -> Result<(), AllocError> {
 pub fn written(alloc: Global, status: &Status) -> Result<String, AllocError> {
     let mut text = String::new(alloc);
     let counts = status.counts;
-    writeln!(text, "relay 1 {}", status.now)?;
+    writeln!(text, "relay 2 {}", status.now)?;
     writeln!(
         text,
         "passed {} lost {} dropped {}",
@@ -115,7 +176,7 @@ fn number(word: Option<&str>) -> Option<u64> {
 
 // The time of the first line.
 fn time_in(line: &str) -> Option<u64> {
-    let rest = line.strip_prefix("relay 1 ")?;
+    let rest = line.strip_prefix("relay 2 ")?;
     number(Some(rest))
 }
 
@@ -147,12 +208,20 @@ fn device_in(word: Option<&str>) -> Option<DeviceNo> {
     DeviceNo::of_byte(word?.parse().ok()?)
 }
 
-// When the device was heard, by the words of its line; the outer None: they are no such words.
-fn heard_in(word: &str, time: Option<&str>) -> Option<Option<u64>> {
-    match word {
-        "heard" => Some(Some(number(time)?)),
+// When the device was heard, by the next words of its line; the outer None: they are no such words.
+fn heard_in(words: &mut Split<'_, char>) -> Option<Option<u64>> {
+    match words.next()? {
+        "heard" => Some(Some(number(words.next())?)),
         "never" => Some(None),
         _ => None,
+    }
+}
+
+// What is pending for the device, by the last word of its line; the outer None: it is no such word.
+fn ordered_in(word: Option<&str>) -> Option<Option<Ordered>> {
+    match word {
+        Some(word) => Some(Some(Ordered::read(word)?)),
+        None => Some(None),
     }
 }
 
@@ -168,11 +237,16 @@ fn seen_in(line: &str) -> Option<Seen> {
     }
     let device = device_in(words.next())?;
     let address = Address::read(words.next()?)?;
-    let heard = heard_in(words.next()?, words.next())?;
+    let heard = heard_in(&mut words)?;
+    let ordered = ordered_in(words.next())?;
+    if words.next().is_some() {
+        return None;
+    }
     Some(Seen {
         device,
         address,
         heard,
+        ordered,
         silent,
     })
 }
@@ -211,9 +285,35 @@ pub fn read(alloc: Global, text: &str) -> Result<Option<Status>, AllocError> {
     }
 }
 
-/// When the device was heard, in words, as of a time in milliseconds since 1970: `heard 3 s ago`, `never heard`, with
-/// `silent` before it where something is pending. `relay stopped` where the status is old, and empty for a device that
-/// has no route.
+// When the device was heard, in words. A time that is still to come was stamped before the clock was put back.
+fn when(alloc: Global, heard: Option<u64>, now: u64) -> Result<String, AllocError> {
+    match heard {
+        Some(heard) if heard <= now => {
+            let seconds = (now - heard) / 1_000;
+            format!(in alloc; "heard {seconds} s ago")
+        }
+        Some(_) => String::from_str(alloc, "heard at an unknown time"),
+        None => String::from_str(alloc, "never heard"),
+    }
+}
+
+impl Seen {
+    // What it does, in a word, where something is pending.
+    fn doing(&self) -> Option<&'static str> {
+        if self.silent {
+            return Some("silent");
+        }
+        match self.ordered {
+            Some(ordered) => Some(ordered.doing()),
+            None => None,
+        }
+    }
+}
+
+/// What is known of the device, in words, as of a time in milliseconds since 1970: `heard 3 s ago` or `never heard`.
+/// Before that stands what it does, where it was sent an order and has not answered: `preparing`, `moving`, `letting
+/// go`, or `silent`. `relay stopped` where the status is old, `relay unknown` where its time is still to come, since
+/// the clock was put back, and empty for a device that has no route.
 pub fn heard_words(
     alloc: Global,
     status: &Status,
@@ -223,15 +323,15 @@ pub fn heard_words(
     let Some(seen) = status.device(device) else {
         return Ok(String::new(alloc));
     };
-    if now.saturating_sub(status.now) > STALE {
+    if now < status.now {
+        return String::from_str(alloc, "relay unknown");
+    }
+    if now - status.now > STALE {
         return String::from_str(alloc, "relay stopped");
     }
-    let front = if seen.silent { "silent, " } else { "" };
-    match seen.heard {
-        Some(heard) => {
-            let seconds = now.saturating_sub(heard) / 1_000;
-            format!(in alloc; "{front}heard {seconds} s ago")
-        }
-        None => format!(in alloc; "{front}never heard"),
+    let when = when(alloc, seen.heard, now)?;
+    match seen.doing() {
+        Some(doing) => format!(in alloc; "{doing}, {}", when.as_str()),
+        None => Ok(when),
     }
 }

@@ -7,5 +7,5 @@ pub returns-in-Ok-Tick : goal.returns-in-Ok-Tick
 returns-in-Ok-Tick g c = (
   ticks c.in-Ok-Tick.now,
   rw c.in-Ok-Tick.field-0-is at c.in-Ok-Tick.ensures.gave,
-  record { handed = []; grew = grew_none (g.W.Wire.told c.args.wire.now); sent = refl; was = refl },
+  record { handed = []; grew = grew_none (g.W.Wire.told c.args.wire.now); sent = refl; was = refl; noted = refl },
 )

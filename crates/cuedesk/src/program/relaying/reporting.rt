@@ -1,7 +1,7 @@
 //! What the relay says while it runs: a line when a device is heard or falls silent, and the status for the desk.
 use super::super::saying::{print, say};
 use cue_relay::status::{Status, written};
-use cue_relay::{Contact, Counts, Happening, News, Opening, Route, Side, Watch};
+use cue_relay::{Contact, Counts, Happening, Message, News, Opening, Route, Watch};
 use std::alloc::{AllocError, Global};
 use std::fs::{self, File, Files};
 use std::io::{Eprint, Write};
@@ -11,6 +11,10 @@ const STATUS_PAUSE: u64 = 1_000;
 
 /// The time between two lines on what was dropped, in milliseconds.
 const DROPPED_PAUSE: u64 = 10_000;
+
+/// What the datagrams are that are dropped, in words.
+const DROPPED: &str = "from nobody whom the file names, no answer of the device that sent it, \
+no order, or more than 100 of one device within a second";
 
 /// The file of the status, and the one beside it that takes its place whole.
 #[derive(Drop)]
@@ -40,7 +44,7 @@ fn words(news: News) -> &'static str {
     match news {
         News::FirstHeard => "heard",
         News::HeardAgain => "heard again",
-        News::Silent => "silent: nothing came for a second, and something is pending for it",
+        News::Silent => "silent: it was sent an order, and has answered nothing for five seconds",
     }
 }
 
@@ -90,17 +94,11 @@ impl<'a, R: Files<File = File> + Eprint + AllocGlobal, W: Write> Reporter<'a, R,
         }
     }
 
-    // Something came at an opening: the device was heard, or something is pending for it.
-    fn note(&mut self, at: Opening, now: u64) {
-        let Some(contact) = self.contacts.get_mut(at.route) else {
-            return;
-        };
-        let news = match at.side {
-            Side::Stage => contact.hear(now),
-            Side::Controller => {
-                contact.ask(now);
-                None
-            }
+    // Something went on from the device of an opening, or to it.
+    fn note(&mut self, at: Opening, message: Message, now: u64) {
+        let news = match self.contacts.get_mut(at.route) {
+            Some(contact) => contact.take(message, now),
+            None => None,
         };
         self.tell(at.route, news);
     }
@@ -118,14 +116,14 @@ impl<'a, R: Files<File = File> + Eprint + AllocGlobal, W: Write> Reporter<'a, R,
 
     // Says how many more were dropped, at most once in ten seconds.
     fn look_at_dropped(&mut self, now: u64, dropped: u64) {
-        if dropped == self.dropped || now.saturating_sub(self.dropped_at) < DROPPED_PAUSE {
+        let is_early = now >= self.dropped_at && now - self.dropped_at < DROPPED_PAUSE;
+        if dropped == self.dropped || is_early {
             return;
         }
         let more = dropped.saturating_sub(self.dropped);
         self.dropped = dropped;
         self.dropped_at = now;
-        let words = "datagrams dropped: from nobody whom the file names, or too long";
-        if let Ok(line) = format!(in self.rt.alloc(); "{more} {words}\n") {
+        if let Ok(line) = format!(in self.rt.alloc(); "{more} datagrams dropped: {DROPPED}\n") {
             let _ = print(self.writer, line.as_str());
         }
     }
@@ -170,7 +168,9 @@ fn replace<R: Files<File = File> + AllocGlobal>(
 impl<'a, R: Files<File = File> + Eprint + AllocGlobal, W: Write> Watch for Reporter<'a, R, W> {
     fn look(&mut self, what: Happening, counts: Counts) {
         match what {
-            Happening::Passed { now, at } | Happening::Lost { now, at } => self.note(at, now),
+            Happening::Passed { now, at, message } | Happening::Lost { now, at, message } => {
+                self.note(at, message, now)
+            }
             Happening::Dropped { .. } => {}
             Happening::Tick { now } => {
                 self.look_at_silence(now);

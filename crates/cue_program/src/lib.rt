@@ -3,5 +3,7 @@
 
 mod program;
 
+pub use program::fault::ProgramFault;
 pub use program::looking::look_again;
-pub use program::{perform, serve_on};
+pub use program::settling::settle;
+pub use program::{perform, serve_engine, serve_on};

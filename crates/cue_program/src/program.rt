@@ -37,6 +37,7 @@ pub mod fault;
 mod files;
 mod lock;
 pub(crate) mod looking;
+pub(crate) mod settling;
 
 use cue_command_line::{Line, LineFault, line};
 use cue_copies::refusal_of;
@@ -49,8 +50,9 @@ use cue_run::{Ended, MAX_TOGETHER, RunFault, UdpReceiver, UdpSource, UdpWire, lo
 use cue_script::script;
 use fault::{ProgramFault, print_fault, run_fault, status_of};
 use files::{create_both, open_both, refused_store, say, say_failures};
-use lock::{StoreLock, lock_store};
+use lock::lock_store;
 use looking::show;
+use settling::settle;
 use std::alloc::Global;
 use std::fs::{File, Files};
 use std::io::{self, Eprint, Read, Write};
@@ -135,8 +137,8 @@ fn refused_port<R: Eprint>(rt: &R, port: u16, why: io::Error) -> ProgramFault
     ProgramFault::Net
 }
 
-// Says that it is ready, and runs the show. The lock of its store is asked for, so that it is held all the while.
-fn serve_at<R: Net + Clock + Eprint>(
+// Says that it is ready, and runs the show.
+fn serve_at<R: Clock + Eprint>(
     rt: &R,
     alloc: Global,
     dir: &str,
@@ -144,7 +146,6 @@ fn serve_at<R: Net + Clock + Eprint>(
     socket: &UdpSocket,
     port: u16,
     turns: u64,
-    _lock: &StoreLock,
 ) -> Result<Ended, ProgramFault>
     ensures { IfOk result (λ ended. ended.turns ≤ turns) }
 {
@@ -209,6 +210,29 @@ fn finish<R: Eprint, W: Write>(
     }
 }
 
+/// Says that the show of a folder is ready, runs it as `serve_on` does, and prints how the run ended: how many inputs
+/// were taken, and how many sends the system refused. The error says why the run was not carried on.
+pub fn serve_engine<R: Clock + Eprint, W: Write>(
+    rt: &R,
+    alloc: Global,
+    dir: &str,
+    mut engine: Engine<FileDisk>,
+    socket: &UdpSocket,
+    port: u16,
+    turns: u64,
+    writer: &mut W,
+) -> Result<(), ProgramFault>
+    ensures { OnOk result (IsRunTold turns (W.contents writer.old) (W.contents writer.new)) }
+{
+    match serve_at(rt, alloc, dir, &mut engine, socket, port, turns) {
+        Ok(ended) => finish(rt, alloc, dir, engine, ended, writer),
+        Err(fault) => {
+            drop(engine);
+            Err(fault)
+        }
+    }
+}
+
 // Why a folder is not served whose port cannot be had: for the fault of its store, where it has one.
 fn refused_as<R: Eprint>(
     rt: &R,
@@ -240,8 +264,9 @@ fn refused_unbound<R: Eprint>(
     refused_as(rt, dir, port, why, refusal, (first, second))
 }
 
-// Binds the port, and then recovers the show of both files. Nothing is written before the port is bound.
-fn bound<R: Net + Eprint>(
+// Binds the port, sees that the folder stays where it is, and then recovers the show of both files. Nothing is written
+// before the port is bound.
+fn bound<R: Files<File = File> + Net + Eprint>(
     rt: &R,
     alloc: Global,
     dir: &str,
@@ -251,10 +276,13 @@ fn bound<R: Net + Eprint>(
     ensures works { IfOk result (λ bound. is_broken (keeper_of bound.1) ≡ false) }
 {
     match UdpSocket::bind(rt, local(port)) {
-        Ok(socket) => match Engine::recover(alloc, disks.0, disks.1) {
-            Ok(engine) => Ok((socket, engine)),
-            Err(refused) => Err(refused_store(rt, dir, refused)),
-        },
+        Ok(socket) => {
+            settle(rt, alloc, dir)?;
+            match Engine::recover(alloc, disks.0, disks.1) {
+                Ok(engine) => Ok((socket, engine)),
+                Err(refused) => Err(refused_store(rt, dir, refused)),
+            }
+        }
         Err(why) => Err(refused_unbound(rt, alloc, dir, port, why, disks)),
     }
 }
@@ -272,14 +300,10 @@ fn serve<R: Files<File = File> + Net + Clock + Eprint, W: Write>(
 {
     let disks = open_both(rt, alloc, dir)?;
     let lock = lock_store(rt, alloc, dir)?;
-    let (socket, mut engine) = bound(rt, alloc, dir, port, disks)?;
-    match serve_at(rt, alloc, dir, &mut engine, &socket, port, turns, &lock) {
-        Ok(ended) => finish(rt, alloc, dir, engine, ended, writer),
-        Err(fault) => {
-            drop(engine);
-            Err(fault)
-        }
-    }
+    let (socket, engine) = bound(rt, alloc, dir, port, disks)?;
+    let told = serve_engine(rt, alloc, dir, engine, &socket, port, turns, writer);
+    drop(lock);
+    told
 }
 
 // The exit status where there is no command, or where help was asked for.

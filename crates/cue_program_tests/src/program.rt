@@ -1,6 +1,7 @@
 //! The program on files of its own. The tables are written by hand.
 mod beside;
 mod serving;
+mod settling;
 mod sockets;
 mod stores;
 mod unwritten;
@@ -61,8 +62,25 @@ fn expect_bytes<R: Files + AllocGlobal + Abort>(
     Ok(())
 }
 
+/// What is printed for whoever asks what there is to say.
+const HELP: &str = "A two-phase cue controller for theatre machinery
+
+Usage: cuectl [COMMAND]
+
+Commands:
+  form    Make an empty show in a folder that has none
+  serve   Run the show of a folder over UDP
+  show    Print the show of a folder, and change nothing
+  script  Run a script from standard input on two disks in memory
+  help    Print this message or the help of the given subcommand(s)
+
+Options:
+  -h, --help     Print help
+  -V, --version  Print version
+";
+
 /// Each command line with its status and what it prints, in a folder that is there and empty at first.
-const LINES: [(&str, u8, &str); 13] = [
+const LINES: [(&str, u8, &str); 15] = [
     ("cuectl form table", 0, "formed\n"),
     ("cuectl form table", 1, "! NotEmpty\n"),
     ("cuectl show table", 0, "last 0\nplace -\nended 0 0\n"),
@@ -70,6 +88,8 @@ const LINES: [(&str, u8, &str); 13] = [
     ("cuectl serve table --port 65536 --turns 1", 2, "! Usage\n"),
     ("cuectl serve table --turns 1", 2, "! Usage\n"),
     ("cuectl --version", 0, "cuectl 1.1\n"),
+    ("cuectl --help", 0, HELP),
+    ("cuectl help", 0, HELP),
     ("cuectl", 2, "! Usage\n"),
     ("cuectl strike table", 2, "! Usage\n"),
     ("cuectl show missing", 3, "! NotFound\n"),

@@ -2,7 +2,7 @@
 use cue_core::{Event, State};
 use cue_disk::MemDisk;
 use cue_engine::{Engine, MemWire};
-use cue_run::{Ended, MemAnswer, MemSource, RunFault, Watch, run_grouped, run_watched};
+use cue_run::{Ended, MemAnswer, MemSource, RunFault, Watch, run, run_grouped, run_watched};
 use std::alloc::{AllocError, Global};
 use std::process::Abort;
 use std::test::Fail;
@@ -34,10 +34,10 @@ impl Watch<MemWire> for Count {
     }
 }
 
-// Takes the datagram and a tick from a source that then fails, and looks at what was sent.
-fn take_two(rt: &impl Abort, alloc: Global, engine: &mut Engine<MemDisk>) -> Result<(), Fail> {
+// A datagram and a tick, and then a fault.
+fn two_inputs(alloc: Global) -> Result<MemSource, AllocError> {
     let bytes = Vec::from_slice(alloc, &DEVICE)?;
-    let mut source = MemSource::new(vec![in alloc;
+    Ok(MemSource::new(vec![in alloc;
         MemAnswer::Datagram {
             now: 0,
             from: 8000,
@@ -45,25 +45,18 @@ fn take_two(rt: &impl Abort, alloc: Global, engine: &mut Engine<MemDisk>) -> Res
         },
         MemAnswer::Tick { now: 250 },
         MemAnswer::Fault,
-    ]?);
-    let mut wire = MemWire::new(alloc);
-    let mut count = Count {
-        looks: 0,
-        events: 0,
-    };
-    let ended = run_watched(alloc, engine, &mut source, &mut wire, 9, &mut count);
-    let expected = Ended {
-        turns: 2,
-        unsent: 0,
-        fault: Some(RunFault::Source),
-    };
-    assert_eq!(rt; ended, expected);
-    assert_eq!(rt;
-        count.looks,
-        3,
-        "one look at first, and one after each input"
-    );
-    assert_eq!(rt; count.events, 1);
+    ]?))
+}
+
+// How a run over them ends that has more turns.
+const ENDED: Ended = Ended {
+    turns: 2,
+    unsent: 0,
+    fault: Some(RunFault::Source),
+};
+
+// The one reply that is sent then.
+fn expect_reply(rt: &impl Abort, wire: &MemWire) {
     match wire.sent() {
         Some([reply]) => {
             assert_eq!(rt; reply.to, 8000);
@@ -71,7 +64,47 @@ fn take_two(rt: &impl Abort, alloc: Global, engine: &mut Engine<MemDisk>) -> Res
         }
         _ => assert!(rt; false, "one datagram is sent"),
     }
+}
+
+// Takes them with a watch, and looks at what was sent.
+fn take_two(rt: &impl Abort, alloc: Global, engine: &mut Engine<MemDisk>) -> Result<(), Fail> {
+    let mut source = two_inputs(alloc)?;
+    let mut wire = MemWire::new(alloc);
+    let mut count = Count {
+        looks: 0,
+        events: 0,
+    };
+    let ended = run_watched(alloc, engine, &mut source, &mut wire, 9, &mut count);
+    assert_eq!(rt; ended, ENDED);
+    assert_eq!(rt;
+        count.looks,
+        3,
+        "one look at first, and one after each input"
+    );
+    assert_eq!(rt; count.events, 1);
+    expect_reply(rt, &wire);
     Ok(())
+}
+
+// Takes them with nobody looking on, and looks at what was sent.
+fn take_two_alone(
+    rt: &impl Abort,
+    alloc: Global,
+    engine: &mut Engine<MemDisk>,
+) -> Result<(), Fail> {
+    let mut source = two_inputs(alloc)?;
+    let mut wire = MemWire::new(alloc);
+    assert_eq!(rt; run(alloc, engine, &mut source, &mut wire, 9), ENDED);
+    expect_reply(rt, &wire);
+    Ok(())
+}
+
+// An empty show in memory.
+fn formed(alloc: Global) -> Result<Engine<MemDisk>, Fail> {
+    match Engine::form(alloc, MemDisk::new(alloc), MemDisk::new(alloc)) {
+        Ok(engine) => Ok(engine),
+        Err((fault, _, _)) => Err(Fail::from(fault)),
+    }
 }
 
 /// A run over a source, a wire and disks in memory takes what the source gives up to its fault, sends its reply, and
@@ -79,14 +112,20 @@ fn take_two(rt: &impl Abort, alloc: Global, engine: &mut Engine<MemDisk>) -> Res
 #[test]
 fn a_run_in_memory(rt: HostRuntime) -> Result<(), Fail> {
     let alloc = rt.alloc();
-    match Engine::form(alloc, MemDisk::new(alloc), MemDisk::new(alloc)) {
-        Ok(mut engine) => {
-            let took = take_two(&rt, alloc, &mut engine);
-            drop(engine);
-            took
-        }
-        Err((fault, _, _)) => Err(Fail::from(fault)),
-    }
+    let mut engine = formed(alloc)?;
+    let took = take_two(&rt, alloc, &mut engine);
+    drop(engine);
+    took
+}
+
+/// Without a watch it takes and sends the same.
+#[test]
+fn a_run_that_nobody_watches(rt: HostRuntime) -> Result<(), Fail> {
+    let alloc = rt.alloc();
+    let mut engine = formed(alloc)?;
+    let took = take_two_alone(&rt, alloc, &mut engine);
+    drop(engine);
+    took
 }
 
 // What comes: three datagrams that wait together, a tick, and two more.

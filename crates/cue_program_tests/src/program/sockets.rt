@@ -2,7 +2,7 @@
 use super::{expect, make_folder};
 use cue_disk::{FileDisk, MemDisk};
 use cue_engine::Engine;
-use cue_program::serve_on;
+use cue_program::{serve_engine, serve_on};
 use cue_run::{Ended, local};
 use std::alloc::Global;
 use std::cell::Cell;
@@ -107,9 +107,13 @@ fn serve_two<R: Clock + Eprint>(
 }
 
 // Both files of the store.
-fn disks<R: Files<File = File>>(rt: &R) -> Result<(FileDisk, FileDisk), Fail> {
-    let first = FileDisk::open(rt, "kept/a.area")?;
-    let second = FileDisk::open(rt, "kept/b.area")?;
+fn disks<R: Files<File = File>>(
+    rt: &R,
+    first: &str,
+    second: &str,
+) -> Result<(FileDisk, FileDisk), Fail> {
+    let first = FileDisk::open(rt, first)?;
+    let second = FileDisk::open(rt, second)?;
     Ok((first, second))
 }
 
@@ -124,7 +128,8 @@ fn ask<R: Files<File = File> + Net + Clock + Eprint + AllocGlobal + Abort>(
     socket.send_to(&OWN, local(port))?;
     operator.send_to(&DEVICE, local(port))?;
     let counted = Counted::new(rt);
-    let ended = serve_two(&counted, rt.alloc(), disks(rt)?, &socket, port)??;
+    let disks = disks(rt, "kept/a.area", "kept/b.area")?;
+    let ended = serve_two(&counted, rt.alloc(), disks, &socket, port)??;
     assert_eq!(rt; ended, ended_after(2));
     assert_eq!(rt; counted.lines.get(), 1);
     Ok(())
@@ -195,5 +200,44 @@ fn what_waits_is_committed_together(rt: HostRuntime) -> Result<(), Fail> {
     let alone = calls_after(&rt, 1)?;
     let together = calls_after(&rt, 3)?;
     assert_eq!(rt; together, alone);
+    Ok(())
+}
+
+// A socket that is tied to an operator who asked twice and has gone. So the first reply meets nobody, and the system
+// refuses the second one.
+fn deserted<R: Net>(rt: &R) -> Result<UdpSocket, Fail> {
+    let socket = UdpSocket::bind(rt, local(0))?;
+    let operator = UdpSocket::bind(rt, local(0))?;
+    socket.connect(operator.local_addr()?)?;
+    operator.send_to(&DEVICE, socket.local_addr()?)?;
+    operator.send_to(&DEVICE, socket.local_addr()?)?;
+    Ok(socket)
+}
+
+/// What the system refuses to send is counted, and printed at the end of the run.
+#[test]
+fn what_is_not_sent_is_counted(rt: HostRuntime) -> Result<(), Fail> {
+    let alloc = rt.alloc();
+    make_folder(&rt, "unsent")?;
+    expect(&rt, "cuectl form unsent", 0, "formed\n")?;
+    let socket = deserted(&rt)?;
+    let port = socket.local_addr()?.port();
+    let (first, second) = disks(&rt, "unsent/a.area", "unsent/b.area")?;
+    let counted = Counted::new(&rt);
+    let mut written = Vec::new(alloc);
+    let engine = recovered(alloc, first, second)?;
+    let told = serve_engine(
+        &counted,
+        alloc,
+        "unsent",
+        engine,
+        &socket,
+        port,
+        2,
+        &mut written,
+    );
+    assert!(&rt; told.is_ok());
+    assert_eq!(&rt; written.as_slice(), b"turns 2 unsent 1\n".as_slice());
+    fs::remove_dir_all(&rt, "unsent")?;
     Ok(())
 }

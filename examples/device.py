@@ -1,14 +1,17 @@
 #!/usr/bin/env python3
 """A device for cuectl, as docs/DEVICES.md asks for it. It prints what it does in place of moving.
 
-    device.py NUMBER PORT            the device's number (0 to 111) and its port on 127.0.0.1
-    device.py NUMBER PORT unable     it cannot prepare: each cue is given up, or goes without it where it is optional
+    device.py NUMBER PORT KEPT           the device's number (0 to 111) and its port on 127.0.0.1
+    device.py NUMBER PORT KEPT unable    it cannot prepare: each cue is given up, or goes without it if it is optional
+
+In the file KEPT it keeps the highest number that it has heard of, and where that came from. Remove it for a new show.
 
     --prepare SECONDS    how long it prepares, 0 by default
     --motion SECONDS     how long it moves, 0 by default
     --fault SECONDS      so long after it is ready it finds that it cannot go on
 """
 import argparse
+import os
 import socket
 import struct
 import time
@@ -26,22 +29,54 @@ def message(address, number):
 
 
 def take_text(data, at):
+    """An OSC-string, and the place after its zeros."""
     end = data.index(b"\0", at)
-    return data[at:end].decode(), end + 4 - end % 4
+    after = end + 4 - end % 4
+    if data[end:after] != bytes(after - end):
+        raise ValueError("no zeros after a string")
+    return data[at:end].decode(), after
+
+
+class Kept:
+    """The highest number that the device has heard of and where it came from, in a file: it outlives the device."""
+
+    LINE = 33  # bytes: the number, the address, the port
+
+    def __init__(self, path):
+        self.file = os.open(path, os.O_RDWR | os.O_CREAT, 0o644)
+        around = os.open(os.path.dirname(path) or ".", os.O_RDONLY)
+        os.fsync(around)  # so that a new file stays
+        os.close(around)
+        number, address, port = (os.read(self.file, self.LINE + 1) or b"0 - 0").split()
+        self.number, self.sender = int(number), (address.decode(), int(port))
+
+    def keep(self, number, sender):
+        """It is on the disk when this is done. An error ends the device: it does nothing then."""
+        line = f"{number:010} {sender[0]:>15} {sender[1]:05}\n".encode()
+        if os.pwrite(self.file, line, 0) != len(line):
+            raise OSError("the number cannot be kept")
+        os.fsync(self.file)
+        self.number, self.sender = number, sender
 
 
 class Device:
-    """It is in one attempt: the one with the highest number that it has heard of. Each lower number is over."""
+    """It is in one attempt: the one with the highest number that it has heard of. Each lower number is over, and so is
+    the one that it had kept before a restart."""
 
     WORKS = ("preparing", "moving")
     NEXT = {"preparing": "standing_by", "moving": "complete", "standing_by": "abort", "abort": "abort"}
 
-    def __init__(self, number, able=True, prepare=0.0, motion=0.0, fault=None):
+    def __init__(self, number, able=True, prepare=0.0, motion=0.0, fault=None, kept=None):
         self.number, self.able = number, able
         self.seconds = {"preparing": prepare, "moving": motion, "standing_by": fault}
-        self.attempt, self.asked = 0, None  # its number, and the cue and the bytes of its standby
-        self.step, self.due = None, None  # a work, or the last answer; and when something comes next without a command
+        self.kept = kept  # None: it forgets its numbers when it ends
+        self.attempt, self.asked = kept.number if kept else 0, None  # its number; the cue and the bytes of its standby
+        # A work, or the last answer; and when something comes next without a command. After a restart it says at once
+        # that it has forgotten what it prepared.
+        self.step, self.due = ("abort", 0.0) if self.attempt else (None, None)
         self.printed = None
+        self.sender = None  # of the last datagram
+        self.controller = kept.sender if kept else None  # where the last order came from
 
     def hear(self, data, now):
         """What to answer to a datagram; None where there is nothing to say, or not yet."""
@@ -52,8 +87,13 @@ class Device:
         if address not in ("/msc/standby", "/msc/go_2pc", "/msc/cancel"):
             return None
         attempt, device = struct.unpack_from(">ii", data, at)
-        if device != self.number:
-            return None  # for another device
+        if device != self.number or attempt < 1:
+            return None  # for another device, or no number
+        if address == "/msc/standby":
+            take_text(data, at + 8)  # its cue
+        self.controller = self.sender  # a stray datagram is no order: nothing is answered to where it came from
+        if self.kept and (attempt > self.kept.number or self.controller != self.kept.sender):
+            self.kept.keep(max(attempt, self.kept.number), self.controller)  # before anything is done or answered
         if attempt > self.attempt and self.step != "moving":
             self.attempt, self.asked, self.step, self.due = attempt, None, None, None  # what was prepared is let go
         return self.say(attempt, self.answer_to(address, attempt, data[at + 8:], now))
@@ -79,9 +119,11 @@ class Device:
             self.enter("preparing", now)
         if asked == self.asked and self.step in ("preparing", "standing_by"):
             return self.answer()  # the first one, or a copy of it
+        if asked == self.asked and self.step == "complete":
+            return None  # a late copy: an abort would make a good cue fail
         if self.step not in ("complete", "abort"):
             self.enter("abort", now)
-        return "abort"  # it is unable, or done with the number, or the cue or the bytes are others
+        return "abort"  # it is unable, or let go or failed before, or the cue or the bytes are others
 
     def on_go(self, now):
         if self.step == "standing_by":
@@ -91,10 +133,9 @@ class Device:
         return self.answer()
 
     def on_cancel(self, now):
-        if self.step == "complete":
-            return None  # the controller sends none after a go
-        self.enter("cancelled", now)
-        return self.answer()
+        if self.step != "complete":
+            self.enter("cancelled", now)
+        return "cancelled"  # where it has moved, too: only a store that was restored from a copy asks for that
 
     def enter(self, step, now):
         """Here a real device starts a motor, or stops it."""
@@ -133,7 +174,8 @@ def receive(wire, due):
         return None, None
 
 
-def hear(device, data):
+def hear(device, data, sender):
+    device.sender = sender
     try:
         return device.hear(data, time.monotonic())
     except (ValueError, struct.error):
@@ -142,28 +184,26 @@ def hear(device, data):
 
 def run(wire, device):
     """One loop over the socket, and nothing in it that waits but the socket."""
-    controller = None
     while True:
         data, sender = receive(wire, device.due)
-        answers = []
-        if data is not None:
-            controller = sender
-            answers.append(hear(device, data))
+        answers = [] if data is None else [hear(device, data, sender)]
         answers.append(device.tick(time.monotonic()))
         for answer in filter(None, answers):
-            wire.sendto(answer, controller)
+            wire.sendto(answer, device.controller)
 
 
 def main():
     parser = argparse.ArgumentParser(description="A device for cuectl. It prints what it does in place of moving.")
     parser.add_argument("number", type=int, help="0 to 111")
     parser.add_argument("port", type=int, help="its port on 127.0.0.1")
+    parser.add_argument("kept", help="the file of the highest number that it has heard of")
     parser.add_argument("unable", nargs="?", choices=["unable"], help="it cannot prepare")
     for name, what in (("prepare", "it prepares"), ("motion", "it moves")):
         parser.add_argument(f"--{name}", type=float, default=0.0, metavar="SECONDS", help=f"how long {what}")
     parser.add_argument("--fault", type=float, metavar="SECONDS", help="so long after it is ready it cannot go on")
     words = parser.parse_args()
-    device = Device(words.number, not words.unable, words.prepare, words.motion, words.fault)
+    kept = Kept(words.kept)
+    device = Device(words.number, not words.unable, words.prepare, words.motion, words.fault, kept)
     with socket.socket(socket.AF_INET, socket.SOCK_DGRAM) as wire:
         wire.bind(("127.0.0.1", words.port))
         run(wire, device)

@@ -1,27 +1,84 @@
 /* A winch for cuectl: a whole device on one socket and in one loop. Its motor is a clock, and prints a line for each
  * motion. docs/DEVICES.md shows how to build it.
  *
- *     winch NUMBER PORT [PREPARE MOVE]      0 to 111, its port on 127.0.0.1; how long its motor takes, in milliseconds
+ *     winch NUMBER PORT KEPT [PREPARE MOVE]
+ *
+ * NUMBER is 0 to 111, PORT is its port on 127.0.0.1. In the file KEPT it keeps the highest number that it has heard of,
+ * and where that came from: remove it for a new show. PREPARE and MOVE say how long its motor takes, in milliseconds.
  *
  * On SIGUSR1 the motor finds that it cannot go on. */
 #include "cue_device.h"
 #include <arpa/inet.h>
+#include <errno.h>
+#include <fcntl.h>
+#include <libgen.h>
 #include <poll.h>
 #include <signal.h>
 #include <stdio.h>
 #include <stdlib.h>
+#include <string.h>
 #include <sys/socket.h>
 #include <time.h>
+#include <unistd.h>
 
 enum { TICK = 250 }; /* milliseconds between two calls of cue_tick */
 
 static volatile sig_atomic_t fault; /* the motor's own signal */
 
 static struct {
-    uint32_t order, number; /* what it does, CUE_NO_ORDER while it is at rest, and for which attempt */
-    int64_t due;            /* when it is done */
-    int64_t takes[4];       /* how long each order takes */
+    uint32_t order;   /* what it does; CUE_NO_ORDER while it is at rest */
+    int64_t due;      /* when it is done */
+    int64_t takes[4]; /* how long each order takes */
 } motor;
+
+static struct {
+    int file;
+    uint32_t number; /* what the file holds: the highest number that the winch has heard of */
+    struct cue_place from;
+} kept;
+
+/* Ends the winch, with its motor at rest. */
+static void end(const char *what)
+{
+    perror(what);
+    exit(1);
+}
+
+enum { LINE = 27 }; /* of the file: the number; the address and the port in hexadecimal */
+
+/* A number that is new is on the disk before anything is done or answered for it. So no late copy from before a restart
+ * moves the winch again. A winch that cannot keep it does nothing. */
+static void keep(uint32_t number, struct cue_place from)
+{
+    char line[LINE + 1];
+    snprintf(line, sizeof line, "%010u %08x %06x\n", (unsigned)number, (unsigned)cue_place_address(&from),
+             (unsigned)cue_place_port(&from));
+    if (pwrite(kept.file, line, LINE, 0) != LINE || fsync(kept.file) != 0)
+        end("winch: the number cannot be kept");
+    kept.number = number;
+    kept.from = from;
+}
+
+/* Opens the file of the number, and reads it. A new one has 0, and its folder is synced, so that the file stays. */
+static void open_kept(const char *path)
+{
+    char line[LINE + 1] = "", folder[4096];
+    unsigned number = 0, address = 0, port = 0;
+    snprintf(folder, sizeof folder, "%s", path);
+    kept.file = open(path, O_RDWR | O_CREAT, 0644);
+    int around = open(dirname(folder), O_RDONLY);
+    if (kept.file < 0 || around < 0 || fsync(around) != 0)
+        end(path);
+    close(around);
+    errno = EINVAL; /* where the file has something else */
+    ssize_t length = pread(kept.file, line, LINE, 0);
+    if (length == 0)
+        return keep(0, kept.from);
+    if (length != LINE || sscanf(line, "%10u %8x %6x", &number, &address, &port) != 3)
+        end(path);
+    kept.number = number;
+    kept.from = cue_place_of(address, (uint16_t)port);
+}
 
 static int64_t now(void)
 {
@@ -42,14 +99,13 @@ static void carry_out(uint32_t order, const struct cue_device *device)
     if (order == CUE_NO_ORDER || order == CUE_BAD_CALL)
         return;
     motor.order = order;
-    motor.number = device->last;
     motor.due = now() + motor.takes[order];
     if (order == CUE_MOVE)
         printf("device %u attempt %u: the motor moves for cue %.*s\n", (unsigned)device->number,
-               (unsigned)device->last, (int)device->cue_length, (const char *)device->cue);
+               (unsigned)device->doing_number, (int)device->cue_length, (const char *)device->cue);
 }
 
-/* Reports what the motor has done; no answer where it is still at work. */
+/* Reports what the motor has done. No answer while it is still at work. */
 static void look_at_motor(struct cue_device *device, struct cue_answer *answer)
 {
     uint32_t order = motor.order;
@@ -57,59 +113,76 @@ static void look_at_motor(struct cue_device *device, struct cue_answer *answer)
     if (fault) {
         fault = 0;
         motor.order = CUE_NO_ORDER;
-        cue_cannot(device, device->last, answer);
+        cue_cannot(device, answer);
     } else if (order != CUE_NO_ORDER && now() >= motor.due) {
         motor.order = CUE_NO_ORDER;
         if (order == CUE_PREPARE)
-            cue_prepared(device, motor.number, answer);
+            cue_prepared(device, answer);
         else if (order == CUE_MOVE)
-            cue_moved(device, motor.number, answer);
+            cue_moved(device, answer);
         else
-            cue_gave_up(device, motor.number, answer);
+            cue_gave_up(device, answer);
     }
 }
 
-static void say(int wire, const struct sockaddr_in *to, const struct cue_answer *answer)
+/* Sends the answer, if there is one, to where the last order came from. */
+static void say(int wire, const struct cue_answer *answer)
 {
+    struct sockaddr_in to = {.sin_family = AF_INET};
     if (answer->length == 0)
         return;
-    sendto(wire, answer->bytes, answer->length, 0, (const struct sockaddr *)to, sizeof *to);
+    to.sin_addr.s_addr = htonl(cue_place_address(&answer->to));
+    to.sin_port = htons(cue_place_port(&answer->to));
+    sendto(wire, answer->bytes, answer->length, 0, (const struct sockaddr *)&to, sizeof to);
+}
+
+static void take(int wire, struct cue_device *device)
+{
+    struct cue_answer answer;
+    struct sockaddr_in sender;
+    socklen_t size = sizeof sender;
+    uint8_t datagram[4096];
+    ssize_t length = recvfrom(wire, datagram, sizeof datagram, 0, (struct sockaddr *)&sender, &size);
+    if (length < 0)
+        return;
+    struct cue_place from = cue_place_of(ntohl(sender.sin_addr.s_addr), ntohs(sender.sin_port));
+    uint32_t order = cue_hear(device, &from, datagram, (size_t)length, &answer);
+    if (device->last != kept.number || memcmp(&device->controller, &kept.from, sizeof from))
+        keep(device->last, device->controller);
+    carry_out(order, device);
+    say(wire, &answer);
 }
 
 int main(int count, char **words)
 {
     struct cue_device device;
     struct cue_answer answer;
-    struct sockaddr_in here = {.sin_family = AF_INET}, from = here;
+    struct sockaddr_in here = {.sin_family = AF_INET};
     int wire = socket(AF_INET, SOCK_DGRAM, 0);
-    if (count < 3 || cue_new(&device, (uint32_t)atoi(words[1]), 0) != CUE_NO_ORDER)
-        return fprintf(stderr, "winch NUMBER PORT [PREPARE MOVE]\n"), 2;
+    if (count > 3)
+        open_kept(words[3]);
+    if (count < 4 || cue_restarted(&device, (uint32_t)atoi(words[1]), kept.number, &kept.from, &answer) != CUE_NO_ORDER)
+        return fprintf(stderr, "winch NUMBER PORT KEPT [PREPARE MOVE]\n"), 2;
     here.sin_port = htons((uint16_t)atoi(words[2]));
     here.sin_addr.s_addr = htonl(INADDR_LOOPBACK);
     if (wire < 0 || bind(wire, (struct sockaddr *)&here, sizeof here) != 0)
-        return perror("winch"), 1;
-    motor.takes[CUE_PREPARE] = count > 3 ? atoi(words[3]) : 0;
-    motor.takes[CUE_MOVE] = count > 4 ? atoi(words[4]) : 0;
+        end("winch");
+    motor.takes[CUE_PREPARE] = count > 4 ? atoi(words[4]) : 0;
+    motor.takes[CUE_MOVE] = count > 5 ? atoi(words[5]) : 0;
     signal(SIGUSR1, on_fault);
     setvbuf(stdout, NULL, _IOLBF, 0);
+    say(wire, &answer); /* what it was ready for before a restart is over */
     for (int64_t tick = now() + TICK;;) {
         struct pollfd ears = {.fd = wire, .events = POLLIN};
         int64_t next = motor.order != CUE_NO_ORDER && motor.due < tick ? motor.due : tick, left = next - now();
-        if (poll(&ears, 1, left > 0 ? (int)left : 0) > 0) {
-            uint8_t datagram[4096];
-            socklen_t size = sizeof from;
-            ssize_t length = recvfrom(wire, datagram, sizeof datagram, 0, (struct sockaddr *)&from, &size);
-            if (length >= 0) {
-                carry_out(cue_hear(&device, datagram, (size_t)length, &answer), &device);
-                say(wire, &from, &answer);
-            }
-        }
+        if (poll(&ears, 1, left > 0 ? (int)left : 0) > 0)
+            take(wire, &device);
         look_at_motor(&device, &answer);
-        say(wire, &from, &answer);
+        say(wire, &answer);
         if (now() >= tick) {
             tick = now() + TICK;
             cue_tick(&device, &answer);
-            say(wire, &from, &answer);
+            say(wire, &answer);
         }
     }
 }

@@ -1,13 +1,17 @@
 /* cue_device.h: a device's half of the exchange with the cue controller.
  *
  * Your program has the socket, the clock and the motor. It hands each datagram to `cue_hear`, carries out the order
- * that comes back, and reports the end of each order. After each call it sends the answer, where there is one. The
- * calls keep the duties of docs/DEVICES.md. They take no memory, wait for nothing, and need nothing of the C library
- * but memcpy.
+ * that comes back, and reports the end of each order. After each call it sends the answer, if there is one. The calls
+ * keep the duties of docs/DEVICES.md. They take no memory, wait for nothing, and need nothing of the C library but
+ * memcpy and memset. They need 2 KiB of stack (measured: under 1 KiB).
  *
- * One `struct cue_device` is one device. Give it to one call at a time: where an interrupt reports of the motor, let
- * it set a flag, and report from your loop. Each call answers a null pointer and a state that no call has left with
- * CUE_BAD_CALL, and then changes nothing and has nothing to send. */
+ * One `struct cue_device` is one device. Give it to one call at a time: if an interrupt reports of the motor, let it
+ * set a flag, and report from your loop. Each call answers a null pointer and a struct that is no device with
+ * CUE_BAD_CALL, and then changes nothing and has nothing to send. A struct is no device if neither cue_new nor
+ * cue_restarted of this header made it, or if one of its numbers is out of its range.
+ *
+ * Never keep the struct itself over a restart: a copy from before a motion would move again. Keep `device.last` and
+ * `device.controller`, and hand them to cue_restarted. */
 #ifndef CUE_DEVICE_H
 #define CUE_DEVICE_H
 
@@ -25,7 +29,8 @@ enum cue_order {
                          what you still hold for an earlier number */
     CUE_MOVE = 2,     /* carry out what you prepared; then call cue_moved */
     CUE_GIVE_UP = 3,  /* stop preparing, or let go of what you prepared; then call cue_gave_up */
-    CUE_BAD_CALL = 4  /* a null pointer, a number out of range, or a state that is none: it was never made by cue_new */
+    CUE_BAD_CALL = 4  /* a null pointer, a number out of range, a struct that is no device, or a report that is not the
+                         end of what the machine was ordered: nothing has changed */
 };
 
 /* How far the device has come in the attempt of its last number. */
@@ -40,34 +45,75 @@ enum cue_phase {
     CUE_FAILED = 7
 };
 
-/* A device. Your program keeps it, in static memory if you like, and reads it; the calls alone write it. */
+/* Where a datagram comes from or goes to. The library compares the eight bytes and hands them on, and never looks into
+ * them: cue_place_of fills them for IPv4. Eight zeros are no place. */
+struct cue_place {
+    uint8_t bytes[8];
+};
+
+/* A device of 104 bytes. Your program owns it, in static memory if you like, and reads it; the calls alone write it. */
 struct cue_device {
+    uint32_t magic;        /* CUE_MAGIC, once it was made */
+    uint32_t size;         /* sizeof (struct cue_device) */
     uint32_t number;       /* the device's number, 0 to 111 */
-    uint32_t last;         /* the highest number of an attempt that it has heard of, 0 at first */
+    uint32_t last;         /* the highest number of an attempt that it has heard of, 0 at first: keep it */
     uint32_t phase;        /* enum cue_phase, of the attempt `last` */
-    uint32_t doing;        /* enum cue_order: the order whose end the machine has not reported; 0 where it is free */
-    uint32_t doing_number; /* the attempt of that order; 0 where it is free */
+    uint32_t doing;        /* enum cue_order: the order whose end the machine has not reported; 0 if it is free */
+    uint32_t doing_number; /* the attempt of that order; 0 if it is free */
     uint32_t unheard;      /* 1 while cue_tick repeats an abort, otherwise 0 */
-    uint32_t cue_length;   /* 1 to 16; 0 where it has heard no standby of its last number */
+    uint32_t cue_length;   /* 1 to 16; 0 if it has heard no standby of its last number */
     uint32_t bytes_length; /* 0 to 32 */
     uint8_t cue[16];       /* the number of the cue, as text without a zero after it, then zeros */
     uint8_t bytes[32];     /* what the show keeps for the device in this cue, then zeros */
+    struct cue_place controller; /* where the last order came from, and answers go: keep it */
+    struct cue_place only;       /* the sender that is heard alone; no place: each sender is heard */
 };
+
+#define CUE_MAGIC 1668638002u
 
 /* What to send, at once. It need not be set before a call. */
 struct cue_answer {
-    uint32_t length;   /* how many bytes to send, 24 to 32; 0: send nothing */
-    uint8_t bytes[64]; /* the datagram, then zeros. It begins with its address, as /device/3/complete, and a zero */
+    uint32_t length;     /* how many bytes to send, 24 to 32; 0: send nothing */
+    struct cue_place to; /* where to: where the last order came from */
+    uint8_t bytes[64];   /* the datagram, then zeros. It begins with its address, as /device/3/complete, and a zero */
 };
 
 /* The exports of the library. They do not look for null pointers: call those below. */
-uint32_t cue_device_new(struct cue_device *device, uint32_t number, uint32_t over);
-uint32_t cue_device_hear(struct cue_device *device, const uint8_t *datagram, size_t length, struct cue_answer *answer);
-uint32_t cue_device_prepared(struct cue_device *device, uint32_t number, struct cue_answer *answer);
-uint32_t cue_device_moved(struct cue_device *device, uint32_t number, struct cue_answer *answer);
-uint32_t cue_device_gave_up(struct cue_device *device, uint32_t number, struct cue_answer *answer);
-uint32_t cue_device_cannot(struct cue_device *device, uint32_t number, struct cue_answer *answer);
+uint32_t cue_device_new(struct cue_device *device, uint32_t size, uint32_t number);
+uint32_t cue_device_restarted(struct cue_device *device, uint32_t size, uint32_t number, uint32_t kept,
+                              const struct cue_place *from);
+uint32_t cue_device_hear_only(struct cue_device *device, const struct cue_place *sender);
+uint32_t cue_device_hear(struct cue_device *device, const struct cue_place *from, const uint8_t *datagram,
+                         size_t length, struct cue_answer *answer);
+uint32_t cue_device_prepared(struct cue_device *device, struct cue_answer *answer);
+uint32_t cue_device_moved(struct cue_device *device, struct cue_answer *answer);
+uint32_t cue_device_gave_up(struct cue_device *device, struct cue_answer *answer);
+uint32_t cue_device_cannot(struct cue_device *device, struct cue_answer *answer);
 uint32_t cue_device_tick(const struct cue_device *device, struct cue_answer *answer);
+
+/* The place of an IPv4 address and a port, both as numbers of your machine (ntohl, ntohs). */
+static inline struct cue_place cue_place_of(uint32_t address, uint16_t port)
+{
+    struct cue_place place = {{0}};
+    int i;
+    for (i = 0; i < 4; i++)
+        place.bytes[i] = (uint8_t)(address >> (24 - 8 * i));
+    place.bytes[4] = (uint8_t)(port >> 8);
+    place.bytes[5] = (uint8_t)port;
+    return place;
+}
+
+/* The address of such a place, and its port. */
+static inline uint32_t cue_place_address(const struct cue_place *place)
+{
+    return (uint32_t)place->bytes[0] << 24 | (uint32_t)place->bytes[1] << 16 | (uint32_t)place->bytes[2] << 8 |
+           (uint32_t)place->bytes[3];
+}
+
+static inline uint16_t cue_place_port(const struct cue_place *place)
+{
+    return (uint16_t)((unsigned)place->bytes[4] << 8 | place->bytes[5]);
+}
 
 /* Nothing to send. */
 static inline uint32_t cue_bad_call(struct cue_answer *answer)
@@ -77,56 +123,79 @@ static inline uint32_t cue_bad_call(struct cue_answer *answer)
     return CUE_BAD_CALL;
 }
 
-/* Makes a device whose machine is at rest and holds nothing. Call it once, before any other call, and again when the
- * show is set up again. `number` is the device's, 0 to 111. The attempts up to the number `over` are over, 0 to
- * 2147483647: 0 for a new store. If you keep `device.last` on the device, hand it in here after a restart: it is never
- * moved twice for one number then, whatever is still under way. Gives CUE_NO_ORDER, or CUE_BAD_CALL for a number out of
- * range. */
-static inline uint32_t cue_new(struct cue_device *device, uint32_t number, uint32_t over)
+/* Makes a device for a new store: its machine is at rest and holds nothing, and it knows no number. Call it when the
+ * show is set up again, and when the store was restored from a copy. `number` is the device's, 0 to 111. Gives
+ * CUE_NO_ORDER, or CUE_BAD_CALL for a number out of range or a library of another version of this header. */
+static inline uint32_t cue_new(struct cue_device *device, uint32_t number)
 {
-    return device == NULL ? (uint32_t)CUE_BAD_CALL : cue_device_new(device, number, over);
+    return device == NULL ? (uint32_t)CUE_BAD_CALL : cue_device_new(device, (uint32_t)sizeof *device, number);
 }
 
-/* A datagram of `length` bytes has come: call it for each one, also while the machine works. Send the answer to the
- * address that the datagram came from. Gives what the machine is to do now, for the attempt `device.last`. Where you
- * keep `device.last` over a restart, keep it before you carry the order out. What is no order for this device has
- * CUE_NO_ORDER and no answer; so has a /reply, which ends the copies of an abort. */
-static inline uint32_t cue_hear(struct cue_device *device, const uint8_t *datagram, size_t length,
-                                struct cue_answer *answer)
+/* Makes a device that was restarted: its machine is at rest and holds nothing. `kept` is the `device.last` that you
+ * kept, 0 to 2147483647, and `controller` the `device.controller`; if nothing was kept yet, 0 and any place. It never
+ * moves for a number up to `kept` again, whatever is still under way. Send the answer: it is the abort of `kept`.
+ * cue_tick gives it again until its /reply came or a higher number did. So a cue that waits for this device is given up
+ * before anybody moves. Gives CUE_NO_ORDER, or CUE_BAD_CALL as cue_new does, and for a number without its place. */
+static inline uint32_t cue_restarted(struct cue_device *device, uint32_t number, uint32_t kept,
+                                     const struct cue_place *controller, struct cue_answer *answer)
 {
-    if (device == NULL || answer == NULL || (datagram == NULL && length > 0) || length > 65535)
+    uint32_t made;
+    if (device == NULL || controller == NULL || answer == NULL)
         return cue_bad_call(answer);
-    return cue_device_hear(device, datagram == NULL ? (const uint8_t *)"" : datagram, length, answer);
+    made = cue_device_restarted(device, (uint32_t)sizeof *device, number, kept, controller);
+    return made == CUE_BAD_CALL ? cue_bad_call(answer) : cue_device_tick(device, answer);
 }
 
-/* The machine has prepared for the attempt `number`: call it once for each CUE_PREPARE, when it is done. The answer is
- * standing_by. There is none where the attempt has gone on meanwhile, as after a cancel. Gives CUE_NO_ORDER. */
-static inline uint32_t cue_prepared(struct cue_device *device, uint32_t number, struct cue_answer *answer)
+/* Names the one sender whose datagrams the device hears from now on; no place: it hears each sender. Call it after
+ * cue_new or cue_restarted, if you know the address and port of the controller or the relay. A number that a stranger
+ * makes up could else keep the device from each later cue. Gives CUE_NO_ORDER. */
+static inline uint32_t cue_hear_only(struct cue_device *device, const struct cue_place *sender)
 {
-    return device == NULL || answer == NULL ? cue_bad_call(answer) : cue_device_prepared(device, number, answer);
+    return device == NULL || sender == NULL ? (uint32_t)CUE_BAD_CALL : cue_device_hear_only(device, sender);
+}
+
+/* A datagram of `length` bytes has come from there: call it for each one, also while the machine works. Gives what the
+ * machine is to do now, for the attempt `device.last`. If that number or `device.controller` is a new one, write both
+ * where they survive a restart before you carry the order out or send the answer. What is no order for this device has
+ * CUE_NO_ORDER and no answer, and changes nothing; so has a datagram of a sender that is not heard. A /reply to an
+ * abort ends its copies. */
+static inline uint32_t cue_hear(struct cue_device *device, const struct cue_place *from, const uint8_t *datagram,
+                                size_t length, struct cue_answer *answer)
+{
+    if (device == NULL || from == NULL || answer == NULL || (datagram == NULL && length > 0) || length > 65535)
+        return cue_bad_call(answer);
+    return cue_device_hear(device, from, datagram == NULL ? (const uint8_t *)"" : datagram, length, answer);
+}
+
+/* The machine has prepared: call it once for each CUE_PREPARE, when it is done. The answer is standing_by; there is
+ * none if the attempt has gone on meanwhile. Gives CUE_NO_ORDER, or CUE_BAD_CALL if `device.doing` is another order. */
+static inline uint32_t cue_prepared(struct cue_device *device, struct cue_answer *answer)
+{
+    return device == NULL || answer == NULL ? cue_bad_call(answer) : cue_device_prepared(device, answer);
 }
 
 /* The machine has carried the cue out: call it once for each CUE_MOVE, when it is at rest. The answer is complete. */
-static inline uint32_t cue_moved(struct cue_device *device, uint32_t number, struct cue_answer *answer)
+static inline uint32_t cue_moved(struct cue_device *device, struct cue_answer *answer)
 {
-    return device == NULL || answer == NULL ? cue_bad_call(answer) : cue_device_moved(device, number, answer);
+    return device == NULL || answer == NULL ? cue_bad_call(answer) : cue_device_moved(device, answer);
 }
 
 /* The machine has given up what it prepared: call it once for each CUE_GIVE_UP. The answer is cancelled. */
-static inline uint32_t cue_gave_up(struct cue_device *device, uint32_t number, struct cue_answer *answer)
+static inline uint32_t cue_gave_up(struct cue_device *device, struct cue_answer *answer)
 {
-    return device == NULL || answer == NULL ? cue_bad_call(answer) : cue_device_gave_up(device, number, answer);
+    return device == NULL || answer == NULL ? cue_bad_call(answer) : cue_device_gave_up(device, answer);
 }
 
-/* The machine cannot go on in the attempt `number`, and is at rest: call it in place of the three above, or while the
- * device is ready. The answer is abort. There is none where the attempt is another, or was completed or let go. */
-static inline uint32_t cue_cannot(struct cue_device *device, uint32_t number, struct cue_answer *answer)
+/* The machine cannot go on, and is at rest: call it in place of the three above, or while the device is ready. The
+ * answer is abort; there is none if the attempt has gone on meanwhile. Gives CUE_NO_ORDER, or CUE_BAD_CALL if the
+ * machine does nothing and there is nothing to abort: say it then at the next CUE_PREPARE. */
+static inline uint32_t cue_cannot(struct cue_device *device, struct cue_answer *answer)
 {
-    return device == NULL || answer == NULL ? cue_bad_call(answer) : cue_device_cannot(device, number, answer);
+    return device == NULL || answer == NULL ? cue_bad_call(answer) : cue_device_cannot(device, answer);
 }
 
-/* Time has passed: call it some four times a second, and send the answer to where the last datagram came from. It is
- * the abort of cue_cannot, again, until its /reply came or a higher number did. */
+/* Time has passed: call it some four times a second, and send the answer. It is the abort of cue_cannot or of
+ * cue_restarted, again, until its /reply came or a higher number did. */
 static inline uint32_t cue_tick(const struct cue_device *device, struct cue_answer *answer)
 {
     return device == NULL || answer == NULL ? cue_bad_call(answer) : cue_device_tick(device, answer);

@@ -1,7 +1,7 @@
 #!/usr/bin/env python3
 """examples/device.py with one duty of docs/DEVICES.md broken.
 
-    broken_device.py WHICH NUMBER PORT [the other words of examples/device.py]
+    broken_device.py WHICH NUMBER PORT KEPT [the other words of examples/device.py]
 
 WHICH is a key of BROKEN. The number beside it is that of the duty.
 """
@@ -76,6 +76,71 @@ class TakesItForACopy(Device):
         return super().on_standby(asked, now)
 
 
+class AbortsALateStandby(Device):
+    """It takes a late copy of the standby of what it has carried out for another attempt."""
+
+    def on_standby(self, asked, now):
+        return "abort" if self.step == "complete" else super().on_standby(asked, now)
+
+
+class MovesWhileItPrepares(Device):
+    """A go makes it move before it has prepared."""
+
+    def on_go(self, now):
+        if self.step == "preparing":
+            self.step = "standing_by"
+        return super().on_go(now)
+
+
+class IgnoresCancelWhileItPrepares(Device):
+    """It prepares to the end, whatever comes."""
+
+    def on_cancel(self, now):
+        return None if self.step in ("preparing", "standing_by") and self.prepared_on(now) else super().on_cancel(now)
+
+    def prepared_on(self, now):
+        """Whether it prepares, or has prepared in spite of a cancel."""
+        self.spite = self.attempt if self.step == "preparing" else getattr(self, "spite", 0)
+        return self.spite == self.attempt
+
+
+class ObeysBundles(Device):
+    """It obeys an order in a bundle."""
+
+    def hear(self, data, now):
+        return super().hear(data[20:] if data.startswith(b"#bundle") and len(data) > 20 else data, now)
+
+
+class CountsByItself(Device):
+    """It answers with a count of its own in place of the number."""
+    count = 1000
+
+    def say(self, attempt, answer):
+        self.count += 1
+        return super().say(self.count, answer)
+
+
+class ForgetsOverARestart(Device):
+    """It says that it has restarted, and then begins afresh."""
+
+    def __init__(self, *words, **more):
+        super().__init__(*words, **more)
+        self.has_restarted = self.attempt > 0
+
+    def hear(self, data, now):
+        if self.has_restarted and self.due is None:
+            self.attempt, self.step, self.has_restarted = 0, None, False
+        return super().hear(data, now)
+
+
+class SaysNoRestart(Device):
+    """It keeps its number over a restart, and waits until it is asked."""
+
+    def __init__(self, *words, **more):
+        super().__init__(*words, **more)
+        self.due = None
+
+
 class ObeysLateOrders(Device):
     """A late cancel of a lower number makes it let go."""
 
@@ -136,6 +201,13 @@ BROKEN = {
     "moves-unprepared": (MovesUnprepared, 4),
     "ignores-unknown-cancel": (IgnoresUnknownCancel, 5),
     "takes-it-for-a-copy": (TakesItForACopy, 6),
+    "aborts-a-late-standby": (AbortsALateStandby, 6),
+    "moves-while-it-prepares": (MovesWhileItPrepares, 4),
+    "ignores-cancel-while-it-prepares": (IgnoresCancelWhileItPrepares, 1),
+    "obeys-bundles": (ObeysBundles, 10),
+    "counts-by-itself": (CountsByItself, 12),
+    "forgets-over-a-restart": (ForgetsOverARestart, 13),
+    "says-no-restart": (SaysNoRestart, 15),
     "obeys-late-orders": (ObeysLateOrders, 7),
     "aborts-once": (AbortsOnce, 9),
     "obeys-others-orders": (ObeysOthersOrders, 10),

@@ -64,7 +64,7 @@ same_standby-goes d task os xs u Preparing b e s = keeps d task os xs u Preparin
 same_standby-goes d task os xs u Ready b e s =
     keeps d task os xs u Ready (Some (StandingBy d.last)) b e (more_answers Ready d.last os (StandingBy d.last) xs u s)
 same_standby-goes d task os xs u Moving b e s = keeps d task os xs u Moving None b e s
-same_standby-goes d task os xs u Done b e s = keeps d task os xs u Done (Some (Abort d.last)) b e s
+same_standby-goes d task os xs u Done b e s = keeps d task os xs u Done None b e s
 same_standby-goes d task os xs u LettingGo b e s = keeps d task os xs u LettingGo None b e s
 same_standby-goes d task os xs u LetGo b e s = keeps d task os xs u LetGo (Some (Abort d.last)) b e s
 same_standby-goes d task os xs u Failed b e s = keeps d task os xs u Failed (Some (Abort d.last)) b e tt
@@ -100,7 +100,7 @@ same_cancel-goes d task os xs u Preparing b e s =
 same_cancel-goes d task os xs u Ready b e s = orders d task os xs u LettingGo (GiveUp d.last) None b (le_itself d.last)
     (s.0.0, free_prepares d.last u s.2, b) s.0.0
 same_cancel-goes d task os xs u Moving b e s = keeps d task os xs u Moving None b e s
-same_cancel-goes d task os xs u Done b e s = keeps d task os xs u Done None b e s
+same_cancel-goes d task os xs u Done b e s = keeps d task os xs u Done (Some (Cancelled d.last)) b e s
 same_cancel-goes d task os xs u LettingGo b e s = keeps d task os xs u LettingGo None b e s
 same_cancel-goes d task os xs u LetGo b e s = keeps d task os xs u LetGo (Some (Cancelled d.last)) b e s
 same_cancel-goes d task os xs u Failed b e s = keeps d task os xs u Failed (Some (Cancelled d.last)) b e tt

@@ -6,3 +6,4 @@ pub mod FitsLemmas
 pub mod HistoryLemmas
 pub mod OrderLemmas
 pub mod CopyLemmas
+pub mod CarryingLemmas

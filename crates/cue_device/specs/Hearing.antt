@@ -1,6 +1,6 @@
 -- What a device makes of what it hears, and of what its machine reports.
 use Rattle.std.specs.Prelude.{ℕ, Bool, true, false, ◌&&◌, if◌then◌else◌, Option, Some, None, nat_eq, nat_lt, is_none}
-use Rattle.std.specs.Prelude.{is_some}
+use Rattle.std.specs.Prelude.{is_some, Result, Ok, Err}
 use Rattle.std.specs.Cmp.Lexicographic.{pointwise}
 use Rattle.cue_show.specs.Number.{same_text}
 use Rattle.cue_device.specs.declared.asked.Command.{Command}
@@ -8,6 +8,8 @@ use Rattle.cue_device.specs.declared.asked.Command.TheVariants.{Standby, Go, Can
 use Rattle.cue_device.specs.declared.asked.Task.{Task}
 use Rattle.cue_device.specs.declared.hearing.Device.{Device}
 use Rattle.cue_device.specs.declared.hearing.Heard.{Heard}
+use Rattle.cue_device.specs.declared.hearing.ReportFault.{ReportFault}
+use Rattle.cue_device.specs.declared.hearing.ReportFault.TheVariants.{NotOrdered}
 use Rattle.cue_device.specs.declared.hearing.Told.{Told}
 use Rattle.cue_device.specs.declared.hearing.Told.TheVariants.{Prepared, Moved, GaveUp, Cannot}
 use Rattle.cue_device.specs.declared.hearing.Place.{Place}
@@ -28,6 +30,11 @@ use Rattle.cue_device.specs.Table.{moved_in, gave_up_in, cannot_in}
 -- a device whose machine is at rest; the numbers up to over are over
 abbrev pub device_at_rest : ℕ → ℕ → Device
 device_at_rest number over = record { number = number; last = over; attempt = None; doing = None; unheard = false }
+
+-- A device that restarted, with its machine at rest: it has forgotten what it made of the number that it kept, and an
+-- abort of it waits for its reply; 0 is no number.
+abbrev pub device_restarted : ℕ → ℕ → Device
+device_restarted number kept = record (device_at_rest number kept) { unheard = nat_lt 0 kept }
 
 -- a device with these parts
 abbrev pub with_parts : ℕ → ℕ → Option Attempt → Option Order → Bool → Device
@@ -222,6 +229,32 @@ after_told told d = told_at (place d (told_of told)) told d
 -- what is answered then
 abbrev pub answer_told : Told → Device → Option Answer
 answer_told told d = answer_at (place d (told_of told)) told
+
+-- ---- when it may report
+
+-- the number for which it reports: that of the order that it carries out; at rest, the last one
+abbrev pub number_of : Option Order → ℕ → ℕ
+number_of None last = last
+number_of (Some order) last = ordered_for order
+
+abbrev pub reported_for : Device → ℕ
+reported_for d = number_of d.doing d.last
+
+-- a report is in time where it is the end of the order; at rest, where it has an answer
+abbrev pub in_time : Option Order → Told → Device → Bool
+in_time None told d = is_some (answer_told told d)
+in_time (Some order) told d = ends order told
+
+abbrev pub is_in_time : Told → Device → Bool
+is_in_time told d = in_time d.doing told d
+
+-- the device after a report: at another time nothing changes
+abbrev pub after_call : Told → Device → Device
+after_call told d = if is_in_time told d then after_told told d else d
+
+-- what is answered then
+abbrev pub answer_call : Told → Device → Result (Option Answer) ReportFault
+answer_call told d = if is_in_time told d then Ok (answer_told told d) else Err NotOrdered
 
 -- ---- the abort that nobody asked for
 

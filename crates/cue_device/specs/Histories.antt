@@ -7,10 +7,10 @@ use Rattle.cue_device.specs.declared.hearing.Told.{Told}
 use Rattle.cue_device.specs.declared.words.Order.{Order}
 use Rattle.cue_device.specs.declared.words.Answer.{Answer}
 use Rattle.cue_device.specs.Hearing.{after_command, after_reply, after_told, answer_ticked, answer_told, doing_after}
-use Rattle.cue_device.specs.Hearing.{what_comes_of, left_after, ordered_for, device_at_rest}
+use Rattle.cue_device.specs.Hearing.{what_comes_of, left_after, ordered_for, device_restarted}
 
 -- what happens to a device: it hears an order of the controller, its machine reports something, it repeats an
--- abort, it hears a reply to that, or it restarts, its machine at rest, and is handed in this number
+-- abort, it hears a reply to that, or it restarts, its machine at rest, and is handed in the number that it kept
 pub data Happening : Type 0 where
   hears : Command → Happening
   tells : Told → Happening
@@ -24,7 +24,7 @@ after (hears c) d = after_command c d
 after (tells t) d = after_told t d
 after repeats d = d
 after hears_reply d = after_reply d
-after (restarts n) d = device_at_rest d.number n
+after (restarts n) d = device_restarted d.number n
 
 -- what it orders then
 abbrev pub order_at : Happening → Device → Option Order

@@ -5,3 +5,4 @@ pub mod Datagrams
 pub mod Histories
 pub mod Laws
 pub mod Copies
+pub mod Carrying

@@ -25,12 +25,13 @@ act phase order = record { phase = phase; order = Some order; answer = None }
 
 -- ---- the attempt's own number
 
--- a standby for the task that is known: a copy, or, where the device is done with the number, one of another attempt
+-- A standby for the task that is known. Once the device was ordered to move it is a late copy, and is not answered.
+-- After it gave up or failed, nothing is prepared for the number any more.
 abbrev pub same_standby : ℕ → Phase → Cell
 same_standby q Preparing = stay Preparing
 same_standby q Ready = say Ready (StandingBy q)
 same_standby q Moving = stay Moving
-same_standby q Done = say Done (Abort q)
+same_standby q Done = stay Done
 same_standby q LettingGo = stay LettingGo
 same_standby q LetGo = say LetGo (Abort q)
 same_standby q Failed = say Failed (Abort q)
@@ -55,12 +56,13 @@ same_go q LettingGo = say Failed (Abort q)
 same_go q LetGo = say Failed (Abort q)
 same_go q Failed = say Failed (Abort q)
 
--- a cancel; the controller sends none to a device that it has ordered to go
+-- A cancel. In one life of a store none comes to a device that was ordered to go; in a store that was restored from a
+-- copy the attempt can end by the answer.
 abbrev pub same_cancel : ℕ → Phase → Cell
 same_cancel q Preparing = act LettingGo (GiveUp q)
 same_cancel q Ready = act LettingGo (GiveUp q)
 same_cancel q Moving = stay Moving
-same_cancel q Done = stay Done
+same_cancel q Done = say Done (Cancelled q)
 same_cancel q LettingGo = stay LettingGo
 same_cancel q LetGo = say LetGo (Cancelled q)
 same_cancel q Failed = say Failed (Cancelled q)

@@ -2,20 +2,17 @@
 ghost use Rattle.std.specs.Prelude.{◌≡◌, Some, is_none};
 ghost use Rattle.std.specs.Option.{option_map};
 ghost use Rattle.cue_device.specs.declared.hearing.Told.TheVariants.{Prepared, Moved, GaveUp, Cannot};
-ghost use Rattle.cue_device.specs.Hearing.{after_command, after_reply, after_told, again, answer_ticked, answer_told};
-ghost use Rattle.cue_device.specs.Hearing.{begun, doing_after, ends, after_report, what_comes_of, is_for, left_after};
+ghost use Rattle.cue_device.specs.Hearing.{after_command, after_reply, after_told, answer_ticked, answer_told};
+ghost use Rattle.cue_device.specs.Hearing.{begun, ends, after_report, what_comes_of, left_after};
 ghost use Rattle.cue_device.specs.Hearing.{attempt_with_report, place};
+ghost use Rattle.cue_device.specs.Hearing.{answer_call, after_call, device_restarted, is_in_time, reported_for};
 ghost use Rattle.cue_device.specs.Hearing.{device_at_rest, said_by, phase_now, seq_of, task_now, after_cell, task_of};
-ghost use Rattle.cue_device.specs.Hearing.{told_in, told_of};
-ghost use Rattle.cue_device.specs.Hearing.{unheard_after, with_parts};
+ghost use Rattle.cue_device.specs.Hearing.{told_in, told_of, unheard_after, with_parts};
 
 use crate::asked::{Command, Task};
 use crate::phase::{Attempt, Cell, Phase};
-use crate::table::{
-    answer_over, cannot_in, gave_up_in, moved_in, new_number, other_standby, prepared_in,
-    same_cancel, same_go, same_standby,
-};
-use crate::words::{Answer, Order};
+use crate::table::{again, answer_over, cannot_in, gave_up_in, moved_in, new_number, prepared_in};
+use crate::words::{Answer, Order, doing_after};
 use cue_show::DeviceNo;
 
 /// What comes of an order of the controller: what the machine is to do now, and what is to be answered now.
@@ -23,6 +20,14 @@ use cue_show::DeviceNo;
 pub struct Heard {
     pub order: Option<Order>,
     pub answer: Option<Answer>,
+}
+
+/// Why a report of the machine was refused.
+#[derive(Clone, Copy, PartialEq, Eq, Debug)]
+pub enum ReportFault {
+    /// It is not the end of what the machine was ordered; or the machine is at rest, and in no attempt that could be
+    /// aborted. Nothing changes.
+    NotOrdered,
 }
 
 /// What the machine reports of the attempt of this number.
@@ -59,13 +64,13 @@ pub struct Device {
     attempt: Option<Attempt>,
     // The order whose end the machine has not reported.
     doing: Option<Order>,
-    // Whether it said by itself that it cannot go on, and has no reply to that.
+    // Whether it said by itself that it cannot go on, or that it restarted, and has no reply to that.
     unheard: bool,
 }
 
 impl Device {
-    /// A device of this number whose machine is at rest and holds nothing. The attempts up to the number `over` are
-    /// over: 0 for a new store. A maker who keeps `last` over a restart hands it in here.
+    /// A device of this number for a new store: its machine is at rest and holds nothing. The attempts up to the number
+    /// `over` are over, 0 for none.
     pub fn new(number: DeviceNo, over: u32) -> Device
         ensures { result ≡ device_at_rest number over }
     {
@@ -75,6 +80,19 @@ impl Device {
             attempt: None,
             doing: None,
             unheard: false,
+        }
+    }
+
+    /// A device of this number that has restarted: its machine is at rest and holds nothing, and `kept` is the `last`
+    /// that was kept. The attempts up to it are over. `tick` gives the abort of `kept` at once, and again until its
+    /// reply came: a cue that waits for this device is so given up before anybody moves. Where 0 was kept there is
+    /// nothing to say.
+    pub fn restarted(number: DeviceNo, kept: u32) -> Device
+        ensures { result ≡ device_restarted number kept }
+    {
+        Device {
+            unheard: kept > 0,
+            ..Device::new(number, kept)
         }
     }
 
@@ -167,41 +185,41 @@ impl Device {
         }
     }
 
-    /// The machine has prepared for the attempt of this number. None where it was not ordered to, or where the attempt
-    /// has gone on.
-    pub fn prepared(&mut self, seq: u32) -> Option<Answer>
-        ensures state { self.new ≡ after_told (Prepared seq) self.old }
-        ensures said { result ≡ answer_told (Prepared seq) self.old }
+    /// The machine has prepared, as it was ordered. No answer where the attempt has gone on.
+    pub fn prepared(&mut self) -> Result<Option<Answer>, ReportFault>
+        ensures state { self.new ≡ after_call (Prepared (reported_for self.old)) self.old }
+        ensures said { result ≡ answer_call (Prepared (reported_for self.old)) self.old }
     {
-        self.tell(Told::Prepared(seq))
+        self.report(Told::Prepared(self.reported_for()))
     }
 
-    /// The machine has carried the cue out. None where it was not ordered to, or where the attempt has gone on.
-    pub fn moved(&mut self, seq: u32) -> Option<Answer>
-        ensures state { self.new ≡ after_told (Moved seq) self.old }
-        ensures said { result ≡ answer_told (Moved seq) self.old }
+    /// The machine has carried the cue out, as it was ordered. No answer where the attempt has gone on.
+    pub fn moved(&mut self) -> Result<Option<Answer>, ReportFault>
+        ensures state { self.new ≡ after_call (Moved (reported_for self.old)) self.old }
+        ensures said { result ≡ answer_call (Moved (reported_for self.old)) self.old }
     {
-        self.tell(Told::Moved(seq))
+        self.report(Told::Moved(self.reported_for()))
     }
 
-    /// The machine has given up what it prepared. None where it was not ordered to, or where the attempt has gone on.
-    pub fn gave_up(&mut self, seq: u32) -> Option<Answer>
-        ensures state { self.new ≡ after_told (GaveUp seq) self.old }
-        ensures said { result ≡ answer_told (GaveUp seq) self.old }
+    /// The machine has given up what it prepared, as it was ordered. No answer where the attempt has gone on.
+    pub fn gave_up(&mut self) -> Result<Option<Answer>, ReportFault>
+        ensures state { self.new ≡ after_call (GaveUp (reported_for self.old)) self.old }
+        ensures said { result ≡ answer_call (GaveUp (reported_for self.old)) self.old }
     {
-        self.tell(Told::GaveUp(seq))
+        self.report(Told::GaveUp(self.reported_for()))
     }
 
-    /// The machine cannot go on, and is at rest. None where the attempt is another, or was completed or let go.
-    /// Otherwise `tick` gives the abort again until its reply came.
-    pub fn cannot(&mut self, seq: u32) -> Option<Answer>
-        ensures state { self.new ≡ after_told (Cannot seq) self.old }
-        ensures said { result ≡ answer_told (Cannot seq) self.old }
+    /// The machine cannot go on, and is at rest: with what it was ordered, or with what it holds. Where that is an
+    /// abort `tick` gives it again until its reply came. No answer where the attempt has gone on.
+    pub fn cannot(&mut self) -> Result<Option<Answer>, ReportFault>
+        ensures state { self.new ≡ after_call (Cannot (reported_for self.old)) self.old }
+        ensures said { result ≡ answer_call (Cannot (reported_for self.old)) self.old }
     {
-        self.tell(Told::Cannot(seq))
+        self.report(Told::Cannot(self.reported_for()))
     }
 
-    /// Some four times a second: the abort that nobody asked for, again, until its reply came or a new number.
+    /// At once after a restart, and some four times a second: the abort that nobody asked for, again, until its reply
+    /// came or a new number.
     pub fn tick(&self) -> Option<Answer>
         ensures { result ≡ answer_ticked self.now }
     {
@@ -258,6 +276,41 @@ impl Device {
         self.attempt = Some(Attempt { phase, task });
         self.doing = doing_after(order, self.doing);
         Heard { order, answer }
+    }
+
+    // The number for which the machine reports: that of the order that it carries out; at rest, the last one.
+    fn reported_for(&self) -> u32
+        ensures { result ≡ reported_for self.now }
+    {
+        match self.doing {
+            Some(order) => order.seq(),
+            None => self.last,
+        }
+    }
+
+    // Whether the machine may report this now.
+    fn is_in_time(&self, told: Told) -> bool
+        ensures { result ≡ is_in_time told self.now }
+    {
+        match self.doing {
+            Some(order) => told.ends(order),
+            None => match self.place(told.seq()) {
+                Place::Same(attempt) => told.cell(attempt.phase).answer.is_some(),
+                Place::Over | Place::New => false,
+            },
+        }
+    }
+
+    // The machine reports this, where it may.
+    fn report(&mut self, told: Told) -> Result<Option<Answer>, ReportFault>
+        ensures state { self.new ≡ after_call told self.old }
+        ensures said { result ≡ answer_call told self.old }
+    {
+        if self.is_in_time(told) {
+            Ok(self.tell(told))
+        } else {
+            Err(ReportFault::NotOrdered)
+        }
     }
 
     // The machine has reported this.
@@ -333,33 +386,6 @@ impl Told {
             Told::Prepared(_) | Told::Moved(_) | Told::GaveUp(_) => unheard,
             Told::Cannot(_) => true,
         }
-    }
-}
-
-// What the table says of an order of the controller with the attempt's own number.
-fn again(command: &Command, attempt: Attempt) -> Cell
-    ensures { result ≡ again attempt command.now }
-{
-    match command {
-        Command::Standby { seq, task } => {
-            if attempt.is_for(task) {
-                same_standby(*seq, attempt.phase)
-            } else {
-                other_standby(*seq, attempt.phase)
-            }
-        }
-        Command::Go { seq } => same_go(*seq, attempt.phase),
-        Command::Cancel { seq } => same_cancel(*seq, attempt.phase),
-    }
-}
-
-// The order whose end is not reported, once this was ordered.
-fn doing_after(order: Option<Order>, doing: Option<Order>) -> Option<Order>
-    ensures { result ≡ doing_after order doing }
-{
-    match order {
-        Some(order) => Some(order),
-        None => doing,
     }
 }
 

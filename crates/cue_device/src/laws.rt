@@ -1,6 +1,8 @@
 //! Laws of a device over all that it hears and all that its machine reports, with any restarts between, each the
 //! contract of a function that does nothing.
-ghost use Rattle.cue_device.specs.Copies.{DoneAnswers, FailedAnswers, LetGoAnswers, ReadyAnswers};
+ghost use Rattle.cue_device.specs.Copies.{DoneAnswers, FailedAnswers, LateCopiesFailNothing, LetGoAnswers};
+ghost use Rattle.cue_device.specs.Copies.{ReadyAnswers};
+ghost use Rattle.cue_device.specs.Carrying.{CarriesOut};
 ghost use Rattle.cue_device.specs.Laws.{MovesAfterStandingBy, MovesOnce, NeverGivesUpAfterMoving};
 ghost use Rattle.cue_device.specs.Laws.{NeverMovesAfterGivingUp, NumbersRise, OneAtATime, PreparesOnce};
 
@@ -42,4 +44,11 @@ pub fn answers_each_copy()
     ensures done { DoneAnswers }
     ensures let_go { LetGoAnswers }
     ensures failed { FailedAnswers }
+{}
+
+/// Once it moves, no copy of an order of the attempt makes it abort, however late it comes; nor does anything else that
+/// may happen to a device that did all it was ordered, however often.
+pub fn late_copies_fail_nothing()
+    ensures each { LateCopiesFailNothing }
+    ensures ever { CarriesOut }
 {}

@@ -17,7 +17,7 @@ mod words;
 mod writing;
 
 pub use asked::{Command, Task};
-pub use hearing::{Device, Heard};
+pub use hearing::{Device, Heard, ReportFault};
 pub use part_bytes::PartBytes;
 pub use phase::{Attempt, Phase};
 pub use reading::{MAX_NUMBER, command};

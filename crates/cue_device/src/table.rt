@@ -1,26 +1,28 @@
 //! The table of what a device makes of each order of the controller and of what its machine reports: by the place of
 //! the number, and by the phase of the attempt.
 ghost use Rattle.std.specs.Prelude.{◌≡◌};
+ghost use Rattle.cue_device.specs.Hearing.{again};
 ghost use Rattle.cue_device.specs.Table.{answer_over, new_number, cannot_in, gave_up_in, moved_in, new_standby};
 ghost use Rattle.cue_device.specs.Table.{other_standby, prepared_in, same_cancel, same_go, same_standby};
 
 use crate::asked::Command;
-use crate::phase::{Cell, Phase};
+use crate::phase::{Attempt, Cell, Phase};
 use crate::words::{Answer, Order};
 
 // A standby of the attempt's own number, for the task that is known.
-pub(crate) fn same_standby(seq: u32, phase: Phase) -> Cell
+fn same_standby(seq: u32, phase: Phase) -> Cell
     ensures { result ≡ same_standby seq phase }
 {
     match phase {
-        Phase::Preparing | Phase::Moving | Phase::LettingGo => Cell::stay(phase),
+        Phase::Preparing | Phase::LettingGo => Cell::stay(phase),
+        Phase::Done | Phase::Moving => Cell::stay(phase),
         Phase::Ready => Cell::say(phase, Answer::StandingBy(seq)),
-        Phase::Done | Phase::LetGo | Phase::Failed => Cell::say(phase, Answer::Abort(seq)),
+        Phase::LetGo | Phase::Failed => Cell::say(phase, Answer::Abort(seq)),
     }
 }
 
 // A standby of the attempt's own number, for another task: the number came back with another meaning.
-pub(crate) fn other_standby(seq: u32, phase: Phase) -> Cell
+fn other_standby(seq: u32, phase: Phase) -> Cell
     ensures { result ≡ other_standby seq phase }
 {
     match phase {
@@ -36,7 +38,7 @@ pub(crate) fn other_standby(seq: u32, phase: Phase) -> Cell
 }
 
 // A go of the attempt's own number.
-pub(crate) fn same_go(seq: u32, phase: Phase) -> Cell
+fn same_go(seq: u32, phase: Phase) -> Cell
     ensures { result ≡ same_go seq phase }
 {
     match phase {
@@ -50,13 +52,30 @@ pub(crate) fn same_go(seq: u32, phase: Phase) -> Cell
 }
 
 // A cancel of the attempt's own number.
-pub(crate) fn same_cancel(seq: u32, phase: Phase) -> Cell
+fn same_cancel(seq: u32, phase: Phase) -> Cell
     ensures { result ≡ same_cancel seq phase }
 {
     match phase {
         Phase::Preparing | Phase::Ready => Cell::act(Phase::LettingGo, Order::GiveUp(seq)),
-        Phase::LettingGo | Phase::Moving | Phase::Done => Cell::stay(phase),
-        Phase::LetGo | Phase::Failed => Cell::say(phase, Answer::Cancelled(seq)),
+        Phase::LettingGo | Phase::Moving => Cell::stay(phase),
+        Phase::Done | Phase::LetGo | Phase::Failed => Cell::say(phase, Answer::Cancelled(seq)),
+    }
+}
+
+// What the table says of an order of the controller with the attempt's own number.
+pub(crate) fn again(command: &Command, attempt: Attempt) -> Cell
+    ensures { result ≡ again attempt command.now }
+{
+    match command {
+        Command::Standby { seq, task } => {
+            if attempt.is_for(task) {
+                same_standby(*seq, attempt.phase)
+            } else {
+                other_standby(*seq, attempt.phase)
+            }
+        }
+        Command::Go { seq } => same_go(*seq, attempt.phase),
+        Command::Cancel { seq } => same_cancel(*seq, attempt.phase),
     }
 }
 

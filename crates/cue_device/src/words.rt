@@ -1,7 +1,7 @@
 //! What a device orders its machine, and what it answers the controller.
 
 ghost use Rattle.std.specs.Prelude.{◌≡◌};
-ghost use Rattle.cue_device.specs.Hearing.{ordered_for, answered_for};
+ghost use Rattle.cue_device.specs.Hearing.{ordered_for, answered_for, doing_after};
 
 /// What the machine is to do now, for the attempt of this number.
 #[derive(Clone, Copy, PartialEq, Eq, Debug)]
@@ -48,5 +48,15 @@ impl Answer {
             Answer::StandingBy(seq) | Answer::Complete(seq) => seq,
             Answer::Cancelled(seq) | Answer::Abort(seq) => seq,
         }
+    }
+}
+
+// The order whose end is not reported, once this was ordered.
+pub(crate) fn doing_after(order: Option<Order>, doing: Option<Order>) -> Option<Order>
+    ensures { result ≡ doing_after order doing }
+{
+    match order {
+        Some(order) => Some(order),
+        None => doing,
     }
 }

@@ -1,6 +1,7 @@
 -- A device as C has it: the numbers that stand for a device, and the device that numbers stand for.
 use Rattle.std.specs.Prelude.{ℕ, Bool, ◌&&◌, ◌||◌, if◌then◌else◌, Option, Some, None, List, ◌++◌, length, take}
 use Rattle.std.specs.Prelude.{replicate, ◌-◌, nat_eq, nat_le}
+use Rattle.std.specs.Cmp.Lexicographic.{pointwise}
 use Rattle.cue_show.specs.Number.{is_cue_number}
 use Rattle.cue_show.specs.declared.limits.TheConstants.{MAX_DEVICE_NUMBER, MAX_CUE_BYTES, MAX_PART_BYTES}
 use Rattle.cue_device.specs.declared.asked.Task.{Task}
@@ -10,6 +11,26 @@ use Rattle.cue_device.specs.declared.phase.Phase.{Phase}
 use Rattle.cue_device.specs.Hearing.{phase_now, task_now}
 use Rattle.cue_device_c.specs.Codes.{phase_code, phase_of, order_code, order_number, order_of}
 use Rattle.cue_device_c.specs.declared.state.CueDevice.{CueDevice}
+use Rattle.cue_device_c.specs.declared.state.CuePlace.{CuePlace}
+use Rattle.cue_device_c.specs.declared.state.TheConstants.{MAGIC, SIZE}
+
+-- ---- places
+
+-- two places are the same, byte for byte
+abbrev pub is_same_place : CuePlace → CuePlace → Bool
+is_same_place a b = pointwise nat_eq a.bytes b.bytes
+
+-- no place: eight zeros
+abbrev pub no_place : CuePlace
+no_place = record { bytes = replicate 8 0 }
+
+-- it is no place
+abbrev pub is_none_place : CuePlace → Bool
+is_none_place a = is_same_place a no_place
+
+-- a datagram from there is heard: no sender is named, or it is this one
+abbrev pub is_heard : CuePlace → CuePlace → Bool
+is_heard only from = is_none_place only || is_same_place only from
 
 -- ---- the device that numbers stand for
 
@@ -17,11 +38,11 @@ use Rattle.cue_device_c.specs.declared.state.CueDevice.{CueDevice}
 abbrev pub fits_cue : ℕ → List ℕ → Bool
 fits_cue len places = nat_eq len 0 || (nat_le len MAX_CUE_BYTES && is_cue_number (take len places))
 
--- the numbers stand for a device
+-- The numbers stand for a device: a call of this library made them, and each is in its range.
 abbrev pub fits : CueDevice → Bool
-fits s = nat_le s.number MAX_DEVICE_NUMBER && (nat_le s.phase 7
+fits s = nat_eq s.magic MAGIC && (nat_eq s.size SIZE && (nat_le s.number MAX_DEVICE_NUMBER && (nat_le s.phase 7
     && (nat_le s.doing 3 && (nat_le s.unheard 1 && (nat_le s.bytes_length MAX_PART_BYTES
-    && fits_cue s.cue_length s.cue))))
+    && fits_cue s.cue_length s.cue))))))
 
 -- what it is asked to prepare for
 abbrev pub task_in : CueDevice → Option Task
@@ -73,9 +94,11 @@ bytes_places (Some task) = task.bytes ++ replicate (MAX_PART_BYTES - length task
 abbrev pub bit : Bool → ℕ
 bit b = if b then 1 else 0
 
--- the numbers that stand for a device
-abbrev pub numbers_of : Device → CueDevice
-numbers_of d = record {
+-- the numbers that stand for a device, whose last order came from one place, and which hears the other alone
+abbrev pub numbers_of : Device → CuePlace → CuePlace → CueDevice
+numbers_of d controller only = record {
+  magic = MAGIC;
+  size = SIZE;
   number = d.number;
   last = d.last;
   phase = phase_code (phase_now d.attempt);
@@ -88,4 +111,6 @@ numbers_of d = record {
   cue =
       cue_places (task_now d.attempt);
   bytes = bytes_places (task_now d.attempt);
+  controller = controller;
+  only = only;
 }

@@ -12,7 +12,7 @@ mod state;
 
 pub use answer::CueAnswer;
 pub use exports::{
-    cue_device_cannot, cue_device_gave_up, cue_device_hear, cue_device_moved, cue_device_new,
-    cue_device_prepared, cue_device_tick,
+    cue_device_cannot, cue_device_gave_up, cue_device_hear, cue_device_hear_only, cue_device_moved,
+    cue_device_new, cue_device_prepared, cue_device_restarted, cue_device_tick,
 };
-pub use state::CueDevice;
+pub use state::{CueDevice, CuePlace};

@@ -2,17 +2,49 @@
 ghost use Rattle.std.specs.Prelude.{◌≡◌, IsTrue};
 ghost use Rattle.cue_show.specs.DeviceNumber.{device_of_byte};
 ghost use Rattle.cue_device_c.specs.State.{bytes_length, bytes_places, cue_length, cue_places, device_of, fits};
-ghost use Rattle.cue_device_c.specs.State.{fits_cue, numbers_of, task_in};
+ghost use Rattle.cue_device_c.specs.State.{fits_cue, is_none_place, no_place, numbers_of, task_in};
 
 use crate::codes::{order_code, order_number, order_of, phase_code, phase_of};
 use cue_device::{Attempt, Device, PartBytes, Task};
 use cue_show::limits::{MAX_CUE_BYTES, MAX_DEVICE_NUMBER, MAX_PART_BYTES};
 use cue_show::{CueNo, DeviceNo};
 
+/// What `magic` has where the numbers were made by `cue_device_new` or `cue_device_restarted`: "cue2".
+pub const MAGIC: u32 = 1668638002;
+
+/// How many bytes `struct cue_device` has: what `size` has there, and what the header hands to a call that makes one.
+pub const SIZE: u32 = 104;
+
+/// Where datagrams come from and go to, `struct cue_place`: eight bytes that this crate only compares and hands on.
+/// Eight zeros are no place.
+#[repr(C)]
+#[derive(Clone, Copy, PartialEq, Eq)]
+pub struct CuePlace {
+    pub bytes: [u8; 8],
+}
+
+impl CuePlace {
+    // No place.
+    pub(crate) fn none() -> CuePlace
+        ensures { result ≡ no_place }
+    {
+        CuePlace { bytes: [0; 8] }
+    }
+
+    // Whether it is no place.
+    pub(crate) fn is_none(&self) -> bool
+        ensures { result ≡ is_none_place self.now }
+    {
+        self.bytes == [0; 8]
+    }
+}
+
 /// `struct cue_device`, whose fields `include/cue_device.h` describes.
 #[repr(C)]
 #[derive(Clone, Copy)]
 pub struct CueDevice {
+    pub magic: u32,
+    pub size: u32,
     pub number: u32,
     pub last: u32,
     pub phase: u32,
@@ -23,6 +55,8 @@ pub struct CueDevice {
     pub bytes_length: u32,
     pub cue: [u8; MAX_CUE_BYTES],
     pub bytes: [u8; MAX_PART_BYTES],
+    pub controller: CuePlace,
+    pub only: CuePlace,
 }
 
 impl CueDevice {
@@ -43,14 +77,17 @@ impl CueDevice {
         Some(Device::of(number, self.last, attempt, doing, self.unheard == 1))
     }
 
-    // The numbers that stand for the device.
-    pub(crate) fn of(device: &Device) -> CueDevice
-        ensures { result ≡ numbers_of device.now }
+    // The numbers that stand for the device. Its last order came from the one place, and it hears the other alone,
+    // where that is one.
+    pub(crate) fn of(device: &Device, controller: CuePlace, only: CuePlace) -> CueDevice
+        ensures { result ≡ numbers_of device.now controller only }
     {
         let task = device.task();
         let (cue_length, cue) = cue_of(&task);
         let (bytes_length, bytes) = bytes_of(&task);
         CueDevice {
+            magic: MAGIC,
+            size: SIZE,
             number: u32::from(device.number().number()),
             last: device.last(),
             phase: phase_code(device.phase()),
@@ -61,6 +98,8 @@ impl CueDevice {
             bytes_length,
             cue,
             bytes,
+            controller,
+            only,
         }
     }
 
@@ -68,7 +107,9 @@ impl CueDevice {
     fn fits(&self) -> bool
         ensures { result ≡ fits self.now }
     {
-        self.number <= u32::from(MAX_DEVICE_NUMBER)
+        self.magic == MAGIC
+            && self.size == SIZE
+            && self.number <= u32::from(MAX_DEVICE_NUMBER)
             && self.phase <= 7
             && self.doing <= 3
             && self.unheard <= 1

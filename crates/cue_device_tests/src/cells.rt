@@ -41,25 +41,25 @@ fn device_in(rt: &impl Abort, phase: Phase) -> Device {
     match phase {
         Phase::Preparing => {}
         Phase::Ready => {
-            let _ = device.prepared(5);
+            let _ = device.prepared();
         }
         Phase::Moving | Phase::Done => {
-            let _ = device.prepared(5);
+            let _ = device.prepared();
             let _ = device.hear(&command(rt, Sent::Go, 5));
         }
         Phase::LettingGo | Phase::LetGo => {
             let _ = device.hear(&command(rt, Sent::Cancel, 5));
         }
         Phase::Failed => {
-            let _ = device.cannot(5);
+            let _ = device.cannot();
         }
     }
     match phase {
         Phase::Done => {
-            let _ = device.moved(5);
+            let _ = device.moved();
         }
         Phase::LetGo => {
-            let _ = device.gave_up(5);
+            let _ = device.gave_up();
         }
         _ => {}
     }

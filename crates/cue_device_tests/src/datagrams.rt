@@ -46,9 +46,9 @@ fn an_abort_that_nobody_asked_for_is_repeated_until_its_reply(rt: HostRuntime) {
     let standby = b"/msc/standby\0\0\0\0,iisb\0\0\0\0\0\0\x05\0\0\0\x031\0\0\0\0\0\0\0";
     let (order, _) = device.hear_datagram(standby, &mut out);
     assert!(&rt; order == Some(Order::Prepare(5)));
-    assert!(&rt; device.prepared(5) == Some(Answer::StandingBy(5)));
+    assert!(&rt; device.prepared() == Ok(Some(Answer::StandingBy(5))));
     assert!(&rt; device.tick() == None);
-    assert!(&rt; device.cannot(5) == Some(Answer::Abort(5)));
+    assert!(&rt; device.cannot() == Ok(Some(Answer::Abort(5))));
     let other = b"/reply\0\0,siiii\0\0/device/4/abort\0\0\0\0\x01\0\0\0\0\0\0\0\0\0\0\0\0";
     let _ = device.hear_datagram(other, &mut out);
     assert!(&rt; device.tick() == Some(Answer::Abort(5)));
@@ -56,4 +56,29 @@ fn an_abort_that_nobody_asked_for_is_repeated_until_its_reply(rt: HostRuntime) {
     let (order, len) = device.hear_datagram(reply, &mut out);
     assert!(&rt; order == None && len == 0);
     assert!(&rt; device.tick() == None);
+}
+
+#[test]
+fn a_restart_is_said_until_its_reply(rt: HostRuntime) {
+    let number = DeviceNo::of(3).expect(&rt, "it is a device number");
+    let mut device = Device::restarted(number, 7);
+    let mut out = [0; MAX_ANSWER];
+    assert!(&rt; device.tick() == Some(Answer::Abort(7)));
+    let late = b"/msc/go_2pc\0,ii\0\0\0\0\x07\0\0\0\x03";
+    let (order, len) = device.hear_datagram(late, &mut out);
+    assert!(&rt; order == None && &out[..len] == b"/device/3/abort\0,i\0\0\0\0\0\x07".as_slice());
+    assert!(&rt; device.tick() == Some(Answer::Abort(7)));
+    let reply = b"/reply\0\0,siiii\0\0/device/3/abort\0\0\0\0\0\0\0\0\0\0\0\0\x01\0\0\0\x0f";
+    let _ = device.hear_datagram(reply, &mut out);
+    assert!(&rt; device.tick() == None);
+    assert!(&rt; Device::restarted(number, 0).tick() == None);
+}
+
+#[test]
+fn a_new_number_ends_what_is_said_of_a_restart(rt: HostRuntime) {
+    let number = DeviceNo::of(3).expect(&rt, "it is a device number");
+    let mut device = Device::restarted(number, 4);
+    let standby = b"/msc/standby\0\0\0\0,iisb\0\0\0\0\0\0\x05\0\0\0\x031\0\0\0\0\0\0\0";
+    let (order, _) = device.hear_datagram(standby, &mut [0; MAX_ANSWER]);
+    assert!(&rt; order == Some(Order::Prepare(5)) && device.tick() == None);
 }

@@ -1,5 +1,5 @@
 //! What happens to a device over several attempts.
-use cue_device::{Answer, Command, Device, Order, PartBytes, Phase, Task};
+use cue_device::{Answer, Command, Device, Order, PartBytes, Phase, ReportFault, Task};
 use cue_show::{CueNo, DeviceNo};
 use std::process::Abort;
 
@@ -22,7 +22,7 @@ fn nothing_is_ordered_before_the_machine_told_its_end(rt: HostRuntime) {
     assert!(&rt; device.hear(&standby(&rt, 2)).answer == Some(Answer::Abort(2)));
     assert!(&rt; device.doing() == Some(Order::Prepare(1)));
     assert!(&rt; device.hear(&standby(&rt, 3)).order == None);
-    assert!(&rt; device.prepared(1) == None);
+    assert!(&rt; device.prepared() == Ok(None));
     assert!(&rt; device.doing() == None);
     assert!(&rt; device.hear(&standby(&rt, 4)).order == Some(Order::Prepare(4)));
 }
@@ -31,8 +31,8 @@ fn nothing_is_ordered_before_the_machine_told_its_end(rt: HostRuntime) {
 fn a_device_that_starts_anew_moves_for_no_number_that_is_over(rt: HostRuntime) {
     let mut first = device(&rt, 0);
     let _ = first.hear(&standby(&rt, 7));
-    let _ = first.prepared(7);
-    let mut device = device(&rt, first.last());
+    let _ = first.prepared();
+    let mut device = Device::restarted(first.number(), first.last());
     let heard = device.hear(&Command::Go { seq: 7 });
     assert!(&rt; heard.order == None && heard.answer == Some(Answer::Abort(7)));
     let heard = device.hear(&Command::Cancel { seq: 7 });
@@ -42,14 +42,27 @@ fn a_device_that_starts_anew_moves_for_no_number_that_is_over(rt: HostRuntime) {
 }
 
 #[test]
-fn the_machine_tells_in_vain_of_another_number_or_phase(rt: HostRuntime) {
+fn a_report_that_is_not_the_end_of_the_order_changes_nothing(rt: HostRuntime) {
+    let mut device = device(&rt, 0);
+    let wrong = Err(ReportFault::NotOrdered);
+    assert!(&rt; device.prepared() == wrong && device.cannot() == wrong);
+    let _ = device.hear(&standby(&rt, 1));
+    assert!(&rt; device.moved() == wrong && device.gave_up() == wrong);
+    assert!(&rt; device.phase() == Some(Phase::Preparing));
+    assert!(&rt; device.prepared() == Ok(Some(Answer::StandingBy(1))));
+    assert!(&rt; device.prepared() == wrong && device.moved() == wrong);
+    assert!(&rt; device.phase() == Some(Phase::Ready));
+    assert!(&rt; device.cannot() == Ok(Some(Answer::Abort(1))));
+}
+
+#[test]
+fn a_trip_ends_the_order_also_where_a_higher_number_came(rt: HostRuntime) {
     let mut device = device(&rt, 0);
     let _ = device.hear(&standby(&rt, 1));
-    assert!(&rt;
-        device.moved(1) == None && device.gave_up(1) == None && device.prepared(2) == None
-    );
-    assert!(&rt; device.phase() == Some(Phase::Preparing));
-    assert!(&rt; device.prepared(1) == Some(Answer::StandingBy(1)));
-    assert!(&rt; device.prepared(1) == None && device.cannot(2) == None);
-    assert!(&rt; device.phase() == Some(Phase::Ready));
+    let _ = device.prepared();
+    let _ = device.hear(&Command::Go { seq: 1 });
+    let _ = device.hear(&standby(&rt, 2));
+    assert!(&rt; device.cannot() == Ok(None));
+    assert!(&rt; device.doing() == None);
+    assert!(&rt; device.hear(&standby(&rt, 3)).order == Some(Order::Prepare(3)));
 }

@@ -1,12 +1,14 @@
 -- A rehearsed device: how long its machine takes, and what it reports to the device at the end.
-use Rattle.std.specs.Prelude.{ℕ, ◌+◌, ◌-◌, Bool, true, false, Option, Some, None, nat_le, if◌then◌else◌}
+use Rattle.std.specs.Prelude.{ℕ, ◌+◌, ◌-◌, Bool, true, false, Option, Some, None, Result, Ok, Err, nat_le}
+use Rattle.std.specs.Prelude.{if◌then◌else◌}
 use Rattle.cue_device.specs.declared.hearing.Device.{Device}
 use Rattle.cue_device.specs.declared.hearing.Told.{Told}
 use Rattle.cue_device.specs.declared.hearing.Told.TheVariants.{Prepared, Moved, GaveUp, Cannot}
 use Rattle.cue_device.specs.declared.words.Answer.{Answer}
 use Rattle.cue_device.specs.declared.words.Order.{Order}
 use Rattle.cue_device.specs.declared.words.Order.TheVariants.{Prepare, Move, GiveUp}
-use Rattle.cue_device.specs.Hearing.{after_told, answer_told, ordered_for}
+use Rattle.cue_device.specs.declared.hearing.ReportFault.{ReportFault}
+use Rattle.cue_device.specs.Hearing.{after_call, answer_call, reported_for}
 use Rattle.cue_rehearsal.specs.declared.manner.Fate.{Fate}
 use Rattle.cue_rehearsal.specs.declared.manner.Fate.TheVariants.{Plays, Silent, Refuses, Fails}
 use Rattle.cue_rehearsal.specs.declared.manner.Manner.{Manner}
@@ -50,24 +52,33 @@ abbrev pub due : ℕ → Option Work → Option Order
 due now None = None
 due now (Some work) = if nat_le work.takes (now - work.since) then Some work.order else None
 
--- what the machine reports at the end of an order that it carries out
-abbrev pub report_of : Order → Told
-report_of (Prepare q) = Prepared q
-report_of (Move q) = Moved q
-report_of (GiveUp q) = GaveUp q
+-- what the machine reports, for this number, at the end of an order that it carries out
+abbrev pub report_of : Order → ℕ → Told
+report_of (Prepare q) n = Prepared n
+report_of (Move q) n = Moved n
+report_of (GiveUp q) n = GaveUp n
 
 -- and at the end of any order
-abbrev pub told_at_end : Fate → Order → Told
-told_at_end fate order = if breaks_at fate order then Cannot (ordered_for order) else report_of order
+abbrev pub told_at_end : Fate → Order → ℕ → Told
+told_at_end fate order n = if breaks_at fate order then Cannot n else report_of order n
 
 -- a device whose machine is at rest
 abbrev pub player_of : Device → Manner → Player
 player_of d m = record { device = d; manner = m; work = None }
 
+-- what it reports then, for the order that the device is doing
+abbrev pub told_by : Order → Player → Told
+told_by order p = told_at_end p.manner.fate order (reported_for p.device)
+
 -- after the end of an order the machine is at rest, and the device knows what became of it
 abbrev pub after_end : Order → Player → Player
-after_end order p = record p { device = after_told (told_at_end p.manner.fate order) p.device; work = None }
+after_end order p = record p { device = after_call (told_by order p) p.device; work = None }
+
+-- the answer where a report was in time
+abbrev pub answer_in : Result (Option Answer) ReportFault → Option Answer
+answer_in (Ok answer) = answer
+answer_in (Err fault) = None
 
 -- what the device answers then
 abbrev pub answer_at_end : Order → Player → Option Answer
-answer_at_end order p = answer_told (told_at_end p.manner.fate order) p.device
+answer_at_end order p = answer_in (answer_call (told_by order p) p.device)

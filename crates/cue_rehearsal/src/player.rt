@@ -5,7 +5,7 @@ ghost use Rattle.cue_device.specs.Hearing.{answer_ticked, device_at_rest};
 ghost use Rattle.cue_rehearsal.specs.Playing.{after_end, answer_at_end, begun, due, is_silent, player_of, work_after};
 
 use crate::manner::Manner;
-use cue_device::{Answer, Device, MAX_ANSWER, Order};
+use cue_device::{Answer, Device, MAX_ANSWER, Order, ReportFault};
 use cue_show::DeviceNo;
 
 /// What the machine does.
@@ -101,13 +101,18 @@ impl Player {
         ensures said { result ≡ answer_at_end order self.old }
     {
         self.work = None;
-        if self.manner.fate.breaks_at(order) {
-            return self.device.cannot(order.seq());
-        }
-        match order {
-            Order::Prepare(seq) => self.device.prepared(seq),
-            Order::Move(seq) => self.device.moved(seq),
-            Order::GiveUp(seq) => self.device.gave_up(seq),
+        let reported = if self.manner.fate.breaks_at(order) {
+            self.device.cannot()
+        } else {
+            match order {
+                Order::Prepare(_) => self.device.prepared(),
+                Order::Move(_) => self.device.moved(),
+                Order::GiveUp(_) => self.device.gave_up(),
+            }
+        };
+        match reported {
+            Ok(answer) => answer,
+            Err(ReportFault::NotOrdered) => None,
         }
     }
 

@@ -108,13 +108,21 @@ impl Evening {
         match self.stage.chance.up_to(99) {
             0..=5 => return self.ask(alloc, engine, &STANDBYS),
             6..=17 => return self.ask(alloc, engine, &GOES),
-            18 => return self.ask(alloc, engine, &OTHERS),
+            18 => {
+                let went = self.ask(alloc, engine, &OTHERS)?;
+                self.stage.record.blames_no_device(engine.last_batch())?;
+                return Ok(went);
+            }
             19..=23 => return self.take(alloc, engine, Input::Tick),
-            24 => return self.meddle(alloc, engine),
+            24 => {
+                let went = self.meddle(alloc, engine)?;
+                self.stage.record.blames_no_device(engine.last_batch())?;
+                return Ok(went);
+            }
             25..=49 => return self.hear(alloc, engine),
             50..=77 => self.stage.deliver()?,
             78..=97 => self.stage.work()?,
-            98 => self.stage.restart(),
+            98 => self.stage.restart()?,
             _ => self.hand_out(alloc, engine)?,
         }
         Ok(Went::On)

@@ -26,6 +26,13 @@ pub(crate) struct Record {
     decided: Vec<u32>,
     /// The attempts whose Cancel is in the kept batches.
     cancelled: Vec<u32>,
+    /// Each device that has failed in an attempt, by the kept batches.
+    failed: Vec<Part>,
+    /// Each device that has a reason to fail in an attempt: its machine could not go on, or the operator released it,
+    /// or a stranger aborted in its name.
+    reasons: Vec<Part>,
+    /// Each device that restarted, with the number that it kept: a reason in each attempt up to that.
+    restarted: Vec<Part>,
 }
 
 // The numbers of the required devices of a cue.
@@ -48,7 +55,33 @@ impl Record {
             started: Vec::new(alloc),
             decided: Vec::new(alloc),
             cancelled: Vec::new(alloc),
+            failed: Vec::new(alloc),
+            reasons: Vec::new(alloc),
+            restarted: Vec::new(alloc),
         }
+    }
+
+    /// The device has a reason to fail in the attempt.
+    pub(crate) fn has_reason(&mut self, part: Part) -> Result<(), AllocError> {
+        self.reasons.push(part)?;
+        Ok(())
+    }
+
+    /// No device is to blame for what has failed by this batch: it came of an operator or a stranger.
+    pub(crate) fn blames_no_device(&mut self, batch: &[Event]) -> Result<(), AllocError> {
+        for event in batch {
+            if let Event::Failed(seq, device) = event {
+                let (device, seq) = (*device, *seq);
+                self.reasons.push(Part { device, seq })?;
+            }
+        }
+        Ok(())
+    }
+
+    /// The device restarted, and had kept this number.
+    pub(crate) fn restarts(&mut self, part: Part) -> Result<(), AllocError> {
+        self.restarted.push(part)?;
+        Ok(())
     }
 
     /// The device was ordered to move.
@@ -83,7 +116,11 @@ impl Record {
                 Event::Cancel(seq, _) => self.cancelled.push(*seq)?,
                 Event::Device(..) | Event::NoDevice(_) | Event::Cue(..) | Event::NoCue(_) => {}
                 Event::Place(_) | Event::Ready(..) | Event::Done(..) | Event::LetGo(..) => {}
-                Event::Failed(..) | Event::Excuse(..) => {}
+                Event::Failed(seq, device) => {
+                    let (device, seq) = (*device, *seq);
+                    self.failed.push(Part { device, seq })?;
+                }
+                Event::Excuse(..) => {}
             }
         }
         Ok(())
@@ -150,11 +187,24 @@ impl Record {
         self.moved.iter().all(|part| self.is_consented(part.seq))
     }
 
-    /// The laws hold now; the fourth where only devices answered.
+    // The device has a reason to fail in the attempt.
+    fn may_fail(&self, part: Part) -> bool {
+        let has_restarted = self.restarted.iter().any(|other| other.device == part.device
+            && part.seq <= other.seq);
+        has_restarted || self.reasons.contains(&part)
+    }
+
+    // The fifth: a device that did all that it was ordered fails in no attempt that was decided, whatever copies came.
+    fn fails_with_reason(&self) -> bool {
+        self.failed.iter().all(|part| !self.decided.contains(&part.seq) || self.may_fail(*part))
+    }
+
+    /// The laws hold now; the fourth and the fifth where only devices answered.
     pub(crate) fn look(&self, rt: &impl Abort, state: &State, only_devices_answer: bool) {
         assert!(rt; self.moves_rest_on_decisions(state));
         assert!(rt; self.is_not_by_halves());
         assert!(rt; self.moves_once());
         assert!(rt; !only_devices_answer || self.moves_with_consent());
+        assert!(rt; !only_devices_answer || self.fails_with_reason());
     }
 }

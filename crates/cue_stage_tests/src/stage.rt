@@ -160,23 +160,31 @@ impl Stage {
         let Some(device) = self.devices.get_mut(place) else {
             return Ok(());
         };
+        let broken = device.doing().filter(|_| breaks);
         let told = match device.doing() {
-            Some(order) if breaks => device.cannot(order.seq()),
-            Some(Order::Prepare(seq)) => device.prepared(seq),
-            Some(Order::Move(seq)) => device.moved(seq),
-            Some(Order::GiveUp(seq)) => device.gave_up(seq),
-            None => device.tick(),
+            Some(_) if breaks => device.cannot(),
+            Some(Order::Prepare(_)) => device.prepared(),
+            Some(Order::Move(_)) => device.moved(),
+            Some(Order::GiveUp(_)) => device.gave_up(),
+            None => Ok(device.tick()),
         };
         let device = *device;
-        self.answer(device, told)
+        if let Some(order) = broken {
+            let (device, seq) = (device.number(), order.seq());
+            self.record.has_reason(Part { device, seq })?;
+        }
+        self.answer(device, told.unwrap_or(None))
     }
 
-    /// A device restarts, with the last number that it kept.
-    pub(crate) fn restart(&mut self) {
+    /// A device restarts, with the last number that it kept. It says so when its machine is next at rest.
+    pub(crate) fn restart(&mut self) -> Result<(), AllocError> {
         let place = self.chance.up_to(3) as usize;
-        if let Some(device) = self.devices.get_mut(place) {
-            *device = Device::new(device.number(), device.last());
+        if let Some(state) = self.devices.get_mut(place) {
+            let (device, seq) = (state.number(), state.last());
+            *state = Device::restarted(device, seq);
+            self.record.restarts(Part { device, seq })?;
         }
+        Ok(())
     }
 
     /// An answer that a device gave, now or before.

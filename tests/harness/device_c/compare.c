@@ -21,7 +21,7 @@ static struct cue_answer answer;
 static struct table table;
 static uint8_t datagram[200];
 static size_t length;
-static unsigned long orders, answers, passed_over, count, seed_given;
+static unsigned long orders, answers, refused, passed_over, count, seed_given;
 
 static void differ(const char *what, const char *call)
 {
@@ -37,28 +37,39 @@ static void differ(const char *what, const char *call)
 /* The whole state and the whole answer are those of the table. */
 static void compare(const char *call, uint32_t order, struct outcome wanted)
 {
-    struct cue_device state = {table.number, table.last, table.phase, table.doing, table.doing_number, table.unheard,
-                               0, 0, {0}, {0}};
-    struct cue_answer said = {0, {0}};
+    struct cue_device state = {CUE_MAGIC, sizeof state, table.number, table.last, table.phase, table.doing,
+                               table.doing_number, table.unheard, 0, 0, {0}, {0}, table.controller, table.only};
+    struct cue_answer said = {0, {{0}}, {0}};
     if (table.has_task) {
         state.cue_length = table.task.cue_length;
         state.bytes_length = table.task.bytes_length;
         memcpy(state.cue, table.task.cue, 16);
         memcpy(state.bytes, table.task.bytes, 32);
     }
-    if (wanted.word != SILENCE)
+    if (wanted.word != SILENCE) {
         said.length = (uint32_t)put_answer(said.bytes, table.number, wanted.word, wanted.number);
+        said.to = table.controller;
+    } else {
+        answer.to = said.to; /* it says nothing */
+    }
     if (order != wanted.order)
         differ("the order", call);
     if (memcmp(&state, &device, sizeof state))
         differ("the state", call);
     if (memcmp(&said, &answer, sizeof said))
         differ("the answer", call);
-    orders += order != CUE_NO_ORDER;
+    orders += order != CUE_NO_ORDER && order != CUE_BAD_CALL;
+    refused += order == CUE_BAD_CALL;
     answers += said.length > 0;
 }
 
 /* ---- random events */
+
+/* One of three senders. */
+static struct cue_place place(void)
+{
+    return cue_place_of(0x7f000001, (uint16_t)(9100 + below(below(2) ? 1 : 3)));
+}
 
 static void begin(void)
 {
@@ -68,7 +79,19 @@ static void begin(void)
     table.last = LAST[below(7)];
     memset(&device, 0xa5, sizeof device);
     memset(&answer, 0, sizeof answer);
-    compare("cue_new", cue_new(&device, table.number, table.last), (struct outcome){0, 0, 0});
+    if (table.last == 0 && below(2)) {
+        compare("cue_new", cue_new(&device, table.number), (struct outcome){0, 0, 0});
+    } else {
+        table.controller = place();
+        table.unheard = table.last > 0;
+        compare("cue_restarted", cue_restarted(&device, table.number, table.last, &table.controller, &answer),
+                table_tick(&table));
+    }
+    if (below(3) == 0) {
+        table.only = place();
+        memset(&answer, 0, sizeof answer);
+        compare("cue_hear_only", cue_hear_only(&device, &table.only), (struct outcome){0, 0, 0});
+    }
 }
 
 /* Mostly the number of the attempt, or one near it. */
@@ -144,28 +167,28 @@ static void hear(void)
     if (length > 0 && below(6) == 0)
         change();
     struct table before = table;
-    struct outcome wanted = table_hear(&table, datagram, length);
+    struct cue_place from = place();
+    struct outcome wanted = table_hear(&table, from, datagram, length);
     passed_over += wanted.order == 0 && wanted.word == 0 && !memcmp(&before, &table, sizeof table);
-    compare("cue_hear", cue_hear(&device, datagram, length, &answer), wanted);
+    compare("cue_hear", cue_hear(&device, &from, datagram, length, &answer), wanted);
 }
 
 /* The machine reports something: mostly the end of what it was ordered. */
 static void report(void)
 {
     uint32_t order = table.doing && below(8) ? table.doing : 1 + below(3);
-    uint32_t of = table.doing && below(8) ? table.doing_number : number();
     length = 0;
     uint32_t chance = below(12);
     if (chance == 0)
-        compare("cue_cannot", cue_cannot(&device, of, &answer), table_cannot(&table, of));
+        compare("cue_cannot", cue_cannot(&device, &answer), table_cannot(&table));
     else if (chance == 1)
         compare("cue_tick", cue_tick(&device, &answer), table_tick(&table));
     else if (order == CUE_PREPARE)
-        compare("cue_prepared", cue_prepared(&device, of, &answer), table_told(&table, order, of));
+        compare("cue_prepared", cue_prepared(&device, &answer), table_told(&table, order));
     else if (order == CUE_MOVE)
-        compare("cue_moved", cue_moved(&device, of, &answer), table_told(&table, order, of));
+        compare("cue_moved", cue_moved(&device, &answer), table_told(&table, order));
     else
-        compare("cue_gave_up", cue_gave_up(&device, of, &answer), table_told(&table, order, of));
+        compare("cue_gave_up", cue_gave_up(&device, &answer), table_told(&table, order));
 }
 
 /* ---- calls that are none */
@@ -174,27 +197,30 @@ static void wants_bad_call(const char *what, struct cue_device bad)
 {
     static const uint8_t GO_1[] = "/msc/go_2pc\0,ii\0\0\0\0\1\0\0\0\3";
     struct cue_device before = bad;
-    uint32_t given[6];
+    struct cue_place from = place();
+    uint32_t given[7];
     answer.length = 1;
-    given[0] = cue_hear(&bad, GO_1, 24, &answer);
-    given[1] = cue_prepared(&bad, 1, &answer);
-    given[2] = cue_moved(&bad, 1, &answer);
-    given[3] = cue_gave_up(&bad, 1, &answer);
-    given[4] = cue_cannot(&bad, 1, &answer);
+    given[0] = cue_hear(&bad, &from, GO_1, 24, &answer);
+    given[1] = cue_prepared(&bad, &answer);
+    given[2] = cue_moved(&bad, &answer);
+    given[3] = cue_gave_up(&bad, &answer);
+    given[4] = cue_cannot(&bad, &answer);
     given[5] = cue_tick(&bad, &answer);
-    for (int i = 0; i < 6; i++)
+    given[6] = cue_hear_only(&bad, &from);
+    for (int i = 0; i < 7; i++)
         if (given[i] != CUE_BAD_CALL || answer.length != 0 || memcmp(&before, &bad, sizeof bad)) {
             printf("FAIL call %d of a state with %s is answered with %u\n", i, what, (unsigned)given[i]);
             exit(1);
         }
 }
 
-static void bad_calls(void)
+static void bad_states(void)
 {
     struct cue_device good, bad;
-    uint8_t byte = 0;
-    cue_new(&good, 3, 7);
+    cue_new(&good, 3);
 #define BAD(field, value) bad = good; bad.field = value; wants_bad_call(#field " " #value, bad)
+    BAD(magic, 0);
+    BAD(size, sizeof bad + 4);
     BAD(number, 112);
     BAD(number, 0xffffffff);
     BAD(phase, 8);
@@ -206,13 +232,34 @@ static void bad_calls(void)
     BAD(bytes_length, 33);
     memset(&bad, 0xff, sizeof bad);
     wants_bad_call("ones", bad);
-    int refused = cue_new(NULL, 3, 0) == CUE_BAD_CALL && cue_new(&bad, 112, 0) == CUE_BAD_CALL &&
-                  cue_new(&bad, 3, 0x80000000) == CUE_BAD_CALL && cue_hear(NULL, &byte, 1, &answer) == CUE_BAD_CALL &&
-                  cue_hear(&good, NULL, 1, &answer) == CUE_BAD_CALL && cue_hear(&good, &byte, 1, NULL) == CUE_BAD_CALL &&
-                  cue_hear(&good, &byte, 65536, &answer) == CUE_BAD_CALL && cue_tick(NULL, &answer) == CUE_BAD_CALL &&
-                  cue_moved(&good, 1, NULL) == CUE_BAD_CALL && cue_hear(&good, NULL, 0, &answer) == CUE_NO_ORDER;
-    printf("%s null pointers, states and numbers out of range are answered\n", refused ? "ok  " : "FAIL");
-    if (!refused)
+    memset(&bad, 0, sizeof bad);
+    wants_bad_call("zeros", bad);
+}
+
+static void bad_calls(void)
+{
+    struct cue_device good, bad;
+    struct cue_place from = place(), none = {{0}};
+    uint8_t byte = 0;
+    cue_new(&good, 3);
+    memset(&bad, 0, sizeof bad);
+    int refused_calls =
+        cue_new(NULL, 3) == CUE_BAD_CALL && cue_new(&bad, 112) == CUE_BAD_CALL && bad.magic == 0 &&
+        cue_device_new(&bad, 80, 3) == CUE_BAD_CALL && cue_device_restarted(&bad, 80, 3, 1, &from) == CUE_BAD_CALL &&
+        cue_restarted(&bad, 3, 0x80000000, &from, &answer) == CUE_BAD_CALL &&
+        cue_restarted(&bad, 3, 1, &none, &answer) == CUE_BAD_CALL && answer.length == 0 &&
+        cue_restarted(&bad, 3, 1, NULL, &answer) == CUE_BAD_CALL && bad.magic == 0 &&
+        cue_restarted(&bad, 3, 0, &none, &answer) == CUE_NO_ORDER && answer.length == 0 &&
+        cue_hear(NULL, &from, &byte, 1, &answer) == CUE_BAD_CALL &&
+        cue_hear(&good, NULL, &byte, 1, &answer) == CUE_BAD_CALL &&
+        cue_hear(&good, &from, NULL, 1, &answer) == CUE_BAD_CALL &&
+        cue_hear(&good, &from, &byte, 1, NULL) == CUE_BAD_CALL &&
+        cue_hear(&good, &from, &byte, 65536, &answer) == CUE_BAD_CALL && cue_tick(NULL, &answer) == CUE_BAD_CALL &&
+        cue_moved(&good, NULL) == CUE_BAD_CALL && cue_hear_only(&good, NULL) == CUE_BAD_CALL &&
+        cue_hear(&good, &from, NULL, 0, &answer) == CUE_NO_ORDER;
+    int is_place = cue_place_address(&from) == 0x7f000001 && cue_place_port(&from) >= 9100;
+    printf("%s null pointers, states and numbers out of range are answered\n", refused_calls ? "ok  " : "FAIL");
+    if (!refused_calls || !is_place)
         exit(1);
 }
 
@@ -235,6 +282,7 @@ int main(int words, char **word)
     unsigned long wanted = words > 1 ? strtoul(word[1], NULL, 10) : 1000000;
     seed_given = words > 2 ? strtoul(word[2], NULL, 10) : 1;
     seed = seed_given * 0x9e3779b97f4a7c15ULL + 1;
+    bad_states();
     bad_calls();
     begin();
     for (count = 1; count <= wanted; count++) {
@@ -249,7 +297,7 @@ int main(int words, char **word)
     }
     count--;
     all_cells();
-    printf("ok   %lu events of seed %lu: %lu orders, %lu answers, %lu datagrams passed over, and none differs\n", count,
-           seed_given, orders, answers, passed_over);
+    printf("ok   %lu events of seed %lu: %lu orders, %lu answers, %lu reports refused, %lu datagrams passed over, and "
+           "none differs\n", count, seed_given, orders, answers, refused, passed_over);
     return 0;
 }

@@ -135,7 +135,7 @@ static const struct cell SAME[4][8] = {
         [CUE_PREPARING] = {CUE_PREPARING, CUE_NO_ORDER, SILENCE},
         [CUE_READY] = {CUE_READY, CUE_NO_ORDER, STANDING_BY},
         [CUE_MOVING] = {CUE_MOVING, CUE_NO_ORDER, SILENCE},
-        [CUE_DONE] = {CUE_DONE, CUE_NO_ORDER, ABORT},
+        [CUE_DONE] = {CUE_DONE, CUE_NO_ORDER, SILENCE},
         [CUE_LETTING_GO] = {CUE_LETTING_GO, CUE_NO_ORDER, SILENCE},
         [CUE_LET_GO] = {CUE_LET_GO, CUE_NO_ORDER, ABORT},
         [CUE_FAILED] = {CUE_FAILED, CUE_NO_ORDER, ABORT},
@@ -153,7 +153,7 @@ static const struct cell SAME[4][8] = {
         [CUE_PREPARING] = {CUE_LETTING_GO, CUE_GIVE_UP, SILENCE},
         [CUE_READY] = {CUE_LETTING_GO, CUE_GIVE_UP, SILENCE},
         [CUE_MOVING] = {CUE_MOVING, CUE_NO_ORDER, SILENCE},
-        [CUE_DONE] = {CUE_DONE, CUE_NO_ORDER, SILENCE},
+        [CUE_DONE] = {CUE_DONE, CUE_NO_ORDER, CANCELLED},
         [CUE_LETTING_GO] = {CUE_LETTING_GO, CUE_NO_ORDER, SILENCE},
         [CUE_LET_GO] = {CUE_LET_GO, CUE_NO_ORDER, CANCELLED},
         [CUE_FAILED] = {CUE_FAILED, CUE_NO_ORDER, CANCELLED},
@@ -216,28 +216,40 @@ static struct outcome obey(struct table *device, enum command command, uint32_t 
     return enter(device, SAME[row][device->phase]);
 }
 
-struct outcome table_hear(struct table *device, const uint8_t *datagram, size_t length)
+static int is_place(struct cue_place a, struct cue_place b)
 {
+    return !memcmp(&a, &b, sizeof a);
+}
+
+struct outcome table_hear(struct table *device, struct cue_place from, const uint8_t *datagram, size_t length)
+{
+    static const struct cue_place NONE;
     uint32_t number;
     struct task task;
+    if (!is_place(device->only, NONE) && !is_place(device->only, from))
+        return outcome(CUE_NO_ORDER, SILENCE, 0);
     for (int command = STANDBY; command < COMMANDS; command++)
-        if (is_command((enum command)command, device, datagram, length, &number, &task))
+        if (is_command((enum command)command, device, datagram, length, &number, &task)) {
+            device->controller = from;
             return obey(device, (enum command)command, number, &task);
+        }
     if (is_reply_to_abort(device, datagram, length))
         device->unheard = 0;
     return outcome(CUE_NO_ORDER, SILENCE, 0);
 }
 
 /* The machine reports the end of an order. */
-struct outcome table_told(struct table *device, uint32_t order, uint32_t number)
+struct outcome table_told(struct table *device, uint32_t order)
 {
     static const struct {
         uint32_t from, to, word;
     } END[] = {[CUE_PREPARE] = {CUE_PREPARING, CUE_READY, STANDING_BY},
                [CUE_MOVE] = {CUE_MOVING, CUE_DONE, COMPLETE},
                [CUE_GIVE_UP] = {CUE_LETTING_GO, CUE_LET_GO, CANCELLED}};
-    if (device->doing == order && device->doing_number == number)
-        device->doing = device->doing_number = 0;
+    uint32_t number = device->doing_number;
+    if (device->doing != order)
+        return outcome(CUE_BAD_CALL, SILENCE, 0);
+    device->doing = device->doing_number = 0;
     if (number != device->last || device->phase != END[order].from)
         return outcome(CUE_NO_ORDER, SILENCE, 0);
     device->phase = END[order].to;
@@ -245,12 +257,13 @@ struct outcome table_told(struct table *device, uint32_t order, uint32_t number)
 }
 
 /* The machine reports that it cannot go on. */
-struct outcome table_cannot(struct table *device, uint32_t number)
+struct outcome table_cannot(struct table *device)
 {
-    if (device->doing_number == number)
-        device->doing = device->doing_number = 0;
+    int is_at_work = device->doing != CUE_NO_ORDER;
+    uint32_t number = is_at_work ? device->doing_number : device->last;
+    device->doing = device->doing_number = 0;
     if (number != device->last || device->phase == CUE_OVER || device->phase == CUE_DONE || device->phase == CUE_LET_GO)
-        return outcome(CUE_NO_ORDER, SILENCE, 0);
+        return outcome(is_at_work ? CUE_NO_ORDER : CUE_BAD_CALL, SILENCE, 0);
     device->phase = CUE_FAILED;
     device->unheard = 1;
     return outcome(CUE_NO_ORDER, ABORT, number);

@@ -21,9 +21,10 @@ struct table {
     uint32_t number, last, phase, doing, doing_number, unheard;
     int has_task;
     struct task task;
+    struct cue_place controller, only;
 };
 
-/* What comes of it. */
+/* What comes of it; `order` is what the call gives. */
 struct outcome {
     uint32_t order, word, number;
 };
@@ -35,9 +36,9 @@ size_t put_command(uint8_t *out, enum command command, uint32_t number, uint32_t
 size_t put_reply(uint8_t *out, const char *text, const uint32_t codes[4]);
 size_t put_answer(uint8_t *out, uint32_t device, uint32_t word, uint32_t number);
 
-struct outcome table_hear(struct table *device, const uint8_t *datagram, size_t length);
-struct outcome table_told(struct table *device, uint32_t order, uint32_t number);
-struct outcome table_cannot(struct table *device, uint32_t number);
+struct outcome table_hear(struct table *device, struct cue_place from, const uint8_t *datagram, size_t length);
+struct outcome table_told(struct table *device, uint32_t order);
+struct outcome table_cannot(struct table *device);
 struct outcome table_tick(const struct table *device);
 
 #endif

@@ -34,14 +34,7 @@ pub(super) const SAME: [Cell; 28] = [
         Phase::Ready,
     ),
     (Phase::Moving, Sent::Standby, 5, None, None, Phase::Moving),
-    (
-        Phase::Done,
-        Sent::Standby,
-        5,
-        None,
-        Some(Answer::Abort(5)),
-        Phase::Done,
-    ),
+    (Phase::Done, Sent::Standby, 5, None, None, Phase::Done),
     (
         Phase::LettingGo,
         Sent::Standby,
@@ -188,7 +181,14 @@ pub(super) const SAME: [Cell; 28] = [
         Phase::LettingGo,
     ),
     (Phase::Moving, Sent::Cancel, 5, None, None, Phase::Moving),
-    (Phase::Done, Sent::Cancel, 5, None, None, Phase::Done),
+    (
+        Phase::Done,
+        Sent::Cancel,
+        5,
+        None,
+        Some(Answer::Cancelled(5)),
+        Phase::Done,
+    ),
     (
         Phase::LettingGo,
         Sent::Cancel,

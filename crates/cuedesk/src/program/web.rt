@@ -6,7 +6,6 @@ use super::PORT;
 use super::files::read_file;
 use super::reading::Store;
 use super::saying::{print, say};
-use super::wire::Wire;
 use crate::line::web::Web;
 use cue_desk::ending::Ending;
 use cue_request::request::Door;
@@ -88,7 +87,7 @@ impl Hall {
     }
 
     // One round over all connections.
-    fn serve<R: Files<File = File> + Clock + AllocGlobal>(
+    fn serve<R: Files<File = File> + Net + Clock + Eprint + AllocGlobal>(
         &mut self,
         rt: &R,
         door: &Door<'_>,
@@ -113,7 +112,7 @@ impl Hall {
 }
 
 // Serves until a signal ends it.
-fn serve_on<R: Files<File = File> + Clock + AllocGlobal>(
+fn serve_on<R: Files<File = File> + Net + Clock + Eprint + AllocGlobal>(
     rt: &R,
     hall: &mut Hall,
     door: &Door<'_>,
@@ -145,7 +144,6 @@ fn open_desk<R: Files<File = File> + Net + Clock + Eprint + AllocGlobal>(
         None => None,
     };
     let named = file.as_ref().and_then(|file| file.port);
-    let wire = Wire::new(rt, web.port.or(named).unwrap_or(PORT))?;
     let alloc = rt.alloc();
     let relay = match &web.relay {
         Some(path) => Some(path.clone()?),
@@ -156,7 +154,7 @@ fn open_desk<R: Files<File = File> + Net + Clock + Eprint + AllocGlobal>(
         store,
         file,
         relay,
-        wire,
+        port: web.port.or(named).unwrap_or(PORT),
     };
     Ok(Desk::new(alloc, sources, token)?)
 }

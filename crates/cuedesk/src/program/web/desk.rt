@@ -15,6 +15,8 @@ use cue_request::request::Refusal;
 use cue_show_file::{ShowFile, of_show, written};
 use std::alloc::{AllocError, Global};
 use std::fs::{File, Files};
+use std::io::Eprint;
+use std::net::Net;
 use std::time::Clock;
 
 /// What the page is answered from.
@@ -25,8 +27,8 @@ pub struct Sources {
     pub file: Option<ShowFile>,
     /// The file in which a relay reports.
     pub relay: Option<String>,
-    /// The controller.
-    pub wire: Wire,
+    /// The port of the controller.
+    pub port: u16,
 }
 
 /// A page, and what it is answered from.
@@ -38,9 +40,15 @@ pub struct Desk {
     policy: String,
 }
 
-// Asks one thing of the controller, once.
-fn ask(alloc: Global, wire: &Wire, asked: &Asked<'_>) -> Result<Told, Ending> {
-    let answered = wire.ask_once(alloc, asked)?;
+// Asks one thing of the controller, once, by a socket of its own: a reply that comes too late to one press is no answer
+// to another one.
+fn ask<R: Net + Eprint + AllocGlobal>(
+    rt: &R,
+    port: u16,
+    asked: &Asked<'_>,
+) -> Result<Told, Ending> {
+    let wire = Wire::new(rt, port)?;
+    let answered = wire.ask_once(rt.alloc(), asked)?;
     Ok(told_of(answered))
 }
 
@@ -135,17 +143,21 @@ impl Desk {
     }
 
     // What became of a press.
-    fn command_answer(&self, alloc: Global, asked: Option<&Asked<'_>>) -> Result<String, Ending> {
+    fn command_answer<R: Net + Eprint + AllocGlobal>(
+        &self,
+        rt: &R,
+        asked: Option<&Asked<'_>>,
+    ) -> Result<String, Ending> {
         let told = match asked {
-            Some(asked) => ask(alloc, &self.sources.wire, asked)?,
+            Some(asked) => ask(rt, self.sources.port, asked)?,
             None => Told::Unread,
         };
-        let text = told_text(alloc, told)?;
-        Ok(json_answer(alloc, outcome_of(told), text.as_str())?)
+        let text = told_text(rt.alloc(), told)?;
+        Ok(json_answer(rt.alloc(), outcome_of(told), text.as_str())?)
     }
 
     /// What a connection is answered that asks this. It fails where memory ran out or the controller's socket failed.
-    pub fn answer<R: Files<File = File> + Clock + AllocGlobal>(
+    pub fn answer<R: Files<File = File> + Net + Clock + Eprint + AllocGlobal>(
         &mut self,
         rt: &R,
         asking: &Asking,
@@ -158,7 +170,7 @@ impl Desk {
             }
             Asking::Board => self.board_answer(rt)?,
             Asking::ShowFile => self.file_answer(rt)?,
-            Asking::Command(asked) => self.command_answer(alloc, asked.as_ref())?,
+            Asking::Command(asked) => self.command_answer(rt, asked.as_ref())?,
             Asking::Refused(refusal) => refused_answer(alloc, *refusal)?,
         })
     }

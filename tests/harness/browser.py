@@ -74,6 +74,15 @@ class Browser:
         """Whether the element comes to show this text."""
         return self.waits_for(lambda: text in self.text(name), seconds)
 
+    def sized(self, width=None, height=None):
+        """Gives the page a window of this size; without one, its own again."""
+        if width is None:
+            self.driver.execute_cdp_cmd("Emulation.clearDeviceMetricsOverride", {})
+        else:
+            self.driver.execute_cdp_cmd("Emulation.setDeviceMetricsOverride",
+                                        {"width": width, "height": height, "deviceScaleFactor": 1, "mobile": False})
+        time.sleep(0.3)
+
     def picture(self, path):
         self.driver.save_screenshot(str(path))
 

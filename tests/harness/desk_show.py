@@ -28,13 +28,22 @@ class DeskShow:
 
     def board(self):
         """The board, printed once."""
-        return serving.run(self.desk, "board", self.folder, self.file, "--once")
+        return self.ask("board", self.folder, self.file, "--once")
 
-    def waits_for(self, what, seconds=10.0):
-        """Whether the board says this in time."""
+    def waits(self, holds, seconds=10.0):
+        """Whether the board comes to be so in time."""
         end = time.monotonic() + seconds
         while time.monotonic() < end:
-            if what in self.board()[0]:
+            if holds(self.board()[0]):
                 return True
             time.sleep(0.05)
         return False
+
+    def waits_for(self, what, seconds=10.0):
+        """Whether the board says this in time."""
+        return self.waits(lambda board: what in board, seconds)
+
+    def waits_for_end(self, cue, how, seconds=10.0):
+        """Whether the board says in time that the last cue ended so."""
+        line = re.compile(f"^LAST   cue {re.escape(cue)}( [^:]*)?: {how}", re.M)
+        return self.waits(line.search, seconds)

@@ -29,10 +29,13 @@ class Evening:
         self.serve = serving.served(cuectl, self.folder)
         self.file.write_text(text)
         check("the show is loaded", serving.run(desk, "load", self.file, "--port", self.serve.port)[1] == 0)
-        self.children, self.http = {}, free_tcp()
-        words = ["web", self.folder, self.file, "--http", self.http, "--port", self.serve.port]
-        words += ["--relay", relay] if relay else []
-        self.page = subprocess.Popen([desk, *map(str, words)], stdout=subprocess.PIPE)
+        self.children, self.http, self.relay, self.port = {}, free_tcp(), relay, self.serve.port
+        self.start_page()
+
+    def start_page(self):
+        words = ["web", self.folder, self.file, "--http", self.http, "--port", self.port]
+        words += ["--relay", self.relay] if self.relay else []
+        self.page = subprocess.Popen([self.desk, *map(str, words)], stdout=subprocess.PIPE)
         self.children["page"] = self.page
         check("the page says where it is", f"http://127.0.0.1:{self.http}/".encode() in self.page.stdout.readline())
 
@@ -63,10 +66,13 @@ class Evening:
 
     def power_is_lost(self):
         """`kill -9` of the controller, and its start again at the same port."""
-        port = self.serve.port
         self.serve.kill()
+        self.serves(self.folder)
+
+    def serves(self, folder):
+        """Starts the controller of this folder at the port of the evening."""
         said = tempfile.NamedTemporaryFile()
-        words = [self.cuectl, "serve", str(self.folder), "--port", str(port), "--turns", "1000000000"]
+        words = [self.cuectl, "serve", str(folder), "--port", str(self.port), "--turns", "1000000000"]
         self.serve.child = subprocess.Popen(words, stdout=subprocess.PIPE, stderr=said)
         self.serve.said = said
         check("the controller is there again", self.serve.ready())
@@ -87,9 +93,13 @@ class Evening:
                 got += piece
             return got
 
-    def ask(self, body=b"goto 2", method="POST", target="/command", length=None, **fields):
+    def body(self, press="goto 2"):
+        """The body of a press of the newest view."""
+        return f"{self.view()['number']} {press}".encode()
+
+    def ask(self, body=None, method="POST", target="/command", length=None, **fields):
         """A request as the page itself makes it, but for what is said otherwise; none leaves a field out."""
-        home = f"127.0.0.1:{self.http}"
+        home, body = f"127.0.0.1:{self.http}", self.body() if body is None else body
         head = {"Host": home, "Origin": f"http://{home}", "Cuedesk_Token": self.token,
                 "Content_Length": len(body) if length is None else length, **fields}
         lines = [f"{name.replace('_', '-')}: {value}" for name, value in head.items() if value is not None]
@@ -99,8 +109,44 @@ class Evening:
         answer = self.send(f"GET /board.json HTTP/1.1\r\nHost: 127.0.0.1:{self.http}\r\n\r\n".encode())
         return json.loads(answer.split(b"\r\n\r\n", 1)[1])
 
+    def view(self):
+        """What the desk shows now."""
+        return self.board()["view"]
+
     def place(self):
-        return self.board()["next"]["cue"]
+        return self.view()["next"]["cue"]
+
+    def waits_for(self, holds, seconds=5.0):
+        """Whether it comes to hold of the view in time."""
+        end = time.monotonic() + seconds
+        while time.monotonic() < end:
+            if holds(self.view()):
+                return True
+            time.sleep(0.05)
+        return False
+
+    def press(self, kind, of, seconds=5.0):
+        """Presses the button for this cue or device once it is lit; what became of it, in one word."""
+        end = time.monotonic() + seconds
+        while time.monotonic() < end:
+            view = self.view()
+            for lit in view["lit"]:
+                if lit["kind"] == kind and of in (lit["cue"], lit["device"], lit["attempt"]):
+                    return self.press_text(view["number"], lit["press"], end)
+            time.sleep(0.05)
+        return None
+
+    def press_text(self, number, press, end):
+        answer = self.ask(f"{number} {press}".encode())
+        view = json.loads(answer.split(b"\r\n\r\n", 1)[1])["view"]
+        while view["said"] and view["said"]["kind"] == "open" and time.monotonic() < end:
+            time.sleep(0.02)
+            view = self.view()
+        return view["said"] and view["said"]["kind"]
+
+    def tells(self, *words):
+        """A command from a terminal."""
+        return serving.run(self.desk, *words, "--port", self.serve.port)[1] == 0
 
     def memory(self):
         """What the page has of the machine's memory, in kB."""
@@ -151,6 +197,6 @@ def write_status(path, devices, now=None):
     lines = [f"relay 2 {now}", "passed 7 lost 0 dropped 2"]
     for number, (ago, silent) in devices.items():
         heard = "never" if ago is None else f"heard {now - 1000 * ago}"
-        lines.append(f"device {number} 10.0.7.31:{9000 + number} {heard}{' silent' if silent else ''}")
+        lines.append(f"device {number} 10.0.7.31:{9000 + number} {heard}{' standby silent' if silent else ''}")
     path.with_suffix(".new").write_text("\n".join([*lines, "end", ""]))
     path.with_suffix(".new").rename(path)

@@ -17,34 +17,59 @@ def begins(page, evening):
     page.open(f"http://127.0.0.1:{evening.http}/")
     check("the stack is shown", page.shows("stack", "Finale, all in"))
     check("names are texts", page.run("return document.querySelectorAll('#stack b, #stack script').length") == 0)
-    evening.ask(b"goto 1")
+    check("the place is moved", evening.press("goto", "1") == "made")
     check("where the place is, too", page.waits_for(lambda: SHOWN in page.text("next")))
     check("nothing is stood by", "Nothing is stood by" in page.text("live") and not page.find("go").is_enabled())
 
 
+def twice(page, name, asks, done):
+    """Presses a button that asks once more, until it is done: on a slow machine the three seconds may be over."""
+    for _ in range(4):
+        page.click(name)
+        if page.waits_for(lambda: "Press again" in page.text(asks), 2):
+            page.click(name)
+            if page.waits_for(done, 3):
+                return True
+    return False
+
+
 def goes_to(page, cue):
     """Moves the place to the cue, where it does not stand there already."""
-    time.sleep(0.4)
+    time.sleep(0.6)
     if page.text("standby-cue") != f"cue {cue}":
-        page.click(f"goto-{cue}")
+        moved = twice(page, f"goto-{cue}", "stack", lambda: page.text("standby-cue") == f"cue {cue}")
+        check("Move here asks once more", moved)
     check(f"cue {cue} is next", page.shows("standby-cue", f"cue {cue}"))
 
 
-def gives(page, evening, cue, last):
+def is_lit(page, cue=None):
+    """Whether GO lights in time, for this cue."""
+    return page.waits_for(lambda: page.find("go").is_enabled() and (cue is None or page.text("go-cue") == f"cue {cue}"))
+
+
+def ends(page, cue, outcome):
+    """Whether LAST comes to tell of the cue, and how it ended."""
+    return page.waits_for(lambda: page.text("last").startswith(f"cue {cue}") and f": {outcome}" in page.text("last"))
+
+
+def gives(page, evening, cue):
     """One cue by the buttons."""
     goes_to(page, cue)
     page.click("standby")
-    check("GO lights", page.waits_for(lambda: page.find("go").is_enabled() and page.text("go-cue") == f"cue {cue}"))
+    check("GO lights", is_lit(page, cue))
+    check("the card says that it is chosen", "CHOSEN" in page.text("live"))
     page.click("go")
-    check("GO is dead after a GO", not page.find("go").is_enabled())
-    check(f"it ends {last}", page.shows("last", last))
+    check("GO is dark after a GO", page.waits_for(lambda: not page.find("go").is_enabled(), 0.5))
+    check("it is said what became of it", page.shows("words", f"go {cue} "))
+    check("it ends complete", ends(page, cue, "complete"))
 
 
 def releases(page, device):
-    """Releases the device that has not answered."""
+    """Releases the device that has not answered: pressed twice."""
     button = f"return (document.querySelector('#live button[id$=\"-{device}\"]:enabled') || {{id: ''}}).id"
     check("who has not answered can be released", page.waits_for(lambda: page.run(button)))
-    page.click(page.run(button))
+    name = page.run(button)
+    check("Release asks once more", twice(page, name, "live", lambda: name != page.run(button)))
 
 
 def prepares(page, evening, pictures):
@@ -52,22 +77,34 @@ def prepares(page, evening, pictures):
     evening.play("--silent", "22")
     goes_to(page, "5")
     page.click("standby")
-    check("who has not answered is shown", page.shows("live", "waiting") and page.shows("live", "ready"))
+    check("who has not answered is shown", page.shows("live", "waiting for 22") and page.shows("live", "ready"))
     check("GO does not light", not page.find("go").is_enabled())
+    page.key(" ")
+    check("the space bar says for whom it waits", page.shows("words", "waits for device 22"))
     check("seconds are shown", re.search(r"\d\.\d s left", page.text("live")))
     if pictures:
         page.picture(pictures / "page-preparing.png")
         evening.printed, _, _ = serving.run(evening.desk, "board", evening.folder, evening.file, "--once")
-    said = page.run("return fetch('/command', {method: 'POST', headers: {'Cuedesk-Token': arguments[0]}, body: 'go 5'})"
-                    ".then(r => r.json())", evening.token)
-    check("a GO all the same is refused", said["outcome"] == "refused" and "not every device is ready" in said["words"])
+    attempt = evening.view()["live"][0]["attempt"]
+    said = page.run("return fetch('/command', {method: 'POST', headers: {'Cuedesk-Token': arguments[0]}, body: "
+                    "arguments[1]}).then(r => r.json())", evening.token, evening.body(f"go 5 {attempt}").decode())
+    check("a GO all the same is not sent", said["view"]["unsent"] == "not sent: the button was not lit")
     releases(page, 22)
     check("it is released and excused", page.shows("live", "excused"))
-    check("then GO lights", page.waits_for(lambda: page.find("go").is_enabled()))
+    check("then GO lights", is_lit(page, "5"))
     if pictures:
         page.picture(pictures / "page-ready.png")
     page.click("go")
-    check("the cue completes without it", page.shows("last", "attempt 2, complete"))
+    check("the cue completes without it", ends(page, "5", "complete") and page.shows("last", "without device 22"))
+
+
+def chooses(page, cue):
+    """Chooses the cue for GO and CANCEL, where it is not chosen."""
+    button = "return (document.querySelector('#live button[aria-label^=\"Choose cue ' + arguments[0] + ' \"]') " \
+             "|| {id: ''}).id"
+    if page.waits_for(lambda: page.run(button, cue), 1.5):
+        page.click(page.run(button, cue))
+    check(f"cue {cue} is chosen", page.waits_for(lambda: page.text("cancel-cue") == f"cue {cue}"))
 
 
 def is_refused(page, evening):
@@ -75,56 +112,62 @@ def is_refused(page, evening):
     evening.play()
     goes_to(page, "3")
     page.click("standby")
-    check("GO lights", page.waits_for(lambda: page.find("go").is_enabled()))
+    check("GO lights", is_lit(page))
     goes_to(page, "2")
     page.click("standby")
     check("the name of a device is a text", SHOWN in page.text("live"))
     check("the reason stands in words", page.waits_for(lambda: "busy" in page.text("words")))
     check("it is marked", page.find("words").get_attribute("class") == "refused")
+    chooses(page, "3")
     page.key(ESCAPE)
-    check("Esc gives it up", page.shows("last", "attempt 3, cancelled"))
+    check("Esc gives it up", ends(page, "3", "cancelled"))
 
 
 def keys(page, evening):
     goes_to(page, "1")
     page.key("s")
-    check("S stands by", page.waits_for(lambda: page.find("go").is_enabled()))
+    check("S stands by", is_lit(page, "1"))
     page.key(" ")
-    check("the space bar is GO", page.shows("last", "attempt 4, complete"))
-    live = evening.board()["live"]
+    check("the space bar is GO", ends(page, "1", "complete"))
+    said = evening.view()["said"]
     page.key(" ")
     time.sleep(0.7)
-    check("GO where nothing is ready sends nothing",
-          evening.board()["live"] == live and evening.serve.child.poll() is None)
+    check("GO where nothing is ready sends nothing", evening.view()["said"] == said)
+    check("and says so", "GO is not lit: no cue is stood by" in page.text("words"))
 
 
 def fails(page, evening, pictures):
     evening.play_apart(8)
     goes_to(page, "6")
     page.click("standby")
-    check("GO lights", page.waits_for(lambda: page.find("go").is_enabled()))
+    check("GO lights", is_lit(page))
     page.click("go")
     check("who failed is shown", page.waits_for(lambda: "failed" in page.text("live")))
     if pictures:
         page.picture(pictures / "page-failed.png")
-    check("it ends failed", page.shows("last", "failed"))
+    check("it ends failed, and by whom", ends(page, "6", "failed") and page.shows("alarms", "device 8"))
     evening.stop("apart")
+    check("the failure stays until it was seen", page.shows("alarms", "aborted"))
+    seen = page.run("return document.querySelector('#alarms button').id")
+    page.click(seen)
+    check("once it was seen it is an alarm no more", page.waits_for(lambda: not page.find("alarms").is_displayed()))
+    check("and LAST tells of it", "device 8" in page.text("last"))
 
 
 def loses_power(page, evening):
     evening.play(move=2500)
     goes_to(page, "7")
     page.click("standby")
-    check("GO lights", page.waits_for(lambda: page.find("go").is_enabled()))
+    check("GO lights", is_lit(page))
     evening.power_is_lost()
-    check("power lost before GO: the cue is cancelled", page.shows("last", "cancelled"))
+    check("power lost before GO: the cue is cancelled, and why", ends(page, "7", "cancelled: the power was lost"))
     check("GO is dark", not page.find("go").is_enabled())
     page.click("standby")
-    check("it is stood by again", page.waits_for(lambda: page.find("go").is_enabled()))
+    check("it is stood by again", is_lit(page, "7"))
     page.click("go")
     check("it is given", page.shows("live", "given"))
     evening.power_is_lost()
-    check("power lost after GO: the cue completes", page.shows("last", "complete"))
+    check("power lost after GO: the cue completes", ends(page, "7", "complete"))
 
 
 def second_tab(page, evening):
@@ -135,12 +178,11 @@ def second_tab(page, evening):
     check("a second tab shows the same", page.shows("stack", "Finale, all in"))
     goes_to(page, "8")
     page.click("standby")
-    check("GO lights there", page.waits_for(lambda: page.find("go").is_enabled()))
+    check("GO lights there", is_lit(page, "8"))
     page.driver.switch_to.window(first)
-    check("and in the first one",
-          page.waits_for(lambda: page.find("go").is_enabled() and "cue 8" in page.text("go-cue")))
+    check("and in the first one", is_lit(page, "8"))
     page.click("go")
-    check("GO by the first one is given", page.shows("last", "complete"))
+    check("GO by the first one is given", ends(page, "8", "complete"))
     page.driver.switch_to.window(page.driver.window_handles[-1])
     page.driver.close()
     page.driver.switch_to.window(first)
@@ -162,10 +204,9 @@ def hears(page, evening, relay, pictures):
     """When each device of a relay was heard, on the page and for a screen reader."""
     page.open(f"http://127.0.0.1:{evening.http}/")
     evening.read_token()
-    evening.ask(b"goto 5")
-    check("a status that is missing is reported", page.shows("relay", "No such file"))
+    check("the place is moved", evening.press("goto", "5") == "made")
     write_status(relay, {4: (3, False), 20: (3, False), 22: (None, False)})
-    check("when a device was heard stands there", page.shows("heard-4", "heard 3 s ago"))
+    check("when a device was heard stands there", page.shows("heard-4", "heard "))
     check("with its name", SHOWN in page.text("heard"))
     check("and that one was never heard", page.shows("heard-22", "never heard"))
     goes_to(page, "5")
@@ -173,7 +214,8 @@ def hears(page, evening, relay, pictures):
     check("beside what it has answered, too", page.waits_for(lambda: page.run(ROWS) > 0))
     write_status(relay, {1: (2, False), 3: (12, False), 20: (3, False), 22: (7, True)})
     check("who is silent is reported in words", page.shows("heard-22", "silent, heard 7 s ago"))
-    check("and to a screen reader", page.waits_for(lambda: "Device 22 Fog machine is silent" in page.run(SPOKEN)))
+    check("and is an alarm", page.shows("alarms", "device 22 Fog machine is silent"))
+    check("and to a screen reader", page.waits_for(lambda: "device 22 Fog machine is silent" in page.run(SPOKEN)))
     check("with contrast", page.run(CONTRAST)[0] >= 7)
     if pictures:
         page.picture(pictures / "page-relay.png")
@@ -181,9 +223,13 @@ def hears(page, evening, relay, pictures):
     write_status(relay, {1: (3, False), 3: (13, False), 20: (4, False), 22: (8, True)})
     check("the words change", page.shows("heard-22", "heard 8 s ago"))
     check("and what has the focus keeps it", page.run("return document.activeElement.id") == "release-1-22")
-    write_status(relay, {4: (4, False)}, 1_000_000)
-    check("a relay that has stopped is reported", page.shows("relay", "the relay has stopped"))
-    check("no device is shown as heard", page.text("heard") == "")
+    check("a relay that writes nothing new has stopped, and that is loud",
+          page.shows("alarm-0", "the relay has stopped"))
+    check("no device is shown as heard", page.waits_for(lambda: page.text("heard") == ""))
+    write_status(relay, {4: (4, False)}, time.time_ns() // 10**6 + 3_600_000)
+    check("a stamp of the future is that of a relay that writes", page.waits_for(
+        lambda: "the relay has stopped" not in page.text("alarms")))
+    check("and a stop of it is seen all the same", page.shows("alarm-0", "the relay has stopped"))
     check("the board stays", page.shows("stack", "Finale, all in") and page.text("age").startswith("read"))
 
 
@@ -206,7 +252,33 @@ for (const e of document.querySelectorAll('body *')) {
 return least.sort((x, y) => x[0] - y[0])[0];"""
 
 
-def is_readable(page, evening):
+WINDOWS = ((683, 384), (820, 1180), (1180, 820), (390, 844), (844, 390))
+HIDDEN = """
+return ['#next', '#live .attempt h3', '#live .waits', '#words', '#standby', '#cancel', '#go'].filter(name => {
+  const e = document.querySelector(name), r = e.getBoundingClientRect();
+  return [r.top + 3, r.bottom - 3].some(y => y < 0 || y > innerHeight ||
+    !e.contains(document.elementFromPoint(r.left + r.width / 2, y)));
+});"""
+AREAS = """return ['standby', 'cancel', 'go'].map(id => { const r = document.getElementById(id).getBoundingClientRect();
+  return r.width * r.height; })"""
+
+
+def in_windows(page, pictures):
+    """What is waited for is in sight in each window, as a browser's zoom of 200 % and phones make it."""
+    for width, height in WINDOWS:
+        page.sized(width, height)
+        hidden = page.run(HIDDEN)
+        check(f"in {width} by {height} what is next, live and waited for is in sight, but for {hidden}", hidden == [])
+        standby, cancel, go = page.run(AREAS)
+        check("GO is no smaller than the others", go >= standby and go >= cancel)
+        wide = page.run("return document.documentElement.scrollWidth <= innerWidth")
+        check("nothing is beside the window", wide)
+        if pictures:
+            page.picture(pictures / f"page-{width}x{height}.png")
+    page.sized()
+
+
+def is_readable(page, evening, pictures):
     """Names and roles for a screen reader, and contrast, while something is stood by."""
     evening.play("--silent", "22")
     goes_to(page, "5")
@@ -226,10 +298,11 @@ def is_readable(page, evening):
     least = page.run(CONTRAST)
     print(f"     the least contrast is {least[0]:.1f} to 1 ({least[1]})")
     check("contrast is at least 7 to 1", least[0] >= 7)
+    in_windows(page, pictures)
     page.key(ESCAPE)
     check("it is given up", page.shows("live", "given up"))
     releases(page, 22)
-    check("it ends once nobody waits for who is silent", page.shows("last", "cancelled"))
+    check("it ends once nobody waits for who is silent", ends(page, "5", "cancelled"))
 
 
 def sends_nothing(page, evening):
@@ -244,7 +317,8 @@ def sends_nothing(page, evening):
 
 def grows_old(page, evening):
     evening.stop("page")
-    check("a page without its desk says that it is old", page.shows("age", "OLD", 5))
+    check("a page without its desk says that it is old", page.shows("age", "OLD", 2.5))
+    check("and large", page.shows("alarm-0", "The desk does not answer"))
     check("and has no GO", not page.find("go").is_enabled() and not page.find("standby").is_enabled())
 
 
@@ -262,7 +336,7 @@ def in_browser(evening, pictures):
     try:
         evening.play()
         begins(page, evening)
-        gives(page, evening, "1", "attempt 1, complete")
+        gives(page, evening, "1")
         prepares(page, evening, pictures)
         is_refused(page, evening)
         keys(page, evening)
@@ -270,7 +344,7 @@ def in_browser(evening, pictures):
         loses_power(page, evening)
         second_tab(page, evening)
         follows(page, evening)
-        is_readable(page, evening)
+        is_readable(page, evening, pictures)
         sends_nothing(page, evening)
         grows_old(page, evening)
         check("the browser has nothing against the page", page.complaints() == [])

@@ -41,9 +41,9 @@ not given within {of.STANDBY} is cancelled
 in which they are added, {cue_show.MAX_CUES:,} at most
 up to {of.READINGS} times in all
 up to {cue_desk.MAX_TOGETHER} messages by one datagram
-The board wants {cue_desk.COLUMNS} columns and {cuedesk.ROWS} rows
+The board wants {cue_board.COLUMNS} columns and {cuedesk.ROWS} rows
 the last {of.LOG_LINES} lines of the log
-else that of the show file, else {cuedesk.PORT}
+else that of the show file, else {cue_desk.PORT}
 silent: it was sent an order, and has answered nothing for {of.SILENCE}
 or more than {cue_relay.RATE} of one device within {of.SECOND}
 at most {cue_relay.RATE} times in {of.SECOND}

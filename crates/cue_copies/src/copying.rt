@@ -58,8 +58,8 @@ struct Heads {
 /// The bytes of both files of a store.
 #[derive(Drop)]
 pub struct Copies {
-    first: Vec<u8>,
-    second: Vec<u8>,
+    pub(crate) first: Vec<u8>,
+    pub(crate) second: Vec<u8>,
 }
 
 /// Whether a store that another process serves is read again before this is said of it. Its files are not read at one
@@ -261,7 +261,11 @@ pub fn copy_at_once<D: Disk>(
 }
 
 // Disks in memory with these bytes.
-fn disks(alloc: Global, first: &[u8], second: &[u8]) -> Result<(MemDisk, MemDisk), AllocError>
+pub(crate) fn disks(
+    alloc: Global,
+    first: &[u8],
+    second: &[u8],
+) -> Result<(MemDisk, MemDisk), AllocError>
     ensures { IfOk result (λ disks. IsNew first.now disks.0 × IsNew second.now disks.1) }
 {
     Ok((

@@ -4,6 +4,9 @@
 
 mod copying;
 mod looking;
+mod reading;
+mod telling;
 
 pub use copying::{Copies, copy_at_once, copy_both, is_read_again, refusal_of};
 pub use looking::{MAX_READINGS, Seen, look, look_again};
+pub use reading::{Found, read, read_again};

@@ -1,4 +1,3 @@
 pub mod AskLemmas
-pub mod BoardLemmas
 pub mod ReadLemmas
 pub mod TakenLemmas

@@ -1,5 +1,5 @@
 -- What a reply of the controller says of the command that was asked.
-use Rattle.std.specs.Prelude.{◌≡◌, ◌==◌, if◌then◌else◌, pos, negsuc, ◌<ℤ◌, ◌≤ℤ◌, ℤ, Option, Some, None}
+use Rattle.std.specs.Prelude.{◌≡◌, ◌⊎◌, ◌==◌, if◌then◌else◌, pos, negsuc, ◌<ℤ◌, ◌≤ℤ◌, ℤ, Option, Some, None}
 use Rattle.cue_core.specs.Codes.{code_number}
 use Rattle.cue_core.specs.declared.command.Code.TheVariants.{NoMethod}
 use Rattle.cue_desk.specs.declared.answered.Answered.{Answered}
@@ -17,6 +17,14 @@ Tells (replied.Reply made known refused code) answered.Known = (refused ≤ℤ p
 Tells (replied.Status status) (answered.Refused told) = ⊥
 Tells (replied.Status status) answered.Made = ⊥
 Tells (replied.Status status) answered.Known = Unit {0}
+
+-- exactly one command was made, was known or was refused
+abbrev pub IsOfOne : Replied → Type 0
+IsOfOne (replied.Reply made known refused code) =
+    ((made ≡ pos 1) × (known ≡ pos 0) × (refused ≡ pos 0))
+    ⊎ ((made ≡ pos 0) × (known ≡ pos 1) × (refused ≡ pos 0))
+    ⊎ ((made ≡ pos 0) × (known ≡ pos 0) × (refused ≡ pos 1))
+IsOfOne (replied.Status status) = ⊥
 
 -- how a command ends of which this became; none where it is done
 abbrev pub ending_of : Answered → Option Ending

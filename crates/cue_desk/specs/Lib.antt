@@ -6,5 +6,6 @@ pub mod Hearing
 pub mod Lines
 pub mod Loading
 pub mod Orders
+pub mod Ports
 pub mod Readings
 pub mod Replies

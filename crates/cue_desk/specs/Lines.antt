@@ -14,11 +14,17 @@ asks_for_none _ = true
 -- what the program makes of an error of clap
 abbrev pub IsFaultOf : ErrorKind → LineFault → Type 0
 IsFaultOf kind (Help text) = (kind ≡ DisplayHelp) ⊎ (kind ≡ DisplayVersion)
-IsFaultOf kind Usage = (asks_for_none kind ≡ true) × (kind ≡ OutOfMemory → ⊥)
+IsFaultOf kind (Usage text) = (asks_for_none kind ≡ true) × (kind ≡ OutOfMemory → ⊥)
 IsFaultOf kind Memory = Unit {0}
 
 -- it is the help or the version
 abbrev pub IsHelp : LineFault → Type 0
 IsHelp (Help text) = Unit {0}
-IsHelp Usage = ⊥
+IsHelp (Usage text) = ⊥
 IsHelp Memory = ⊥
+
+-- the command line is not understood
+abbrev pub IsUsage : LineFault → Type 0
+IsUsage (Help text) = ⊥
+IsUsage (Usage text) = Unit {0}
+IsUsage Memory = ⊥

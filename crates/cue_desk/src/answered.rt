@@ -1,6 +1,6 @@
 //! What became of one thing that was asked, as the controller's reply says.
-ghost use Rattle.std.specs.Prelude.{◌≡◌, ◌++◌, ◌∷◌, [], OnOk};
-ghost use Rattle.cue_desk.specs.Answered.{Tells, ending_of, refusal_of_removal};
+ghost use Rattle.std.specs.Prelude.{◌≡◌, ◌++◌, ◌∷◌, [], None, IfSome, OnOk};
+ghost use Rattle.cue_desk.specs.Answered.{IsOfOne, Tells, ending_of, refusal_of_removal};
 
 use crate::ending::Ending;
 use crate::replying::Replied;
@@ -39,6 +39,35 @@ impl Answered {
             }
             Replied::Status(_) => Answered::Known,
         }
+    }
+}
+
+/// What a reply says of the one command that was asked; none if it does not speak of exactly one.
+pub fn answer_in(replied: Replied) -> Option<Answered>
+    ensures one { IfSome result (λ _. IsOfOne replied) }
+    ensures tells { IfSome result (λ answered. Tells replied answered) }
+    ensures none { result ≡ None → IsOfOne replied → ⊥ }
+{
+    match replied {
+        Replied::Reply {
+            made: 1,
+            known: 0,
+            refused: 0,
+            ..
+        }
+        | Replied::Reply {
+            made: 0,
+            known: 1,
+            refused: 0,
+            ..
+        }
+        | Replied::Reply {
+            made: 0,
+            known: 0,
+            refused: 1,
+            ..
+        } => Some(Answered::of(replied)),
+        _ => None,
     }
 }
 

@@ -1,6 +1,6 @@
 //! A small show file, read, checked and written.
 use cue_desk::counting::Count;
-use cue_show_file::{Checked, Finding, check, of_show, read, written};
+use cue_show_file::{Checked, Finding, check, condensed, of_show, read, review_of, written};
 use std::alloc::{AllocError, Global};
 
 /// A file with nothing wrong.
@@ -78,7 +78,7 @@ const READ: [&str; 14] = [
     "1: the 1. device: a value is of another kind: write it as `name = \"Winch 3\"`",
     "1: the 1. device: that is no port: take one of 1 to 65535",
     "10: the 1. cue: that is no cue number: write digits with single points, as \"12.5\", 16 characters at most",
-    "10: the 1. cue: `names` is no key that stands here: look for a slip",
+    "10: the 1. cue: `names` is no key of a cue: it has number, name, note and parts",
     "10: the 1. cue: a value is of another kind: write it as `optional = true`",
     "10: the 1. cue: hex is no pairs of hexadecimal digits: write them as \"0a0b\"",
     "10: the 1. cue: two parts are for device 3: take one of them out",
@@ -128,6 +128,147 @@ fn mistakes_have_their_lines_with_any_editor(rt: HostRuntime) {
         let draft = read(alloc, text.as_str()).expect(&rt, "memory");
         assert!(rt; are_said(alloc, &draft.findings, &LACKING).expect(&rt, "memory"));
     }
+}
+
+/// Texts with one slip each, and what is told of it.
+const TOLD: [(&str, &str); 12] = [
+    (
+        "\"\\u001b]0;owned\\u0007\" = 1\n",
+        "the file: `?]0;owned?` is no key of a show file: it has port, listen, [[device]], [[cue]] and [rehearse]",
+    ),
+    (
+        "port = 9100\n\u{202e}= 1\n",
+        "2: the file: invalid key, expected letters, numbers, `-`, `_` or a quoted key",
+    ),
+    (
+        "port = 9100\n\n[[cues]]\nnumber = \"1\"\n",
+        "3: the file: `cues` is no key of a show file: it has port, listen, [[device]], [[cue]] and [rehearse]",
+    ),
+    (
+        "# the evening\nport = 0\n",
+        "2: the file: that is no port: take one of 1 to 65535",
+    ),
+    (
+        "[device]\nnumber = 3\nport = 9001\n",
+        "1: the file: devices and cues are written as [[device]] and [[cue]], with two brackets, one for each",
+    ),
+    (
+        "[device]\nnumber = 3\nport = 9001\n\n[device]\nnumber = 4\nport = 9002\n",
+        "5: the file: duplicate key: write [[device]] and [[cue]], with two brackets",
+    ),
+    (
+        "[[device]]\nnumber = 3\nport = 9001\nname = \u{201e}Winch\u{201c}\n",
+        "4: the file: invalid value, expected a string, number, boolean, date-time, array or inline table: \
+         this line has typographic quotes: write straight ones, as \"Winch 3\"",
+    ),
+    (
+        "[[device]]\nnumber = 3\nname = \"Winch\nport = 9001\n",
+        "3: the file: invalid string: a text on this line has no quote at its end",
+    ),
+    (
+        "[[cue]]\nnumber = \"1\"\nfollow = true\nparts = []\n",
+        "1: cue 1: `follow` is no key of a cue: it has number, name, note and parts. \
+         Nothing moves without a press, so there is no follow and no wait",
+    ),
+    (
+        "[[cue]]\nnumber = \"1\"\ncolor = \"red\"\nparts = []\n",
+        "1: cue 1: `color` is no key of a cue: it has number, name, note and parts. \
+         There are no colours and no flags: write it into the name or the note",
+    ),
+    (
+        "[[device]]\nnumber = 3\nport = 9001\nip = \"10.0.7.31\"\n",
+        "1: device 3: `ip` is no key of a device: it has number, port, address and name",
+    ),
+    (
+        "[[cue]]\nnumber = \"1\"\nparts = [{ device = 3, speed = 5 }]\n",
+        "1: cue 1: `speed` is no key of a part: it has device, hex or text, and optional",
+    ),
+];
+
+#[test]
+fn each_slip_is_told_with_what_to_do(rt: HostRuntime) {
+    let alloc = rt.alloc();
+    for (text, wanted) in TOLD {
+        let draft = read(alloc, text).expect(&rt, "memory");
+        let Some(first) = draft.findings.first() else {
+            panic!(rt; "nothing is found in {text}");
+        };
+        let said = format!(in alloc; "{first}").expect(&rt, "memory");
+        assert!(rt; said.as_str() == wanted, "{}", said.as_str());
+    }
+}
+
+/// A device with a number that is none, and five cues for it.
+const MISNUMBERED: &str = "[[device]]\nnumber = 222\nport = 9001\n\n\
+[[cue]]\nnumber = \"1\"\nparts = [{ device = 22 }]\n\n[[cue]]\nnumber = \"2\"\nparts = [{ device = 22 }]\n\n\
+[[cue]]\nnumber = \"3\"\nparts = [{ device = 22 }]\n\n[[cue]]\nnumber = \"4\"\nparts = [{ device = 22 }]\n";
+
+/// The same, where the number is that of another device.
+const CONFUSED: &str = "[[device]]\nnumber = 2\nport = 9001\n\n\
+[[cue]]\nnumber = \"1\"\nparts = [{ device = 22 }]\n\n\
+[[cue]]\nnumber = \"2\"\nparts = [{ device = 22 }, { device = 22 }]\n\n\
+[[cue]]\nnumber = \"3\"\nparts = [{ device = 22 }]\n\n[[cue]]\nnumber = \"4\"\nparts = [{ device = 23 }]\n";
+
+// What is told of a text.
+fn told(alloc: Global, text: &str) -> Result<Vec<Finding>, AllocError> {
+    let draft = read(alloc, text)?;
+    let trial = check(alloc, &draft.file)?;
+    condensed(alloc, draft.findings, trial.findings)
+}
+
+#[test]
+fn a_wrong_device_number_is_told_once(rt: HostRuntime) {
+    let alloc = rt.alloc();
+    let found = told(alloc, MISNUMBERED).expect(&rt, "memory");
+    let wanted = ["1: the 1. device: no device has that number: take one of 0 to 111"];
+    assert!(rt; are_said(alloc, &found, &wanted).expect(&rt, "memory"));
+    let found = told(alloc, CONFUSED).expect(&rt, "memory");
+    let wanted = [
+        "5: cue 1: a part is for device 22, which the file does not have, \
+         and so are parts of 2 other cues: add a [[device]] with that number",
+        "9: cue 2: two parts are for device 22: take one of them out",
+        "17: cue 4: a part is for device 23, which the file does not have: add a [[device]] with that number",
+    ];
+    assert!(rt; are_said(alloc, &found, &wanted).expect(&rt, "memory"));
+    assert!(rt; told(alloc, GOOD).expect(&rt, "memory").is_empty());
+}
+
+/// A file that a controller takes, and that spoils an evening.
+const SPOILING: &str = "port = 9001\n\n[[device]]\nnumber = 3\nport = 9001\n\n\
+[[device]]\nnumber = 4\nport = 9002\naddress = \"10.0.7.31:9001\"\n\n[[device]]\nnumber = 5\nport = 9002\n";
+
+// Whether a review of the text says this, and gives these hints.
+fn is_reviewed(
+    alloc: Global,
+    text: &str,
+    mistakes: &[&str],
+    hints: &[&str],
+) -> Result<bool, AllocError> {
+    let draft = read(alloc, text)?;
+    let found = review_of(alloc, &draft.file)?;
+    Ok(are_said(alloc, &found.mistakes, mistakes)? && are_said(alloc, &found.hints, hints)?)
+}
+
+#[test]
+fn what_spoils_an_evening_is_told(rt: HostRuntime) {
+    let alloc = rt.alloc();
+    let mistakes = [
+        "3: device 3: it has the port of the controller: give the device another one, or the controller",
+        "7: device 4: it has an address, and a line as `listen = \"10.0.7.1\"` is missing at the top: \
+         this machine's own address there",
+    ];
+    let hints = [
+        "12: device 5: device 4 has the same port: a show may have that, but `rehearse` and a relay want one for each",
+    ];
+    assert!(rt; is_reviewed(alloc, SPOILING, &mistakes, &hints).expect(&rt, "memory"));
+    let empty = ["the file: it has no device and no cue: add a [[device]] and a [[cue]]"];
+    assert!(rt; is_reviewed(alloc, "port = 9100\n", &empty, &[]).expect(&rt, "memory"));
+    let usual = [
+        "1: device 3: it has port 9100, at which the controller listens unless somebody says another port",
+    ];
+    let text = "[[device]]\nnumber = 3\nport = 9100\n";
+    assert!(rt; is_reviewed(alloc, text, &[], &usual).expect(&rt, "memory"));
+    assert!(rt; is_reviewed(alloc, GOOD, &[], &[]).expect(&rt, "memory"));
 }
 
 #[test]

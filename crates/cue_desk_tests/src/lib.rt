@@ -1,11 +1,15 @@
-//! Tests of the desk over public calls: show files, what is asked and replied, the board, the page, rehearsed devices
-//! and the relay.
+//! Tests of the desk over public calls: show files and how they are loaded, what is asked and replied, the board, the
+//! page, rehearsed devices and the relay.
 #![tactic(auto)]
 
 #[cfg(test)]
 mod boards;
 #[cfg(test)]
+mod drawings;
+#[cfg(test)]
 mod files;
+#[cfg(test)]
+mod loadings;
 #[cfg(test)]
 mod messages;
 #[cfg(test)]
@@ -16,3 +20,5 @@ mod rehearsals;
 mod relays;
 #[cfg(test)]
 mod replies;
+#[cfg(test)]
+mod station;

@@ -1,32 +1,31 @@
 //! Requests as browsers and strangers send them, presses, and what they are answered.
-use cue_core::State;
-use cue_desk::asking::Asked;
-use cue_operator::CueVerb;
-use cue_page::board::{Around, board_text};
 use cue_page::page::{page_text, policy};
-use cue_page::relay::{Relay, relay_value};
-use cue_relay::status::read;
 use cue_request::answering::{Kind, NOTHING, Outcome, answer};
-use cue_request::pressing::read_press;
-use cue_request::replying::{Told, told_text, trouble_text};
-use cue_request::request::{Door, Refusal, Wish, judge, read_head};
-use std::alloc::{AllocError, Global};
+use cue_request::pressing::{press_text, read_press};
+use cue_request::replying::trouble_text;
+use cue_request::request::{Door, Refusal, Wish, judge, read_head, read_request};
 
 const DOOR: Door<'static> = Door {
     port: 8123,
     token: b"0123456789abcdef",
 };
 
-// What a request is allowed.
-fn allowed(request: &[u8]) -> Result<Option<Wish>, Refusal> {
+/// A door at the port that browsers leave out.
+const USUAL: Door<'static> = Door {
+    port: 80,
+    token: b"0123456789abcdef",
+};
+
+// What a request is allowed at a door.
+fn allowed_at(door: &Door<'_>, request: &[u8]) -> Result<Option<Wish>, Refusal> {
     match read_head(request)? {
-        Some((head, _)) => Ok(Some(judge(&DOOR, &head)?)),
+        Some((head, _)) => Ok(Some(judge(door, &head)?)),
         None => Ok(None),
     }
 }
 
 /// Requests, and what each is allowed.
-const ALLOWED: [(&[u8], Result<Option<Wish>, Refusal>); 14] = [
+const ALLOWED: [(&[u8], Result<Option<Wish>, Refusal>); 19] = [
     (
         b"POST /command HTTP/1.1\r\nHost: 127.0.0.1:8123\r\nOrigin: http://127.0.0.1:8123\r\n\
           Cuedesk-Token: 0123456789abcdef\r\nContent-Length: 4\r\n\r\ngo 1",
@@ -69,8 +68,30 @@ const ALLOWED: [(&[u8], Result<Option<Wish>, Refusal>); 14] = [
         Err(Refusal::LongBody),
     ),
     (
+        b"POST /command HTTP/1.1\r\nHost: 127.0.0.1:8123\r\nOrigin: http://127.0.0.1:8123\r\n\
+          Cuedesk-Token: 0123456789abcdef\r\nContent-Length: +4\r\n\r\ngo 1",
+        Err(Refusal::Unreadable),
+    ),
+    (
+        b"POST /command HTTP/1.1\r\nHost: 127.0.0.1:8123\r\nOrigin: http://127.0.0.1:8123\r\n\
+          Cuedesk-Token: 0123456789abcdef\r\nContent-Length: 0004\r\n\r\ngo 1",
+        Err(Refusal::Unreadable),
+    ),
+    (
         b"GET / HTTP/1.1\r\nHost: 127.0.0.1:8123\r\n\r\n",
         Ok(Some(Wish::Page)),
+    ),
+    (
+        b"GET / HTTP/1.1\r\nHost: 127.0.0.1:8123\r\nSec-Fetch-Site: none\r\n\r\n",
+        Ok(Some(Wish::Page)),
+    ),
+    (
+        b"GET /board.json HTTP/1.1\r\nHost: 127.0.0.1:8123\r\nSec-Fetch-Site: cross-site\r\n\r\n",
+        Err(Refusal::Foreign),
+    ),
+    (
+        b"GET / HTTP/1.1\r\nHost: 127.0.0.1\r\n\r\n",
+        Err(Refusal::Foreign),
     ),
     (
         b"GET /board.json HTTP/1.1\r\nHost: localhost:8123\r\n\r\n",
@@ -91,41 +112,88 @@ const ALLOWED: [(&[u8], Result<Option<Wish>, Refusal>); 14] = [
 #[test]
 fn requests_are_allowed_what_the_table_says(rt: HostRuntime) {
     for (request, wanted) in ALLOWED {
-        assert!(rt; allowed(request) == wanted);
+        assert!(rt; allowed_at(&DOOR, request) == wanted);
     }
 }
 
-/// Bodies that are no press of a button.
-const NO_PRESSES: [&[u8]; 10] = [
-    b"",
-    b"go",
-    b"go ",
-    b"go  1",
-    b"go 1 ",
-    b"GO 1",
-    b"remove 1",
-    b"release 007",
-    b"release +3",
-    b"release 112",
+/// Hosts of the page at that port.
+const USUAL_HOSTS: [&[u8]; 2] = [
+    b"GET / HTTP/1.1\r\nHost: 127.0.0.1\r\n\r\n",
+    b"GET / HTTP/1.1\r\nHost: localhost:80\r\n\r\n",
 ];
 
 #[test]
-fn presses_ask_what_they_name(rt: HostRuntime) {
-    assert!(rt; matches!(read_press(b"go 12.5"), Some(Asked::OfCue(CueVerb::Go, _))));
-    assert!(rt;
-        matches!(
-            read_press(b"standby 1"),
-            Some(Asked::OfCue(CueVerb::Standby, _))
-        )
-    );
-    assert!(rt;
-        matches!(
-            read_press(b"cancel 1"),
-            Some(Asked::OfCue(CueVerb::Cancel, _))
-        )
-    );
-    assert!(rt; matches!(read_press(b"goto 1"), Some(Asked::OfCue(CueVerb::Goto, _))));
-    assert!(rt; matches!(read_press(b"release 111"), Some(Asked::Release(_))));
+fn browsers_leave_out_the_usual_port(rt: HostRuntime) {
+    for request in USUAL_HOSTS {
+        assert!(rt; allowed_at(&USUAL, request) == Ok(Some(Wish::Page)));
+    }
+}
+
+/// A command whose body has two bytes more than its head says.
+const LONGER: &[u8] =
+    b"POST /command HTTP/1.1\r\nHost: localhost:8123\r\nOrigin: http://localhost:8123\r\n\
+    Cuedesk-Token: 0123456789abcdef\r\nContent-Length: 9\r\n\r\n7 go 12 3!!";
+
+#[test]
+fn a_body_is_as_long_as_its_head_says(rt: HostRuntime) {
+    let Ok(Some(request)) = read_request(&DOOR, LONGER) else {
+        panic!(rt; "no request");
+    };
+    assert!(rt; request.body == b"7 go 12 3".as_slice());
+}
+
+/// Bodies of presses: the number of the view, and the text of its button.
+const PRESSES: [(&[u8], u64, &str); 8] = [
+    (b"7 standby 12.5", 7, "standby 12.5"),
+    (b"0 go 1 31", 0, "go 1 31"),
+    (
+        b"18446744073709551615 go 12 4294967295",
+        u64::MAX,
+        "go 12 4294967295",
+    ),
+    (b"7 cancel 12 31", 7, "cancel 12 31"),
+    (b"7 release 31 111", 7, "release 31 111"),
+    (b"7 goto 3", 7, "goto 3"),
+    (b"7 choose 31", 7, "choose 31"),
+    (b"7 seen 31", 7, "seen 31"),
+];
+
+/// Bodies that are no press of a button.
+const NO_PRESSES: [&[u8]; 22] = [
+    b"",
+    b"7",
+    b"go 1 31",
+    b"7 go 1",
+    b"7 go 1 ",
+    b"7 go  1 31",
+    b"7  go 1 31",
+    b" 7 go 1 31",
+    b"7 go 1 31 ",
+    b"7 GO 1 31",
+    b"7 go * 31",
+    b"07 go 1 31",
+    b"+7 go 1 31",
+    b"7 go 1 +31",
+    b"7 go 1 031",
+    b"7 go 1 4294967296",
+    b"18446744073709551616 go 1 31",
+    b"7 remove 1",
+    b"7 release 3",
+    b"7 release 31 007",
+    b"7 release 31 112",
+    b"7 standby 1\n7 go 1 31",
+];
+
+#[test]
+fn presses_are_what_their_texts_say(rt: HostRuntime) {
+    for (body, number, text) in PRESSES {
+        let Some((view, button)) = read_press(body) else {
+            panic!(rt; "no press: {text}");
+        };
+        assert!(rt; view == number);
+        let written = press_text(rt.alloc(), button).expect(&rt, "memory");
+        assert!(rt; written.as_str() == text);
+    }
     for body in NO_PRESSES {
         assert!(rt; read_press(body).is_none());
     }
@@ -145,63 +213,9 @@ fn answer_has_its_bytes(rt: HostRuntime) {
 }
 
 #[test]
-fn replies_are_told_in_words(rt: HostRuntime) {
-    let refused = told_text(rt.alloc(), Told::Refused(13)).expect(&rt, "memory");
-    let wanted =
-        "{\"outcome\":\"refused\",\"words\":\"refused: not every device is ready (code 13)\"}";
-    assert!(rt; refused.as_str() == wanted);
+fn troubles_are_told_in_words(rt: HostRuntime) {
     let trouble = trouble_text(rt.alloc(), "<b> \"'&\n").expect(&rt, "memory");
-    assert!(rt; trouble.as_str() == "{\"outcome\":\"refused\",\"words\":\"<b> \\\"'&\\n\"}");
-}
-
-#[test]
-fn board_of_an_empty_show_is_empty(rt: HostRuntime) {
-    let state = State::empty(rt.alloc());
-    let around = Around {
-        file: None,
-        relay: &Relay::Unwatched,
-        read: 1,
-        now: 251,
-        trouble: "",
-    };
-    let text = board_text(rt.alloc(), &state, &around).expect(&rt, "memory");
-    let wanted = "{\"age\":250,\"last\":null,\"live\":[],\"next\":null,\"relay\":null,\
-        \"stack\":[],\"trouble\":\"\"}";
-    assert!(rt; text.as_str() == wanted);
-}
-
-/// What a relay reports of two devices.
-const STATUS: &str = "relay 2 1000000\npassed 7 lost 0 dropped 2\n\
-device 3 10.0.7.31:9001 heard 997000\ndevice 4 10.0.7.32:7000 never standby silent\nend\n";
-
-/// The times at which it is asked, and what is reported then.
-const TOLD: [(u64, &str); 2] = [
-    (
-        1_000_000,
-        "{\"devices\":[{\"device\":3,\"heard\":\"heard 3 s ago\",\"name\":\"\",\"silent\":false},\
-        {\"device\":4,\"heard\":\"silent, never heard\",\"name\":\"\",\"silent\":true}],\"words\":\"\"}",
-    ),
-    (
-        1_012_000,
-        "{\"devices\":[],\"words\":\"the relay has stopped, 12 s ago\"}",
-    ),
-];
-
-// What is reported of a relay at a time; none where its status is none.
-fn told_at(alloc: Global, now: u64) -> Result<Option<String>, AllocError> {
-    let Some(status) = read(alloc, STATUS)? else {
-        return Ok(None);
-    };
-    let value = relay_value(alloc, &Relay::Told(status), None, now)?;
-    Ok(Some(value.to_string(alloc)?))
-}
-
-#[test]
-fn relays_are_told_with_their_devices(rt: HostRuntime) {
-    for (now, wanted) in TOLD {
-        let text = told_at(rt.alloc(), now).expect(&rt, "memory");
-        assert!(rt; text.is_some_and(|text| text.as_str() == wanted));
-    }
+    assert!(rt; trouble.as_str() == "{\"words\":\"<b> \\\"'&\\n\"}");
 }
 
 #[test]

@@ -1,2 +1,8 @@
-pub mod Board
-pub mod Heard
+pub mod Alarms
+pub mod Ends
+pub mod Lit
+pub mod Live
+pub mod Network
+pub mod Page
+pub mod Said
+pub mod Stack

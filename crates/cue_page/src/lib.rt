@@ -1,6 +1,5 @@
-//! The desk as a page: its text, and the board as JSON.
+//! The desk as a page: its text, and the view of the desk as JSON.
 #![tactic(auto)]
 
 pub mod board;
 pub mod page;
-pub mod relay;

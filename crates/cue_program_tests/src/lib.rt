@@ -4,6 +4,8 @@
 #[cfg(test)]
 mod bursts;
 #[cfg(test)]
+mod copies;
+#[cfg(test)]
 mod evening;
 #[cfg(test)]
 mod program;

@@ -5,8 +5,6 @@ use Rattle.cue_request.specs.declared.answering.Kind.{Kind}
 use Rattle.cue_request.specs.declared.answering.Kind.TheVariants as kind
 use Rattle.cue_request.specs.declared.answering.Outcome.{Outcome}
 use Rattle.cue_request.specs.declared.answering.Outcome.TheVariants as outcome
-use Rattle.cue_request.specs.declared.replying.Told.{Told}
-use Rattle.cue_request.specs.declared.replying.Told.TheVariants as told
 use Rattle.cue_request.specs.declared.request.Refusal.{Refusal}
 use Rattle.cue_request.specs.declared.request.Refusal.TheVariants as refusal
 
@@ -31,14 +29,6 @@ refusal_words refusal.Method = codes "this cannot be asked so"
 refusal_words refusal.Late = codes "the request did not come whole within a second"
 refusal_words refusal.LongBody = codes "the body is longer than 256 bytes"
 refusal_words refusal.LongHead = codes "the head is longer than 8192 bytes"
-
--- what became of a press, as one word: refused also where it was none
-abbrev pub outcome_word : Told → List ℕ
-outcome_word told.Made = codes "made"
-outcome_word told.Known = codes "known"
-outcome_word (told.Refused code) = codes "refused"
-outcome_word told.Silent = codes "silent"
-outcome_word told.Unread = codes "refused"
 
 -- the type of a body
 abbrev pub type_of : Kind → List ℕ

@@ -2,4 +2,3 @@ pub mod Answers
 pub mod Fields
 pub mod Presses
 pub mod Requests
-pub mod Told

@@ -1,15 +1,19 @@
--- What the page sends for each press of a button.
-use Rattle.std.specs.Prelude.{◌≡◌, ℕ, List, ◌++◌, codes}
+-- What a press is, as a text.
+use Rattle.std.specs.Prelude.{ℕ, List, ◌++◌, codes}
 use Rattle.std.specs.Fmt.{decimal}
-use Rattle.cue_operator.specs.Methods.{cue_verb_text}
-use Rattle.cue_desk.specs.declared.asking.Asked.{Asked}
-use Rattle.cue_desk.specs.declared.asking.Asked.TheVariants as asked
+use Rattle.cue_station.specs.declared.heard.Button.{Button}
+use Rattle.cue_station.specs.declared.heard.Button.TheVariants as button
 
--- the word of what is asked, a space, and the number of the cue or of the device
-abbrev pub IsPress : Asked → List ℕ → Type 0
-IsPress (asked.OfCue verb cue) body = body ≡ cue_verb_text verb ++ (codes " " ++ cue)
-IsPress (asked.Release device) body = body ≡ codes "release " ++ decimal device
-IsPress asked.Status body = ⊥
-IsPress (asked.AddDevice device port) body = ⊥
-IsPress (asked.AddCue cue parts) body = ⊥
-IsPress (asked.RemoveDevice device) body = ⊥
+-- a button: its word, and then the cue, the attempt or the device that it is for
+abbrev pub press_of : Button → List ℕ
+press_of (button.Standby cue) = codes "standby " ++ cue
+press_of (button.Go cue attempt) = codes "go " ++ (cue ++ (codes " " ++ decimal attempt))
+press_of (button.Cancel cue attempt) = codes "cancel " ++ (cue ++ (codes " " ++ decimal attempt))
+press_of (button.Release attempt device) = codes "release " ++ (decimal attempt ++ (codes " " ++ decimal device))
+press_of (button.MoveTo cue) = codes "goto " ++ cue
+press_of (button.Choose attempt) = codes "choose " ++ decimal attempt
+press_of (button.Seen attempt) = codes "seen " ++ decimal attempt
+
+-- the body of a press: the number of the view that was shown, a space, and one of its buttons
+abbrev pub body_of : ℕ → Button → List ℕ
+body_of view b = decimal view ++ (codes " " ++ press_of b)

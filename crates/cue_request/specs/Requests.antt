@@ -14,9 +14,21 @@ use Rattle.cue_request.specs.declared.request.Wish.TheVariants as wish
 abbrev pub field : RequestHead → List ℕ → Option (List ℕ)
 field head name = only_value name (map name_and_value head.fields)
 
+-- this machine, at the port
+abbrev pub IsHomeWith : ℕ → List ℕ → Type 0
+IsHomeWith port host = (host ≡ codes "127.0.0.1:" ++ decimal port) ⊎ (host ≡ codes "localhost:" ++ decimal port)
+
+-- this machine without a port, which stands for port 80 (RFC 9110, section 4.2.1)
+abbrev pub IsHomeAlone : ℕ → List ℕ → Type 0
+IsHomeAlone port host = (port ≡ 80) × ((host ≡ codes "127.0.0.1") ⊎ (host ≡ codes "localhost"))
+
 -- this machine, at the port of the page
 abbrev pub IsHome : ℕ → List ℕ → Type 0
-IsHome port host = (host ≡ codes "127.0.0.1:" ++ decimal port) ⊎ (host ≡ codes "localhost:" ++ decimal port)
+IsHome port host = IsHomeWith port host ⊎ IsHomeAlone port host
+
+-- a page of another site made the browser ask (Fetch Metadata, section 2.3)
+abbrev pub IsOfOthers : Option (List ℕ) → Type 0
+IsOfOthers site = site ≡ Some (codes "cross-site")
 
 -- the origin of a page that was read at this host
 abbrev pub origin_of : List ℕ → List ℕ
@@ -30,6 +42,7 @@ pub record IsHeadOf (head : Head) (read : RequestHead) : Type 0 where
   pub origin : option_map (λ v. v.now) head.origin ≡ field read (codes "origin")
   pub token : option_map (λ v. v.now) head.token ≡ field read (codes "cuedesk-token")
   pub length : option_map (λ v. v.now) head.length ≡ field read (codes "content-length")
+  pub site : option_map (λ v. v.now) head.site ≡ field read (codes "sec-fetch-site")
 
 -- It came to this machine, from a page of this origin, with the token of the page.
 pub record IsFromPage (door : Door) (host origin token : Option (List ℕ)) : Type 0 where
@@ -46,8 +59,10 @@ pub record IsCommandHead (door : Door) (head : Head) (size : ℕ) : Type 0 where
   pub sent : IsFromPage door (option_map (λ v. v.now) head.host) (option_map (λ v. v.now) head.origin)
       (option_map (λ v. v.now) head.token)
   pub short : size ≤ 256
+  pub length : option_map (λ v. v.now) head.length ≡ Some (decimal size)
 
--- Bytes begin with a command: a head by the grammar of RFC 9112 that our own page sent, and this short body.
+-- Bytes begin with a command: a head by the grammar of RFC 9112 that our own page sent, and this short body, which is
+-- as long as the head says.
 pub record IsCommand (door : Door) (bytes body : List ℕ) : Type 0 where
   pub read : RequestHead
   pub rest : List ℕ
@@ -57,6 +72,7 @@ pub record IsCommand (door : Door) (bytes body : List ℕ) : Type 0 where
   pub sent : IsFromPage door (field read (codes "host")) (field read (codes "origin"))
       (field read (codes "cuedesk-token"))
   pub short : length body ≤ 256
+  pub whole : field read (codes "content-length") ≡ Some (decimal (length body))
   pub follows : body ≡ take (length body) rest
 
 -- where a command is wished, this holds of the length of its body

@@ -3,6 +3,7 @@
 
 pub mod answering;
 mod fields;
+mod numbers;
 pub mod pressing;
 pub mod replying;
 pub mod request;

@@ -1,78 +1,157 @@
-//! The buttons of the page: what each press asks. The body of a request is a word, a space and a number.
-ghost use Rattle.std.specs.Prelude.{◌≡◌, ◌++◌, codes, IfSome};
+//! Presses: a button of a view as a text, and the button that a text is. The body of a press is the number of the view
+//! that was shown, a space, and the text of one of its buttons, letter by letter as the view has it.
+ghost use Rattle.std.specs.Prelude.{◌≡◌, ◌++◌, codes, string_bytes, IfSome, IfOk};
 ghost use Rattle.std.specs.Fmt.{decimal};
-ghost use Rattle.cue_operator.specs.Methods.{cue_verb_text};
-ghost use Rattle.cue_request.specs.Presses.{IsPress};
+ghost use Rattle.cue_request.specs.Presses.{body_of, press_of};
 
-use crate::texts::after;
-use cue_desk::asking::Asked;
-use cue_operator::CueVerb;
+use crate::numbers::{device_in, number_in};
+use crate::texts::{after, at_space};
 use cue_show::{CueNo, DeviceNo};
-use itoa::Buffer;
+use cue_show_file::cue_text;
+use cue_station::heard::Button;
+use std::alloc::{AllocError, Global};
 
-/// What can be asked of a cue by a button.
-const VERBS: [CueVerb; 4] = [
-    CueVerb::Standby,
-    CueVerb::Go,
-    CueVerb::Cancel,
-    CueVerb::Goto,
-];
-
-// The front of a body that asks this of a cue.
-fn front_of(verb: CueVerb) -> &'static [u8]
-    ensures { result.now ≡ cue_verb_text verb ++ codes " " }
+/// The text of a button: its word, and then the cue, the attempt or the device that it is for.
+pub fn press_text(alloc: Global, button: Button) -> Result<String, AllocError>
+    ensures { IfOk result (λ text. string_bytes text ≡ press_of button) }
 {
-    match verb {
-        CueVerb::Standby => b"standby ",
-        CueVerb::Go => b"go ",
-        CueVerb::Cancel => b"cancel ",
-        CueVerb::Goto => b"goto ",
-        CueVerb::Remove => b"remove ",
+    match button {
+        Button::Standby(cue) => of_cue(alloc, "standby ", cue),
+        Button::Go(cue, attempt) => of_attempt(alloc, "go ", cue, attempt),
+        Button::Cancel(cue, attempt) => of_attempt(alloc, "cancel ", cue, attempt),
+        Button::Release(attempt, device) => of_device(alloc, attempt, device),
+        Button::MoveTo(cue) => of_cue(alloc, "goto ", cue),
+        Button::Choose(attempt) => of_number(alloc, "choose ", attempt),
+        Button::Seen(attempt) => of_number(alloc, "seen ", attempt),
     }
 }
 
-// The cue of which this is asked.
-fn cue_press(verb: CueVerb, body: &[u8]) -> Option<Asked<'static>>
-    ensures { IfSome result (λ asked. IsPress asked body.now) }
+// A word and a cue.
+fn of_cue(alloc: Global, word: &str, cue: CueNo) -> Result<String, AllocError>
+    ensures { IfOk result (λ text. string_bytes text ≡ word.now ++ cue) }
 {
-    let number = after(front_of(verb), body)?;
-    let cue = CueNo::read(number)?;
-    Some(Asked::OfCue(verb, cue))
+    let mut text = String::from_str(alloc, word)?;
+    text.push_str(cue_text(&cue))?;
+    Ok(text)
 }
 
-// The device whose number is spelled so, with no zero and no sign in front.
-fn device_of(text: &[u8]) -> Option<DeviceNo>
-    ensures { IfSome result (λ device. text.now ≡ decimal device) }
+// A word, a cue and its attempt.
+fn of_attempt(alloc: Global, word: &str, cue: CueNo, attempt: u32) -> Result<String, AllocError>
+    ensures { IfOk result (λ text. string_bytes text ≡ (word.now ++ cue) ++ (codes " " ++ decimal attempt)) }
 {
-    let number: i32 = str::from_utf8(text).ok()?.parse().ok()?;
-    let device = DeviceNo::of(number)?;
-    let mut buffer = Buffer::new();
-    let spelled = buffer.format(device.number());
-    if spelled.as_bytes() == text {
-        Some(device)
-    } else {
-        None
+    let mut text = of_cue(alloc, word, cue)?;
+    let number = format!(in alloc; " {attempt}")?;
+    text.push_str(number.as_str())?;
+    Ok(text)
+}
+
+// The release of a device in an attempt.
+fn of_device(alloc: Global, attempt: u32, device: DeviceNo) -> Result<String, AllocError>
+    ensures { IfOk result (λ text. string_bytes text
+        ≡ codes "release " ++ (decimal attempt ++ (codes " " ++ decimal device))) }
+{
+    let device = device.number();
+    format!(in alloc; "release {attempt} {device}")
+}
+
+// A word and an attempt.
+fn of_number(alloc: Global, word: &str, attempt: u32) -> Result<String, AllocError>
+    ensures { IfOk result (λ text. string_bytes text ≡ word.now ++ decimal attempt) }
+{
+    format!(in alloc; "{word}{attempt}")
+}
+
+// The attempt that is spelled so.
+fn attempt_in(text: &[u8]) -> Option<u32>
+    ensures { IfSome result (λ attempt. text.now ≡ decimal attempt) }
+{
+    u32::try_from(number_in(text)?).ok()
+}
+
+// A cue and its attempt.
+fn cue_and_attempt(text: &[u8]) -> Option<(CueNo, u32)>
+    ensures { IfSome result (λ read. text.now ≡ read.0 ++ (codes " " ++ decimal read.1)) }
+{
+    let (cue, attempt) = at_space(text)?;
+    Some((CueNo::read(cue)?, attempt_in(attempt)?))
+}
+
+// An attempt and one of its devices.
+fn attempt_and_device(text: &[u8]) -> Option<(u32, DeviceNo)>
+    ensures { IfSome result (λ read. text.now ≡ decimal read.0 ++ (codes " " ++ decimal read.1)) }
+{
+    let (attempt, device) = at_space(text)?;
+    Some((attempt_in(attempt)?, device_in(device)?))
+}
+
+// STANDBY of a cue, or a move to it.
+fn cue_button(text: &[u8]) -> Option<Button>
+    ensures { IfSome result (λ button. text.now ≡ press_of button) }
+{
+    if let Some(cue) = after(b"standby ", text) {
+        return Some(Button::Standby(CueNo::read(cue)?));
     }
+    let cue = after(b"goto ", text)?;
+    Some(Button::MoveTo(CueNo::read(cue)?))
 }
 
-// The device that is released.
-fn release_press(body: &[u8]) -> Option<Asked<'static>>
-    ensures { IfSome result (λ asked. IsPress asked body.now) }
+// GO or CANCEL of a cue, in an attempt.
+fn attempt_button(text: &[u8]) -> Option<Button>
+    ensures { IfSome result (λ button. text.now ≡ press_of button) }
 {
-    let number = after(b"release ", body)?;
-    let device = device_of(number)?;
-    Some(Asked::Release(device))
-}
-
-/// What the body of a request asks: one thing, of the cue or device that it names. None where it is no press of a
-/// button: nothing is sent then.
-pub fn read_press(body: &[u8]) -> Option<Asked<'static>>
-    ensures { IfSome result (λ asked. IsPress asked body.now) }
-{
-    for verb in VERBS {
-        if let Some(asked) = cue_press(verb, body) {
-            return Some(asked);
-        }
+    if let Some(rest) = after(b"go ", text) {
+        let (cue, attempt) = cue_and_attempt(rest)?;
+        return Some(Button::Go(cue, attempt));
     }
-    release_press(body)
+    let rest = after(b"cancel ", text)?;
+    let (cue, attempt) = cue_and_attempt(rest)?;
+    Some(Button::Cancel(cue, attempt))
+}
+
+// The release of a device.
+fn release_button(text: &[u8]) -> Option<Button>
+    ensures { IfSome result (λ button. text.now ≡ press_of button) }
+{
+    let rest = after(b"release ", text)?;
+    let (attempt, device) = attempt_and_device(rest)?;
+    Some(Button::Release(attempt, device))
+}
+
+// The choice of an attempt, or that its end was seen.
+fn number_button(text: &[u8]) -> Option<Button>
+    ensures { IfSome result (λ button. text.now ≡ press_of button) }
+{
+    if let Some(attempt) = after(b"choose ", text) {
+        return Some(Button::Choose(attempt_in(attempt)?));
+    }
+    let attempt = after(b"seen ", text)?;
+    Some(Button::Seen(attempt_in(attempt)?))
+}
+
+// The button whose text this is.
+fn button_in(text: &[u8]) -> Option<Button>
+    ensures { IfSome result (λ button. text.now ≡ press_of button) }
+{
+    let of_cue = cue_button(text);
+    if of_cue.is_some() {
+        return of_cue;
+    }
+    let of_attempt = attempt_button(text);
+    if of_attempt.is_some() {
+        return of_attempt;
+    }
+    let of_number = number_button(text);
+    if of_number.is_some() {
+        return of_number;
+    }
+    release_button(text)
+}
+
+/// The view and the button that the body of a press names. None where it is no press, letter by letter: no sign, no
+/// zero in front, no second space. Nothing is sent then.
+pub fn read_press(body: &[u8]) -> Option<(u64, Button)>
+    ensures { IfSome result (λ read. body.now ≡ body_of read.0 read.1) }
+{
+    let (view, text) = at_space(body)?;
+    Some((number_in(view)?, button_in(text)?))
 }

@@ -1,6 +1,7 @@
 //! Requests: what the head of one says, and what it is allowed.
-ghost use Rattle.std.specs.Prelude.{◌≡◌, ◌≤◌, ◌++◌, codes, drop, length, take, map, option_map};
-ghost use Rattle.std.specs.Prelude.{All, IfSome, IfOk, IsTrue};
+ghost use Rattle.std.specs.Prelude.{◌≡◌, ◌≤◌, ◌↔◌, ◌++◌, codes, drop, length, take, map, option_map};
+ghost use Rattle.std.specs.Prelude.{All, IfSome, IfOk, IsTrue, Some};
+ghost use Rattle.std.specs.Fmt.{decimal};
 ghost use Rattle.httparse.specs.Grammar.{ReadsRequest, RequestHead};
 ghost use Rattle.httparse.specs.Spans.{header_bytes, name_and_value, span_bytes, IsHeaderWithin, IsWithin};
 ghost use Rattle.cue_request.specs.Requests.{
@@ -9,11 +10,13 @@ ghost use Rattle.cue_request.specs.Requests.{
   IsFromPage,
   IsHeadOf,
   IsHome,
+  IsOfOthers,
   OnCommand,
   origin_of,
 };
 
 use crate::fields::only_value;
+use crate::numbers::number_in;
 use crate::texts::after;
 use httparse::Status;
 use httparse::spans::{EMPTY_HEADER_SPAN, HeaderSpan, RequestSpans, parse_request};
@@ -27,6 +30,9 @@ pub const MAX_BODY: usize = 256;
 
 /// The most fields of a head.
 const MAX_FIELDS: usize = 64;
+
+/// The port that a host without one has (RFC 9110, section 4.2.1).
+const USUAL_PORT: u16 = 80;
 
 /// Where the page is, and what its own commands carry.
 #[derive(Clone, Copy)]
@@ -47,6 +53,8 @@ pub struct Head<'a> {
     pub token: Option<&'a [u8]>,
     /// How long its body is, in decimal.
     pub length: Option<&'a [u8]>,
+    /// Whose page asked, as the browser says it (Sec-Fetch-Site).
+    pub site: Option<&'a [u8]>,
 }
 
 /// What a request asks of the page.
@@ -94,6 +102,7 @@ fn head_at<'a>(buffer: &'a [u8], fields: &[HeaderSpan], spans: &RequestSpans) ->
         origin: only_value(buffer, fields, b"origin"),
         token: only_value(buffer, fields, b"cuedesk-token"),
         length: only_value(buffer, fields, b"content-length"),
+        site: only_value(buffer, fields, b"sec-fetch-site"),
     }
 }
 
@@ -133,13 +142,23 @@ fn is_joined(text: &[u8], front: &[u8], rest: &[u8]) -> bool
     }
 }
 
-// Whether the host is this machine at the port.
-fn is_home(port: u16, host: &[u8]) -> bool
+// Whether the host is this machine, with the port.
+fn is_home_with(port: u16, host: &[u8]) -> bool
     ensures { IsTrue result → IsHome port host.now }
 {
     let mut buffer = Buffer::new();
-    let port = buffer.format(port).as_bytes();
-    is_joined(host, b"127.0.0.1:", port) || is_joined(host, b"localhost:", port)
+    let spelled = buffer.format(port).as_bytes();
+    is_joined(host, b"127.0.0.1:", spelled) || is_joined(host, b"localhost:", spelled)
+}
+
+// Whether the host is this machine at the port, which browsers leave out where it is the usual one.
+fn is_home(port: u16, host: &[u8]) -> bool
+    ensures { IsTrue result → IsHome port host.now }
+{
+    if port == USUAL_PORT && (host == b"127.0.0.1".as_slice() || host == b"localhost".as_slice()) {
+        return true;
+    }
+    is_home_with(port, host)
 }
 
 // Whether a page that was read at this host has this origin.
@@ -149,8 +168,23 @@ fn is_own_origin(host: &[u8], origin: &[u8]) -> bool
     is_joined(origin, b"http://", host)
 }
 
+// Whether a page of another site made the browser ask.
+fn is_of_others(site: Option<&[u8]>) -> bool
+    ensures { IsTrue result ↔ IsOfOthers (option_map (λ v. v.now) site.entry) }
+{
+    match site {
+        Some(site) => site == b"cross-site".as_slice(),
+        None => false,
+    }
+}
+
 // Whether it came to this machine, and from no foreign page.
-fn is_at_home(door: &Door<'_>, head: &Head<'_>) -> bool {
+fn is_at_home(door: &Door<'_>, head: &Head<'_>) -> bool
+    ensures own { IsTrue result → IsOfOthers (option_map (λ v. v.now) head.now.site) → ⊥ }
+{
+    if is_of_others(head.site) {
+        return false;
+    }
     match (head.host, head.origin) {
         (Some(host), None) => is_home(door.port, host),
         (Some(host), Some(origin)) => is_home(door.port, host) && is_own_origin(host, origin),
@@ -183,20 +217,17 @@ fn is_from_page(
     }
 }
 
-// How long the body is.
+// How long the body is: in decimal, with no sign and no zero in front.
 fn body_length(text: Option<&[u8]>) -> Result<usize, Refusal>
-    ensures { IfOk result (λ size. size ≤ 256) }
+    ensures short { IfOk result (λ size. size ≤ 256) }
+    ensures length { IfOk result (λ size. option_map (λ v. v.now) text.entry ≡ Some (decimal size)) }
 {
-    let Some(text) = text else {
+    let Some(size) = text.and_then(|text| number_in(text)) else {
         return Err(Refusal::Unreadable);
     };
-    let Ok(text) = str::from_utf8(text) else {
-        return Err(Refusal::Unreadable);
-    };
-    match text.parse::<usize>() {
+    match usize::try_from(size) {
         Ok(size) if size <= MAX_BODY => Ok(size),
-        Ok(_) => Err(Refusal::LongBody),
-        Err(_) => Err(Refusal::Unreadable),
+        _ => Err(Refusal::LongBody),
     }
 }
 
@@ -231,8 +262,10 @@ fn judge_reading(target: &[u8]) -> Result<Wish, Refusal>
     }
 }
 
-/// What a request with this head is allowed. Host, origin and token are looked at before anything else.
+/// What a request with this head is allowed. Host, origin and token are looked at before anything else, and whether a
+/// page of another site asks.
 pub fn judge(door: &Door<'_>, head: &Head<'_>) -> Result<Wish, Refusal>
+    ensures own { IfOk result (λ _. IsOfOthers (option_map (λ v. v.now) head.now.site) → ⊥) }
     ensures command { IfOk result (λ wish. OnCommand wish (IsCommandHead door.now head.now)) }
 {
     if !is_at_home(door, head) {

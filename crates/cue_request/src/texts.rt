@@ -1,5 +1,5 @@
 //! Texts and their fronts.
-ghost use Rattle.std.specs.Prelude.{◌≡◌, ◌++◌, IfSome};
+ghost use Rattle.std.specs.Prelude.{◌≡◌, ◌++◌, codes, IfSome};
 
 /// What stands after the front.
 pub(crate) fn after<'a>(front: &[u8], body: &'a [u8]) -> Option<&'a [u8]>
@@ -10,4 +10,13 @@ pub(crate) fn after<'a>(front: &[u8], body: &'a [u8]) -> Option<&'a [u8]>
     }
     let (first, rest) = body.split_at(front.len());
     if first == front { Some(rest) } else { None }
+}
+
+/// What stands before the first space, and what stands after it.
+pub(crate) fn at_space(text: &[u8]) -> Option<(&[u8], &[u8])>
+    ensures { IfSome result (λ found. text.now ≡ found.0.now ++ (codes " " ++ found.1.now)) }
+{
+    let space = text.iter().position(|byte| *byte == b' ')?;
+    let (front, rest) = text.split_at(space);
+    Some((front, after(b" ", rest)?))
 }

@@ -1,5 +1,6 @@
-//! What may be wrong with a show file, and what to do about it.
-use cue_show::limits::{MAX_CUE_BYTES, MAX_CUES, MAX_DEVICE_NUMBER, MAX_PART_BYTES, MAX_PARTS};
+//! What may be wrong with a show file.
+mod words;
+
 use cue_show::{CueNo, DeviceNo};
 use std::alloc::{AllocError, Global};
 use std::fmt;
@@ -67,15 +68,36 @@ impl fmt::Display for Key {
     }
 }
 
-/// What is wrong with a show file. Each is said with what to do.
+/// A table of a show file.
+#[derive(Clone, Copy, Debug, PartialEq, Eq)]
+pub enum Section {
+    File,
+    Device,
+    Cue,
+    Part,
+}
+
+/// What a text that is no TOML looks like, for what to do about it.
+#[derive(Clone, Copy, Debug, PartialEq, Eq)]
+pub enum Slip {
+    /// Its line has typographic quotes.
+    Quotes,
+    /// Its line has `[device]` or `[cue]`.
+    Brackets,
+    /// Its line has a quote that is not closed.
+    Unclosed,
+    Other,
+}
+
+/// What is wrong with a show file, or may be. Each is said with what to do. A terminal may get each text in it.
 #[derive(Debug, Drop, PartialEq, Eq)]
 pub enum Mistake {
     /// The text is no TOML: why not.
-    NotToml(String),
+    NotToml(Slip, String),
     /// `device` or `cue` of the file is no list of tables.
     NoTables,
-    /// This key is none that a show file has here.
-    UnknownKey(String),
+    /// The key is none that such a table has.
+    UnknownKey(Section, String),
     /// A key that has to be there is not.
     Missing(Key),
     /// The value of a key is of another kind.
@@ -112,112 +134,20 @@ pub enum Mistake {
     TooLong(DeviceNo),
     /// A part is for this device, and the file has none with the number.
     UnknownDevice(DeviceNo),
+    /// The same of this cue and of so many others.
+    UnknownInCues(DeviceNo, usize),
     /// A show would refuse the cue, and none of the others says why. No file is known that has it.
     Refused,
-}
-
-// Writes that a part has both.
-fn write_two_bytes<W: fmt::Write>(
-    f: &mut fmt::Formatter<W>,
-    device: Option<DeviceNo>,
-) -> fmt::Result {
-    f.write_str("the part ")?;
-    if let Some(device) = device {
-        write!(f, "for device {} ", device.number())?;
-    }
-    f.write_str("has hex and text: take one of them out")
-}
-
-// Writes a mistake that names a device.
-fn write_of_device<W: fmt::Write>(
-    f: &mut fmt::Formatter<W>,
-    mistake: &Mistake,
-    device: DeviceNo,
-) -> fmt::Result {
-    let device = device.number();
-    match mistake {
-        Mistake::PartTwice(_) => {
-            write!(f, "two parts are for device {device}: take one of them out")
-        }
-        Mistake::TooLong(_) => write!(
-            f,
-            "the part for device {device} is longer than {MAX_PART_BYTES} bytes: shorten it"
-        ),
-        _ => write!(
-            f,
-            "a part is for device {device}, which the file does not have: add a [[device]] with that number"
-        ),
-    }
-}
-
-// Writes a mistake by which a number is none, or something is missing.
-fn write_of_key<W: fmt::Write>(f: &mut fmt::Formatter<W>, mistake: &Mistake) -> fmt::Result {
-    match mistake {
-        Mistake::Missing(key) => write!(f, "a line as `{key}` is missing"),
-        Mistake::OtherKind(key) => { write!(f, "a value is of another kind: write it as `{key}`") }
-        Mistake::BadDevice => write!(
-            f,
-            "no device has that number: take one of 0 to {MAX_DEVICE_NUMBER}"
-        ),
-        Mistake::BadCue => write!(
-            f,
-            "that is no cue number: write digits with single points, as \"12.5\", {MAX_CUE_BYTES} characters at most"
-        ),
-        Mistake::BadPort => f.write_str("that is no port: take one of 1 to 65535"),
-        Mistake::BadAddress => {
-            f.write_str("that is no address of a device: write it as \"10.0.7.31:9001\"")
-        }
-        Mistake::BadListen => f.write_str(
-            "that is no address at which to listen: write this machine's own on the stage's network, as \"10.0.7.1\"",
-        ),
-        Mistake::BadHex => f.write_str(
-            "hex is no pairs of hexadecimal digits: write them as \"0a0b\"",
-        ),
-        Mistake::NoTables => f.write_str("it is written as [[device]] and [[cue]], one for each"),
-        Mistake::UnknownKey(key) => write!(
-            f,
-            "`{}` is no key that stands here: look for a slip",
-            key.as_str()
-        ),
-        Mistake::NotToml(why) => f.write_str(why.as_str()),
-        _ => Ok(()),
-    }
-}
-
-impl fmt::Display for Mistake {
-    fn fmt<W: fmt::Write>(&self, f: &mut fmt::Formatter<W>) -> fmt::Result {
-        match self {
-            Mistake::TwoBytes(device) => write_two_bytes(f, *device),
-            Mistake::PartTwice(device)
-            | Mistake::TooLong(device)
-            | Mistake::UnknownDevice(device) => write_of_device(f, self, *device),
-            Mistake::DeviceTwice => {
-                f.write_str(
-                    "the file has this device twice: take one of them out, or give it another number",
-                )
-            }
-            Mistake::CueTwice => {
-                f.write_str(
-                    "the file has this cue twice: take one of them out, or give it another number",
-                )
-            }
-            Mistake::TooManyCues => {
-                write!(f, "a show has {MAX_CUES} cues at most: take this one out")
-            }
-            Mistake::NoPart => f.write_str("it has no part: give it one at least"),
-            Mistake::Refused => f.write_str("a show would refuse it: write it again"),
-            Mistake::NoRequiredPart => {
-                f.write_str("all its parts are optional: one at least has to be required")
-            }
-            Mistake::TooManyParts => {
-                write!(
-                    f,
-                    "a cue has {MAX_PARTS} parts at most: make two cues of it"
-                )
-            }
-            _ => write_of_key(f, self),
-        }
-    }
+    /// The file has neither a device nor a cue.
+    Empty,
+    /// The device has the port of the controller.
+    OwnPort,
+    /// The device has the port of a controller to which nobody says another one.
+    UsualPort,
+    /// The device has an address, and the file does not say where this machine is on that network.
+    NoListen,
+    /// The device has the port of this other one.
+    SharedPort(DeviceNo),
 }
 
 /// A mistake, with what it is about and where that stands.

@@ -1,3 +1,4 @@
 pub mod Answered
 pub mod CodeWords
 pub mod ShowText
+pub mod Signs

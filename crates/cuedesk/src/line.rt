@@ -11,70 +11,92 @@ pub mod words;
 
 use clap::ArgMatches;
 use commands::cuedesk;
-use cue_desk::line::{LineFault, fault_of};
+use cue_desk::line::{LineFault, fault_of, unfit};
 use cue_desk::orders::{Order, Word, word_in};
+use cue_desk::ports::said_port;
 use cue_operator::CueVerb;
 use cue_show::{CueNo, DeviceNo};
 use rehearsing::rehearsal_in;
 use std::alloc::Global;
 use web::web_in;
-use words::{Line, Watched};
+use words::{Line, Manner, Watched};
+
+// What has to stand there and does not. `clap` sees to it before, so nobody meets it.
+fn lacking(alloc: Global, id: &str) -> LineFault {
+    unfit(alloc, id, "is missing")
+}
 
 // The word that stands there.
 fn text_in(alloc: Global, found: &ArgMatches<'_>, id: &str) -> Result<String, LineFault> {
     match found.get_str(id) {
         Some(text) => Ok(String::from_str(alloc, text)?),
-        None => Err(LineFault::Usage),
+        None => Err(lacking(alloc, id)),
     }
 }
 
+// A word that is no port.
+fn no_port(alloc: Global, word: &str) -> LineFault {
+    unfit(alloc, word, "is no port: take one of 1 to 65535")
+}
+
 // The port that stands there, where one does.
-fn port_in(found: &ArgMatches<'_>) -> Result<Option<u16>, LineFault> {
+fn port_in(alloc: Global, found: &ArgMatches<'_>) -> Result<Option<u16>, LineFault> {
     match found.get_one::<u16>("port") {
         Some(port) if port >= 1 => Ok(Some(port)),
-        Some(_) => Err(LineFault::Usage),
+        Some(_) => Err(no_port(alloc, "0")),
         None => Ok(None),
     }
 }
 
 // The cue that stands there.
-fn cue_in(found: &ArgMatches<'_>) -> Result<CueNo, LineFault> {
-    match found.get_str("CUE") {
-        Some(text) => CueNo::read(text.as_bytes()).ok_or(LineFault::Usage),
-        None => Err(LineFault::Usage),
+fn cue_in(alloc: Global, found: &ArgMatches<'_>) -> Result<CueNo, LineFault> {
+    let text = found.get_str("CUE").ok_or(lacking(alloc, "CUE"))?;
+    CueNo::read(text.as_bytes()).ok_or(unfit(
+        alloc,
+        text,
+        "is no cue number: write digits with single points, as 12.5, 16 characters at most",
+    ))
+}
+
+// The device with the number that a word is.
+fn device_of(text: &str) -> Option<DeviceNo> {
+    match text.parse::<i32>() {
+        Ok(number) => DeviceNo::of(number),
+        Err(_) => None,
     }
 }
 
 // The device that stands there.
-fn device_in(found: &ArgMatches<'_>) -> Result<DeviceNo, LineFault> {
-    let text = found.get_str("DEVICE").ok_or(LineFault::Usage)?;
-    match text.parse::<i32>() {
-        Ok(number) => DeviceNo::of(number).ok_or(LineFault::Usage),
-        Err(_) => Err(LineFault::Usage),
-    }
+fn device_in(alloc: Global, found: &ArgMatches<'_>) -> Result<DeviceNo, LineFault> {
+    let text = found.get_str("DEVICE").ok_or(lacking(alloc, "DEVICE"))?;
+    device_of(text).ok_or(unfit(alloc, text, "is no device: write its number, 0 to 111"))
 }
 
 // What is asked of a cue.
-fn of_cue_in(verb: CueVerb, found: &ArgMatches<'_>) -> Result<Line, LineFault>
+fn of_cue_in(alloc: Global, verb: CueVerb, found: &ArgMatches<'_>) -> Result<Line, LineFault>
     ensures { IfOk result (IsAskedBy (cue_verb_text verb)) }
 {
     Ok(Line::Ask {
-        order: Order::OfCue(verb, cue_in(found)?),
-        port: port_in(found)?,
+        order: Order::OfCue(verb, cue_in(alloc, found)?),
+        port: port_in(alloc, found)?,
     })
 }
 
 // What is removed.
-fn remove_in(found: &ArgMatches<'_>) -> Result<Line, LineFault>
+fn remove_in(alloc: Global, found: &ArgMatches<'_>) -> Result<Line, LineFault>
     ensures { IfOk result (IsAskedBy (codes "remove")) }
 {
     match found.subcommand() {
-        Some((name, of)) if name == "cue" => of_cue_in(CueVerb::Remove, of),
+        Some((name, of)) if name == "cue" => of_cue_in(alloc, CueVerb::Remove, of),
         Some((_, of)) => Ok(Line::Ask {
-            order: Order::RemoveDevice(device_in(of)?),
-            port: port_in(of)?,
+            order: Order::RemoveDevice(device_in(alloc, of)?),
+            port: port_in(alloc, of)?,
         }),
-        None => Err(LineFault::Usage),
+        None => Err(unfit(
+            alloc,
+            "remove",
+            "is of a cue or of a device: remove cue 12.5, or remove device 4",
+        )),
     }
 }
 
@@ -85,12 +107,42 @@ fn check_in(alloc: Global, found: &ArgMatches<'_>) -> Result<Line, LineFault> {
     })
 }
 
+// What becomes of what is in the store already.
+fn manner_in(found: &ArgMatches<'_>) -> Manner {
+    if found.get_flag("exact") {
+        Manner::IsExact
+    } else if found.get_flag("replace") {
+        Manner::Replaces
+    } else {
+        Manner::Adds
+    }
+}
+
+// The folder of the store of a `load`. Where something is to be replaced, it is wanted.
+fn store_in(
+    alloc: Global,
+    found: &ArgMatches<'_>,
+    manner: Manner,
+) -> Result<Option<String>, LineFault> {
+    let dir = option_in(alloc, found, "DIR")?;
+    if dir.is_none() && manner != Manner::Adds {
+        return Err(unfit(
+            alloc,
+            "load",
+            "wants the folder of the store, to see what it has: load evening.toml show --replace",
+        ));
+    }
+    Ok(dir)
+}
+
 // The command `load`, with what stands after it.
 fn load_in(alloc: Global, found: &ArgMatches<'_>) -> Result<Line, LineFault> {
+    let manner = manner_in(found);
     Ok(Line::Load {
         file: text_in(alloc, found, "FILE")?,
-        port: port_in(found)?,
-        replace: found.get_flag("replace"),
+        dir: store_in(alloc, found, manner)?,
+        port: port_in(alloc, found)?,
+        manner,
     })
 }
 
@@ -131,7 +183,7 @@ fn option_in(alloc: Global, found: &ArgMatches<'_>, id: &str) -> Result<Option<S
 fn relay_in(alloc: Global, found: &ArgMatches<'_>) -> Result<Line, LineFault> {
     Ok(Line::Relay {
         file: text_in(alloc, found, "FILE")?,
-        port: port_in(found)?,
+        port: port_in(alloc, found)?,
         status: option_in(alloc, found, "status")?,
     })
 }
@@ -143,6 +195,7 @@ fn watched_in(alloc: Global, found: &ArgMatches<'_>) -> Result<Watched, LineFaul
         file: option_in(alloc, found, "FILE")?,
         log: option_in(alloc, found, "log")?,
         relay: option_in(alloc, found, "relay")?,
+        port: port_in(alloc, found)?,
     })
 }
 
@@ -156,30 +209,30 @@ fn board_in(alloc: Global, found: &ArgMatches<'_>) -> Result<Line, LineFault> {
 }
 
 // A command that asks of the controller what this word says.
-fn asked_in(word: Word, found: &ArgMatches<'_>) -> Result<Line, LineFault>
+fn asked_in(alloc: Global, word: Word, found: &ArgMatches<'_>) -> Result<Line, LineFault>
     ensures { IfOk result (IsAskedBy (spelling_of word)) }
 {
     match word {
-        Word::OfCue(verb) => of_cue_in(verb, found),
+        Word::OfCue(verb) => of_cue_in(alloc, verb, found),
         Word::Release => Ok(Line::Ask {
-            order: Order::Release(device_in(found)?),
-            port: port_in(found)?,
+            order: Order::Release(device_in(alloc, found)?),
+            port: port_in(alloc, found)?,
         }),
-        Word::Remove => remove_in(found),
+        Word::Remove => remove_in(alloc, found),
         Word::Status => Ok(Line::Ask {
             order: Order::Status,
-            port: port_in(found)?,
+            port: port_in(alloc, found)?,
         }),
     }
 }
 
 // A command that asks of the controller what its word says.
-fn order_in(name: &str, found: &ArgMatches<'_>) -> Result<Line, LineFault>
+fn order_in(alloc: Global, name: &str, found: &ArgMatches<'_>) -> Result<Line, LineFault>
     ensures { IfOk result (IsAskedBy name.now) }
 {
     match word_in(name) {
-        Some(word) => asked_in(word, found),
-        None => Err(LineFault::Usage),
+        Some(word) => asked_in(alloc, word, found),
+        None => Err(unfit(alloc, name, "is no command")),
     }
 }
 
@@ -187,18 +240,42 @@ fn order_in(name: &str, found: &ArgMatches<'_>) -> Result<Line, LineFault>
 fn line_in(alloc: Global, name: &str, found: &ArgMatches<'_>) -> Result<Line, LineFault> {
     match file_line_in(alloc, name, found) {
         Some(line) => line,
-        None => order_in(name, found),
+        None => order_in(alloc, name, found),
     }
 }
 
-/// Reads a command line, the program's name first, as `clap` matches it.
-pub fn line(alloc: Global, words: &[String]) -> Result<Line, LineFault> {
+// The command that `clap` finds.
+fn matched(alloc: Global, words: &[String]) -> Result<Line, LineFault> {
     let command = cuedesk(alloc)?;
     match command.try_get_matches_from(words) {
         Ok(matches) => match matches.subcommand() {
             Some((name, found)) => line_in(alloc, name, found),
-            None => Err(LineFault::Usage),
+            None => Err(unfit(alloc, "cuedesk", "wants a command after it")),
         },
         Err(error) => Err(fault_of(alloc, &error)),
     }
+}
+
+// The port that CUEDESK_PORT says.
+fn port_of(alloc: Global, text: &str) -> Result<u16, LineFault> {
+    match text.parse::<u16>() {
+        Ok(port) if port >= 1 => Ok(port),
+        _ => Err(unfit(
+            alloc,
+            text,
+            "is no port, and CUEDESK_PORT says it: let it be one of 1 to 65535, or unset it",
+        )),
+    }
+}
+
+/// Reads a command line, the program's name first, as `clap` matches it. Where a command speaks to the controller and
+/// its words name no port, the port is the one that CUEDESK_PORT says, where that is set.
+pub fn line(alloc: Global, words: &[String], environment: Option<&str>) -> Result<Line, LineFault> {
+    let mut line = matched(alloc, words)?;
+    if let (Some(port), Some(text)) = (line.port(), environment) {
+        if port.is_none() {
+            *port = said_port(*port, Some(port_of(alloc, text)?));
+        }
+    }
+    Ok(line)
 }

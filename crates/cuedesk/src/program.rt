@@ -1,14 +1,14 @@
 //! The program: what each command does, prints and answers.
 ghost use Rattle.std.specs.Prelude.{◌≡◌, ◌↔◌};
 ghost use Rattle.cue_desk.specs.Endings.{ending_status};
-ghost use Rattle.cue_desk.specs.Lines.{IsHelp};
-ghost use Rattle.cue_desk.specs.declared.line.LineFault.TheVariants.{Memory, Usage};
+ghost use Rattle.cue_desk.specs.Lines.{IsHelp, IsUsage};
+ghost use Rattle.cue_desk.specs.declared.line.LineFault.TheVariants.{Memory};
 
+mod beside;
 mod board;
 mod files;
 mod loading;
 mod orders;
-mod reading;
 mod rehearsing;
 mod relaying;
 mod saying;
@@ -20,8 +20,10 @@ use crate::line::words::Line;
 use board::{show_board, window_of};
 use cue_desk::ending::Ending;
 use cue_desk::line::LineFault;
+use cue_desk::ports::{PORT, controller_port};
+use cue_show_file::ShowFile;
 use files::{check_file, export};
-use loading::{How, load};
+use loading::{Loaded, load};
 use orders::carry_order;
 use rehearsing::rehearse;
 use relaying::relay_devices;
@@ -33,8 +35,10 @@ use std::random::RandomSource;
 use std::time::Clock;
 use web::serve_page;
 
-/// The port at which the controller listens, where neither the command line nor a show file says another.
-const PORT: u16 = 9100;
+/// The port of the controller: the one that was said, else that of the show file, else 9100.
+pub fn port_of(said: Option<u16>, file: Option<&ShowFile>) -> u16 {
+    controller_port(said, file.and_then(|file| file.port))
+}
 
 // The exit status of a command that is not done. Where its output failed, that is said.
 fn end<R: Eprint>(rt: &R, ending: Ending) -> u8
@@ -49,7 +53,7 @@ fn end<R: Eprint>(rt: &R, ending: Ending) -> u8
 // The exit status where there is no command, or where help was asked for.
 fn refused_line<R: Eprint, W: Write>(rt: &R, fault: LineFault, writer: &mut W) -> u8
     ensures help { result ≡ 0 → IsHelp fault }
-    ensures usage { (result ≡ 2) ↔ (fault ≡ Usage) }
+    ensures usage { (result ≡ 2) ↔ IsUsage fault }
     ensures memory { fault ≡ Memory → result ≡ 3 }
 {
     match fault {
@@ -57,8 +61,8 @@ fn refused_line<R: Eprint, W: Write>(rt: &R, fault: LineFault, writer: &mut W) -
             Ok(()) => 0,
             Err(ending) => end(rt, ending),
         },
-        LineFault::Usage => {
-            say(rt, "the command line is not understood: see cuedesk --help");
+        LineFault::Usage(why) => {
+            say(rt, why.as_str().trim_end());
             2
         }
         LineFault::Memory => {
@@ -79,14 +83,17 @@ fn carry_out<R: Files<File = File> + Net + Clock + RandomSource + Eprint + Alloc
         Line::Check { file } => check_file(rt, file.as_str(), writer),
         Line::Load {
             file,
+            dir,
             port,
-            replace,
+            manner,
         } => {
-            let how = How {
-                replaces: *replace,
+            let what = Loaded {
+                path: file.as_str(),
+                dir: dir.as_deref(),
+                manner: *manner,
                 tells: is_terminal,
             };
-            load(rt, file.as_str(), *port, how, writer)
+            load(rt, what, *port, writer)
         }
         Line::Export { dir } => export(rt, dir.as_str(), writer),
         Line::Board {
@@ -102,20 +109,24 @@ fn carry_out<R: Files<File = File> + Net + Clock + RandomSource + Eprint + Alloc
         Line::Relay { file, port, status } => {
             relay_devices(rt, file.as_str(), *port, status.as_deref(), writer)
         }
-        Line::Ask { order, port } => carry_order(rt, *order, port.unwrap_or(PORT), writer),
+        Line::Ask { order, port } => {
+            carry_order(rt, *order, controller_port(*port, None), writer)
+        },
     }
 }
 
 /// Carries a command line out, the program's name first, and answers the exit status: 0 where it is done, 1 where the
 /// controller refuses or a show file has mistakes, 2 where the command line is not understood, 3 where nobody
-/// replies or the machine fails. Why stands on standard error.
+/// replies or the machine fails. Why stands on standard error. The environment says the port of the controller where
+/// the command line does not.
 pub fn perform<R: Files<File = File> + Net + Clock + RandomSource + Eprint + AllocGlobal, W: Write>(
     rt: &R,
     words: &[String],
+    environment: Option<&str>,
     is_terminal: bool,
     writer: &mut W,
 ) -> u8 {
-    match line(rt.alloc(), words) {
+    match line(rt.alloc(), words, environment) {
         Ok(line) => match carry_out(rt, &line, is_terminal, writer) {
             Ok(()) => 0,
             Err(ending) => end(rt, ending),

@@ -11,8 +11,8 @@ use super::parts::read_parts;
 use super::tables::{Place, place_of, tables_in};
 use crate::checking::note_torn;
 use crate::file::{CueEntry, DeviceEntry};
-use crate::headers::lines_for;
-use crate::mistake::{Findings, Key, Mistake, Subject};
+use crate::headers::{Headers, lines_for};
+use crate::mistake::{Findings, Key, Mistake, Section, Subject};
 use cue_show::{CueNo, Parts};
 use std::alloc::{AllocError, Global};
 use toml::{Table, Value};
@@ -54,7 +54,13 @@ fn read_rest(alloc: Global, findings: &mut Findings, table: &Table) -> Result<Re
         (only_if (is_of_cue (table_view table.now))
         (list_said part_said (get_member (codes "parts") (table_view table.now))))) }
 {
-    note_unknown(alloc, findings, table, &["number", "name", "note", "parts"])?;
+    note_unknown(
+        alloc,
+        findings,
+        table,
+        Section::Cue,
+        &["number", "name", "note", "parts"],
+    )?;
     let name = text_in(findings, table, "name", Key::Name)?;
     let note = text_in(findings, table, "note", Key::Note)?;
     let parts = read_parts(alloc, findings, table)?;
@@ -141,23 +147,18 @@ fn read_each(
     Ok(cues)
 }
 
-// The cues of a file that has these devices. Each is at one of these lines, where there are as many.
+// The cues of a file that has these devices. Each is at the line of its header, where there are as many.
 pub(super) fn read_cues(
     alloc: Global,
     findings: &mut Findings,
     devices: &[DeviceEntry],
-    lines: &[usize],
+    headers: &Headers,
     table: &Table,
 ) -> Result<Vec<CueEntry>, AllocError>
     ensures { IfOk result (λ cues. if_clean findings.new (Some (cues_of cues.items))
         ≡ if_clean findings.old (list_or_none cue_said (get_member (codes "cue") (table_view table.now)))) }
 {
-    let values = tables_in(findings, table, "cue")?;
-    read_each(
-        alloc,
-        findings,
-        devices,
-        lines_for(lines, values.len()),
-        values,
-    )
+    let values = tables_in(findings, headers.single, table, "cue")?;
+    let lines = lines_for(&headers.cues, values.len());
+    read_each(alloc, findings, devices, lines, values)
 }

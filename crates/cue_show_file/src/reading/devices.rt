@@ -16,8 +16,8 @@ ghost use Rattle.cue_show_file.specs.Said.{device_at, device_said, each_said, li
 use super::keys::{device_in, note_unknown, port_in, text_in};
 use super::tables::{Place, place_of, tables_in};
 use crate::file::DeviceEntry;
-use crate::headers::lines_for;
-use crate::mistake::{Findings, Key, Mistake, Subject};
+use crate::headers::{Headers, lines_for};
+use crate::mistake::{Findings, Key, Mistake, Section, Subject};
 use crate::network::read_address;
 use cue_show::DeviceNo;
 use std::alloc::{AllocError, Global};
@@ -82,6 +82,7 @@ fn read_device(
         alloc,
         findings,
         table,
+        Section::Device,
         &["number", "port", "address", "name"],
     )?;
     let name = text_in(findings, table, "name", Key::Name)?;
@@ -143,11 +144,11 @@ fn read_each(
     Ok(devices)
 }
 
-// The devices of a file. Each is at one of these lines, where there are as many.
+// The devices of a file. Each is at the line of its header, where there are as many.
 pub(super) fn read_devices(
     alloc: Global,
     findings: &mut Findings,
-    lines: &[usize],
+    headers: &Headers,
     table: &Table,
 ) -> Result<Vec<DeviceEntry>, AllocError>
     ensures said { IfOk result (λ devices. IsTrue (is_clean findings.new)
@@ -157,6 +158,7 @@ pub(super) fn read_devices(
         → if_clean findings.new (Some (devices_of devices.items))
         ≡ if_clean findings.old (list_or_none device_said (get_member (codes "device") (table_view table.now)))) }
 {
-    let values = tables_in(findings, table, "device")?;
-    read_each(alloc, findings, lines_for(lines, values.len()), values)
+    let values = tables_in(findings, headers.single, table, "device")?;
+    let lines = lines_for(&headers.devices, values.len());
+    read_each(alloc, findings, lines, values)
 }

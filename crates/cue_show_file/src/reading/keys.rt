@@ -16,13 +16,14 @@ ghost use Rattle.cue_show_file.specs.Said.{
   port_at,
 };
 
-use crate::mistake::{Findings, Key, Mistake};
+use crate::mistake::{Findings, Key, Mistake, Section};
 use cue_show::{CueNo, DeviceNo};
+use cue_words::shown_text;
 use std::alloc::{AllocError, Global};
 use toml::{Table, Value};
 
-// Whether the key is among these.
-fn is_known(known: &[&str], key: &str) -> bool
+/// Whether the key is among these.
+pub(super) fn is_known(known: &[&str], key: &str) -> bool
     ensures { result ≡ is_among (map (λ k. k.now) known.now) key.now }
 {
     for name in known {
@@ -33,11 +34,23 @@ fn is_known(known: &[&str], key: &str) -> bool
     false
 }
 
-// Notes the key, where it is not among these.
-fn note_if_unknown(
+// The most characters of a key that are shown.
+const MAX_SHOWN: usize = 64;
+
+// The first characters of a key, as many as are shown.
+fn front_of(key: &str) -> &str {
+    match key.char_indices().nth(MAX_SHOWN) {
+        Some((end, _)) => key.get(..end).unwrap_or(""),
+        None => key,
+    }
+}
+
+/// Notes the key, where it is not among these, which are those of such a table.
+pub(super) fn note_if_unknown(
     alloc: Global,
     findings: &mut Findings,
     key: &str,
+    section: Section,
     known: &[&str],
 ) -> Result<(), AllocError>
     ensures { IfOk result (λ _. is_clean findings.new
@@ -46,21 +59,23 @@ fn note_if_unknown(
     if is_known(known, key) {
         return Ok(());
     }
-    findings.note(Mistake::UnknownKey(String::from_str(alloc, key)?))
+    let shown = shown_text(alloc, front_of(key))?;
+    findings.note(Mistake::UnknownKey(section, shown))
 }
 
-// Notes each key that is not among these.
+/// Notes each key that is not among these, which are those of such a table.
 pub(super) fn note_unknown(
     alloc: Global,
     findings: &mut Findings,
     table: &Table,
+    section: Section,
     known: &[&str],
 ) -> Result<(), AllocError>
     ensures { IfOk result (λ _. is_clean findings.new
         ≡ (is_clean findings.old && has_only (map (λ k. k.now) known.now) (table_view table.now))) }
 {
     for key in table.keys() {
-        note_if_unknown(alloc, findings, key.as_str(), known)?;
+        note_if_unknown(alloc, findings, key.as_str(), section, known)?;
     }
     Ok(())
 }

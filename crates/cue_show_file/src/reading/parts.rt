@@ -9,7 +9,7 @@ ghost use Rattle.cue_show_file.specs.Said.{bytes_by, device_at, each_said, list_
 ghost use Rattle.cue_show_file.specs.Said.{table_said};
 
 use super::keys::{device_in, note_unknown, optional_in, value_at, wanted};
-use crate::mistake::{Findings, Key, Mistake};
+use crate::mistake::{Findings, Key, Mistake, Section};
 use cue_show::{Bytes, DeviceNo, Part, Parts};
 use std::alloc::{AllocError, Global};
 use toml::{Table, Value};
@@ -143,6 +143,7 @@ fn read_part(
         alloc,
         findings,
         table,
+        Section::Part,
         &["device", "hex", "text", "optional"],
     )?;
     match part_in(alloc, findings, table)? {

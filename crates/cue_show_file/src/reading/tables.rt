@@ -27,9 +27,10 @@ pub(super) fn place_of(lines: &[usize], index: usize) -> Place {
     }
 }
 
-// The tables of the file under this key; none where there is no such key.
+// The tables of the file under this key, which stands at this line; none where there is no such key.
 pub(super) fn tables_in<'a>(
     findings: &mut Findings,
+    line: Option<usize>,
     table: &'a Table,
     name: &str,
 ) -> Result<&'a [Value], AllocError>
@@ -40,7 +41,7 @@ pub(super) fn tables_in<'a>(
         None => Ok(&[]),
         Some(Value::Array(values)) => Ok(values.as_slice()),
         Some(_) => {
-            findings.look_at(None, Subject::File);
+            findings.look_at(line, Subject::File);
             findings.note(Mistake::NoTables)?;
             Ok(&[])
         }

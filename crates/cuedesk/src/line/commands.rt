@@ -12,15 +12,17 @@ fn word<'a>(alloc: Global, id: &'a str, help: &'a str) -> Arg<'a> {
         .action(ArgAction::Set)
 }
 
-/// The port of the controller.
-pub(super) fn port<'a>(alloc: Global) -> Arg<'a> {
-    Arg::new(alloc, "port")
-        .help(
-            "The port of 127.0.0.1 at which the controller listens; 9100, or that of the show file",
-        )
-        .long("port")
-        .action(ArgAction::Set)
-        .value_parser(value_parser!(u16))
+/// The port of the controller, of a command that reads a show file.
+pub(super) fn port_or_file<'a>(alloc: Global) -> Arg<'a> {
+    let help =
+        "The controller's port at 127.0.0.1; else CUEDESK_PORT says it, or the show file, or it is 9100";
+    option(alloc, "port", help).value_parser(value_parser!(u16))
+}
+
+/// The port of the controller, of a command that reads no show file.
+fn port<'a>(alloc: Global) -> Arg<'a> {
+    let help = "The controller's port at 127.0.0.1; else CUEDESK_PORT says it, or it is 9100";
+    option(alloc, "port", help).value_parser(value_parser!(u16))
 }
 
 /// An option with a word after it.
@@ -111,6 +113,7 @@ fn board<'a>(alloc: Global) -> Result<Command<'a>, AllocError> {
     board_of_files(alloc)?
         .arg(option(alloc, "log", log))?
         .arg(relay_status(alloc))?
+        .arg(port_or_file(alloc))?
         .arg(rows(alloc))?
         .arg(flag(alloc, "once", "Print it once, as text"))
 }
@@ -123,11 +126,18 @@ fn check<'a>(alloc: Global) -> Result<Command<'a>, AllocError> {
 
 // The command `load`.
 fn load<'a>(alloc: Global) -> Result<Command<'a>, AllocError> {
-    let about = "Add the devices and cues of a show file:  cuedesk load evening.toml";
-    let replace = "Remove first what is there and differs; refused while a cue is live";
+    let about =
+        "Add the devices and cues of a show file, and compare:  cuedesk load evening.toml show";
+    let dir =
+        "The folder that a.area and b.area stand in: what the store has is compared with the file";
+    let replace =
+        "Replace what differs, and give the stack the order of the file; refused while a cue is live";
+    let exact = "The same, and remove what the file does not have";
     over_file(alloc, "load", about)?
-        .arg(port(alloc))?
-        .arg(flag(alloc, "replace", replace))
+        .arg(Arg::new(alloc, "DIR").help(dir).action(ArgAction::Set))?
+        .arg(port_or_file(alloc))?
+        .arg(flag(alloc, "replace", replace))?
+        .arg(flag(alloc, "exact", exact))
 }
 
 // The command `export`.
@@ -142,7 +152,7 @@ fn relay<'a>(alloc: Global) -> Result<Command<'a>, AllocError> {
         "Stand between the controller and devices on the stage's network:  cuedesk relay evening.toml";
     let status = "Write there, once a second, when each device was heard; the board reads it";
     over_file(alloc, "relay", about)?
-        .arg(port(alloc))?
+        .arg(port_or_file(alloc))?
         .arg(option(alloc, "status", status))
 }
 
@@ -228,9 +238,13 @@ fn with_devices<'a>(alloc: Global, command: Command<'a>) -> Result<Command<'a>, 
 
 /// All commands.
 pub(super) fn cuedesk<'a>(alloc: Global) -> Result<Command<'a>, AllocError> {
-    let command = Command::new(alloc, "cuedesk").version("1.0").about(
-        "The desk beside cuectl: show files, commands, and the board",
-    );
+    let about = "The desk beside cuectl: show files, commands, and the board";
+    let port =
+        "CUEDESK_PORT says the controller's port for all commands of a window; --port wins over it.";
+    let command = Command::new(alloc, "cuedesk")
+        .version("1.0")
+        .about(about)
+        .after_help(port);
     let command = with_views(alloc, with_files(alloc, command)?)?;
     with_devices(alloc, with_cues(alloc, command)?)
 }

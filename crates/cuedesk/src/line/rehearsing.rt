@@ -2,7 +2,7 @@
 use super::commands::{option, over_file};
 use super::text_in;
 use clap::{Arg, ArgMatches, Command, value_parser};
-use cue_desk::line::LineFault;
+use cue_desk::line::{LineFault, unfit};
 use cue_rehearsal::{MAX_TIME, Plan, read_devices};
 use cue_show::DeviceNo;
 use std::alloc::{AllocError, Global};
@@ -106,11 +106,23 @@ pub fn rehearse<'a>(alloc: Global) -> Result<Command<'a>, AllocError> {
         .arg(option(alloc, "fails", fails))
 }
 
+// A number that is too large for this flag.
+fn too_large(alloc: Global, name: &str, number: u32, most: u32) -> Result<LineFault, AllocError> {
+    let word = format!(in alloc; "--{name} {number}")?;
+    let wanted = format!(in alloc; "is too large: {most} at most")?;
+    Ok(unfit(alloc, word.as_str(), wanted.as_str()))
+}
+
 // The number at this flag, up to this one.
-fn number_in(found: &ArgMatches<'_>, name: &str, most: u32) -> Result<Option<u32>, LineFault> {
+fn number_in(
+    alloc: Global,
+    found: &ArgMatches<'_>,
+    name: &str,
+    most: u32,
+) -> Result<Option<u32>, LineFault> {
     match found.get_one::<u32>(name) {
         Some(number) if number <= most => Ok(Some(number)),
-        Some(_) => Err(LineFault::Usage),
+        Some(number) => Err(too_large(alloc, name, number, most)?),
         None => Ok(None),
     }
 }
@@ -126,17 +138,21 @@ fn devices_in(
     };
     match read_devices(alloc, text)? {
         Some(devices) => Ok(Some(devices)),
-        None => Err(LineFault::Usage),
+        None => Err(unfit(
+            alloc,
+            text,
+            "is no list of devices: write their numbers, 0 to 111, with commas, as 3,22",
+        )),
     }
 }
 
 // What the flags say of times, and of what is lost.
-fn times_in(found: &ArgMatches<'_>) -> Result<Times, LineFault> {
+fn times_in(alloc: Global, found: &ArgMatches<'_>) -> Result<Times, LineFault> {
     Ok(Times {
-        prepare: number_in(found, "prepare", MAX_TIME)?,
-        moving: number_in(found, "move", MAX_TIME)?,
-        spread: number_in(found, "spread", MAX_TIME)?,
-        loss: number_in(found, "loss", 100)?,
+        prepare: number_in(alloc, found, "prepare", MAX_TIME)?,
+        moving: number_in(alloc, found, "move", MAX_TIME)?,
+        spread: number_in(alloc, found, "spread", MAX_TIME)?,
+        loss: number_in(alloc, found, "loss", 100)?,
     })
 }
 
@@ -152,7 +168,7 @@ fn named_in(alloc: Global, found: &ArgMatches<'_>) -> Result<Named, LineFault> {
 // What all flags say.
 fn flags_in(alloc: Global, found: &ArgMatches<'_>) -> Result<Flags, LineFault> {
     Ok(Flags {
-        times: times_in(found)?,
+        times: times_in(alloc, found)?,
         named: named_in(alloc, found)?,
     })
 }

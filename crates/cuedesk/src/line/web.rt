@@ -1,6 +1,6 @@
 //! The command `web`, and what stands after it.
-use super::commands::{names_file, over_dir, port, relay_status};
-use super::{option_in, port_in, text_in};
+use super::commands::{names_file, over_dir, port_or_file, relay_status};
+use super::{no_port, option_in, port_in, text_in};
 use clap::{Arg, ArgAction, ArgMatches, Command, value_parser};
 use cue_desk::line::LineFault;
 use std::alloc::{AllocError, Global};
@@ -16,7 +16,7 @@ pub struct Web {
     pub relay: Option<String>,
     /// The port of 127.0.0.1 at which the page is.
     pub http: u16,
-    /// The port of the controller, where the command line says it.
+    /// The port of the controller, where the command line or the environment says it.
     pub port: Option<u16>,
 }
 
@@ -42,7 +42,7 @@ pub fn web_command<'a>(alloc: Global) -> Result<Command<'a>, AllocError> {
     web_of_files(alloc)?
         .arg(http(alloc))?
         .arg(relay_status(alloc))?
-        .arg(port(alloc))
+        .arg(port_or_file(alloc))
 }
 
 /// The command `web`, with what stands after it.
@@ -54,8 +54,8 @@ pub fn web_in(alloc: Global, found: &ArgMatches<'_>) -> Result<Web, LineFault> {
             file,
             relay: option_in(alloc, found, "relay")?,
             http,
-            port: port_in(found)?,
+            port: port_in(alloc, found)?,
         }),
-        _ => Err(LineFault::Usage),
+        _ => Err(no_port(alloc, "0")),
     }
 }

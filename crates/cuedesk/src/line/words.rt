@@ -14,9 +14,23 @@ pub struct Watched {
     pub log: Option<String>,
     /// The file in which a relay reports.
     pub relay: Option<String>,
+    /// The port of the controller, where the command line or the environment says it.
+    pub port: Option<u16>,
 }
 
-/// A command, as the words of a command line give it.
+/// What becomes of what is in the store already.
+#[derive(Clone, Copy, Debug, PartialEq, Eq)]
+pub enum Manner {
+    /// All of it stays as it is: what the file has and the store has not is added.
+    Adds,
+    /// What differs is replaced, and the stack gets the order of the file. What the file does not have stays.
+    Replaces,
+    /// The same, and what the file does not have is removed.
+    IsExact,
+}
+
+/// A command, as the words of a command line give it. A port in it is that of the controller, where the command line or
+/// the environment says it.
 #[derive(Drop)]
 pub enum Line {
     /// Tell every mistake of this show file.
@@ -26,9 +40,10 @@ pub enum Line {
     /// Add what this show file has.
     Load {
         file: String,
+        /// The folder of the store, where it is given: then what the store has is compared with the file.
+        dir: Option<String>,
         port: Option<u16>,
-        /// Whether what is there and differs is removed first.
-        replace: bool,
+        manner: Manner,
     },
     /// Print the show of this folder as a show file.
     Export {
@@ -56,4 +71,18 @@ pub enum Line {
         order: Order,
         port: Option<u16>,
     },
+}
+
+impl Line {
+    /// The port of a command that speaks to the controller.
+    pub fn port(&mut self) -> Option<&mut Option<u16>> {
+        match self {
+            Line::Load { port, .. } | Line::Relay { port, .. } | Line::Ask { port, .. } => {
+                Some(port)
+            }
+            Line::Board { watched, .. } => Some(&mut watched.port),
+            Line::Web(web) => Some(&mut web.port),
+            Line::Check { .. } | Line::Export { .. } | Line::Rehearse(_) => None,
+        }
+    }
 }

@@ -1,33 +1,40 @@
-//! The command `board`: once as text, or on a terminal, four times a second.
+//! The command `board`: once as text, or again and again on a terminal.
 ghost use Rattle.std.specs.Prelude.{◌≡◌, ◌-◌, ◌+◌};
 ghost use Rattle.cuedesk.specs.Windows.{window_of};
 
-mod beside;
 mod screen;
 
-use super::files::read_file;
-use super::reading::{Reading, Store, time_now};
-use super::saying::{print, say};
+use super::beside::{read_log, relay_line};
+use super::files::{open_store, read_file};
+use super::port_of;
+use super::saying::{failed, print, say, say_fault};
 use crate::line::words::Watched;
-pub use beside::read_status;
-use beside::{read_heard, read_log};
-use cue_desk::board::{COLUMNS, age_line, board_lines, board_lines_within, fitted};
+use cue_board::{Names, board_lines};
 use cue_desk::ending::Ending;
+use cue_desk_run::{Beat, Desk, Sources};
 use cue_show_file::ShowFile;
 use screen::Screen;
 use std::alloc::{AllocError, Global};
 use std::fs::{File, Files};
-use std::io::{Eprint, Write};
-use std::thread;
-use std::time::{Clock, Duration};
+use std::io::{self, Eprint, Write};
+use std::net::Net;
+use std::time::Clock;
 
-/// The time between two readings, in milliseconds.
-const PAUSE: u64 = 250;
+/// How long a round waits at most, in milliseconds.
+const PAUSE: u64 = 20;
 
-/// The rows of a window, where they are not given.
+/// How many milliseconds lie between two pictures.
+const PICTURE: u64 = 100;
+
+/// How long a board waits for what it shows before it is drawn, in milliseconds: once as text, and on a terminal.
+const PATIENCE: u64 = 1_000;
+
+const FIRST: u64 = 100;
+
+/// The rows of a window, if they are not given.
 const ROWS: u16 = 24;
 
-/// The rows of the window that the board is drawn in; none where it is printed once, as text.
+/// The rows of the window that the board is drawn in; none if it is printed once, as text.
 pub fn window_of(is_once: bool, given: Option<u16>) -> Option<u16>
     ensures { result ≡ window_of is_once given }
 {
@@ -38,90 +45,73 @@ pub fn window_of(is_once: bool, given: Option<u16>) -> Option<u16>
     }
 }
 
-// How many lines the state has in a window of so many rows, with so many other lines and a row for the cursor.
+// How many lines the view has in a window of so many rows, with so many other lines and a row for the cursor.
 fn room_in(rows: u16, others: usize) -> usize
     ensures { result ≡ rows - (others + 1) }
 {
     usize::from(rows).saturating_sub(1).saturating_sub(others)
 }
 
-// Puts these lines after the others.
-fn append(lines: &mut Vec<String>, more: Vec<String>) -> Result<(), AllocError> {
-    for line in more {
-        lines.push(line)?;
-    }
-    Ok(())
-}
-
-/// The board of one folder.
+/// The board of one desk.
 #[derive(Drop)]
 struct Board<'a, R> {
     rt: &'a R,
-    watched: &'a Watched,
-    // the rows of its window; none where it is printed once
-    rows: Option<u16>,
+    desk: Desk<'a, R>,
+    dir: &'a str,
     file: Option<ShowFile>,
-    store: Store,
+    port: u16,
+    log: Option<&'a str>,
+    relay: Option<&'a str>,
+    // the rows of its window; none if it is printed once
+    rows: Option<u16>,
 }
 
-impl<'a, R: Files<File = File> + Clock + AllocGlobal> Board<'a, R> {
-    // Puts what is read beside the store after the lines.
-    fn push_beside(&self, lines: &mut Vec<String>, time: u64) -> Result<(), AllocError> {
-        if let Some(path) = &self.watched.relay {
-            append(lines, read_heard(self.rt, path.as_str(), time)?)?;
+impl<'a, R: Files<File = File> + Net + Clock + AllocGlobal> Board<'a, R> {
+    // The last lines of the log, if one is shown.
+    fn log_lines(&self) -> Result<Vec<String>, AllocError> {
+        match self.log {
+            Some(path) => read_log(self.rt, path),
+            None => Ok(Vec::new(self.rt.alloc())),
         }
-        if let Some(path) = &self.watched.log {
-            append(lines, read_log(self.rt, path.as_str())?)?;
-        }
-        Ok(())
     }
 
-    // The lines after those of the state: its age, why it is old where it is, and what is read beside the store.
-    fn others(
-        &self,
-        reading: &Reading,
-        time: u64,
-        trouble: &str,
-    ) -> Result<Vec<String>, AllocError> {
-        let alloc = self.rt.alloc();
-        let mut lines = Vec::new(alloc);
-        lines.push(age_line(alloc, reading.time(), time)?)?;
-        if !trouble.is_empty() {
-            let text = format!(in alloc; "OLD    {trouble}")?;
-            lines.push(fitted(alloc, text.as_str(), COLUMNS)?)?;
+    // The lines of the newest view, and after them those of the log.
+    fn lines(&self) -> Result<Vec<String>, AllocError> {
+        let names = Names {
+            file: self.file.as_ref(),
+            port: self.port,
+        };
+        let others = self.log_lines()?;
+        let room = self.rows.map(|rows| room_in(rows, others.len()));
+        let mut lines = board_lines(self.rt.alloc(), self.desk.view(), &names, room)?;
+        for line in others {
+            lines.push(line)?;
         }
-        self.push_beside(&mut lines, time)?;
         Ok(lines)
     }
 
-    // The lines of the state, beside so many others.
-    fn state_lines(
-        &self,
-        reading: &Reading,
-        time: u64,
-        others: usize,
-    ) -> Result<Vec<String>, AllocError> {
-        let (alloc, file) = (self.rt.alloc(), self.file.as_ref());
-        match self.rows {
-            Some(rows) => {
-                let room = room_in(rows, others);
-                board_lines_within(alloc, reading.state(), file, time, room)
-            }
-            None => board_lines(alloc, reading.state(), file, time),
+    // Why there is nothing of a relay that is watched, if that is so.
+    fn relay_lines(&self) -> Result<Vec<String>, AllocError> {
+        match self.relay {
+            Some(path) if self.desk.view().network.is_empty() => relay_line(self.rt, path),
+            _ => Ok(Vec::new(self.rt.alloc())),
         }
     }
 
-    // The lines as of now; the outer `Err` is why there is no board at all.
-    fn lines(&mut self) -> Result<Result<Vec<String>, String>, AllocError> {
-        let trouble = self.store.look(self.rt);
-        let time = time_now(self.rt);
-        let Some(reading) = self.store.last() else {
-            return Ok(Err(trouble));
-        };
-        let others = self.others(reading, time, trouble.as_str())?;
-        let mut lines = self.state_lines(reading, time, others.len())?;
-        append(&mut lines, others)?;
-        Ok(Ok(lines))
+    // The lines of a board that is printed once, with what only a second or five of looking would show: that there is
+    // nothing of a relay, and that serve says otherwise than the files, as it may while a change is under way.
+    fn all_lines(&self) -> Result<Vec<String>, AllocError> {
+        let (alloc, port) = (self.rt.alloc(), self.port);
+        let mut lines = self.lines()?;
+        for line in self.relay_lines()? {
+            lines.push(line)?;
+        }
+        if self.desk.differs() {
+            lines.push(format!(in alloc;
+                "?      serve at port {port} says otherwise: a change is under way, or it has other files"
+            )?)?;
+        }
+        Ok(lines)
     }
 }
 
@@ -135,56 +125,76 @@ fn joined(alloc: Global, lines: &[String]) -> Result<String, AllocError> {
     Ok(text)
 }
 
-// The board as text, once.
-fn print_once<R: Files<File = File> + Clock + Eprint + AllocGlobal, W: Write>(
-    board: &mut Board<'_, R>,
-    writer: &mut W,
-) -> Result<(), Ending> {
-    match board.lines()? {
-        Ok(lines) => print(writer, joined(board.rt.alloc(), &lines)?.as_str()),
-        Err(why) => {
-            say(board.rt, why.as_str());
-            Err(Ending::Failed)
+// Goes on until the store was read and a status answered, or so many milliseconds have passed.
+fn hear_all<R: Files<File = File> + Net + Clock + AllocGlobal>(
+    desk: &mut Desk<'_, R>,
+    most: u64,
+) -> io::Result<()> {
+    for _ in 0..u64::MAX {
+        desk.round()?;
+        if desk.is_complete() || desk.now()? > most {
+            return Ok(());
         }
+        desk.wait(PAUSE)?;
     }
+    Ok(())
 }
 
-// One line alone.
-fn only(alloc: Global, line: String) -> Result<Vec<String>, AllocError> {
-    let mut lines = Vec::new(alloc);
-    lines.push(line)?;
-    Ok(lines)
+// Says why the store of this folder was not read.
+fn say_unread<R: Files<File = File> + Eprint + AllocGlobal>(rt: &R, dir: &str) -> Ending {
+    if let Err(why) = open_store(rt, dir) {
+        say(rt, why.as_str());
+    }
+    Ending::Failed
 }
 
-// One picture of the board; where there was none yet, the line that says why.
-fn show_next<R: Files<File = File> + Clock + AllocGlobal, W: Write>(
+// The board as text, once.
+fn print_once<R: Files<File = File> + Net + Clock + Eprint + AllocGlobal, W: Write>(
     board: &mut Board<'_, R>,
-    screen: &mut Screen,
     writer: &mut W,
 ) -> Result<(), Ending> {
-    let alloc = board.rt.alloc();
-    let lines = match board.lines()? {
-        Ok(lines) => lines,
-        Err(why) => only(alloc, why)?,
-    };
-    print(writer, screen.picture(alloc, lines)?.as_str())
+    if let Err(why) = hear_all(&mut board.desk, PATIENCE) {
+        return Err(failed(board.rt, &why));
+    }
+    if board.desk.view().read.is_none() {
+        return Err(say_unread(board.rt, board.dir));
+    }
+    let lines = board.all_lines()?;
+    print(writer, joined(board.rt.alloc(), &lines)?.as_str())
+}
+
+// Hears what is there; answers whether a picture is due.
+fn round<R: Files<File = File> + Net + Clock + AllocGlobal>(
+    desk: &mut Desk<'_, R>,
+    pictures: &mut Beat,
+) -> io::Result<bool> {
+    desk.wait(PAUSE)?;
+    desk.round()?;
+    Ok(pictures.is_due(desk.now()?))
 }
 
 // The board until the terminal or a signal ends it.
-fn show_on<R: Files<File = File> + Clock + AllocGlobal, W: Write>(
+fn show_on<R: Files<File = File> + Net + Clock + Eprint + AllocGlobal, W: Write>(
     board: &mut Board<'_, R>,
     writer: &mut W,
 ) -> Result<(), Ending> {
-    let mut screen = Screen::new(board.rt.alloc());
+    let alloc = board.rt.alloc();
+    let (mut screen, mut pictures) = (Screen::new(alloc), Beat::of(PICTURE));
+    let mut is_due = hear_all(&mut board.desk, FIRST).map(|()| true);
     for _ in 0..u64::MAX {
-        show_next(board, &mut screen, writer)?;
-        thread::sleep(board.rt, Duration::from_millis(PAUSE));
+        match is_due {
+            Ok(true) => print(writer, screen.picture(alloc, board.lines()?)?.as_str())?,
+            Ok(false) => {}
+            Err(why) => return Err(failed(board.rt, &why)),
+        }
+        say_fault(board.rt, board.desk.take_fault());
+        is_due = round(&mut board.desk, &mut pictures);
     }
     Ok(())
 }
 
 /// The command `board`: once as text, or again and again in a window of so many rows.
-pub fn show_board<R: Files<File = File> + Clock + Eprint + AllocGlobal, W: Write>(
+pub fn show_board<R: Files<File = File> + Net + Clock + Eprint + AllocGlobal, W: Write>(
     rt: &R,
     watched: &Watched,
     rows: Option<u16>,
@@ -194,13 +204,24 @@ pub fn show_board<R: Files<File = File> + Clock + Eprint + AllocGlobal, W: Write
         Some(path) => Some(read_file(rt, path.as_str())?),
         None => None,
     };
-    let dir = String::from_str(rt.alloc(), watched.dir.as_str())?;
+    let sources = Sources {
+        dir: watched.dir.as_str(),
+        port: port_of(watched.port, file.as_ref()),
+        relay: watched.relay.as_deref(),
+    };
+    let desk = match Desk::new(rt, &sources) {
+        Ok(desk) => desk,
+        Err(why) => return Err(failed(rt, &why)),
+    };
     let mut board = Board {
         rt,
-        watched,
-        rows,
+        desk,
+        dir: sources.dir,
         file,
-        store: Store::new(dir),
+        port: sources.port,
+        log: watched.log.as_deref(),
+        relay: sources.relay,
+        rows,
     };
     if rows.is_none() {
         print_once(&mut board, writer)

@@ -1,15 +1,19 @@
 //! Show files and stores, as the commands read them.
-use super::rehearsing::{knows_plan, plan_of};
+use super::rehearsing::{PlanPlace, knows_plan, plan_of};
 use super::saying::{print, say};
 use cue_copies::{Seen, look_again};
 use cue_desk::counting::Count;
 use cue_desk::ending::Ending;
 use cue_disk::{FileDisk, MemDisk};
 use cue_keeper::Keeper;
-use cue_show_file::{Draft, Finding, ShowFile, check, of_show, read, written};
+use cue_show::Show;
+use cue_show_file::{
+    Draft, Finding, Review, ShowFile, check, condensed, of_show, read, review_of, written,
+};
 use std::alloc::Global;
 use std::fs::{self, File, Files};
 use std::io::{self, Eprint, ErrorKind, Write};
+use toml::Table;
 
 // Says why a show file was not read.
 fn say_unread<R: Eprint>(rt: &R, path: &str, why: &io::Error) {
@@ -22,35 +26,94 @@ fn say_unread<R: Eprint>(rt: &R, path: &str, why: &io::Error) {
     }
 }
 
-/// Reads a show file that has no mistake, with all that TOML reads from it; else each mistake is on standard error,
-/// with the file and the line.
-pub fn read_draft<R: Files<File = File> + Eprint + AllocGlobal>(
+// The text of a show file; else why it was not read is said.
+fn read_text<R: Files<File = File> + Eprint + AllocGlobal>(
     rt: &R,
     path: &str,
-) -> Result<Draft, Ending> {
-    let text = match fs::read_to_string(rt, path) {
-        Ok(text) => text,
+) -> Result<String, Ending> {
+    match fs::read_to_string(rt, path) {
+        Ok(text) => Ok(text),
         Err(why) => {
             say_unread(rt, path, &why);
-            return Err(Ending::Failed);
+            Err(Ending::Failed)
         }
-    };
-    let draft = read(rt.alloc(), text.as_str())?;
-    let trial = check(rt.alloc(), &draft.file)?;
-    if draft.findings.is_empty() && trial.show.is_some() {
-        return Ok(draft);
     }
-    say_findings(rt, path, &draft.findings);
-    say_findings(rt, path, &trial.findings);
-    Err(Ending::Refused)
 }
 
-/// Reads a show file that has no mistake, as `read_draft` does.
+/// What was read of a show file, the show that it makes, and what is told of the mistakes in it.
+#[derive(Drop)]
+struct Looked {
+    file: ShowFile,
+    table: Table,
+    rehearse: Option<usize>,
+    show: Option<Show>,
+    told: Vec<Finding>,
+}
+
+// Reads a show file, with each mistake.
+fn look_at<R: Files<File = File> + Eprint + AllocGlobal>(
+    rt: &R,
+    path: &str,
+) -> Result<Looked, Ending> {
+    let text = read_text(rt, path)?;
+    let Draft {
+        file,
+        findings,
+        table,
+        rehearse,
+    } = read(rt.alloc(), text.as_str())?;
+    let trial = check(rt.alloc(), &file)?;
+    Ok(Looked {
+        file,
+        table,
+        rehearse,
+        show: trial.show,
+        told: condensed(rt.alloc(), findings, trial.findings)?,
+    })
+}
+
+/// A show file that has no mistake, with all that TOML reads from it, and the show that it makes.
+#[derive(Drop)]
+pub struct Sound {
+    pub file: ShowFile,
+    pub table: Table,
+    /// The line of the table `[rehearse]`, where it can be seen.
+    pub rehearse: Option<usize>,
+    pub show: Show,
+}
+
+/// Reads a show file that has no mistake; else each one is on standard error, with the file and the line.
+pub fn read_sound<R: Files<File = File> + Eprint + AllocGlobal>(
+    rt: &R,
+    path: &str,
+) -> Result<Sound, Ending> {
+    let Looked {
+        file,
+        table,
+        rehearse,
+        show,
+        told,
+    } = look_at(rt, path)?;
+    match show {
+        Some(show) if told.is_empty() => Ok(Sound {
+            file,
+            table,
+            rehearse,
+            show,
+        }),
+        _ => {
+            say_findings(rt, path, &told);
+            Err(Ending::Refused)
+        }
+    }
+}
+
+/// Reads a show file that has no mistake, as `read_sound` does.
 pub fn read_file<R: Files<File = File> + Eprint + AllocGlobal>(
     rt: &R,
     path: &str,
 ) -> Result<ShowFile, Ending> {
-    let Draft { file, .. } = read_draft(rt, path)?;
+    let Sound { file, .. } = read_sound(rt, path)?;
     Ok(file)
 }
 
@@ -61,20 +124,56 @@ fn say_findings<R: Eprint>(rt: &R, path: &str, findings: &[Finding]) {
     }
 }
 
-/// The command `check`.
+// Says each hint.
+fn say_hints<R: Eprint>(rt: &R, path: &str, hints: &[Finding]) {
+    for hint in hints {
+        let (subject, mistake) = (hint.subject, &hint.mistake);
+        let _ = match hint.line {
+            Some(line) => rt.eprintln(format_args!("{path}:{line}: hint: {subject}: {mistake}")),
+            None => rt.eprintln(format_args!("{path}:hint: {subject}: {mistake}")),
+        };
+    }
+}
+
+// Says what an evening would not take of a file, and what it may not; whether there is a mistake.
+fn say_review<R: Eprint + AllocGlobal>(
+    rt: &R,
+    path: &str,
+    looked: &Looked,
+) -> Result<bool, Ending> {
+    let Review { mistakes, hints } = review_of(rt.alloc(), &looked.file)?;
+    // A file of which nothing could be read is not empty.
+    if looked.told.is_empty() || !looked.file.devices.is_empty() {
+        say_findings(rt, path, &mistakes);
+    }
+    say_hints(rt, path, &hints);
+    Ok(!mistakes.is_empty())
+}
+
+/// The command `check`. A mistake ends it with status 1, a hint does not.
 pub fn check_file<R: Files<File = File> + Eprint + AllocGlobal, W: Write>(
     rt: &R,
     path: &str,
     writer: &mut W,
 ) -> Result<(), Ending> {
-    let draft = read_draft(rt, path)?;
-    knows_plan(rt, &draft.file, &plan_of(rt, path, &draft.table)?)?;
+    let looked = look_at(rt, path)?;
+    say_findings(rt, path, &looked.told);
+    let spoils = say_review(rt, path, &looked)?;
+    let at = PlanPlace {
+        path,
+        line: looked.rehearse,
+    };
+    let plan = plan_of(rt, at, &looked.table)?;
+    knows_plan(rt, Some(at), &looked.file, &plan)?;
+    if spoils || !looked.told.is_empty() {
+        return Err(Ending::Refused);
+    }
     let devices = Count {
-        count: draft.file.devices.len(),
+        count: looked.file.devices.len(),
         what: "device",
     };
     let cues = Count {
-        count: draft.file.cues.len(),
+        count: looked.file.cues.len(),
         what: "cue",
     };
     let text = format!(in rt.alloc(); "no mistake: {devices}, {cues}\n")?;

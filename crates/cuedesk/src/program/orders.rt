@@ -1,17 +1,18 @@
-//! The commands of an evening: one message each.
+//! The commands of an evening: one message each, as it was typed.
 use super::saying::{print, say};
-use super::wire::{Sendings, Wire};
-use cue_desk::answered::{Answered, ending_of};
+use cue_desk::answered::{Answered, answer_in, ending_of};
 use cue_desk::ending::Ending;
-use cue_desk::hearing::reply_in;
-use cue_desk::orders::{Order, asked_by};
+use cue_desk::orders::Order;
 use cue_desk::replying::{Replied, Status};
+use cue_desk_run::ask_once;
 use cue_exchange::Outcome;
+use cue_station::heard::Heard;
 use cue_words::{code_words, outcome_words};
 use std::alloc::{AllocError, Global};
 use std::fmt::Write as _;
 use std::io::{Eprint, Write};
 use std::net::Net;
+use std::time::Clock;
 
 // How the attempt with this outcome ended; there is none before the first has ended.
 fn ended_words(outcome: i32) -> &'static str {
@@ -37,7 +38,7 @@ fn status_text(alloc: Global, status: Status) -> Result<String, AllocError> {
 }
 
 // Says what became of a command, and answers whether it was refused.
-fn tell_reply<R: Eprint, W: Write>(
+fn tell_answer<R: Eprint, W: Write>(
     rt: &R,
     answered: Answered,
     writer: &mut W,
@@ -56,34 +57,62 @@ fn tell_reply<R: Eprint, W: Write>(
     }
 }
 
-// Says what the controller replied, and answers whether it was refused.
+// What stands after the words that nobody replied: of what was asked nothing is known but this.
+fn open_words(order: Order) -> &'static str {
+    match order {
+        Order::Status => "is serve running, and not stopped?",
+        Order::OfCue(_, _) | Order::Release(_) | Order::RemoveDevice(_) => {
+            "it was carried out whole, or not at all, or will be when serve goes on: look at the board"
+        }
+    }
+}
+
+// Says that nobody replied at this port within a second.
+fn say_silent<R: Eprint>(rt: &R, order: Order, port: u16) -> Ending {
+    let words = open_words(order);
+    say(
+        rt,
+        format_args!("nobody replied at 127.0.0.1:{port} within a second: {words}"),
+    );
+    Ending::Silent
+}
+
+// Says that nobody listens at this port.
+fn say_alone<R: Eprint>(rt: &R, port: u16) -> Ending {
+    say(
+        rt,
+        format_args!("nobody listens at 127.0.0.1:{port}: nothing was carried out"),
+    );
+    Ending::Silent
+}
+
+// Says in words what was replied.
 fn tell<R: Eprint + AllocGlobal, W: Write>(
     rt: &R,
     replied: Replied,
     writer: &mut W,
 ) -> Result<(), Ending> {
-    match replied {
-        Replied::Status(status) => print(writer, status_text(rt.alloc(), status)?.as_str()),
-        reply => tell_reply(rt, Answered::of(reply), writer),
+    match (replied, answer_in(replied)) {
+        (Replied::Status(status), _) => print(writer, status_text(rt.alloc(), status)?.as_str()),
+        (_, Some(answered)) => tell_answer(rt, answered, writer),
+        (_, None) => Err(Ending::Silent),
     }
 }
 
-/// Asks one thing of the controller, once, and says in words what it replied.
-pub fn carry_order<R: Net + Eprint + AllocGlobal, W: Write>(
+/// Asks one thing of the controller, once, and says in words what it replied, within a second.
+pub fn carry_order<R: Net + Clock + Eprint + AllocGlobal, W: Write>(
     rt: &R,
     order: Order,
     port: u16,
     writer: &mut W,
 ) -> Result<(), Ending> {
-    let wire = Wire::new(rt, port)?;
-    match reply_in(wire.ask(rt.alloc(), &asked_by(order), Sendings::One)?) {
-        Some(replied) => tell(rt, replied, writer),
-        None => {
-            say(
-                rt,
-                "not acknowledged: it was carried out whole, or not at all",
-            );
-            Err(Ending::Silent)
+    match ask_once(rt, order, port) {
+        Ok(Some(Heard::Replied(_, replied))) => tell(rt, replied, writer),
+        Ok(Some(Heard::Nobody(_))) => Err(say_alone(rt, port)),
+        Ok(_) => Err(say_silent(rt, order, port)),
+        Err(why) => {
+            say(rt, format_args!("no socket: {why}"));
+            Err(Ending::Failed)
         }
     }
 }

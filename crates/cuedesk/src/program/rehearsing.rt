@@ -1,7 +1,7 @@
 //! The command `rehearse`: every device of a show file at its own port, in one loop over their sockets.
 ghost use Rattle.std.specs.Prelude.{◌≤◌, IfSome, length};
 
-use super::files::read_draft;
+use super::files::read_sound;
 use super::saying::{print, say};
 use crate::line::rehearsing::{Rehearsal, with_flags};
 use cue_desk::counting::Count;
@@ -11,6 +11,8 @@ use cue_osc::MAX_LEN;
 use cue_rehearsal::{Chance, Deed, Line, Plan, Player, read_plan};
 use cue_show::DeviceNo;
 use cue_show_file::{DeviceEntry, ShowFile};
+use cue_words::shown_text;
+use std::fmt::Display;
 use std::fs::{File, Files};
 use std::io::{Eprint, Write};
 use std::net::{IpAddr, Ipv4Addr, Net, SocketAddr, UdpSocket};
@@ -140,37 +142,76 @@ impl Seat {
     }
 }
 
+/// Where the table `[rehearse]` of a show file is.
+#[derive(Clone, Copy)]
+pub struct PlanPlace<'a> {
+    pub path: &'a str,
+    /// The line of its header, where it can be seen.
+    pub line: Option<usize>,
+}
+
+// Says what is wrong with the table.
+fn say_of_plan<R: Eprint, D: Display + Drop>(rt: &R, at: PlanPlace<'_>, what: D) {
+    let path = at.path;
+    let _ = match at.line {
+        Some(line) => rt.eprintln(format_args!("{path}:{line}: [rehearse]: {what}")),
+        None => rt.eprintln(format_args!("{path}: [rehearse]: {what}")),
+    };
+}
+
 /// The plan of a show file, of which this is all that TOML reads; else what is wrong with it is on standard error.
-pub fn plan_of<R: Eprint + AllocGlobal>(rt: &R, path: &str, table: &Table) -> Result<Plan, Ending> {
+pub fn plan_of<R: Eprint + AllocGlobal>(
+    rt: &R,
+    at: PlanPlace<'_>,
+    table: &Table,
+) -> Result<Plan, Ending> {
     match read_plan(rt.alloc(), table) {
         Ok(plan) => Ok(plan),
         Err(why) => {
-            let _ = rt.eprintln(format_args!("{path}: [rehearse]: {why}"));
+            let words = format!(in rt.alloc(); "{why}")?;
+            say_of_plan(rt, at, shown_text(rt.alloc(), words.as_str())?.as_str());
             Err(Ending::Refused)
         }
     }
 }
 
+// Says that the file does not have a device which the plan names; with its line, where the plan is of the file alone.
+fn say_unknown<R: Eprint>(rt: &R, at: Option<PlanPlace<'_>>, device: DeviceNo) {
+    let number = device.number();
+    let what = format_args!("the file has no device {number} to rehearse");
+    match at {
+        Some(at) => say_of_plan(rt, at, what),
+        None => say(rt, what),
+    }
+}
+
 // Whether each of these devices is in the file; else which one is not is on standard error.
-fn knows_all<R: Eprint>(rt: &R, file: &ShowFile, devices: &[DeviceNo]) -> bool {
+fn knows_all<R: Eprint>(
+    rt: &R,
+    at: Option<PlanPlace<'_>>,
+    file: &ShowFile,
+    devices: &[DeviceNo],
+) -> bool {
     for device in devices {
         if !file.devices.iter().any(|entry| entry.number == *device) {
-            let number = device.number();
-            say(
-                rt,
-                format_args!("the file has no device {number} to rehearse"),
-            );
+            say_unknown(rt, at, *device);
             return false;
         }
     }
     true
 }
 
-/// Whether each device that the plan names is in the file; else which one is not is on standard error.
-pub fn knows_plan<R: Eprint>(rt: &R, file: &ShowFile, plan: &Plan) -> Result<(), Ending> {
-    let known = knows_all(rt, file, &plan.silent)
-        && knows_all(rt, file, &plan.refuses)
-        && knows_all(rt, file, &plan.fails);
+/// Whether each device that the plan names is in the file; else which one is not is on standard error, with the place
+/// of the plan where it is of the file alone.
+pub fn knows_plan<R: Eprint>(
+    rt: &R,
+    at: Option<PlanPlace<'_>>,
+    file: &ShowFile,
+    plan: &Plan,
+) -> Result<(), Ending> {
+    let known = knows_all(rt, at, file, &plan.silent)
+        && knows_all(rt, at, file, &plan.refuses)
+        && knows_all(rt, at, file, &plan.fails);
     if known { Ok(()) } else { Err(Ending::Refused) }
 }
 
@@ -295,11 +336,15 @@ pub fn rehearse<R: Files<File = File> + Net + Clock + Eprint + AllocGlobal, W: W
     rehearsal: &Rehearsal,
     writer: &mut W,
 ) -> Result<(), Ending> {
-    let draft = read_draft(rt, rehearsal.file.as_str())?;
-    let mut plan = plan_of(rt, rehearsal.file.as_str(), &draft.table)?;
+    let sound = read_sound(rt, rehearsal.file.as_str())?;
+    let at = PlanPlace {
+        path: rehearsal.file.as_str(),
+        line: sound.rehearse,
+    };
+    let mut plan = plan_of(rt, at, &sound.table)?;
     with_flags(rt.alloc(), &mut plan, &rehearsal.flags)?;
-    knows_plan(rt, &draft.file, &plan)?;
-    let mut seats = seats_of(rt, &draft.file, &plan)?;
+    knows_plan(rt, None, &sound.file, &plan)?;
+    let mut seats = seats_of(rt, &sound.file, &plan)?;
     say_who_plays(rt, seats.len(), writer)?;
     let mut hall = Hall {
         plan,

@@ -1,11 +1,24 @@
 //! What the program says on standard error, and how it prints.
 use cue_desk::ending::Ending;
 use std::fmt::Display;
-use std::io::{Eprint, Write};
+use std::io::{self, Eprint, Write};
 
 /// Says something on standard error. Where that cannot be written, the ending is the same.
 pub fn say<R: Eprint, D: Display + Drop>(rt: &R, what: D) {
     let _ = rt.eprintln(format_args!("cuedesk: {what}"));
+}
+
+/// Says why a clock, a socket or memory failed.
+pub fn failed<R: Eprint>(rt: &R, why: &io::Error) -> Ending {
+    say(rt, format_args!("the desk cannot go on: {why}"));
+    Ending::Failed
+}
+
+/// Says why nothing can be sent, if that is so.
+pub fn say_fault<R: Eprint>(rt: &R, fault: Option<io::Error>) {
+    if let Some(why) = fault {
+        say(rt, format_args!("nothing can be sent: {why}"));
+    }
 }
 
 /// Prints, and sees that all of it left.

@@ -1,7 +1,5 @@
-//! The socket of the desk: one datagram, and what the controller replies to each of its messages.
+//! The socket of a loading: one datagram, and what the controller replies to each of its messages.
 ghost use Rattle.std.specs.Prelude.{◌≡◌, IfOk, IfSome, length};
-ghost use Rattle.std.specs.Net.Socket.{socket_ip, socket_port};
-ghost use Rattle.cuedesk.specs.Sockets.{IsHome};
 
 use super::saying::say;
 use cue_desk::answered::{Answered, push};
@@ -9,10 +7,11 @@ use cue_desk::asking::{Asked, address, datagram};
 use cue_desk::ending::Ending;
 use cue_desk::hearing::{Heard, is_wanted, unheard};
 use cue_desk::replying::{Replied, read_reply};
+use cue_desk_run::local;
 use cue_osc::MAX_LEN;
 use std::alloc::{AllocError, Global};
 use std::io::Eprint;
-use std::net::{IpAddr, Ipv4Addr, Net, SocketAddr, UdpSocket};
+use std::net::{Net, UdpSocket};
 use std::time::Duration;
 
 /// How long one silent wait is, in milliseconds.
@@ -24,19 +23,10 @@ const SHOWN: usize = 64;
 /// The most datagrams that are heard for one message: after these nobody has replied.
 const MAX_HEARD: u32 = 1_000;
 
-/// A port of this machine.
-fn local(port: u16) -> SocketAddr
-    ensures host { IsHome (socket_ip result) }
-    ensures port { socket_port result ≡ port }
-{
-    SocketAddr::new(IpAddr::V4(Ipv4Addr::LOCALHOST), port)
-}
-
-/// A socket that asks the controller at a port of this machine.
+/// A socket that asks the controller at a port of this machine, and hears that port alone.
 #[derive(Drop)]
 pub struct Wire {
     socket: UdpSocket,
-    port: u16,
 }
 
 // What a datagram of the controller says to who asked at this address.
@@ -52,11 +42,12 @@ impl Wire {
     /// A socket for the controller at this port.
     pub fn new<R: Net + Eprint>(rt: &R, port: u16) -> Result<Wire, Ending> {
         let bound = UdpSocket::bind(rt, local(0)).and_then(|socket| {
+            socket.connect(local(port))?;
             socket.set_read_timeout(Some(Duration::from_millis(WAIT)))?;
             Ok(socket)
         });
         match bound {
-            Ok(socket) => Ok(Wire { socket, port }),
+            Ok(socket) => Ok(Wire { socket }),
             Err(why) => {
                 say(rt, format_args!("no socket: {why}"));
                 Err(Ending::Failed)
@@ -67,21 +58,15 @@ impl Wire {
     // What the next datagram says to who asked at this address.
     fn hear(&self, alloc: Global, asked: &[u8]) -> Result<Heard, Ending> {
         let mut buffer = [0; MAX_LEN];
-        match self.socket.recv_from(&mut buffer) {
-            Ok((n, peer)) => {
-                if peer.port() == self.port {
-                    said(alloc, asked, &buffer[..n])
-                } else {
-                    Ok(Heard::Noise)
-                }
-            }
+        match self.socket.recv(&mut buffer) {
+            Ok(n) => said(alloc, asked, &buffer[..n]),
             Err(error) => unheard(error.kind()).ok_or(Ending::Failed),
         }
     }
 
     // Sends a datagram. Where nobody listens, the next call hears silence.
     fn send(&self, datagram: &[u8]) {
-        let _ = self.socket.send_to(datagram, local(self.port));
+        let _ = self.socket.send(datagram);
     }
 
     /// Sends what is asked, once, and waits for what the controller replies: for the status, where that is asked, and
@@ -103,15 +88,6 @@ impl Wire {
         let wants_status = matches!(asked, Asked::Status);
         self.send(&datagram);
         self.wait(alloc, shown, wants_status, sendings.silences())
-    }
-
-    /// Asks a command, once: what became of it; none where nobody replied.
-    pub fn ask_once(&self, alloc: Global, asked: &Asked<'_>) -> Result<Option<Answered>, Ending> {
-        match self.ask(alloc, asked, Sendings::One) {
-            Ok(Heard::Replied(replied)) => Ok(Some(Answered::of(replied))),
-            Ok(Heard::Silence | Heard::Noise) => Ok(None),
-            Err(ending) => Err(ending),
-        }
     }
 
     // What became of the next command that was asked at this address; none where no reply came.

@@ -54,19 +54,15 @@ impl<'a, R: Net + Eprint + AllocGlobal, W: Write> Loading<'a, R, W> {
         Ok(counts)
     }
 
-    // Adds all cues, and counts what became of them. Where one that is new stands in the file before one that was
-    // there, that is said: it is after that one on the stack.
-    pub(super) fn load_cues(&mut self, entries: &[CueEntry]) -> Result<Counts, Ending> {
+    // Adds all cues, and counts what became of them. Whether one that is new stands in the file before one that was
+    // there: it is after that one on the stack.
+    pub(super) fn load_cues(&mut self, entries: &[CueEntry]) -> Result<(Counts, bool), Ending> {
         let answers = self.add_cues(entries)?;
         let mut counts = Counts::NONE;
         for (index, entry) in entries.iter().enumerate() {
             let became = became_of(answers[index]);
             self.count(&mut counts, Subject::Cue(entry.number), became);
         }
-        if comes_late(&answers) {
-            self.progress.clear();
-            self.asker.say_other_order();
-        }
-        Ok(counts)
+        Ok((counts, comes_late(&answers)))
     }
 }

@@ -39,6 +39,11 @@ impl<'a, R: Net + Eprint + AllocGlobal> Asker<'a, R> {
         }
     }
 
+    /// What the machine offers.
+    pub fn rt(&self) -> &'a R {
+        self.rt
+    }
+
     /// Where memory is taken from.
     pub fn alloc(&self) -> Global {
         self.rt.alloc()
@@ -143,7 +148,14 @@ impl<'a, R: Net + Eprint + AllocGlobal> Asker<'a, R> {
         match self.hear(&Asked::Status)? {
             Some(Replied::Status(status)) => Ok(status),
             _ => {
-                say(self.rt, "the status: nobody replied; load again");
+                let port = self.port;
+                say(
+                    self.rt,
+                    format_args!(
+                        "the status: no reply from the controller at 127.0.0.1:{port}: \
+                         look whether serve runs there, and load again"
+                    ),
+                );
                 Err(Ending::Silent)
             }
         }
@@ -153,7 +165,7 @@ impl<'a, R: Net + Eprint + AllocGlobal> Asker<'a, R> {
     pub fn say_live(&self) {
         say(
             self.rt,
-            "a cue is live: nothing is replaced. Wait until it has ended, or load without --replace",
+            "a cue is live: nothing is replaced. Wait until it has ended, or load without --replace and --exact",
         );
     }
 
@@ -169,10 +181,12 @@ impl<'a, R: Net + Eprint + AllocGlobal> Asker<'a, R> {
     /// Says to what nobody replied, where that is why the loading ends.
     pub fn say_unanswered(&self) {
         if let Some(subject) = self.unanswered {
+            let port = self.port;
             say(
                 self.rt,
                 format_args!(
-                    "{subject}: not acknowledged: it was carried out whole, or not at all; load again"
+                    "{subject}: not acknowledged by the controller at 127.0.0.1:{port}: \
+                     it was carried out whole, or not at all; look whether serve runs there, and load again"
                 ),
             );
         }
@@ -191,7 +205,27 @@ impl<'a, R: Net + Eprint + AllocGlobal> Asker<'a, R> {
     pub fn say_other_order(&self) {
         say(
             self.rt,
-            "the stack may have another order than the file: load with --replace",
+            "the stack may have another order than the file: load with the folder of the store to see it",
+        );
+    }
+
+    /// Says that the stack has no room for the file beside what it does not have.
+    pub fn say_full(&self) {
+        say(
+            self.rt,
+            "the stack has no room for all cues of the file beside those that it does not have: \
+             nothing is replaced. Load with --exact",
+        );
+    }
+
+    /// Says that the controller serves another store than that of this folder.
+    pub fn say_other_store(&self, dir: &str) {
+        let port = self.port;
+        say(
+            self.rt,
+            format_args!(
+                "{dir} is not the store that is served at port {port}: give the folder of that one, or its port"
+            ),
         );
     }
 }

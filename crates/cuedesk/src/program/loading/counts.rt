@@ -1,6 +1,6 @@
 //! What became of the devices, or of the cues, of a show file.
 ghost use Rattle.std.specs.Prelude.{◌≡◌};
-ghost use Rattle.cuedesk.specs.Loading.{became_of, counted, one_more, replaced, rewritten};
+ghost use Rattle.cuedesk.specs.Loading.{became_of, counted, one_more};
 
 use cue_desk::answered::Answered;
 use std::alloc::{AllocError, Global};
@@ -11,8 +11,10 @@ pub enum Became {
     New,
     /// It was there as it is to be; it may have been moved.
     Known,
-    /// It was there and differed, or had to be removed for another's sake; it is there again.
+    /// It was there and differed.
     Replaced,
+    /// It was there, and the file does not have it.
+    Removed,
     /// With this code.
     Refused(i32),
 }
@@ -28,34 +30,13 @@ pub fn became_of(answered: Answered) -> Became
     }
 }
 
-/// What became of one that was there and was removed, where this became of it when it was added again.
-pub fn replaced(became: Became) -> Became
-    ensures { result ≡ replaced became }
-{
-    match became {
-        Became::Refused(code) => Became::Refused(code),
-        Became::New | Became::Known | Became::Replaced => Became::Replaced,
-    }
-}
-
-/// What became of one that was to be added, and was then removed and added again.
-pub fn rewritten(first: Answered, again: Answered) -> Became
-    ensures { result ≡ rewritten first again }
-{
-    match (first, again) {
-        (_, Answered::Refused(code)) => Became::Refused(code),
-        (Answered::Made, _) => Became::New,
-        (Answered::Known, _) => Became::Known,
-        (Answered::Refused(_), _) => Became::Replaced,
-    }
-}
-
 /// How many became what.
 #[derive(Clone, Copy, Debug, PartialEq, Eq)]
 pub struct Counts {
     added: usize,
     known: usize,
     replaced: usize,
+    removed: usize,
     pub refused: usize,
 }
 
@@ -71,6 +52,7 @@ impl Counts {
         added: 0,
         known: 0,
         replaced: 0,
+        removed: 0,
         refused: 0,
     };
 
@@ -82,24 +64,23 @@ impl Counts {
             Became::New => add_one(&mut self.added),
             Became::Known => add_one(&mut self.known),
             Became::Replaced => add_one(&mut self.replaced),
+            Became::Removed => add_one(&mut self.removed),
             Became::Refused(_) => add_one(&mut self.refused),
         }
     }
 
-    /// The line that says so. What was replaced is said where something may be.
-    pub fn text(self, alloc: Global, what: &str, replaces: bool) -> Result<String, AllocError> {
-        let Counts {
-            added,
-            known,
-            replaced,
-            refused,
-        } = self;
-        if replaces {
-            Ok(format!(in alloc;
-                "{what}: {added} new, {known} known, {replaced} replaced, {refused} refused\n"
-            )?)
-        } else {
-            Ok(format!(in alloc; "{what}: {added} new, {known} known, {refused} refused\n")?)
-        }
+    /// The line of what was added, where what was there stays.
+    pub fn text(self, alloc: Global, what: &str) -> Result<String, AllocError> {
+        let (added, known, refused) = (self.added, self.known, self.refused);
+        Ok(format!(in alloc; "{what}: {added} new, {known} known, {refused} refused\n")?)
+    }
+
+    /// The line of what was put in the place of what was there.
+    pub fn text_of_plan(self, alloc: Global, what: &str) -> Result<String, AllocError> {
+        let (added, known) = (self.added, self.known);
+        let (replaced, removed) = (self.replaced, self.removed);
+        Ok(format!(in alloc;
+            "{what}: {added} new, {known} known, {replaced} replaced, {removed} removed\n"
+        )?)
     }
 }

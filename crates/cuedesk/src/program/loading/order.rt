@@ -1,12 +1,12 @@
 //! What the replies to a show file say of the order of the stack: a cue that is added is the last one.
 ghost use Rattle.std.specs.Prelude.{◌≡◌};
-ghost use Rattle.cuedesk.specs.Loading.{comes_late, differs, refusal_of_addition, some_was_there, was_there};
+ghost use Rattle.cuedesk.specs.Loading.{comes_late, differs, some_was_there, was_there};
 
 use cue_core::Code;
 use cue_desk::answered::Answered;
 
-/// Whether one that was to be added is there, and differs.
-pub fn differs(answered: Answered) -> bool
+// Whether one that was to be added is there, and differs.
+fn differs(answered: Answered) -> bool
     ensures { result ≡ differs answered }
 {
     match answered {
@@ -16,7 +16,7 @@ pub fn differs(answered: Answered) -> bool
     }
 }
 
-/// Whether one that was to be added was there already.
+// Whether one that was to be added was there already.
 fn was_there(answered: Answered) -> bool
     ensures { result ≡ was_there answered }
 {
@@ -27,19 +27,8 @@ fn was_there(answered: Answered) -> bool
     }
 }
 
-/// The code by which one could not be added, but for that it is there already.
-pub fn refusal_of_addition(answered: Answered) -> Option<i32>
-    ensures { result ≡ refusal_of_addition answered }
-{
-    match answered {
-        Answered::Made => None,
-        Answered::Known => None,
-        Answered::Refused(code) => { if differs(answered) { None } else { Some(code) } }
-    }
-}
-
-/// Whether one of those that were to be added was there already.
-pub fn some_was_there(answers: &[Answered]) -> bool
+// Whether one of those that were to be added was there already.
+fn some_was_there(answers: &[Answered]) -> bool
     ensures { result ≡ some_was_there answers.now }
 {
     match answers {

@@ -35,9 +35,9 @@ impl<'a, W: Write> Progress<'a, W> {
         Ok(format!(in self.alloc; "\r{done} of {all}")?)
     }
 
-    /// So many steps more are to be done.
-    pub fn expect(&mut self, count: usize) {
-        self.all = self.all.saturating_add(count);
+    /// So many steps are to be done in all.
+    pub fn expect_only(&mut self, count: usize) {
+        self.all = count;
     }
 
     /// So many steps more are done.

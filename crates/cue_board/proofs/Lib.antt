@@ -1,0 +1,2 @@
+pub mod BoardLemmas
+pub mod ColumnLemmas

@@ -1,0 +1,225 @@
+-- The board: what each line says of the view, from its front on. Names and notes of the show file follow after that.
+use Rattle.std.specs.Prelude.{◌≡◌, ℕ, suc, Bool, true, false, ◌==◌, nat_le, length, replicate, ◌-◌, ◌/◌, find}
+use Rattle.std.specs.Prelude.{List, [], ◌∷◌, ◌++◌, map, take, drop, codes, string_bytes}
+use Rattle.std.specs.Prelude.{Option, None, Some, if◌then◌else◌}
+use Rattle.std.specs.Fmt.{decimal}
+use Rattle.std.specs.List.{flat_map}
+use Rattle.cue_exchange.specs.declared.attempt.Answer.{Answer}
+use Rattle.cue_exchange.specs.declared.attempt.Answer.TheVariants as answer
+use Rattle.cue_exchange.specs.declared.attempt.DeviceAnswer.{DeviceAnswer}
+use Rattle.cue_show.specs.Number.{same_text}
+use Rattle.cue_show.specs.Show.{is_place}
+use Rattle.cue_words.specs.Answered.{answer_words, reason_words}
+use Rattle.cue_station.specs.declared.view.Alarm.{Alarm}
+use Rattle.cue_station.specs.declared.view.Alarm.TheVariants as alarm
+use Rattle.cue_station.specs.declared.view.LiveAttempt.{LiveAttempt}
+use Rattle.cue_station.specs.declared.view.Next.{Next}
+use Rattle.cue_station.specs.declared.view.Next.TheVariants as next
+use Rattle.cue_station.specs.declared.view.View.{View}
+use Rattle.cue_board.specs.Alarms.{alarm_words}
+use Rattle.cue_board.specs.Ends.{last_said}
+use Rattle.cue_board.specs.Progress.{progress_of}
+use Rattle.cue_board.specs.Times.{seconds}
+use Rattle.cue_board.specs.declared.line.BoardLine.{BoardLine}
+use Rattle.cue_board.specs.declared.live.TheConstants.{NAME_AT}
+use Rattle.cue_board.specs.declared.progress.Progress.{Progress}
+use Rattle.cue_board.specs.declared.progress.Progress.TheVariants as progress
+use Rattle.cue_board.specs.declared.stack.TheConstants.{ALWAYS, SHOWN}
+
+-- ---- the live attempts
+
+-- whether GO can be given for an attempt that prepares
+abbrev pub readiness : Progress → List ℕ
+readiness progress.Ready = codes "ready, GO can be given"
+readiness progress.Held = codes "held, GO cannot be given"
+readiness _ = codes "preparing"
+
+-- with what is left of its ten seconds
+abbrev pub preparing_at : Progress → ℕ → List ℕ
+preparing_at p left = readiness p ++ (codes ", " ++ (seconds left ++ codes " s left"))
+
+-- given, and since when that is seen
+abbrev pub given_at : ℕ → Option ℕ → List ℕ
+given_at at (Some given) = codes "given, at least " ++ (seconds (at - given) ++ codes " s ago")
+given_at at None = codes "given"
+
+-- how far an attempt has come at this moment
+abbrev pub stage_at : ℕ → LiveAttempt → Progress → List ℕ
+stage_at at a progress.Ready = preparing_at progress.Ready a.left
+stage_at at a progress.Held = preparing_at progress.Held a.left
+stage_at at a progress.Preparing = preparing_at progress.Preparing a.left
+stage_at at a progress.Over = codes "its ten seconds are over"
+stage_at at a progress.Given = given_at at a.given
+stage_at at a (progress.GivenUp reason) = codes "given up: " ++ reason_words reason
+
+-- its cue, its number, and how far it has come
+unfoldable pub attempt_said : ℕ → LiveAttempt → List ℕ
+attempt_said at a =
+    codes "LIVE   cue " ++ (a.cue ++ (codes ", attempt " ++ (decimal a.seq
+    ++ (codes ": " ++ stage_at at a (progress_of a)))))
+
+-- whether the cue may go without the device
+abbrev pub kind_words : Bool → List ℕ
+kind_words true = codes "optional  "
+kind_words false = codes "          "
+
+-- a text, with spaces after it up to a column
+abbrev pub padded : ℕ → List ℕ → List ℕ
+padded column t = t ++ replicate (column - length t) 32
+
+-- a device of it: its number, and what it has answered
+abbrev pub device_answered : DeviceAnswer → List ℕ
+device_answered a = codes "         device " ++ (decimal a.device ++ (codes ": " ++ answer_words a.answer))
+
+-- and whether it is optional
+unfoldable pub device_said : DeviceAnswer → List ℕ
+device_said a = padded NAME_AT (device_answered a) ++ kind_words a.optional
+
+-- an attempt with all of its devices
+abbrev pub attempt_lines : ℕ → LiveAttempt → List (List ℕ)
+attempt_lines at a = attempt_said at a ∷ map device_said a.devices
+
+-- each live attempt
+abbrev pub live_said : ℕ → List LiveAttempt → List (List ℕ)
+live_said at [] = codes "LIVE   nothing is stood by" ∷ []
+live_said at (a ∷ more) = flat_map (attempt_lines at) (a ∷ more)
+
+-- ---- the live attempts where there is little room
+
+-- a number for each answer, in the order in which they are shown
+abbrev pub answer_rank : Answer → ℕ
+answer_rank answer.Waiting = 0
+answer_rank answer.Failed = 1
+answer_rank answer.Ready = 2
+answer_rank answer.Done = 3
+answer_rank answer.LetGo = 4
+answer_rank answer.Excused = 5
+
+-- the numbers of the devices that have this answer, each after a space
+abbrev pub numbers_of : Answer → List DeviceAnswer → List ℕ
+numbers_of kind [] = []
+numbers_of kind (a ∷ more) =
+    if answer_rank a.answer == answer_rank kind then (codes " " ++ decimal a.device) ++ numbers_of kind more
+    else numbers_of kind more
+
+-- the line of an answer, where a device has it
+unfoldable pub answer_lines : List DeviceAnswer → Answer → List (List ℕ)
+answer_lines answers kind =
+    if length (numbers_of kind answers) == 0 then []
+    else (codes "         " ++ (answer_words kind ++ (codes ":" ++ numbers_of kind answers))) ∷ []
+
+-- an attempt with a line for each answer that devices of it have
+abbrev pub attempt_brief : ℕ → LiveAttempt → List (List ℕ)
+attempt_brief at a =
+    attempt_said at a ∷ (answer_lines a.devices answer.Waiting ++ (answer_lines a.devices answer.Failed
+    ++ (answer_lines a.devices answer.Ready ++ (answer_lines a.devices answer.Done
+    ++ (answer_lines a.devices answer.LetGo ++ answer_lines a.devices answer.Excused)))))
+
+-- ---- the stack
+
+-- which cue is next, or why none is
+unfoldable pub next_said : Next → List ℕ
+next_said (next.Cue cue) = codes "NEXT   cue " ++ cue
+next_said next.Empty = codes "NEXT   the stack has no cue"
+next_said next.End = codes "NEXT   no cue: the stack is at its end"
+next_said next.Unknown = codes "NEXT   not known: move to a cue"
+
+-- how many cues stand before this one
+abbrev pub cues_before : List ℕ → List (List ℕ) → ℕ
+cues_before cue [] = 0
+cues_before cue (c ∷ cs) = if same_text c cue then 0 else suc (cues_before cue cs)
+
+-- how many stand before the place; 0 where there is none
+abbrev pub before_place : Option (List ℕ) → List (List ℕ) → ℕ
+before_place None cues = 0
+before_place (Some cue) cues = cues_before cue cues
+
+-- so many cues around the place, a third of them before it
+abbrev pub around : ℕ → Option (List ℕ) → List (List ℕ) → List (List ℕ)
+around shown place cues = take shown (drop (before_place place cues - shown / 3) cues)
+
+-- a cue of the stack, with a mark where it is the place
+unfoldable pub cue_said : Option (List ℕ) → List ℕ → List ℕ
+cue_said place cue = if is_place cue place then codes " -->   " ++ cue else codes "       " ++ cue
+
+-- the next cue, room for its note, and so many cues of the stack around the place
+abbrev pub stack_said : ℕ → View → List (List ℕ)
+stack_said shown v =
+    next_said v.next ∷ codes "       " ∷ codes "STACK"
+    ∷ map (cue_said v.place) (around shown v.place v.stack.cues.items)
+
+-- ---- the whole
+
+-- a failure is told by the line of the attempt that ended last
+abbrev pub is_called : Alarm → Bool
+is_called (alarm.Failed q) = false
+is_called _ = true
+
+-- the loudest alarm that has a line
+abbrev pub loudest : List Alarm → Option Alarm
+loudest alarms = find is_called alarms
+
+abbrev pub called : ℕ → ℕ → Option Alarm → List (List ℕ)
+called port at None = []
+called port at (Some a) = (codes "ALARM  " ++ alarm_words port at a) ∷ []
+
+abbrev pub alarm_said : ℕ → View → List (List ℕ)
+alarm_said port v = called port v.at (loudest v.alarms.items)
+
+-- how old the copy is that is shown
+abbrev pub read_said : ℕ → Option ℕ → List ℕ
+read_said at (Some read) = codes "READ   " ++ (seconds (at - read) ++ codes " s ago")
+read_said at None = codes "READ   nothing yet"
+
+-- the attempt that ended last, and the age of what is shown
+abbrev pub ends_said : View → List (List ℕ)
+ends_said v = last_said v.last ∷ read_said v.at v.read ∷ []
+
+-- the loudest alarm, the stack, each live attempt with its devices, the last attempt, and the age
+abbrev pub board_with : ℕ → ℕ → View → List (List ℕ)
+board_with shown port v = alarm_said port v ++ (stack_said shown v ++ (live_said v.at v.live.items ++ ends_said v))
+
+-- the same without cues, and with a line for each answer in place of one for each device
+abbrev pub board_brief : ℕ → View → List (List ℕ)
+board_brief port v =
+    alarm_said port v ++ (stack_said 0 v ++ (flat_map (attempt_brief v.at) v.live.items ++ ends_said v))
+
+-- with so many cues; where none has room, the devices share lines
+abbrev pub board_said : ℕ → ℕ → View → List (List ℕ)
+board_said shown port v = if shown == 0 then board_brief port v else board_with shown port v
+
+-- the lines that the live attempts leave of so many: each has one, and one for each of its devices
+abbrev pub room_after : ℕ → List LiveAttempt → ℕ
+room_after room [] = room
+room_after room (a ∷ live) = room_after (room - 1 - length a.devices) live
+
+-- how many cues have room beside these attempts and the lines that are always there
+abbrev pub cues_within : ℕ → List LiveAttempt → ℕ
+cues_within room live =
+    if nat_le SHOWN (room_after (room - ALWAYS) live) then SHOWN else room_after (room - ALWAYS) live
+
+-- what a line says of the view
+unfoldable pub said_of : BoardLine → List ℕ
+said_of line = string_bytes line.said
+
+-- a line as it is shown
+unfoldable pub text_of : BoardLine → List ℕ
+text_of line = string_bytes line.said ++ string_bytes line.rest
+
+-- the line begins so
+abbrev pub Begins : List ℕ → List ℕ → Type 0
+Begins front line = (rest : List ℕ) × (line ≡ front ++ rest)
+
+-- There are as many lines as fronts, and each line begins with its own.
+abbrev pub EachBegins : List (List ℕ) → List (List ℕ) → Type 0
+EachBegins [] [] = Unit {0}
+EachBegins (f ∷ fs) (l ∷ ls) = Begins f l × EachBegins fs ls
+EachBegins [] (l ∷ ls) = ⊥
+EachBegins (f ∷ fs) [] = ⊥
+
+-- The first lines begin with the fronts, each with its own; what a relay says of its devices follows after them.
+pub record Begin (fronts lines : List (List ℕ)) : Type 0 where
+  pub first : List (List ℕ)
+  pub heard : List (List ℕ)
+  pub whole : lines ≡ first ++ heard
+  pub each : EachBegins fronts first

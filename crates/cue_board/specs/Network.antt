@@ -1,0 +1,28 @@
+-- When each device of a relay was heard, in words.
+use Rattle.std.specs.Prelude.{ℕ, List, [], ◌++◌, ◌/◌, codes, Option, None, Some, if◌then◌else◌}
+use Rattle.std.specs.Fmt.{decimal}
+use Rattle.cue_relay.specs.declared.status.Ordered.{Ordered}
+use Rattle.cue_relay.specs.declared.status.Ordered.TheVariants as ordered
+use Rattle.cue_station.specs.declared.view.Contacted.{Contacted}
+use Rattle.cue_station.specs.declared.view.LastHeard.{LastHeard}
+use Rattle.cue_station.specs.declared.view.LastHeard.TheVariants as heard
+
+-- when it was heard
+abbrev pub when : LastHeard → List ℕ
+when heard.Never = codes "never heard"
+when (heard.Ago millis) = codes "heard " ++ (decimal (millis / 1000) ++ codes " s ago")
+when heard.Unknown = codes "heard at a time that is not known"
+
+-- what it does that was sent an order and has not answered
+abbrev pub pending : Option Ordered → List ℕ
+pending None = []
+pending (Some ordered.Standby) = codes "preparing, "
+pending (Some ordered.Go) = codes "moving, "
+pending (Some ordered.Cancel) = codes "letting go, "
+
+abbrev pub doing : Contacted → List ℕ
+doing c = if c.silent then codes "silent, " else pending c.ordered
+
+-- and when it was heard
+abbrev pub contact_words : Contacted → List ℕ
+contact_words c = doing c ++ when c.heard

@@ -1,0 +1,173 @@
+//! The board: what an operator sees of a show. Lines of text that are made of one view and the names of a show file, and
+//! of nothing else.
+ghost use Rattle.std.specs.Prelude.{◌≡◌, ◌++◌, IfOk, OnOk, ℕ, map, string_bytes};
+ghost use Rattle.cue_board.specs.Board as board;
+ghost use Rattle.cue_board.specs.Board.{Begin, said_of};
+
+use crate::alarms::alarm_words;
+use crate::brief::push_live_brief;
+use crate::ends::last_line;
+use crate::line::{BoardLine, texts};
+use crate::live::push_live;
+use crate::names::Names;
+use crate::network::heard_lines;
+use crate::stack::{SHOWN, cues_within, push_stack};
+use crate::times::seconds;
+use cue_station::view::{Alarm, View};
+use std::alloc::{AllocError, Global};
+
+// Whether the alarm has a line of its own: a failure is told by the line of the attempt that ended last.
+fn is_called(alarm: Alarm) -> bool
+    ensures { result ≡ board.is_called alarm }
+{
+    match alarm {
+        Alarm::Failed(_) => false,
+        _ => true,
+    }
+}
+
+// The loudest alarm that has a line.
+fn loudest(alarms: &[Alarm]) -> Option<Alarm>
+    ensures { result ≡ board.loudest alarms.now }
+{
+    alarms.iter().copied().find(|alarm| is_called(*alarm))
+}
+
+// Puts the line of the loudest alarm after the lines, where there is one.
+fn push_alarm(
+    alloc: Global,
+    lines: &mut Vec<BoardLine>,
+    view: &View,
+    port: u16,
+) -> Result<(), AllocError>
+    ensures { OnOk result
+        (map said_of lines.new.items ≡ map said_of lines.old.items ++ board.alarm_said port view.now) }
+{
+    if let Some(alarm) = loudest(&view.alarms) {
+        let words = alarm_words(alloc, alarm, view.at, port)?;
+        let words = words.as_str();
+        let said = format!(in alloc; "ALARM  {words}")?;
+        lines.push(BoardLine::bare(alloc, said))?;
+    }
+    Ok(())
+}
+
+// How old the copy is that is shown.
+fn read_said(alloc: Global, view: &View) -> Result<String, AllocError>
+    ensures { IfOk result (λ text. string_bytes text ≡ board.read_said view.now.at view.now.read) }
+{
+    match view.read {
+        Some(read) => {
+            let age = seconds(alloc, view.at.saturating_sub(read))?;
+            let age = age.as_str();
+            Ok(format!(in alloc; "READ   {age} s ago")?)
+        }
+        None => String::from_str(alloc, "READ   nothing yet"),
+    }
+}
+
+// Puts the attempt that ended last and the age after the lines.
+fn push_ends(
+    alloc: Global,
+    lines: &mut Vec<BoardLine>,
+    view: &View,
+    names: &Names<'_>,
+) -> Result<(), AllocError>
+    ensures { OnOk result
+        (map said_of lines.new.items ≡ map said_of lines.old.items ++ board.ends_said view.now) }
+{
+    lines.push(last_line(alloc, view.last.as_ref(), names)?)?;
+    let read = read_said(alloc, view)?;
+    lines.push(BoardLine::bare(alloc, read))?;
+    Ok(())
+}
+
+// The lines of the board with so many cues.
+fn lines_with(
+    alloc: Global,
+    view: &View,
+    names: &Names<'_>,
+    shown: usize,
+) -> Result<Vec<BoardLine>, AllocError>
+    ensures { IfOk result (λ lines. map said_of lines.items ≡ board.board_with shown names.now.port view.now) }
+{
+    let mut lines = Vec::new(alloc);
+    push_alarm(alloc, &mut lines, view, names.port)?;
+    push_stack(alloc, &mut lines, view, names, shown)?;
+    push_live(alloc, &mut lines, &view.live, names, view.at)?;
+    push_ends(alloc, &mut lines, view, names)?;
+    Ok(lines)
+}
+
+// The lines of the board without cues, with a line for each answer.
+fn brief_lines(alloc: Global, view: &View, names: &Names<'_>) -> Result<Vec<BoardLine>, AllocError>
+    ensures { IfOk result (λ lines. map said_of lines.items ≡ board.board_brief names.now.port view.now) }
+{
+    let mut lines = Vec::new(alloc);
+    push_alarm(alloc, &mut lines, view, names.port)?;
+    push_stack(alloc, &mut lines, view, names, 0)?;
+    push_live_brief(alloc, &mut lines, &view.live, view.at)?;
+    push_ends(alloc, &mut lines, view, names)?;
+    Ok(lines)
+}
+
+// The lines of the board with so many cues at most; without cues the devices share lines.
+fn lines_of(
+    alloc: Global,
+    view: &View,
+    names: &Names<'_>,
+    shown: usize,
+) -> Result<Vec<BoardLine>, AllocError>
+    ensures { IfOk result (λ lines. map said_of lines.items ≡ board.board_said shown names.now.port view.now) }
+{
+    if shown == 0 {
+        brief_lines(alloc, view, names)
+    } else {
+        lines_with(alloc, view, names, shown)
+    }
+}
+
+// How many cues are shown, where the network takes so many lines.
+fn cues_in(room: Option<usize>, view: &View, taken: usize) -> usize {
+    let alarm = if loudest(&view.alarms).is_some() {
+        1
+    } else {
+        0
+    };
+    match room {
+        Some(room) => cues_within(room.saturating_sub(taken).saturating_sub(alarm), &view.live),
+        None => SHOWN,
+    }
+}
+
+// The lines as they are shown, and after them what a relay says.
+#[tactic(auto, using(crate::proofs::BoardLemmas::begin_drawn))]
+fn drawn(alloc: Global, lines: &[BoardLine], heard: Vec<String>) -> Result<Vec<String>, AllocError>
+    ensures { IfOk result (λ all. Begin (map said_of lines.now) (map string_bytes all.items)) }
+{
+    let mut all = texts(alloc, lines)?;
+    all.extend(heard)?;
+    Ok(all)
+}
+
+/// The lines of the board, each of at most `COLUMNS` columns: the loudest alarm, the next cue with its note, the stack
+/// around the place, each live attempt with its devices, how the last one ended, the age of what is shown, and what a
+/// relay says. Only a cue number of 16 characters in an attempt with a number above 99,999 makes a line that is longer.
+///
+/// `room` is how many lines there are; none: as many as it takes. The stack has fewer cues where the live attempts need
+/// the room. Where no cue has room any more, the devices of an attempt that have answered the same share a line, by
+/// their numbers.
+pub fn board_lines(
+    alloc: Global,
+    view: &View,
+    names: &Names<'_>,
+    room: Option<usize>,
+) -> Result<Vec<String>, AllocError>
+    ensures { IfOk result (λ lines. (shown : ℕ)
+        × Begin (board.board_said shown names.now.port view.now) (map string_bytes lines.items)) }
+{
+    let heard = heard_lines(alloc, &view.network)?;
+    let shown = cues_in(room, view, heard.len());
+    let lines = lines_of(alloc, view, names, shown)?;
+    drawn(alloc, &lines, heard)
+}

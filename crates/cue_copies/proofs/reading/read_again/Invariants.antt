@@ -1,0 +1,10 @@
+use Rattle.std.proofs.Common.{◌≡◌, ◌↔◌}
+use Rattle.cue_copies.proofs.reading.read_again.Given as goal
+
+abbrev pub invariant-loop : goal.invariant-loop
+invariant-loop g l = record {
+  first : g.D.Disk.is_honest l.fn.first → g.D.Disk.held l.first ≡ g.D.Disk.held l.fn.first;
+  second : g.D.Disk.is_honest l.fn.second → g.D.Disk.held l.second ≡ g.D.Disk.held l.fn.second;
+  first_honest : g.D.Disk.is_honest l.first ↔ g.D.Disk.is_honest l.fn.first;
+  second_honest : g.D.Disk.is_honest l.second ↔ g.D.Disk.is_honest l.fn.second;
+}

@@ -1,8 +1,0 @@
-use Rattle.std.proofs.Common.{◌≡◌, map, string_bytes, take}
-use Rattle.cue_desk.specs.Board.{text_of}
-use Rattle.cue_desk.proofs.board.line.texts.Given as goal
-
--- the lines so far were put there
-abbrev pub invariant-loop-line : goal.invariant-loop-line
-invariant-loop-line l =
-    map string_bytes l.texts.items ≡ map text_of (take l.line-index l.lines)

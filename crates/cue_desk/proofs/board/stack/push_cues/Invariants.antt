@@ -1,8 +1,0 @@
-use Rattle.std.proofs.Common.{◌≡◌, ◌++◌, map, take}
-use Rattle.cue_desk.specs.Board.{cue_said, said_of}
-use Rattle.cue_desk.proofs.board.stack.push_cues.Given as goal
-
--- the cues so far were put there
-abbrev pub invariant-loop-cue : goal.invariant-loop-cue
-invariant-loop-cue l =
-    map said_of l.lines.items ≡ map said_of l.fn.lines.items ++ map (cue_said l.place) (take l.cue-index l.cues)

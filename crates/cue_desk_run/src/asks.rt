@@ -1,0 +1,222 @@
+//! The sockets of what the desk asks: one for each ask, so that no reply is taken for that to another one. Nothing here
+//! waits.
+ghost use Rattle.std.specs.Prelude.{◌≡◌};
+ghost use Rattle.cue_desk_run.specs.Hearing.{heard_of, unheard};
+
+use crate::addresses::local;
+use cue_desk::answered::answer_in;
+use cue_desk::asking::{Asked, address, datagram};
+use cue_desk::orders::{Order, asked_by};
+use cue_desk::replying::{Replied, read_reply};
+use cue_osc::MAX_LEN;
+use cue_station::heard::{Heard, Send};
+use mio::net::UdpSocket;
+use mio::{Interest, Registry, Token};
+use std::alloc::Global;
+use std::io::{self, ErrorKind};
+use std::net::Net;
+
+/// The most presses whose answers are awaited at once. With the newest question for the status they are all asks.
+const MAX_PRESSES: usize = 2;
+
+/// How many datagrams are read of one ask before the others have their turn.
+const MAX_READ: u32 = 64;
+
+/// How many bytes of an address a reply shows.
+const SHOWN: usize = 64;
+
+/// The token of these sockets in a poll.
+const REPLIES: Token = Token(2);
+
+/// An ask whose answer has not come.
+#[derive(Drop)]
+struct Ask {
+    number: u64,
+    is_status: bool,
+    // The address that was asked, as a reply shows it.
+    shown: Vec<u8>,
+    socket: UdpSocket,
+}
+
+/// The asks whose answers are awaited.
+#[derive(Drop)]
+pub struct Asks {
+    port: u16,
+    open: Vec<Ask>,
+}
+
+// A socket of its own, which hears the controller's port and no other.
+fn open_socket<R: Net>(rt: &R, registry: &Registry, port: u16) -> io::Result<UdpSocket> {
+    let mut socket = UdpSocket::bind(rt, local(0))?;
+    socket.connect(local(port))?;
+    registry.register(&mut socket, REPLIES, Interest::READABLE)?;
+    Ok(socket)
+}
+
+// The datagram that asks it.
+fn message_of(alloc: Global, asked: &Asked<'_>) -> io::Result<Vec<u8>> {
+    if !asked.is_askable() {
+        return Err(io::Error::from(ErrorKind::InvalidInput));
+    }
+    let Ok(message) = datagram(alloc, asked) else {
+        return Err(io::Error::from(ErrorKind::OutOfMemory));
+    };
+    Ok(message)
+}
+
+// Whether the message is a question for the status.
+fn is_status(order: Order) -> bool {
+    matches!(order, Order::Status)
+}
+
+/// What comes to a socket.
+#[derive(Clone, Copy, PartialEq, Eq)]
+enum Came {
+    Replied(Replied),
+    // Nobody listens at the controller's port.
+    Nobody,
+    // Something that is no answer.
+    Noise,
+    Nothing,
+}
+
+// What it means that a call brought no datagram.
+fn unheard(kind: ErrorKind) -> Came
+    ensures { result ≡ unheard kind }
+{
+    match kind {
+        ErrorKind::ConnectionRefused => Came::Nobody,
+        ErrorKind::Interrupted => Came::Noise,
+        _ => Came::Nothing,
+    }
+}
+
+// What the machine hears of the ask with this number.
+fn heard_of(number: u64, came: Came) -> Option<Heard>
+    ensures { result ≡ heard_of number came }
+{
+    match came {
+        Came::Replied(replied) => Some(Heard::Replied(number, replied)),
+        Came::Nobody => Some(Heard::Nobody(number)),
+        Came::Noise => None,
+        Came::Nothing => None,
+    }
+}
+
+impl Ask {
+    // Sends the message, once, from a socket of its own.
+    fn send<R: Net + AllocGlobal>(
+        rt: &R,
+        registry: &Registry,
+        port: u16,
+        send: Send,
+    ) -> io::Result<Ask> {
+        let asked = asked_by(send.order);
+        let mut shown = address(rt.alloc(), &asked)?;
+        shown.truncate(SHOWN);
+        let message = message_of(rt.alloc(), &asked)?;
+        let socket = open_socket(rt, registry, port)?;
+        socket.send(&message)?;
+        Ok(Ask {
+            number: send.ask,
+            is_status: is_status(send.order),
+            shown,
+            socket,
+        })
+    }
+
+    // What a reply is to this ask: the status if that was asked, else what became of exactly one command.
+    fn is_answer(&self, replied: Replied) -> bool {
+        match replied {
+            Replied::Status(_) => self.is_status,
+            Replied::Reply { .. } => !self.is_status && answer_in(replied).is_some(),
+        }
+    }
+
+    // What the datagram says. Where memory runs out nothing is heard, as of a datagram that is lost.
+    fn read(&self, alloc: Global, datagram: &[u8]) -> Came {
+        match read_reply(alloc, &self.shown, datagram) {
+            Ok(Some(replied)) if self.is_answer(replied) => Came::Replied(replied),
+            _ => Came::Noise,
+        }
+    }
+
+    // What comes next, of what is there.
+    fn next(&self, alloc: Global) -> Came {
+        let mut buffer = [0; MAX_LEN];
+        match self.socket.recv(&mut buffer) {
+            Ok(n) => self.read(alloc, &buffer[..n]),
+            Err(error) => unheard(error.kind()),
+        }
+    }
+
+    // Its answer, if that is there.
+    fn answer(&self, alloc: Global) -> Option<Heard> {
+        for _ in 0..MAX_READ {
+            let came = self.next(alloc);
+            let heard = heard_of(self.number, came);
+            if heard.is_some() || came == Came::Nothing {
+                return heard;
+            }
+        }
+        None
+    }
+}
+
+impl Asks {
+    /// Asks the controller at this port, of which nothing is asked yet.
+    pub fn new(alloc: Global, port: u16) -> Asks {
+        Asks {
+            port,
+            open: Vec::new(alloc),
+        }
+    }
+
+    // Closes the ask at this place.
+    fn close(&mut self, place: usize) {
+        if place < self.open.len() {
+            let _ = self.open.remove(place);
+        }
+    }
+
+    // Closes what is asked anew: the last question for the status, or the older one of two presses.
+    fn make_room(&mut self, is_status: bool) {
+        let most = if is_status { 1 } else { MAX_PRESSES };
+        let same = self.open.iter().filter(|ask| ask.is_status == is_status);
+        if same.count() < most {
+            return;
+        }
+        if let Some(place) = self.open.iter().position(|ask| ask.is_status == is_status) {
+            self.close(place);
+        }
+    }
+
+    /// Sends a message, once, from a socket of its own.
+    pub fn send<R: Net + AllocGlobal>(
+        &mut self,
+        rt: &R,
+        registry: &Registry,
+        send: Send,
+    ) -> io::Result<()> {
+        self.make_room(is_status(send.order));
+        let ask = Ask::send(rt, registry, self.port, send)?;
+        Ok(self.open.push(ask)?)
+    }
+
+    // The first answer that is there, with the place of its ask.
+    fn first_answer(&self, alloc: Global) -> Option<(usize, Heard)> {
+        for (place, ask) in self.open.iter().enumerate() {
+            if let Some(heard) = ask.answer(alloc) {
+                return Some((place, heard));
+            }
+        }
+        None
+    }
+
+    /// The next answer that is there. Its ask is closed then: it has one answer at most.
+    pub fn hear(&mut self, alloc: Global) -> Option<Heard> {
+        let (place, heard) = self.first_answer(alloc)?;
+        self.close(place);
+        Some(heard)
+    }
+}

@@ -1,0 +1,58 @@
+//! The two clocks of the desk: one that never goes back, and that of the wall, by which the controller counts.
+use std::io;
+use std::time::{Clock, Instant};
+
+/// A clock that never goes back. It begins with the desk.
+#[derive(Drop)]
+pub struct SteadyClock {
+    start: Instant,
+}
+
+impl SteadyClock {
+    /// It begins now.
+    pub fn new<C: Clock>(clock: &C) -> io::Result<SteadyClock> {
+        Ok(SteadyClock {
+            start: Instant::now(clock)?,
+        })
+    }
+
+    /// Milliseconds since it began.
+    pub fn now<C: Clock>(&self, clock: &C) -> io::Result<u64> {
+        let since = self.start.elapsed(clock)?;
+        Ok(u64::try_from(since.as_millis()).unwrap_or(u64::MAX))
+    }
+}
+
+/// Milliseconds since 1970, by the clock of the wall; 0 if there is none.
+pub fn wall_time<C: Clock>(clock: &C) -> u64 {
+    match clock.since_1970() {
+        Ok(since) => u64::try_from(since.as_millis()).unwrap_or(0),
+        Err(_) => 0,
+    }
+}
+
+/// Something that is done again and again, with at least so many milliseconds between.
+#[derive(Clone, Copy)]
+pub struct Beat {
+    every: u64,
+    last: Option<u64>,
+}
+
+impl Beat {
+    /// It was not done yet, and is due at once.
+    pub fn of(every: u64) -> Beat {
+        Beat { every, last: None }
+    }
+
+    /// Whether it is due; if so, it counts as done at this moment.
+    pub fn is_due(&mut self, now: u64) -> bool {
+        let is_due = match self.last {
+            Some(last) => now.saturating_sub(last) >= self.every,
+            None => true,
+        };
+        if is_due {
+            self.last = Some(now);
+        }
+        is_due
+    }
+}

@@ -1,0 +1,240 @@
+//! The desk at work: it hears the controller, the files and the relay, has the machine make a view of each thing that
+//! it heard, and sends what the machine says. Nothing here waits but `wait`.
+use crate::asks::Asks;
+use crate::clocks::{Beat, SteadyClock, wall_time};
+use crate::reading::Store;
+use crate::relay::read_young;
+use cue_core::State;
+use cue_station::heard::{Button, Heard, Input, Send};
+use cue_station::station::{Station, Step};
+use cue_station::view::{Alarm, View};
+use mio::{Events, Poll, Registry};
+use std::fs::{File, Files};
+use std::io;
+use std::net::Net;
+use std::time::{Clock, Duration};
+
+/// How many milliseconds lie between two views at most.
+const TICK: u64 = 50;
+
+/// How many lie between two looks at the files of the store.
+const LOOK: u64 = 100;
+
+/// How many lie between two looks at what the relay writes.
+const RELAY: u64 = 500;
+
+/// How many answers are heard in a round: one of each ask.
+const MAX_ANSWERS: u32 = 3;
+
+/// How many events one wait tells of. What is not told is heard all the same.
+const EVENTS: usize = 64;
+
+/// What a desk works with: the folder of a store, a controller's port, and the file of a relay.
+#[derive(Clone, Copy)]
+pub struct Sources<'a> {
+    pub dir: &'a str,
+    pub port: u16,
+    pub relay: Option<&'a str>,
+}
+
+/// A desk.
+#[derive(Drop)]
+pub struct Desk<'a, R> {
+    rt: &'a R,
+    clock: SteadyClock,
+    station: Station,
+    // The newest view.
+    view: View,
+    poll: Poll,
+    events: Events,
+    asks: Asks,
+    // Whether the last message could not be sent, and why, until that is told.
+    has_failed: bool,
+    fault: Option<io::Error>,
+    store: Store,
+    relay: Option<&'a str>,
+    ticks: Beat,
+    looks: Beat,
+    relays: Beat,
+}
+
+// The first view, before anything was heard.
+fn first_view<R: Clock + AllocGlobal>(rt: &R, station: &mut Station, at: u64) -> io::Result<Step> {
+    let input = Input {
+        at,
+        wall: wall_time(rt),
+        heard: Heard::Tick,
+    };
+    Ok(station.step(rt.alloc(), input)?)
+}
+
+impl<'a, R: Files<File = File> + Net + Clock + AllocGlobal> Desk<'a, R> {
+    /// A desk that has heard nothing yet.
+    pub fn new(rt: &'a R, sources: &Sources<'a>) -> io::Result<Desk<'a, R>> {
+        let alloc = rt.alloc();
+        let mut station = Station::new(alloc);
+        let Step { view, send } = first_view(rt, &mut station, 0)?;
+        let mut desk = Desk {
+            rt,
+            clock: SteadyClock::new(rt)?,
+            station,
+            view,
+            poll: Poll::new(rt)?,
+            events: Events::with_capacity(alloc, EVENTS)?,
+            asks: Asks::new(alloc, sources.port),
+            has_failed: false,
+            fault: None,
+            store: Store::new(String::from_str(alloc, sources.dir)?),
+            relay: sources.relay,
+            ticks: Beat::of(TICK),
+            looks: Beat::of(LOOK),
+            relays: Beat::of(RELAY),
+        };
+        desk.send(send);
+        Ok(desk)
+    }
+
+    /// The newest view.
+    pub fn view(&self) -> &View {
+        &self.view
+    }
+
+    /// What the store stood for when it was read last; none if it was never read.
+    pub fn state(&self) -> Option<&State> {
+        match &self.station.reading {
+            Some(reading) => Some(&reading.copy.state),
+            None => None,
+        }
+    }
+
+    /// What is waited at.
+    pub fn registry(&self) -> &Registry {
+        self.poll.registry()
+    }
+
+    /// Milliseconds since it began, by the clock that never goes back.
+    pub fn now(&self) -> io::Result<u64> {
+        self.clock.now(self.rt)
+    }
+
+    // Sends a message. If that fails, no answer to it comes.
+    fn send(&mut self, send: Option<Send>) {
+        let Some(send) = send else {
+            return;
+        };
+        match self.asks.send(self.rt, self.poll.registry(), send) {
+            Ok(()) => self.has_failed = false,
+            Err(why) => {
+                if !self.has_failed {
+                    self.fault = Some(why);
+                }
+                self.has_failed = true;
+            }
+        }
+    }
+
+    /// Why a message could not be sent, once, if none could be since.
+    pub fn take_fault(&mut self) -> Option<io::Error> {
+        self.fault.take()
+    }
+
+    // Hears one thing, which is there at this moment, and answers whether it was heard: if memory ran out, nothing was.
+    fn hear(&mut self, heard: Heard) -> io::Result<bool> {
+        let input = Input {
+            at: self.now()?,
+            wall: wall_time(self.rt),
+            heard,
+        };
+        let Ok(step) = self.station.step(self.rt.alloc(), input) else {
+            return Ok(false);
+        };
+        let Step { view, send } = step;
+        self.view = view;
+        self.send(send);
+        Ok(true)
+    }
+
+    /// A button of the view with this number was pressed. Answers whether that was heard.
+    pub fn press(&mut self, number: u64, button: Button) -> bool {
+        matches!(self.hear(Heard::Pressed(number, button)), Ok(true))
+    }
+
+    // Hears the answers that are there.
+    fn hear_answers(&mut self) -> io::Result<()> {
+        for _ in 0..MAX_ANSWERS {
+            let Some(heard) = self.asks.hear(self.rt.alloc()) else {
+                return Ok(());
+            };
+            let _ = self.hear(heard)?;
+        }
+        Ok(())
+    }
+
+    // Looks at the files of the store. What came while they were read is heard before the copy: else the next question
+    // for the status could take the place of one whose answer is there. A copy that was not heard is read again.
+    fn look_at_store(&mut self) -> io::Result<()> {
+        let begun = self.now()?;
+        if self.looks.is_due(begun) {
+            let heard = self.store.look(self.rt, begun);
+            self.hear_answers()?;
+            if !self.hear(heard)? {
+                self.store.forget();
+            }
+        }
+        Ok(())
+    }
+
+    // Looks at what the relay has written.
+    fn look_at_relay(&mut self) -> io::Result<()> {
+        let now = self.now()?;
+        if let Some(path) = self.relay {
+            if self.relays.is_due(now) {
+                let status = read_young(self.rt, path);
+                let _ = self.hear(Heard::Relay(status))?;
+            }
+        }
+        Ok(())
+    }
+
+    // Lets time pass, if a question for the status is due or no view was made for a while.
+    fn tick(&mut self) -> io::Result<()> {
+        let now = self.now()?;
+        if self.ticks.is_due(now) || self.station.due(now) {
+            let _ = self.hear(Heard::Tick)?;
+        }
+        Ok(())
+    }
+
+    /// Hears all that is there, and looks at what is due.
+    pub fn round(&mut self) -> io::Result<()> {
+        self.hear_answers()?;
+        self.look_at_store()?;
+        self.look_at_relay()?;
+        self.tick()
+    }
+
+    /// Waits until something comes, and at most so many milliseconds.
+    pub fn wait(&mut self, most: u64) -> io::Result<()> {
+        self.poll
+            .poll(&mut self.events, Some(Duration::from_millis(most)))
+    }
+
+    /// Whether the status that was answered last is not of the store that was read last, as for a moment after each change.
+    pub fn differs(&self) -> bool {
+        self.station.notes.differs.is_some()
+    }
+
+    /// Whether the store was read or cannot be, and a status was answered or nobody listens.
+    pub fn is_complete(&self) -> bool {
+        let view = &self.view;
+        let is_unread = view
+            .alarms
+            .iter()
+            .any(|alarm| matches!(alarm, Alarm::Unread(_)));
+        let is_alone = view
+            .alarms
+            .iter()
+            .any(|alarm| *alarm == Alarm::NobodyListens);
+        (view.read.is_some() || is_unread) && (view.served.is_some() || is_alone)
+    }
+}

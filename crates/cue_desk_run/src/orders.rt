@@ -1,0 +1,46 @@
+//! One message as it was typed, without a view: it is sent once, and its answer waited for.
+use crate::asks::Asks;
+use crate::clocks::SteadyClock;
+use cue_desk::orders::Order;
+use cue_station::heard::{Heard, Send};
+use mio::{Events, Poll};
+use std::io;
+use std::net::Net;
+use std::time::{Clock, Duration};
+
+/// How long an answer is waited for, in milliseconds, whatever else comes.
+const PATIENCE: u64 = 1_000;
+
+/// How long one wait is at most.
+const PAUSE: u64 = 20;
+
+// Waits for the answer to what was asked; none if there is none in time.
+fn answer_to<R: Clock + AllocGlobal>(
+    rt: &R,
+    asks: &mut Asks,
+    poll: &mut Poll,
+) -> io::Result<Option<Heard>> {
+    let clock = SteadyClock::new(rt)?;
+    let mut events = Events::with_capacity(rt.alloc(), 1)?;
+    for _ in 0..u64::MAX {
+        let heard = asks.hear(rt.alloc());
+        if heard.is_some() || clock.now(rt)? >= PATIENCE {
+            return Ok(heard);
+        }
+        poll.poll(&mut events, Some(Duration::from_millis(PAUSE)))?;
+    }
+    Ok(None)
+}
+
+/// Asks one thing of the controller at this port, once, from a socket of its own: its answer, or that nobody listens
+/// there; none if neither came within a second.
+pub fn ask_once<R: Net + Clock + AllocGlobal>(
+    rt: &R,
+    order: Order,
+    port: u16,
+) -> io::Result<Option<Heard>> {
+    let mut poll = Poll::new(rt)?;
+    let mut asks = Asks::new(rt.alloc(), port);
+    asks.send(rt, poll.registry(), Send { ask: 0, order })?;
+    answer_to(rt, &mut asks, &mut poll)
+}

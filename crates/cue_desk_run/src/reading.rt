@@ -1,0 +1,139 @@
+//! A store as the desk reads it, beside whoever serves it: read again only if its files may have changed.
+use crate::clocks::wall_time;
+use crate::stamps::stamps_at;
+use cue_copies::{Copies, Found, read_again};
+use cue_core::Event;
+use cue_desk::stamps::Stamps;
+use cue_disk::{FileDisk, FileFault, MemDisk};
+use cue_keeper::{Keeper, StoreFault};
+use cue_station::heard::{Copied, Heard, Trouble};
+use std::fs::{File, Files};
+use std::time::Clock;
+
+/// The store of a folder. Its files are only looked at and read: nothing is locked, written or synced.
+#[derive(Drop)]
+pub struct Store {
+    dir: String,
+    // When the last copy was begun, in milliseconds since 1970, and what the system said of the files then.
+    seen: Option<(u64, Stamps)>,
+    // The last copy, as its bytes.
+    last: Option<Copies>,
+}
+
+// Why a file cannot be opened.
+fn trouble_of(fault: &FileFault) -> Trouble {
+    match fault {
+        FileFault::NotFound => Trouble::Missing,
+        FileFault::Io(_) => Trouble::Refused,
+    }
+}
+
+// Why a store is refused.
+fn refusal_of(fault: StoreFault) -> Trouble {
+    match fault {
+        StoreFault::Memory => Trouble::Memory,
+        _ => Trouble::Refused,
+    }
+}
+
+// One file of a store.
+fn open_one<R: Files<File = File> + AllocGlobal>(
+    rt: &R,
+    dir: &str,
+    name: &str,
+) -> Result<FileDisk, Trouble> {
+    let Ok(path) = format!(in rt.alloc(); "{dir}/{name}") else {
+        return Err(Trouble::Memory);
+    };
+    FileDisk::open_to_read(rt, path.as_str()).map_err(|why| trouble_of(&why))
+}
+
+// Both files as they stood at one moment; `last` is the last copy.
+fn find<R: Files<File = File> + AllocGlobal>(
+    rt: &R,
+    dir: &str,
+    last: &Option<Copies>,
+) -> Result<Found, Trouble> {
+    let mut first = open_one(rt, dir, "a.area")?;
+    let mut second = open_one(rt, dir, "b.area")?;
+    Ok(read_again(rt.alloc(), &mut first, &mut second, last))
+}
+
+// A copy of what was read, which was begun at this moment.
+fn heard_copy(begun: u64, keeper: &Keeper<MemDisk>, events: Vec<Event>) -> Heard {
+    match keeper.state().try_clone() {
+        Ok(state) => Heard::Copied(Copied {
+            begun,
+            state,
+            events,
+        }),
+        Err(_) => Heard::Unread(Trouble::Memory),
+    }
+}
+
+impl Store {
+    /// The store of this folder, of which nothing is read yet.
+    pub fn new(dir: String) -> Store {
+        Store {
+            dir,
+            seen: None,
+            last: None,
+        }
+    }
+
+    /// Lets it be read again, whatever the files look like.
+    pub fn forget(&mut self) {
+        self.seen = None;
+        self.last = None;
+    }
+
+    // Whether the last copy is what another one would give, too.
+    fn holds(&self, stamps: Option<Stamps>) -> bool {
+        match (self.seen, stamps) {
+            (Some((begun, seen)), Some(stamps)) => seen.holds(begun, stamps),
+            _ => false,
+        }
+    }
+
+    // Keeps the bytes of the copy, if there was memory for it.
+    fn keep(&mut self, copies: Copies, heard: Heard) -> Heard {
+        if matches!(heard, Heard::Copied(_)) {
+            self.last = Some(copies);
+        }
+        heard
+    }
+
+    // Reads the store, from this moment on.
+    fn read<R: Files<File = File> + AllocGlobal>(&mut self, rt: &R, begun: u64) -> Heard {
+        match find(rt, self.dir.as_str(), &self.last) {
+            Ok(Found::Whole(copies, keeper, events)) => self.keep(
+                copies,
+                heard_copy(begun, &keeper, events),
+            ),
+            Ok(Found::Same) => Heard::Same(begun),
+            Ok(Found::Refused(fault)) => Heard::Unread(refusal_of(fault)),
+            Ok(Found::Changing) => Heard::Unread(Trouble::Changing),
+            Err(trouble) => Heard::Unread(trouble),
+        }
+    }
+
+    /// Looks at the store: it is read if that may give something else than the last copy. `begun` is this moment, by
+    /// the clock that never goes back.
+    pub fn look<R: Files<File = File> + Clock + AllocGlobal>(
+        &mut self,
+        rt: &R,
+        begun: u64,
+    ) -> Heard {
+        let wall = wall_time(rt);
+        let stamps = stamps_at(rt, self.dir.as_str());
+        if self.holds(stamps) {
+            return Heard::Same(begun);
+        }
+        let heard = self.read(rt, begun);
+        self.seen = match heard {
+            Heard::Copied(_) | Heard::Same(_) => stamps.map(|stamps| (wall, stamps)),
+            _ => None,
+        };
+        heard
+    }
+}

@@ -1,0 +1,4 @@
+//! The desk as a machine, beside a controller in memory.
+mod drawing;
+mod evenings;
+mod house;

@@ -1,0 +1,148 @@
+//! Evenings at the desk, step by step.
+use super::house::{House, cue};
+use cue_core::AnswerKind;
+use cue_desk::orders::Order;
+use cue_desk::replying::Replied;
+use cue_operator::CueVerb;
+use cue_station::heard::{Button, Heard, Input, Send};
+use cue_station::station::{Station, Step};
+use cue_station::view::{Alarm, Became, Next, Unsent, View};
+use std::alloc::Global;
+use std::process::Abort;
+use std::test::Fail;
+
+/// A desk beside a house, on one clock.
+#[derive(Drop)]
+struct Evening {
+    house: House,
+    desk: Station,
+    at: u64,
+    view: Option<View>,
+}
+
+impl Evening {
+    fn new(rt: &impl Abort, alloc: Global) -> Result<Evening, Fail> {
+        Ok(Evening {
+            house: House::new(rt, alloc)?,
+            desk: Station::new(alloc),
+            at: 5_000,
+            view: None,
+        })
+    }
+
+    // The desk hears this; what it sends.
+    fn hear(&mut self, alloc: Global, heard: Heard) -> Result<Option<Send>, Fail> {
+        let input = Input {
+            at: self.at,
+            wall: self.house.wall,
+            heard,
+        };
+        let Step { view, send } = self.desk.step(alloc, input)?;
+        self.view = Some(view);
+        Ok(send)
+    }
+
+    // What the desk sends reaches the house, and the reply the desk.
+    fn exchange(&mut self, rt: &impl Abort, alloc: Global, send: Option<Send>) -> Result<(), Fail> {
+        let mut sent = send;
+        for _ in 0..4 {
+            let Some(send) = sent else {
+                return Ok(());
+            };
+            self.wait(rt, 1)?;
+            let replied = self.house.ask(rt, alloc, send.order)?;
+            sent = self.hear(alloc, Heard::Replied(send.ask, replied))?;
+        }
+        Ok(())
+    }
+
+    fn wait(&mut self, rt: &impl Abort, millis: u64) -> Result<(), Fail> {
+        self.at = self.at.saturating_add(millis);
+        self.house.pass(rt, millis)
+    }
+
+    // The desk reads the store, and asks the status.
+    fn look(&mut self, rt: &impl Abort, alloc: Global) -> Result<(), Fail> {
+        self.wait(rt, 20)?;
+        let copy = self.house.copied(self.at)?;
+        self.wait(rt, 10)?;
+        let send = self.hear(alloc, Heard::Copied(copy))?;
+        self.exchange(rt, alloc, send)?;
+        self.wait(rt, 20)?;
+        let send = self.hear(alloc, Heard::Tick)?;
+        self.exchange(rt, alloc, send)
+    }
+
+    fn shown(&self, rt: &impl Abort) -> &View {
+        self.view.as_ref().expect(rt, "a view")
+    }
+
+    fn is_lit(&self, rt: &impl Abort, button: Button) -> bool {
+        self.shown(rt).lit.iter().any(|lit| *lit == button)
+    }
+
+    // The button of the newest view is pressed; what is sent.
+    fn press(
+        &mut self,
+        rt: &impl Abort,
+        alloc: Global,
+        button: Button,
+    ) -> Result<Option<Send>, Fail> {
+        let number = self.shown(rt).number;
+        self.hear(alloc, Heard::Pressed(number, button))
+    }
+
+    // The same, with all that follows.
+    fn pressed(&mut self, rt: &impl Abort, alloc: Global, button: Button) -> Result<(), Fail> {
+        let send = self.press(rt, alloc, button)?;
+        assert!(rt; send.is_some(), "{button:?} was not sent");
+        self.exchange(rt, alloc, send)?;
+        self.look(rt, alloc)
+    }
+}
+
+#[test]
+fn a_cue_is_stood_by_and_given(rt: HostRuntime) -> Result<(), Fail> {
+    let alloc = rt.alloc();
+    let mut evening = Evening::new(&rt, alloc)?;
+    let send = evening.hear(alloc, Heard::Tick)?;
+    assert!(rt; evening.shown(&rt).next == Next::Unknown);
+    assert!(rt;
+        evening.shown(&rt).alarms.as_slice() == [Alarm::Silent(None), Alarm::Old(None)].as_slice()
+    );
+    evening.exchange(&rt, alloc, send)?;
+    evening.look(&rt, alloc)?;
+    let one = cue(&rt, "1");
+    assert!(rt; evening.shown(&rt).next == Next::Cue(one));
+    assert!(rt; evening.is_lit(&rt, Button::Standby(one)));
+    assert!(rt; evening.shown(&rt).alarms.is_empty());
+    evening.pressed(&rt, alloc, Button::Standby(one))?;
+    assert!(rt; evening.shown(&rt).chosen == Some(1));
+    assert!(rt; evening.is_lit(&rt, Button::Cancel(one, 1)));
+    assert!(rt; !evening.is_lit(&rt, Button::Go(one, 1)));
+    evening
+        .house
+        .answer(&rt, alloc, 3, 1, AnswerKind::StandingBy)?;
+    evening.look(&rt, alloc)?;
+    assert!(rt; evening.is_lit(&rt, Button::Go(one, 1)));
+    evening.pressed(&rt, alloc, Button::Go(one, 1))?;
+    assert!(rt; evening.shown(&rt).chosen.is_none());
+    assert!(rt;
+        evening
+            .shown(&rt)
+            .said
+            .is_some_and(|said| said.became == Became::Made)
+    );
+    evening
+        .house
+        .answer(&rt, alloc, 3, 1, AnswerKind::Complete)?;
+    evening.look(&rt, alloc)?;
+    assert!(rt; evening.shown(&rt).next == Next::Cue(cue(&rt, "2")));
+    let last = evening
+        .shown(&rt)
+        .last
+        .as_ref()
+        .expect(&rt, "a last attempt");
+    assert!(rt; last.seq == 1 && last.cue == Some(one));
+    Ok(())
+}

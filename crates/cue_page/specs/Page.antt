@@ -1,0 +1,47 @@
+-- A view as JSON (RFC 8259): what the page draws.
+use Rattle.std.specs.Prelude.{ℕ, List, ◌-◌, map, codes, Option, None, Some}
+use Rattle.serde_json.specs.Data.{Data, null, number, unsigned, string, array, object, member, no_members}
+use Rattle.serde_json.specs.View.{items_of}
+use Rattle.cue_station.specs.declared.view.View.{View}
+use Rattle.cue_page.specs.Alarms.{alarm_data}
+use Rattle.cue_page.specs.Ends.{told_data, told_or_null}
+use Rattle.cue_page.specs.Lit.{button_data}
+use Rattle.cue_page.specs.Live.{attempt_data}
+use Rattle.cue_page.specs.Network.{contact_data}
+use Rattle.cue_page.specs.Said.{said_data, unsent_data}
+use Rattle.cue_page.specs.Stack.{next_data, stack_data}
+
+-- how old a thing of this moment is; null where it never came
+abbrev pub age_data : ℕ → Option ℕ → Data
+age_data at None = null
+age_data at (Some moment) = number (unsigned (at - moment))
+
+-- the attempt that GO and CANCEL are for
+abbrev pub chosen_data : Option ℕ → Data
+chosen_data None = null
+chosen_data (Some q) = number (unsigned q)
+
+-- all that a view says
+abbrev pub view_data : ℕ → View → Data
+view_data port v =
+    object (member (codes "alarms") (array (items_of (map (alarm_data port v.at) v.alarms.items)))
+    (member (codes "chosen") (chosen_data v.chosen)
+    (member (codes "last") (told_or_null v.last)
+    (member (codes "lit") (array (items_of (map button_data v.lit.items)))
+    (member (codes "live") (array (items_of (map (attempt_data v.at) v.live.items)))
+    (member (codes "network") (array (items_of (map contact_data v.network.items)))
+    (member (codes "next") (next_data v.next)
+    (member (codes "number") (number (unsigned v.number))
+    (member (codes "past") (array (items_of (map told_data v.past.items)))
+    (member (codes "read") (age_data v.at v.read)
+    (member (codes "said") (said_data port v.said)
+    (member (codes "served") (age_data v.at v.served)
+    (member (codes "stack") (stack_data v.stack)
+    (member (codes "unsent") (unsent_data v.unsent) no_members))))))))))))))
+
+-- what the page gets: the view, in which run of the desk it was made, and what its numbers are called
+abbrev pub page_data : Data → List ℕ → Data → Data
+page_data called run view =
+    object (member (codes "names") called
+    (member (codes "run") (string run)
+    (member (codes "view") view no_members)))

@@ -1,0 +1,60 @@
+//! The cue that is next, and the stack around the place.
+ghost use Rattle.std.specs.Prelude.{◌≡◌, IfOk, map};
+ghost use Rattle.serde_json.specs.Data.{array};
+ghost use Rattle.serde_json.specs.View.{items_of, view};
+ghost use Rattle.cue_page.specs.Stack as stack;
+
+use cue_show::CueNo;
+use cue_show_file::cue_text;
+use cue_station::view::{Next, Stack};
+use serde_json::{Value, json};
+use std::alloc::{AllocError, Global};
+
+// The cue that is next; null where none is.
+fn cue_value(alloc: Global, next: Next) -> Result<Value, AllocError>
+    ensures { IfOk result (λ v. view v ≡ stack.cue_data next) }
+{
+    match next {
+        Next::Cue(cue) => Ok(Value::String(String::from_str(alloc, cue_text(&cue))?)),
+        Next::Empty | Next::End | Next::Unknown => Ok(Value::Null),
+    }
+}
+
+// Why none is next; empty where one is.
+fn why(next: Next) -> &'static str
+    ensures { result.now ≡ stack.why next }
+{
+    match next {
+        Next::Cue(_) => "",
+        Next::Empty => "The stack has no cue.",
+        Next::End => "No cue is next: the stack is at its end. To give a cue again, move to it.",
+        Next::Unknown => "Which cue is next is not known. Move to one.",
+    }
+}
+
+/// The cue that is next, or why none is.
+pub fn next_value(alloc: Global, next: Next) -> Result<Value, AllocError>
+    ensures { IfOk result (λ v. view v ≡ stack.next_data next) }
+{
+    let (cue, why) = (cue_value(alloc, next)?, why(next));
+    json!(in alloc; {"cue": cue, "why": why})
+}
+
+// The numbers of cues.
+fn cues_value(alloc: Global, cues: &[CueNo]) -> Result<Value, AllocError>
+    ensures { IfOk result (λ v. view v ≡ array (items_of (map stack.number_data cues.now))) }
+{
+    let mut numbers = Vec::with_capacity(alloc, cues.len())?;
+    for cue in cues {
+        numbers.push(Value::String(String::from_str(alloc, cue_text(cue))?))?;
+    }
+    Ok(Value::Array(numbers))
+}
+
+/// The cues around the place, and how many there are before and after them.
+pub(super) fn stack_value(alloc: Global, around: &Stack) -> Result<Value, AllocError>
+    ensures { IfOk result (λ v. view v ≡ stack.stack_data around.now) }
+{
+    let cues = cues_value(alloc, &around.cues)?;
+    json!(in alloc; {"after": around.after, "before": around.before, "cues": cues})
+}

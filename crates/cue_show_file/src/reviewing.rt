@@ -1,0 +1,161 @@
+//! What a controller takes, and an evening may not.
+ghost use Rattle.std.specs.Prelude.{◌≡◌, ◌==◌, ◌&&◌, IfOk, length};
+ghost use Rattle.std.specs.List.{list_all};
+ghost use Rattle.cue_show_file.specs.Reading.{is_clean};
+ghost use Rattle.cue_show_file.specs.Reviewed.{has_listen, has_something, is_apart, is_reviewed};
+
+use crate::file::{DeviceEntry, ShowFile};
+use crate::mistake::{Finding, Findings, Mistake, Subject};
+use cue_show::DeviceNo;
+use std::alloc::{AllocError, Global};
+
+/// The port at which the controller listens, where nobody says another.
+const USUAL_PORT: u16 = 9100;
+
+/// What may spoil the evening with a file that a controller takes.
+#[derive(Drop)]
+pub struct Review {
+    /// What has to be mended.
+    pub mistakes: Vec<Finding>,
+    /// What may be meant so.
+    pub hints: Vec<Finding>,
+}
+
+// Notes a device that has the port of the controller.
+fn note_own_port(
+    findings: &mut Findings,
+    port: Option<u16>,
+    entry: &DeviceEntry,
+) -> Result<(), AllocError>
+    ensures { IfOk result (λ _. is_clean findings.new ≡ (is_clean findings.old && is_apart port entry.now)) }
+{
+    match port {
+        Some(port) if port == entry.port => {
+            findings.look_at(entry.line, Subject::Device(entry.number));
+            findings.note(Mistake::OwnPort)
+        }
+        _ => Ok(()),
+    }
+}
+
+// Notes each device that has the port of the controller.
+fn note_own_ports(
+    findings: &mut Findings,
+    port: Option<u16>,
+    entries: &[DeviceEntry],
+) -> Result<(), AllocError>
+    ensures { IfOk result (λ _. is_clean findings.new
+        ≡ (is_clean findings.old && list_all (λ e. is_apart port e) entries.now)) }
+{
+    match entries {
+        [] => Ok(()),
+        [first, rest @ ..] => {
+            note_own_port(findings, port, first)?;
+            note_own_ports(findings, port, rest)
+        }
+    }
+}
+
+// Notes a device that has an address, where the file does not say where this machine is.
+fn note_address(
+    findings: &mut Findings,
+    listen: Option<u32>,
+    entry: &DeviceEntry,
+) -> Result<(), AllocError>
+    ensures { IfOk result (λ _. is_clean findings.new ≡ (is_clean findings.old && has_listen listen entry.now)) }
+{
+    match (listen, entry.address) {
+        (None, Some(_)) => {
+            findings.look_at(entry.line, Subject::Device(entry.number));
+            findings.note(Mistake::NoListen)
+        }
+        _ => Ok(()),
+    }
+}
+
+// Notes each device that has an address, where the file does not say where this machine is.
+fn note_addresses(
+    findings: &mut Findings,
+    listen: Option<u32>,
+    entries: &[DeviceEntry],
+) -> Result<(), AllocError>
+    ensures { IfOk result (λ _. is_clean findings.new
+        ≡ (is_clean findings.old && list_all (λ e. has_listen listen e) entries.now)) }
+{
+    match entries {
+        [] => Ok(()),
+        [first, rest @ ..] => {
+            note_address(findings, listen, first)?;
+            note_addresses(findings, listen, rest)
+        }
+    }
+}
+
+// Notes a file that has nothing.
+fn note_empty(findings: &mut Findings, file: &ShowFile) -> Result<(), AllocError>
+    ensures { IfOk result (λ _. is_clean findings.new ≡ (is_clean findings.old && has_something file.now)) }
+{
+    if file.devices.is_empty() && file.cues.is_empty() {
+        findings.look_at(None, Subject::File);
+        return findings.note(Mistake::Empty);
+    }
+    Ok(())
+}
+
+// What has to be mended.
+fn mistakes_of(alloc: Global, file: &ShowFile) -> Result<Vec<Finding>, AllocError>
+    ensures { IfOk result (λ found. (length found.items == 0) ≡ is_reviewed file.now) }
+{
+    let mut findings = Findings::new(alloc);
+    note_empty(&mut findings, file)?;
+    note_own_ports(&mut findings, file.port, &file.devices)?;
+    note_addresses(&mut findings, file.listen, &file.devices)?;
+    Ok(findings.into_vec())
+}
+
+// The first of these devices that has the port.
+fn first_at(entries: &[DeviceEntry], port: u16) -> Option<DeviceNo> {
+    let entry = entries.iter().find(|entry| entry.port == port)?;
+    Some(entry.number)
+}
+
+// Hints at each device that has the port of an earlier one.
+fn hint_at_shared(findings: &mut Findings, entries: &[DeviceEntry]) -> Result<(), AllocError> {
+    for (index, entry) in entries.iter().enumerate() {
+        if let Some(first) = first_at(&entries[..index], entry.port) {
+            findings.look_at(entry.line, Subject::Device(entry.number));
+            findings.note(Mistake::SharedPort(first))?;
+        }
+    }
+    Ok(())
+}
+
+// Hints at each device that has the port of a controller to which nobody says another one.
+fn hint_at_usual(findings: &mut Findings, file: &ShowFile) -> Result<(), AllocError> {
+    for entry in &file.devices {
+        if file.port.is_none() && entry.port == USUAL_PORT {
+            findings.look_at(entry.line, Subject::Device(entry.number));
+            findings.note(Mistake::UsualPort)?;
+        }
+    }
+    Ok(())
+}
+
+// What may be meant so.
+fn hints_at(alloc: Global, file: &ShowFile) -> Result<Vec<Finding>, AllocError> {
+    let mut findings = Findings::new(alloc);
+    hint_at_usual(&mut findings, file)?;
+    hint_at_shared(&mut findings, &file.devices)?;
+    Ok(findings.into_vec())
+}
+
+/// What a controller takes of a file, and an evening may not: a device at the controller's own port, an address without
+/// `listen`, nothing at all; and, as hints, two devices at one port, and one at the controller's usual port.
+pub fn review_of(alloc: Global, file: &ShowFile) -> Result<Review, AllocError>
+    ensures { IfOk result (λ found. (length found.mistakes.items == 0) ≡ is_reviewed file.now) }
+{
+    Ok(Review {
+        mistakes: mistakes_of(alloc, file)?,
+        hints: hints_at(alloc, file)?,
+    })
+}

@@ -1,0 +1,121 @@
+-- What the alarms come to.
+use Rattle.std.proofs.Common.{◌≡◌, ◌+◌, ◌∙◌, ℕ, Bool, true, false, not, ◌||◌, if◌then◌else◌, List, [], ◌∷◌, ◌++◌, map}
+use Rattle.std.proofs.Common.{Option, None, Some, nat_le, refl}
+use Rattle.std.specs.List.{list_any}
+use Rattle.std.specs.Option.{option_to_list}
+use Rattle.std.proofs.lemmas.List.Folds.{list_any-append}
+use Rattle.cue_station.specs.declared.heard.Trouble.{Trouble}
+use Rattle.cue_station.specs.declared.limits.TheConstants.{COPY_MS, OTHER_MS, STATUS_MS}
+use Rattle.cue_station.specs.declared.view.Alarm.{Alarm}
+use Rattle.cue_station.specs.declared.view.Alarm.TheVariants as alarm
+use Rattle.cue_station.specs.Alarms.{failed_by, is_within, old_by, old_store, other_by, other_store, relay_stopped, silence}
+use Rattle.cue_station.specs.Alarms.{silence_by, silent_in, stopped_by}
+use Rattle.cue_station.specs.Network.{is_stopped}
+use Rattle.cue_station.specs.Warning.{AgeIsSaid, SilenceIsSaid, is_age, is_silence}
+
+-- ---- a test of each alarm
+
+-- the test of two lists, one after the other
+pub any_in : (p : Alarm → Bool) (xs ys : List Alarm) (b c : Bool) → list_any p xs ≡ b → list_any p ys ≡ c
+    → list_any p (xs ++ ys) ≡ (b || c)
+any_in p xs ys b c first second = rw (list_any-append p xs ys, first, second) refl
+
+any_of_none : {A : Type 0} (p : Alarm → Bool) (f : A → Alarm) → ((x : A) → p (f x) ≡ false) → (xs : List A)
+    → list_any p (map f xs) ≡ false
+any_of_none p f fails [] = refl
+any_of_none p f fails (x ∷ xs) = rw (fails x) (any_of_none p f fails xs)
+
+any_if : (p : Alarm → Bool) (a : Alarm) → p a ≡ false → (b : Bool)
+    → list_any p (option_to_list (if b then Some a else None)) ≡ false
+any_if p a fails true = rw fails refl
+any_if p a fails false = refl
+
+or_none : (b : Bool) → (b || false) ≡ b
+or_none true = refl
+or_none false = refl
+
+none_other : (p : Alarm → Bool) → ((s : ℕ) → p (alarm.OtherStore s) ≡ false) → (since : Option ℕ) (now : ℕ)
+    → list_any p (option_to_list (other_by since now)) ≡ false
+none_other p fails None now = refl
+none_other p fails (Some s) now = any_if p (alarm.OtherStore s) (fails s) (nat_le (s + OTHER_MS) now)
+
+none_stopped : (p : Alarm → Bool) → ((s : ℕ) → p (alarm.RelayStopped s) ≡ false) → (since : Option ℕ) (now : ℕ)
+    → list_any p (option_to_list (stopped_by since now)) ≡ false
+none_stopped p fails None now = refl
+none_stopped p fails (Some s) now = any_if p (alarm.RelayStopped s) (fails s) (is_stopped s now)
+
+-- the last three of seven lists pass no test
+none_of_three : (p : Alarm → Bool) (e f g : List Alarm) → list_any p e ≡ false → list_any p f ≡ false
+    → list_any p g ≡ false → list_any p (e ++ (f ++ g)) ≡ false
+none_of_three p e f g he hf hg = any_in p e (f ++ g) false false he (any_in p f g false false hf hg)
+
+-- of seven lists the first alone passes the test, or not
+first_only : (p : Alarm → Bool) (a b c d e f g : List Alarm) (x : Bool) → list_any p a ≡ x → list_any p b ≡ false
+    → list_any p c ≡ false → list_any p d ≡ false → list_any p e ≡ false → list_any p f ≡ false
+    → list_any p g ≡ false → list_any p (a ++ (b ++ (c ++ (d ++ (e ++ (f ++ g)))))) ≡ x
+first_only p a b c d e f g x ha hb hc hd he hf hg =
+    let rest : list_any p (d ++ (e ++ (f ++ g))) ≡ false =
+    any_in p d (e ++ (f ++ g)) false false hd (none_of_three p e f g he hf hg)
+    in let more : list_any p (b ++ (c ++ (d ++ (e ++ (f ++ g))))) ≡ false =
+    any_in p b (c ++ (d ++ (e ++ (f ++ g)))) false false hb (any_in p c (d ++ (e ++ (f ++ g))) false false hc rest)
+    in any_in p a (b ++ (c ++ (d ++ (e ++ (f ++ g))))) x false ha more ∙ or_none x
+
+-- the same of the fourth
+fourth_only : (p : Alarm → Bool) (a b c d e f g : List Alarm) (x : Bool) → list_any p a ≡ false → list_any p b ≡ false
+    → list_any p c ≡ false → list_any p d ≡ x → list_any p e ≡ false → list_any p f ≡ false
+    → list_any p g ≡ false → list_any p (a ++ (b ++ (c ++ (d ++ (e ++ (f ++ g)))))) ≡ x
+fourth_only p a b c d e f g x ha hb hc hd he hf hg =
+    let rest : list_any p (d ++ (e ++ (f ++ g))) ≡ x =
+    any_in p d (e ++ (f ++ g)) x false hd (none_of_three p e f g he hf hg) ∙ or_none x
+    in any_in p a (b ++ (c ++ (d ++ (e ++ (f ++ g))))) false x ha
+    (any_in p b (c ++ (d ++ (e ++ (f ++ g)))) false x hb (any_in p c (d ++ (e ++ (f ++ g))) false x hc rest))
+
+-- ---- silence
+
+silence_of : (alive nobody : Bool) (asked : Option ℕ)
+    → list_any is_silence (option_to_list (silence_by alive nobody asked)) ≡ not alive
+silence_of true nobody asked = refl
+silence_of false true asked = refl
+silence_of false false asked = refl
+
+no_silence : (young : Bool) (why : Option Trouble) (read : Option ℕ)
+    → list_any is_silence (option_to_list (old_by young why read)) ≡ false
+no_silence true why read = refl
+no_silence false None read = refl
+no_silence false (Some w) read = refl
+
+pub silence_said : SilenceIsSaid
+silence_said f back failures network =
+    first_only is_silence (option_to_list (silence f)) (option_to_list (other_store f)) (option_to_list (relay_stopped f))
+    (option_to_list (old_store f)) (map alarm.ClockPutBack back) (map alarm.Failed (failed_by f failures))
+    (map alarm.DeviceSilent (silent_in network)) (not (is_within STATUS_MS f.at f.asked))
+    (silence_of (is_within STATUS_MS f.at f.asked) f.nobody f.asked) (none_other is_silence (λ s. refl) f.differs f.at)
+    (none_stopped is_silence (λ s. refl) f.stamped f.at)
+    (no_silence (is_within COPY_MS f.at f.read) f.trouble f.read)
+    (any_of_none is_silence alarm.ClockPutBack (λ x. refl) back)
+    (any_of_none is_silence alarm.Failed (λ x. refl) (failed_by f failures))
+    (any_of_none is_silence alarm.DeviceSilent (λ x. refl) (silent_in network))
+
+-- ---- age
+
+no_age : (alive nobody : Bool) (asked : Option ℕ) → list_any is_age (option_to_list (silence_by alive nobody asked)) ≡ false
+no_age true nobody asked = refl
+no_age false true asked = refl
+no_age false false asked = refl
+
+age_of : (young : Bool) (why : Option Trouble) (read : Option ℕ)
+    → list_any is_age (option_to_list (old_by young why read)) ≡ not young
+age_of true why read = refl
+age_of false None read = refl
+age_of false (Some w) read = refl
+
+pub age_said : AgeIsSaid
+age_said f back failures network =
+    fourth_only is_age (option_to_list (silence f)) (option_to_list (other_store f)) (option_to_list (relay_stopped f))
+    (option_to_list (old_store f)) (map alarm.ClockPutBack back) (map alarm.Failed (failed_by f failures))
+    (map alarm.DeviceSilent (silent_in network)) (not (is_within COPY_MS f.at f.read))
+    (no_age (is_within STATUS_MS f.at f.asked) f.nobody f.asked) (none_other is_age (λ s. refl) f.differs f.at)
+    (none_stopped is_age (λ s. refl) f.stamped f.at) (age_of (is_within COPY_MS f.at f.read) f.trouble f.read)
+    (any_of_none is_age alarm.ClockPutBack (λ x. refl) back)
+    (any_of_none is_age alarm.Failed (λ x. refl) (failed_by f failures))
+    (any_of_none is_age alarm.DeviceSilent (λ x. refl) (silent_in network))

@@ -1,0 +1,11 @@
+mod AlarmLemmas
+mod LoudnessLemmas
+mod PressLemmas
+mod SeeingLemmas
+mod ButtonLemmas
+mod LitLemmas
+mod OpenLemmas
+mod SentLemmas
+mod AfterLemmas
+mod LawLemmas
+mod TakenLemmas

@@ -1,0 +1,7 @@
+use Rattle.std.proofs.Common.{◌≡◌, ◌++◌, map, take}
+use Rattle.cue_station.specs.declared.view.Alarm.TheVariants as alarm
+use Rattle.cue_station.proofs.alarms.push_put_back.Given as goal
+
+-- the alarms so far were put there
+abbrev pub invariant-loop-seq : goal.invariant-loop-seq
+invariant-loop-seq l = l.all.items ≡ l.fn.all.items ++ map alarm.ClockPutBack (take l.seq-index l.numbers)

@@ -1,0 +1,219 @@
+-- What is wrong, the loudest first.
+use Rattle.std.specs.Prelude.{◌≡◌, ◌≤◌, ◌+◌, max, ℕ, pos, Bool, true, false, not, ◌&&◌, if◌then◌else◌, List, [], ◌∷◌, ◌++◌}
+use Rattle.std.specs.Prelude.{map, filter, find, take, length, Option, None, Some, is_some, nat_eq, nat_le, nat_lt}
+use Rattle.std.specs.List.{list_any}
+use Rattle.std.specs.Option.{option_eq, option_map, option_to_list}
+use Rattle.std.specs.Ordering.{int_eq}
+use Rattle.cue_show.specs.Number.{same_text}
+use Rattle.cue_exchange.specs.Answers.{is_preparing}
+use Rattle.cue_exchange.specs.declared.attempt.Attempt.{Attempt}
+use Rattle.cue_core.specs.State.{ShowState}
+use Rattle.cue_core.specs.declared.limits.TheConstants.{STANDBY_MS}
+use Rattle.cue_desk.specs.declared.replying.Replied.TheVariants as replied
+use Rattle.cue_desk.specs.declared.replying.Status.{Status}
+use Rattle.cue_station.specs.declared.alarms.Facts.{Facts}
+use Rattle.cue_station.specs.declared.heard.Button.{Button}
+use Rattle.cue_station.specs.declared.heard.Button.TheVariants as button
+use Rattle.cue_station.specs.declared.heard.Heard.{Heard}
+use Rattle.cue_station.specs.declared.heard.Heard.TheVariants as heard
+use Rattle.cue_station.specs.declared.heard.Trouble.{Trouble}
+use Rattle.cue_station.specs.declared.limits.TheConstants.{COPY_MS, KEPT_VIEWS, OTHER_MS, PRESS_MS, STATUS_MS}
+use Rattle.cue_station.specs.declared.memory.Answered.{Answered}
+use Rattle.cue_station.specs.declared.memory.Question.{Question}
+use Rattle.cue_station.specs.declared.memory.Reading.{Reading}
+use Rattle.cue_station.specs.declared.memory.Shown.{Shown}
+use Rattle.cue_station.specs.declared.view.Alarm.{Alarm}
+use Rattle.cue_station.specs.declared.view.Alarm.TheVariants as alarm
+use Rattle.cue_station.specs.declared.view.Contacted.{Contacted}
+use Rattle.cue_station.specs.Turns.{Turn}
+use Rattle.cue_station.specs.Offering.{is_offered, kept_of}
+use Rattle.cue_station.specs.Reading.{reading_of, answered_of, question_of, ended_number, ended_outcome}
+use Rattle.cue_station.specs.Network.{is_stopped}
+use Rattle.cue_station.specs.Telling.{failures_in}
+
+-- ---- what stands
+
+-- a moment that is known, and so long ago at most
+abbrev pub is_within : ℕ → ℕ → Option ℕ → Bool
+is_within long now None = false
+is_within long now (Some m) = nat_le now (m + long)
+
+-- when the status was asked that was answered last
+abbrev pub asked_at : Option Answered → Option ℕ
+asked_at None = None
+asked_at (Some a) = Some a.asked
+
+-- the moment for which the copy stands
+abbrev pub read_at : Option Reading → Option ℕ
+read_at None = None
+read_at (Some r) = Some r.at
+
+-- somebody answered a status that was asked lately
+abbrev pub is_alive : ℕ → Option Answered → Bool
+is_alive now a = is_within STATUS_MS now (asked_at a)
+
+abbrev pub is_young : ℕ → Option Reading → Bool
+is_young now r = is_within COPY_MS now (read_at r)
+
+-- the status tells of this state, as far as a status tells of one
+abbrev pub agrees : Status → ShowState → Bool
+agrees u s =
+    int_eq u.last (pos s.last_seq) && (option_eq same_text u.place s.show.place
+    && (int_eq u.live (pos (length s.live)) && (int_eq u.ended (pos (ended_number s.ended))
+    && int_eq u.outcome (pos (ended_outcome s.ended)))))
+
+abbrev pub agree_by : Option Answered → Option Reading → Bool
+agree_by (Some a) (Some r) = agrees a.status r.copy.state
+agree_by _ _ = false
+
+-- the copy is young, somebody at our port answered lately, and what he answered is of the store that was copied
+abbrev pub stands_by : ℕ → Option Answered → Option Reading → Bool
+stands_by now a r = is_young now r && (is_alive now a && agree_by a r)
+
+-- the same, but what he answered is not of that store
+abbrev pub differs_by : ℕ → Option Answered → Option Reading → Bool
+differs_by now a r = is_young now r && (is_alive now a && not (agree_by a r))
+
+-- ---- what the desk remembers
+
+-- nobody listened when the status was asked last; the number is that of the newest ask for it
+abbrev pub nobody_by : Option ℕ → Heard → Bool → Bool
+nobody_by None h old = old
+nobody_by (Some asked) (heard.Nobody n) old = if nat_eq n asked then true else old
+nobody_by (Some asked) (heard.Replied n (replied.Status u)) old = if nat_eq n asked then false else old
+nobody_by (Some asked) _ old = old
+
+abbrev pub nobody_of : List Turn → Bool
+nobody_of [] = false
+nobody_of (t ∷ past) =
+    nobody_by (option_map (λ (q : Question). q.ask) (question_of past)) t.input.heard (nobody_of past)
+
+-- why the store could not be read when it was looked at last
+abbrev pub trouble_with : Heard → Option Trouble → Option Trouble
+trouble_with (heard.Unread why) old = Some why
+trouble_with (heard.Copied c) old = None
+trouble_with (heard.Same begun) old = None
+trouble_with _ old = old
+
+abbrev pub trouble_of : List Turn → Option Trouble
+trouble_of [] = None
+trouble_of (t ∷ past) = trouble_with t.input.heard (trouble_of past)
+
+-- since when something lasts that is so, or is not so, at this moment
+abbrev pub lasting : Bool → ℕ → Option ℕ → Option ℕ
+lasting false now old = None
+lasting true now None = Some now
+lasting true now (Some since) = Some since
+
+-- since when a young copy is not what is served
+abbrev pub differs_since : List Turn → Option ℕ
+differs_since [] = None
+differs_since (t ∷ past) =
+    lasting (differs_by t.input.at (answered_of (t ∷ past)) (reading_of (t ∷ past))) t.input.at (differs_since past)
+
+-- the failures that the newest copy tells of
+abbrev pub failures_by : Option Reading → List ℕ
+failures_by None = []
+failures_by (Some r) = failures_in r.copy
+
+-- the later of two numbers
+abbrev pub later : ℕ → Option ℕ → Option ℕ
+later q None = Some q
+later q (Some p) = Some (max p q)
+
+abbrev pub newest : List ℕ → Option ℕ → Option ℕ
+newest [] old = old
+newest (q ∷ qs) old = newest qs (later q old)
+
+-- the newest failure that a copy told of, though its events are gone
+abbrev pub failed_of : List Turn → Option ℕ
+failed_of [] = None
+failed_of (t ∷ past) = newest (failures_by (reading_of (t ∷ past))) (failed_of past)
+
+-- a press that a young view offered says that q was seen
+abbrev pub acknowledged_by : Heard → ℕ → List Shown → Option ℕ → Option ℕ
+acknowledged_by (heard.Pressed view (button.Seen q)) now views old =
+    if is_offered view now (button.Seen q) views then later q old else old
+acknowledged_by _ now views old = old
+
+-- the newest failure of which a press said that it was seen
+abbrev pub acknowledged_of : List Turn → Option ℕ
+acknowledged_of [] = None
+acknowledged_of (t ∷ past) = acknowledged_by t.input.heard t.input.at (kept_of past) (acknowledged_of past)
+
+-- q was seen, or a later one
+abbrev pub is_acknowledged : Option ℕ → ℕ → Bool
+is_acknowledged None q = false
+is_acknowledged (Some p) q = nat_le q p
+
+-- ---- each alarm
+
+-- nobody answers at the port
+abbrev pub silence_by : Bool → Bool → Option ℕ → Option Alarm
+silence_by true nobody asked = None
+silence_by false true asked = Some alarm.NobodyListens
+silence_by false false asked = Some (alarm.Silent asked)
+
+abbrev pub silence : Facts → Option Alarm
+silence f = silence_by (is_within STATUS_MS f.at f.asked) f.nobody f.asked
+
+-- what is served has not been what the store shows for a second
+abbrev pub other_by : Option ℕ → ℕ → Option Alarm
+other_by None now = None
+other_by (Some since) now = if nat_le (since + OTHER_MS) now then Some (alarm.OtherStore since) else None
+
+abbrev pub other_store : Facts → Option Alarm
+other_store f = other_by f.differs f.at
+
+-- the relay has stopped
+abbrev pub stopped_by : Option ℕ → ℕ → Option Alarm
+stopped_by None now = None
+stopped_by (Some since) now = if is_stopped since now then Some (alarm.RelayStopped since) else None
+
+abbrev pub relay_stopped : Facts → Option Alarm
+relay_stopped f = stopped_by f.stamped f.at
+
+-- the store is old: why, if it could not be read when it was looked at last
+abbrev pub old_by : Bool → Option Trouble → Option ℕ → Option Alarm
+old_by true why read = None
+old_by false (Some why) read = Some (alarm.Unread why)
+old_by false None read = Some (alarm.Old read)
+
+abbrev pub old_store : Facts → Option Alarm
+old_store f = old_by (is_within COPY_MS f.at f.read) f.trouble f.read
+
+-- the ten seconds of the attempt are over by our clock since it is seen, and not by that of the wall
+abbrev pub is_over_by : Option ℕ → ℕ → ℕ → Attempt → Bool
+is_over_by None now wall a = false
+is_over_by (Some since) now wall a =
+    is_preparing a.stage && (nat_lt wall a.deadline && nat_le (since + STANDBY_MS) now)
+
+abbrev pub is_put_back : (ℕ → Option ℕ) → ℕ → ℕ → Attempt → Bool
+is_put_back since now wall a = is_over_by (since a.seq) now wall a
+
+abbrev pub put_back_in : (ℕ → Option ℕ) → ℕ → ℕ → List Attempt → List ℕ
+put_back_in since now wall live = map (λ a. a.seq) (filter (is_put_back since now wall) live)
+
+-- the failures that nobody has said he saw
+abbrev pub unseen : Option ℕ → List ℕ → List ℕ
+unseen acknowledged qs = filter (λ q. not (is_acknowledged acknowledged q)) qs
+
+-- the newest failure, where the copy does not tell of it any more
+abbrev pub beside : Option ℕ → List ℕ → List ℕ
+beside None qs = []
+beside (Some q) qs = if list_any (nat_eq q) qs then [] else q ∷ []
+
+abbrev pub failed_by : Facts → List ℕ → List ℕ
+failed_by f qs = unseen f.acknowledged (beside f.failed qs ++ qs)
+
+-- the devices that the relay calls silent
+abbrev pub silent_in : List Contacted → List ℕ
+silent_in network = map (λ c. c.device) (filter (λ c. c.silent) network)
+
+-- ---- all of them
+
+abbrev pub alarms_by : Facts → List ℕ → List ℕ → List Contacted → List Alarm
+alarms_by f put_back failures network =
+    option_to_list (silence f) ++ (option_to_list (other_store f) ++ (option_to_list (relay_stopped f)
+    ++ (option_to_list (old_store f) ++ (map alarm.ClockPutBack put_back ++ (map alarm.Failed (failed_by f failures)
+    ++ map alarm.DeviceSilent (silent_in network))))))

@@ -1,0 +1,188 @@
+-- What became of the presses that were sent.
+use Rattle.std.specs.Prelude.{ℕ, ℤ, pos, Bool, true, false, not, ◌&&◌, ◌||◌, if◌then◌else◌, List, [], ◌∷◌, ◌++◌, map}
+use Rattle.std.specs.Prelude.{Option, None, Some, is_some, is_none, nat_eq, nat_le, nat_lt}
+use Rattle.std.specs.List.{list_any, list_all}
+use Rattle.std.specs.Option.{option_map, option_map_or}
+use Rattle.std.specs.Ordering.{int_eq}
+use Rattle.cue_exchange.specs.Answers.{is_decided, is_cancelling}
+use Rattle.cue_exchange.specs.Steps.{holds}
+use Rattle.cue_exchange.specs.Live.{attempt_of, attempt_of_cue}
+use Rattle.cue_core.specs.Events.{is_start_of, is_go_of, is_cancel_of}
+use Rattle.cue_desk.specs.declared.replying.Replied.{Replied}
+use Rattle.cue_desk.specs.declared.replying.Replied.TheVariants as replied
+use Rattle.cue_station.specs.declared.heard.Button.{Button}
+use Rattle.cue_station.specs.declared.heard.Button.TheVariants as button
+use Rattle.cue_station.specs.declared.heard.Copied.{Copied}
+use Rattle.cue_station.specs.declared.heard.Heard.{Heard}
+use Rattle.cue_station.specs.declared.heard.Heard.TheVariants as heard
+use Rattle.cue_station.specs.declared.heard.Send.{Send}
+use Rattle.cue_station.specs.declared.memory.Answered.{Answered}
+use Rattle.cue_station.specs.declared.memory.Pending.{Pending}
+use Rattle.cue_station.specs.declared.memory.Reading.{Reading}
+use Rattle.cue_station.specs.declared.memory.Word.{Word}
+use Rattle.cue_station.specs.declared.view.Became.{Became}
+use Rattle.cue_station.specs.declared.view.Became.TheVariants as became
+use Rattle.cue_station.specs.declared.view.Said.{Said}
+use Rattle.cue_station.specs.Turns.{Turn}
+use Rattle.cue_station.specs.Reading.{reading_of, answered_of, is_status}
+
+-- a message was sent that is no question for the status: that of a press
+abbrev pub is_press_sent : Option Send → Bool
+is_press_sent None = false
+is_press_sent (Some s) = not (is_status s.order)
+
+-- ---- what came to its socket
+
+-- the three numbers of a reply
+abbrev pub counts : ℤ → ℤ → ℤ → ℕ → ℕ → ℕ → Bool
+counts made known refused m k r = int_eq made (pos m) && (int_eq known (pos k) && int_eq refused (pos r))
+
+-- what the reply to one command says; none where it is the reply to none, or to several
+abbrev pub word_by : ℤ → ℤ → ℤ → ℤ → Option Became
+word_by made known refused code =
+    if counts made known refused 1 0 0 then Some became.Made
+    else if counts made known refused 0 1 0 then Some became.Known
+    else if counts made known refused 0 0 1 then Some (became.Refused code) else None
+
+abbrev pub word_in : Replied → Option Became
+word_in (replied.Reply made known refused code) = word_by made known refused code
+word_in (replied.Status u) = None
+
+-- what came to the socket of the ask n, where it answers it
+abbrev pub word_to : ℕ → Heard → Option Became
+word_to n (heard.Replied m r) = if nat_eq m n then word_in r else None
+word_to n (heard.Nobody m) = if nat_eq m n then Some became.Nobody else None
+word_to n _ = None
+
+-- the same, with the moment at which it came
+abbrev pub answer_to : ℕ → Heard → ℕ → Option Word
+answer_to n h at = option_map (λ w. record { at = at; became = w }) (word_to n h)
+
+-- ---- what the store shows of it
+
+abbrev pub if_known : Bool → Bool → Became
+if_known true true = became.Carried
+if_known true false = became.Lost
+if_known false true = became.Carried
+if_known false false = became.Unknown
+
+-- the attempt q is in the copy, or its start is among the events
+abbrev pub is_known : ℕ → Copied → Bool
+is_known q c = is_some (attempt_of c.state.live q) || list_any (is_start_of q) c.events.items
+
+-- q was given; it was given up
+abbrev pub was_given : ℕ → Copied → Bool
+was_given q c = list_any (is_go_of q) c.events.items || holds q (λ a. is_decided a.stage) c.state.live
+
+abbrev pub was_given_up : ℕ → Copied → Bool
+was_given_up q c = list_any (is_cancel_of q) c.events.items || holds q (λ a. is_cancelling a.stage) c.state.live
+
+-- what the copy shows of a press
+abbrev pub shown_of : Button → Copied → Became
+shown_of (button.Go cue q) c = if_known (is_known q c) (was_given q c)
+shown_of (button.Cancel cue q) c = if_known (is_known q c) (was_given_up q c)
+shown_of (button.Standby cue) c = if_known false (is_some (attempt_of_cue c.state.live cue))
+shown_of (button.Release q d) c = became.Unknown
+shown_of (button.MoveTo cue) c = became.Unknown
+shown_of (button.Choose q) c = became.Unknown
+shown_of (button.Seen q) c = became.Unknown
+
+-- a status was asked after the moment, and answered; and the copy was begun after that answer came
+abbrev pub is_settled : ℕ → Option Answered → ℕ → Bool
+is_settled sent None begun = false
+is_settled sent (Some a) begun = nat_lt sent a.asked && nat_le a.came begun
+
+-- what the copy shows, where it settles what was sent at the moment
+abbrev pub settled_by : Button → ℕ → Option Answered → Option Reading → Option Became
+settled_by b sent a None = None
+settled_by b sent a (Some r) = if is_settled sent a r.at then Some (shown_of b r.copy) else None
+
+-- ---- turn by turn
+
+-- what was known first
+abbrev pub first_of : {A : Type 0} → Option A → Option A → Option A
+first_of None new = new
+first_of (Some old) new = Some old
+
+-- A press, once something more was heard: the first answer that came to its socket counts, and the first copy that
+-- settles it.
+abbrev pub followed : Heard → ℕ → Option Answered → Option Reading → Pending → Pending
+followed h at a r p =
+    record {
+      at = p.at;
+      ask = p.ask;
+      button = p.button;
+      answer = first_of p.answer (answer_to p.ask h at);
+      settled = first_of p.settled (settled_by p.button p.at a r);
+    }
+
+-- the press that is sent at this moment
+abbrev pub sent_press : Heard → ℕ → Option Send → List Pending
+sent_press (heard.Pressed view b) at (Some s) =
+    if is_press_sent (Some s)
+    then record { at = at; ask = s.ask; button = b; answer = None; settled = None } ∷ [] else []
+sent_press _ at s = []
+
+-- the presses that were sent before, once this was heard
+abbrev pub heard_presses : Turn → List Turn → List Pending → List Pending
+heard_presses t past ps =
+    map (followed t.input.heard t.input.at (answered_of (t ∷ past)) (reading_of (t ∷ past))) ps
+
+-- each press that was sent, and what became of it; the newest first
+abbrev pub presses_of : List Turn → List Pending
+presses_of [] = []
+presses_of (t ∷ past) = sent_press t.input.heard t.input.at t.sent ++ heard_presses t past (presses_of past)
+
+-- the newest
+abbrev pub newest_of : {A : Type 0} → List A → Option A
+newest_of [] = None
+newest_of (x ∷ xs) = Some x
+
+-- ---- what is said of a press
+
+-- what came to its own socket; else what the first copy showed that settles it; else that it is open
+abbrev pub became_by : Option Word → Option Became → Became
+became_by (Some w) settled = w.became
+became_by None (Some shown) = shown
+became_by None None = became.Open
+
+abbrev pub said_by : Pending → Said
+said_by p = record { ask = p.ask; button = p.button; became = became_by p.answer p.settled }
+
+-- what is said of the last press that was sent
+abbrev pub said_of : List Turn → Option Said
+said_of turns = option_map said_by (newest_of (presses_of turns))
+
+-- ---- which presses are open
+
+-- a copy was begun after the answer came
+abbrev pub is_read_after : Option Word → Option Reading → Bool
+is_read_after None r = false
+is_read_after (Some w) None = false
+is_read_after (Some w) (Some r) = nat_le w.at r.at
+
+-- A press is open until it is answered and a copy was begun after that, or until a copy settles it.
+abbrev pub is_open : Option Reading → Pending → Bool
+is_open r p = not (is_read_after p.answer r) && is_none p.settled
+
+-- no press is open
+abbrev pub is_quiet : List Turn → Bool
+is_quiet turns = list_all (λ p. not (is_open (reading_of turns) p)) (presses_of turns)
+
+-- a go or a cancel
+abbrev pub is_final : Button → Bool
+is_final (button.Go c q) = true
+is_final (button.Cancel c q) = true
+is_final (button.Standby c) = false
+is_final (button.Release q d) = false
+is_final (button.MoveTo c) = false
+is_final (button.Choose q) = false
+is_final (button.Seen q) = false
+
+-- no go and no cancel is open
+abbrev pub is_calm : List Turn → Bool
+is_calm turns = list_all (λ p. not (is_open (reading_of turns) p && is_final p.button)) (presses_of turns)
+
+-- the press with the ask n is open
+abbrev pub is_open_ask : ℕ → Option Reading → List Pending → Bool
+is_open_ask n r ps = list_any (λ p. is_open r p && nat_eq p.ask n) ps

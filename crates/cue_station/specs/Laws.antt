@@ -1,0 +1,97 @@
+-- The law of the desk: what holds of each turn, whatever came before it.
+use Rattle.std.specs.Prelude.{◌≡◌, ℕ, Bool, true, false, List, [], ◌∷◌, Option, Some, IsSome, IsTrue, ◌⊎◌, length}
+use Rattle.cue_desk.specs.declared.orders.Order.TheVariants as order
+use Rattle.cue_station.specs.declared.heard.Button.{Button}
+use Rattle.cue_station.specs.declared.heard.Button.TheVariants as button
+use Rattle.cue_station.specs.declared.heard.Heard.TheVariants.{Pressed}
+use Rattle.cue_station.specs.declared.heard.Send.{Send}
+use Rattle.cue_station.specs.Turns.{Turn}
+use Rattle.cue_station.specs.Reading.{reading_of, answered_of, seen_since}
+use Rattle.cue_station.specs.Alarms.{asked_at, read_at, stands_by}
+use Rattle.cue_station.specs.Asking.{is_press_sent, said_of}
+use Rattle.cue_station.specs.Choosing.{chosen_of, chosen_number}
+use Rattle.cue_station.specs.Drawing.{ShowsReading, alarms_of}
+use Rattle.cue_station.specs.Lighting.{may}
+use Rattle.cue_station.specs.Network.{network_by, relayed_of}
+use Rattle.cue_station.specs.Offering.{is_lit}
+use Rattle.cue_station.specs.Pressing.{IsOfPress, asks_of, is_heeded, order_of}
+use Rattle.cue_station.specs.Showing.{given_since}
+
+-- the three great buttons
+abbrev pub is_key : Button → Bool
+is_key (button.Standby c) = true
+is_key (button.Go c q) = true
+is_key (button.Cancel c q) = true
+is_key (button.Release q d) = false
+is_key (button.MoveTo c) = false
+is_key (button.Choose q) = false
+is_key (button.Seen q) = false
+
+-- LIT IS SO: what is lit may be lit; and of the great buttons what may be lit is.
+pub record LitIsSo (t : Turn) (past : List Turn) : Type 0 where
+  pub lit : (b : Button) → IsTrue (is_lit b t.view.lit.items)
+      → IsTrue (may (t ∷ past) t.input.at t.input.wall b)
+  pub dark : (b : Button) → IsTrue (is_key b) → IsTrue (may (t ∷ past) t.input.at t.input.wall b)
+      → IsTrue (is_lit b t.view.lit.items)
+
+-- A PRESS IS WHAT WAS SHOWN, AND YOUNG: nothing is sent but for a press that is heeded, or to ask for the status, each by
+-- an ask of its own; a press that is heeded is sent; and of one that is not sent the view says why.
+pub record PressIsSo (t : Turn) (past : List Turn) : Type 0 where
+  pub sent : (s : Send) → t.sent ≡ Some s → (s.order ≡ order.Status) ⊎ IsOfPress t past s
+  pub own : (s : Send) → t.sent ≡ Some s → s.ask ≡ asks_of past
+  pub heeded : (view : ℕ) (b : Button) → t.input.heard ≡ Pressed view b
+      → IsTrue (is_heeded past t.input.at t.input.wall view b) → IsSome (order_of b) → IsTrue (is_press_sent t.sent)
+  pub told : (view : ℕ) (b : Button) → t.input.heard ≡ Pressed view b → is_press_sent t.sent ≡ false
+      → IsSome (order_of b) → IsSome t.view.unsent
+
+-- THE ANSWER IS THIS PRESS'S: what is said of the last press that was sent is what came to its own socket, or what the
+-- store shows that was read later, or that it is open.
+abbrev pub AnswerIsSo : Turn → List Turn → Type 0
+AnswerIsSo t past = t.view.said ≡ said_of (t ∷ past)
+
+-- NOTHING IS OLDER THAN IT SAYS.
+pub record AgeIsSo (t : Turn) (past : List Turn) : Type 0 where
+  pub made : t.view.at ≡ t.input.at
+  pub read : t.view.read ≡ read_at (reading_of (t ∷ past))
+  pub served : t.view.served ≡ asked_at (answered_of (t ∷ past))
+
+-- LAST IS SO, AND SO ARE NEXT, THE STACK AND WHAT IS LIVE: by the newest copy and its events, and no first cue after the
+-- end; an attempt is ready only where GO can be given.
+abbrev pub CopyIsSo : Turn → List Turn → Type 0
+CopyIsSo t past =
+    ShowsReading (stands_by t.input.at (answered_of (t ∷ past)) (reading_of (t ∷ past)))
+    (λ q. seen_since q (t ∷ past)) (λ q. given_since q (t ∷ past)) t.input.at t.input.wall t.view
+    (reading_of (t ∷ past))
+
+-- AFTER GO NOTHING IS CHOSEN, until a press chooses.
+abbrev pub NoHop : Turn → List Turn → Type 0
+NoHop t past = t.view.chosen ≡ chosen_number (chosen_of (t ∷ past))
+
+-- WHAT IS WRONG IS SAID, the loudest first, and nothing else is.
+abbrev pub AlarmIsSo : Turn → List Turn → Type 0
+AlarmIsSo t past = t.view.alarms.items ≡ alarms_of (t ∷ past) t.input.at t.input.wall
+
+-- THE NETWORK IS WHAT THE RELAY SAYS, and nothing where it has stopped.
+abbrev pub NetworkIsSo : Turn → List Turn → Type 0
+NetworkIsSo t past = t.view.network.items ≡ network_by (relayed_of (t ∷ past)) t.input.at
+
+-- A LATER VIEW HAS A HIGHER NUMBER: that of the views before it.
+abbrev pub IsNewest : Turn → List Turn → Type 0
+IsNewest t past = t.view.number ≡ length past
+
+-- the law of a turn
+pub record Keeps (t : Turn) (past : List Turn) : Type 0 where
+  pub lit : LitIsSo t past
+  pub press : PressIsSo t past
+  pub answer : AnswerIsSo t past
+  pub age : AgeIsSo t past
+  pub copy : CopyIsSo t past
+  pub chosen : NoHop t past
+  pub alarm : AlarmIsSo t past
+  pub network : NetworkIsSo t past
+  pub newest : IsNewest t past
+
+-- the law of an evening
+abbrev pub KeepsLaw : List Turn → Type 0
+KeepsLaw [] = Unit {0}
+KeepsLaw (t ∷ past) = Keeps t past × KeepsLaw past

@@ -1,0 +1,75 @@
+-- What the machine keeps is what the evening says.
+use Rattle.std.specs.Prelude.{◌≡◌, ℕ, Bool, true, false, if◌then◌else◌, List, ◌∷◌, ◌++◌, Option, None, Some, length, filter}
+use Rattle.std.specs.Option.{option_map_or, option_to_list}
+use Rattle.cue_station.specs.declared.heard.Input.{Input}
+use Rattle.cue_station.specs.declared.memory.Notes.{Notes}
+use Rattle.cue_station.specs.declared.memory.Pending.{Pending}
+use Rattle.cue_station.specs.declared.memory.Reading.{Reading}
+use Rattle.cue_station.specs.declared.memory.Relayed.{Relayed}
+use Rattle.cue_station.specs.declared.memory.Seen.{Seen}
+use Rattle.cue_station.specs.declared.memory.Shown.{Shown}
+use Rattle.cue_station.specs.declared.station.Station.{Station}
+use Rattle.cue_station.specs.declared.station.Step.{Step}
+use Rattle.cue_station.specs.Turns.{Turn}
+use Rattle.cue_station.specs.Alarms.{acknowledged_of, differs_since, failed_of, nobody_of, trouble_of}
+use Rattle.cue_station.specs.Asking.{is_final, is_open, newest_of, presses_of}
+use Rattle.cue_station.specs.Choosing.{chosen_of}
+use Rattle.cue_station.specs.Laws.{Keeps}
+use Rattle.cue_station.specs.Network.{relayed_of}
+use Rattle.cue_station.specs.Offering.{kept_of}
+use Rattle.cue_station.specs.Pressing.{asks_of}
+use Rattle.cue_station.specs.Reading.{answered_of, question_of, reading_of, seen_since}
+use Rattle.cue_station.specs.Showing.{given_in, given_since, since_in}
+
+-- the press, if there is one that passes the test
+abbrev pub only : (Pending → Bool) → Option Pending → Option Pending
+only test None = None
+only test (Some p) = if test p then Some p else None
+
+-- the press, if there is one and it is open
+abbrev pub if_open : Option Reading → Option Pending → Option Pending
+if_open r o = only (is_open r) o
+
+-- of the newest press and the one beside it, those that are open
+abbrev pub open_in : Option Reading → Option Pending → Option Pending → List Pending
+open_in r press beside = option_to_list (if_open r press) ++ option_to_list beside
+
+-- the newest press is a go or a cancel, if another one is open beside it
+abbrev pub is_beside : Option Pending → Option Pending → Bool
+is_beside press None = true
+is_beside press (Some p) = option_map_or (λ (n : Pending). is_final n.button) press false
+
+-- What is kept after an evening: the notes, the copy of the store, the relay, the attempts that are seen, the views.
+pub record IsKept (turns : List Turn) (n : Notes) (copied : Option Reading) (relayed : Option Relayed)
+    (attempts : List Seen) (newest : List Shown) : Type 0 where
+  pub number : n.number ≡ length turns
+  pub asks : n.next_ask ≡ asks_of turns
+  pub reading : copied ≡ reading_of turns
+  pub answered : n.answered ≡ answered_of turns
+  pub question : n.question ≡ question_of turns
+  pub nobody : n.nobody ≡ nobody_of turns
+  pub trouble : n.trouble ≡ trouble_of turns
+  pub differs : n.differs ≡ differs_since turns
+  pub failed : n.failed ≡ failed_of turns
+  pub acknowledged : n.acknowledged ≡ acknowledged_of turns
+  pub relay : relayed ≡ relayed_of turns
+  pub since : (q : ℕ) → since_in attempts q ≡ seen_since q turns
+  pub given : (q : ℕ) → given_in attempts q ≡ given_since q turns
+  pub choice : n.choice ≡ chosen_of turns
+  pub views : newest ≡ kept_of turns
+  pub press : n.press ≡ newest_of (presses_of turns)
+  pub opened : open_in (reading_of turns) n.press n.beside ≡ filter (is_open (reading_of turns)) (presses_of turns)
+  pub beside : is_beside n.press n.beside ≡ true
+
+-- The machine after an evening.
+abbrev pub IsAfter : List Turn → Station → Type 0
+IsAfter turns s = IsKept turns s.notes s.reading s.relay s.seen.items s.views.items
+
+-- the turn that a step makes
+abbrev pub turn_of : Input → Step → Turn
+turn_of i step = record { input = i; view = step.view; sent = step.send }
+
+-- The contract of a step: whatever came before, the turn that it makes keeps the law, and the machine remembers it.
+abbrev pub StepKeeps : Station → Input → Station → Step → Type 0
+StepKeeps old i new step =
+    (past : List Turn) → IsAfter past old → Keeps (turn_of i step) past × IsAfter (turn_of i step ∷ past) new

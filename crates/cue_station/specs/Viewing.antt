@@ -1,0 +1,94 @@
+-- What a view is made of.
+use Rattle.std.specs.Prelude.{◌≡◌, ◌++◌, ℕ, List, [], Option, None, Some, filter}
+use Rattle.std.specs.Option.{option_map}
+use Rattle.cue_station.specs.declared.alarms.Facts.{Facts}
+use Rattle.cue_station.specs.declared.heard.Button.{Button}
+use Rattle.cue_station.specs.declared.heard.Copied.{Copied}
+use Rattle.cue_station.specs.declared.lighting.Footing.{Footing}
+use Rattle.cue_station.specs.declared.memory.Notes.{Notes}
+use Rattle.cue_station.specs.declared.memory.Reading.{Reading}
+use Rattle.cue_station.specs.declared.memory.Relayed.{Relayed}
+use Rattle.cue_station.specs.declared.memory.Seen.{Seen}
+use Rattle.cue_station.specs.declared.view.Alarm.{Alarm}
+use Rattle.cue_station.specs.declared.view.Next.TheVariants as next
+use Rattle.cue_station.specs.declared.view.View.{View}
+use Rattle.cue_station.specs.declared.viewing.Drawn.{Drawn}
+use Rattle.cue_station.specs.Alarms.{alarms_by, asked_at, failures_by, put_back_in, read_at}
+use Rattle.cue_station.specs.Asking.{said_by}
+use Rattle.cue_station.specs.Drawing.{ShowsReading, live_by}
+use Rattle.cue_station.specs.Following.{next_in}
+use Rattle.cue_station.specs.Lighting.{keys_of, may_in}
+use Rattle.cue_station.specs.Network.{network_by}
+use Rattle.cue_station.specs.Showing.{ShowsStack, given_in, shown_live, since_in}
+use Rattle.cue_station.specs.Telling.{last_in, past_in}
+
+-- ---- the alarms
+
+abbrev pub stamped_at : Option Relayed → Option ℕ
+stamped_at r = option_map (λ (x : Relayed). x.since) r
+
+-- what is known when the alarms are made
+abbrev pub facts_by : Notes → Option Reading → Option Relayed → ℕ → Facts
+facts_by n r relay now =
+    record {
+      at = now;
+      asked = asked_at n.answered;
+      nobody = n.nobody;
+      differs = n.differs;
+      stamped = stamped_at relay;
+      read = read_at r;
+      trouble = n.trouble;
+      failed = n.failed;
+      acknowledged = n.acknowledged;
+    }
+
+-- what is wrong
+abbrev pub alarms_in : Notes → Option Reading → Option Relayed → List Seen → List ℕ → Footing → List Alarm
+alarms_in n r relay seen failures f =
+    alarms_by (facts_by n r relay f.at) (put_back_in (since_in seen) f.at f.wall (live_by r)) failures
+    (network_by relay f.at)
+
+-- ---- what is shown of a copy
+
+pub record DrawsNone (d : Drawn) : Type 0 where
+  pub next : d.next ≡ next.Unknown
+  pub place : d.place ≡ None
+  pub stack : d.stack.cues.items ≡ []
+  pub last : d.last ≡ None
+  pub past : d.past.items ≡ []
+  pub live : d.live.items ≡ []
+
+pub record DrawsCopy (f : Footing) (seen : List Seen) (c : Copied) (d : Drawn) : Type 0 where
+  pub next : d.next ≡ next_in c
+  pub place : d.place ≡ c.state.show.place
+  pub stack : ShowsStack c.state.show d.stack
+  pub last : d.last ≡ last_in c
+  pub past : d.past.items ≡ past_in c
+  pub live : d.live.items ≡ shown_live f.stands (since_in seen) (given_in seen) f.at f.wall c.state.live
+
+abbrev pub DrawsBy : Footing → List Seen → Option Reading → Drawn → Type 0
+DrawsBy f seen None d = DrawsNone d
+DrawsBy f seen (Some r) d = DrawsCopy f seen r.copy d
+
+-- ---- the lit buttons
+
+-- of the great buttons, and of smaller ones, those that may be lit
+abbrev pub LightsBy : Footing → List Seen → Option Reading → List Button → Type 0
+LightsBy f seen None lit = lit ≡ []
+LightsBy f seen (Some r) lit =
+    (smaller : List Button) × (lit ≡ filter (may_in f (since_in seen) r.copy) (keys_of f r.copy ++ smaller))
+
+-- ---- the view
+
+-- The view of these notes, of the newest copy, of the relay and of the attempts that are seen.
+pub record IsView (n : Notes) (r : Option Reading) (relay : Option Relayed) (seen : List Seen) (f : Footing) (v : View)
+    : Type 0 where
+  pub at : v.at ≡ f.at
+  pub read : v.read ≡ read_at r
+  pub served : v.served ≡ asked_at n.answered
+  pub chosen : v.chosen ≡ f.chosen
+  pub said : v.said ≡ option_map said_by n.press
+  pub copy : ShowsReading f.stands (since_in seen) (given_in seen) f.at f.wall v r
+  pub lit : LightsBy f seen r v.lit.items
+  pub network : v.network.items ≡ network_by relay f.at
+  pub alarms : v.alarms.items ≡ alarms_in n r relay seen (failures_by r) f

@@ -1,0 +1,55 @@
+-- What the alarms come to, in single facts.
+use Rattle.std.specs.Prelude.{◌≡◌, ◌≤◌, ℕ, Bool, true, false, not, List, [], ◌∷◌, All}
+use Rattle.std.specs.List.{list_any}
+use Rattle.cue_station.specs.declared.alarms.Facts.{Facts}
+use Rattle.cue_station.specs.declared.limits.TheConstants.{COPY_MS, STATUS_MS}
+use Rattle.cue_station.specs.declared.view.Alarm.{Alarm}
+use Rattle.cue_station.specs.declared.view.Alarm.TheVariants as alarm
+use Rattle.cue_station.specs.declared.view.Contacted.{Contacted}
+use Rattle.cue_station.specs.Alarms.{alarms_by, is_within}
+
+-- nobody answers at the port
+abbrev pub is_silence : Alarm → Bool
+is_silence alarm.NobodyListens = true
+is_silence (alarm.Silent since) = true
+is_silence _ = false
+
+-- the store is old
+abbrev pub is_age : Alarm → Bool
+is_age (alarm.Unread why) = true
+is_age (alarm.Old read) = true
+is_age _ = false
+
+-- how loud an alarm is: the loudest has 0
+abbrev pub rank_of : Alarm → ℕ
+rank_of alarm.NobodyListens = 0
+rank_of (alarm.Silent since) = 1
+rank_of (alarm.OtherStore since) = 2
+rank_of (alarm.RelayStopped since) = 3
+rank_of (alarm.Unread why) = 4
+rank_of (alarm.Old read) = 5
+rank_of (alarm.ClockPutBack q) = 6
+rank_of (alarm.Failed q) = 7
+rank_of (alarm.DeviceSilent d) = 8
+
+-- no alarm is louder than one before it
+abbrev pub IsLoudestFirst : List Alarm → Type 0
+IsLoudestFirst [] = Unit {0}
+IsLoudestFirst (a ∷ more) = All (λ b. rank_of a ≤ rank_of b) more × IsLoudestFirst more
+
+-- there is an alarm of silence exactly where no status is alive
+abbrev pub SilenceIsSaid : Type 0
+SilenceIsSaid =
+    (f : Facts) (back failures : List ℕ) (network : List Contacted)
+    → list_any is_silence (alarms_by f back failures network) ≡ not (is_within STATUS_MS f.at f.asked)
+
+-- there is one of age exactly where no copy is young
+abbrev pub AgeIsSaid : Type 0
+AgeIsSaid =
+    (f : Facts) (back failures : List ℕ) (network : List Contacted)
+    → list_any is_age (alarms_by f back failures network) ≡ not (is_within COPY_MS f.at f.read)
+
+abbrev pub LoudestFirst : Type 0
+LoudestFirst =
+    (f : Facts) (back failures : List ℕ) (network : List Contacted)
+    → IsLoudestFirst (alarms_by f back failures network)

@@ -1,0 +1,271 @@
+//! What is wrong, the loudest first.
+ghost use Rattle.std.specs.Prelude.{◌≡◌, ◌++◌, IfOk, OnOk, map, nat_eq};
+ghost use Rattle.std.specs.List.{list_any};
+ghost use Rattle.std.specs.Option.{option_to_list};
+ghost use Rattle.cue_station.specs.Alarms as alarms;
+ghost use Rattle.cue_station.specs.Showing.{since_in};
+ghost use Rattle.cue_station.specs.declared.view.Alarm.TheVariants as alarm;
+
+use crate::heard::{Copied, Trouble};
+use crate::limits::{COPY_MS, OTHER_MS, STATUS_MS};
+use crate::memory::Seen;
+use crate::network::is_stopped;
+use crate::showing::since_in;
+use crate::telling::one_or_none;
+use crate::view::{Alarm, Contacted};
+use cue_core::limits::STANDBY_MS;
+use cue_exchange::Attempt;
+use cue_show::DeviceNo;
+use std::alloc::{AllocError, Global};
+
+/// What is known when the alarms are made. Each moment is one of the clock that never goes back.
+#[derive(Clone, Copy)]
+pub struct Facts {
+    pub at: u64,
+    /// When the status was asked that was answered last.
+    pub asked: Option<u64>,
+    /// Nobody listened when the status was asked last.
+    pub nobody: bool,
+    /// Since when what is served disagrees with the copy.
+    pub differs: Option<u64>,
+    /// Since when the relay has written nothing new; none: no relay is watched.
+    pub stamped: Option<u64>,
+    /// The moment for which the copy of the store stands.
+    pub read: Option<u64>,
+    /// Why the store could not be read when it was looked at last.
+    pub trouble: Option<Trouble>,
+    /// The newest failure that a copy told of.
+    pub failed: Option<u32>,
+    /// The newest failure of which a press said that it was seen.
+    pub acknowledged: Option<u32>,
+}
+
+/// Whether a status is alive that was asked at this moment, or none ever was.
+pub fn is_alive(at: u64, asked: Option<u64>) -> bool
+    ensures { result ≡ alarms.is_within STATUS_MS at asked }
+{
+    match asked {
+        Some(asked) => at.saturating_sub(asked) <= STATUS_MS,
+        None => false,
+    }
+}
+
+/// Whether a copy is young that stands for this moment, or there is none.
+pub fn is_young(at: u64, read: Option<u64>) -> bool
+    ensures { result ≡ alarms.is_within COPY_MS at read }
+{
+    match read {
+        Some(read) => at.saturating_sub(read) <= COPY_MS,
+        None => false,
+    }
+}
+
+// Nobody answers at the port.
+fn silence(facts: Facts) -> Option<Alarm>
+    ensures { result ≡ alarms.silence facts }
+{
+    if is_alive(facts.at, facts.asked) {
+        None
+    } else if facts.nobody {
+        Some(Alarm::NobodyListens)
+    } else {
+        Some(Alarm::Silent(facts.asked))
+    }
+}
+
+// Another store is served.
+fn other_store(facts: Facts) -> Option<Alarm>
+    ensures { result ≡ alarms.other_store facts }
+{
+    match facts.differs {
+        Some(since) if facts.at.saturating_sub(since) >= OTHER_MS => Some(Alarm::OtherStore(since)),
+        _ => None,
+    }
+}
+
+// The relay has stopped.
+fn relay_stopped(facts: Facts) -> Option<Alarm>
+    ensures { result ≡ alarms.relay_stopped facts }
+{
+    match facts.stamped {
+        Some(since) if is_stopped(since, facts.at) => Some(Alarm::RelayStopped(since)),
+        _ => None,
+    }
+}
+
+// The store is old.
+fn old_store(facts: Facts) -> Option<Alarm>
+    ensures { result ≡ alarms.old_store facts }
+{
+    if is_young(facts.at, facts.read) {
+        return None;
+    }
+    match facts.trouble {
+        Some(why) => Some(Alarm::Unread(why)),
+        None => Some(Alarm::Old(facts.read)),
+    }
+}
+
+// Whether the ten seconds of the attempt are over by our clock since it is seen, and not by that of the wall.
+fn is_put_back(seen: &[Seen], at: u64, wall: u64, attempt: &Attempt) -> bool
+    ensures { result ≡ alarms.is_put_back (since_in seen.now) at wall attempt.now }
+{
+    match since_in(seen, attempt.seq) {
+        Some(since) => {
+            attempt.stage.is_preparing()
+                && wall < attempt.deadline
+                && at.saturating_sub(since) >= STANDBY_MS
+        }
+        None => false,
+    }
+}
+
+/// The preparing attempts whose ten seconds are over by our clock since they are seen, and not by that of the wall.
+pub fn put_back_in(
+    alloc: Global,
+    copy: &Copied,
+    seen: &[Seen],
+    at: u64,
+    wall: u64,
+) -> Result<Vec<u32>, AllocError>
+    ensures { IfOk result (λ numbers. numbers.items
+        ≡ alarms.put_back_in (since_in seen.now) at wall copy.now.state.live) }
+{
+    let live = copy.state.live().as_slice();
+    live.iter()
+        .filter(|attempt| is_put_back(seen, at, wall, attempt))
+        .map(|attempt| attempt.seq)
+        .collect(alloc)
+}
+
+// Whether a press said that the failure, or a later one, was seen.
+fn is_acknowledged(acknowledged: Option<u32>, seq: u32) -> bool
+    ensures { result ≡ alarms.is_acknowledged acknowledged seq }
+{
+    match acknowledged {
+        Some(newest) => seq <= newest,
+        None => false,
+    }
+}
+
+// The failures that nobody has said he saw.
+fn unseen(alloc: Global, acknowledged: Option<u32>, numbers: &[u32]) -> Result<Vec<u32>, AllocError>
+    ensures { IfOk result (λ rest. rest.items ≡ alarms.unseen acknowledged numbers.now) }
+{
+    numbers
+        .iter()
+        .copied()
+        .filter(|seq| !is_acknowledged(acknowledged, *seq))
+        .collect(alloc)
+}
+
+// Whether the number is one of them.
+fn is_among(seq: u32, numbers: &[u32]) -> bool
+    ensures { result ≡ list_any (nat_eq seq) numbers.now }
+{
+    numbers.iter().any(|other| seq == *other)
+}
+
+// The newest failure, where the copy does not tell of it any more.
+fn beside(failed: Option<u32>, failures: &[u32]) -> Option<u32>
+    ensures { option_to_list result ≡ alarms.beside failed failures.now }
+{
+    match failed {
+        Some(seq) => {
+            if is_among(seq, failures) {
+                None
+            } else {
+                Some(seq)
+            }
+        }
+        None => None,
+    }
+}
+
+// The failures of which there is an alarm.
+fn failed_by(alloc: Global, facts: Facts, failures: &[u32]) -> Result<Vec<u32>, AllocError>
+    ensures { IfOk result (λ numbers. numbers.items ≡ alarms.failed_by facts failures.now) }
+{
+    let mut all = one_or_none(alloc, beside(facts.failed, failures))?;
+    all.extend_from_slice(failures)?;
+    let numbers = unseen(alloc, facts.acknowledged, &all)?;
+    Ok(numbers)
+}
+
+// The devices that the relay calls silent.
+fn silent_in(alloc: Global, network: &[Contacted]) -> Result<Vec<DeviceNo>, AllocError>
+    ensures { IfOk result (λ devices. devices.items ≡ alarms.silent_in network.now) }
+{
+    network
+        .iter()
+        .filter(|contact| contact.silent)
+        .map(|contact| contact.device)
+        .collect(alloc)
+}
+
+// Puts the alarm after the others, where there is one.
+fn push_one(all: &mut Vec<Alarm>, one: Option<Alarm>) -> Result<(), AllocError>
+    ensures { OnOk result (all.new.items ≡ all.old.items ++ option_to_list one) }
+{
+    match one {
+        Some(alarm) => {
+            all.push(alarm)?;
+            Ok(())
+        }
+        None => Ok(()),
+    }
+}
+
+// Puts an alarm of each attempt whose clock was put back after the others.
+fn push_put_back(all: &mut Vec<Alarm>, numbers: &[u32]) -> Result<(), AllocError>
+    ensures { OnOk result (all.new.items ≡ all.old.items ++ map alarm.ClockPutBack numbers.now) }
+{
+    for seq in numbers {
+        all.push(Alarm::ClockPutBack(*seq))?;
+    }
+    Ok(())
+}
+
+// Puts an alarm of each failure after the others.
+fn push_failed(all: &mut Vec<Alarm>, numbers: &[u32]) -> Result<(), AllocError>
+    ensures { OnOk result (all.new.items ≡ all.old.items ++ map alarm.Failed numbers.now) }
+{
+    for seq in numbers {
+        all.push(Alarm::Failed(*seq))?;
+    }
+    Ok(())
+}
+
+// Puts an alarm of each silent device after the others.
+fn push_silent(all: &mut Vec<Alarm>, devices: &[DeviceNo]) -> Result<(), AllocError>
+    ensures { OnOk result (all.new.items ≡ all.old.items ++ map alarm.DeviceSilent devices.now) }
+{
+    for device in devices {
+        all.push(Alarm::DeviceSilent(*device))?;
+    }
+    Ok(())
+}
+
+/// What is wrong, the loudest first. `put_back`: the attempts of `put_back_in`; `failures`: those of `failures_of`;
+/// `network`: what the relay says of its devices.
+pub fn alarms_of(
+    alloc: Global,
+    facts: Facts,
+    put_back: &[u32],
+    failures: &[u32],
+    network: &[Contacted],
+) -> Result<Vec<Alarm>, AllocError>
+    ensures { IfOk result (λ all. all.items ≡ alarms.alarms_by facts put_back.now failures.now network.now) }
+{
+    let failed = failed_by(alloc, facts, failures)?;
+    let silent = silent_in(alloc, network)?;
+    let mut all = Vec::new(alloc);
+    push_one(&mut all, silence(facts))?;
+    push_one(&mut all, other_store(facts))?;
+    push_one(&mut all, relay_stopped(facts))?;
+    push_one(&mut all, old_store(facts))?;
+    push_put_back(&mut all, put_back)?;
+    push_failed(&mut all, &failed)?;
+    push_silent(&mut all, &silent)?;
+    Ok(all)
+}

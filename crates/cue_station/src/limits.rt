@@ -1,0 +1,29 @@
+//! How old a thing may be that the desk stands by, in milliseconds.
+
+/// A copy of the store, from the moment at which its reading began.
+pub const COPY_MS: u64 = 1_000;
+
+/// A status, from the moment at which it was asked.
+pub const STATUS_MS: u64 = 2_000;
+
+/// A view, when a press of it is heard.
+pub const PRESS_MS: u64 = 1_000;
+
+/// How many attempts are told as ended, at most.
+pub const MAX_TOLD: usize = 8;
+
+/// How many of the newest views a press may name.
+pub const KEPT_VIEWS: usize = 128;
+
+/// How many cues of the stack are shown, at most.
+pub const SHOWN_CUES: usize = 24;
+
+/// How many of them stand before the place, at most.
+pub const CUES_BEFORE: usize = 3;
+
+/// How long what is served has to disagree with the copy before it is called another store, in milliseconds: each change
+/// makes a short disagreement.
+pub const OTHER_MS: u64 = 1_000;
+
+/// How long a relay has to write nothing new before it counts as stopped, in milliseconds.
+pub const RELAY_MS: u64 = 5_000;

@@ -1,0 +1,151 @@
+//! What the desk keeps.
+ghost use Rattle.std.specs.Prelude.{◌≡◌};
+
+use crate::heard::{Button, Copied, Trouble};
+use crate::view::Became;
+use cue_desk::replying::Status;
+use cue_relay::status as relay;
+use cue_show::CueNo;
+use std::marker::Model;
+
+/// A copy of the store, and the moment for which it stands.
+#[derive(Drop)]
+pub struct Reading {
+    pub at: u64,
+    pub copy: Copied,
+}
+
+/// A status: when it was asked, when it came, and what it says.
+#[derive(Clone, Copy)]
+pub struct Answered {
+    pub asked: u64,
+    pub came: u64,
+    pub status: Status,
+}
+
+/// Which attempt GO and CANCEL are for.
+#[derive(Clone, Copy, PartialEq, Eq, Debug)]
+pub enum Choice {
+    Nothing,
+    /// What will come of a STANDBY of ours, by the number of its ask and its cue.
+    Awaited(u64, CueNo),
+    Attempt(u32),
+}
+
+/// Since when an attempt is seen to be live.
+#[derive(Clone, Copy)]
+pub struct Seen {
+    pub seq: u32,
+    pub since: u64,
+    /// Since when it is seen to be given.
+    pub given: Option<u64>,
+}
+
+/// What is kept of a view.
+#[derive(Drop)]
+pub struct Shown {
+    pub number: u64,
+    pub at: u64,
+    pub lit: Buttons,
+}
+
+/// The buttons that were lit.
+#[derive(Drop)]
+pub struct Buttons {
+    items: Vec<Button>,
+}
+
+impl Model for Buttons {
+    ghost use Rattle.std.specs.Prelude.{List};
+    ghost use Rattle.cue_station.specs.declared.heard.Button.{Button};
+
+    ghost Value = { List Button };
+
+    ghost view = { λ b. b.items.items };
+}
+
+impl Buttons {
+    /// The buttons, kept in the memory that they have.
+    pub fn of(items: Vec<Button>) -> Buttons
+        ensures { result ≡ items.items }
+    {
+        Buttons { items }
+    }
+
+    /// The buttons.
+    pub fn as_slice(&self) -> &[Button]
+        ensures { result.now ≡ self.now }
+    {
+        &self.items
+    }
+}
+
+/// What the relay has written, and since when it has written nothing new; without a status: since when it cannot be
+/// read.
+#[derive(Drop)]
+pub struct Relayed {
+    pub status: Option<relay::Status>,
+    pub since: u64,
+}
+
+/// The newest question for the status: its ask, and when it was sent.
+#[derive(Clone, Copy)]
+pub struct Question {
+    pub ask: u64,
+    pub at: u64,
+}
+
+/// What came to the socket of a press, and when.
+#[derive(Clone, Copy)]
+pub struct Word {
+    pub at: u64,
+    pub became: Became,
+}
+
+/// A press that was sent: when, its ask and its button; what came to its socket; and what the first copy showed that
+/// settled it.
+#[derive(Clone, Copy)]
+pub struct Pending {
+    pub at: u64,
+    pub ask: u64,
+    pub button: Button,
+    pub answer: Option<Word>,
+    pub settled: Option<Became>,
+}
+
+/// What the desk keeps beside the copy of the store and its lists.
+#[derive(Clone, Copy)]
+pub struct Notes {
+    /// The number of the next view.
+    pub number: u64,
+    /// The number of the next ask.
+    pub next_ask: u64,
+    /// The status that came last.
+    pub answered: Option<Answered>,
+    /// Whether nobody listened when the status was asked last.
+    pub nobody: bool,
+    /// Why the store could not be read when it was looked at last.
+    pub trouble: Option<Trouble>,
+    /// Since when a young copy is not what is served.
+    pub differs: Option<u64>,
+    pub choice: Choice,
+    /// The newest question for the status.
+    pub question: Option<Question>,
+    /// The newest press.
+    pub press: Option<Pending>,
+    /// The press before it, as long as that is open.
+    pub beside: Option<Pending>,
+    /// The newest failure that a copy told of.
+    pub failed: Option<u32>,
+    /// The newest failure of which a press said that it was seen.
+    pub acknowledged: Option<u32>,
+}
+
+/// What says when the status is to be asked again. Nothing that is shown or sent for a press rests on it.
+#[derive(Clone, Copy)]
+pub struct Pace {
+    /// Whether a status came to the newest question.
+    pub is_answered: bool,
+    /// Whether the status is wanted at once.
+    pub is_wanted: bool,
+}

@@ -1,0 +1,92 @@
+//! Which presses are open, of the two that are kept.
+ghost use Rattle.std.specs.Prelude.{◌≡◌, ◌&&◌, ◌||◌, not, is_none};
+ghost use Rattle.cue_station.specs.Asking as asking;
+ghost use Rattle.cue_station.specs.Memory as memory;
+ghost use Rattle.cue_station.specs.Opening as opening;
+
+use crate::heard::Button;
+use crate::memory::{Pending, Reading, Word};
+
+// Whether a copy was begun after the answer came.
+fn is_read_after(answer: Option<Word>, reading: &Option<Reading>) -> bool
+    ensures { result ≡ asking.is_read_after answer reading.now }
+{
+    match (answer, reading) {
+        (Some(word), Some(reading)) => word.at <= reading.at,
+        (None, _) => false,
+        (Some(_), None) => false,
+    }
+}
+
+// Whether a press is open: it is neither answered and read after that, nor settled.
+fn is_open(pending: &Pending, reading: &Option<Reading>) -> bool
+    ensures { result ≡ asking.is_open reading.now pending.now }
+{
+    !is_read_after(pending.answer, reading) && pending.settled.is_none()
+}
+
+/// The press, if there is one and it is open.
+pub(crate) fn if_open(pending: &Option<Pending>, reading: &Option<Reading>) -> Option<Pending>
+    ensures { result ≡ memory.if_open reading.now pending.now }
+{
+    match pending {
+        Some(pending) => if is_open(pending, reading) {
+            Some(*pending)
+        } else {
+            None
+        },
+        None => None,
+    }
+}
+
+// Whether it is a go or a cancel.
+fn is_final(button: Button) -> bool
+    ensures { result ≡ asking.is_final button }
+{
+    match button {
+        Button::Go(_, _) | Button::Cancel(_, _) => true,
+        Button::Standby(_) | Button::Release(_, _) | Button::MoveTo(_) => false,
+        Button::Choose(_) | Button::Seen(_) => false,
+    }
+}
+
+/// Whether neither of the two presses is there.
+pub(crate) fn are_none(one: &Option<Pending>, other: &Option<Pending>) -> bool
+    ensures { result ≡ (is_none one.now && is_none other.now) }
+{
+    one.is_none() && other.is_none()
+}
+
+/// Whether it is there, and is a go or a cancel.
+fn is_some_final(pending: &Option<Pending>) -> bool
+    ensures { result ≡ opening.is_some_final pending.now }
+{
+    match pending {
+        Some(pending) => is_final(pending.button),
+        None => false,
+    }
+}
+
+/// Whether neither of the two presses is there and a go or a cancel.
+pub(crate) fn is_none_final(one: &Option<Pending>, other: &Option<Pending>) -> bool
+    ensures { result ≡ (not (opening.is_some_final one.now) && not (opening.is_some_final other.now)) }
+{
+    !is_some_final(one) && !is_some_final(other)
+}
+
+// Whether it is there, and has this ask.
+fn has_ask(ask: u64, pending: &Option<Pending>) -> bool
+    ensures { result ≡ opening.has_ask ask pending.now }
+{
+    match pending {
+        Some(pending) => pending.ask == ask,
+        None => false,
+    }
+}
+
+/// Whether one of the two presses has the ask.
+pub(crate) fn is_one_ask(ask: u64, one: &Option<Pending>, other: &Option<Pending>) -> bool
+    ensures { result ≡ (opening.has_ask ask one.now || opening.has_ask ask other.now) }
+{
+    has_ask(ask, one) || has_ask(ask, other)
+}

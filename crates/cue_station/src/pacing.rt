@@ -1,0 +1,73 @@
+//! When the status is asked.
+use crate::heard::{Heard, Send};
+use crate::memory::{Notes, Pace, Question};
+use cue_desk::orders::Order;
+use cue_desk::replying::Replied;
+
+/// How long after a question for the status the next one is due, in milliseconds.
+const ASK_MS: u64 = 1_000;
+
+/// The same where no status came to it.
+const ASK_AGAIN_MS: u64 = 500;
+
+// Whether the last press was sent before the moment, so that a question that is sent now is asked after it.
+fn is_after_press(notes: &Notes, at: u64) -> bool {
+    match notes.press {
+        Some(press) => press.at < at,
+        None => true,
+    }
+}
+
+/// Whether a question for the status is due: at once after a copy that differs and after each press, half a second
+/// after one to which none came, and else each second. One that is under way is not asked again at once: its answer
+/// would be lost, and a controller that is slow while the store changes would never be heard.
+pub(crate) fn is_due(notes: &Notes, pace: Pace, at: u64) -> bool {
+    let Some(question) = notes.question else {
+        return true;
+    };
+    let wait = if pace.is_answered {
+        ASK_MS
+    } else {
+        ASK_AGAIN_MS
+    };
+    let at_once = pace.is_wanted && pace.is_answered && is_after_press(notes, at);
+    (at_once && question.at < at) || at.saturating_sub(question.at) >= wait
+}
+
+// Whether a status came to the newest question.
+fn is_answer(heard: &Heard, question: Option<Question>) -> bool {
+    match (heard, question) {
+        (Heard::Replied(ask, Replied::Status(_)), Some(question)) => question.ask == *ask,
+        _ => false,
+    }
+}
+
+/// The pace once this was heard. `is_new`: a copy came that is the newest now.
+pub(crate) fn pace_heard(
+    pace: Pace,
+    question: Option<Question>,
+    heard: &Heard,
+    is_new: bool,
+) -> Pace {
+    Pace {
+        is_answered: pace.is_answered || is_answer(heard, question),
+        is_wanted: pace.is_wanted || is_new,
+    }
+}
+
+/// The pace once this was sent.
+pub(crate) fn pace_sent(pace: Pace, send: Option<Send>) -> Pace {
+    match send {
+        Some(send) => match send.order {
+            Order::Status => Pace {
+                is_answered: false,
+                is_wanted: false,
+            },
+            Order::OfCue(_, _) | Order::Release(_) | Order::RemoveDevice(_) => Pace {
+                is_wanted: true,
+                ..pace
+            },
+        },
+        None => pace,
+    }
+}

@@ -1,0 +1,287 @@
+//! The desk as a machine.
+ghost use Rattle.std.specs.Prelude.{◌≡◌, [], IfOk, OnErr, OnOk};
+ghost use Rattle.cue_station.specs.Alarms.{failures_by};
+ghost use Rattle.cue_station.specs.Memory.{IsAfter, StepKeeps};
+ghost use Rattle.cue_station.specs.Noting as noting;
+ghost use Rattle.cue_station.specs.Stepping as stepping;
+
+use crate::heard::{Heard, Input, Send};
+use crate::hearing::{is_copy, put_back, seen_after, take_in};
+use crate::limits::KEPT_VIEWS;
+use crate::memory::{Buttons, Choice, Notes, Pace, Reading, Relayed, Seen, Shown};
+use crate::noting::{footing_by, notes_heard, notes_sent};
+use crate::pacing::{is_due, pace_heard, pace_sent};
+use crate::pressing::{order_of, refusal_of};
+use crate::telling::failures_of;
+use crate::view::{Unsent, View};
+use crate::viewing::view_of;
+use cue_desk::orders::Order;
+use std::alloc::{AllocError, Global};
+
+/// The desk. All that it keeps is bounded: one copy, one status, eight attempts, three asks, and the newest views.
+#[derive(Drop)]
+pub struct Station {
+    pub notes: Notes,
+    pub pace: Pace,
+    pub reading: Option<Reading>,
+    pub relay: Option<Relayed>,
+    pub seen: Vec<Seen>,
+    pub views: Vec<Shown>,
+}
+
+/// What a step gives.
+#[derive(Drop)]
+pub struct Step {
+    pub view: View,
+    pub send: Option<Send>,
+}
+
+// What a step makes before anything is kept.
+#[derive(Drop)]
+struct Made {
+    notes: Notes,
+    pace: Pace,
+    seen: Vec<Seen>,
+    shown: Shown,
+    step: Step,
+}
+
+// What is noted before anything was heard.
+fn first_notes() -> Notes
+    ensures { result ≡ stepping.first_notes }
+{
+    Notes {
+        number: 0,
+        next_ask: 0,
+        answered: None,
+        nobody: false,
+        trouble: None,
+        differs: None,
+        choice: Choice::Nothing,
+        question: None,
+        press: None,
+        beside: None,
+        failed: None,
+        acknowledged: None,
+    }
+}
+
+// The failures that the newest copy tells of.
+fn failures_in(alloc: Global, reading: &Option<Reading>) -> Result<Vec<u32>, AllocError>
+    ensures { IfOk result (λ v. v.items ≡ failures_by reading.now) }
+{
+    match reading {
+        Some(reading) => failures_of(alloc, &reading.copy),
+        None => Ok(Vec::new(alloc)),
+    }
+}
+
+// Keeps the view with the newest ones.
+fn keep_view(views: &mut Vec<Shown>, shown: Shown) -> Result<(), AllocError>
+    ensures ok { OnOk result (views.new.items ≡ stepping.kept_with shown views.old.items) }
+    ensures err { OnErr result (views.new.items ≡ views.old.items) }
+{
+    views.insert(0, shown)?;
+    views.truncate(KEPT_VIEWS);
+    Ok(())
+}
+
+// What is kept of a view.
+fn shown_of(alloc: Global, view: &View) -> Result<Shown, AllocError>
+    ensures { IfOk result (λ s. s ≡ stepping.shown_in view.now) }
+{
+    let lit = Vec::from_slice(alloc, &view.lit)?;
+    Ok(Shown {
+        number: view.number,
+        at: view.at,
+        lit: Buttons::of(lit),
+    })
+}
+
+// The message: that of a press, else a question for the status, if one is due.
+fn send_by(order: Option<Order>, due: bool, ask: u64) -> Option<Send>
+    ensures { result ≡ noting.send_by order due ask }
+{
+    match order {
+        Some(order) => Some(Send { ask, order }),
+        None => if due {
+            Some(Send {
+                ask,
+                order: Order::Status,
+            })
+        } else {
+            None
+        },
+    }
+}
+
+// What is noted in a step, and what is sent.
+#[derive(Clone, Copy)]
+struct Noted {
+    notes: Notes,
+    pace: Pace,
+    send: Option<Send>,
+    unsent: Option<Unsent>,
+}
+
+impl Station {
+    /// The desk before it has heard anything.
+    pub fn new(alloc: Global) -> Station
+        ensures after { IsAfter [] result }
+    {
+        Station {
+            notes: first_notes(),
+            pace: Pace {
+                is_answered: false,
+                is_wanted: false,
+            },
+            reading: None,
+            relay: None,
+            seen: Vec::new(alloc),
+            views: Vec::new(alloc),
+        }
+    }
+
+    /// Whether a question for the status is due: at once after a copy that differs and after each press, half a second
+    /// after one to which none came, and else each second. A step that has no press to send asks it.
+    pub fn due(&self, at: u64) -> bool {
+        is_due(&self.notes, self.pace, at)
+    }
+
+    // Why the press that was heard is not heeded.
+    fn refusal(&self, input: &Input) -> Option<Unsent>
+        ensures { stepping.IsRefusal self.now input.now result }
+    {
+        match &input.heard {
+            Heard::Pressed(view, button) => {
+                let footing = footing_by(&self.notes, &self.reading, input.at, input.wall);
+                refusal_of(
+                    &self.views,
+                    *view,
+                    button,
+                    &self.reading,
+                    &self.seen,
+                    &footing,
+                )
+            }
+            _ => None,
+        }
+    }
+
+    // The order of the press that was heard, if it is heeded.
+    fn pressed(&self, input: &Input, refusal: Option<Unsent>) -> Option<Order>
+        requires { stepping.IsRefusal self.now input.now refusal }
+        ensures { result ≡ noting.order_by input.now.heard (stepping.is_heeded_by self.now input.now) }
+    {
+        match &input.heard {
+            Heard::Pressed(_, button) => if refusal.is_none() {
+                order_of(*button)
+            } else {
+                None
+            },
+            _ => None,
+        }
+    }
+
+    // What is noted, and sent, once the store and the relay were taken in.
+    fn notes_made(&self, input: &Input, is_new: bool, failures: &[u32]) -> Result<Noted, AllocError>
+        requires { failures.now ≡ failures_by self.now.reading }
+        ensures { IfOk result (stepping.TakesNotes self.now input.now) }
+    {
+        let (at, heard) = (input.at, &input.heard);
+        let noted = notes_heard(&self.notes, at, heard, &self.reading, &self.views, failures);
+        let unsent = self.refusal(input);
+        let pace = pace_heard(self.pace, self.notes.question, heard, is_new);
+        let due = is_due(&noted, pace, at);
+        let send = send_by(self.pressed(input, unsent), due, noted.next_ask);
+        let notes = notes_sent(&noted, at, heard, &self.reading, &send)?;
+        Ok(Noted {
+            notes,
+            pace: pace_sent(pace, send),
+            send,
+            unsent,
+        })
+    }
+
+    // What the step makes of what was heard, once the store and the relay were taken in. Nothing is kept yet.
+    fn make(&self, alloc: Global, input: &Input, is_new: bool) -> Result<Made, AllocError>
+        ensures { IfOk result (stepping.MakesIn self.now input.now) }
+    {
+        let failures = failures_in(alloc, &self.reading)?;
+        let Noted {
+            notes,
+            pace,
+            send,
+            unsent,
+        } = self.notes_made(input, is_new, &failures)?;
+        let seen = seen_after(alloc, &self.seen, input.at, &self.reading)?;
+        let footing = footing_by(&notes, &self.reading, input.at, input.wall);
+        let bare = view_of(
+            alloc,
+            &notes,
+            &self.reading,
+            &self.relay,
+            &seen,
+            &failures,
+            footing,
+        )?;
+        let view = View {
+            number: self.notes.number,
+            unsent,
+            ..bare
+        };
+        let shown = shown_of(alloc, &view)?;
+        Ok(Made {
+            notes,
+            pace,
+            seen,
+            shown,
+            step: Step { view, send },
+        })
+    }
+
+    // Keeps what the step made.
+    fn keep(&mut self, made: Made) -> Result<Step, AllocError>
+        ensures ok { IfOk result (stepping.KeepsMade self.old made self.new) }
+        ensures err { OnErr result (stepping.IsSame self.old self.new) }
+    {
+        let Made {
+            notes,
+            pace,
+            seen,
+            shown,
+            step,
+        } = made;
+        keep_view(&mut self.views, shown)?;
+        self.notes = notes;
+        self.pace = pace;
+        self.seen = seen;
+        Ok(step)
+    }
+
+    // The step, once the store and the relay were taken in.
+    fn step_in(&mut self, alloc: Global, input: &Input, is_new: bool) -> Result<Step, AllocError>
+        ensures ok { IfOk result (stepping.StepsIn self.old input.now self.new) }
+        ensures err { OnErr result (stepping.IsSame self.old self.new) }
+    {
+        let made = self.make(alloc, input, is_new)?;
+        self.keep(made)
+    }
+
+    /// Hears one thing: the view that follows, and at most one message. If memory ran out, nothing was heard.
+    pub fn step(&mut self, alloc: Global, input: Input) -> Result<Step, AllocError>
+        ensures keeps { IfOk result (StepKeeps self.old input self.new) }
+        ensures err { OnErr result (stepping.IsSame self.old self.new) }
+    {
+        let Input { at, wall, heard } = input;
+        let (heard, before) = take_in(&mut self.reading, &mut self.relay, at, heard);
+        let input = Input { at, wall, heard };
+        match self.step_in(alloc, &input, is_copy(&before)) {
+            Ok(step) => Ok(step),
+            Err(error) => {
+                put_back(&mut self.reading, &mut self.relay, before);
+                Err(error)
+            }
+        }
+    }
+}

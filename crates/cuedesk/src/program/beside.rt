@@ -1,0 +1,67 @@
+//! The files that the board reads beside the store: the log of the evening, and the status of a relay.
+use crate::program::files::words;
+use cue_board::log_lines;
+use cue_desk_run::read_status;
+use std::alloc::{AllocError, Global};
+use std::fs::{self, File, Files};
+use std::io::{self, Read, Seek, SeekFrom};
+
+/// The most lines of the log that are shown.
+const MAX_LOG_LINES: usize = 3;
+
+/// The most bytes of the log that are read, from its end.
+const MAX_LOG_BYTES: u64 = 4_096;
+
+// The end of a file, as text.
+fn end_of<R: Files<File = File> + AllocGlobal>(rt: &R, path: &str) -> io::Result<String> {
+    let mut file = File::open(rt, path)?;
+    let len = file.metadata()?.len();
+    file.seek(SeekFrom::Start(len.saturating_sub(MAX_LOG_BYTES)))?;
+    let mut bytes = Vec::new(rt.alloc());
+    file.take(MAX_LOG_BYTES).read_to_end(&mut bytes)?;
+    Ok(String::from_utf8_lossy(rt.alloc(), &bytes)?)
+}
+
+// One line alone.
+fn only(alloc: Global, line: String) -> Result<Vec<String>, AllocError> {
+    let mut lines = Vec::new(alloc);
+    lines.push(line)?;
+    Ok(lines)
+}
+
+// One line that says why a file is not shown.
+fn why_not(alloc: Global, path: &str, why: &io::Error) -> Result<Vec<String>, AllocError> {
+    let text = words(alloc, path, why);
+    let line = format!(in alloc; "?      {}", text.as_str())?;
+    only(alloc, line)
+}
+
+/// The last lines of the log of `serve`, without their dates.
+pub fn read_log<R: Files<File = File> + AllocGlobal>(
+    rt: &R,
+    path: &str,
+) -> Result<Vec<String>, AllocError> {
+    match end_of(rt, path) {
+        Ok(text) => log_lines(rt.alloc(), text.as_str(), MAX_LOG_LINES),
+        Err(why) => why_not(rt.alloc(), path, &why),
+    }
+}
+
+/// Why a board without the devices of a relay has none, as one line.
+pub fn relay_line<R: Files<File = File> + AllocGlobal>(
+    rt: &R,
+    path: &str,
+) -> Result<Vec<String>, AllocError> {
+    let alloc = rt.alloc();
+    match read_status(rt, path) {
+        Ok(Some(_)) => only(
+            alloc,
+            String::from_str(alloc, "HEARD  the relay has stopped")?,
+        ),
+        Ok(None) => {
+            let text = format!(in alloc; "?      {path}: this is no status of a relay")?;
+            only(alloc, text)
+        }
+        Err(why) => why_not(alloc, path, &why),
+    }
+}

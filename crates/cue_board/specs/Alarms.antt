@@ -1,10 +1,10 @@
 -- What is wrong, in words.
 use Rattle.std.specs.Prelude.{ℕ, List, ◌++◌, ◌-◌, codes, Option, None, Some}
 use Rattle.std.specs.Fmt.{decimal}
-use Rattle.cue_station.specs.declared.heard.Trouble.{Trouble}
-use Rattle.cue_station.specs.declared.heard.Trouble.TheVariants as trouble
-use Rattle.cue_station.specs.declared.view.Alarm.{Alarm}
-use Rattle.cue_station.specs.declared.view.Alarm.TheVariants as alarm
+use Rattle.cue_view.specs.declared.view.Trouble.{Trouble}
+use Rattle.cue_view.specs.declared.view.Trouble.TheVariants as trouble
+use Rattle.cue_view.specs.declared.view.Alarm.{Alarm}
+use Rattle.cue_view.specs.declared.view.Alarm.TheVariants as alarm
 use Rattle.cue_board.specs.Times.{seconds}
 
 -- why the store cannot be read

@@ -10,12 +10,12 @@ use Rattle.cue_exchange.specs.declared.attempt.DeviceAnswer.{DeviceAnswer}
 use Rattle.cue_show.specs.Number.{same_text}
 use Rattle.cue_show.specs.Show.{is_place}
 use Rattle.cue_words.specs.Answered.{answer_words, reason_words}
-use Rattle.cue_station.specs.declared.view.Alarm.{Alarm}
-use Rattle.cue_station.specs.declared.view.Alarm.TheVariants as alarm
-use Rattle.cue_station.specs.declared.view.LiveAttempt.{LiveAttempt}
-use Rattle.cue_station.specs.declared.view.Next.{Next}
-use Rattle.cue_station.specs.declared.view.Next.TheVariants as next
-use Rattle.cue_station.specs.declared.view.View.{View}
+use Rattle.cue_view.specs.declared.view.Alarm.{Alarm}
+use Rattle.cue_view.specs.declared.view.Alarm.TheVariants as alarm
+use Rattle.cue_view.specs.declared.view.LiveAttempt.{LiveAttempt}
+use Rattle.cue_view.specs.declared.view.Next.{Next}
+use Rattle.cue_view.specs.declared.view.Next.TheVariants as next
+use Rattle.cue_view.specs.declared.view.View.{View}
 use Rattle.cue_board.specs.Alarms.{alarm_words}
 use Rattle.cue_board.specs.Ends.{last_said}
 use Rattle.cue_board.specs.Progress.{progress_of}

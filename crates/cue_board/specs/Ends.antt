@@ -3,7 +3,7 @@ use Rattle.std.specs.Prelude.{ℕ, List, [], ◌++◌, codes, Option, None, Some
 use Rattle.std.specs.Fmt.{decimal}
 use Rattle.cue_exchange.specs.declared.attempt.Reason.{Reason}
 use Rattle.cue_words.specs.Answered.{outcome_words, reason_words}
-use Rattle.cue_station.specs.declared.view.Told.{Told}
+use Rattle.cue_view.specs.declared.view.Told.{Told}
 
 -- why it was given up; nothing where it was not
 abbrev pub why : Option Reason → List ℕ

@@ -3,9 +3,9 @@ use Rattle.std.specs.Prelude.{ℕ, List, [], ◌++◌, ◌/◌, codes, Option, N
 use Rattle.std.specs.Fmt.{decimal}
 use Rattle.cue_relay.specs.declared.status.Ordered.{Ordered}
 use Rattle.cue_relay.specs.declared.status.Ordered.TheVariants as ordered
-use Rattle.cue_station.specs.declared.view.Contacted.{Contacted}
-use Rattle.cue_station.specs.declared.view.LastHeard.{LastHeard}
-use Rattle.cue_station.specs.declared.view.LastHeard.TheVariants as heard
+use Rattle.cue_view.specs.declared.view.Contacted.{Contacted}
+use Rattle.cue_view.specs.declared.view.LastHeard.{LastHeard}
+use Rattle.cue_view.specs.declared.view.LastHeard.TheVariants as heard
 
 -- when it was heard
 abbrev pub when : LastHeard → List ℕ

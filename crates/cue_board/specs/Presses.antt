@@ -1,10 +1,10 @@
 -- What became of a press, and why one was not sent, in words.
 use Rattle.std.specs.Prelude.{ℕ, ℤ, List, ◌++◌, codes}
 use Rattle.std.specs.Fmt.{decimal, signed_decimal}
-use Rattle.cue_station.specs.declared.view.Became.{Became}
-use Rattle.cue_station.specs.declared.view.Became.TheVariants as became
-use Rattle.cue_station.specs.declared.view.Unsent.{Unsent}
-use Rattle.cue_station.specs.declared.view.Unsent.TheVariants as unsent
+use Rattle.cue_view.specs.declared.view.Became.{Became}
+use Rattle.cue_view.specs.declared.view.Became.TheVariants as became
+use Rattle.cue_view.specs.declared.view.Unsent.{Unsent}
+use Rattle.cue_view.specs.declared.view.Unsent.TheVariants as unsent
 use Rattle.cue_words.specs.CodeWords.{number_words}
 
 -- the controller refused it, by this code

@@ -3,7 +3,7 @@ use Rattle.std.specs.Prelude.{ℕ, List, codes, ◌==◌, if◌then◌else◌}
 use Rattle.cue_exchange.specs.Answers.{some_waits}
 use Rattle.cue_exchange.specs.declared.attempt.Stage.{Stage}
 use Rattle.cue_exchange.specs.declared.attempt.Stage.TheVariants as stage
-use Rattle.cue_station.specs.declared.view.LiveAttempt.{LiveAttempt}
+use Rattle.cue_view.specs.declared.view.LiveAttempt.{LiveAttempt}
 use Rattle.cue_board.specs.declared.progress.Progress.{Progress}
 use Rattle.cue_board.specs.declared.progress.Progress.TheVariants as progress
 

@@ -3,8 +3,7 @@ ghost use Rattle.std.specs.Prelude.{◌≡◌, IfOk, string_bytes};
 ghost use Rattle.cue_board.specs.Alarms as alarms;
 
 use crate::times::seconds;
-use cue_station::heard::Trouble;
-use cue_station::view::Alarm;
+use cue_view::view::{Alarm, Trouble};
 use std::alloc::{AllocError, Global};
 
 // Why the store cannot be read.

@@ -13,7 +13,7 @@ use crate::names::Names;
 use crate::network::heard_lines;
 use crate::stack::{SHOWN, cues_within, push_stack};
 use crate::times::seconds;
-use cue_station::view::{Alarm, View};
+use cue_view::view::{Alarm, View};
 use std::alloc::{AllocError, Global};
 
 // Whether the alarm has a line of its own: a failure is told by the line of the attempt that ended last.

@@ -9,7 +9,7 @@ use crate::line::BoardLine;
 use crate::live::attempt_line;
 use cue_exchange::{Answer, DeviceAnswer};
 use cue_show::DeviceNo;
-use cue_station::view::LiveAttempt;
+use cue_view::view::LiveAttempt;
 use cue_words::answer_words;
 use std::alloc::{AllocError, Global};
 

@@ -9,7 +9,7 @@ use crate::names::Names;
 use cue_exchange::Reason;
 use cue_show::DeviceNo;
 use cue_show_file::cue_text;
-use cue_station::view::Told;
+use cue_view::view::Told;
 use cue_words::{outcome_words, reason_words};
 use std::alloc::{AllocError, Global};
 

@@ -11,7 +11,7 @@ use crate::progress::{Progress, progress_of};
 use crate::times::seconds;
 use cue_exchange::DeviceAnswer;
 use cue_show_file::cue_text;
-use cue_station::view::LiveAttempt;
+use cue_view::view::LiveAttempt;
 use cue_words::{answer_words, reason_words};
 use std::alloc::{AllocError, Global};
 

@@ -5,7 +5,7 @@ ghost use Rattle.cue_board.specs.Network as network;
 use crate::columns::{COLUMNS, fitted};
 use crate::line::push_spaces;
 use cue_relay::status::Ordered;
-use cue_station::view::{Contacted, LastHeard};
+use cue_view::view::{Contacted, LastHeard};
 use std::alloc::{AllocError, Global};
 
 /// What stands before the first device of a line.

@@ -2,7 +2,7 @@
 ghost use Rattle.std.specs.Prelude.{◌≡◌, IfOk, string_bytes};
 ghost use Rattle.cue_board.specs.Presses as presses;
 
-use cue_station::view::{Became, Unsent};
+use cue_view::view::{Became, Unsent};
 use cue_words::code_words;
 use std::alloc::{AllocError, Global};
 

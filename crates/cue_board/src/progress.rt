@@ -4,7 +4,7 @@ ghost use Rattle.cue_exchange.specs.Answers.{some_waits};
 ghost use Rattle.cue_board.specs.Progress as spec;
 
 use cue_exchange::{Reason, Stage};
-use cue_station::view::LiveAttempt;
+use cue_view::view::LiveAttempt;
 
 /// How far a live attempt has come.
 #[derive(Clone, Copy, PartialEq, Eq, Debug)]

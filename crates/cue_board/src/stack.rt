@@ -7,7 +7,7 @@ use crate::line::{BoardLine, push_spaces};
 use crate::names::Names;
 use cue_show::CueNo;
 use cue_show_file::cue_text;
-use cue_station::view::{LiveAttempt, Next, View};
+use cue_view::view::{LiveAttempt, Next, View};
 use std::alloc::{AllocError, Global};
 
 /// How many cues are shown at most.

@@ -6,7 +6,8 @@ use cue_core::Event;
 use cue_desk::stamps::Stamps;
 use cue_disk::{FileDisk, FileFault, MemDisk};
 use cue_keeper::{Keeper, StoreFault};
-use cue_station::heard::{Copied, Heard, Trouble};
+use cue_station::heard::{Copied, Heard};
+use cue_view::view::Trouble;
 use std::fs::{File, Files};
 use std::time::Clock;
 

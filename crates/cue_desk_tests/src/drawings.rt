@@ -5,8 +5,8 @@ use cue_page::board::view_text;
 use cue_relay::status::Ordered;
 use cue_show::{CueNo, DeviceNo};
 use cue_show_file::{ShowFile, read};
-use cue_station::heard::Button;
-use cue_station::view::{
+use cue_view::button::Button;
+use cue_view::view::{
     Alarm, Became, Contacted, Devices, LastHeard, LiveAttempt, Next, Said, Stack, Told, Unsent,
     View,
 };

@@ -1,8 +1,8 @@
 -- What is wrong, as JSON (RFC 8259).
 use Rattle.std.specs.Prelude.{ℕ, List, codes}
 use Rattle.serde_json.specs.Data.{Data, number, unsigned, string, object, member, no_members}
-use Rattle.cue_station.specs.declared.view.Alarm.{Alarm}
-use Rattle.cue_station.specs.declared.view.Alarm.TheVariants as alarm
+use Rattle.cue_view.specs.declared.view.Alarm.{Alarm}
+use Rattle.cue_view.specs.declared.view.Alarm.TheVariants as alarm
 use Rattle.cue_board.specs.Alarms.{alarm_words}
 
 -- which alarm it is

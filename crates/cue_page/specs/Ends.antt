@@ -3,7 +3,7 @@ use Rattle.std.specs.Prelude.{ℕ, List, [], map, codes, Option, None, Some}
 use Rattle.serde_json.specs.Data.{Data, null, number, unsigned, string, array, object, member, no_members}
 use Rattle.serde_json.specs.View.{items_of}
 use Rattle.cue_exchange.specs.declared.attempt.Reason.{Reason}
-use Rattle.cue_station.specs.declared.view.Told.{Told}
+use Rattle.cue_view.specs.declared.view.Told.{Told}
 use Rattle.cue_words.specs.Answered.{outcome_words, reason_words}
 
 abbrev pub number_data : ℕ → Data

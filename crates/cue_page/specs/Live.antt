@@ -3,7 +3,7 @@ use Rattle.std.specs.Prelude.{ℕ, List, [], ◌-◌, map, codes, Option, None, 
 use Rattle.serde_json.specs.Data.{Data, null, boolean, number, unsigned, string, array, object, member, no_members}
 use Rattle.serde_json.specs.View.{items_of}
 use Rattle.cue_exchange.specs.declared.attempt.DeviceAnswer.{DeviceAnswer}
-use Rattle.cue_station.specs.declared.view.LiveAttempt.{LiveAttempt}
+use Rattle.cue_view.specs.declared.view.LiveAttempt.{LiveAttempt}
 use Rattle.cue_words.specs.Answered.{answer_words, reason_words}
 use Rattle.cue_board.specs.Progress.{progress_of, word_of}
 use Rattle.cue_board.specs.declared.progress.Progress.{Progress}

@@ -2,7 +2,7 @@
 use Rattle.std.specs.Prelude.{ℕ, List, ◌-◌, map, codes, Option, None, Some}
 use Rattle.serde_json.specs.Data.{Data, null, number, unsigned, string, array, object, member, no_members}
 use Rattle.serde_json.specs.View.{items_of}
-use Rattle.cue_station.specs.declared.view.View.{View}
+use Rattle.cue_view.specs.declared.view.View.{View}
 use Rattle.cue_page.specs.Alarms.{alarm_data}
 use Rattle.cue_page.specs.Ends.{told_data, told_or_null}
 use Rattle.cue_page.specs.Lit.{button_data}

@@ -1,10 +1,10 @@
 -- What became of the last press, and why one was not sent, as JSON (RFC 8259).
 use Rattle.std.specs.Prelude.{ℕ, List, codes, Option, None, Some}
 use Rattle.serde_json.specs.Data.{Data, null, number, unsigned, string, object, member, no_members}
-use Rattle.cue_station.specs.declared.view.Became.{Became}
-use Rattle.cue_station.specs.declared.view.Became.TheVariants as became
-use Rattle.cue_station.specs.declared.view.Said.{Said}
-use Rattle.cue_station.specs.declared.view.Unsent.{Unsent}
+use Rattle.cue_view.specs.declared.view.Became.{Became}
+use Rattle.cue_view.specs.declared.view.Became.TheVariants as became
+use Rattle.cue_view.specs.declared.view.Said.{Said}
+use Rattle.cue_view.specs.declared.view.Unsent.{Unsent}
 use Rattle.cue_board.specs.Presses.{became_words, unsent_words}
 use Rattle.cue_request.specs.Presses.{press_of}
 

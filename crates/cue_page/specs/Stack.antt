@@ -2,9 +2,9 @@
 use Rattle.std.specs.Prelude.{ℕ, List, [], map, codes}
 use Rattle.serde_json.specs.Data.{Data, null, number, unsigned, string, array, object, member, no_members}
 use Rattle.serde_json.specs.View.{items_of}
-use Rattle.cue_station.specs.declared.view.Next.{Next}
-use Rattle.cue_station.specs.declared.view.Next.TheVariants as next
-use Rattle.cue_station.specs.declared.view.Stack.{Stack}
+use Rattle.cue_view.specs.declared.view.Next.{Next}
+use Rattle.cue_view.specs.declared.view.Next.TheVariants as next
+use Rattle.cue_view.specs.declared.view.Stack.{Stack}
 
 -- the cue that is next; null where none is
 abbrev pub cue_data : Next → Data

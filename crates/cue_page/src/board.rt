@@ -16,7 +16,7 @@ mod stack;
 use alarms::alarms_value;
 use called::names_value;
 use cue_board::Names;
-use cue_station::view::View;
+use cue_view::view::View;
 use ends::{past_value, told_or_null};
 use lit::lit_value;
 use live::live_value;

@@ -8,7 +8,7 @@ use crate::numbers::{device_in, number_in};
 use crate::texts::{after, at_space};
 use cue_show::{CueNo, DeviceNo};
 use cue_show_file::cue_text;
-use cue_station::heard::Button;
+use cue_view::button::Button;
 use std::alloc::{AllocError, Global};
 
 /// The text of a button: its word, and then the cue, the attempt or the device that it is for.

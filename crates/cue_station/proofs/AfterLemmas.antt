@@ -3,8 +3,8 @@ use Rattle.std.proofs.Common.{◌≡◌, refl, sym, ap, ap₂, ◌∙◌, subst,
 use Rattle.std.proofs.Common.{Option, None, Some, is_some, is_none, filter, nat_eq, IsTrue, IsSome, option_map, ◌⊎◌, inl, inr, ⊎_elim, cond, zero}
 use Rattle.std.specs.List.{list_any, list_all}
 use Rattle.cue_show.proofs.TestLemmas.{both}
-use Rattle.cue_station.specs.declared.heard.Button.{Button}
-use Rattle.cue_station.specs.declared.heard.Button.TheVariants as button
+use Rattle.cue_view.specs.declared.button.Button.{Button}
+use Rattle.cue_view.specs.declared.button.Button.TheVariants as button
 use Rattle.cue_station.specs.declared.heard.Heard.{Heard}
 use Rattle.cue_station.specs.declared.heard.Heard.TheVariants as heard
 use Rattle.cue_station.specs.declared.heard.Input.{Input}

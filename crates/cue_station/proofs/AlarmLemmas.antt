@@ -4,10 +4,10 @@ use Rattle.std.proofs.Common.{Option, None, Some, nat_le, refl}
 use Rattle.std.specs.List.{list_any}
 use Rattle.std.specs.Option.{option_to_list}
 use Rattle.std.proofs.lemmas.List.Folds.{list_any-append}
-use Rattle.cue_station.specs.declared.heard.Trouble.{Trouble}
+use Rattle.cue_view.specs.declared.view.Trouble.{Trouble}
 use Rattle.cue_station.specs.declared.limits.TheConstants.{COPY_MS, OTHER_MS, STATUS_MS}
-use Rattle.cue_station.specs.declared.view.Alarm.{Alarm}
-use Rattle.cue_station.specs.declared.view.Alarm.TheVariants as alarm
+use Rattle.cue_view.specs.declared.view.Alarm.{Alarm}
+use Rattle.cue_view.specs.declared.view.Alarm.TheVariants as alarm
 use Rattle.cue_station.specs.Alarms.{failed_by, is_within, old_by, old_store, other_by, other_store, relay_stopped, silence}
 use Rattle.cue_station.specs.Alarms.{silence_by, silent_in, stopped_by}
 use Rattle.cue_station.specs.Network.{is_stopped}

@@ -3,8 +3,8 @@ use Rattle.std.proofs.Common.{◌≡◌, refl, ap, ap₂, ℕ, Bool, true, false
 use Rattle.cue_show.proofs.TestLemmas.{both, same_number, same_self, join}
 use Rattle.cue_show.proofs.TextLemmas.{same_text-true, same_text-itself}
 use Rattle.cue_show.specs.Number.{same_text}
-use Rattle.cue_station.specs.declared.heard.Button.{Button}
-use Rattle.cue_station.specs.declared.heard.Button.TheVariants as button
+use Rattle.cue_view.specs.declared.button.Button.{Button}
+use Rattle.cue_view.specs.declared.button.Button.TheVariants as button
 use Rattle.cue_station.specs.Offering.{is_cancel, is_choice, is_go, is_move, is_release, is_seen, is_standby, same_button}
 
 standby_true : (c : List ℕ) (b : Button) → IsTrue (is_standby c b) → button.Standby c ≡ b

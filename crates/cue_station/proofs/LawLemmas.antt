@@ -6,12 +6,12 @@ use Rattle.cue_exchange.specs.Steps.{can_go_now}
 use Rattle.cue_exchange.specs.declared.attempt.Attempt.{Attempt}
 use Rattle.cue_desk.specs.declared.orders.Order.TheVariants as order
 use Rattle.cue_station.specs.declared.alarms.Facts.{Facts}
-use Rattle.cue_station.specs.declared.heard.Button.{Button}
+use Rattle.cue_view.specs.declared.button.Button.{Button}
 use Rattle.cue_station.specs.declared.heard.Heard.{Heard}
 use Rattle.cue_station.specs.declared.heard.Heard.TheVariants as heard
 use Rattle.cue_station.specs.declared.heard.Input.{Input}
 use Rattle.cue_station.specs.declared.heard.Send.{Send}
-use Rattle.cue_station.specs.declared.heard.Trouble.{Trouble}
+use Rattle.cue_view.specs.declared.view.Trouble.{Trouble}
 use Rattle.cue_station.specs.declared.memory.Answered.{Answered}
 use Rattle.cue_station.specs.declared.memory.Notes.{Notes}
 use Rattle.cue_station.specs.declared.memory.Reading.{Reading}
@@ -20,9 +20,9 @@ use Rattle.cue_station.specs.declared.memory.Seen.{Seen}
 use Rattle.cue_station.specs.declared.memory.Shown.{Shown}
 use Rattle.cue_station.specs.declared.station.Made.{Made}
 use Rattle.cue_station.specs.declared.station.Station.{Station}
-use Rattle.cue_station.specs.declared.view.LiveAttempt.{LiveAttempt}
-use Rattle.cue_station.specs.declared.view.Unsent.{Unsent}
-use Rattle.cue_station.specs.declared.view.View.{View}
+use Rattle.cue_view.specs.declared.view.LiveAttempt.{LiveAttempt}
+use Rattle.cue_view.specs.declared.view.Unsent.{Unsent}
+use Rattle.cue_view.specs.declared.view.View.{View}
 use Rattle.cue_station.specs.Turns.{Turn}
 use Rattle.cue_station.specs.Alarms.{alarms_by, asked_at, differs_since, failures_by, is_put_back, is_over_by, nobody_of, put_back_in}
 use Rattle.cue_station.specs.Alarms.{read_at, stands_by, trouble_of}

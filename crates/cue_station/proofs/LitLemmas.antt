@@ -10,14 +10,14 @@ use Rattle.cue_exchange.proofs.LookUpLemmas.{find-passes}
 use Rattle.cue_exchange.specs.Answers.{is_preparing}
 use Rattle.cue_exchange.specs.Live.{attempt_of, has_number}
 use Rattle.cue_exchange.specs.declared.attempt.Attempt.{Attempt}
-use Rattle.cue_station.specs.declared.heard.Button.{Button}
-use Rattle.cue_station.specs.declared.heard.Button.TheVariants as button
+use Rattle.cue_view.specs.declared.button.Button.{Button}
+use Rattle.cue_view.specs.declared.button.Button.TheVariants as button
 use Rattle.cue_station.specs.declared.heard.Copied.{Copied}
 use Rattle.cue_station.specs.declared.lighting.Footing.{Footing}
 use Rattle.cue_station.specs.declared.memory.Reading.{Reading}
 use Rattle.cue_station.specs.declared.memory.Seen.{Seen}
-use Rattle.cue_station.specs.declared.view.Next.{Next}
-use Rattle.cue_station.specs.declared.view.Next.TheVariants as next
+use Rattle.cue_view.specs.declared.view.Next.{Next}
+use Rattle.cue_view.specs.declared.view.Next.TheVariants as next
 use Rattle.cue_station.proofs.ButtonLemmas.{same_button-itself, same_button-true}
 use Rattle.cue_station.specs.Following.{next_in}
 use Rattle.cue_station.specs.Laws.{is_key}

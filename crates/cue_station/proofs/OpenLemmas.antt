@@ -4,8 +4,8 @@ use Rattle.std.proofs.Common.{Option, None, Some, is_none, filter, nat_le, IsTru
 use Rattle.std.proofs.lemmas.Bool.{leb-true, le-leb}
 use Rattle.std.specs.Option.{option_map_or}
 use Rattle.cue_show.proofs.TestLemmas.{both, cases, join, not_so}
-use Rattle.cue_station.specs.declared.heard.Button.{Button}
-use Rattle.cue_station.specs.declared.heard.Button.TheVariants as button
+use Rattle.cue_view.specs.declared.button.Button.{Button}
+use Rattle.cue_view.specs.declared.button.Button.TheVariants as button
 use Rattle.cue_station.specs.declared.heard.Copied.{Copied}
 use Rattle.cue_station.specs.declared.heard.Heard.{Heard}
 use Rattle.cue_station.specs.declared.heard.Heard.TheVariants as heard
@@ -14,7 +14,7 @@ use Rattle.cue_station.specs.declared.memory.Answered.{Answered}
 use Rattle.cue_station.specs.declared.memory.Pending.{Pending}
 use Rattle.cue_station.specs.declared.memory.Reading.{Reading}
 use Rattle.cue_station.specs.declared.memory.Word.{Word}
-use Rattle.cue_station.specs.declared.view.Became.{Became}
+use Rattle.cue_view.specs.declared.view.Became.{Became}
 use Rattle.cue_station.specs.Asking.{first_of, followed, is_final, is_open, is_read_after, newest_of}
 use Rattle.cue_station.specs.Lighting.{may_by}
 use Rattle.cue_station.specs.Memory.{if_open, is_beside, only, open_in}

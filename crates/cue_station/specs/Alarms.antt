@@ -12,19 +12,19 @@ use Rattle.cue_core.specs.declared.limits.TheConstants.{STANDBY_MS}
 use Rattle.cue_desk.specs.declared.replying.Replied.TheVariants as replied
 use Rattle.cue_desk.specs.declared.replying.Status.{Status}
 use Rattle.cue_station.specs.declared.alarms.Facts.{Facts}
-use Rattle.cue_station.specs.declared.heard.Button.{Button}
-use Rattle.cue_station.specs.declared.heard.Button.TheVariants as button
+use Rattle.cue_view.specs.declared.button.Button.{Button}
+use Rattle.cue_view.specs.declared.button.Button.TheVariants as button
 use Rattle.cue_station.specs.declared.heard.Heard.{Heard}
 use Rattle.cue_station.specs.declared.heard.Heard.TheVariants as heard
-use Rattle.cue_station.specs.declared.heard.Trouble.{Trouble}
+use Rattle.cue_view.specs.declared.view.Trouble.{Trouble}
 use Rattle.cue_station.specs.declared.limits.TheConstants.{COPY_MS, KEPT_VIEWS, OTHER_MS, PRESS_MS, STATUS_MS}
 use Rattle.cue_station.specs.declared.memory.Answered.{Answered}
 use Rattle.cue_station.specs.declared.memory.Question.{Question}
 use Rattle.cue_station.specs.declared.memory.Reading.{Reading}
 use Rattle.cue_station.specs.declared.memory.Shown.{Shown}
-use Rattle.cue_station.specs.declared.view.Alarm.{Alarm}
-use Rattle.cue_station.specs.declared.view.Alarm.TheVariants as alarm
-use Rattle.cue_station.specs.declared.view.Contacted.{Contacted}
+use Rattle.cue_view.specs.declared.view.Alarm.{Alarm}
+use Rattle.cue_view.specs.declared.view.Alarm.TheVariants as alarm
+use Rattle.cue_view.specs.declared.view.Contacted.{Contacted}
 use Rattle.cue_station.specs.Turns.{Turn}
 use Rattle.cue_station.specs.Offering.{is_offered, kept_of}
 use Rattle.cue_station.specs.Reading.{reading_of, answered_of, question_of, ended_number, ended_outcome}

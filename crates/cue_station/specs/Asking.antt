@@ -10,8 +10,8 @@ use Rattle.cue_exchange.specs.Live.{attempt_of, attempt_of_cue}
 use Rattle.cue_core.specs.Events.{is_start_of, is_go_of, is_cancel_of}
 use Rattle.cue_desk.specs.declared.replying.Replied.{Replied}
 use Rattle.cue_desk.specs.declared.replying.Replied.TheVariants as replied
-use Rattle.cue_station.specs.declared.heard.Button.{Button}
-use Rattle.cue_station.specs.declared.heard.Button.TheVariants as button
+use Rattle.cue_view.specs.declared.button.Button.{Button}
+use Rattle.cue_view.specs.declared.button.Button.TheVariants as button
 use Rattle.cue_station.specs.declared.heard.Copied.{Copied}
 use Rattle.cue_station.specs.declared.heard.Heard.{Heard}
 use Rattle.cue_station.specs.declared.heard.Heard.TheVariants as heard
@@ -20,9 +20,9 @@ use Rattle.cue_station.specs.declared.memory.Answered.{Answered}
 use Rattle.cue_station.specs.declared.memory.Pending.{Pending}
 use Rattle.cue_station.specs.declared.memory.Reading.{Reading}
 use Rattle.cue_station.specs.declared.memory.Word.{Word}
-use Rattle.cue_station.specs.declared.view.Became.{Became}
-use Rattle.cue_station.specs.declared.view.Became.TheVariants as became
-use Rattle.cue_station.specs.declared.view.Said.{Said}
+use Rattle.cue_view.specs.declared.view.Became.{Became}
+use Rattle.cue_view.specs.declared.view.Became.TheVariants as became
+use Rattle.cue_view.specs.declared.view.Said.{Said}
 use Rattle.cue_station.specs.Turns.{Turn}
 use Rattle.cue_station.specs.Reading.{reading_of, answered_of, is_status}
 

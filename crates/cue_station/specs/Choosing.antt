@@ -8,7 +8,7 @@ use Rattle.cue_desk.specs.declared.replying.Replied.{Replied}
 use Rattle.cue_desk.specs.declared.replying.Replied.TheVariants as replied
 use Rattle.cue_operator.specs.declared.method.CueVerb.{CueVerb}
 use Rattle.cue_operator.specs.declared.method.CueVerb.TheVariants as verb
-use Rattle.cue_station.specs.declared.heard.Button.TheVariants as button
+use Rattle.cue_view.specs.declared.button.Button.TheVariants as button
 use Rattle.cue_station.specs.declared.heard.Heard.{Heard}
 use Rattle.cue_station.specs.declared.heard.Heard.TheVariants as heard
 use Rattle.cue_station.specs.declared.heard.Send.{Send}

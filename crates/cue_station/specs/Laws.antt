@@ -1,8 +1,8 @@
 -- The law of the desk: what holds of each turn, whatever came before it.
 use Rattle.std.specs.Prelude.{◌≡◌, ℕ, Bool, true, false, List, [], ◌∷◌, Option, Some, IsSome, IsTrue, ◌⊎◌, length}
 use Rattle.cue_desk.specs.declared.orders.Order.TheVariants as order
-use Rattle.cue_station.specs.declared.heard.Button.{Button}
-use Rattle.cue_station.specs.declared.heard.Button.TheVariants as button
+use Rattle.cue_view.specs.declared.button.Button.{Button}
+use Rattle.cue_view.specs.declared.button.Button.TheVariants as button
 use Rattle.cue_station.specs.declared.heard.Heard.TheVariants.{Pressed}
 use Rattle.cue_station.specs.declared.heard.Send.{Send}
 use Rattle.cue_station.specs.Turns.{Turn}

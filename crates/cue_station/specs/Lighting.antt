@@ -7,12 +7,12 @@ use Rattle.cue_exchange.specs.Answers.{answer_passes, is_preparing, is_waiting}
 use Rattle.cue_exchange.specs.Live.{attempt_of, attempt_of_cue}
 use Rattle.cue_exchange.specs.Steps.{can_go_now}
 use Rattle.cue_exchange.specs.declared.attempt.Attempt.{Attempt}
-use Rattle.cue_station.specs.declared.heard.Button.{Button}
-use Rattle.cue_station.specs.declared.heard.Button.TheVariants as button
+use Rattle.cue_view.specs.declared.button.Button.{Button}
+use Rattle.cue_view.specs.declared.button.Button.TheVariants as button
 use Rattle.cue_station.specs.declared.heard.Copied.{Copied}
 use Rattle.cue_station.specs.declared.lighting.Footing.{Footing}
-use Rattle.cue_station.specs.declared.view.Next.{Next}
-use Rattle.cue_station.specs.declared.view.Next.TheVariants as next
+use Rattle.cue_view.specs.declared.view.Next.{Next}
+use Rattle.cue_view.specs.declared.view.Next.TheVariants as next
 use Rattle.cue_station.specs.declared.memory.Reading.{Reading}
 use Rattle.cue_station.specs.Turns.{Turn}
 use Rattle.cue_station.specs.Alarms.{stands_by}

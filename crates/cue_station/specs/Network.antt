@@ -7,9 +7,9 @@ use Rattle.cue_station.specs.declared.heard.Heard.{Heard}
 use Rattle.cue_station.specs.declared.heard.Heard.TheVariants as heard
 use Rattle.cue_station.specs.declared.limits.TheConstants.{RELAY_MS}
 use Rattle.cue_station.specs.declared.memory.Relayed.{Relayed}
-use Rattle.cue_station.specs.declared.view.Contacted.{Contacted}
-use Rattle.cue_station.specs.declared.view.LastHeard.{LastHeard}
-use Rattle.cue_station.specs.declared.view.LastHeard.TheVariants as last
+use Rattle.cue_view.specs.declared.view.Contacted.{Contacted}
+use Rattle.cue_view.specs.declared.view.LastHeard.{LastHeard}
+use Rattle.cue_view.specs.declared.view.LastHeard.TheVariants as last
 use Rattle.cue_station.specs.Turns.{Turn}
 
 -- ---- what is known of it

@@ -4,7 +4,7 @@ use Rattle.std.specs.Prelude.{Option, None, Some, is_none}
 use Rattle.std.specs.Option.{option_map}
 use Rattle.cue_desk.specs.declared.orders.Order.{Order}
 use Rattle.cue_desk.specs.declared.orders.Order.TheVariants as order
-use Rattle.cue_station.specs.declared.heard.Button.{Button}
+use Rattle.cue_view.specs.declared.button.Button.{Button}
 use Rattle.cue_station.specs.declared.heard.Heard.{Heard}
 use Rattle.cue_station.specs.declared.heard.Heard.TheVariants as heard
 use Rattle.cue_station.specs.declared.heard.Send.{Send}

@@ -2,8 +2,8 @@
 use Rattle.std.specs.Prelude.{ℕ, Bool, true, false, ◌&&◌, List, [], ◌∷◌, take, map, nat_eq, nat_le, ◌+◌}
 use Rattle.std.specs.List.{list_any}
 use Rattle.cue_show.specs.Number.{same_text}
-use Rattle.cue_station.specs.declared.heard.Button.{Button}
-use Rattle.cue_station.specs.declared.heard.Button.TheVariants as button
+use Rattle.cue_view.specs.declared.button.Button.{Button}
+use Rattle.cue_view.specs.declared.button.Button.TheVariants as button
 use Rattle.cue_station.specs.declared.limits.TheConstants.{PRESS_MS, KEPT_VIEWS}
 use Rattle.cue_station.specs.declared.memory.Shown.{Shown}
 use Rattle.cue_station.specs.Turns.{Turn}

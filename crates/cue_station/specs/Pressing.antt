@@ -3,8 +3,8 @@ use Rattle.std.specs.Prelude.{◌≡◌, ℕ, Bool, ◌&&◌, List, Option, None
 use Rattle.cue_desk.specs.declared.orders.Order.{Order}
 use Rattle.cue_desk.specs.declared.orders.Order.TheVariants as order
 use Rattle.cue_operator.specs.declared.method.CueVerb.TheVariants as verb
-use Rattle.cue_station.specs.declared.heard.Button.{Button}
-use Rattle.cue_station.specs.declared.heard.Button.TheVariants as button
+use Rattle.cue_view.specs.declared.button.Button.{Button}
+use Rattle.cue_view.specs.declared.button.Button.TheVariants as button
 use Rattle.cue_station.specs.declared.heard.Heard.TheVariants.{Pressed}
 use Rattle.cue_station.specs.declared.heard.Send.{Send}
 use Rattle.cue_station.specs.Turns.{Turn}

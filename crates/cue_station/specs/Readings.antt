@@ -1,8 +1,8 @@
 -- What the law comes to, in single facts.
 use Rattle.std.specs.Prelude.{◌≡◌, ℕ, true, false, List, ◌∷◌, None, IsTrue}
-use Rattle.cue_station.specs.declared.heard.Button.TheVariants as button
+use Rattle.cue_view.specs.declared.button.Button.TheVariants as button
 use Rattle.cue_station.specs.declared.heard.Copied.{Copied}
-use Rattle.cue_station.specs.declared.view.Next.TheVariants as next
+use Rattle.cue_view.specs.declared.view.Next.TheVariants as next
 use Rattle.cue_station.specs.Turns.{Turn}
 use Rattle.cue_station.specs.Following.{next_in, has_given, tells_all}
 use Rattle.cue_station.specs.Lighting.{may}

@@ -13,8 +13,8 @@ use Rattle.cue_desk.specs.Board.{before_place}
 use Rattle.cue_station.specs.declared.limits.TheConstants.{CUES_BEFORE, SHOWN_CUES}
 use Rattle.cue_station.specs.declared.memory.Reading.{Reading}
 use Rattle.cue_station.specs.declared.memory.Seen.{Seen}
-use Rattle.cue_station.specs.declared.view.LiveAttempt.{LiveAttempt}
-use Rattle.cue_station.specs.declared.view.Stack.{Stack}
+use Rattle.cue_view.specs.declared.view.LiveAttempt.{LiveAttempt}
+use Rattle.cue_view.specs.declared.view.Stack.{Stack}
 use Rattle.cue_station.specs.Turns.{Turn}
 use Rattle.cue_station.specs.Reading.{reading_of}
 

@@ -1,6 +1,6 @@
 -- What a step makes, part by part.
 use Rattle.std.specs.Prelude.{◌≡◌, ◌&&◌, ℕ, Bool, false, List, ◌∷◌, Option, None, Some, is_none, take}
-use Rattle.cue_station.specs.declared.heard.Button.{Button}
+use Rattle.cue_view.specs.declared.button.Button.{Button}
 use Rattle.cue_station.specs.declared.heard.Heard.{Heard}
 use Rattle.cue_station.specs.declared.heard.Heard.TheVariants as heard
 use Rattle.cue_station.specs.declared.heard.Input.{Input}
@@ -13,8 +13,8 @@ use Rattle.cue_station.specs.declared.station.Made.{Made}
 use Rattle.cue_station.specs.declared.station.Noted.{Noted}
 use Rattle.cue_station.specs.declared.station.Station.{Station}
 use Rattle.cue_station.specs.declared.station.Step.{Step}
-use Rattle.cue_station.specs.declared.view.Unsent.{Unsent}
-use Rattle.cue_station.specs.declared.view.View.{View}
+use Rattle.cue_view.specs.declared.view.Unsent.{Unsent}
+use Rattle.cue_view.specs.declared.view.View.{View}
 use Rattle.cue_station.specs.Lighting.{may_by}
 use Rattle.cue_station.specs.Network.{relayed_with}
 use Rattle.cue_station.specs.Noting.{footing_by, notes_heard, notes_sent, order_by, send_by}

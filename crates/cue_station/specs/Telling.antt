@@ -13,7 +13,7 @@ use Rattle.cue_core.specs.declared.event.Event.{Event}
 use Rattle.cue_core.specs.declared.event.Event.TheVariants as event
 use Rattle.cue_station.specs.declared.heard.Copied.{Copied}
 use Rattle.cue_station.specs.declared.limits.TheConstants.{MAX_TOLD}
-use Rattle.cue_station.specs.declared.view.Told.{Told}
+use Rattle.cue_view.specs.declared.view.Told.{Told}
 
 -- ---- one attempt
 

@@ -2,16 +2,16 @@
 use Rattle.std.specs.Prelude.{◌≡◌, ◌++◌, ℕ, List, [], Option, None, Some, filter}
 use Rattle.std.specs.Option.{option_map}
 use Rattle.cue_station.specs.declared.alarms.Facts.{Facts}
-use Rattle.cue_station.specs.declared.heard.Button.{Button}
+use Rattle.cue_view.specs.declared.button.Button.{Button}
 use Rattle.cue_station.specs.declared.heard.Copied.{Copied}
 use Rattle.cue_station.specs.declared.lighting.Footing.{Footing}
 use Rattle.cue_station.specs.declared.memory.Notes.{Notes}
 use Rattle.cue_station.specs.declared.memory.Reading.{Reading}
 use Rattle.cue_station.specs.declared.memory.Relayed.{Relayed}
 use Rattle.cue_station.specs.declared.memory.Seen.{Seen}
-use Rattle.cue_station.specs.declared.view.Alarm.{Alarm}
-use Rattle.cue_station.specs.declared.view.Next.TheVariants as next
-use Rattle.cue_station.specs.declared.view.View.{View}
+use Rattle.cue_view.specs.declared.view.Alarm.{Alarm}
+use Rattle.cue_view.specs.declared.view.Next.TheVariants as next
+use Rattle.cue_view.specs.declared.view.View.{View}
 use Rattle.cue_station.specs.declared.viewing.Drawn.{Drawn}
 use Rattle.cue_station.specs.Alarms.{alarms_by, asked_at, failures_by, put_back_in, read_at}
 use Rattle.cue_station.specs.Asking.{said_by}

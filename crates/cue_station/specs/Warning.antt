@@ -3,9 +3,9 @@ use Rattle.std.specs.Prelude.{◌≡◌, ◌≤◌, ℕ, Bool, true, false, not,
 use Rattle.std.specs.List.{list_any}
 use Rattle.cue_station.specs.declared.alarms.Facts.{Facts}
 use Rattle.cue_station.specs.declared.limits.TheConstants.{COPY_MS, STATUS_MS}
-use Rattle.cue_station.specs.declared.view.Alarm.{Alarm}
-use Rattle.cue_station.specs.declared.view.Alarm.TheVariants as alarm
-use Rattle.cue_station.specs.declared.view.Contacted.{Contacted}
+use Rattle.cue_view.specs.declared.view.Alarm.{Alarm}
+use Rattle.cue_view.specs.declared.view.Alarm.TheVariants as alarm
+use Rattle.cue_view.specs.declared.view.Contacted.{Contacted}
 use Rattle.cue_station.specs.Alarms.{alarms_by, is_within}
 
 -- nobody answers at the port

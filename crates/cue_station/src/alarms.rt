@@ -4,18 +4,18 @@ ghost use Rattle.std.specs.List.{list_any};
 ghost use Rattle.std.specs.Option.{option_to_list};
 ghost use Rattle.cue_station.specs.Alarms as alarms;
 ghost use Rattle.cue_station.specs.Showing.{since_in};
-ghost use Rattle.cue_station.specs.declared.view.Alarm.TheVariants as alarm;
+ghost use Rattle.cue_view.specs.declared.view.Alarm.TheVariants as alarm;
 
-use crate::heard::{Copied, Trouble};
+use crate::heard::Copied;
 use crate::limits::{COPY_MS, OTHER_MS, STATUS_MS};
 use crate::memory::Seen;
 use crate::network::is_stopped;
 use crate::showing::since_in;
 use crate::telling::one_or_none;
-use crate::view::{Alarm, Contacted};
 use cue_core::limits::STANDBY_MS;
 use cue_exchange::Attempt;
 use cue_show::DeviceNo;
+use cue_view::view::{Alarm, Contacted, Trouble};
 use std::alloc::{AllocError, Global};
 
 /// What is known when the alarms are made. Each moment is one of the clock that never goes back.

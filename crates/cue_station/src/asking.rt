@@ -8,12 +8,13 @@ ghost use Rattle.cue_exchange.specs.Live.{attempt_of, attempt_of_cue};
 ghost use Rattle.cue_exchange.specs.Steps.{holds};
 ghost use Rattle.cue_station.specs.Asking as asking;
 
-use crate::heard::{Button, Copied, Heard};
+use crate::heard::{Copied, Heard};
 use crate::memory::{Answered, Pending, Reading, Word};
-use crate::view::{Became, Said};
 use cue_core::{Event, State};
 use cue_desk::replying::Replied;
 use cue_show::CueNo;
+use cue_view::button::Button;
+use cue_view::view::{Became, Said};
 
 // What a reply of these numbers says of one command.
 fn word_by(made: i32, known: i32, refused: i32, code: i32) -> Option<Became>

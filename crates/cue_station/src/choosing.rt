@@ -5,7 +5,7 @@ ghost use Rattle.cue_station.specs.Choosing as choosing;
 ghost use Rattle.std.specs.Option.{option_copied};
 ghost use Rattle.cue_station.specs.declared.memory.Choice.TheVariants as choice;
 
-use crate::heard::{Button, Heard, Send};
+use crate::heard::{Heard, Send};
 use crate::memory::{Choice, Reading, Shown};
 use crate::offering::is_offered;
 use crate::remembering::later;
@@ -14,6 +14,7 @@ use cue_desk::replying::Replied;
 use cue_exchange::Attempt;
 use cue_operator::CueVerb;
 use cue_show::CueNo;
+use cue_view::button::Button;
 
 // Whether the reply refuses something.
 fn is_refusal(replied: Replied) -> bool

@@ -7,10 +7,10 @@ ghost use Rattle.cue_station.specs.Following.{first_or_none, has_given, is_go, n
 ghost use Rattle.cue_show.specs.Show.{first_cue};
 
 use crate::heard::Copied;
-use crate::view::Next;
 use cue_core::{Event, State};
 use cue_exchange::Outcome;
 use cue_show::Show;
+use cue_view::view::Next;
 
 // Whether an attempt starts.
 fn is_start(event: &Event) -> bool

@@ -5,25 +5,6 @@ use cue_desk::replying::Replied;
 use cue_relay::status::Status;
 use cue_show::{CueNo, DeviceNo};
 
-/// A button of a view: what it is for stands in it.
-#[derive(Clone, Copy, PartialEq, Eq, Debug)]
-pub enum Button {
-    /// Stand the cue by, and choose the attempt that comes of it.
-    Standby(CueNo),
-    /// Give the cue, in this attempt.
-    Go(CueNo, u32),
-    /// Give the preparation up.
-    Cancel(CueNo, u32),
-    /// Wait no longer for the device, in this attempt.
-    Release(u32, DeviceNo),
-    /// Move to the cue.
-    MoveTo(CueNo),
-    /// GO and CANCEL are for this attempt. Nothing is sent.
-    Choose(u32),
-    /// The end of this attempt was seen. Nothing is sent.
-    Seen(u32),
-}
-
 /// A copy of the store: what both files stood for at one moment, not before `begun`, and the events of the records that
 /// follow the snapshot, the oldest first.
 #[derive(Drop)]
@@ -31,15 +12,6 @@ pub struct Copied {
     pub begun: u64,
     pub state: State,
     pub events: Vec<Event>,
-}
-
-/// Why the store could not be read.
-#[derive(Clone, Copy, PartialEq, Eq, Debug)]
-pub enum Trouble {
-    Missing,
-    Refused,
-    Changing,
-    Memory,
 }
 
 /// What the desk hears.

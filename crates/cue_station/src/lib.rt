@@ -24,6 +24,5 @@ pub mod remembering;
 pub mod showing;
 pub mod station;
 pub mod telling;
-pub mod view;
 pub mod viewing;
 pub mod warning;

@@ -8,18 +8,19 @@ ghost use Rattle.cue_station.specs.Following.{next_in};
 ghost use Rattle.cue_station.specs.Alarms as alarms;
 ghost use Rattle.cue_station.specs.Lighting as lighting;
 ghost use Rattle.cue_station.specs.Showing.{since_in};
-ghost use Rattle.cue_station.specs.declared.heard.Button.{Button};
+ghost use Rattle.cue_view.specs.declared.button.Button.{Button};
 
 use crate::alarms::{is_alive, is_young};
 use crate::following::next_in;
-use crate::heard::{Button, Copied};
+use crate::heard::Copied;
 use crate::memory::{Answered, Reading, Seen};
 use crate::remembering::agrees;
 use crate::showing::{is_in_time, since_in};
-use crate::view::{Alarm, Next};
 use cue_core::State;
 use cue_exchange::Attempt;
 use cue_show::{CueNo, DeviceNo};
+use cue_view::button::Button;
+use cue_view::view::{Alarm, Next};
 use std::alloc::{AllocError, Global};
 
 /// What a lit button rests on, beside the copy and the attempts that are seen.

@@ -1,11 +1,12 @@
 //! What the desk keeps.
 ghost use Rattle.std.specs.Prelude.{◌≡◌};
 
-use crate::heard::{Button, Copied, Trouble};
-use crate::view::Became;
+use crate::heard::Copied;
 use cue_desk::replying::Status;
 use cue_relay::status as relay;
 use cue_show::CueNo;
+use cue_view::button::Button;
+use cue_view::view::{Became, Trouble};
 use std::marker::Model;
 
 /// A copy of the store, and the moment for which it stands.
@@ -57,7 +58,7 @@ pub struct Buttons {
 
 impl Model for Buttons {
     ghost use Rattle.std.specs.Prelude.{List};
-    ghost use Rattle.cue_station.specs.declared.heard.Button.{Button};
+    ghost use Rattle.cue_view.specs.declared.button.Button.{Button};
 
     ghost Value = { List Button };
 

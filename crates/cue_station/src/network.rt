@@ -4,8 +4,8 @@ ghost use Rattle.std.specs.Option.{option_copied};
 ghost use Rattle.cue_station.specs.Network as network;
 
 use crate::limits::RELAY_MS;
-use crate::view::{Contacted, LastHeard};
 use cue_relay::status::{Seen, Status};
+use cue_view::view::{Contacted, LastHeard};
 use std::alloc::{AllocError, Global};
 
 /// Whether a relay that has written nothing new since that moment has stopped.

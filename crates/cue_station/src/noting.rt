@@ -13,13 +13,14 @@ use crate::asking::followed_on;
 use crate::choosing::{
     acknowledged_by, awaited, chosen_by_press, chosen_by_sending, chosen_number,
 };
-use crate::heard::{Button, Heard, Send};
+use crate::heard::{Heard, Send};
 use crate::hearing::{answered_with, question_with};
 use crate::lighting::{Footing, differs_by, stands_by};
 use crate::memory::{Answered, Choice, Notes, Pending, Question, Reading, Shown};
 use crate::opening::{are_none, if_open, is_none_final, is_one_ask};
 use crate::remembering::{differs_with, failed_with, nobody_with, trouble_with};
 use cue_desk::orders::Order;
+use cue_view::button::Button;
 use std::alloc::AllocError;
 
 // The number of the newest question for the status.

@@ -3,9 +3,9 @@ ghost use Rattle.std.specs.Prelude.{◌≡◌};
 ghost use Rattle.std.specs.List.{list_any};
 ghost use Rattle.cue_station.specs.Offering as offering;
 
-use crate::heard::Button;
 use crate::limits::PRESS_MS;
 use crate::memory::Shown;
+use cue_view::button::Button;
 
 // Whether the two buttons are the same, for the same cue, attempt and device.
 fn is_same(one: Button, other: Button) -> bool

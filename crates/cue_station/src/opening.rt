@@ -4,8 +4,8 @@ ghost use Rattle.cue_station.specs.Asking as asking;
 ghost use Rattle.cue_station.specs.Memory as memory;
 ghost use Rattle.cue_station.specs.Opening as opening;
 
-use crate::heard::Button;
 use crate::memory::{Pending, Reading, Word};
+use cue_view::button::Button;
 
 // Whether a copy was begun after the answer came.
 fn is_read_after(answer: Option<Word>, reading: &Option<Reading>) -> bool

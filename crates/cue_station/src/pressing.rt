@@ -5,13 +5,13 @@ ghost use Rattle.cue_station.specs.Offering.{is_offered};
 ghost use Rattle.cue_station.specs.Pressing as pressing;
 ghost use Rattle.cue_station.specs.Showing.{since_in};
 
-use crate::heard::Button;
 use crate::lighting::{Footing, may_by};
 use crate::memory::{Reading, Seen, Shown};
 use crate::offering::{is_offered, is_one_recent};
-use crate::view::Unsent;
 use cue_desk::orders::Order;
 use cue_operator::CueVerb;
+use cue_view::button::Button;
+use cue_view::view::Unsent;
 
 /// The message of a button; none where nothing is sent.
 pub(crate) fn order_of(button: Button) -> Option<Order>

@@ -7,12 +7,13 @@ ghost use Rattle.cue_station.specs.Alarms as alarms;
 ghost use Rattle.cue_station.specs.Network as network;
 ghost use Rattle.cue_station.specs.Reading.{ended_number, ended_outcome};
 
-use crate::heard::{Heard, Trouble};
+use crate::heard::Heard;
 use crate::memory::Relayed;
 use cue_core::{Ended, State};
 use cue_desk::replying::{Replied, Status};
 use cue_relay::status as relay;
 use cue_show::CueNo;
+use cue_view::view::Trouble;
 
 /// Why the store could not be read when it was looked at last, once this was heard.
 pub fn trouble_with(heard: &Heard, old: Option<Trouble>) -> Option<Trouble>

@@ -8,10 +8,10 @@ ghost use Rattle.cue_station.specs.declared.limits.TheConstants.{SHOWN_CUES};
 use crate::heard::Copied;
 use crate::limits::{CUES_BEFORE, SHOWN_CUES};
 use crate::memory::Seen;
-use crate::view::{LiveAttempt, Stack};
 use cue_core::limits::STANDBY_MS;
 use cue_exchange::Attempt;
 use cue_show::{CueNo, Show};
+use cue_view::view::{LiveAttempt, Stack};
 use std::alloc::{AllocError, Global};
 
 // Since when the attempt is seen.

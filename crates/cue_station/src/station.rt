@@ -13,9 +13,9 @@ use crate::noting::{footing_by, notes_heard, notes_sent};
 use crate::pacing::{is_due, pace_heard, pace_sent};
 use crate::pressing::{order_of, refusal_of};
 use crate::telling::failures_of;
-use crate::view::{Unsent, View};
 use crate::viewing::view_of;
 use cue_desk::orders::Order;
+use cue_view::view::{Unsent, View};
 use std::alloc::{AllocError, Global};
 
 /// The desk. All that it keeps is bounded: one copy, one status, eight attempts, three asks, and the newest views.

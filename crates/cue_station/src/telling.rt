@@ -9,10 +9,10 @@ ghost use Rattle.cue_station.specs.declared.limits.TheConstants.{MAX_TOLD};
 
 use crate::heard::Copied;
 use crate::limits::MAX_TOLD;
-use crate::view::{Devices, Told};
 use cue_core::{Ended, Event, State};
 use cue_exchange::{Outcome, Reason};
 use cue_show::{CueNo, DeviceNo};
+use cue_view::view::{Devices, Told};
 use std::alloc::{AllocError, Global};
 
 // The number that the event starts.

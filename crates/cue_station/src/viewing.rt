@@ -9,14 +9,15 @@ ghost use Rattle.cue_station.specs.Viewing as viewing;
 use crate::alarms::{Facts, alarms_of, put_back_in};
 use crate::asking::said_by;
 use crate::following::next_in;
-use crate::heard::{Button, Copied};
+use crate::heard::Copied;
 use crate::lighting::{Footing, asked_at, lit_of, read_at};
 use crate::memory::{Notes, Reading, Relayed, Seen};
 use crate::network::network_in;
 use crate::showing::{live_of, stack_of};
 use crate::telling::{last_of, past_of};
-use crate::view::{Alarm, Contacted, LiveAttempt, Next, Stack, Told, View};
 use cue_show::CueNo;
+use cue_view::button::Button;
+use cue_view::view::{Alarm, Contacted, LiveAttempt, Next, Stack, Told, View};
 use std::alloc::{AllocError, Global};
 
 // What is shown of a copy.

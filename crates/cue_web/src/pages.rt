@@ -8,7 +8,7 @@ use cue_request::answering::{Kind, NOTHING, Outcome, answer, refusal_words};
 use cue_request::replying::trouble_text;
 use cue_request::request::{Door, Refusal};
 use cue_show_file::{of_show, written};
-use cue_station::heard::Button;
+use cue_view::button::Button;
 use std::alloc::{AllocError, Global};
 use std::fs::{File, Files};
 use std::net::Net;

@@ -3,7 +3,7 @@ ghost use Rattle.std.specs.Prelude.{◌≤◌, length, IfOk, IfSome};
 
 use cue_request::pressing::read_press;
 use cue_request::request::{Door, MAX_BODY, MAX_HEAD, Refusal, Wish, read_request};
-use cue_station::heard::Button;
+use cue_view::button::Button;
 use mio::net::TcpStream;
 use std::alloc::Global;
 use std::io::{self, ErrorKind, Read, Write};

@@ -5,7 +5,7 @@ ghost use Rattle.serde_json.specs.View.{items_of, view};
 ghost use Rattle.cue_page.specs.Alarms as alarms;
 
 use cue_board::alarm_words;
-use cue_station::view::Alarm;
+use cue_view::view::Alarm;
 use serde_json::{Value, json};
 use std::alloc::{AllocError, Global};
 

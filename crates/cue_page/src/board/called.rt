@@ -2,7 +2,7 @@
 use cue_board::Names;
 use cue_show::{CueNo, DeviceNo};
 use cue_show_file::cue_text;
-use cue_station::view::{Alarm, Next, Told, View};
+use cue_view::view::{Alarm, Next, Told, View};
 use serde_json::{Value, json};
 use std::alloc::{AllocError, Global};
 

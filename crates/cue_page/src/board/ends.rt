@@ -7,7 +7,7 @@ ghost use Rattle.cue_page.specs.Ends as ends;
 use cue_exchange::Reason;
 use cue_show::{CueNo, DeviceNo};
 use cue_show_file::cue_text;
-use cue_station::view::Told;
+use cue_view::view::Told;
 use cue_words::{outcome_words, reason_words};
 use serde_json::{Value, json};
 use std::alloc::{AllocError, Global};

@@ -6,7 +6,7 @@ ghost use Rattle.cue_page.specs.Lit as lit;
 
 use cue_request::pressing::press_text;
 use cue_show_file::cue_text;
-use cue_station::heard::Button;
+use cue_view::button::Button;
 use serde_json::{Value, json};
 use std::alloc::{AllocError, Global};
 

@@ -7,7 +7,7 @@ ghost use Rattle.cue_page.specs.Live as spec;
 use cue_board::{Progress, progress_of, progress_word};
 use cue_exchange::DeviceAnswer;
 use cue_show_file::cue_text;
-use cue_station::view::LiveAttempt;
+use cue_view::view::LiveAttempt;
 use cue_words::{answer_words, reason_words};
 use serde_json::{Value, json};
 use std::alloc::{AllocError, Global};

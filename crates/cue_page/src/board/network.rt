@@ -5,7 +5,7 @@ ghost use Rattle.serde_json.specs.View.{items_of, view};
 ghost use Rattle.cue_page.specs.Network as network;
 
 use cue_board::contact_words;
-use cue_station::view::Contacted;
+use cue_view::view::Contacted;
 use serde_json::{Value, json};
 use std::alloc::{AllocError, Global};
 

@@ -5,7 +5,7 @@ ghost use Rattle.cue_page.specs.Said as said;
 
 use cue_board::{became_words, unsent_words};
 use cue_request::pressing::press_text;
-use cue_station::view::{Became, Said, Unsent};
+use cue_view::view::{Became, Said, Unsent};
 use serde_json::{Value, json};
 use std::alloc::{AllocError, Global};
 

@@ -6,7 +6,7 @@ ghost use Rattle.cue_page.specs.Stack as stack;
 
 use cue_show::CueNo;
 use cue_show_file::cue_text;
-use cue_station::view::{Next, Stack};
+use cue_view::view::{Next, Stack};
 use serde_json::{Value, json};
 use std::alloc::{AllocError, Global};
 

@@ -1,5 +1,5 @@
 use Rattle.std.proofs.Common.{◌≡◌, ◌++◌, map, take}
-use Rattle.cue_station.specs.declared.view.Alarm.TheVariants as alarm
+use Rattle.cue_view.specs.declared.view.Alarm.TheVariants as alarm
 use Rattle.cue_station.proofs.alarms.push_silent.Given as goal
 
 -- the alarms so far were put there

@@ -1,5 +1,5 @@
 use Rattle.std.proofs.Common.{◌≡◌, ◌∷◌, [], None, true, subst}
-use Rattle.cue_station.specs.declared.heard.Button.TheVariants as button
+use Rattle.cue_view.specs.declared.button.Button.TheVariants as button
 use Rattle.cue_station.specs.Lighting.{footing_of, may_by}
 use Rattle.cue_station.specs.Reading.{read_with, seen_since}
 use Rattle.cue_station.proofs.laws.lit_unheard_is_refused.Goals as goal

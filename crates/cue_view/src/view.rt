@@ -1,7 +1,7 @@
 //! What page and board draw, and nothing else. Each moment is one of the clock that never goes back, as `View::at` is.
 ghost use Rattle.std.specs.Prelude.{◌≡◌};
 
-use crate::heard::{Button, Trouble};
+use crate::button::Button;
 use cue_exchange::{Answers, Outcome, Reason, Stage};
 use cue_relay::status::Ordered;
 use cue_show::{CueNo, DeviceNo};
@@ -110,6 +110,15 @@ pub enum Unsent {
     Dark,
     /// It is no longer lit.
     Changed,
+}
+
+/// Why the store could not be read.
+#[derive(Clone, Copy, PartialEq, Eq, Debug)]
+pub enum Trouble {
+    Missing,
+    Refused,
+    Changing,
+    Memory,
 }
 
 /// What is wrong, the loudest first.

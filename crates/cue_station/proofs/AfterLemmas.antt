@@ -1,6 +1,6 @@
 -- What is kept after a turn says what the evening says with that turn.
-use Rattle.std.proofs.Common.{◌≡◌, refl, sym, ap, ap₂, ◌∙◌, subst, subst₂, ℕ, suc, ◌+◌, Bool, true, false, not, ◌&&◌, ◌||◌, List, [], ◌∷◌, ◌++◌, map, take, length, add-one}
-use Rattle.std.proofs.Common.{Option, None, Some, is_some, is_none, filter, nat_eq, IsTrue, IsSome, option_map, ◌⊎◌, inl, inr, ⊎_elim, cond, zero}
+use Rattle.std.proofs.Common.{◌≡◌, refl, sym, ap, ap₂, ◌∙◌, subst, ℕ, suc, ◌+◌, Bool, true, not, ◌&&◌, ◌||◌, List, [], ◌∷◌, map, take, length, add-one}
+use Rattle.std.proofs.Common.{Option, None, Some, is_some, is_none, filter, nat_eq, IsTrue, IsSome, option_map, inl, inr, ⊎_elim, cond, zero}
 use Rattle.std.specs.List.{list_any, list_all}
 use Rattle.cue_show.proofs.TestLemmas.{both}
 use Rattle.cue_view.specs.declared.button.Button.{Button}
@@ -24,24 +24,23 @@ use Rattle.cue_station.specs.declared.memory.Shown.{Shown}
 use Rattle.cue_station.specs.declared.station.Made.{Made}
 use Rattle.cue_station.specs.declared.station.Station.{Station}
 use Rattle.cue_station.specs.Turns.{Turn}
-use Rattle.cue_station.specs.Alarms.{acknowledged_by, acknowledged_of, differs_by, differs_since, failed_of, failures_by, lasting, newest, nobody_by}
-use Rattle.cue_station.specs.Alarms.{nobody_of, stands_by, trouble_of, trouble_with}
-use Rattle.cue_station.specs.Asking.{followed, is_final, is_open, is_open_ask, is_press_sent, is_calm, is_quiet, newest_of, presses_of, sent_press}
-use Rattle.cue_station.specs.Choosing.{chosen_by_press, chosen_by_sending, chosen_number, chosen_of, found_in, grown, is_refused, waits_in}
+use Rattle.cue_station.specs.Alarms.{acknowledged_by, differs_by, failures_by, lasting, newest, nobody_by}
+use Rattle.cue_station.specs.Alarms.{stands_by, trouble_with}
+use Rattle.cue_station.specs.Asking.{followed, is_final, is_open, is_open_ask, is_press_sent, is_quiet, newest_of, presses_of, sent_press}
+use Rattle.cue_station.specs.Choosing.{chosen_by_press, chosen_by_sending, chosen_number, chosen_of, found_in, grown, is_refused}
 use Rattle.cue_station.specs.Lighting.{footing_of, is_live_as, is_ready, is_number, may, may_by}
-use Rattle.cue_station.specs.Memory.{IsAfter, IsKept, if_open, is_beside, only, open_in, turn_of}
-use Rattle.cue_station.specs.Network.{relayed_of, relayed_with}
-use Rattle.cue_station.specs.Noting.{beside_after, footing_by, notes_heard, order_by, press_after, send_by, waits_by}
+use Rattle.cue_station.specs.Memory.{IsAfter, IsKept, if_open, is_beside, open_in, turn_of}
+use Rattle.cue_station.specs.Network.{relayed_with}
+use Rattle.cue_station.specs.Noting.{beside_after, footing_by, order_by, press_after, send_by, waits_by}
 use Rattle.cue_station.specs.Offering.{is_offered, kept_in, kept_of}
 use Rattle.cue_station.specs.Opening.{has_ask, is_some_final}
-use Rattle.cue_station.specs.Pressing.{ask_after, asks_of, is_heeded, order_of}
+use Rattle.cue_station.specs.Pressing.{ask_after, is_heeded, order_of}
 use Rattle.cue_station.specs.Reading.{answered_of, answered_with, question_of, question_with, read_with, reading_of, seen_since}
 use Rattle.cue_station.specs.Seeing.{seen_after}
 use Rattle.cue_station.specs.Showing.{given_in, given_since, since_in}
 use Rattle.cue_station.specs.Stepping.{Makes, is_heeded_by, kept_with, noted_now, reading_now, shown_in}
-use Rattle.cue_exchange.specs.Live.{attempt_of}
 use Rattle.cue_show.specs.Number.{same_text}
-use Rattle.cue_station.proofs.OpenLemmas.{LeavesOne, beside_followed, leaves, leaves_one, newest-sent, one_open, still_closed, gone_beside, was_open}
+use Rattle.cue_station.proofs.OpenLemmas.{LeavesOne, beside_followed, leaves_one, newest-sent, one_open, still_closed, gone_beside, was_open}
 use Rattle.cue_station.proofs.PressLemmas.{all-filter, any-filter, ask-two, final-two, newest-map, none-filter, none_in, none_in-two, open_followed}
 use Rattle.cue_station.proofs.SeeingLemmas.{given-seen, since-seen}
 use Rattle.cue_station.proofs.SentLemmas.{KeepsOpen, keeps_none, keeps_pressed, may_leaves, sending}
@@ -341,5 +340,5 @@ step-after past s i m k makes =
           ∙ take_front KEPT_VIEWS (kept_in t) (map kept_in past);
       press = ep ∙ newest-sent sent f s.notes.press (presses_of past) k.press;
       opened = ap₂ (λ p b. open_in r p b) ep eb ∙ keeps.opened;
-      beside = ap₂ (λ p b. is_beside p b) ep eb ∙ keeps.beside;
+      beside = ap₂ (λ p b. is_beside p b) ep eb ∙ keeps.beside_is;
     }

@@ -1,5 +1,5 @@
 -- Two buttons are the same exactly if they are equal.
-use Rattle.std.proofs.Common.{◌≡◌, refl, ap, ap₂, ℕ, Bool, true, false, ◌&&◌, List, IsTrue, nat_eq}
+use Rattle.std.proofs.Common.{◌≡◌, ap, ap₂, ℕ, List, IsTrue, nat_eq}
 use Rattle.cue_show.proofs.TestLemmas.{both, same_number, same_self, join}
 use Rattle.cue_show.proofs.TextLemmas.{same_text-true, same_text-itself}
 use Rattle.cue_show.specs.Number.{same_text}

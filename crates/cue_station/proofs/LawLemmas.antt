@@ -1,7 +1,7 @@
 -- A step keeps the law.
-use Rattle.std.proofs.Common.{◌≡◌, refl, sym, ap, ap₂, ◌∙◌, subst, absurd, ℕ, Bool, true, false, not, ◌&&◌, cond, List, [], ◌∷◌, map, filter}
+use Rattle.std.proofs.Common.{◌≡◌, refl, sym, ap, ap₂, ◌∙◌, subst, ℕ, Bool, true, false, ◌&&◌, cond, List, [], ◌∷◌, map, filter}
 use Rattle.std.proofs.Common.{Option, None, Some, is_some, is_none, IsTrue, IsSome, option_map, ◌⊎◌, inl, inr, ⊎_elim}
-use Rattle.cue_show.proofs.TestLemmas.{both, cases, join}
+use Rattle.cue_show.proofs.TestLemmas.{join}
 use Rattle.cue_exchange.specs.Steps.{can_go_now}
 use Rattle.cue_exchange.specs.declared.attempt.Attempt.{Attempt}
 use Rattle.cue_desk.specs.declared.orders.Order.TheVariants as order
@@ -12,7 +12,6 @@ use Rattle.cue_station.specs.declared.heard.Heard.TheVariants as heard
 use Rattle.cue_station.specs.declared.heard.Input.{Input}
 use Rattle.cue_station.specs.declared.heard.Send.{Send}
 use Rattle.cue_view.specs.declared.view.Trouble.{Trouble}
-use Rattle.cue_station.specs.declared.memory.Answered.{Answered}
 use Rattle.cue_station.specs.declared.memory.Notes.{Notes}
 use Rattle.cue_station.specs.declared.memory.Reading.{Reading}
 use Rattle.cue_station.specs.declared.memory.Relayed.{Relayed}
@@ -34,14 +33,14 @@ use Rattle.cue_station.specs.Lighting.{may, may_by}
 use Rattle.cue_station.specs.Memory.{IsAfter, IsKept, turn_of}
 use Rattle.cue_station.specs.Network.{network_by, relayed_of, relayed_with}
 use Rattle.cue_station.specs.Noting.{footing_by, order_by, send_by}
-use Rattle.cue_station.specs.Pressing.{IsOfPress, asks_of, is_heeded, order_of}
+use Rattle.cue_station.specs.Pressing.{is_heeded, order_of}
 use Rattle.cue_station.specs.Reading.{answered_of, reading_of, seen_since}
-use Rattle.cue_station.specs.Showing.{given_in, given_since, is_in_time, left_of, shown_attempt, shown_live, since_in}
-use Rattle.cue_station.specs.Stepping.{Makes, Refuses, is_heeded_by, kept_with, noted_now, reading_now}
+use Rattle.cue_station.specs.Showing.{given_in, given_since, is_in_time, left_of, shown_live, since_in}
+use Rattle.cue_station.specs.Stepping.{Makes, Refuses, is_heeded_by, kept_with, reading_now}
 use Rattle.cue_station.specs.Viewing.{alarms_in, facts_by, stamped_at}
 use Rattle.cue_station.proofs.AfterLemmas.{heeded-kept, may-kept, step-after}
 use Rattle.cue_station.proofs.LitLemmas.{lights-dark, lights-lit}
-use Rattle.cue_station.proofs.SentLemmas.{IsSending, sending, sends_status}
+use Rattle.cue_station.proofs.SentLemmas.{sending, sends_status}
 
 -- ---- what is drawn of a copy, whichever way the moments are told
 

@@ -9,3 +9,5 @@ mod SentLemmas
 mod AfterLemmas
 mod LawLemmas
 mod TakenLemmas
+mod ViewLemmas
+mod EveningLemmas

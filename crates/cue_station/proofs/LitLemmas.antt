@@ -1,10 +1,9 @@
 -- Which buttons are lit: of those that there are, the ones that may be; and the great ones are among them.
-use Rattle.std.proofs.Common.{◌≡◌, refl, sym, ap, ◌∙◌, subst, absurd, ℕ, Bool, true, false, ◌&&◌, ◌||◌, cond, List, [], ◌∷◌, ◌++◌}
-use Rattle.std.proofs.Common.{Option, None, Some, is_none, filter, nat_eq, IsTrue, inl, inr, ⊎_elim, ◌⊎◌}
-use Rattle.std.specs.List.{list_any}
+use Rattle.std.proofs.Common.{◌≡◌, refl, sym, ap, ◌∙◌, subst, ℕ, Bool, true, false, ◌&&◌, ◌||◌, cond, List, [], ◌∷◌, ◌++◌}
+use Rattle.std.proofs.Common.{Option, None, Some, filter, IsTrue, ⊎_elim}
 use Rattle.std.specs.Option.{option_map_or}
-use Rattle.cue_show.proofs.TestLemmas.{both, cases, join, or_left, or_right, same_number, same_self}
-use Rattle.cue_show.proofs.TextLemmas.{same_text-itself, same_text-swapped, same_text-true}
+use Rattle.cue_show.proofs.TestLemmas.{both, cases, or_left, or_right, same_number}
+use Rattle.cue_show.proofs.TextLemmas.{same_text-swapped, same_text-true}
 use Rattle.cue_show.specs.Number.{same_text}
 use Rattle.cue_exchange.proofs.LookUpLemmas.{find-passes}
 use Rattle.cue_exchange.specs.Answers.{is_preparing}
@@ -72,7 +71,7 @@ live_found q test (Some a) h = (a, refl, h)
 
 chosen_is : (q : ℕ) (o : Option ℕ) → IsTrue (is_number q o) → o ≡ Some q
 chosen_is q None h = (cc)
-chosen_is q (Some p) h = ap Some (sym (same_number q p h))
+chosen_is q (Some p) h = ap Some (same_number p q h)
 
 -- of the attempt that is chosen GO and CANCEL are there
 choice_there : (live : List Attempt) (cue : List ℕ) (q : ℕ) (chosen : Option ℕ) (a : Attempt) → chosen ≡ Some q

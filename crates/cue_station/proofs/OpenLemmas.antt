@@ -1,8 +1,7 @@
 -- What is open stays so only as long as nothing closes it; and what is kept beside a new press.
-use Rattle.std.proofs.Common.{◌≡◌, refl, sym, ap, ◌∙◌, subst, absurd, ℕ, ◌≤◌, Bool, true, false, not, ◌&&◌, cond, max, List, [], ◌∷◌, ◌++◌, map}
-use Rattle.std.proofs.Common.{Option, None, Some, is_none, filter, nat_le, IsTrue, arith, inl, inr, ◌⊎◌, ⊎_elim, option_map, option_to_list}
+use Rattle.std.proofs.Common.{◌≡◌, refl, sym, ap, ◌∙◌, subst, ℕ, ◌≤◌, Bool, true, false, not, ◌&&◌, cond, max, List, [], ◌∷◌, ◌++◌, map}
+use Rattle.std.proofs.Common.{Option, None, Some, is_none, nat_le, IsTrue, arith, inl, inr, ◌⊎◌, ⊎_elim, option_map, option_to_list}
 use Rattle.std.proofs.lemmas.Bool.{leb-true, le-leb}
-use Rattle.std.specs.Option.{option_map_or}
 use Rattle.cue_show.proofs.TestLemmas.{both, cases, join, not_so}
 use Rattle.cue_view.specs.declared.button.Button.{Button}
 use Rattle.cue_view.specs.declared.button.Button.TheVariants as button
@@ -16,12 +15,11 @@ use Rattle.cue_station.specs.declared.memory.Reading.{Reading}
 use Rattle.cue_station.specs.declared.memory.Word.{Word}
 use Rattle.cue_view.specs.declared.view.Became.{Became}
 use Rattle.cue_station.specs.Asking.{first_of, followed, is_final, is_open, is_read_after, newest_of}
-use Rattle.cue_station.specs.Lighting.{may_by}
-use Rattle.cue_station.specs.Memory.{if_open, is_beside, only, open_in}
-use Rattle.cue_station.specs.Noting.{beside_after, press_after}
+use Rattle.cue_station.specs.Memory.{if_open, is_beside, only}
+use Rattle.cue_station.specs.Noting.{press_after}
 use Rattle.cue_station.specs.Opening.{is_some_final}
-use Rattle.cue_station.specs.Reading.{newer, read_with}
-use Rattle.cue_station.proofs.PressLemmas.{newest-map, open_followed, two}
+use Rattle.cue_station.specs.Reading.{read_with}
+use Rattle.cue_station.proofs.PressLemmas.{newest-map, two}
 
 -- ---- the copy grows younger
 

@@ -1,5 +1,5 @@
 -- Since when each attempt is seen: what is kept says what the evening says.
-use Rattle.std.proofs.Common.{◌≡◌, refl, sym, ap, ◌∙◌, ℕ, Bool, true, false, cond, List, [], ◌∷◌, map, find, unwrap_or}
+use Rattle.std.proofs.Common.{◌≡◌, refl, ap, ◌∙◌, ℕ, true, false, cond, List, [], ◌∷◌, map, find, unwrap_or}
 use Rattle.std.proofs.Common.{Option, None, Some, is_some, nat_eq, option_map, option_and_then}
 use Rattle.std.specs.Option.{option_map_or}
 use Rattle.cue_show.proofs.TestLemmas.{same_number}
@@ -10,7 +10,7 @@ use Rattle.cue_exchange.specs.declared.attempt.Attempt.{Attempt}
 use Rattle.cue_station.specs.declared.memory.Reading.{Reading}
 use Rattle.cue_station.specs.declared.memory.Seen.{Seen}
 use Rattle.cue_station.specs.Reading.{has_live}
-use Rattle.cue_station.specs.Seeing.{given_now, seen_after, seen_now}
+use Rattle.cue_station.specs.Seeing.{seen_after, seen_now}
 use Rattle.cue_station.specs.Showing.{given_in, has_given, since_in}
 
 find-seen : (old : List Seen) (at q : ℕ) (live : List Attempt)

@@ -1,25 +1,22 @@
 -- What is sent, and what that leaves open.
-use Rattle.std.proofs.Common.{◌≡◌, refl, sym, ap, ◌∙◌, subst, absurd, ℕ, Bool, true, false, not, ◌&&◌, cond, List, [], ◌∷◌, ◌++◌, map}
-use Rattle.std.proofs.Common.{Option, None, Some, is_some, is_none, filter, IsTrue, IsSome, inl, inr, ◌⊎◌, ⊎_elim, option_map, option_to_list}
-use Rattle.std.specs.Option.{option_map_or}
-use Rattle.cue_show.proofs.TestLemmas.{both, cases, join}
+use Rattle.std.proofs.Common.{◌≡◌, refl, sym, ap, ◌∙◌, ℕ, Bool, true, false, not, ◌&&◌, cond, List, [], ◌∷◌, ◌++◌}
+use Rattle.std.proofs.Common.{Option, None, Some, is_some, filter, IsTrue, IsSome, inl, inr, ◌⊎◌, ⊎_elim}
+use Rattle.cue_show.proofs.TestLemmas.{both}
 use Rattle.cue_desk.specs.declared.orders.Order.{Order}
 use Rattle.cue_desk.specs.declared.orders.Order.TheVariants as order
 use Rattle.cue_view.specs.declared.button.Button.{Button}
 use Rattle.cue_view.specs.declared.button.Button.TheVariants as button
-use Rattle.cue_station.specs.declared.heard.Heard.{Heard}
 use Rattle.cue_station.specs.declared.heard.Heard.TheVariants as heard
 use Rattle.cue_station.specs.declared.heard.Send.{Send}
 use Rattle.cue_station.specs.declared.lighting.Footing.{Footing}
-use Rattle.cue_station.specs.declared.memory.Answered.{Answered}
 use Rattle.cue_station.specs.declared.memory.Pending.{Pending}
 use Rattle.cue_station.specs.declared.memory.Reading.{Reading}
-use Rattle.cue_station.specs.Asking.{first_of, followed, is_final, is_open, is_press_sent, newest_of, sent_press}
+use Rattle.cue_station.specs.Asking.{first_of, is_final, is_open, is_press_sent, sent_press}
 use Rattle.cue_station.specs.Lighting.{may_by}
-use Rattle.cue_station.specs.Memory.{if_open, is_beside, only, open_in}
-use Rattle.cue_station.specs.Noting.{beside_after, order_by, press_after, send_by}
+use Rattle.cue_station.specs.Memory.{if_open, is_beside, open_in}
+use Rattle.cue_station.specs.Noting.{beside_after, press_after, send_by}
 use Rattle.cue_station.specs.Pressing.{order_of}
-use Rattle.cue_station.specs.Reading.{is_status, read_with}
+use Rattle.cue_station.specs.Reading.{is_status}
 use Rattle.cue_station.proofs.OpenLemmas.{first_two, leaves}
 
 -- ---- what is sent for a press
@@ -29,7 +26,7 @@ first_three : (x y z w : Bool) → IsTrue ((x && (y && z)) && w) → IsTrue y
 first_three x y z w h = (both y z (both x (y && z) (both (x && (y && z)) w h).0).1).0
 
 -- a button that sends something leaves at most one press open
-may_leaves : (f : Footing) (since : ℕ → Option ℕ) (r : Option Reading) (b : Button) → IsSome (order_of b)
+pub may_leaves : (f : Footing) (since : ℕ → Option ℕ) (r : Option Reading) (b : Button) → IsSome (order_of b)
     → IsTrue (may_by f since r b) → IsTrue (leaves f b)
 may_leaves f since None b o h = (cc)
 may_leaves f since (Some r) (button.Go c q) o h = (first_three f.stands f.is_quiet _ _ h)
@@ -62,7 +59,7 @@ pub record IsSending (heeded : Bool) (b : Button) (ask : ℕ) (send : Option Sen
 same_send : (a b : Send) → Some a ≡ Some b → b ≡ a
 same_send a b h = cc
 
-sends_status : (due : Bool) (ask : ℕ) (s : Send) → send_by None due ask ≡ Some s
+pub sends_status : (due : Bool) (ask : ℕ) (s : Send) → send_by None due ask ≡ Some s
     → s ≡ record { ask = ask; order = order.Status }
 sends_status true ask s h = same_send _ s h
 sends_status false ask s h = (cc)
@@ -109,12 +106,12 @@ fresh at ask b = record { at = at; ask = ask; button = b; answer = None; settled
 pub record KeepsOpen (r : Option Reading) (sent : List Pending) (press beside : Option Pending) (all : List Pending)
     : Type 0 where
   pub opened : open_in r (press_after sent press) (beside_after r sent press beside) ≡ filter (is_open r) (sent ++ all)
-  pub beside : is_beside (press_after sent press) (beside_after r sent press beside) ≡ true
+  pub beside_is : is_beside (press_after sent press) (beside_after r sent press beside) ≡ true
 
 pub keeps_none : (r : Option Reading) (press beside : Option Pending) (all : List Pending)
     → open_in r press beside ≡ filter (is_open r) all → is_beside press beside ≡ true
     → KeepsOpen r [] press beside all
-keeps_none r press beside all e k = record { opened = e; beside = k }
+keeps_none r press beside all e k = record { opened = e; beside_is = k }
 
 final_beside : (p : Pending) (o : Option Pending) → is_final p.button ≡ true → is_beside (Some p) o ≡ true
 final_beside p None h = refl
@@ -133,7 +130,7 @@ keeps_one : (r : Option Reading) (at ask : ℕ) (b : Button) (press beside : Opt
 keeps_one r at ask b press beside all e one final =
     record {
       opened = ap (λ v. fresh at ask b ∷ v) (first_two (if_open r press) beside one ∙ e);
-      beside = ⊎_elim
+      beside_is = ⊎_elim
           (λ (k : is_final b ≡ true). final_beside (fresh at ask b) (first_of (if_open r press) beside) k)
           (λ (k : (if_open r press ≡ None) × (beside ≡ None)).
           none_beside (fresh at ask b) (if_open r press) beside k.0 k.1)

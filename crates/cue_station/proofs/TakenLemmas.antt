@@ -1,9 +1,14 @@
 -- A step takes the store and the relay in first; what comes of that is what the evening says.
-use Rattle.std.proofs.Common.{◌≡◌, refl, sym, ap, ◌∙◌, subst, ℕ, List, ◌∷◌, Option}
+use Rattle.std.proofs.Common.{◌≡◌, refl, sym, ap, ap₂, ◌∙◌, subst, ℕ, Bool, List, ◌∷◌, Option, None, Some, option_map}
+use Rattle.cue_relay.specs.declared.status.Status.{Status}
+use Rattle.cue_station.specs.declared.heard.Copied.{Copied}
 use Rattle.cue_station.specs.declared.heard.Heard.{Heard}
 use Rattle.cue_station.specs.declared.heard.Heard.TheVariants as heard
 use Rattle.cue_station.specs.declared.heard.Input.{Input}
+use Rattle.cue_station.specs.declared.memory.Choice.{Choice}
+use Rattle.cue_station.specs.declared.memory.Choice.TheVariants as choice
 use Rattle.cue_station.specs.declared.memory.Notes.{Notes}
+use Rattle.cue_station.specs.declared.memory.Question.{Question}
 use Rattle.cue_station.specs.declared.memory.Reading.{Reading}
 use Rattle.cue_station.specs.declared.memory.Relayed.{Relayed}
 use Rattle.cue_station.specs.declared.memory.Seen.{Seen}
@@ -12,11 +17,14 @@ use Rattle.cue_station.specs.declared.station.Made.{Made}
 use Rattle.cue_station.specs.declared.station.Station.{Station}
 use Rattle.cue_station.specs.declared.station.Step.{Step}
 use Rattle.cue_station.specs.Turns.{Turn}
+use Rattle.cue_station.specs.Alarms.{nobody_by}
+use Rattle.cue_station.specs.Choosing.{grown}
 use Rattle.cue_station.specs.Laws.{Keeps}
 use Rattle.cue_station.specs.Looking.{hollow}
 use Rattle.cue_station.specs.Memory.{IsAfter, IsKept, StepKeeps, turn_of}
 use Rattle.cue_station.specs.Network.{relayed_with}
-use Rattle.cue_station.specs.Reading.{read_with}
+use Rattle.cue_station.specs.Noting.{notes_heard, notes_sent, waits_by, with_answer, with_presses}
+use Rattle.cue_station.specs.Reading.{answered_with, newer, read_with}
 use Rattle.cue_station.specs.Stepping.{KeepsMade, Makes, MakesIn, StepsIn, kept_with, reading_now}
 use Rattle.cue_station.proofs.AfterLemmas.{step-after}
 use Rattle.cue_station.proofs.LawLemmas.{step-keeps}
@@ -32,13 +40,61 @@ beside at wall h = record { at = at; wall = wall; heard = h }
 abbrev taken_by : Station → ℕ → Heard → Station
 taken_by s at h = taken s (read_with h s.reading) (relayed_with h at s.relay)
 
+-- ---- what is noted of a copy, and of the words of the relay, is what is noted beside them
+
+nobody_copy : (o : Option ℕ) (c : Copied) (old : Bool)
+    → nobody_by o (heard.Copied c) old ≡ nobody_by o (heard.Same c.begun) old
+nobody_copy None c old = refl
+nobody_copy (Some n) c old = refl
+
+nobody_relay : (o : Option ℕ) (x : Option Status) (old : Bool)
+    → nobody_by o (heard.Relay x) old ≡ nobody_by o (heard.Relay None) old
+nobody_relay None x old = refl
+nobody_relay (Some n) x old = refl
+
+grown_copy : (c : Copied) (w : ℕ → Bool) (r : Option Reading) (old : Choice)
+    → grown (heard.Copied c) w r old ≡ grown (heard.Same c.begun) w r old
+grown_copy c w r choice.Nothing = refl
+grown_copy c w r (choice.Attempt q) = refl
+grown_copy c w r (choice.Awaited n cue) = refl
+
+grown_relay : (x : Option Status) (w : ℕ → Bool) (r : Option Reading) (old : Choice)
+    → grown (heard.Relay x) w r old ≡ grown (heard.Relay None) w r old
+grown_relay x w r choice.Nothing = refl
+grown_relay x w r (choice.Attempt q) = refl
+grown_relay x w r (choice.Awaited n cue) = refl
+
+-- the number of the newest question
+abbrev ask_of : Notes → Option ℕ
+ask_of n = option_map (λ (q : Question). q.ask) n.question
+
+-- the notes of before the choice, whose open presses a STANDBY waits for
+abbrev notes_pressed : Heard → ℕ → Option Reading → Notes → Notes
+notes_pressed h at r n = with_presses h at r (with_answer h at r (answered_with h at n.question n.answered) n)
+
+copy_hollow : (c : Copied) (at : ℕ) (r : Option Reading) (views : List Shown) (n : Notes)
+    → notes_heard (heard.Copied c) at r views n ≡ notes_heard (heard.Same c.begun) at r views n
+copy_hollow c at r views n =
+    ap₂ (λ b x. record (notes_heard (heard.Same c.begun) at r views n) { nobody = b; choice = x })
+    (nobody_copy (ask_of n) c n.nobody)
+    (grown_copy c (waits_by r (notes_pressed (heard.Same c.begun) at r n)) r n.choice)
+
+relay_hollow : (x : Option Status) (at : ℕ) (r : Option Reading) (views : List Shown) (n : Notes)
+    → notes_heard (heard.Relay x) at r views n ≡ notes_heard (heard.Relay None) at r views n
+relay_hollow x at r views n =
+    ap₂ (λ b y. record (notes_heard (heard.Relay None) at r views n) { nobody = b; choice = y })
+    (nobody_relay (ask_of n) x n.nobody)
+    (grown_relay x (waits_by r (notes_pressed (heard.Relay None) at r n)) r n.choice)
+
 makes_heard : (s : Station) (at wall : ℕ) (h : Heard) (m : Made)
     → MakesIn (taken_by s at h) (beside at wall (hollow h)) m → Makes s (beside at wall h) m
 makes_heard s at wall (heard.Copied c) m k =
     record {
       due = k.due;
       send = k.send;
-      notes = k.notes;
+      notes = k.notes
+          ∙ ap (notes_sent (heard.Same c.begun) at (newer c s.reading) m.step.send)
+          (sym (copy_hollow c at (newer c s.reading) s.views.items s.notes));
       seen = k.seen;
       shown = k.shown;
       number = k.number;
@@ -104,7 +160,9 @@ makes_heard s at wall (heard.Relay x) m k =
     record {
       due = k.due;
       send = k.send;
-      notes = k.notes;
+      notes = k.notes
+          ∙ ap (notes_sent (heard.Relay None) at s.reading m.step.send)
+          (sym (relay_hollow x at s.reading s.views.items s.notes));
       seen = k.seen;
       shown = k.shown;
       number = k.number;
@@ -124,7 +182,7 @@ makes_heard s at wall heard.Tick m k =
     }
 
 -- what is kept, whichever way it is told
-kept_as : (turns : List Turn) (n p : Notes) → n ≡ p → (r o : Option Reading) → r ≡ o → (x y : Option Relayed) → x ≡ y
+pub kept_as : (turns : List Turn) (n p : Notes) → n ≡ p → (r o : Option Reading) → r ≡ o → (x y : Option Relayed) → x ≡ y
     → (s t : List Seen) → s ≡ t → (v w : List Shown) → v ≡ w → IsKept turns n r x s v → IsKept turns p o y t w
 kept_as turns n p en r o er x y ex s t es v w ev k =
     subst (λ a. IsKept turns a o y t w) en

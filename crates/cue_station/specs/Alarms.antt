@@ -1,6 +1,6 @@
 -- What is wrong, the loudest first.
-use Rattle.std.specs.Prelude.{◌≡◌, ◌≤◌, ◌+◌, max, ℕ, pos, Bool, true, false, not, ◌&&◌, if◌then◌else◌, List, [], ◌∷◌, ◌++◌}
-use Rattle.std.specs.Prelude.{map, filter, find, take, length, Option, None, Some, is_some, nat_eq, nat_le, nat_lt}
+use Rattle.std.specs.Prelude.{◌+◌, max, ℕ, pos, Bool, true, false, not, ◌&&◌, if◌then◌else◌, List, [], ◌∷◌, ◌++◌}
+use Rattle.std.specs.Prelude.{map, filter, length, Option, None, Some, nat_eq, nat_le, nat_lt}
 use Rattle.std.specs.List.{list_any}
 use Rattle.std.specs.Option.{option_eq, option_map, option_to_list}
 use Rattle.std.specs.Ordering.{int_eq}
@@ -12,12 +12,11 @@ use Rattle.cue_core.specs.declared.limits.TheConstants.{STANDBY_MS}
 use Rattle.cue_desk.specs.declared.replying.Replied.TheVariants as replied
 use Rattle.cue_desk.specs.declared.replying.Status.{Status}
 use Rattle.cue_station.specs.declared.alarms.Facts.{Facts}
-use Rattle.cue_view.specs.declared.button.Button.{Button}
 use Rattle.cue_view.specs.declared.button.Button.TheVariants as button
 use Rattle.cue_station.specs.declared.heard.Heard.{Heard}
 use Rattle.cue_station.specs.declared.heard.Heard.TheVariants as heard
 use Rattle.cue_view.specs.declared.view.Trouble.{Trouble}
-use Rattle.cue_station.specs.declared.limits.TheConstants.{COPY_MS, KEPT_VIEWS, OTHER_MS, PRESS_MS, STATUS_MS}
+use Rattle.cue_station.specs.declared.limits.TheConstants.{COPY_MS, OTHER_MS, STATUS_MS}
 use Rattle.cue_station.specs.declared.memory.Answered.{Answered}
 use Rattle.cue_station.specs.declared.memory.Question.{Question}
 use Rattle.cue_station.specs.declared.memory.Reading.{Reading}

@@ -1,5 +1,5 @@
 -- What is drawn, turn by turn: of the newest copy, of the relay, and what is wrong.
-use Rattle.std.specs.Prelude.{◌≡◌, ℕ, Bool, List, [], ◌∷◌, Option, None, Some}
+use Rattle.std.specs.Prelude.{◌≡◌, ℕ, Bool, List, [], Option, None, Some}
 use Rattle.std.specs.Option.{option_map}
 use Rattle.cue_exchange.specs.declared.attempt.Attempt.{Attempt}
 use Rattle.cue_station.specs.declared.alarms.Facts.{Facts}

@@ -1,5 +1,5 @@
 -- Turns that do not keep the law.
-use Rattle.std.specs.Prelude.{◌≡◌, ℕ, List, [], ◌∷◌, None, Some, IsTrue}
+use Rattle.std.specs.Prelude.{◌≡◌, ℕ, List, [], Some, IsTrue}
 use Rattle.cue_desk.specs.declared.orders.Order.TheVariants as order
 use Rattle.cue_operator.specs.declared.method.CueVerb.TheVariants as verb
 use Rattle.cue_view.specs.declared.button.Button.TheVariants as button

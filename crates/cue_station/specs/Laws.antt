@@ -1,5 +1,5 @@
 -- The law of the desk: what holds of each turn, whatever came before it.
-use Rattle.std.specs.Prelude.{◌≡◌, ℕ, Bool, true, false, List, [], ◌∷◌, Option, Some, IsSome, IsTrue, ◌⊎◌, length}
+use Rattle.std.specs.Prelude.{◌≡◌, ℕ, Bool, true, false, List, [], ◌∷◌, Some, IsSome, IsTrue, ◌⊎◌, length}
 use Rattle.cue_desk.specs.declared.orders.Order.TheVariants as order
 use Rattle.cue_view.specs.declared.button.Button.{Button}
 use Rattle.cue_view.specs.declared.button.Button.TheVariants as button

@@ -23,3 +23,5 @@ pub mod Sendings
 pub mod Readings
 pub mod Examples
 pub mod Warning
+pub mod Pacing
+pub mod Evening

@@ -1,5 +1,5 @@
 -- Which buttons the newest views have offered.
-use Rattle.std.specs.Prelude.{ℕ, Bool, true, false, ◌&&◌, List, [], ◌∷◌, take, map, nat_eq, nat_le, ◌+◌}
+use Rattle.std.specs.Prelude.{ℕ, Bool, false, ◌&&◌, List, take, map, nat_eq, nat_le, ◌+◌}
 use Rattle.std.specs.List.{list_any}
 use Rattle.cue_show.specs.Number.{same_text}
 use Rattle.cue_view.specs.declared.button.Button.{Button}

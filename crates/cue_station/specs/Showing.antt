@@ -1,5 +1,5 @@
 -- What is drawn of a copy: the live attempts, the stack around the place, and what the events tell.
-use Rattle.std.specs.Prelude.{◌≡◌, ◌-◌, ◌+◌, min, ℕ, Bool, true, false, ◌&&◌, if◌then◌else◌, List, [], ◌∷◌, map, take, drop}
+use Rattle.std.specs.Prelude.{◌≡◌, ◌-◌, ◌+◌, min, ℕ, Bool, false, ◌&&◌, if◌then◌else◌, List, [], ◌∷◌, map, take, drop}
 use Rattle.std.specs.Prelude.{length, find, Option, None, Some, is_some, nat_eq, nat_lt}
 use Rattle.std.specs.Map.{keys_of}
 use Rattle.std.specs.Option.{option_map, option_map_or, option_and_then}

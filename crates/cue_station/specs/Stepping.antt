@@ -1,5 +1,5 @@
 -- What a step makes, part by part.
-use Rattle.std.specs.Prelude.{◌≡◌, ◌&&◌, ℕ, Bool, false, List, ◌∷◌, Option, None, Some, is_none, take}
+use Rattle.std.specs.Prelude.{◌≡◌, ◌&&◌, ℕ, Bool, false, List, ◌∷◌, Option, None, is_none, take}
 use Rattle.cue_view.specs.declared.button.Button.{Button}
 use Rattle.cue_station.specs.declared.heard.Heard.{Heard}
 use Rattle.cue_station.specs.declared.heard.Heard.TheVariants as heard

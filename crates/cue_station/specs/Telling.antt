@@ -1,5 +1,5 @@
 -- How attempts ended, by the events of the store. The oldest event stands first.
-use Rattle.std.specs.Prelude.{ℕ, Bool, true, false, not, ◌&&◌, if◌then◌else◌, List, [], ◌∷◌, ◌++◌, take, filter, map, reverse}
+use Rattle.std.specs.Prelude.{ℕ, Bool, true, false, not, ◌&&◌, if◌then◌else◌, List, ◌++◌, take, filter, map, reverse}
 use Rattle.std.specs.Prelude.{Option, None, Some, find, is_some, nat_eq}
 use Rattle.std.specs.List.{filter_map, list_any}
 use Rattle.std.specs.Option.{option_map, option_and_then, option_to_list}

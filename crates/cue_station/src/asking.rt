@@ -1,5 +1,6 @@
 //! What became of the presses that were sent.
-ghost use Rattle.std.specs.Prelude.{◌≡◌, is_some};
+ghost use Rattle.std.specs.Prelude.{◌≡◌, is_some, pos};
+ghost use Rattle.std.specs.Ordering.{int_eq};
 ghost use Rattle.std.specs.List.{list_any};
 ghost use Rattle.std.specs.Option.{option_map};
 ghost use Rattle.cue_core.specs.Events as happening;
@@ -16,15 +17,29 @@ use cue_show::CueNo;
 use cue_view::button::Button;
 use cue_view::view::{Became, Said};
 
+// Whether a number of a reply is this one.
+fn is_count(told: i32, count: u8) -> bool
+    ensures { result ≡ int_eq told (pos count) }
+{
+    told == i32::from(count)
+}
+
+// Whether the three numbers of a reply are these.
+fn are_counts(made: i32, known: i32, refused: i32, m: u8, k: u8, r: u8) -> bool
+    ensures { result ≡ asking.counts made known refused m k r }
+{
+    is_count(made, m) && (is_count(known, k) && is_count(refused, r))
+}
+
 // What a reply of these numbers says of one command.
 fn word_by(made: i32, known: i32, refused: i32, code: i32) -> Option<Became>
     ensures { result ≡ asking.word_by made known refused code }
 {
-    if made == 1 && known == 0 && refused == 0 {
+    if are_counts(made, known, refused, 1, 0, 0) {
         Some(Became::Made)
-    } else if made == 0 && known == 1 && refused == 0 {
+    } else if are_counts(made, known, refused, 0, 1, 0) {
         Some(Became::Known)
-    } else if made == 0 && known == 0 && refused == 1 {
+    } else if are_counts(made, known, refused, 0, 0, 1) {
         Some(Became::Refused(code))
     } else {
         None

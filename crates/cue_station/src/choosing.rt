@@ -5,7 +5,7 @@ ghost use Rattle.cue_station.specs.Choosing as choosing;
 ghost use Rattle.std.specs.Option.{option_copied};
 ghost use Rattle.cue_station.specs.declared.memory.Choice.TheVariants as choice;
 
-use crate::heard::{Heard, Send};
+use crate::heard::Heard;
 use crate::memory::{Choice, Reading, Shown};
 use crate::offering::is_offered;
 use crate::remembering::later;
@@ -111,15 +111,12 @@ fn chosen_by_verb(choice: Choice, verb: CueVerb, ask: u64, cue: CueNo) -> Choice
 }
 
 /// The choice once a message was sent: nothing after a go; after a standby what comes of it.
-pub(crate) fn chosen_by_sending(choice: Choice, send: Option<Send>) -> Choice
-    ensures { result ≡ choosing.chosen_by_sending send choice }
+pub(crate) fn chosen_by_order(choice: Choice, order: Order, ask: u64) -> Choice
+    ensures { result ≡ choosing.chosen_by_order order ask choice }
 {
-    match send {
-        Some(send) => match send.order {
-            Order::OfCue(verb, cue) => chosen_by_verb(choice, verb, send.ask, cue),
-            Order::Status | Order::Release(_) | Order::RemoveDevice(_) => choice,
-        },
-        None => choice,
+    match order {
+        Order::OfCue(verb, cue) => chosen_by_verb(choice, verb, ask, cue),
+        Order::Status | Order::Release(_) | Order::RemoveDevice(_) => choice,
     }
 }
 

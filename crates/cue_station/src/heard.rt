@@ -3,7 +3,8 @@ use cue_core::{Event, State};
 use cue_desk::orders::Order;
 use cue_desk::replying::Replied;
 use cue_relay::status::Status;
-use cue_show::{CueNo, DeviceNo};
+use cue_view::button::Button;
+use cue_view::view::Trouble;
 
 /// A copy of the store: what both files stood for at one moment, not before `begun`, and the events of the records that
 /// follow the snapshot, the oldest first.

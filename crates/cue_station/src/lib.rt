@@ -7,6 +7,7 @@
 pub mod alarms;
 pub mod asking;
 pub mod choosing;
+pub mod evening;
 pub mod following;
 pub mod heard;
 pub mod hearing;

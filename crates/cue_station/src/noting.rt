@@ -10,9 +10,7 @@ ghost use Rattle.cue_station.specs.declared.memory.Question.{Question};
 ghost use Rattle.cue_station.specs.Noting as noting;
 
 use crate::asking::followed_on;
-use crate::choosing::{
-    acknowledged_by, awaited, chosen_by_press, chosen_by_sending, chosen_number,
-};
+use crate::choosing::{acknowledged_by, awaited, chosen_by_order, chosen_by_press, chosen_number};
 use crate::heard::{Heard, Send};
 use crate::hearing::{answered_with, question_with};
 use crate::lighting::{Footing, differs_by, stands_by};
@@ -214,7 +212,7 @@ fn with_message(
         number,
         next_ask,
         question: question_with(notes.question, send.ask, send.order, at),
-        choice: chosen_by_sending(notes.choice, Some(*send)),
+        choice: chosen_by_order(notes.choice, send.order, send.ask),
         ..sent
     }
 }

@@ -5,23 +5,98 @@ ghost use Rattle.cue_station.specs.Offering as offering;
 
 use crate::limits::PRESS_MS;
 use crate::memory::Shown;
+use cue_show::{CueNo, DeviceNo};
 use cue_view::button::Button;
 
-// Whether the two buttons are the same, for the same cue, attempt and device.
-fn is_same(one: Button, other: Button) -> bool
-    ensures { result ≡ offering.same_button one other }
+// Whether it is STANDBY of the cue.
+fn is_standby(cue: CueNo, button: &Button) -> bool
+    ensures { result ≡ offering.is_standby cue button.now }
 {
-    match (one, other) {
-        (Button::Standby(c), Button::Standby(d)) => c == d,
-        (Button::Go(c, q), Button::Go(d, p)) => c == d && q == p,
-        (Button::Cancel(c, q), Button::Cancel(d, p)) => c == d && q == p,
-        (Button::Release(q, d), Button::Release(p, e)) => q == p && d == e,
-        (Button::MoveTo(c), Button::MoveTo(d)) => c == d,
-        (Button::Choose(q), Button::Choose(p)) => q == p,
-        (Button::Seen(q), Button::Seen(p)) => q == p,
-        (Button::Standby(_) | Button::Go(_, _) | Button::Cancel(_, _), _) => false,
-        (Button::Release(_, _) | Button::MoveTo(_), _) => false,
-        (Button::Choose(_) | Button::Seen(_), _) => false,
+    match button {
+        Button::Standby(other) => cue == *other,
+        Button::Go(_, _) | Button::Cancel(_, _) | Button::Release(_, _) => false,
+        Button::MoveTo(_) | Button::Choose(_) | Button::Seen(_) => false,
+    }
+}
+
+// Whether it is GO of the cue, in the attempt.
+fn is_go(cue: CueNo, seq: u32, button: &Button) -> bool
+    ensures { result ≡ offering.is_go cue seq button.now }
+{
+    match button {
+        Button::Go(other, number) => cue == *other && seq == *number,
+        Button::Standby(_) | Button::Cancel(_, _) | Button::Release(_, _) => false,
+        Button::MoveTo(_) | Button::Choose(_) | Button::Seen(_) => false,
+    }
+}
+
+// Whether it is CANCEL of the cue, in the attempt.
+fn is_cancel(cue: CueNo, seq: u32, button: &Button) -> bool
+    ensures { result ≡ offering.is_cancel cue seq button.now }
+{
+    match button {
+        Button::Cancel(other, number) => cue == *other && seq == *number,
+        Button::Standby(_) | Button::Go(_, _) | Button::Release(_, _) => false,
+        Button::MoveTo(_) | Button::Choose(_) | Button::Seen(_) => false,
+    }
+}
+
+// Whether it gives the device up, in the attempt.
+fn is_release(seq: u32, device: DeviceNo, button: &Button) -> bool
+    ensures { result ≡ offering.is_release seq device button.now }
+{
+    match button {
+        Button::Release(number, other) => seq == *number && device == *other,
+        Button::Standby(_) | Button::Go(_, _) | Button::Cancel(_, _) => false,
+        Button::MoveTo(_) | Button::Choose(_) | Button::Seen(_) => false,
+    }
+}
+
+// Whether it moves to the cue.
+fn is_move(cue: CueNo, button: &Button) -> bool
+    ensures { result ≡ offering.is_move cue button.now }
+{
+    match button {
+        Button::MoveTo(other) => cue == *other,
+        Button::Standby(_) | Button::Go(_, _) | Button::Cancel(_, _) => false,
+        Button::Release(_, _) | Button::Choose(_) | Button::Seen(_) => false,
+    }
+}
+
+// Whether it chooses the attempt.
+fn is_choice(seq: u32, button: &Button) -> bool
+    ensures { result ≡ offering.is_choice seq button.now }
+{
+    match button {
+        Button::Choose(number) => seq == *number,
+        Button::Standby(_) | Button::Go(_, _) | Button::Cancel(_, _) => false,
+        Button::Release(_, _) | Button::MoveTo(_) | Button::Seen(_) => false,
+    }
+}
+
+// Whether it says that the end of the attempt was seen.
+fn is_seen(seq: u32, button: &Button) -> bool
+    ensures { result ≡ offering.is_seen seq button.now }
+{
+    match button {
+        Button::Seen(number) => seq == *number,
+        Button::Standby(_) | Button::Go(_, _) | Button::Cancel(_, _) => false,
+        Button::Release(_, _) | Button::MoveTo(_) | Button::Choose(_) => false,
+    }
+}
+
+// Whether the two buttons are the same, for the same cue, attempt and device.
+fn is_same(one: Button, other: &Button) -> bool
+    ensures { result ≡ offering.same_button one other.now }
+{
+    match one {
+        Button::Standby(cue) => is_standby(cue, other),
+        Button::Go(cue, seq) => is_go(cue, seq, other),
+        Button::Cancel(cue, seq) => is_cancel(cue, seq, other),
+        Button::Release(seq, device) => is_release(seq, device, other),
+        Button::MoveTo(cue) => is_move(cue, other),
+        Button::Choose(seq) => is_choice(seq, other),
+        Button::Seen(seq) => is_seen(seq, other),
     }
 }
 
@@ -29,7 +104,7 @@ fn is_same(one: Button, other: Button) -> bool
 fn is_among(button: Button, lit: &[Button]) -> bool
     ensures { result ≡ offering.is_lit button lit.now }
 {
-    lit.iter().any(|other| is_same(button, *other))
+    lit.iter().any(|other| is_same(button, other))
 }
 
 // Whether the view has the number, and is young.

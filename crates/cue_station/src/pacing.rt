@@ -1,4 +1,7 @@
 //! When the status is asked.
+ghost use Rattle.std.specs.Prelude.{◌≡◌};
+ghost use Rattle.cue_station.specs.Pacing as pacing;
+
 use crate::heard::{Heard, Send};
 use crate::memory::{Notes, Pace, Question};
 use cue_desk::orders::Order;
@@ -11,27 +14,40 @@ const ASK_MS: u64 = 1_000;
 const ASK_AGAIN_MS: u64 = 500;
 
 // Whether the last press was sent before the moment, so that a question that is sent now is asked after it.
-fn is_after_press(notes: &Notes, at: u64) -> bool {
+fn is_after_press(notes: &Notes, at: u64) -> bool
+    ensures { result ≡ pacing.is_after_press notes.now.press at }
+{
     match notes.press {
         Some(press) => press.at < at,
         None => true,
     }
 }
 
+// How long after a question the next one is due.
+fn wait_by(is_answered: bool) -> u64
+    ensures { result ≡ pacing.wait_by is_answered }
+{
+    if is_answered { ASK_MS } else { ASK_AGAIN_MS }
+}
+
+// Whether the status is wanted at once. A question that is under way is not asked again at once: its answer would be
+// lost, and a controller that is slow while the store changes would never be heard.
+fn is_at_once(notes: &Notes, pace: Pace, at: u64) -> bool
+    ensures { result ≡ pacing.is_at_once notes.now pace at }
+{
+    pace.is_wanted && (pace.is_answered && is_after_press(notes, at))
+}
+
 /// Whether a question for the status is due: at once after a copy that differs and after each press, half a second
-/// after one to which none came, and else each second. One that is under way is not asked again at once: its answer
-/// would be lost, and a controller that is slow while the store changes would never be heard.
-pub(crate) fn is_due(notes: &Notes, pace: Pace, at: u64) -> bool {
+/// after one to which none came, and else each second.
+pub(crate) fn is_due(notes: &Notes, pace: Pace, at: u64) -> bool
+    ensures { result ≡ pacing.is_due notes.now pace at }
+{
     let Some(question) = notes.question else {
         return true;
     };
-    let wait = if pace.is_answered {
-        ASK_MS
-    } else {
-        ASK_AGAIN_MS
-    };
-    let at_once = pace.is_wanted && pace.is_answered && is_after_press(notes, at);
-    (at_once && question.at < at) || at.saturating_sub(question.at) >= wait
+    (is_at_once(notes, pace, at) && question.at < at)
+        || at.saturating_sub(question.at) >= wait_by(pace.is_answered)
 }
 
 // Whether a status came to the newest question.

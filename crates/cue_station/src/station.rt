@@ -3,6 +3,7 @@ ghost use Rattle.std.specs.Prelude.{◌≡◌, [], IfOk, OnErr, OnOk};
 ghost use Rattle.cue_station.specs.Alarms.{failures_by};
 ghost use Rattle.cue_station.specs.Memory.{IsAfter, StepKeeps};
 ghost use Rattle.cue_station.specs.Noting as noting;
+ghost use Rattle.cue_station.specs.Pacing as pacing;
 ghost use Rattle.cue_station.specs.Stepping as stepping;
 
 use crate::heard::{Heard, Input, Send};
@@ -144,7 +145,9 @@ impl Station {
 
     /// Whether a question for the status is due: at once after a copy that differs and after each press, half a second
     /// after one to which none came, and else each second. A step that has no press to send asks it.
-    pub fn due(&self, at: u64) -> bool {
+    pub fn due(&self, at: u64) -> bool
+        ensures { result ≡ pacing.is_due self.now.notes self.now.pace at }
+    {
         is_due(&self.notes, self.pace, at)
     }
 

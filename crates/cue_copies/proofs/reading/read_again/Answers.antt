@@ -13,8 +13,8 @@ returns-in_default-2-clause-stood g c = λ first second.
 
 pub returns-clause-stood : goal.returns-clause-stood
 returns-clause-stood g c = λ first second.
-    let found = c.read.ensures.stood (c.loop.invariant.first_honest.1 first) (c.loop.invariant.second_honest.1 second) in
-    subst (λ (x : Contents). StandsAsFound c.args.last.now x (g.D.Disk.held c.args.second.now) c.read.result)
+    let found = c.read-2.ensures.stood (c.loop.invariant.first_honest.1 first) (c.loop.invariant.second_honest.1 second) in
+    subst (λ (x : Contents). StandsAsFound c.args.last.now x (g.D.Disk.held c.args.second.now) c.read-2.result)
     (c.loop.invariant.first first)
-    (subst (λ (y : Contents). StandsAsFound c.args.last.now (g.D.Disk.held c.loop.first) y c.read.result)
+    (subst (λ (y : Contents). StandsAsFound c.args.last.now (g.D.Disk.held c.loop.first) y c.read-2.result)
     (c.loop.invariant.second second) found)

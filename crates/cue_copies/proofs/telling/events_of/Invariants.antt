@@ -1,4 +1,4 @@
-use Rattle.std.proofs.Common.{◌≡◌, ◌++◌, List, length}
+use Rattle.std.proofs.Common.{◌++◌, List, length}
 use Rattle.cue_core.specs.declared.event.Event.{Event}
 use Rattle.cue_copies.specs.Telling.{AreTold}
 use Rattle.cue_copies.proofs.telling.events_of.Given as goal

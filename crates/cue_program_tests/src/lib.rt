@@ -1,4 +1,5 @@
-//! Tests of runs and scripts over public calls: runs in memory, the source of a socket, and whole scripts.
+//! Tests of runs and scripts over public calls: runs in memory, the source of a socket, whole scripts, the log of an
+//! evening, and what `cuectl` does with files, sockets and locks that stand in and count their calls.
 #![tactic(auto)]
 
 #[cfg(test)]

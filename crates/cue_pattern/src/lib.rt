@@ -1,4 +1,16 @@
 //! OSC 1.0 address patterns: which addresses a pattern matches.
+//!
+//! Contracts see a `Pattern` as a list of parts, each a list of pieces: one byte (`?`), any text (`*`), one of the
+//! listed bytes, one of the unlisted bytes, one of some texts, or a byte itself. `specs/Grammar.antt` says which bytes
+//! spell such a list, `specs/Meaning.antt` which addresses it denotes. A pattern is cut at each slash first, so nothing
+//! in it matches across one.
+//!
+//! Why it is so:
+//! - A pattern is gone over twice. The first pass counts its parts and pieces and takes no memory, so a bad pattern is
+//!   distinguished from a refused allocation in every case.
+//! - A part is matched from its end to its front: a mark for each position of the text says whether the remaining
+//!   pieces match from there on. Each step is one clause about suffixes. The time is bounded by the pieces of a part
+//!   times the bytes of the text.
 #![tactic(auto)]
 
 mod cut;

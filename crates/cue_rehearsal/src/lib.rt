@@ -1,4 +1,12 @@
 //! Rehearsed devices: each answers as `cue_device` does, over a machine that is a clock and a manner.
+//!
+//! A `Player` is a device of `cue_device`, the library that a maker gets, and not a third reading of the protocol. Its
+//! machine does one order at a time, from a time on and for so long (`Work`). When that time is over it reports that it
+//! prepared, moved or gave up; or that it cannot, if its `Fate` says so (`specs/Playing.antt`). A silent one hears
+//! nothing and stays as it is. `Plan` is what the table `[rehearse]` of a show file says. `Chance` draws from a seed,
+//! and says which datagrams are lost. Nothing here opens a socket or looks at a clock.
+//!
+//! Only tested: what `read_plan` makes of a text, the lines, and that the same seed draws the same.
 #![tactic(auto)]
 
 mod chance;

@@ -1,4 +1,35 @@
-//! The relay between the controller and devices on the stage's network: which datagrams it hands on, and the loop.
+//! The relay between the controller, which listens on 127.0.0.1 alone, and devices on the stage's network: which
+//! datagrams it hands on, and the loop.
+//!
+//! A *route* is a device's number, its local port and its own address. It has two sockets, its *openings*: one on the
+//! controller's side, one on the stage's. How a datagram goes on is decided in three steps: from whom (`way_of`,
+//! `specs/Relaying.antt`): only from the controller, or only from the device's own address, each by the other socket of
+//! the same route; what it says (`message_in`, `specs/Messages.antt`): to the controller one of the four answers of
+//! that very device, to the stage a reply or an order to it, byte for byte; how much (`Meter`, `specs/Rates.antt`): of
+//! each device at most 100 a second go on to the controller. All else is dropped. The laws (`specs/Laws.antt`,
+//! `specs/Silences.antt`) say what follows for a whole run.
+//!
+//! Why it is so:
+//! - Two sockets for each device: one at 0.0.0.0 would be open on each network of the machine. One port for each
+//!   device: through a relay each route is one device's.
+//! - Answers and orders, and nothing else: by address and port alone the box of any device could give a cue, or remove
+//!   the show. A comparison with the four answers takes no memory. A number below 1 is no attempt's: such an answer is
+//!   dropped, and not refused with code 5.
+//! - A hundred a second is far above what a device has to answer, and far below what the controller can judge and sync.
+//!   The hundredth before decides, so there is no window at whose edge two hundred could pass, and no credit that is
+//!   saved up. Times that are still to come count as past: a clock that is put back lets a hundred more through at
+//!   once, and blocks nobody. What would have gone on counts also if it could not be sent.
+//! - A device is silent if its answer is due: after a standby or a cancel, five seconds without any, half of the time
+//!   to stand by. After a GO the answer comes at the end of the motion, and nobody can know when that is; so a GO ends
+//!   a silence. An answer for another number is a sign of life and settles nothing.
+//! - No queue: a datagram that cannot be sent at once is lost, as on any network, and the controller repeats. A queue
+//!   would deliver orders late.
+//! - The status is a file that is replaced whole, once a second: whoever only looks needs no permission to speak to the
+//!   relay, and a relay that has stopped shows by the age of its file.
+//! - Only IPv4, as four numbers: a name would be looked up by a service that may be slow or wrong in the middle of an
+//!   evening.
+//!
+//! Only tested: the text of a status, and that what was written is read as the same.
 #![tactic(auto)]
 
 mod going;

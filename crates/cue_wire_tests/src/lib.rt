@@ -1,4 +1,5 @@
-//! Tests of datagrams over public calls: packets, address patterns, what messages ask for, and what is sent.
+//! Tests of datagrams over public calls: packets, address patterns, what messages ask for, and what is sent. Each
+//! expected answer was written out by hand.
 #![tactic(auto)]
 
 #[cfg(test)]

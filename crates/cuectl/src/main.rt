@@ -1,4 +1,9 @@
 //! `cuectl`: a two-phase cue controller for theatre machinery.
+//!
+//! The program takes the words of its command line, standard input and standard output from the system, hands them to
+//! `cue_program`, and ends with the status that it answers: 0 if a command was carried out, 1 if the show or the script
+//! refuses, 2 if the command line is not understood, 3 if the machine fails, also if it finds no memory to begin. The
+//! gate runs it on a script that ends in a line that is refused.
 #![tactic(auto)]
 
 ghost use Rattle.std.specs.Prelude.{◌≡◌};

@@ -252,6 +252,20 @@ class AnswersAFixedPort(Device):
     controller = property(lambda self: ("127.0.0.1", 9), lambda self, value: None)
 
 
+class MovesAgainSilently(Device):
+    """It answers a copy of a go at once, and moves all the same. It prints each motion."""
+
+    def enter(self, step, now):
+        super().enter(step, now)
+        if step == "moving":
+            print("the motor moves", flush=True)
+
+    def on_go(self, now):
+        if self.step == "complete":
+            print("the motor moves", flush=True)
+        return super().on_go(now)
+
+
 class LetsGoByItself(Device):
     """It holds what it has prepared for six seconds."""
     ready = 0.0
@@ -302,6 +316,7 @@ BROKEN = {
     "answers-the-last-sender": (AnswersTheLastSender, "12c"),
     "answers-a-fixed-port": (AnswersAFixedPort, "12b"),
     "lets-go-by-itself": (LetsGoByItself, "16a"),
+    "moves-again-silently": (MovesAgainSilently, "2a"),
 }
 
 

@@ -12,11 +12,13 @@ In the file KEPT it keeps the highest number that it has heard of, and where tha
 """
 import argparse
 import os
+import re
 import socket
 import struct
 import time
 
 REPEAT = 0.25  # seconds between two copies of an abort that nobody asked for
+ORDERS = {"/msc/standby": ",iisb", "/msc/go_2pc": ",ii", "/msc/cancel": ",ii"}
 
 
 def text(value):
@@ -35,6 +37,24 @@ def take_text(data, at):
     if data[end:after] != bytes(after - end):
         raise ValueError("no zeros after a string")
     return data[at:end].decode(), after
+
+
+def read_order(data):
+    """The address of an order, its two numbers, and the bytes of what a standby asks for. An error where it is none."""
+    address, at = take_text(data, 0)
+    tags, at = take_text(data, at)
+    attempt, device = struct.unpack_from(">ii", data, at)
+    asked = data[at + 8:]
+    is_whole = not asked
+    if address == "/msc/standby":
+        cue, at = take_text(asked, 0)
+        count, = struct.unpack_from(">i", asked, at)
+        is_cue = len(cue) <= 16 and re.fullmatch(r"[0-9]+(\.[0-9]+)*", cue)
+        is_whole = is_cue and 0 <= count <= 32 and len(asked) == at + 4 + count + -count % 4
+        is_whole = is_whole and not any(asked[at + 4 + count:])
+    if ORDERS.get(address) != tags or not is_whole:
+        raise ValueError("no order")
+    return address, attempt, device, asked
 
 
 class Kept:
@@ -80,23 +100,18 @@ class Device:
 
     def hear(self, data, now):
         """What to answer to a datagram; None where there is nothing to say, or not yet."""
-        address, at = take_text(data, 0)
-        _tags, at = take_text(data, at)
-        if address == "/reply" and self.step == "abort" and take_text(data, at)[0] == f"/device/{self.number}/abort":
+        abort = text("/reply") + text(",siiii") + text(f"/device/{self.number}/abort")
+        if self.step == "abort" and data[:-16] == abort:
             self.due = None  # the abort has come to the controller
-        if address not in ("/msc/standby", "/msc/go_2pc", "/msc/cancel"):
-            return None
-        attempt, device = struct.unpack_from(">ii", data, at)
+        address, attempt, device, asked = read_order(data)
         if device != self.number or attempt < 1:
             return None  # for another device, or no number
-        if address == "/msc/standby":
-            take_text(data, at + 8)  # its cue
         self.controller = self.sender  # a stray datagram is no order: nothing is answered to where it came from
         if self.kept and (attempt > self.kept.number or self.controller != self.kept.sender):
             self.kept.keep(max(attempt, self.kept.number), self.controller)  # before anything is done or answered
         if attempt > self.attempt and self.step != "moving":
             self.attempt, self.asked, self.step, self.due = attempt, None, None, None  # what was prepared is let go
-        return self.say(attempt, self.answer_to(address, attempt, data[at + 8:], now))
+        return self.say(attempt, self.answer_to(address, attempt, asked, now))
 
     def answer_to(self, address, attempt, asked, now):
         if attempt != self.attempt:

@@ -1,10 +1,10 @@
 /* A winch for cuectl: a whole device on one socket and in one loop. Its motor is a clock, and prints a line for each
  * motion. docs/DEVICES.md shows how to build it.
  *
- *     winch NUMBER PORT KEPT [PREPARE MOVE]
+ *     winch NUMBER PORT KEPT [PREPARE MOVE [LET_GO]]
  *
  * NUMBER is 0 to 111, PORT is its port on 127.0.0.1. In the file KEPT it keeps the highest number that it has heard of,
- * and where that came from: remove it for a new show. PREPARE and MOVE say how long its motor takes, in milliseconds.
+ * and where that came from: remove it for a new show. PREPARE, MOVE and LET_GO say how long its motor takes, in milliseconds.
  *
  * On SIGUSR1 the motor finds that it cannot go on. */
 #include "cue_device.h"
@@ -162,13 +162,14 @@ int main(int count, char **words)
     if (count > 3)
         open_kept(words[3]);
     if (count < 4 || cue_restarted(&device, (uint32_t)atoi(words[1]), kept.number, &kept.from, &answer) != CUE_NO_ORDER)
-        return fprintf(stderr, "winch NUMBER PORT KEPT [PREPARE MOVE]\n"), 2;
+        return fprintf(stderr, "winch NUMBER PORT KEPT [PREPARE MOVE [LET_GO]]\n"), 2;
     here.sin_port = htons((uint16_t)atoi(words[2]));
     here.sin_addr.s_addr = htonl(INADDR_LOOPBACK);
     if (wire < 0 || bind(wire, (struct sockaddr *)&here, sizeof here) != 0)
         end("winch");
     motor.takes[CUE_PREPARE] = count > 4 ? atoi(words[4]) : 0;
     motor.takes[CUE_MOVE] = count > 5 ? atoi(words[5]) : 0;
+    motor.takes[CUE_GIVE_UP] = count > 6 ? atoi(words[6]) : 0;
     signal(SIGUSR1, on_fault);
     setvbuf(stdout, NULL, _IOLBF, 0);
     say(wire, &answer); /* what it was ready for before a restart is over */

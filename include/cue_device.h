@@ -2,8 +2,9 @@
  *
  * Your program has the socket, the clock and the motor. It hands each datagram to `cue_hear`, carries out the order
  * that comes back, and reports the end of each order. After each call it sends the answer, if there is one. The calls
- * keep the duties of docs/DEVICES.md. They take no memory, wait for nothing, and need nothing of the C library but
- * memcpy and memset. They need 2 KiB of stack (measured: under 1 KiB).
+ * keep the duties of docs/DEVICES.md. They take no memory and wait for nothing. There are two of each: the proved ones
+ * of crates/cue_device_c need memcpy and memset, and 2 KiB of stack (measured: under 1 KiB); those of
+ * device/cue_device.c need nothing of a C library, and less than 0.5 KiB.
  *
  * One `struct cue_device` is one device. Give it to one call at a time: if an interrupt reports of the motor, let it
  * set a flag, and report from your loop. Each call answers a null pointer and a struct that is no device with

@@ -3,8 +3,9 @@
 
     broken_device.py WHICH NUMBER PORT KEPT [the other words of examples/device.py]
 
-WHICH is a key of BROKEN. The number beside it is that of the duty.
+WHICH is a key of BROKEN; beside it is the id of the requirement. `two-positions` breaks none.
 """
+import os
 import socket
 import sys
 import time
@@ -66,14 +67,18 @@ class IgnoresUnknownCancel(Device):
         return None if self.asked is None else super().on_cancel(now)
 
 
-class TakesItForACopy(Device):
+class AnswersALateStandby(Device):
+    """It says again that it stands by, once it has moved."""
+
+    def on_standby(self, asked, now):
+        return "standing_by" if self.step == "complete" else super().on_standby(asked, now)
+
+
+class TakesOtherBytesForACopy(Device):
     """It takes every standby of its number for a copy."""
 
     def on_standby(self, asked, now):
-        if self.step == "complete":
-            return "standing_by"
-        self.asked = asked
-        return super().on_standby(asked, now)
+        return super().on_standby(asked if self.asked is None else self.asked, now)
 
 
 class AbortsALateStandby(Device):
@@ -194,30 +199,129 @@ class AnswersFromElsewhere(Device):
             self.elsewhere.sendto(message(f"/device/{self.number}/{answer}", attempt), self.controller)
 
 
+class IgnoresCancel(Device):
+    """It goes on being ready."""
+
+    def on_cancel(self, now):
+        return None if self.step in ("preparing", "standing_by") else super().on_cancel(now)
+
+
+class CompletesEarly(Device):
+    """It says that it has moved while its machine still moves, and then cannot stand by."""
+    busy = 0.0
+
+    def on_go(self, now):
+        if self.step == "standing_by":
+            self.busy = now + self.seconds["moving"]
+            self.enter("complete", now)
+        return super().on_go(now)
+
+    def on_standby(self, asked, now):
+        if self.step is None and now < self.busy:
+            self.enter("abort", now)
+        return super().on_standby(asked, now)
+
+
+class ObeysBadPadding(Device):
+    """It does not look at the bytes behind a text."""
+
+    def hear(self, data, now):
+        return super().hear(data.replace(b"1\0\0\1", b"1\0\0\0"), now)
+
+
+class ObeysNumbersBelow1(Device):
+    """It takes an order with a number below 1 for one of its own number."""
+
+    def hear(self, data, now):
+        address, at = words_of(data)
+        if address.startswith("/msc/") and (data[at:at + 1] >= b"\x80" or data[at:at + 4] == bytes(4)):
+            data = data[:at] + self.attempt.to_bytes(4, "big") + data[at + 4:]
+        return super().hear(data, now)
+
+
+class AnswersTheLastSender(Device):
+    """An answer that comes later goes to whoever sent something meanwhile."""
+
+    def hear(self, data, now):
+        self.controller = self.sender
+        return super().hear(data, now)
+
+
+class AnswersAFixedPort(Device):
+    """It answers to a port of its own choice."""
+    controller = property(lambda self: ("127.0.0.1", 9), lambda self, value: None)
+
+
+class MovesAgainSilently(Device):
+    """It answers a copy of a go at once, and moves all the same. It prints each motion."""
+
+    def enter(self, step, now):
+        super().enter(step, now)
+        if step == "moving":
+            print("the motor moves", flush=True)
+
+    def on_go(self, now):
+        if self.step == "complete":
+            print("the motor moves", flush=True)
+        return super().on_go(now)
+
+
+class LetsGoByItself(Device):
+    """It holds what it has prepared for six seconds."""
+    ready = 0.0
+
+    def enter(self, step, now):
+        self.ready = now if step == "standing_by" else self.ready
+        super().enter(step, now)
+
+    def on_go(self, now):
+        if self.step == "standing_by" and now - self.ready > 6:
+            self.enter("cancelled", now)
+        return super().on_go(now)
+
+
+class TwoPositions(Device):
+    """It keeps its duties. Its machine may be driven to 00 and to 01; anything else ends it."""
+
+    def on_standby(self, asked, now):
+        if asked[4:] not in (b"\0\0\0\1\0\0\0\0", b"\0\0\0\1\1\0\0\0"):
+            os._exit(1)
+        return super().on_standby(asked, now)
+
+
 BROKEN = {
-    "answers-once": (AnswersOnce, 1),
-    "moves-for-each-copy": (MovesForEachCopy, 2),
-    "sleeps-while-it-moves": (SleepsWhileItMoves, 3),
-    "moves-unprepared": (MovesUnprepared, 4),
-    "ignores-unknown-cancel": (IgnoresUnknownCancel, 5),
-    "takes-it-for-a-copy": (TakesItForACopy, 6),
-    "aborts-a-late-standby": (AbortsALateStandby, 6),
-    "moves-while-it-prepares": (MovesWhileItPrepares, 4),
-    "ignores-cancel-while-it-prepares": (IgnoresCancelWhileItPrepares, 1),
-    "obeys-bundles": (ObeysBundles, 10),
-    "counts-by-itself": (CountsByItself, 12),
-    "forgets-over-a-restart": (ForgetsOverARestart, 13),
-    "says-no-restart": (SaysNoRestart, 15),
-    "obeys-late-orders": (ObeysLateOrders, 7),
-    "aborts-once": (AbortsOnce, 9),
-    "obeys-others-orders": (ObeysOthersOrders, 10),
-    "falls-silent": (FallsSilent, 11),
-    "answers-from-elsewhere": (AnswersFromElsewhere, 12),
+    "answers-once": (AnswersOnce, "1a"),
+    "moves-for-each-copy": (MovesForEachCopy, "2a"),
+    "sleeps-while-it-moves": (SleepsWhileItMoves, "3a"),
+    "moves-unprepared": (MovesUnprepared, "4a"),
+    "ignores-unknown-cancel": (IgnoresUnknownCancel, "5a"),
+    "answers-a-late-standby": (AnswersALateStandby, "6c"),
+    "takes-other-bytes-for-a-copy": (TakesOtherBytesForACopy, "6a"),
+    "aborts-a-late-standby": (AbortsALateStandby, "6c"),
+    "moves-while-it-prepares": (MovesWhileItPrepares, "4a"),
+    "ignores-cancel-while-it-prepares": (IgnoresCancelWhileItPrepares, "1a"),
+    "obeys-bundles": (ObeysBundles, "10d"),
+    "counts-by-itself": (CountsByItself, "12d"),
+    "forgets-over-a-restart": (ForgetsOverARestart, "13c"),
+    "says-no-restart": (SaysNoRestart, "15a"),
+    "obeys-late-orders": (ObeysLateOrders, "7d"),
+    "aborts-once": (AbortsOnce, "9a"),
+    "obeys-others-orders": (ObeysOthersOrders, "10b"),
+    "falls-silent": (FallsSilent, "11a"),
+    "answers-from-elsewhere": (AnswersFromElsewhere, "12a"),
+    "ignores-cancel": (IgnoresCancel, "1a"),
+    "completes-early": (CompletesEarly, "1a"),
+    "obeys-bad-padding": (ObeysBadPadding, "10c"),
+    "obeys-numbers-below-1": (ObeysNumbersBelow1, "10e"),
+    "answers-the-last-sender": (AnswersTheLastSender, "12c"),
+    "answers-a-fixed-port": (AnswersAFixedPort, "12b"),
+    "lets-go-by-itself": (LetsGoByItself, "16a"),
+    "moves-again-silently": (MovesAgainSilently, "2a"),
 }
 
 
 if __name__ == "__main__":
-    device.Device = BROKEN[sys.argv.pop(1)][0]
+    device.Device = {**BROKEN, "two-positions": (TwoPositions, "")}[sys.argv.pop(1)][0]
     heard = device.receive
 
     def receive(wire, due):

@@ -1,5 +1,6 @@
-/* compare COUNT SEED: so many random datagrams and reports of the machine, to the library and to the table. It prints
- * progress, and ends with 1 at the first difference. tests/runs/device-c builds and runs it. */
+/* compare COUNT SEED: so many random datagrams and reports of the machine, to the library, to device/cue_device.c and to
+ * the table. It prints progress, and ends with 1 at the first difference. tests/runs/device-c builds and runs it. */
+#include "hand.h"
 #include "table.h"
 #include <stdio.h>
 #include <stdlib.h>
@@ -16,8 +17,8 @@ static uint32_t below(uint32_t end)
     return (uint32_t)((seed * 0x2545f4914f6cdd1dULL) >> 33) % end;
 }
 
-static struct cue_device device;
-static struct cue_answer answer;
+static struct cue_device device, hand;   /* by the library, and by device/cue_device.c */
+static struct cue_answer answer, answered; /* the same */
 static struct table table;
 static uint8_t datagram[200];
 static size_t length;
@@ -34,18 +35,27 @@ static void differ(const char *what, const char *call)
     exit(1);
 }
 
-/* The whole state and the whole answer are those of the table. */
-static void compare(const char *call, uint32_t order, struct outcome wanted)
+/* The struct that stands for the state of the table. */
+static struct cue_device state_of(const struct table *table)
 {
-    struct cue_device state = {CUE_MAGIC, sizeof state, table.number, table.last, table.phase, table.doing,
-                               table.doing_number, table.unheard, 0, 0, {0}, {0}, table.controller, table.only};
-    struct cue_answer said = {0, {{0}}, {0}};
-    if (table.has_task) {
-        state.cue_length = table.task.cue_length;
-        state.bytes_length = table.task.bytes_length;
-        memcpy(state.cue, table.task.cue, 16);
-        memcpy(state.bytes, table.task.bytes, 32);
+    struct cue_device state = {CUE_MAGIC, sizeof state, table->number, table->last, table->phase, table->doing,
+                               table->doing_number, table->unheard, 0, 0, {0}, {0}, table->controller, table->only};
+    if (table->has_task) {
+        state.cue_length = table->task.cue_length;
+        state.bytes_length = table->task.bytes_length;
+        memcpy(state.cue, table->task.cue, 16);
+        memcpy(state.bytes, table->task.bytes, 32);
     }
+    return state;
+}
+
+/* The whole state and the whole answer are those of the table, and the same by hand. */
+static void compare(const char *call, uint32_t order, uint32_t by_hand, struct outcome wanted)
+{
+    struct cue_device state = state_of(&table);
+    struct cue_answer said = {0, {{0}}, {0}};
+    if (order != by_hand || memcmp(&device, &hand, sizeof hand) || memcmp(&answer, &answered, sizeof answer))
+        differ("device/cue_device.c", call);
     if (wanted.word != SILENCE) {
         said.length = (uint32_t)put_answer(said.bytes, table.number, wanted.word, wanted.number);
         said.to = table.controller;
@@ -71,6 +81,49 @@ static struct cue_place place(void)
     return cue_place_of(0x7f000001, (uint16_t)(9100 + below(below(2) ? 1 : 3)));
 }
 
+static struct task task(void)
+{
+    static const char *const CUES[] = {"1", "1.5", "12", "123", "1234567890.12345", "12345678901234567", "", "1.", "a"};
+    static const uint32_t LENGTHS[] = {0, 1, 2, 3, 4, 31, 32, 33};
+    struct task made;
+    memset(&made, 0, sizeof made);
+    if (table.has_task && below(4))
+        return table.task;
+    made.cue_length = (uint32_t)strlen(strcpy((char *)made.cue, CUES[below(below(8) ? 5 : 9)])) % 18;
+    made.bytes_length = LENGTHS[below(below(8) ? 7 : 8)];
+    for (uint32_t i = 0; i < made.bytes_length; i++)
+        made.bytes[i] = (uint8_t)below(3);
+    return made;
+}
+
+/* Whether it may stand in a standby: of the cues of `task` two end with no digit, and two are too short or too long. */
+static int is_task(const struct task *task)
+{
+    uint32_t length = task->cue_length;
+    return length >= 1 && length <= 16 && task->cue[length - 1] >= '0' && task->cue[length - 1] <= '9' &&
+           task->bytes_length <= 32;
+}
+
+/* Any phase, and an order that the machine may then be at work with. */
+static void any_state(void)
+{
+    static const uint32_t ITS[] = {[CUE_PREPARING] = CUE_PREPARE, [CUE_MOVING] = CUE_MOVE,
+                                   [CUE_LETTING_GO] = CUE_GIVE_UP, [CUE_FAILED] = CUE_NO_ORDER};
+    table.phase = below(8);
+    table.last += 2 + below(3);
+    table.doing = ITS[table.phase];
+    table.doing_number = table.doing ? table.last : 0;
+    if (table.phase >= CUE_LET_GO && below(2)) { /* or with what a lower number asked for */
+        table.doing = 1 + below(3);
+        table.doing_number = table.last - (table.phase == CUE_LET_GO || below(2));
+    }
+    table.unheard = (table.phase == CUE_OVER || table.phase == CUE_FAILED) && below(2);
+    table.controller = place();
+    table.task = task();
+    table.has_task = table.phase != CUE_OVER && is_task(&table.task);
+    device = hand = state_of(&table);
+}
+
 static void begin(void)
 {
     static const uint32_t NUMBERS[] = {0, 3, 9, 10, 99, 100, 111}, LAST[] = {0, 0, 0, 1, 7, 300, 0x7ffffff0};
@@ -78,19 +131,23 @@ static void begin(void)
     table.number = NUMBERS[below(7)];
     table.last = LAST[below(7)];
     memset(&device, 0xa5, sizeof device);
-    memset(&answer, 0, sizeof answer);
+    hand = device;
+    answer = answered = (struct cue_answer){0, {{0}}, {0}};
     if (table.last == 0 && below(2)) {
-        compare("cue_new", cue_new(&device, table.number), (struct outcome){0, 0, 0});
+        compare("cue_new", cue_new(&device, table.number), hand_new(&hand, table.number), (struct outcome){0, 0, 0});
     } else {
         table.controller = place();
         table.unheard = table.last > 0;
         compare("cue_restarted", cue_restarted(&device, table.number, table.last, &table.controller, &answer),
-                table_tick(&table));
+                hand_restarted(&hand, table.number, table.last, &table.controller, &answered), table_tick(&table));
     }
+    if (below(4) == 0 && table.last < 0x7fffff00)
+        any_state();
     if (below(3) == 0) {
         table.only = place();
-        memset(&answer, 0, sizeof answer);
-        compare("cue_hear_only", cue_hear_only(&device, &table.only), (struct outcome){0, 0, 0});
+        answer = answered = (struct cue_answer){0, {{0}}, {0}};
+        compare("cue_hear_only", cue_hear_only(&device, &table.only), hand_hear_only(&hand, &table.only),
+                (struct outcome){0, 0, 0});
     }
 }
 
@@ -108,21 +165,6 @@ static uint32_t number(void)
     if (chance < 99)
         return table.last - below(3);
     return ODD[below(5)];
-}
-
-static struct task task(void)
-{
-    static const char *const CUES[] = {"1", "1.5", "12", "123", "1234567890.12345", "12345678901234567", "", "1.", "a"};
-    static const uint32_t LENGTHS[] = {0, 1, 2, 3, 4, 31, 32, 33};
-    struct task made;
-    memset(&made, 0, sizeof made);
-    if (table.has_task && below(4))
-        return table.task;
-    made.cue_length = (uint32_t)strlen(strcpy((char *)made.cue, CUES[below(below(8) ? 5 : 9)])) % 18;
-    made.bytes_length = LENGTHS[below(below(8) ? 7 : 8)];
-    for (uint32_t i = 0; i < made.bytes_length; i++)
-        made.bytes[i] = (uint8_t)below(3);
-    return made;
 }
 
 /* Changes a whole datagram a little. */
@@ -170,7 +212,8 @@ static void hear(void)
     struct cue_place from = place();
     struct outcome wanted = table_hear(&table, from, datagram, length);
     passed_over += wanted.order == 0 && wanted.word == 0 && !memcmp(&before, &table, sizeof table);
-    compare("cue_hear", cue_hear(&device, &from, datagram, length, &answer), wanted);
+    compare("cue_hear", cue_hear(&device, &from, datagram, length, &answer),
+            hand_hear(&hand, &from, datagram, length, &answered), wanted);
 }
 
 /* The machine reports something: mostly the end of what it was ordered. */
@@ -180,15 +223,15 @@ static void report(void)
     length = 0;
     uint32_t chance = below(12);
     if (chance == 0)
-        compare("cue_cannot", cue_cannot(&device, &answer), table_cannot(&table));
+        compare("cue_cannot", cue_cannot(&device, &answer), hand_cannot(&hand, &answered), table_cannot(&table));
     else if (chance == 1)
-        compare("cue_tick", cue_tick(&device, &answer), table_tick(&table));
+        compare("cue_tick", cue_tick(&device, &answer), hand_tick(&hand, &answered), table_tick(&table));
     else if (order == CUE_PREPARE)
-        compare("cue_prepared", cue_prepared(&device, &answer), table_told(&table, order));
+        compare("cue_prepared", cue_prepared(&device, &answer), hand_prepared(&hand, &answered), table_told(&table, order));
     else if (order == CUE_MOVE)
-        compare("cue_moved", cue_moved(&device, &answer), table_told(&table, order));
+        compare("cue_moved", cue_moved(&device, &answer), hand_moved(&hand, &answered), table_told(&table, order));
     else
-        compare("cue_gave_up", cue_gave_up(&device, &answer), table_told(&table, order));
+        compare("cue_gave_up", cue_gave_up(&device, &answer), hand_gave_up(&hand, &answered), table_told(&table, order));
 }
 
 /* ---- calls that are none */
@@ -198,18 +241,16 @@ static void wants_bad_call(const char *what, struct cue_device bad)
     static const uint8_t GO_1[] = "/msc/go_2pc\0,ii\0\0\0\0\1\0\0\0\3";
     struct cue_device before = bad;
     struct cue_place from = place();
-    uint32_t given[7];
-    answer.length = 1;
-    given[0] = cue_hear(&bad, &from, GO_1, 24, &answer);
-    given[1] = cue_prepared(&bad, &answer);
-    given[2] = cue_moved(&bad, &answer);
-    given[3] = cue_gave_up(&bad, &answer);
-    given[4] = cue_cannot(&bad, &answer);
-    given[5] = cue_tick(&bad, &answer);
-    given[6] = cue_hear_only(&bad, &from);
-    for (int i = 0; i < 7; i++)
-        if (given[i] != CUE_BAD_CALL || answer.length != 0 || memcmp(&before, &bad, sizeof bad)) {
-            printf("FAIL call %d of a state with %s is answered with %u\n", i, what, (unsigned)given[i]);
+    answer.length = answered.length = 1;
+    uint32_t given[] = {
+        cue_hear(&bad, &from, GO_1, 24, &answer), hand_hear(&bad, &from, GO_1, 24, &answered),
+        cue_prepared(&bad, &answer), hand_prepared(&bad, &answered), cue_moved(&bad, &answer),
+        hand_moved(&bad, &answered), cue_gave_up(&bad, &answer), hand_gave_up(&bad, &answered),
+        cue_cannot(&bad, &answer), hand_cannot(&bad, &answered), cue_tick(&bad, &answer),
+        hand_tick(&bad, &answered), cue_hear_only(&bad, &from), hand_hear_only(&bad, &from)};
+    for (size_t i = 0; i < sizeof given / sizeof *given; i++)
+        if (given[i] != CUE_BAD_CALL || answer.length + answered.length != 0 || memcmp(&before, &bad, sizeof bad)) {
+            printf("FAIL call %u of a state with %s is answered with %u\n", (unsigned)i, what, (unsigned)given[i]);
             exit(1);
         }
 }
@@ -257,6 +298,15 @@ static void bad_calls(void)
         cue_hear(&good, &from, &byte, 65536, &answer) == CUE_BAD_CALL && cue_tick(NULL, &answer) == CUE_BAD_CALL &&
         cue_moved(&good, NULL) == CUE_BAD_CALL && cue_hear_only(&good, NULL) == CUE_BAD_CALL &&
         cue_hear(&good, &from, NULL, 0, &answer) == CUE_NO_ORDER;
+    memset(&bad, 0, sizeof bad);
+    refused_calls = refused_calls && hand_new(&bad, 112) == CUE_BAD_CALL && bad.magic == 0 &&
+                    hand_device_new(&bad, 80, 3) == CUE_BAD_CALL &&
+                    hand_device_restarted(&bad, 80, 3, 1, &from) == CUE_BAD_CALL &&
+                    hand_restarted(&bad, 112, 1, &from, &answered) == CUE_BAD_CALL &&
+                    hand_restarted(&bad, 3, 0x80000000, &from, &answered) == CUE_BAD_CALL &&
+                    hand_restarted(&bad, 3, 1, &none, &answered) == CUE_BAD_CALL && bad.magic == 0 &&
+                    hand_restarted(&bad, 3, 0, &none, &answered) == CUE_NO_ORDER && answered.length == 0 &&
+                    hand_hear(&good, &from, NULL, 0, &answered) == CUE_NO_ORDER;
     int is_place = cue_place_address(&from) == 0x7f000001 && cue_place_port(&from) >= 9100;
     printf("%s null pointers, states and numbers out of range are answered\n", refused_calls ? "ok  " : "FAIL");
     if (!refused_calls || !is_place)

@@ -1,0 +1,99 @@
+"""The listing of docs/PLC.md, turned into Python statement by statement, so that it can play docs/vectors.txt.
+
+What the listing leaves to a PLC is here: which datagram is an order (device_model.Device.read), Same and Say.
+"""
+import re
+
+import device_model
+
+STATEMENT = re.compile(r"\s*(?:IF (?P<if>.*?) THEN|ELSIF (?P<elsif>.*?) THEN|(?P<else>ELSE)\b|"
+                       r"(?P<end>END_IF|END_CASE);|CASE (?P<case>\w+) OF|(?P<label>\w+):(?!=)|"
+                       r"(?P<set>\w+) := (?P<value>.*?);|"
+                       r"(?P<return>RETURN);|(?P<call>\w+\(.*?\));)", re.S)
+PHASES = {name: name.upper().replace(" ", "_") for name in ("over", *device_model.ROWS)}
+WORKS = {"": "NOTHING", "prepare": "PREPARE", "move": "MOVE", "give up": "GIVE_UP"}
+
+
+def expression(text):
+    text = re.sub(r"(?<![<>:])=", "==", " ".join(text.split())).replace("<>", "!=")
+    return re.sub(r"\b(AND|OR|NOT|TRUE|FALSE)\b", lambda word: {"TRUE": "True", "FALSE": "False"}.get(
+        word[1], word[1].lower()), text)
+
+
+def body_of(text, names):
+    """The statements of a function, each as a line of Python."""
+    lines, depth, cases, at = [f"global {', '.join(names)}"], 0, [], 0
+    while text[at:].strip():
+        found = STATEMENT.match(text, at)
+        if not found:
+            raise ValueError(f"no statement: {text[at:at + 60]}")
+        at, kind = found.end(), found.lastgroup if found.lastgroup != "value" else "set"
+        word = expression(found[kind])
+        if kind in ("elsif", "else", "end"):
+            depth -= 1 + (word == "END_CASE")
+        if kind == "label":
+            depth -= cases[-1][1]
+        line = {"if": f"if {word}:", "elsif": f"elif {word}:", "else": "else:", "return": "return", "call": word,
+                "label": f"{'elif' if cases and cases[-1][1] else 'if'} {cases[-1][0] if cases else ''} == {word}:",
+                "set": f"{word} = {expression(found['value'] or '')}", "case": "if True:", "end": "pass"}[kind]
+        lines.append("    " * depth + line)
+        if kind == "case":
+            cases.append([word, False])
+        if kind == "label":
+            cases[-1][1] = True
+        depth += kind in ("if", "elsif", "else", "case", "label")
+        if word == "END_CASE":
+            cases.pop()
+    return lines
+
+
+class Plc:
+    """The listing, with its global variables."""
+
+    def __init__(self, page):
+        text = "\n".join(line[4:] for line in page.splitlines() if line.startswith("    "))
+        text = re.sub(r"\(\*.*?\*\)", "", text, flags=re.S)
+        self.names = [name for block in re.findall(r"^VAR_GLOBAL.*?^END_VAR", text, re.M | re.S)
+                      for name in re.findall(r"^    (\w+) :", block, re.M)]
+        types = re.findall(r"^TYPE \w+ : \((.*)\);", text, re.M)
+        self.now = {word: word for words in types for word in words.split(", ")}
+        self.now |= {"Same": lambda a, b: a == b, "Say": lambda word, number: self.said.append((word, number))}
+        for name, inside in re.findall(r"^FUNCTION (\w+) *\n(.*?)^END_FUNCTION", text, re.M | re.S):
+            inputs = re.findall(r"(\w+) :", "".join(re.findall(r"VAR_INPUT(.*?)END_VAR", inside)))
+            lines = body_of(re.sub(r"VAR(?:_INPUT)?\b.*?END_VAR", "", inside, flags=re.S), self.names)
+            exec(f"def {name}({', '.join(inputs)}):\n    " + "\n    ".join(lines), self.now)
+
+    def begin(self, state):
+        """It has come to this state."""
+        self.said = []
+        values = {"Last": state.last, "From": state.controller, "Phase": PHASES[state.phase], "Unheard": state.unheard,
+                  "Doing": WORKS[state.doing], "DoingNumber": state.doing_number, "Asked": state.asked,
+                  "IsAsked": state.asked is not None}
+        self.now |= {name: values[name] for name in self.names}
+
+    def happens(self, state, event, *words):
+        if event == "hear":
+            self.hears(state, *words)
+        else:
+            self.now[{"cannot": "Cannot", "tick": "Repeat"}.get(event, "Ended")]()
+
+    def hears(self, state, sender, data):
+        order = state.read(data)
+        if order:
+            word, number, asked = order
+            self.now["Hear"]({"standby": "STANDBY", "go_2pc": "GO", "cancel": "CANCEL"}[word], number, asked, sender)
+        elif state.is_reply(data):
+            self.now["Unheard"] = False
+
+    def is_in(self, state):
+        """Whether it is in this state."""
+        now = self.now
+        return (now["Last"], now["Phase"], now["Doing"], now["Unheard"], now["From"]) == (
+            state.last, PHASES[state.phase], WORKS[state.doing], state.unheard, state.controller) and (
+            now["Asked"] if now["IsAsked"] else None) == state.asked and (
+            not state.doing or now["DoingNumber"] == state.doing_number)
+
+    def answers(self, device):
+        """What it has said, as a datagram."""
+        return b"".join(device_model.model.message(f"/device/{device}/{word.lower()}", number)
+                        for word, number in self.said)

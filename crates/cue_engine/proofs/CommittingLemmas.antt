@@ -7,7 +7,8 @@ use Rattle.cue_disk.specs.declared.disk.Disk.{Ghosts}
 use Rattle.cue_disk.specs.Disk.{Contents}
 use Rattle.cue_core.specs.declared.event.Event.{Event}
 use Rattle.cue_core.specs.State.{ShowState}
-use Rattle.cue_keeper.specs.Accepting.{HaveRoom}
+use Rattle.cue_keeper.specs.declared.fault.Fault.TheVariants as fault
+use Rattle.cue_keeper.specs.Turning.{IsInTheWay}
 use Rattle.cue_keeper.specs.Due.{lacks_room}
 use Rattle.cue_keeper.specs.Groups.{records_of}
 use Rattle.cue_keeper.specs.Observed as kept
@@ -19,32 +20,37 @@ use Rattle.cue_engine.specs.declared.engine.Engine.{Engine}
 use Rattle.cue_engine.specs.declared.taken.Taken.{Taken}
 use Rattle.cue_engine.specs.Given.{Input, given_of}
 use Rattle.cue_engine.specs.Groups.{batches_given, sends_given}
-use Rattle.cue_engine.specs.Taking.{Offers, IsOffered, TakesTogether}
+use Rattle.cue_engine.specs.Taking.{Offers, IsOffered, TakesUp}
 use Rattle.cue_engine.specs.Takes.{FitsRecord}
-use Rattle.cue_engine.specs.Observed.{keeper_of, state_of, queue_of, offered_of, latest_of, has_room}
+use Rattle.cue_engine.specs.Observed.{keeper_of, state_of, queue_of, offered_of, offered_sends_of, latest_of, has_room}
 use Rattle.cue_engine.proofs.GroupLemmas.{batches_more, sends_more}
+
+-- what holds where the answer is Ok
+pub on_ok : {T E : Type 0} {P Q : Type 0} (r : Result T E) → OnOk r P → (P → Q) → OnOk r Q
+on_ok (Ok t) h f = f h
+on_ok (Err e) h f = tt
 
 module _ {D : Type 0} {disk : Ghosts D} where
   -- a batch for which there was room beside those before it has room
   pub next_fits : (old : Engine D disk) (batches : List (List Event)) (batch : List Event)
       → batches ≡ offered_of old ++ batch ∷ [] → FitsRecord batch → IsTrue (has_room old)
-      → HaveRoom (kept.pair_of (keeper_of old)) batches
+      → IsInTheWay (kept.pair_of (keeper_of old)) batches fault.Full → ⊥
   next_fits old batches batch is fits room =
-      subst (λ (bs : List (List Event)). HaveRoom (kept.pair_of (keeper_of old)) bs) (sym is) (λ several lacks.
+      subst (λ (bs : List (List Event)). IsInTheWay (kept.pair_of (keeper_of old)) bs fault.Full → ⊥) (sym is) (λ way.
       let free : lacks_room (kept.count_of (keeper_of old)) (kept.end_of (keeper_of old))
       (records_of (offered_of old ++ batch ∷ [])) ≡ false =
       room_beside (kept.count_of (keeper_of old)) (kept.end_of (keeper_of old)) (offered_of old) batch room fits.short
-      several in
-      absurd (true≢false (sym lacks ∙ free)))
+      way.1 in
+      absurd (true≢false (sym way.0 ∙ free)))
 
   pub state_taken : {T E : Type 0} (inputs : List (ℕ × Input)) (old new : Engine D disk) (r : Result T E)
-      → IsOffered inputs old → OnOk r (TakesTogether old new)
+      → IsOffered inputs old → OnOk r (TakesUp (offered_of old) (offered_sends_of old) old new)
       → OnOk r (state_of new ≡ folded_all (state_of old) (batches_given (state_of old) inputs))
   state_taken inputs old new (Ok t) offered takes = takes.state ∙ ap (folded_all (state_of old)) offered.batches
   state_taken inputs old new (Err e) offered takes = tt
 
   pub queue_taken : {T E : Type 0} (inputs : List (ℕ × Input)) (old new : Engine D disk) (r : Result T E)
-      → IsOffered inputs old → OnOk r (TakesTogether old new)
+      → IsOffered inputs old → OnOk r (TakesUp (offered_of old) (offered_sends_of old) old new)
       → OnOk r (queue_of new ≡ queue_of old ++ datagrams (sends_given (state_of old) inputs))
   queue_taken inputs old new (Ok t) offered takes = takes.queue
       ∙ ap (λ (sends : List (ℕ × List ℕ)). queue_of old ++ sends) offered.sends

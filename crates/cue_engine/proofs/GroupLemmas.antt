@@ -30,10 +30,6 @@ acceptable_more s (first ∷ batches) batch h k =
     join (are_acceptable s first) (are_all_acceptable (after_events s first) (batches ++ batch ∷ [])) w.0
     (acceptable_more (after_events s first) batches batch w.1 k)
 
-pub acceptable_one : (s : ShowState) (batch : List Event) → IsTrue (are_acceptable s batch)
-    → IsTrue (are_all_acceptable s (batch ∷ []))
-acceptable_one s batch k = join (are_acceptable s batch) true k refl
-
 pub folded_more : (s : ShowState) (batches : List (List Event)) (batch : List Event)
     → folded_all s (batches ++ batch ∷ []) ≡ after_events (folded_all s batches) batch
 folded_more s batches batch = folded_append s batches (batch ∷ [])
@@ -100,6 +96,21 @@ pub after_joined : (s : ShowState) (batches : List (List Event))
 after_joined s [] = refl
 after_joined s (batch ∷ batches) = after_events-append s batch (joined_list batches)
     ∙ after_joined (after_events s batch) batches
+
+pub joined_append : (first then : List (List Event)) → joined_list (first ++ then) ≡ joined_list first ++ joined_list then
+joined_append [] then = refl
+joined_append (batch ∷ first) then = ap (λ (es : List Event). batch ++ es) (joined_append first then)
+    ∙ sym (append_assoc batch (joined_list first) (joined_list then))
+
+-- those without an event add none
+pub joined_some : (batches : List (List Event)) → joined_list (with_events batches) ≡ joined_list batches
+joined_some [] = refl
+joined_some ([] ∷ batches) = joined_some batches
+joined_some ((e ∷ es) ∷ batches) = ap (λ (fs : List Event). e ∷ es ++ fs) (joined_some batches)
+
+pub joined_one : (batch : List Event) → joined_list (with_events (batch ∷ [])) ≡ batch
+joined_one [] = refl
+joined_one (e ∷ es) = append-nil (e ∷ es)
 
 pub inputs-ok : (s : ShowState) (inputs : List (ℕ × Input)) → IsTrue (is_state s)
     → are_acceptable s (joined_list (batches_given s inputs)) ≡ true

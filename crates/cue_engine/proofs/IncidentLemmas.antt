@@ -12,26 +12,26 @@ use Rattle.cue_core.specs.State.{ShowState, empty_state, is_state}
 use Rattle.cue_core.specs.Steps.{after_events, are_acceptable}
 use Rattle.cue_core.proofs.lists.ConditionLemmas.{both, join}
 use Rattle.cue_core.proofs.rules.ApplyLemmas.{after_events-append}
-use Rattle.cue_keeper.specs.Stands.{Stands, StandsEither, first_area}
+use Rattle.cue_keeper.specs.Stands.{Stands, StandsEither, first_area, folded_all}
 use Rattle.cue_keeper.proofs.StandingLemmas.{one_state, fresh_stands}
 use Rattle.cue_records.specs.State.{state_text}
 use Rattle.cue_keeper.proofs.RefusedLemmas.{is_opened}
 use Rattle.cue_outbox.specs.Sending.{Send, all_pending}
 use Rattle.cue_engine.specs.Given.{Input, given_of, given_recovery}
-use Rattle.cue_engine.specs.Groups.{batches_given}
+use Rattle.cue_engine.specs.Groups.{batches_given, sends_given}
 use Rattle.cue_core.specs.Batches.{closed_state}
 use Rattle.cue_engine.specs.Recovery.{ClosedFrom, IsLeftOrStands}
-use Rattle.cue_engine.specs.Runs.{took, with_batch, joined_list, rests}
+use Rattle.cue_engine.specs.Runs.{took, joined_list, rests}
 use Rattle.cue_engine.specs.Runs as runs
-use Rattle.cue_engine.specs.Incidents.{Incident, formed, stopped_in_form, taken, handed_out, stopped, stopped_in_take}
+use Rattle.cue_engine.specs.Incidents.{Incident, formed, stopped_in_form, committed, handed_out, stopped}
 use Rattle.cue_engine.specs.Incidents.{stopped_in_commit, recovered, stopped_in_recovery, refused, Store, running}
 use Rattle.cue_engine.specs.Incidents.{at_rest, unformed, begun, LeavesOnly, AreLeft, PermitsRunning, PermitsAtRest}
 use Rattle.cue_engine.specs.Incidents.{PermitsUnformed, Permits, left_by}
-use Rattle.cue_engine.specs.Headline.{owed_by, handed_in, batch_of, is_cut_off}
+use Rattle.cue_engine.specs.Headline.{owed_by, handed_in, batches_of, is_cut_off}
 use Rattle.cue_core.proofs.lists.AnyLemmas.{all-append, all_implied}
 use Rattle.cue_engine.proofs.RestingLemmas.{more, earlier, input_rests, all_pending_rest}
 use Rattle.cue_engine.proofs.HistoryLemmas.{input-ok, happening-ok}
-use Rattle.cue_engine.proofs.GroupLemmas.{after_joined, inputs-ok}
+use Rattle.cue_engine.proofs.GroupLemmas.{after_joined, joined_some, joined_one, inputs-ok}
 use Rattle.cue_core.proofs.rules.BatchLemmas.{is_state-after_events}
 use Rattle.cue_engine.proofs.SentLemmas.{Each}
 use Rattle.cue_engine.proofs.BytesLemmas.{IsReadable, pending_readable, given_readable}
@@ -76,10 +76,9 @@ pub handed_rests : (s : ShowState) (es : List Event) (store : Store) (i : Incide
     → list_all (rests s es) (owed_by store) ≡ true → list_all (rests s es) (handed_in store i) ≡ true
 handed_rests s es store formed h = refl
 handed_rests s es store (stopped_in_form one other) h = refl
-handed_rests s es store (taken now input) h = refl
+handed_rests s es store (committed inputs) h = refl
 handed_rests s es store handed_out h = h
 handed_rests s es store (stopped n one other) h = all_taken (rests s es) n (owed_by store) h
-handed_rests s es store (stopped_in_take now input n one other) h = all_taken (rests s es) n (owed_by store) h
 handed_rests s es store (stopped_in_commit inputs n one other) h = all_taken (rests s es) n (owed_by store) h
 handed_rests s es store (recovered t) h = refl
 handed_rests s es store (stopped_in_recovery one other) h = refl
@@ -94,11 +93,9 @@ pub handed_readable : (store : Store) (i : Incident) → Each IsReadable (owed_b
     → Each IsReadable (handed_in store i)
 handed_readable store formed h = tt
 handed_readable store (stopped_in_form one other) h = tt
-handed_readable store (taken now input) h = tt
+handed_readable store (committed inputs) h = tt
 handed_readable store handed_out h = h
 handed_readable store (stopped n one other) h = each_taken (λ (m : ℕ × Send). IsReadable m.1) n (owed_by store) h
-handed_readable store (stopped_in_take now input n one other) h =
-    each_taken (λ (m : ℕ × Send). IsReadable m.1) n (owed_by store) h
 handed_readable store (stopped_in_commit inputs n one other) h =
     each_taken (λ (m : ℕ × Send). IsReadable m.1) n (owed_by store) h
 handed_readable store (recovered t) h = tt
@@ -113,9 +110,32 @@ rules_after s es batch h ok = let P : ShowState → Type 0 = λ t. IsTrue (is_st
 
 -- ---- one incident
 
--- the batch is kept whole, or, where its call was cut off, not at all
+-- all events of the batches that it brings
+abbrev pub events_of : ShowState → Incident → List Event
+events_of s (committed inputs) = joined_list (batches_given s inputs)
+events_of s (stopped_in_commit inputs n one other) = joined_list (batches_given s inputs)
+events_of s (recovered t) = (given_recovery s).batch
+events_of s (stopped_in_recovery one other) = (given_recovery s).batch
+events_of s _ = []
+
+pub joined_batches : (s : ShowState) (i : Incident) → joined_list (batches_of s i) ≡ events_of s i
+joined_batches s formed = refl
+joined_batches s (stopped_in_form one other) = refl
+joined_batches s (committed inputs) = joined_some (batches_given s inputs)
+joined_batches s handed_out = refl
+joined_batches s (stopped n one other) = refl
+joined_batches s (stopped_in_commit inputs n one other) = joined_some (batches_given s inputs)
+joined_batches s (recovered t) = joined_one (given_recovery s).batch
+joined_batches s (stopped_in_recovery one other) = joined_one (given_recovery s).batch
+joined_batches s (refused one other) = refl
+
+-- they make the same state
+pub folded_batches : (s : ShowState) (i : Incident) → folded_all s (batches_of s i) ≡ after_events s (events_of s i)
+folded_batches s i = sym (after_joined s (batches_of s i)) ∙ ap (after_events s) (joined_batches s i)
+
+-- the batches are kept whole, or, where their call was cut off, not at all
 abbrev pub Goes : ShowState → List Event → Store → Incident → List ℕ → List ℕ → Type 0
-Goes s es store i x y = IsOn s (es ++ batch_of (after_events s es) i) (left_by store i) x y
+Goes s es store i x y = IsOn s (es ++ events_of (after_events s es) i) (left_by store i) x y
     ⊎ ((is_cut_off i ≡ true) × IsOn s es (left_by store i) x y)
 
 -- what was chosen is among what the disks may read as; before a store is formed there is nothing to choose
@@ -158,19 +178,43 @@ with_cut (inr b) = inr (refl, b)
 
 -- ---- while an engine runs
 
-goes_taken : (s : ShowState) (es : List Event) (owed : List (ℕ × Send)) (now : ℕ) (input : Input) (x y : List ℕ)
+-- what is sent for inputs rests on their batches
+inputs_rest : (s : ShowState) (inputs : List (ℕ × Input))
+    → list_all (rests s (joined_list (batches_given s inputs))) (sends_given s inputs) ≡ true
+inputs_rest s [] = refl
+inputs_rest s (i ∷ is) =
+    let batch : List Event = (given_of s i.0 i.1).batch in
+    let next : ShowState = after_events s batch in
+    let later : List Event = joined_list (batches_given next is) in
+    all-append (rests s (batch ++ later)) (given_of s i.0 i.1).sends (sends_given next is)
+    (all_more s batch later (given_of s i.0 i.1).sends (input_rests s i.0 i.1))
+    (all_earlier s batch later (sends_given next is) (inputs_rest next is))
+
+-- and can be read again
+inputs_readable : (s : ShowState) (inputs : List (ℕ × Input)) → IsTrue (is_state s)
+    → Each IsReadable (sends_given s inputs)
+inputs_readable s [] rules = tt
+inputs_readable s (i ∷ is) rules =
+    let batch : List Event = (given_of s i.0 i.1).batch in
+    let next : ShowState = after_events s batch in
+    each_append (λ (m : ℕ × Send). IsReadable m.1) (given_of s i.0 i.1).sends (sends_given next is)
+    (given_readable s (took i.0 i.1) rules)
+    (inputs_readable next is (is_state-after_events s batch rules (input-ok s i.0 i.1 rules)))
+
+goes_committed : (s : ShowState) (es : List Event) (owed : List (ℕ × Send)) (inputs : List (ℕ × Input)) (x y : List ℕ)
     → IsOn s es (running (after_events s es) owed) [] []
-    → Goes s es (running (after_events s es) owed) (taken now input) x y
-goes_taken s es owed now input x y on =
-    let batch : List Event = (given_of (after_events s es) now input).batch in
-    let sends : List (ℕ × Send) = (given_of (after_events s es) now input).sends in
+    → Goes s es (running (after_events s es) owed) (committed inputs) x y
+goes_committed s es owed inputs x y on =
+    let before : ShowState = after_events s es in
+    let batch : List Event = joined_list (batches_given before inputs) in
+    let sends : List (ℕ × Send) = sends_given before inputs in
     inl (record {
-      has = sym (after_events-append s es batch);
+      has = sym (after_joined before (batches_given before inputs)) ∙ sym (after_events-append s es batch);
       owed = all-append (rests s (es ++ batch)) owed sends (all_more s es batch owed on.owed)
-          (all_earlier s es batch sends (input_rests (after_events s es) now input));
+          (all_earlier s es batch sends (inputs_rest before inputs));
       readable = each_append (λ (m : ℕ × Send). IsReadable m.1) owed sends on.readable
-          (given_readable (after_events s es) (took now input) on.rules);
-      rules = rules_after s es batch on.rules (input-ok (after_events s es) now input on.rules);
+          (inputs_readable before inputs on.rules);
+      rules = rules_after s es batch on.rules (inputs-ok before inputs on.rules);
     })
 
 goes_running : (s : ShowState) (es : List Event) (owed : List (ℕ × Send)) (i : Incident) (x y : List ℕ)
@@ -179,15 +223,12 @@ goes_running : (s : ShowState) (es : List Event) (owed : List (ℕ × Send)) (i 
     → Goes s es (running (after_events s es) owed) i x y
 goes_running s es owed formed x y on ok may = absurd ok
 goes_running s es owed (stopped_in_form one other) x y on ok may = absurd ok
-goes_running s es owed (taken now input) x y on ok may = goes_taken s es owed now input x y on
+goes_running s es owed (committed inputs) x y on ok may = goes_committed s es owed inputs x y on
 goes_running s es owed handed_out x y on ok may =
     inl (as_before s es (running (after_events s es) []) x y
     (record { has = refl; owed = refl; readable = tt; rules = on.rules }))
 goes_running s es owed (stopped n one other) x y on ok may =
     inl (as_before s es (at_rest one other) x y (resting_at s es one other x y on.rules (ok x y may.0 may.1)))
-goes_running s es owed (stopped_in_take now input n one other) x y on ok may =
-    with_cut (resting_either s es (given_of (after_events s es) now input).batch one other x y on.rules
-    (input-ok (after_events s es) now input on.rules) (ok x y may.0 may.1))
 goes_running s es owed (stopped_in_commit inputs n one other) x y on ok may =
     let before : ShowState = after_events s es in
     let P : ShowState → Type 0 = λ t. StandsEither before t x y in
@@ -275,10 +316,9 @@ chosen_at_rest : (then_one then_other : Contents) (i : Incident) (x y : List ℕ
     → MayOn (left_by (at_rest then_one then_other) i) x y → Chosen (at_rest then_one then_other) i x y
 chosen_at_rest then_one then_other formed x y ok may = absurd ok
 chosen_at_rest then_one then_other (stopped_in_form one other) x y ok may = absurd ok
-chosen_at_rest then_one then_other (taken now input) x y ok may = absurd ok
+chosen_at_rest then_one then_other (committed inputs) x y ok may = absurd ok
 chosen_at_rest then_one then_other handed_out x y ok may = absurd ok
 chosen_at_rest then_one then_other (stopped n one other) x y ok may = absurd ok
-chosen_at_rest then_one then_other (stopped_in_take now input n one other) x y ok may = absurd ok
 chosen_at_rest then_one then_other (stopped_in_commit inputs n one other) x y ok may = absurd ok
 chosen_at_rest then_one then_other (recovered t) x y ok may = record {
   first = ok.first;
@@ -359,10 +399,9 @@ goes_unformed s es then_one then_other (stopped_in_form one other) x y rules sam
     inl (as_before s es (unformed one other) x y
     (unformed_at s es one other x y rules same
     (λ u v left_u left_v. still_first then_one then_other first u v (ok u v left_u left_v))))
-goes_unformed s es then_one then_other (taken now input) x y rules same first ok = absurd ok
+goes_unformed s es then_one then_other (committed inputs) x y rules same first ok = absurd ok
 goes_unformed s es then_one then_other handed_out x y rules same first ok = absurd ok
 goes_unformed s es then_one then_other (stopped n one other) x y rules same first ok = absurd ok
-goes_unformed s es then_one then_other (stopped_in_take now input n one other) x y rules same first ok = absurd ok
 goes_unformed s es then_one then_other (stopped_in_commit inputs n one other) x y rules same first ok = absurd ok
 goes_unformed s es then_one then_other (recovered t) x y rules same first ok =
     let stood : ok.closed.before ≡ empty_state =

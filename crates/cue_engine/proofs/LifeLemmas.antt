@@ -11,20 +11,19 @@ use Rattle.cue_core.specs.Steps.{after_events}
 use Rattle.cue_keeper.specs.Pairs.{LeavesPairsAtEachMoment}
 use Rattle.cue_keeper.specs.Stands.{Stands, StandsEither, StandsAs, first_area, folded_all}
 use Rattle.cue_outbox.specs.Sending.{Send, all_pending, datagram, datagrams}
-use Rattle.cue_engine.specs.Given.{Input, given_of}
+use Rattle.cue_engine.specs.Given.{Input}
 use Rattle.cue_engine.specs.Groups.{batches_given, sends_given}
 use Rattle.cue_engine.specs.Recovery.{ClosedFrom, IsLeftOrStands, RefusedBut}
 use Rattle.cue_engine.specs.Runs.{joined_list}
-use Rattle.cue_engine.specs.Incidents.{Incident, formed, stopped_in_form, taken, handed_out, stopped, stopped_in_take}
+use Rattle.cue_engine.specs.Incidents.{Incident, formed, stopped_in_form, committed, handed_out, stopped}
 use Rattle.cue_engine.specs.Incidents.{stopped_in_commit, recovered, stopped_in_recovery, refused, Store, running}
 use Rattle.cue_engine.specs.Incidents.{at_rest, unformed, Permits, left_by, Happens, left_by_all}
 use Rattle.cue_engine.specs.Headline.{owed_by, handed_in, MayRead, HasState, IsPromised, IsAnswered}
 use Rattle.cue_engine.specs.Permitted.{IsWithin}
-use Rattle.cue_engine.specs.Lives.{IsLife, RunsWith, RestsWith, RestsUnformed, IsPromisedAtEachMoment}
-use Rattle.cue_engine.specs.Lives.{RestsAtEachMoment, IsPromisedWithin, RestsWithin, all_taken, LeavesAtEachStop}
-use Rattle.cue_engine.specs.Lives.{IsGivenBack}
+use Rattle.cue_engine.specs.Lives.{IsLife, RunsWith, RestsWith, RestsUnformed, IsPromisedWithin, RestsWithin}
+use Rattle.cue_engine.specs.Lives.{LeavesAtEachStop, IsGivenBack}
 use Rattle.cue_engine.proofs.PromisedLemmas.{whatever_happens, recovery_gives_a_prefix}
-use Rattle.cue_engine.proofs.PermittedLemmas.{stop, stop_in_take, stop_in_commit, stop_in_recovery, stop_in_form}
+use Rattle.cue_engine.proofs.PermittedLemmas.{stop, stop_in_commit, stop_in_recovery, stop_in_form}
 use Rattle.cue_engine.proofs.PermittedLemmas.{refusal}
 
 -- ---- one incident more
@@ -50,25 +49,26 @@ life_more s store is i now life same ok =
           happens_more store is i life.happens (subst P (sym same) ok);
     }
 
--- ---- take
+-- ---- take and commit
 
-pub lives_taken : {T E : Type 0} (s : ShowState) (store : Store) (is : List Incident) (now : ℕ) (input : Input)
+pub lives_committed : {T E : Type 0} (s : ShowState) (store : Store) (is : List Incident) (inputs : List (ℕ × Input))
     (old new : ShowState) (old_queue new_queue : List (ℕ × List ℕ)) (r : Result T E)
-    → OnOk r (new ≡ after_events old (given_of old now input).batch)
-    → OnOk r (new_queue ≡ old_queue ++ datagrams (given_of old now input).sends)
-    → RunsWith s store is old old_queue → OnOk r (RunsWith s store (is ++ taken now input ∷ []) new new_queue)
-lives_taken s store is now input old new old_queue new_queue (Ok t) state queue runs =
-    let owed : List (ℕ × Send) = runs.owed ++ (given_of old now input).sends in
-    let P : ShowState → Type 0 = λ u. left_by_all store (is ++ taken now input ∷ []) ≡ running u owed in
+    → OnOk r (new ≡ folded_all old (batches_given old inputs))
+    → OnOk r (new_queue ≡ old_queue ++ datagrams (sends_given old inputs))
+    → RunsWith s store is old old_queue → OnOk r (RunsWith s store (is ++ committed inputs ∷ []) new new_queue)
+lives_committed s store is inputs old new old_queue new_queue (Ok t) state queue runs =
+    let sends : List (ℕ × Send) = sends_given old inputs in
+    let owed : List (ℕ × Send) = runs.owed ++ sends in
+    let P : ShowState → Type 0 = λ u. left_by_all store (is ++ committed inputs ∷ []) ≡ running u owed in
     record {
-      life = life_more s store is (taken now input) (running old runs.owed) runs.life runs.runs tt;
+      life = life_more s store is (committed inputs) (running old runs.owed) runs.life runs.runs tt;
       owed = owed;
-      runs = subst P (sym state) (left_more store is (taken now input)
-          ∙ ap (λ (u : Store). left_by u (taken now input)) runs.runs);
-      owes = queue ∙ ap (λ (q : List (ℕ × List ℕ)). q ++ datagrams (given_of old now input).sends) runs.owes
-          ∙ sym (map-append datagram runs.owed (given_of old now input).sends);
+      runs = subst P (sym state) (left_more store is (committed inputs)
+          ∙ ap (λ (u : Store). left_by u (committed inputs)) runs.runs);
+      owes = queue ∙ ap (λ (q : List (ℕ × List ℕ)). q ++ datagrams sends) runs.owes
+          ∙ sym (map-append datagram runs.owed sends);
     }
-lives_taken s store is now input old new old_queue new_queue (Err e) state queue runs = tt
+lives_committed s store is inputs old new old_queue new_queue (Err e) state queue runs = tt
 
 pub lives_still : {T E : Type 0} (s : ShowState) (store : Store) (is : List Incident) (old new : ShowState)
     (old_queue new_queue : List (ℕ × List ℕ)) (r : Result T E)
@@ -91,77 +91,6 @@ pub from_answer : {T E : Type 0} {P : T → Type 0} {Q : Type 0} (r : Result T E
     → OnOk r Q
 from_answer (Ok t) h f = f t h
 from_answer (Err e) h f = tt
-
-pub promised_in_take : {D : Type 0} (moment : D → ℕ) (held_at : D → ℕ → Contents) (a b new_a new_b : D) (s : ShowState)
-    (store : Store) (is : List Incident) (now : ℕ) (input : Input) (old : ShowState) (old_queue : List (ℕ × List ℕ))
-    → LeavesPairsAtEachMoment moment held_at a b new_a new_b
-    (StandsEither old (after_events old (given_of old now input).batch))
-    → RunsWith s store is old old_queue → IsPromisedAtEachMoment moment held_at a b new_a new_b s store is now input
-promised_in_take moment held_at a b new_a new_b s store is now input old old_queue leaves runs =
-    λ n i j x y at_i at_j left_x left_y.
-    let one : Contents = held_at new_a i in
-    let other : Contents = held_at new_b j in
-    let stop : Incident = stopped_in_take now input n one other in
-    let ok : Permits (running old runs.owed) stop = stop_in_take moment held_at old runs.owed now input n a b new_a
-    new_b i j one other leaves at_i at_j (λ image left. left) (λ image left. left) in
-    let life = life_more s store is stop (running old runs.owed) runs.life runs.runs ok in
-    recovery_gives_a_prefix s store (is ++ stop ∷ []) one other x y life.rules life.begins life.happens
-    (left_more store is stop) (left_x, left_y)
-
--- ---- commit
-
-happens_append : (store : Store) (is js : List Incident) → Happens store is → Happens (left_by_all store is) js
-    → Happens store (is ++ js)
-happens_append store [] js h k = k
-happens_append store (i ∷ is) js h k = (h.0, happens_append (left_by store i) is js h.1 k)
-
-left_append : (store : Store) (is js : List Incident)
-    → left_by_all store (is ++ js) ≡ left_by_all (left_by_all store is) js
-left_append store [] js = refl
-left_append store (i ∷ is) js = left_append (left_by store i) is js
-
--- inputs that are taken one after the other
-left_taken : (t : ShowState) (owed : List (ℕ × Send)) (inputs : List (ℕ × Input))
-    → left_by_all (running t owed) (all_taken inputs) ≡ running (folded_all t (batches_given t inputs))
-    (owed ++ sends_given t inputs)
-left_taken t owed [] = ap (running t) (sym (append-nil owed))
-left_taken t owed (i ∷ is) =
-    let next : ShowState = after_events t (given_of t i.0 i.1).batch in
-    left_taken next (owed ++ (given_of t i.0 i.1).sends) is
-    ∙ ap (running (folded_all next (batches_given next is)))
-    (append_assoc owed (given_of t i.0 i.1).sends (sends_given next is))
-
-happens_taken : (t : ShowState) (owed : List (ℕ × Send)) (inputs : List (ℕ × Input))
-    → Happens (running t owed) (all_taken inputs)
-happens_taken t owed [] = tt
-happens_taken t owed (i ∷ is) =
-    (tt, happens_taken (after_events t (given_of t i.0 i.1).batch) (owed ++ (given_of t i.0 i.1).sends) is)
-
-pub lives_together : {T E : Type 0} (s : ShowState) (store : Store) (is : List Incident) (inputs : List (ℕ × Input))
-    (old new : ShowState) (old_queue new_queue : List (ℕ × List ℕ)) (r : Result T E)
-    → OnOk r (new ≡ folded_all old (batches_given old inputs))
-    → OnOk r (new_queue ≡ old_queue ++ datagrams (sends_given old inputs))
-    → RunsWith s store is old old_queue → OnOk r (RunsWith s store (is ++ all_taken inputs) new new_queue)
-lives_together s store is inputs old new old_queue new_queue (Err e) state queue runs = tt
-lives_together s store is inputs old new old_queue new_queue (Ok t) state queue runs =
-    let sends : List (ℕ × Send) = sends_given old inputs in
-    let owed : List (ℕ × Send) = runs.owed ++ sends in
-    let P : ShowState → Type 0 = λ u. left_by_all store (is ++ all_taken inputs) ≡ running u owed in
-    let Q : Store → Type 0 = λ u. Happens u (all_taken inputs) in
-    record {
-      life = record {
-        rules = runs.life.rules;
-        begins = runs.life.begins;
-        happens =
-            happens_append store is (all_taken inputs) runs.life.happens
-            (subst Q (sym runs.runs) (happens_taken old runs.owed inputs));
-      };
-      owed = owed;
-      runs = subst P (sym state) (left_append store is (all_taken inputs)
-          ∙ ap (λ (u : Store). left_by_all u (all_taken inputs)) runs.runs ∙ left_taken old runs.owed inputs);
-      owes = queue ∙ ap (λ (q : List (ℕ × List ℕ)). q ++ datagrams sends) runs.owes
-          ∙ sym (map-append datagram runs.owed sends);
-    }
 
 pub promised_in_commit : {D : Type 0} (moment : D → ℕ) (held_at : D → ℕ → Contents) (a b new_a new_b : D)
     (s : ShowState) (store : Store) (is : List Incident) (inputs : List (ℕ × Input)) (old : ShowState)
@@ -291,19 +220,6 @@ rests_more s store is i now one other life same ok leaves = record {
   life = life_more s store is i now life same ok;
   rests = left_more store is i ∙ ap (λ (u : Store). left_by u i) same ∙ leaves;
 }
-
-pub rests_in_take : {D : Type 0} (moment : D → ℕ) (held_at : D → ℕ → Contents) (a b new_a new_b : D) (s : ShowState)
-    (store : Store) (is : List Incident) (now : ℕ) (input : Input) (old : ShowState) (old_queue : List (ℕ × List ℕ))
-    → LeavesPairsAtEachMoment moment held_at a b new_a new_b
-    (StandsEither old (after_events old (given_of old now input).batch))
-    → RunsWith s store is old old_queue → RestsAtEachMoment moment held_at a b new_a new_b s store is now input
-rests_in_take moment held_at a b new_a new_b s store is now input old old_queue leaves runs =
-    λ n i j one other at_i at_j in_one in_other.
-    let ok : Permits (running old runs.owed) (stopped_in_take now input n one other) =
-    stop_in_take moment held_at old runs.owed now input n a b new_a new_b i j one other leaves at_i at_j in_one
-    in_other in
-    rests_more s store is (stopped_in_take now input n one other) (running old runs.owed) one other runs.life runs.runs
-    ok refl
 
 pub rests_in_commit : {D : Type 0} (moment : D → ℕ) (held_at : D → ℕ → Contents) (a b new_a new_b : D) (s : ShowState)
     (store : Store) (is : List Incident) (inputs : List (ℕ × Input)) (old : ShowState) (old_queue : List (ℕ × List ℕ))

@@ -10,7 +10,7 @@ use Rattle.cue_engine.specs.Recovery.{IsLeftOrStands}
 use Rattle.cue_engine.specs.Incidents.{Incident, recovered, stopped_in_recovery, refused, Store, LeavesOnly, RecoversAs}
 use Rattle.cue_engine.specs.Incidents.{PermitsAtRest, PermitsUnformed, Permits}
 use Rattle.cue_engine.specs.Permitted.{IsWithin, IsStop, IsOnDisks, PowerLossIsWithin, StopIsPermitted}
-use Rattle.cue_engine.specs.Permitted.{StopInTakeIsPermitted, StopInCommitIsPermitted, StopInRecoveryIsPermitted}
+use Rattle.cue_engine.specs.Permitted.{StopInCommitIsPermitted, StopInRecoveryIsPermitted}
 use Rattle.cue_engine.specs.Permitted.{StopInFormIsPermitted, RecoveryIsPermitted, RefusalIsPermitted}
 
 settled_stable : (bytes : List ℕ) → IsStable (settled_contents bytes)
@@ -23,10 +23,6 @@ power_loss then_held bytes left = λ image after. let P : List ℕ → Type 0 = 
 pub stop : {D : Type 0} (held : D → Contents) → StopIsPermitted held
 stop held s owed n a b one other stands in_one in_other =
     λ x y left_x left_y. stands x y (in_one x left_x) (in_other y left_y)
-
-pub stop_in_take : {D : Type 0} (moment : D → ℕ) (held_at : D → ℕ → Contents) → StopInTakeIsPermitted moment held_at
-stop_in_take moment held_at s owed now input n a b new_a new_b i j one other leaves at_i at_j in_one in_other =
-    λ x y left_x left_y. leaves.each i j at_i.0 at_i.1 at_j.0 at_j.1 x y (in_one x left_x) (in_other y left_y)
 
 pub stop_in_commit : {D : Type 0} (moment : D → ℕ) (held_at : D → ℕ → Contents) → StopInCommitIsPermitted moment held_at
 stop_in_commit moment held_at s owed inputs n a b new_a new_b i j one other leaves at_i at_j in_one in_other =

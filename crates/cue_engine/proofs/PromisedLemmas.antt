@@ -12,17 +12,19 @@ use Rattle.cue_keeper.proofs.StandingLemmas.{one_state}
 use Rattle.cue_keeper.proofs.RefusedLemmas.{is_opened}
 use Rattle.cue_outbox.specs.Sending.{Send, all_pending, datagrams}
 use Rattle.cue_core.specs.Batches.{closed_state}
-use Rattle.cue_engine.specs.Runs.{with_batch, joined_list, rests}
+use Rattle.cue_engine.specs.Runs.{joined_list, rests}
 use Rattle.cue_engine.specs.Incidents.{Incident, Store, running, at_rest, unformed, left_by, Happens, left_by_all}
-use Rattle.cue_engine.specs.Headline.{handed_in, all_handed, batch_of, is_cut_off, AreKept, BeginsWith, MayRead}
+use Rattle.cue_engine.specs.Headline.{handed_in, all_handed, batches_of, is_cut_off, AreKept, BeginsWith, MayRead}
 use Rattle.cue_engine.specs.Headline.{HasState, CameTo, IsAnswered, WhateverHappens, RecoveryGivesAPrefix}
 use Rattle.cue_core.proofs.lists.AnyLemmas.{all-append}
-use Rattle.cue_engine.proofs.RestingLemmas.{all_pending_rest, joined-with}
+use Rattle.cue_engine.proofs.RestingLemmas.{all_pending_rest}
+use Rattle.cue_engine.proofs.GroupLemmas.{joined_append}
 use Rattle.cue_engine.proofs.SentLemmas.{Each}
 use Rattle.cue_engine.proofs.BytesLemmas.{IsReadable, pending_readable, all_say}
 use Rattle.cue_outbox.proofs.ListLemmas.{each_append}
 use Rattle.cue_engine.proofs.IncidentLemmas.{HasOn, IsOn, Goes, MayOn, all_more, handed_rests, handed_readable}
 use Rattle.cue_engine.proofs.IncidentLemmas.{as_before, resting_at, unformed_at, chosen}
+use Rattle.cue_engine.proofs.IncidentLemmas.{events_of, joined_batches, folded_batches}
 
 -- ---- all of them
 
@@ -40,22 +42,26 @@ found_none s es store x y on =
 
 found_whole : (s : ShowState) (es : List Event) (store : Store) (i : Incident) (is : List Incident)
     (x y first second : List ℕ) → IsOn s es store first second
-    → Found s (es ++ batch_of (after_events s es) i) (left_by store i) is x y → Found s es store (i ∷ is) x y
+    → Found s (es ++ events_of (after_events s es) i) (left_by store i) is x y → Found s es store (i ∷ is) x y
 found_whole s es store i is x y first second on f =
-    let batch : List Event = batch_of (after_events s es) i in
+    let before : ShowState = after_events s es in
+    let batches : List (List Event) = batches_of before i in
+    let batch : List Event = events_of before i in
     let P : ShowState → Type 0 = λ u. AreKept u is f.kept in
-    let same : (es ++ batch) ++ joined_list f.kept ≡ es ++ joined_list (with_batch batch f.kept) =
-    append_assoc es batch (joined_list f.kept)
-    ∙ ap (λ (xs : List Event). es ++ xs) (sym (joined-with batch f.kept)) in
+    let joined : batch ++ joined_list f.kept ≡ joined_list (batches ++ f.kept) =
+    ap (λ (xs : List Event). xs ++ joined_list f.kept) (sym (joined_batches before i))
+    ∙ sym (joined_append batches f.kept) in
+    let same : (es ++ batch) ++ joined_list f.kept ≡ es ++ joined_list (batches ++ f.kept) =
+    append_assoc es batch (joined_list f.kept) ∙ ap (λ (xs : List Event). es ++ xs) joined in
     let Q : List Event → Type 0 = λ xs. HasOn (left_by_all (left_by store i) is) x y (after_events s xs) in
     let R : List Event → Type 0 = λ xs. list_all (rests s xs) (all_handed (left_by store i) is) ≡ true in
     record {
-      kept = with_batch batch f.kept;
-      prefix = inl (f.kept, (refl, subst P (after_events-append s es batch) f.prefix));
+      kept = batches ++ f.kept;
+      prefix = inl (f.kept, (refl, subst P (after_events-append s es batch ∙ sym (folded_batches before i)) f.prefix));
       has = subst Q same f.has;
-      decided = all-append (rests s (es ++ joined_list (with_batch batch f.kept))) (handed_in store i)
+      decided = all-append (rests s (es ++ joined_list (batches ++ f.kept))) (handed_in store i)
           (all_handed (left_by store i) is)
-          (all_more s es (joined_list (with_batch batch f.kept)) (handed_in store i)
+          (all_more s es (joined_list (batches ++ f.kept)) (handed_in store i)
           (handed_rests s es store i on.owed)) (subst R same f.decided);
       readable = each_append (λ (m : ℕ × Send). IsReadable m.1) (handed_in store i) (all_handed (left_by store i) is)
           (handed_readable store i on.readable) f.readable;
@@ -76,8 +82,8 @@ found_cut s es store i is x y first second on cut f = record {
 
 found_either : (s : ShowState) (es : List Event) (store : Store) (i : Incident) (is : List Incident)
     (x y first second u v : List ℕ) → IsOn s es store first second
-    → (IsOn s (es ++ batch_of (after_events s es) i) (left_by store i) u v
-    → Found s (es ++ batch_of (after_events s es) i) (left_by store i) is x y)
+    → (IsOn s (es ++ events_of (after_events s es) i) (left_by store i) u v
+    → Found s (es ++ events_of (after_events s es) i) (left_by store i) is x y)
     → (IsOn s es (left_by store i) u v → Found s es (left_by store i) is x y)
     → Goes s es store i u v → Found s es store (i ∷ is) x y
 found_either s es store i is x y first second u v on whole cut (inl h) =
@@ -104,7 +110,7 @@ found store (i ∷ is) x y ok may =
       may = now.may;
       finds = λ s es on.
           found_either s es store i is x y now.first now.second later.first later.second on
-          (λ h. later.finds s (es ++ batch_of (after_events s es) i) h)
+          (λ h. later.finds s (es ++ events_of (after_events s es) i) h)
           (λ h. later.finds s es h)
           (now.goes s es on);
     }

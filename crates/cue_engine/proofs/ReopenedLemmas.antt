@@ -15,13 +15,13 @@ use Rattle.cue_keeper.specs.declared.fault.Fault.{Fault}
 use Rattle.cue_keeper.specs.declared.fault.StoreFault.{StoreFault}
 use Rattle.cue_keeper.specs.declared.fault.StoreFault.TheVariants as store
 use Rattle.cue_keeper.proofs.StandingLemmas.{one_state}
-use Rattle.cue_keeper.specs.Due.{is_due}
+use Rattle.cue_keeper.specs.Due.{lacks_room}
 use Rattle.cue_keeper.specs.Refusals.{HasOtherVersion, StandsForNone}
 use Rattle.cue_keeper.specs.Stands.{Stands, StandsEither, IsKept}
 use Rattle.cue_core.specs.Batches.{closed_state}
 use Rattle.cue_engine.specs.Recovery.{ClosedFrom, IsLeftOrStands, NeedsArea, NoGenerationLeft, RefusedBut}
 use Rattle.cue_engine.specs.Recovery.{CannotBeRecovered}
-use Rattle.cue_engine.specs.Recovery.{cancels_length}
+use Rattle.cue_engine.specs.Recovery.{cancels_records}
 
 -- ---- what a crash leaves
 
@@ -42,19 +42,19 @@ left_or_stands then_a then_b first second s left_first left_second stood x y sta
 
 needs_area : (one other : Contents) (s : ShowState) (generation count end : ℕ)
     (kept : IsKept one other s generation count end) → IsImage one one.bytes → IsImage other other.bytes
-    → 1 ≤ length (events_at s recovered) → IsTrue (is_due count end (cancels_length s))
+    → 1 ≤ length (events_at s recovered) → IsTrue (lacks_room count end (cancels_records s))
     → NeedsArea one.bytes other.bytes kept.area s
 needs_area one other s generation count end kept first second some due = record {
   reads = kept.leaves one.bytes other.bytes first second;
   stands = kept.stands;
   some = some;
-  due = subst (λ (n : ℕ). IsTrue (is_due n (length (area_text kept.area)) (cancels_length s))) kept.same_count
-      (subst (λ (n : ℕ). IsTrue (is_due count n (cancels_length s))) kept.same_end due);
+  due = subst (λ (n : ℕ). IsTrue (lacks_room n (length (area_text kept.area)) (cancels_records s))) kept.same_count
+      (subst (λ (n : ℕ). IsTrue (lacks_room count n (cancels_records s))) kept.same_end due);
 }
 
 pub no_generation : (one other : Contents) (s : ShowState) (generation count end : ℕ)
     → IsKept one other s generation count end → IsImage one one.bytes → IsImage other other.bytes
-    → 1 ≤ length (events_at s recovered) → IsTrue (is_due count end (cancels_length s)) → generation ≡ 2 ^ 64 - 1
+    → 1 ≤ length (events_at s recovered) → IsTrue (lacks_room count end (cancels_records s)) → generation ≡ 2 ^ 64 - 1
     → NoGenerationLeft one.bytes other.bytes
 no_generation one other s generation count end kept first second some due last = record {
   area = kept.area;
@@ -78,16 +78,16 @@ the_area one other s generation count end kept first second area t needs =
 pub needs_new_area : (one other : Contents) (s : ShowState) (generation count end : ℕ)
     → IsKept one other s generation count end → IsImage one one.bytes → IsImage other other.bytes
     → (area : Area) (t : ShowState) → NeedsArea one.bytes other.bytes area t → (1 ≤ length (events_at s recovered))
-    × IsTrue (is_due count end (cancels_length s))
+    × IsTrue (lacks_room count end (cancels_records s))
 needs_new_area one other s generation count end kept first second area t needs =
     let same = the_area one other s generation count end kept first second area t needs in
-    let due : IsTrue (is_due (length kept.area.payloads) (length (area_text kept.area)) (cancels_length t)) =
-    subst (λ (a : Area). IsTrue (is_due (length a.payloads) (length (area_text a)) (cancels_length t))) same.0
+    let due : IsTrue (lacks_room (length kept.area.payloads) (length (area_text kept.area)) (cancels_records t)) =
+    subst (λ (a : Area). IsTrue (lacks_room (length a.payloads) (length (area_text a)) (cancels_records t))) same.0
     needs.due in (
       subst (λ (x : ShowState). 1 ≤ length (events_at x recovered)) same.1 needs.some,
-      subst (λ (x : ShowState). IsTrue (is_due count end (cancels_length x))) same.1
-          (subst (λ (n : ℕ). IsTrue (is_due count n (cancels_length t))) (sym kept.same_end)
-          (subst (λ (n : ℕ). IsTrue (is_due n (length (area_text kept.area)) (cancels_length t))) (sym kept.same_count)
+      subst (λ (x : ShowState). IsTrue (lacks_room count end (cancels_records x))) same.1
+          (subst (λ (n : ℕ). IsTrue (lacks_room count n (cancels_records t))) (sym kept.same_end)
+          (subst (λ (n : ℕ). IsTrue (lacks_room n (length (area_text kept.area)) (cancels_records t))) (sym kept.same_count)
           due)),
     )
 

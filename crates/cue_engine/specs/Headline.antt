@@ -9,15 +9,16 @@ use Rattle.cue_core.specs.declared.event.Event.{Event}
 use Rattle.cue_core.specs.State.{ShowState, empty_state, is_state}
 use Rattle.cue_core.specs.Steps.{after_events}
 use Rattle.cue_core.specs.Batches.{closed_state}
-use Rattle.cue_keeper.specs.Stands.{Stands, StandsAs}
+use Rattle.cue_keeper.specs.Groups.{with_events}
+use Rattle.cue_keeper.specs.Stands.{Stands, StandsAs, folded_all}
 use Rattle.cue_keeper.specs.Refusals.{HasOtherVersion, StandsForNone}
 use Rattle.cue_outbox.specs.Sending.{Send, all_pending, datagrams}
-use Rattle.cue_engine.specs.Given.{given_of, given_recovery}
+use Rattle.cue_engine.specs.Given.{given_recovery}
 use Rattle.cue_engine.specs.Groups.{batches_given}
 use Rattle.cue_engine.specs.Recovery.{ClosedFrom}
-use Rattle.cue_engine.specs.Runs.{with_batch, joined_list, rests}
+use Rattle.cue_engine.specs.Runs.{joined_list, rests}
 use Rattle.cue_engine.specs.InBytes.{BytesRest}
-use Rattle.cue_engine.specs.Incidents.{Incident, taken, handed_out, stopped, stopped_in_take, stopped_in_commit}
+use Rattle.cue_engine.specs.Incidents.{Incident, committed, handed_out, stopped, stopped_in_commit}
 use Rattle.cue_engine.specs.Incidents.{recovered, stopped_in_recovery, Store, running, at_rest, unformed, LeavesOnly}
 use Rattle.cue_engine.specs.Incidents.{AreLeft}
 use Rattle.cue_engine.specs.Incidents.{left_by, Happens, left_by_all}
@@ -32,7 +33,6 @@ owed_by (unformed one other) = []
 abbrev pub handed_in : Store → Incident → List (ℕ × Send)
 handed_in store handed_out = owed_by store
 handed_in store (stopped n one other) = take n (owed_by store)
-handed_in store (stopped_in_take now input n one other) = take n (owed_by store)
 handed_in store (stopped_in_commit inputs n one other) = take n (owed_by store)
 handed_in store _ = []
 
@@ -43,31 +43,28 @@ all_handed store (i ∷ is) = handed_in store i ++ all_handed (left_by store i) 
 
 -- ---- which batches are kept
 
--- The batch that an incident brings to the state before it. Those of a `commit` that was cut off count as one: they are
--- kept together or not at all.
-abbrev pub batch_of : ShowState → Incident → List Event
-batch_of s (taken now input) = (given_of s now input).batch
-batch_of s (stopped_in_take now input n one other) = (given_of s now input).batch
-batch_of s (stopped_in_commit inputs n one other) = joined_list (batches_given s inputs)
-batch_of s (recovered t) = (given_recovery s).batch
-batch_of s (stopped_in_recovery one other) = (given_recovery s).batch
-batch_of s _ = []
+-- The batches that an incident brings to the state before it, each by itself. One without an event is none.
+abbrev pub batches_of : ShowState → Incident → List (List Event)
+batches_of s (committed inputs) = with_events (batches_given s inputs)
+batches_of s (stopped_in_commit inputs n one other) = with_events (batches_given s inputs)
+batches_of s (recovered t) = with_events ((given_recovery s).batch ∷ [])
+batches_of s (stopped_in_recovery one other) = with_events ((given_recovery s).batch ∷ [])
+batches_of s _ = []
 
--- The call that accepts the batch was cut off, so the batch is not acknowledged.
+-- The call that accepts the batches was cut off, so they are not acknowledged.
 abbrev pub is_cut_off : Incident → Bool
-is_cut_off (stopped_in_take now input n one other) = true
 is_cut_off (stopped_in_commit inputs n one other) = true
 is_cut_off (stopped_in_recovery one other) = true
 is_cut_off _ = false
 
--- These are the kept ones of the batches that came to the state, in their order. Each is kept whole; only one whose
--- call was cut off may not be kept at all, and a recovery comes after it. So between two recoveries they are a
--- prefix of the accepted batches that holds every acknowledged one.
+-- These are the kept ones of the batches that came to the state, in their order, each by itself and whole. Only those
+-- of a call that was cut off may not be kept, and then none of them is; a recovery comes after them. So between two
+-- recoveries they are a prefix of the accepted batches that holds every acknowledged one.
 abbrev pub AreKept : ShowState → List Incident → List (List Event) → Type 0
 AreKept s [] kept = kept ≡ []
 AreKept s (i ∷ is) kept =
-    ((others : List (List Event)) × ((kept ≡ with_batch (batch_of s i) others)
-    × AreKept (after_events s (batch_of s i)) is others))
+    ((others : List (List Event)) × ((kept ≡ batches_of s i ++ others)
+    × AreKept (folded_all s (batches_of s i)) is others))
     ⊎ ((is_cut_off i ≡ true) × AreKept s is kept)
 
 -- ---- where a life begins, and where it is looked at

@@ -6,12 +6,11 @@
 use Rattle.std.specs.Prelude.{ℕ, List, [], ◌∷◌, ◌++◌}
 use Rattle.cue_disk.specs.Disk.{Contents, IsImage}
 use Rattle.cue_core.specs.State.{ShowState, empty_state}
-use Rattle.cue_core.specs.Steps.{after_events}
 use Rattle.cue_keeper.specs.Stands.{StandsEither, StandsAs, first_area, folded_all}
 use Rattle.cue_outbox.specs.Sending.{Send, all_pending}
 use Rattle.cue_snap.specs.Pair.{IsUnformedOr}
-use Rattle.cue_engine.specs.Given.{Input, given_of}
-use Rattle.cue_engine.specs.Groups.{batches_given}
+use Rattle.cue_engine.specs.Given.{Input}
+use Rattle.cue_engine.specs.Groups.{batches_given, sends_given}
 use Rattle.cue_engine.specs.Recovery.{ClosedFrom, IsLeftOrStands}
 
 -- What may happen to a store. After a stop, with power lost or not, or a refusal the disks hold `one` and `other`.
@@ -20,17 +19,15 @@ pub data Incident : Type 0 where
   formed : Incident
   -- A stop came within `form`, or a disk failed there.
   stopped_in_form : (one other : Contents) → Incident
-  -- `take` answered Ok: the batch of this input is acknowledged.
-  taken : (now : ℕ) (input : Input) → Incident
+  -- `take` of an input or `commit` of several answered Ok: the batch of each of these inputs is acknowledged.
+  committed : (inputs : List (ℕ × Input)) → Incident
   -- `hand_out`: all that was owed was handed to the network.
   handed_out : Incident
   -- A stop came while no call wrote to the disks, or the engine was closed. Of what was owed the first n datagrams had
   -- been handed to the network by then.
   stopped : (n : ℕ) (one other : Contents) → Incident
-  -- A stop came within `take`, or a disk failed there. Of what was owed before it n datagrams may still be handed over.
-  stopped_in_take : (now : ℕ) (input : Input) (n : ℕ) (one other : Contents) → Incident
-  -- The same within `commit`, of these inputs that had been offered: they are kept together or not at all. A `commit`
-  -- that answered Ok is each of its inputs taken, one after the other.
+  -- A stop came within `take` or `commit` of these inputs, or a disk failed there: they are kept together or not at all.
+  -- Of what was owed before it n datagrams may still be handed over.
   stopped_in_commit : (inputs : List (ℕ × Input)) (n : ℕ) (one other : Contents) → Incident
   -- `recover` answered Ok, with this state.
   recovered : (state : ShowState) → Incident
@@ -69,14 +66,12 @@ pub record RecoversAs (one other : Contents) (s : ShowState) : Type 0 where
   pub closed : ClosedFrom first second s
 
 -- While an engine runs and no call writes, whatever a crash leaves stands for the state (`accepts` of `take`,
--- `stands` of `recover` and `close`, `formed` of `form`). A stop within `take` leaves the state from before or the one
--- after the whole batch, one within `commit` the state from before or the one after all of its batches (`any_moment`).
+-- `stands` of `recover` and `close`, `formed` of `form`). A stop within `take` or `commit` leaves the state from before
+-- or the one after all of the batches (`any_moment`).
 abbrev pub PermitsRunning : ShowState → Incident → Type 0
-PermitsRunning s (taken now input) = Unit {0}
+PermitsRunning s (committed inputs) = Unit {0}
 PermitsRunning s handed_out = Unit {0}
 PermitsRunning s (stopped n one other) = StandsAs one other s
-PermitsRunning s (stopped_in_take now input n one other) =
-    LeavesOnly one other (StandsEither s (after_events s (given_of s now input).batch))
 PermitsRunning s (stopped_in_commit inputs n one other) =
     LeavesOnly one other (StandsEither s (folded_all s (batches_given s inputs)))
 PermitsRunning s _ = ⊥
@@ -111,12 +106,12 @@ Permits (unformed one other) i = PermitsUnformed one other i
 
 -- ---- what an incident leaves
 
--- an engine that took an input has the state after the batch, and owes what is sent for it, too
-abbrev pub having_taken : Store → ℕ → Input → Store
-having_taken (running s owed) now input = running (after_events s (given_of s now input).batch)
-    (owed ++ (given_of s now input).sends)
-having_taken (at_rest one other) now input = at_rest one other
-having_taken (unformed one other) now input = unformed one other
+-- an engine that committed inputs has the state after their batches, and owes what is sent for them, too
+abbrev pub having_committed : Store → List (ℕ × Input) → Store
+having_committed (running s owed) inputs =
+    running (folded_all s (batches_given s inputs)) (owed ++ sends_given s inputs)
+having_committed (at_rest one other) inputs = at_rest one other
+having_committed (unformed one other) inputs = unformed one other
 
 abbrev pub having_handed_out : Store → Store
 having_handed_out (running s owed) = running s []
@@ -133,10 +128,9 @@ still_at_rest (unformed then_one then_other) one other = unformed one other
 abbrev pub left_by : Store → Incident → Store
 left_by store formed = begun empty_state
 left_by store (stopped_in_form one other) = still_at_rest store one other
-left_by store (taken now input) = having_taken store now input
+left_by store (committed inputs) = having_committed store inputs
 left_by store handed_out = having_handed_out store
 left_by store (stopped n one other) = at_rest one other
-left_by store (stopped_in_take now input n one other) = at_rest one other
 left_by store (stopped_in_commit inputs n one other) = at_rest one other
 left_by store (recovered s) = begun s
 left_by store (stopped_in_recovery one other) = still_at_rest store one other

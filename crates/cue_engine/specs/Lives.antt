@@ -1,5 +1,5 @@
 -- The life of a store that the calls themselves make: each call goes on with it.
-use Rattle.std.specs.Prelude.{◌≡◌, ℕ, List, [], ◌∷◌, ◌++◌, map, Option, IsTrue}
+use Rattle.std.specs.Prelude.{◌≡◌, ℕ, List, [], ◌∷◌, ◌++◌, Option, IsTrue}
 use Rattle.std.specs.List.{AllByRecursion, list_all}
 use Rattle.cue_disk.specs.Disk.{Contents, IsImage}
 use Rattle.cue_snap.specs.Pair.{AfterBarrier}
@@ -11,7 +11,7 @@ use Rattle.cue_outbox.specs.Sending.{Send, all_pending, datagrams}
 use Rattle.cue_engine.specs.Given.{Input}
 use Rattle.cue_engine.specs.Runs.{joined_list, rests}
 use Rattle.cue_engine.specs.InBytes.{BytesRest}
-use Rattle.cue_engine.specs.Incidents.{Incident, taken, stopped_in_take, stopped_in_commit, Store, running, at_rest}
+use Rattle.cue_engine.specs.Incidents.{Incident, stopped_in_commit, Store, running, at_rest}
 use Rattle.cue_engine.specs.Incidents.{stopped, unformed, Happens, left_by_all}
 use Rattle.cue_engine.specs.Headline.{BeginsWith, AreKept, all_handed, handed_in, IsPromised}
 use Rattle.cue_engine.specs.Wires.{Handed, AreHanded}
@@ -56,25 +56,8 @@ abbrev pub InEachLifeBefore : Contents → Contents → (ShowState → Store →
 InEachLifeBefore one other P = (s : ShowState) (store : Store) (is : List Incident) → RestsUnformed s store is one other
     → P s store is
 
--- Wherever a stop finds the two disks within `take`, and whatever a crash leaves of them there, the promise holds.
-abbrev pub IsPromisedAtEachMoment : {D : Type 0} (moment : D → ℕ) (held_at : D → ℕ → Contents) (a b new_a new_b : D)
-    → ShowState → Store → List Incident → ℕ → Input → Type 0
-IsPromisedAtEachMoment moment held_at a b new_a new_b s store is now input =
-    (n i j : ℕ) (x y : List ℕ)
-    → IsFromTo (moment a) (moment new_a) i → IsFromTo (moment b) (moment new_b) j
-    → IsImage (held_at new_a i) x → IsImage (held_at new_b j) y
-    → IsPromised s store (is ++ stopped_in_take now input n (held_at new_a i) (held_at new_b j) ∷ []) x y
-
--- Wherever a stop finds them there, with power lost or not, the life goes on at rest.
-abbrev pub RestsAtEachMoment : {D : Type 0} (moment : D → ℕ) (held_at : D → ℕ → Contents) (a b new_a new_b : D)
-    → ShowState → Store → List Incident → ℕ → Input → Type 0
-RestsAtEachMoment moment held_at a b new_a new_b s store is now input =
-    (n i j : ℕ) (one other : Contents)
-    → IsFromTo (moment a) (moment new_a) i → IsFromTo (moment b) (moment new_b) j
-    → IsWithin (held_at new_a i) one → IsWithin (held_at new_b j) other
-    → RestsWith s store (is ++ stopped_in_take now input n one other ∷ []) one other
-
--- The same within `commit`, of these inputs.
+-- Wherever a stop finds the two disks within `take` or `commit` of these inputs, and whatever a crash leaves of them
+-- there, the promise holds.
 abbrev pub IsPromisedWithin : {D : Type 0} (moment : D → ℕ) (held_at : D → ℕ → Contents) (a b new_a new_b : D)
     → ShowState → Store → List Incident → List (ℕ × Input) → Type 0
 IsPromisedWithin moment held_at a b new_a new_b s store is inputs =
@@ -83,6 +66,7 @@ IsPromisedWithin moment held_at a b new_a new_b s store is inputs =
     → IsImage (held_at new_a i) x → IsImage (held_at new_b j) y
     → IsPromised s store (is ++ stopped_in_commit inputs n (held_at new_a i) (held_at new_b j) ∷ []) x y
 
+-- Wherever a stop finds them there, with power lost or not, the life goes on at rest.
 abbrev pub RestsWithin : {D : Type 0} (moment : D → ℕ) (held_at : D → ℕ → Contents) (a b new_a new_b : D)
     → ShowState → Store → List Incident → List (ℕ × Input) → Type 0
 RestsWithin moment held_at a b new_a new_b s store is inputs =
@@ -100,10 +84,6 @@ pub record StopsAfterSome (s : ShowState) (store : Store) (is : List Incident) (
       (x y : Contents)
       → AreHanded told (datagrams (handed_in (left_by_all store is) (stopped n x y))) told_then
   pub rests : (x y : Contents) → IsWithin one x → IsWithin other y → RestsWith s store (is ++ stopped n x y ∷ []) x y
-
--- inputs that were taken together, each as one that was taken
-abbrev pub all_taken : List (ℕ × Input) → List Incident
-all_taken inputs = map (λ i. taken i.0 i.1) inputs
 
 -- Wherever a stop finds the two disks within a call that has a barrier, with power lost or not, Q holds of what they
 -- hold from then on. P is what the call says of them from the barrier on.

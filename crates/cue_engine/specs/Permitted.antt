@@ -8,14 +8,13 @@ use Rattle.cue_disk.specs.Disk.{Contents, IsImage, LeavesAtEachMoment}
 use Rattle.cue_disk.specs.Effect.{settled_contents}
 use Rattle.cue_snap.specs.Pair.{AfterBarrier, IsUnformedOr}
 use Rattle.cue_core.specs.State.{ShowState}
-use Rattle.cue_core.specs.Steps.{after_events}
 use Rattle.cue_keeper.specs.Pairs.{LeavesPairsAtEachMoment}
 use Rattle.cue_keeper.specs.Stands.{StandsEither, StandsAs, first_area, folded_all}
 use Rattle.cue_outbox.specs.Sending.{Send}
-use Rattle.cue_engine.specs.Given.{Input, given_of}
+use Rattle.cue_engine.specs.Given.{Input}
 use Rattle.cue_engine.specs.Groups.{batches_given}
 use Rattle.cue_engine.specs.Recovery.{ClosedFrom, IsLeftOrStands}
-use Rattle.cue_engine.specs.Incidents.{stopped_in_form, stopped, stopped_in_take, stopped_in_commit, recovered}
+use Rattle.cue_engine.specs.Incidents.{stopped_in_form, stopped, stopped_in_commit, recovered}
 use Rattle.cue_engine.specs.Incidents.{stopped_in_recovery, refused, Store, running, at_rest, unformed, Permits}
 
 -- ---- when a stop comes, and what the disks hold after it
@@ -54,18 +53,8 @@ StopIsPermitted {D} held =
     → IsWithin (held a) one → IsWithin (held b) other
     → Permits (running s owed) (stopped n one other)
 
--- Within `take` (`any_moment`): a stop that finds each disk at any of its moments is permitted.
-abbrev pub StopInTakeIsPermitted : {D : Type 0} (moment : D → ℕ) (held_at : D → ℕ → Contents) → Type 0
-StopInTakeIsPermitted {D} moment held_at =
-    (s : ShowState) (owed : List (ℕ × Send)) (now : ℕ) (input : Input) (n : ℕ) (a b new_a new_b : D) (i j : ℕ)
-    (one other : Contents)
-    → LeavesPairsAtEachMoment moment held_at a b new_a new_b
-    (StandsEither s (after_events s (given_of s now input).batch))
-    → IsFromTo (moment a) (moment new_a) i → IsFromTo (moment b) (moment new_b) j
-    → IsWithin (held_at new_a i) one → IsWithin (held_at new_b j) other
-    → Permits (running s owed) (stopped_in_take now input n one other)
-
--- Within `commit` (`any_moment`), of these inputs: the same.
+-- Within `take` or `commit` of these inputs (`any_moment`): a stop that finds each disk at any of its moments is
+-- permitted.
 abbrev pub StopInCommitIsPermitted : {D : Type 0} (moment : D → ℕ) (held_at : D → ℕ → Contents) → Type 0
 StopInCommitIsPermitted {D} moment held_at =
     (s : ShowState) (owed : List (ℕ × Send)) (inputs : List (ℕ × Input)) (n : ℕ) (a b new_a new_b : D)

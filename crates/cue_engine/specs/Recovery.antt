@@ -1,14 +1,14 @@
 -- What a recovery leaves on two disks, and why it is refused.
-use Rattle.std.specs.Prelude.{◌≡◌, ◌⊎◌, ◌≤◌, ◌-◌, ◌^◌, ℕ, List, length, IsTrue, Result, Ok, Err}
+use Rattle.std.specs.Prelude.{◌≡◌, ◌⊎◌, ◌≤◌, ◌-◌, ◌^◌, ℕ, List, [], ◌∷◌, length, IsTrue, Result, Ok, Err}
 use Rattle.cue_disk.specs.Disk.{Contents, IsImage}
 use Rattle.cue_log.specs.Area.{Area, area_text}
 use Rattle.cue_snap.specs.Pair.{PairReads, IsSpoiled, NeitherHas}
 use Rattle.cue_core.specs.State.{ShowState}
 use Rattle.cue_core.specs.Happenings.{events_at, recovered}
-use Rattle.cue_records.specs.Batch.{batch_text}
 use Rattle.cue_keeper.specs.declared.fault.StoreFault.{StoreFault}
 use Rattle.cue_keeper.specs.declared.fault.StoreFault.TheVariants as store
-use Rattle.cue_keeper.specs.Due.{is_due}
+use Rattle.cue_keeper.specs.Due.{lacks_room}
+use Rattle.cue_keeper.specs.Groups.{records_of}
 use Rattle.cue_keeper.specs.Refusals.{HasOtherVersion, StandsForNone}
 use Rattle.cue_keeper.specs.Stands.{StandsFor, Stands, StandsEither}
 use Rattle.cue_core.specs.Batches.{closed_state}
@@ -33,16 +33,16 @@ pub record StandsSince (then_a then_b : Contents) (x y : List ℕ) : Type 0 wher
 abbrev pub IsLeftOrStands : Contents → Contents → List ℕ → List ℕ → Type 0
 IsLeftOrStands then_a then_b x y = (IsImage then_a x × IsImage then_b y) ⊎ StandsSince then_a then_b x y
 
--- how long the encoding of the cancels is
-abbrev pub cancels_length : ShowState → ℕ
-cancels_length s = length (batch_text (events_at s recovered))
+-- the record of the cancels, where there are some
+abbrev pub cancels_records : ShowState → List (List ℕ)
+cancels_records s = records_of (events_at s recovered ∷ [])
 
 -- The two read as an area that stands for the state, and its cancels, of which there are some, need a new area.
 pub record NeedsArea (x y : List ℕ) (area : Area) (s : ShowState) : Type 0 where
   pub reads : PairReads area x y
   pub stands : StandsFor area s
   pub some : 1 ≤ length (events_at s recovered)
-  pub due : IsTrue (is_due (length area.payloads) (length (area_text area)) (cancels_length s))
+  pub due : IsTrue (lacks_room (length area.payloads) (length (area_text area)) (cancels_records s))
 
 -- A new area is needed, and no generation is left for it.
 pub record NoGenerationLeft (x y : List ℕ) : Type 0 where

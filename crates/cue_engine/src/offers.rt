@@ -14,7 +14,7 @@ use crate::heard::Heard;
 use crate::input::Input;
 use crate::taken::Taken;
 use crate::taking::judge_input;
-use cue_core::State;
+use cue_core::{Event, State};
 use cue_keeper::BatchGroup;
 use cue_outbox::Out;
 use std::alloc::{AllocError, Global};
@@ -39,6 +39,22 @@ impl Offered {
             group: BatchGroup::new(alloc)?,
             sends: Vec::new(alloc),
         })
+    }
+
+    /// This batch alone, and what is sent for it.
+    pub(crate) fn of_one(
+        alloc: Global,
+        batch: Vec<Event>,
+        sends: Vec<Out>,
+    ) -> Result<Offered, AllocError>
+        requires batch { 1 ≤ length batch.items → IsTrue (is_batch batch.items) }
+        requires fits { FitsRecord batch.items }
+        ensures group { IfOk result (λ offered. offered.group ≡ batch.items ∷ []) }
+        ensures sends { IfOk result (λ offered. outs_view offered.sends.items ≡ outs_view sends.items) }
+    {
+        let mut group = BatchGroup::new(alloc)?;
+        group.push(batch)?;
+        Ok(Offered { group, sends })
     }
 
     // Adds what an input gives after all that was offered before. Where memory runs out nothing changes.

@@ -8,10 +8,12 @@ ghost use Rattle.cue_keeper.specs.Groups.{batches_view};
 ghost use Rattle.cue_keeper.specs.Observed.{state_of, is_broken};
 ghost use Rattle.cue_outbox.specs.Sending.{datagrams, all_pending};
 ghost use Rattle.cue_core.specs.Batches.{closed_state};
-ghost use Rattle.cue_engine.specs.Takes.{FitsRecord, CanFollow, Follows, InStep};
+ghost use Rattle.cue_outbox.specs.Views.{outs_view};
+ghost use Rattle.cue_engine.specs.Takes.{FitsRecord, CanFollow, Follows, InStep, IsAhead};
 
 use crate::drafts::{Draft, sync_to};
-use crate::keeping::accept_batch;
+use crate::keeping::keep;
+use crate::offers::Offered;
 use crate::ticking::cancels;
 use cue_core::{Event, State, undecided};
 use cue_disk::Disk;
@@ -32,37 +34,24 @@ fn cancels_undecided(alloc: Global, kept: &State) -> Result<Vec<Event>, AllocErr
     cancels(alloc, &seqs, Reason::Power)
 }
 
-// What is pending, as a queue.
-fn queue_pending(alloc: Global, state: &State) -> Result<Queue, AllocError>
-    ensures { IfOk result (λ queue. queue ≡ datagrams (all_pending state.now)) }
-{
-    let mut queue = Queue::new(alloc);
-    queue.push_all(pending(alloc, state)?)?;
-    Ok(queue)
-}
-
-// Closes the state on the draft: the cancels, and what is owed then. From here on the draft is not valid, until it
-// follows the kept state again.
+// Closes the state on the draft: the cancels, and what is owed then, as one input offers them.
 #[tactic(auto, unfolding(cue_core::specs::Batches::closed_state))]
-fn close_on(
-    alloc: Global,
-    kept: &State,
-    draft: &mut Draft,
-) -> Result<(Vec<Event>, Queue), AllocError>
+fn close_on(alloc: Global, kept: &State, draft: &mut Draft) -> Result<Offered, AllocError>
     requires can_follow { CanFollow draft.old }
     requires follows { Follows kept.now draft.old }
+    ensures ahead { IfOk result (λ offered. IsAhead kept.now draft.new offered) }
     ensures marked { draft.new.is_valid ≡ false }
-    ensures draft { OnOk result (draft.new.state ≡ closed_state kept.now) }
-    ensures batch { IfOk result (λ r. r.0.items ≡ events_at kept.now recovered) }
-    ensures acceptable { IfOk result (λ r. IsTrue (are_acceptable kept.now r.0.items)) }
-    ensures fits { IfOk result (λ r. FitsRecord r.0.items) }
-    ensures queue { IfOk result (λ r. r.1 ≡ datagrams (all_pending (closed_state kept.now))) }
+    ensures group { IfOk result (λ offered. offered.group ≡ events_at kept.now recovered ∷ []) }
+    ensures sends { IfOk result (λ offered. outs_view offered.sends.items
+        ≡ datagrams (all_pending (closed_state kept.now))) }
 {
+    // Called for its clause that the state keeps its rules.
+    let _last = kept.last_seq();
     sync_to(kept, draft)?;
     let batch = cancels_undecided(alloc, kept)?;
     draft.state.apply_all(&batch)?;
-    let queue = queue_pending(alloc, &draft.state)?;
-    Ok((batch, queue))
+    let sends = pending(alloc, &draft.state)?;
+    Offered::of_one(alloc, batch, sends)
 }
 
 /// Cancels what is undecided, and answers what is owed then. All memory is taken before the first device call; where
@@ -77,7 +66,8 @@ pub(crate) fn close_undecided<D: Disk>(
     requires can_follow { CanFollow draft.old }
     requires follows { Follows (state_of keeper.old) draft.old }
 
-    ensures accepts { Accepts (events_at (state_of keeper.old) recovered) (result_err result) keeper.old keeper.new }
+    ensures accepts { Accepts (events_at (state_of keeper.old) recovered ∷ []) (result_err result)
+        keeper.old keeper.new }
     ensures queue { IfOk result (λ queue. queue ≡ datagrams (all_pending (closed_state (state_of keeper.old)))) }
     ensures draft { InStep (state_of keeper.new) draft.new }
     ensures last { OnOk result
@@ -85,7 +75,8 @@ pub(crate) fn close_undecided<D: Disk>(
 {
     // Called for its clause that a keeper that is not broken stands for its state.
     let _broken = keeper.is_broken();
-    let (batch, queue) = close_on(alloc, keeper.state(), draft)?;
-    accept_batch(alloc, keeper, draft, batch)?;
+    let offered = close_on(alloc, keeper.state(), draft)?;
+    let mut queue = Queue::new(alloc);
+    keep(keeper, draft, &mut queue, offered)?;
     Ok(queue)
 }

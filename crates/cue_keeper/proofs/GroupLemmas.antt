@@ -34,6 +34,15 @@ with_none ([] ∷ batches) batch none = with_none batches batch none
 with_none ((f ∷ fs) ∷ batches) batch none =
     ap (λ (rest : List (List Event)). (f ∷ fs) ∷ rest) (with_none batches batch none)
 
+-- a group of one has a batch with an event where that has one
+pub one_has : (batch : List Event) → length (with_events (batch ∷ [])) ≡ 1 → 1 ≤ length batch
+one_has [] one = absurd (omega (arith, one))
+one_has (e ∷ es) one = omega arith
+
+pub has_one : (batch : List Event) → 1 ≤ length batch → length (with_events (batch ∷ [])) ≡ 1
+has_one [] some = absurd (omega (arith, some))
+has_one (e ∷ es) some = refl
+
 each_more : (batches : List (List Event)) (batch : List Event) → are_records batches ≡ true
     → (1 ≤ length batch → IsTrue (is_record batch)) → are_records (batches ++ batch ∷ []) ≡ true
 each_more [] [] each one = refl
@@ -78,16 +87,6 @@ pub view_more : (batches : List (Vec Event Global)) (batch : Vec Event Global)
     → batches_view (batches ++ batch ∷ []) ≡ batches_view batches ++ batch.items ∷ []
 view_more batches batch = map-append (λ (b : Vec Event Global). b.items) batches (batch ∷ [])
 
--- the one batch that is a record
-pub only_record : (batches : List (List Event)) (batch : List Event) → are_records batches ≡ true
-    → with_events batches ≡ batch ∷ [] → IsTrue (is_record batch)
-only_record [] batch each only = absurd (cc only)
-only_record ([] ∷ batches) batch each only = only_record batches batch each only
-only_record ((f ∷ fs) ∷ batches) batch each only =
-    let k = both (is_record (f ∷ fs)) (are_records batches) each in
-    let same : f ∷ fs ≡ batch = cc (only) in
-    subst (λ (b : List Event). IsTrue (is_record b)) same k.0
-
 -- ---- what they come to
 
 -- those with an event come in turn
@@ -108,17 +107,6 @@ pub folded_together : (s : ShowState) (batches : List (List Event))
 folded_together s [] = refl
 folded_together s ([] ∷ batches) = folded_together s batches
 folded_together s ((e ∷ es) ∷ batches) = folded_together (after_events s (e ∷ es)) batches
-
--- of one
-pub folded_only : (s : ShowState) (batches : List (List Event)) (batch : List Event) → with_events batches ≡ batch ∷ []
-    → folded_all s batches ≡ after_events s batch
-folded_only s batches batch only = sym (folded_together s batches) ∙ ap (folded_all s) only
-
-pub acceptable_only : (s : ShowState) (batches : List (List Event)) (batch : List Event) → are_records batches ≡ true
-    → IsTrue (are_all_acceptable s batches) → with_events batches ≡ batch ∷ [] → IsTrue (are_acceptable s batch)
-acceptable_only s batches batch each may only =
-    (in_turn s batch [] (subst (λ (bs : List (List Event)). IsTrue (are_in_turn s bs)) only
-    (in_turn_together s batches each may))).acceptable
 
 -- of none
 pub folded_none : (s : ShowState) (batches : List (List Event)) → with_events batches ≡ [] → s ≡ folded_all s batches

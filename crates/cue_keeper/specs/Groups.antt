@@ -1,5 +1,5 @@
 -- Batches that are accepted together: a stop leaves none of them or all.
-use Rattle.std.specs.Prelude.{◌≡◌, ℕ, Bool, true, ◌&&◌, List, [], ◌∷◌, length, map, sum_by, nat_le}
+use Rattle.std.specs.Prelude.{◌≡◌, ◌≤◌, ℕ, Bool, true, ◌&&◌, List, [], ◌∷◌, length, map, sum_by, nat_le}
 use Rattle.std.proofs.Common.{Vec, Global}
 use Rattle.cue_log.specs.declared.area.TheConstants.{MAX_PAYLOAD}
 use Rattle.cue_core.specs.declared.event.Event.{Event}
@@ -12,6 +12,10 @@ abbrev pub with_events : List (List Event) → List (List Event)
 with_events [] = []
 with_events ([] ∷ batches) = with_events batches
 with_events ((e ∷ es) ∷ batches) = (e ∷ es) ∷ with_events batches
+
+-- several of the batches have an event
+abbrev pub AreSeveral : List (List Event) → Type 0
+AreSeveral batches = 2 ≤ length (with_events batches)
 
 -- the encoding of each of these
 abbrev pub records_of : List (List Event) → List (List ℕ)

@@ -3,7 +3,7 @@ ghost use Rattle.std.specs.Prelude.{◌≡◌, ◌≤◌, ◌+◌, true, [], ◌
 ghost use Rattle.std.specs.Prelude.{IfOk, OnOk, OnErr, IsTrue};
 ghost use Rattle.cue_log.specs.declared.area.TheConstants.{MAX_PAYLOAD};
 ghost use Rattle.cue_records.specs.Batch.{is_batch, batch_text};
-ghost use Rattle.cue_keeper.specs.Groups.{with_events, records_of, are_records, is_record, batches_view};
+ghost use Rattle.cue_keeper.specs.Groups.{records_of, are_records, batches_view};
 
 use crate::framing::frame_batch;
 use cue_core::Event;
@@ -98,15 +98,6 @@ impl BatchGroup {
     {
         self.bytes
     }
-
-    /// The one batch that has an event.
-    pub(crate) fn only(&self) -> &[Event]
-        requires one { length (with_events self.now) ≡ 1 }
-        ensures only { with_events self.now ≡ result.now ∷ [] }
-        ensures record_ { IsTrue (is_record result.now) }
-    {
-        only_one(self.batches.as_slice())
-    }
 }
 
 // Frames a batch after the records, and answers how long their payloads are together then.
@@ -128,17 +119,4 @@ fn add_framed(
     };
     records.push(&added)?;
     Ok(all)
-}
-
-// The one batch that has an event.
-fn only_one(batches: &[Vec<Event>]) -> &[Event]
-    requires one { length (with_events (batches_view batches.now)) ≡ 1 }
-    ensures { with_events (batches_view batches.now) ≡ result.now ∷ [] }
-{
-    for batch in batches {
-        if !batch.is_empty() {
-            return batch.as_slice();
-        }
-    }
-    &[]
 }

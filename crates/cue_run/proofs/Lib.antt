@@ -1,5 +1,4 @@
 mod GroupLemmas
-mod GroupWorkLemmas
 mod OfferLemmas
 mod RoundLemmas
 mod RunLemmas

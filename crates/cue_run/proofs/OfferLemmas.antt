@@ -4,7 +4,8 @@ use Rattle.std.proofs.Common.{length-append, append_assoc, append-nil, Bool, tru
 use Rattle.cue_disk.specs.declared.disk.Disk.{Ghosts}
 use Rattle.cue_core.specs.declared.event.Event.{Event}
 use Rattle.cue_keeper.specs.declared.keeper.Keeper.{Keeper}
-use Rattle.cue_keeper.specs.Accepting.{HaveRoom}
+use Rattle.cue_keeper.specs.declared.fault.Fault.TheVariants as kept_fault
+use Rattle.cue_keeper.specs.Turning.{IsInTheWay}
 use Rattle.cue_keeper.specs.Observed as kept
 use Rattle.cue_outbox.specs.Sending.{datagrams}
 use Rattle.cue_engine.specs.declared.engine.Engine.{Engine}
@@ -32,8 +33,9 @@ module _ {D : Type 0} {disk : Ghosts D} where
 
   -- and still fits
   still_fits : (old new : Engine D disk) → StaysOffered old new → FitsTogether old → FitsTogether new
-  still_fits old new stays fits = subst (λ (k : Keeper D disk). HaveRoom (kept.pair_of k) (offered_of new))
-      (sym stays.keeper) (subst (λ (bs : List (List Event)). HaveRoom (kept.pair_of (keeper_of old)) bs)
+  still_fits old new stays fits =
+      subst (λ (k : Keeper D disk). IsInTheWay (kept.pair_of k) (offered_of new) kept_fault.Full → ⊥) (sym stays.keeper)
+      (subst (λ (bs : List (List Event)). IsInTheWay (kept.pair_of (keeper_of old)) bs kept_fault.Full → ⊥)
       (sym stays.batches) fits)
 
   -- the next input was offered where there was room for it, or nothing was

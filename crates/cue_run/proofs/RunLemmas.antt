@@ -1,22 +1,11 @@
--- One turn more.
-use Rattle.std.proofs.Common.{◌≡◌, ℕ, ◌+◌, ◌-◌, ◌^◌, ◌≤◌, Bool, List, [], ◌∷◌, ◌++◌, length, min, Option, Some, None}
-use Rattle.std.proofs.Common.{Err, refl, sym, ap, ◌∙◌, subst, inr, arith, length-append, append_assoc, append-nil}
-use Rattle.cue_disk.specs.declared.disk.Disk.{Ghosts}
+-- What a run starts from, and what follows another.
+use Rattle.std.proofs.Common.{◌≡◌, ℕ, ◌+◌, ◌-◌, ◌^◌, ◌≤◌, Bool, List, [], ◌∷◌, ◌++◌, length, Option, Some, None}
+use Rattle.std.proofs.Common.{refl, sym, ap, ◌∙◌, subst, arith, length-append, append_assoc, append-nil}
 use Rattle.cue_core.specs.State.{ShowState}
-use Rattle.cue_core.specs.Steps.{after_events}
 use Rattle.cue_outbox.specs.Sending.{datagram, datagrams, Send}
-use Rattle.cue_engine.specs.Given.{Input, given_of}
 use Rattle.cue_engine.specs.Wires.{Handed, handed_as, Grew, how_many_refused, AllHanded}
-use Rattle.cue_keeper.specs.declared.fault.Fault.{Fault}
-use Rattle.cue_keeper.specs.declared.fault.Fault.TheVariants.{Disk}
-use Rattle.cue_keeper.specs.declared.keeper.Keeper.{Keeper}
-use Rattle.cue_keeper.specs.Observed as kept
-use Rattle.cue_run.specs.Sources.{Answer, comes, ends, fails, others_left, GaveInTurn, GaveAll}
-use Rattle.cue_run.specs.declared.turns.RunFault.{RunFault}
-use Rattle.cue_run.specs.declared.turns.RunFault.TheVariants as fault
-use Rattle.cue_run.specs.Running.{given_answers, story, IsTaken, HasRun, Keeps, Works, Turned, Refuses, EndedBy}
-use Rattle.cue_run.proofs.StandLemmas.{left_now}
-use Rattle.cue_run.proofs.WorkLemmas.{keeps_on, works_still}
+use Rattle.cue_run.specs.Sources.{Answer, others_left, GaveInTurn, GaveAll}
+use Rattle.cue_run.specs.Running.{HasRun}
 
 gave_more : (size : ℕ) (old : List Answer) (gs : List Answer) (mid : List Answer) (hs : List Answer) (new : List Answer)
     → GaveInTurn size old gs mid → GaveInTurn size mid hs new → GaveInTurn size old (gs ++ hs) new
@@ -35,26 +24,6 @@ gave_all_more size old gs mid hs None k h = tt
 gave_all_more size old gs None hs (Some new) k h = absurd h
 gave_all_more size None gs (Some mid) hs (Some new) k h = absurd k
 gave_all_more size (Some old) gs (Some mid) hs (Some new) k h = gave_more size old gs mid hs new k h
-
--- the answers of one input more
-answers_more : (is : List (ℕ × Input)) (t : ℕ × Input)
-    → given_answers is ++ comes t.0 t.1 ∷ [] ≡ given_answers (is ++ t ∷ [])
-answers_more [] t = refl
-answers_more (i ∷ is) t = ap (λ (others : List Answer). comes i.0 i.1 ∷ others) (answers_more is t)
-
-story_state : (s : ShowState) (is : List (ℕ × Input)) (t : ℕ × Input)
-    → (story s (is ++ t ∷ [])).state ≡ after_events (story s is).state (given_of (story s is).state t.0 t.1).batch
-story_state s [] t = refl
-story_state s (i ∷ is) t = story_state (after_events s (given_of s i.0 i.1).batch) is t
-
-story_sends : (s : ShowState) (is : List (ℕ × Input)) (t : ℕ × Input)
-    → (story s (is ++ t ∷ [])).sends ≡ (story s is).sends ++ (given_of (story s is).state t.0 t.1).sends
-story_sends s [] t = append-nil (given_of s t.0 t.1).sends
-story_sends s (i ∷ is) t =
-    ap (λ (xs : List (ℕ × Send)). (given_of s i.0 i.1).sends ++ xs)
-    (story_sends (after_events s (given_of s i.0 i.1).batch) is t)
-    ∙ sym (append_assoc (given_of s i.0 i.1).sends (story (after_events s (given_of s i.0 i.1).batch) is).sends
-    (given_of (story (after_events s (given_of s i.0 i.1).batch) is).state t.0 t.1).sends)
 
 pub datagrams_more : (xs ys : List (ℕ × Send)) → datagrams xs ++ datagrams ys ≡ datagrams (xs ++ ys)
 datagrams_more [] ys = refl
@@ -104,45 +73,6 @@ begun size left s s_then owed told told_then n fits same h = record {
   counted = omega (arith, fits);
 }
 
--- one input more was taken
-pub run_more : (size now_size : ℕ) (left mid left_then : Option (List Answer)) (s now_s s_then : ShowState)
-    (owed : List (ℕ × List ℕ)) (told mid_told told_then : Option (List Handed)) (turns unsent more refused : ℕ)
-    → now_size ≡ size
-    → more ≡ min (unsent + refused) (2 ^ 64 - 1)
-    → HasRun size left s owed told turns unsent mid now_s mid_told
-    → (t : ℕ × Input) × GaveAll now_size mid (comes t.0 t.1 ∷ []) left_then
-    × IsTaken now_s t.0 t.1 mid_told refused s_then told_then
-    → HasRun size left s owed told (turns + 1) more left_then s_then told_then
-run_more size now_size left mid left_then s now_s s_then owed told mid_told told_then turns unsent more refused same is
-    h one =
-    let t = one.0 in
-    let taken = one.2 in
-    record {
-      inputs = h.inputs ++ t ∷ [];
-      gave = subst (λ (xs : List Answer). GaveAll size left xs left_then) (answers_more h.inputs t)
-          (gave_all_more size left (given_answers h.inputs) mid (comes t.0 t.1 ∷ []) left_then h.gave
-          (subst (λ (n : ℕ). GaveAll n mid (comes t.0 t.1 ∷ []) left_then) same one.1));
-      number = omega (arith, h.number, length-append h.inputs (t ∷ []));
-      state = taken.state ∙ (ap (λ (x : ShowState). after_events x (given_of x t.0 t.1).batch) h.state
-          ∙ sym (story_state s h.inputs t));
-      refused = h.refused + refused;
-      handed = subst (λ (os : List (ℕ × List ℕ)). AllHanded told os (h.refused + refused) told_then) (sends_are t)
-          (all_handed_both told mid_told told_then (owed ++ datagrams (story s h.inputs).sends)
-          (datagrams (given_of now_s t.0 t.1).sends) h.refused refused h.handed taken.handed);
-      counted = omega (arith, is, h.counted);
-    }
-  where
-    sends_are : (t : ℕ × Input)
-        → (owed ++ datagrams (story s h.inputs).sends) ++ datagrams (given_of now_s t.0 t.1).sends ≡ owed ++ datagrams
-        (story s (h.inputs ++ t ∷ [])).sends
-    sends_are t =
-        append_assoc owed (datagrams (story s h.inputs).sends) (datagrams (given_of now_s t.0 t.1).sends)
-        ∙ ap (λ (os : List (ℕ × List ℕ)). owed ++ os)
-        (datagrams_more (story s h.inputs).sends (given_of now_s t.0 t.1).sends
-        ∙ ap (λ (xs : List (ℕ × Send)). datagrams xs)
-        (ap (λ (x : ShowState). (story s h.inputs).sends ++ (given_of x t.0 t.1).sends) h.state
-        ∙ sym (story_sends s h.inputs t)))
-
 -- what did not change was taken as it was
 pub still : (size : ℕ) (left mid : Option (List Answer)) (s now_s s_then : ShowState) (owed : List (ℕ × List ℕ))
     (told mid_told told_then : Option (List Handed)) (turns unsent : ℕ)
@@ -151,67 +81,3 @@ pub still : (size : ℕ) (left mid : Option (List Answer)) (s now_s s_then : Sho
 still size left mid s now_s s_then owed told mid_told told_then turns unsent h same_s same_told =
     subst (λ (x : ShowState). HasRun size left s owed told turns unsent mid x told_then) (sym same_s)
     (subst (λ (x : Option (List Handed)). HasRun size left s owed told turns unsent mid now_s x) (sym same_told) h)
-
-module _ {D : Type 0} {disk : Ghosts D} where
-  -- the end of a source
-  pub ended_there : (size now_size asked turns : ℕ) (old new : Keeper D disk) (mid left_then : Option (List Answer))
-      → now_size ≡ size → GaveAll now_size mid (ends ∷ []) left_then
-      → EndedBy size asked turns None old new mid left_then
-  ended_there size now_size asked turns old new mid left_then same gave =
-      inr (subst (λ (n : ℕ). GaveAll n mid (ends ∷ []) left_then) same gave)
-
-  -- a fault
-  pub ended_by : (size now_size asked turns : ℕ) (why : RunFault) (old met new : Keeper D disk)
-      (mid left_then : Option (List Answer)) (told told_then : Option (List Handed))
-      → ((x : D) → disk.is_honest x → disk.held_at x (disk.moment x) ≡ disk.held x)
-      → now_size ≡ size
-      → Works old met
-      → Turned now_size (Err why) met new mid left_then told told_then
-      → EndedBy size asked turns (Some why) old new mid left_then
-  ended_by size now_size asked turns fault.Source old met new mid left_then told told_then now same works turn =
-      subst (λ (n : ℕ). GaveAll n mid (fails ∷ []) left_then) same turn.0
-  ended_by size now_size asked turns (fault.Engine f) old met new mid left_then told told_then now same works turn =
-      let pair = turn.0.accepts.pair in
-      let s = kept.state_of met in
-      inr (subst (λ (n : ℕ). Refuses n f old new mid left_then) same (record {
-        met = met;
-        works = works;
-        next = turn.0;
-        not_full = turn.2;
-        leaves = λ first second working.
-            let first = works.keeps.first_honest.1 first in
-            let second = works.keeps.second_honest.1 second in
-            left_now disk.moment disk.held disk.held_at (kept.first_of met) (kept.second_of met) (kept.first_of new)
-            (kept.second_of new) s (after_events s (given_of s turn.0.now turn.0.input).batch)
-            (now (kept.first_of new) (pair.first_honest.1 first))
-            (now (kept.second_of new) (pair.second_honest.1 second))
-            (pair.any_moment first second (works.broken ∙ working));
-      }))
-
-  -- what a turn that ended in a fault leaves
-  pub keeps_after : (size : ℕ) (why : RunFault) (old met new : Keeper D disk) (mid left_then : Option (List Answer))
-      (told told_then : Option (List Handed))
-      → Works old met → Turned size (Err why) met new mid left_then told told_then → Keeps old new
-  keeps_after size fault.Source old met new mid left_then told told_then works turn =
-      subst (λ (x : Keeper D disk). Keeps old x) (sym turn.1) works.keeps
-  keeps_after size (fault.Engine f) old met new mid left_then told told_then works turn =
-      keeps_on old met new (given_of (kept.state_of met) turn.0.now turn.0.input).batch (Some f) works.keeps
-      turn.0.accepts
-
-  pub works_after : (size : ℕ) (why : RunFault) (old met new : Keeper D disk) (mid left_then : Option (List Answer))
-      (told told_then : Option (List Handed))
-      → Works old met → Turned size (Err why) met new mid left_then told told_then
-      → (Some why ≡ Some (fault.Engine Disk) → ⊥) → Works old new
-  works_after size fault.Source old met new mid left_then told told_then works turn other =
-      subst (λ (x : Keeper D disk). Works old x) (sym turn.1) works
-  works_after size (fault.Engine f) old met new mid left_then told told_then works turn other =
-      works_still old met new (given_of (kept.state_of met) turn.0.now turn.0.input).batch f works turn.0.accepts
-      (λ is. other (ap (λ (x : Fault). Some (fault.Engine x)) is))
-
-  -- state and wire are as they were
-  pub state_after : (size : ℕ) (why : RunFault) (met new : Keeper D disk) (mid left_then : Option (List Answer))
-      (told told_then : Option (List Handed))
-      → Turned size (Err why) met new mid left_then told told_then → (kept.state_of new ≡ kept.state_of met)
-      × (told_then ≡ told)
-  state_after size fault.Source met new mid left_then told told_then turn = (ap kept.state_of turn.1, turn.2)
-  state_after size (fault.Engine f) met new mid left_then told told_then turn = (turn.0.accepts.state, turn.1)

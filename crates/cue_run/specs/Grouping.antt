@@ -1,79 +1,26 @@
--- What a run by groups comes to: the same as a run, and a commit may refuse several inputs together.
+-- Helper: the rounds of a run: what was offered, and what one group comes to.
 use Rattle.std.specs.Prelude.{◌≡◌, ◌≤◌, ◌+◌, ◌⊎◌, ◌↔◌, ◌^◌, ◌-◌, ℕ, Bool, true, false, length, min, IsTrue}
 use Rattle.std.specs.Prelude.{List, [], ◌∷◌, ◌++◌, Option, Some, None, Result, Ok, Err}
 use Rattle.cue_disk.specs.declared.disk.Disk.{Ghosts}
 use Rattle.cue_keeper.specs.declared.fault.Fault.{Fault}
 use Rattle.cue_keeper.specs.declared.fault.Fault.TheVariants.{Broken, Memory, Disk, Full}
 use Rattle.cue_keeper.specs.declared.keeper.Keeper.{Keeper}
-use Rattle.cue_keeper.specs.Accepting.{AcceptsTogether}
-use Rattle.cue_keeper.specs.Stands.{folded_all}
+use Rattle.cue_keeper.specs.Accepting.{Accepts}
 use Rattle.cue_keeper.specs.Observed as kept
 use Rattle.cue_engine.specs.declared.engine.Engine.{Engine}
 use Rattle.cue_engine.specs.Given.{Input}
-use Rattle.cue_engine.specs.Groups.{batches_given}
 use Rattle.cue_engine.specs.Taking.{IsOffered, WhateverWasOffered}
 use Rattle.cue_engine.specs.Observed.{keeper_of, state_of, queue_of, offered_of, offered_sends_of, has_room}
 use Rattle.cue_engine.specs.Observed.{FitsTogether}
 use Rattle.cue_engine.specs.Wires.{Handed, AllHanded}
-use Rattle.cue_run.specs.declared.turns.Ended.{Ended}
 use Rattle.cue_run.specs.declared.turns.RunFault.{RunFault}
 use Rattle.cue_run.specs.declared.turns.RunFault.TheVariants as fault
 use Rattle.cue_run.specs.declared.groups.round.Round.{Round}
 use Rattle.cue_run.specs.declared.groups.offering.Stop.{Stop}
 use Rattle.cue_run.specs.declared.groups.offering.Stop.TheVariants as stop
 use Rattle.cue_run.specs.declared.groups.offering.First.{First}
-use Rattle.cue_run.specs.Running.{given_answers, HasRun, LeavesEither, Keeps, Works, Refuses, EndedBy}
+use Rattle.cue_run.specs.Running.{given_answers, HasRun, Keeps, Works, Refuses}
 use Rattle.cue_run.specs.Sources.{Answer, comes, ends, fails, GaveAll}
-
--- ---- a whole run
-
--- Inputs that came last were not taken: the keeper that met them refused their batches together with this fault. The
--- source may have given one answer more, which ended the group.
-pub record RefusesTogether {D : Type 0} {disk : Ghosts D} (size : ℕ) (f : Fault) (old new : Keeper D disk)
-    (left left_then : Option (List Answer)) : Type 0 where
-  pub met : Keeper D disk
-  pub works : Works old met
-  pub inputs : List (ℕ × Input)
-  pub some : 1 ≤ length inputs
-  pub after : List Answer
-  pub few : length after ≤ 1
-  pub came : GaveAll size left (given_answers inputs ++ after) left_then
-  pub accepts : AcceptsTogether (batches_given (kept.state_of met) inputs) (Some f) met new
-  -- what is offered together has room in the live area
-  pub not_full : f ≡ Full → ⊥
-  -- even where a device failed a crash leaves the state, or the one after all of the inputs
-  pub leaves :
-      disk.is_honest (kept.first_of old)
-      → disk.is_honest (kept.second_of old)
-      → kept.is_broken old ≡ false
-      → LeavesEither (disk.held (kept.first_of new)) (disk.held (kept.second_of new)) (kept.state_of met)
-      (folded_all (kept.state_of met) (batches_given (kept.state_of met) inputs))
-
--- Why a run by groups ended: as a run does, or a commit refused several inputs together.
-abbrev pub EndedByGroup : {D : Type 0} {disk : Ghosts D} → (size asked turns : ℕ) → Option RunFault
-    → (old new : Keeper D disk)
-    → (left left_then : Option (List Answer)) → Type 0
-EndedByGroup size asked turns None old new left left_then = EndedBy size asked turns None old new left left_then
-EndedByGroup size asked turns (Some fault.Source) old new left left_then =
-    EndedBy size asked turns (Some fault.Source) old new left left_then
-EndedByGroup size asked turns (Some (fault.Engine f)) old new left left_then =
-    EndedBy size asked turns (Some (fault.Engine f)) old new left left_then
-    ⊎ RefusesTogether size f old new left left_then
-
--- A whole run by groups: what was taken is said in the words of a run, in which there are no groups; why it ended, and
--- what it leaves.
-pub record RanByGroups {D : Type 0} {disk : Ghosts D} (size asked : ℕ) (ended : Ended) (old new : Engine D disk)
-    (left left_then : Option (List Answer)) (told told_then : Option (List Handed)) : Type 0 where
-  -- what the source had left after the last input that was taken
-  pub mid : Option (List Answer)
-  pub taken :
-      HasRun size left (state_of old) (queue_of old) told ended.turns ended.unsent mid (state_of new) told_then
-  pub why : EndedByGroup size asked ended.turns ended.fault (keeper_of old) (keeper_of new) mid left_then
-  pub at_most : ended.turns ≤ asked
-  pub none_taken : kept.is_broken (keeper_of old) ≡ true → ended.turns ≡ 0
-  pub emptied : queue_of new ≡ []
-  pub keeps : Keeps (keeper_of old) (keeper_of new)
-  pub works : (ended.fault ≡ Some (fault.Engine Disk) → ⊥) → Works (keeper_of old) (keeper_of new)
 
 -- ---- what was offered
 
@@ -135,6 +82,11 @@ OfferedFirst size count count_then (Ok first) old new left left_then =
 OfferedFirst size count count_then (Err stop) old new left left_then =
     StaysOffered old new × StoppedAtFirst size stop (keeper_of old) left left_then
 
+-- how many answers cut a group short that were no input of it
+abbrev pub answers_beside : Option RunFault → ℕ
+answers_beside None = 0
+answers_beside (Some why) = 1
+
 -- Inputs were offered for as long as some waited, and this cut them short.
 pub record Gathered {D : Type 0} {disk : Ghosts D} (size count count_then : ℕ) (why : Option RunFault)
     (old new : Engine D disk) (left left_then : Option (List Answer)) : Type 0 where
@@ -142,11 +94,13 @@ pub record Gathered {D : Type 0} {disk : Ghosts D} (size count count_then : ℕ)
   pub offered : HasOffered size count count_then old new left mid
   pub cut : CutShort size why (keeper_of old) mid left_then
 
--- A group of so many inputs at most was offered, of one at least; or none.
+-- A group of so many inputs at most was offered, of one at least, and with the answer that cut it short there are no
+-- more; or none was.
 abbrev pub OfferedGroup : {D : Type 0} {disk : Ghosts D} → (size room count : ℕ) → Result (Option RunFault) Stop
     → (old new : Engine D disk) → (left left_then : Option (List Answer)) → Type 0
 OfferedGroup size room count (Ok cut) old new left left_then =
-    Gathered size 0 count cut old new left left_then × (1 ≤ count) × (count ≤ room) × StillFits old new
+    Gathered size 0 count cut old new left left_then × (1 ≤ count) × (count + answers_beside cut ≤ room)
+    × StillFits old new
 OfferedGroup size room count (Err stop) old new left left_then =
     StaysOffered old new × StoppedAtFirst size stop (keeper_of old) left left_then
 
@@ -181,7 +135,7 @@ pub record TookGroup {D : Type 0} {disk : Ghosts D} (count : ℕ) (cut : Option 
     (old new : Engine D disk) (told told_then : Option (List Handed)) : Type 0 where
   pub turns : round.turns ≡ count
   pub stop : round.stop ≡ stop_of cut
-  pub accepts : AcceptsTogether (offered_of old) None (keeper_of old) (keeper_of new)
+  pub accepts : Accepts (offered_of old) None (keeper_of old) (keeper_of new)
   pub handed : HandedCounted told (offered_sends_of old) round.unsent told_then
 
 -- its commit was refused, and nothing was handed out
@@ -191,25 +145,25 @@ pub record LostGroup {D : Type 0} {disk : Ghosts D} (round : Round) (old new : E
   pub turns : round.turns ≡ 0
   pub unsent : round.unsent ≡ 0
   pub stop : round.stop ≡ Some (stop.Fault (fault.Engine why))
-  pub accepts : AcceptsTogether (offered_of old) (Some why) (keeper_of old) (keeper_of new)
+  pub accepts : Accepts (offered_of old) (Some why) (keeper_of old) (keeper_of new)
   pub not_full : FitsTogether old → why ≡ Full → ⊥
   pub told_same : told_then ≡ told
 
 -- why no round follows
-abbrev pub StoppedBy : {D : Type 0} {disk : Ghosts D} → ℕ → Option Stop → (old new : Keeper D disk)
+abbrev pub StoppedBy : {D : Type 0} {disk : Ghosts D} → (size most : ℕ) → Option Stop → (old new : Keeper D disk)
     → (left left_then : Option (List Answer)) → Type 0
-StoppedBy size None old new left left_then = left_then ≡ left
-StoppedBy size (Some stop.Ended) old new left left_then = GaveAll size left (ends ∷ []) left_then
-StoppedBy size (Some (stop.Fault fault.Source)) old new left left_then = GaveAll size left (fails ∷ []) left_then
-StoppedBy size (Some (stop.Fault (fault.Engine f))) old new left left_then =
-    Refuses size f old new left left_then ⊎ RefusesTogether size f old new left left_then
+StoppedBy size most None old new left left_then = left_then ≡ left
+StoppedBy size most (Some stop.Ended) old new left left_then = GaveAll size left (ends ∷ []) left_then
+StoppedBy size most (Some (stop.Fault fault.Source)) old new left left_then = GaveAll size left (fails ∷ []) left_then
+StoppedBy size most (Some (stop.Fault (fault.Engine f))) old new left left_then =
+    Refuses size most f old new left left_then
 
 -- One round: one group was taken and handed out, or none.
 pub record HasRound {D : Type 0} {disk : Ghosts D} (size room : ℕ) (round : Round) (old new : Engine D disk)
     (left left_then : Option (List Answer)) (told told_then : Option (List Handed)) : Type 0 where
   pub mid : Option (List Answer)
   pub taken : HasRun size left (state_of old) [] told round.turns round.unsent mid (state_of new) told_then
-  pub why : StoppedBy size round.stop (keeper_of old) (keeper_of new) mid left_then
+  pub why : StoppedBy size room round.stop (keeper_of old) (keeper_of new) mid left_then
   pub at_most : round.turns ≤ room
   pub some : round.stop ≡ None → 1 ≤ round.turns
   pub none_taken : kept.is_broken (keeper_of old) ≡ true → round.turns ≡ 0

@@ -1,20 +1,20 @@
 -- What a run comes to.
-use Rattle.std.specs.Prelude.{◌≡◌, ◌≤◌, ◌^◌, ◌-◌, ◌⊎◌, ◌↔◌, ℕ, true, false, List, [], ◌∷◌, ◌++◌, length, map, min}
-use Rattle.std.specs.Prelude.{Option, Some, None, Result, Ok, Err}
+use Rattle.std.specs.Prelude.{◌≡◌, ◌≤◌, ◌+◌, ◌^◌, ◌-◌, ◌⊎◌, ◌↔◌, ℕ, true, false, List, [], ◌∷◌, ◌++◌, length, map, min}
+use Rattle.std.specs.Prelude.{Option, Some, None}
 use Rattle.cue_core.specs.State.{ShowState}
-use Rattle.cue_core.specs.Steps.{after_events}
 use Rattle.cue_disk.specs.declared.disk.Disk.{Ghosts}
 use Rattle.cue_disk.specs.Disk.{Contents, IsImage}
 use Rattle.cue_keeper.specs.declared.fault.Fault.{Fault}
 use Rattle.cue_keeper.specs.declared.fault.Fault.TheVariants.{Memory, Disk, Full}
 use Rattle.cue_keeper.specs.declared.keeper.Keeper.{Keeper}
 use Rattle.cue_keeper.specs.Accepting.{Accepts}
-use Rattle.cue_keeper.specs.Stands.{StandsEither, StandsAs}
+use Rattle.cue_keeper.specs.Stands.{StandsEither, StandsAs, folded_all}
 use Rattle.cue_keeper.specs.Observed as kept
 use Rattle.cue_outbox.specs.Sending.{datagrams}
 use Rattle.cue_engine.specs.declared.engine.Engine.{Engine}
 use Rattle.cue_engine.specs.Observed.{keeper_of, state_of, queue_of}
-use Rattle.cue_engine.specs.Given.{Input, given_of}
+use Rattle.cue_engine.specs.Given.{Input}
+use Rattle.cue_engine.specs.Groups.{batches_given}
 use Rattle.cue_engine.specs.Runs.{took, Story, run}
 use Rattle.cue_engine.specs.Wires.{Handed, AllHanded}
 use Rattle.cue_run.specs.declared.turns.Ended.{Ended}
@@ -28,12 +28,6 @@ given_answers inputs = map (λ t. comes t.0 t.1) inputs
 
 abbrev pub story : ShowState → List (ℕ × Input) → Story
 story s inputs = run s (map (λ t. took t.0 t.1) inputs)
-
--- an input was taken, and all that it owes was handed over
-pub record IsTaken (s : ShowState) (now : ℕ) (input : Input) (told : Option (List Handed)) (refused : ℕ)
-    (s_then : ShowState) (told_then : Option (List Handed)) : Type 0 where
-  pub state : s_then ≡ after_events s (given_of s now input).batch
-  pub handed : AllHanded told (datagrams (given_of s now input).sends) refused told_then
 
 -- So far these inputs were taken, as the source gave them, and what was owed at first and what they owe was handed
 -- over.
@@ -69,61 +63,48 @@ pub record Works {D : Type 0} {disk : Ghosts D} (old new : Keeper D disk) : Type
       → kept.is_broken old ≡ false
       → StandsAs (disk.held (kept.first_of new)) (disk.held (kept.second_of new)) (kept.state_of new)
 
--- The next input came, and its batch was accepted, or refused with this fault.
-pub record TakesNext {D : Type 0} {disk : Ghosts D} (size : ℕ) (refused : Option Fault) (old new : Keeper D disk)
-    (left left_then : Option (List Answer)) : Type 0 where
-  pub now : ℕ
-  pub input : Input
-  pub came : GaveAll size left (comes now input ∷ []) left_then
-  pub accepts : Accepts (given_of (kept.state_of old) now input).batch refused old new
-
--- one turn, by how it went
-abbrev pub Turned : {D : Type 0} {disk : Ghosts D} → ℕ → Result (Option ℕ) RunFault → (old new : Keeper D disk)
-    → (left left_then : Option (List Answer)) (told told_then : Option (List Handed)) → Type 0
-Turned size (Ok (Some refused)) old new left left_then told told_then =
-    (next : TakesNext size None old new left left_then)
-    × AllHanded told (datagrams (given_of (kept.state_of old) next.now next.input).sends) refused told_then
-Turned size (Ok None) old new left left_then told told_then =
-    GaveAll size left (ends ∷ []) left_then × (new ≡ old) × (told_then ≡ told)
-Turned size (Err fault.Source) old new left left_then told told_then =
-    GaveAll size left (fails ∷ []) left_then × (new ≡ old) × (told_then ≡ told)
-Turned size (Err (fault.Engine f)) old new left left_then told told_then =
-    TakesNext size (Some f) old new left left_then × (told_then ≡ told) × (f ≡ Full → ⊥)
-
--- The input that came last was not taken: the keeper that met it refused its batch with this fault.
-pub record Refuses {D : Type 0} {disk : Ghosts D} (size : ℕ) (f : Fault) (old new : Keeper D disk)
+-- Inputs that came last were not taken: the keeper that met them refused their batches together with this fault. Of the
+-- inputs and the one answer more that the source may have given, which ended the group, there are so many at most.
+pub record Refuses {D : Type 0} {disk : Ghosts D} (size most : ℕ) (f : Fault) (old new : Keeper D disk)
     (left left_then : Option (List Answer)) : Type 0 where
   pub met : Keeper D disk
   pub works : Works old met
-  pub next : TakesNext size (Some f) met new left left_then
-  -- a new area has room for any state and batch
+  pub inputs : List (ℕ × Input)
+  pub some : 1 ≤ length inputs
+  pub after : List Answer
+  pub one_more : length after ≤ 1
+  pub few : length inputs + length after ≤ most
+  pub came : GaveAll size left (given_answers inputs ++ after) left_then
+  pub accepts : Accepts (batches_given (kept.state_of met) inputs) (Some f) met new
+  -- a new area has room for any state and batch, and what is offered together has room in the live one
   pub not_full : f ≡ Full → ⊥
-  -- even where a device failed a crash leaves the state, or the one after the whole batch
+  -- even where a device failed a crash leaves the state, or the one after all of the inputs
   pub leaves :
       disk.is_honest (kept.first_of old)
       → disk.is_honest (kept.second_of old)
       → kept.is_broken old ≡ false
       → LeavesEither (disk.held (kept.first_of new)) (disk.held (kept.second_of new)) (kept.state_of met)
-      (after_events (kept.state_of met) (given_of (kept.state_of met) next.now next.input).batch)
+      (folded_all (kept.state_of met) (batches_given (kept.state_of met) inputs))
 
 -- Why a run ended. Memory is also the end of one that had none for its buffer, and asked nothing of the source.
-abbrev pub EndedBy : {D : Type 0} {disk : Ghosts D} → (size asked turns : ℕ) → Option RunFault
+abbrev pub EndedBy : {D : Type 0} {disk : Ghosts D} → (size most asked turns : ℕ) → Option RunFault
     → (old new : Keeper D disk)
     → (left left_then : Option (List Answer)) → Type 0
-EndedBy size asked turns None old new left left_then =
+EndedBy size most asked turns None old new left left_then =
     ((turns ≡ asked) × (left_then ≡ left)) ⊎ GaveAll size left (ends ∷ []) left_then
-EndedBy size asked turns (Some fault.Source) old new left left_then = GaveAll size left (fails ∷ []) left_then
-EndedBy size asked turns (Some (fault.Engine f)) old new left left_then =
-    ((f ≡ Memory) × (turns ≡ 0) × (left_then ≡ left) × (new ≡ old)) ⊎ Refuses size f old new left left_then
+EndedBy size most asked turns (Some fault.Source) old new left left_then = GaveAll size left (fails ∷ []) left_then
+EndedBy size most asked turns (Some (fault.Engine f)) old new left left_then =
+    ((f ≡ Memory) × (turns ≡ 0) × (left_then ≡ left) × (new ≡ old)) ⊎ Refuses size most f old new left left_then
 
--- A whole run: what was taken, why it ended, and what it leaves.
-pub record Ran {D : Type 0} {disk : Ghosts D} (size asked : ℕ) (ended : Ended) (old new : Engine D disk)
+-- A whole run, of so many inputs together at most: what was taken, in words in which there are no groups, why it ended,
+-- and what it leaves.
+pub record Ran {D : Type 0} {disk : Ghosts D} (size most asked : ℕ) (ended : Ended) (old new : Engine D disk)
     (left left_then : Option (List Answer)) (told told_then : Option (List Handed)) : Type 0 where
   -- what the source had left after the last input that was taken
   pub mid : Option (List Answer)
   pub taken :
       HasRun size left (state_of old) (queue_of old) told ended.turns ended.unsent mid (state_of new) told_then
-  pub why : EndedBy size asked ended.turns ended.fault (keeper_of old) (keeper_of new) mid left_then
+  pub why : EndedBy size most asked ended.turns ended.fault (keeper_of old) (keeper_of new) mid left_then
   pub at_most : ended.turns ≤ asked
   pub none_taken : kept.is_broken (keeper_of old) ≡ true → ended.turns ≡ 0
   pub emptied : queue_of new ≡ []

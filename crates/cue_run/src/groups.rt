@@ -1,6 +1,8 @@
-//! The run of a show by groups: what waits together is committed together, and then handed out input by input.
+//! The run of a show: it takes what a source gives, and hands out what that owes. What waits together is committed
+//! together, and then handed out input by input; a run of single inputs is one of groups of one.
 ghost use Rattle.std.specs.Prelude.{◌≡◌, ◌≤◌, length, max, vec_capacity, IfOk};
-ghost use Rattle.cue_run.specs.Grouping.{RanByGroups, fault_of};
+ghost use Rattle.cue_run.specs.Grouping.{fault_of};
+ghost use Rattle.cue_run.specs.Running.{Ran};
 ghost use Rattle.cue_run.specs.declared.turns.TheConstants.{MAX_RECEIVED};
 
 mod handing;
@@ -9,7 +11,7 @@ mod round;
 
 use crate::source::Source;
 use crate::turns::{Ended, MAX_RECEIVED, RunFault};
-use crate::watch::Watch;
+use crate::watch::{Unwatched, Watch};
 use cue_disk::Disk;
 use cue_engine::{Engine, Wire};
 use cue_keeper::Fault;
@@ -51,7 +53,7 @@ fn run_rounds<D: Disk, S: Source, W: Wire, V: Watch<W>>(
     turns: u64,
 ) -> Ended
     requires { 1 ≤ vec_capacity ends.old }
-    ensures { RanByGroups (length buffer.old) turns result engine.old engine.new
+    ensures { Ran (length buffer.old) (vec_capacity ends.old) turns result engine.old engine.new
         (S.left source.old) (S.left source.new) (W.told wire.old) (W.told wire.new) }
 {
     engine.withdraw();
@@ -94,7 +96,7 @@ pub fn run_grouped<D: Disk, S: Source, W: Wire, V: Watch<W>>(
 ) -> Ended
     // What was taken is what the source gave first, the state and the wire are what the definition of a run makes of
     // it, one input after the other; it ended for its reason, and the engine works on unless a device failed.
-    ensures ran { RanByGroups MAX_RECEIVED turns result engine.old engine.new
+    ensures ran { Ran MAX_RECEIVED (max 1 most) turns result engine.old engine.new
         (S.left source.old) (S.left source.new) (W.told wire.old) (W.told wire.new) }
 {
     match places(alloc, most) {
@@ -112,4 +114,39 @@ pub fn run_grouped<D: Disk, S: Source, W: Wire, V: Watch<W>>(
             }
         }
     }
+}
+
+/// The run of `run_grouped` with each input alone: hands out what is owed, and then takes at most so many inputs,
+/// handing out after each what it owes. It ends at its turns, where the source ends, or at the first fault; nothing is
+/// handed out for an input that was not taken. After each input that was taken `watch` looks at the state.
+pub fn run_watched<D: Disk, S: Source, W: Wire, V: Watch<W>>(
+    alloc: Global,
+    engine: &mut Engine<D>,
+    source: &mut S,
+    wire: &mut W,
+    turns: u64,
+    watch: &mut V,
+) -> Ended
+    // What was taken is what the source gave first, the state and the wire are what the definition makes of it, it
+    // ended for its reason, and the engine works on unless a device failed.
+    ensures ran { Ran MAX_RECEIVED 1 turns result engine.old engine.new
+        (S.left source.old) (S.left source.new) (W.told wire.old) (W.told wire.new) }
+{
+    run_grouped(alloc, engine, source, wire, turns, 1, watch)
+}
+
+/// The run of `run_watched`, with nobody looking on.
+pub fn run<D: Disk, S: Source, W: Wire>(
+    alloc: Global,
+    engine: &mut Engine<D>,
+    source: &mut S,
+    wire: &mut W,
+    turns: u64,
+) -> Ended
+    // What was taken is what the source gave first, the state and the wire are what the definition makes of it, it
+    // ended for its reason, and the engine works on unless a device failed.
+    ensures ran { Ran MAX_RECEIVED 1 turns result engine.old engine.new
+        (S.left source.old) (S.left source.new) (W.told wire.old) (W.told wire.new) }
+{
+    run_watched(alloc, engine, source, wire, turns, &mut Unwatched)
 }

@@ -18,7 +18,7 @@ use Rattle.cue_core.proofs.lists.ConditionLemmas.{both, neither}
 use Rattle.cue_core.proofs.rules.SoundLemmas.{kept-history}
 use Rattle.cue_core.proofs.rules.BatchLemmas.{onto-append}
 use Rattle.cue_engine.specs.Attempts.{IsDecidedInOrder, may_go_after}
-use Rattle.cue_engine.specs.Incidents.{Incident, formed, stopped_in_form, taken, handed_out, stopped, stopped_in_take}
+use Rattle.cue_engine.specs.Incidents.{Incident, formed, stopped_in_form, committed, handed_out, stopped}
 use Rattle.cue_engine.specs.Incidents.{stopped_in_commit, recovered, stopped_in_recovery, refused}
 use Rattle.cue_engine.specs.Runs.{joined_list}
 use Rattle.cue_engine.proofs.AttemptLemmas.{any_in}
@@ -60,10 +60,9 @@ true_now : (from : Beginning) (past : List Happening) (d q : ℕ) (i : Incident)
     → SaysAt q d i → HasStoodBy from past d q
 true_now from past d q formed only says = absurd says
 true_now from past d q (stopped_in_form one other) only says = absurd says
-true_now from past d q (taken now input) only says = only.0 d q says
+true_now from past d q (committed inputs) only says = only.0 says.input says.there d q says.says
 true_now from past d q handed_out only says = absurd says
 true_now from past d q (stopped n one other) only says = absurd says
-true_now from past d q (stopped_in_take now input n one other) only says = only.0 d q says
 true_now from past d q (stopped_in_commit inputs n one other) only says = only.0 says.input says.there d q says.says
 true_now from past d q (recovered t) only says = absurd says
 true_now from past d q (stopped_in_recovery one other) only says = absurd says

@@ -14,29 +14,34 @@ use Rattle.cue_core.proofs.history.HappeningLemmas.{history-onto}
 use Rattle.cue_core.proofs.lists.AnyLemmas.{any-append, same}
 use Rattle.cue_core.proofs.rules.BatchLemmas.{acceptable-append, is_state-after_events, onto-append}
 use Rattle.cue_engine.specs.Attempts.{IsDecidedInOrder}
-use Rattle.cue_engine.specs.Headline.{AreKept, batch_of}
-use Rattle.cue_engine.specs.Incidents.{Incident, formed, stopped_in_form, taken, handed_out, stopped, stopped_in_take}
+use Rattle.cue_engine.specs.Headline.{AreKept, batches_of}
+use Rattle.cue_engine.specs.Incidents.{Incident, formed, stopped_in_form, committed, handed_out, stopped}
 use Rattle.cue_engine.specs.Incidents.{stopped_in_commit, recovered, stopped_in_recovery, refused}
-use Rattle.cue_engine.specs.Runs.{joined_list, with_batch}
+use Rattle.cue_engine.specs.Runs.{joined_list}
 use Rattle.cue_engine.specs.Runs as runs
 use Rattle.cue_engine.proofs.AttemptLemmas.{contrary, decided_of}
-use Rattle.cue_engine.proofs.GroupLemmas.{inputs-ok}
-use Rattle.cue_engine.proofs.HistoryLemmas.{happening-ok, input-ok}
-use Rattle.cue_engine.proofs.RestingLemmas.{joined-with}
+use Rattle.cue_engine.proofs.GroupLemmas.{inputs-ok, joined_append}
+use Rattle.cue_engine.proofs.IncidentLemmas.{events_of, joined_batches, folded_batches}
+use Rattle.cue_engine.proofs.HistoryLemmas.{happening-ok}
 
 -- ---- what is kept is acceptable in turn
 
-batch_ok : (s : ShowState) (i : Incident) → IsTrue (is_state s) → are_acceptable s (batch_of s i) ≡ true
+batch_ok : (s : ShowState) (i : Incident) → IsTrue (is_state s) → are_acceptable s (events_of s i) ≡ true
 batch_ok s formed h = refl
 batch_ok s (stopped_in_form one other) h = refl
-batch_ok s (taken now input) h = input-ok s now input h
+batch_ok s (committed inputs) h = inputs-ok s inputs h
 batch_ok s handed_out h = refl
 batch_ok s (stopped n one other) h = refl
-batch_ok s (stopped_in_take now input n one other) h = input-ok s now input h
 batch_ok s (stopped_in_commit inputs n one other) h = inputs-ok s inputs h
 batch_ok s (recovered t) h = happening-ok s runs.recovered h
 batch_ok s (stopped_in_recovery one other) h = happening-ok s runs.recovered h
 batch_ok s (refused one other) h = refl
+
+-- the events of what is kept: those of the first incident, and then those of the others
+pub joined_kept : (s : ShowState) (i : Incident) (kept others : List (List Event)) → kept ≡ batches_of s i ++ others
+    → events_of s i ++ joined_list others ≡ joined_list kept
+joined_kept s i kept others is = ap (λ (es : List Event). es ++ joined_list others) (sym (joined_batches s i))
+    ∙ sym (joined_append (batches_of s i) others) ∙ ap joined_list (sym is)
 
 pub kept_ok : (s : ShowState) (is : List Incident) (kept : List (List Event)) → IsTrue (is_state s) → AreKept s is kept
     → are_acceptable s (joined_list kept) ≡ true
@@ -44,12 +49,11 @@ kept_ok s [] kept rules are = subst (λ (bs : List (List Event)). are_acceptable
     refl
 kept_ok s (i ∷ is) kept rules (inl whole) =
     let ok = batch_ok s i rules in
-    let later = kept_ok (after_events s (batch_of s i)) is whole.0 (is_state-after_events s (batch_of s i) rules ok)
-    whole.1.1 in
-    let same : batch_of s i ++ joined_list whole.0 ≡ joined_list kept = sym (joined-with (batch_of s i) whole.0)
-    ∙ ap joined_list (sym whole.1.0) in
-    subst (λ (es : List Event). are_acceptable s es ≡ true) same
-    (acceptable-append s (batch_of s i) (joined_list whole.0) ok later)
+    let P : ShowState → Type 0 = λ t. AreKept t is whole.0 in
+    let later = kept_ok (after_events s (events_of s i)) is whole.0 (is_state-after_events s (events_of s i) rules ok)
+    (subst P (folded_batches s i) whole.1.1) in
+    subst (λ (es : List Event). are_acceptable s es ≡ true) (joined_kept s i kept whole.0 whole.1.0)
+    (acceptable-append s (events_of s i) (joined_list whole.0) ok later)
 kept_ok s (i ∷ is) kept rules (inr cut) = kept_ok s is kept rules cut.1
 
 kept_in_order : (is : List Incident) (kept : List (List Event)) → AreKept empty_state is kept

@@ -1,6 +1,6 @@
 -- A Ready among the kept batches came of an input that says that the device stands by.
 use Rattle.std.proofs.Common.{◌≡◌, ◌⊎◌, inl, inr, ℕ, suc, ◌<◌, Bool, true, false, ◌||◌, List, [], ◌∷◌, ◌++◌, Result, Ok}
-use Rattle.std.proofs.Common.{Err, length, map, filter, if◌then◌else◌, refl, sym, ap, ◌∙◌, true≢false, arith}
+use Rattle.std.proofs.Common.{Err, length, map, filter, if◌then◌else◌, refl, sym, ap, ◌∙◌, true≢false, arith, subst}
 use Rattle.std.specs.List.{Contains, list_any}
 use Rattle.cue_exchange.specs.declared.attempt.Attempt.{Attempt}
 use Rattle.cue_exchange.specs.declared.attempt.Reason.{Reason}
@@ -25,12 +25,13 @@ use Rattle.cue_engine.specs.Given.{Input, datagram, tick, Given, given_of, given
 use Rattle.cue_engine.specs.Given.{are_too_many, messages_in}
 use Rattle.cue_engine.specs.Groups.{batches_given}
 use Rattle.cue_engine.specs.Heard.{Heard, carried_out, hear, heard_events, hear_all, all_events}
-use Rattle.cue_engine.specs.Headline.{AreKept, batch_of}
-use Rattle.cue_engine.specs.Incidents.{Incident, formed, stopped_in_form, taken, handed_out, stopped, stopped_in_take}
+use Rattle.cue_engine.specs.Headline.{AreKept}
+use Rattle.cue_engine.proofs.IncidentLemmas.{events_of, folded_batches}
+use Rattle.cue_stage.proofs.KeptLemmas.{joined_kept}
+use Rattle.cue_engine.specs.Incidents.{Incident, formed, stopped_in_form, committed, handed_out, stopped}
 use Rattle.cue_engine.specs.Incidents.{stopped_in_commit, recovered, stopped_in_recovery, refused}
 use Rattle.cue_engine.specs.Runs.{joined_list}
 use Rattle.cue_engine.proofs.GivenLemmas.{given_by_test, in_full}
-use Rattle.cue_engine.proofs.RestingLemmas.{joined-with}
 use Rattle.cue_stage.specs.Consent.{IsStandingBy, SaysStandingBy}
 use Rattle.cue_stage.proofs.ReadyLemmas.{Among, ready_among}
 use Rattle.cue_stage.proofs.AskingLemmas.{read_among}
@@ -152,19 +153,17 @@ inputs_say q e s (i ∷ is) h =
 
 -- the incident brings an input that says so
 abbrev pub SaysAt : ℕ → ℕ → Incident → Type 0
-SaysAt q e (taken now input) = SaysStandingBy now input e q
-SaysAt q e (stopped_in_take now input n one other) = SaysStandingBy now input e q
+SaysAt q e (committed inputs) = IsSaidByOne inputs q e
 SaysAt q e (stopped_in_commit inputs n one other) = IsSaidByOne inputs q e
 SaysAt q e _ = ⊥
 
-incident_says : (q e : ℕ) (s : ShowState) (i : Incident) → list_any (is_ready_of q e) (batch_of s i) ≡ true
+incident_says : (q e : ℕ) (s : ShowState) (i : Incident) → list_any (is_ready_of q e) (events_of s i) ≡ true
     → SaysAt q e i
 incident_says q e s formed h = true≢false (sym h)
 incident_says q e s (stopped_in_form one other) h = true≢false (sym h)
-incident_says q e s (taken now input) h = input_says q e s now input h
+incident_says q e s (committed inputs) h = inputs_say q e s inputs h
 incident_says q e s handed_out h = true≢false (sym h)
 incident_says q e s (stopped n one other) h = true≢false (sym h)
-incident_says q e s (stopped_in_take now input n one other) h = input_says q e s now input h
 incident_says q e s (stopped_in_commit inputs n one other) h = inputs_say q e s inputs h
 incident_says q e s (recovered t) h = none_cancelled q e Power (filter is_undecided s.live) h
 incident_says q e s (stopped_in_recovery one other) h = none_cancelled q e Power (filter is_undecided s.live) h
@@ -182,14 +181,17 @@ kept_says q e s [] kept are h =
     ∙ h)))
 kept_says q e s (i ∷ is) kept (inr cut) h = inr (kept_says q e s is kept cut.1 h)
 kept_says q e s (i ∷ is) kept (inl whole) h =
-    by (list_any (is_ready_of q e) batch) refl (λ k. kept_says q e (after_events s batch) is whole.0 whole.1.1 k)
+    by (list_any (is_ready_of q e) batch) refl (λ k. kept_says q e (after_events s batch) is whole.0 later k)
     (sym (any-append (is_ready_of q e) batch (joined_list whole.0)) ∙ (ap (list_any (is_ready_of q e)) same ∙ h))
   where
     batch : List Event
-    batch = batch_of s i
+    batch = events_of s i
 
     same : batch ++ joined_list whole.0 ≡ joined_list kept
-    same = sym (joined-with batch whole.0) ∙ ap joined_list (sym whole.1.0)
+    same = joined_kept s i kept whole.0 whole.1.0
+
+    later : AreKept (after_events s batch) is whole.0
+    later = let P : ShowState → Type 0 = λ t. AreKept t is whole.0 in subst P (folded_batches s i) whole.1.1
 
     by : (b : Bool) → list_any (is_ready_of q e) batch ≡ b
         → (list_any (is_ready_of q e) (joined_list whole.0) ≡ true → SaidIn q e is)

@@ -15,7 +15,7 @@ use Rattle.cue_operator.specs.declared.method.DeviceVerb.TheVariants.{StandingBy
 use Rattle.cue_operator.specs.declared.method.Method.TheVariants.{OfDevice}
 use Rattle.cue_operator.specs.Methods.{address_of}
 use Rattle.cue_engine.specs.Given.{Input, datagram, tick, messages_in}
-use Rattle.cue_engine.specs.Incidents.{taken, stopped_in_take, stopped_in_commit}
+use Rattle.cue_engine.specs.Incidents.{committed, stopped_in_commit}
 use Rattle.cue_engine.specs.Runs.{joined_list}
 use Rattle.cue_device.specs.declared.hearing.Told.TheVariants.{Prepared}
 use Rattle.cue_device.specs.Histories.{tells}
@@ -66,8 +66,7 @@ AreTrueOf from past inputs = (i : ℕ × Input) → Contains inputs i → IsTrue
 
 -- what happens brings no untrue standing_by to the controller
 abbrev pub BringsNoUntruth : Beginning → List Happening → Happening → Type 0
-BringsNoUntruth from past (meets (taken now input)) = IsTrueOf from past now input
-BringsNoUntruth from past (meets (stopped_in_take now input n one other)) = IsTrueOf from past now input
+BringsNoUntruth from past (meets (committed inputs)) = AreTrueOf from past inputs
 BringsNoUntruth from past (meets (stopped_in_commit inputs n one other)) = AreTrueOf from past inputs
 BringsNoUntruth from past _ = Unit {0}
 

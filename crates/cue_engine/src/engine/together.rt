@@ -2,7 +2,7 @@
 ghost use Rattle.std.specs.Prelude.{◌≡◌, ◌⊎◌, ◌↔◌, [], true, length};
 ghost use Rattle.std.specs.Prelude.{IfOk, IfErr, OnOk, OnErr, IsErrOf, IsTrue};
 ghost use Rattle.std.specs.Result.{result_err};
-ghost use Rattle.cue_keeper.specs.Accepting.{AcceptsTogether};
+ghost use Rattle.cue_keeper.specs.Accepting.{Accepts};
 ghost use Rattle.cue_keeper.specs.Groups.{batches_view};
 ghost use Rattle.cue_keeper.specs.Observed as kept;
 ghost use Rattle.cue_engine.specs.Given.{given_of};
@@ -10,7 +10,7 @@ ghost use Rattle.cue_engine.specs.Inputs.{input_view};
 
 use super::{Engine, drop_offered};
 use crate::input::Input;
-use crate::keeping::keep_together;
+use crate::keeping::keep;
 use crate::offers::{offer_first, offer_next};
 use crate::taken::Taken;
 use cue_core::Event;
@@ -18,7 +18,7 @@ use cue_disk::Disk;
 use cue_keeper::Fault;
 
 impl<D: Disk> Engine<D> {
-    ghost use Rattle.cue_engine.specs.Taking.{Offers, IsOffered, TakesTogether};
+    ghost use Rattle.cue_engine.specs.Taking.{Offers, IsOffered, TakesUp};
     ghost use Rattle.cue_engine.specs.Observed.{keeper_of, state_of, queue_of, latest_of, has_room, last_batches_of};
     ghost use Rattle.cue_engine.specs.Observed.{offered_of, offered_sends_of, FitsTogether};
 
@@ -101,12 +101,13 @@ impl<D: Disk> Engine<D> {
     /// and two syncs; where none was offered it makes no device call.
     pub fn commit(&mut self) -> Result<(), Fault>
         // State and queue are what the inputs give, one after the other.
-        ensures gives { OnOk result (TakesTogether self.old self.new) }
+        ensures gives { OnOk result
+            (TakesUp (offered_of self.old) (offered_sends_of self.old) self.old self.new) }
         // On a fault state and queue are as they were.
         ensures same { OnErr result
             ((state_of self.new ≡ state_of self.old) × (queue_of self.new ≡ queue_of self.old)) }
         // Their batches are on both disks, each whole, or the fault says why not.
-        ensures accepts { AcceptsTogether (offered_of self.old) (result_err result)
+        ensures accepts { Accepts (offered_of self.old) (result_err result)
             (keeper_of self.old) (keeper_of self.new) }
         // It answers Full only where several inputs change something and the live area lacks room for them.
         ensures no_full { FitsTogether self.old → IsErrOf result Fault.Full → ⊥ }
@@ -121,12 +122,7 @@ impl<D: Disk> Engine<D> {
         match offered {
             None => Ok(()),
             Some(offered) => {
-                let kept = keep_together(
-                    &mut self.keeper,
-                    &mut self.draft,
-                    &mut self.queue,
-                    offered,
-                );
+                let kept = keep(&mut self.keeper, &mut self.draft, &mut self.queue, offered);
                 if kept.is_err() {
                     self.spare.is_valid = false;
                 }

@@ -17,7 +17,7 @@ ghost use Rattle.cue_engine.specs.Recovery.{IsLeftOrStands, RefusedBut};
 ghost use Rattle.cue_engine.specs.Incidents.{
   formed,
   stopped_in_form,
-  taken,
+  committed,
   handed_out,
   stopped,
   recovered,
@@ -34,11 +34,8 @@ ghost use Rattle.cue_engine.specs.Lives.{
   InEachLifeWith,
   InEachLifeAt,
   InEachLifeBefore,
-  IsPromisedAtEachMoment,
-  RestsAtEachMoment,
   IsPromisedWithin,
   RestsWithin,
-  all_taken,
   LeavesAtEachStop,
   StopsAfterSome,
   IsGivenBack,
@@ -66,24 +63,25 @@ pub fn form<D: Disk>(alloc: Global, first: D, second: D) -> Result<Engine<D>, (S
     Engine::form(alloc, first, second)
 }
 
-/// `Engine::take` in the life of a store: an input that was taken is the next incident, one that was refused is none.
-/// At any moment of the call the promise holds of whatever a crash leaves, and the life goes on at rest.
+/// `Engine::take` in the life of a store: a commit of the one input that was taken is the next incident, one that was
+/// refused is none. At any moment of the call the promise holds of whatever a crash leaves, and the life goes on at
+/// rest.
 pub fn take<D: Disk>(engine: &mut Engine<D>, now: u64, input: Input<'_>) -> Result<Taken, Fault>
     ensures taken { InEachLifeWith (state_of engine.old) (queue_of engine.old)
-        (λ s store is. OnOk result (RunsWith s store (is ++ taken now (input_view input.entry) ∷ [])
+        (λ s store is. OnOk result (RunsWith s store (is ++ committed ((now, input_view input.entry) ∷ []) ∷ [])
         (state_of engine.new) (queue_of engine.new))) }
     ensures not_taken { InEachLifeWith (state_of engine.old) (queue_of engine.old)
         (λ s store is. OnErr result (RunsWith s store is (state_of engine.new) (queue_of engine.new))) }
     ensures promised { D.is_honest (first_of engine.old) → D.is_honest (second_of engine.old)
         → is_broken (keeper_of engine.old) ≡ false
         → InEachLifeWith (state_of engine.old) (queue_of engine.old)
-        (λ s store is. IsPromisedAtEachMoment D.moment D.held_at (first_of engine.old) (second_of engine.old)
-        (first_of engine.new) (second_of engine.new) s store is now (input_view input.entry)) }
+        (λ s store is. IsPromisedWithin D.moment D.held_at (first_of engine.old) (second_of engine.old)
+        (first_of engine.new) (second_of engine.new) s store is ((now, input_view input.entry) ∷ [])) }
     ensures stopped { D.is_honest (first_of engine.old) → D.is_honest (second_of engine.old)
         → is_broken (keeper_of engine.old) ≡ false
         → InEachLifeWith (state_of engine.old) (queue_of engine.old)
-        (λ s store is. RestsAtEachMoment D.moment D.held_at (first_of engine.old) (second_of engine.old)
-        (first_of engine.new) (second_of engine.new) s store is now (input_view input.entry)) }
+        (λ s store is. RestsWithin D.moment D.held_at (first_of engine.old) (second_of engine.old)
+        (first_of engine.new) (second_of engine.new) s store is ((now, input_view input.entry) ∷ [])) }
 {
     engine.take(now, input)
 }
@@ -99,12 +97,12 @@ pub fn offer<D: Disk>(engine: &mut Engine<D>, now: u64, input: Input<'_>) -> Res
     engine.offer(now, input)
 }
 
-/// `Engine::commit` in the life of a store: each input that was offered is an incident, one after the other, as if each
-/// had been taken; one that was refused is none. At any moment of the call the promise holds of whatever a crash
-/// leaves, and the life goes on at rest.
+/// `Engine::commit` in the life of a store: the inputs that were offered are the next incident together, and none where
+/// they were refused. At any moment of the call the promise holds of whatever a crash leaves, and the life goes on at
+/// rest.
 pub fn commit<D: Disk>(engine: &mut Engine<D>) -> Result<(), Fault>
     ensures taken { WhateverWasOffered engine.old (λ inputs. InEachLifeWith (state_of engine.old) (queue_of engine.old)
-        (λ s store is. OnOk result (RunsWith s store (is ++ all_taken inputs) (state_of engine.new)
+        (λ s store is. OnOk result (RunsWith s store (is ++ committed inputs ∷ []) (state_of engine.new)
         (queue_of engine.new)))) }
     ensures not_taken { InEachLifeWith (state_of engine.old) (queue_of engine.old)
         (λ s store is. OnErr result (RunsWith s store is (state_of engine.new) (queue_of engine.new))) }

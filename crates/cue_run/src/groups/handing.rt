@@ -1,7 +1,7 @@
 // Committing a group, and handing out what its inputs owe.
 ghost use Rattle.std.specs.Prelude.{◌≡◌, [], MatchResult, IsErrOf};
 ghost use Rattle.std.specs.Result.{result_err};
-ghost use Rattle.cue_keeper.specs.Accepting.{AcceptsTogether};
+ghost use Rattle.cue_keeper.specs.Accepting.{Accepts};
 ghost use Rattle.cue_engine.specs.Taking.{IsOffered};
 ghost use Rattle.cue_engine.specs.Observed.{keeper_of, queue_of, offered_of, offered_sends_of, FitsTogether};
 ghost use Rattle.cue_run.specs.Grouping.{HandedCounted};
@@ -54,7 +54,7 @@ pub(crate) fn take_group<D: Disk, W: Wire, V: Watch<W>>(
     ends: &[usize],
 ) -> Result<u64, Fault>
     requires { queue_of engine.old ≡ [] }
-    ensures accepts { AcceptsTogether (offered_of engine.old) (result_err result)
+    ensures accepts { Accepts (offered_of engine.old) (result_err result)
         (keeper_of engine.old) (keeper_of engine.new) }
     ensures handed { MatchResult result
         (λ unsent. HandedCounted (W.told wire.old) (offered_sends_of engine.old) unsent (W.told wire.new))

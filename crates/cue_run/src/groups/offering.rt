@@ -5,7 +5,7 @@ ghost use Rattle.cue_engine.specs.Inputs.{input_view};
 ghost use Rattle.cue_engine.specs.Taking.{IsOffered, WhateverWasOffered};
 ghost use Rattle.cue_engine.specs.Observed.{keeper_of, queue_of, FitsTogether};
 ghost use Rattle.cue_run.specs.Grouping.{StaysOffered, StillFits, IsTurnedDown, OfferedNext};
-ghost use Rattle.cue_run.specs.Grouping.{OfferedFirst, OfferedGroup, Gathered};
+ghost use Rattle.cue_run.specs.Grouping.{OfferedFirst, OfferedGroup, Gathered, answers_beside};
 
 use crate::source::{Source, Turn, Waiting};
 use crate::turns::RunFault;
@@ -145,7 +145,7 @@ fn gather<D: Disk, S: Source>(
         engine.old engine.new (S.left source.old) (S.left source.new) }
     // What is offered in the end can be committed together.
     ensures fits { FitsTogether engine.old → FitsTogether engine.new }
-    ensures at_most { vec_len ends.new ≤ most }
+    ensures at_most { vec_len ends.new + answers_beside result ≤ most }
     ensures capacity { vec_capacity ends.new ≡ vec_capacity ends.old }
 {
     for count in 1..most {

@@ -1,4 +1,4 @@
-use Rattle.std.proofs.Common.{◌≡◌, refl, ◌∙◌, ap, subst, List}
+use Rattle.std.proofs.Common.{◌≡◌, refl, ◌∙◌, ap, subst, List, [], ◌∷◌}
 use Rattle.std.specs.Prelude.{Some, None}
 use Rattle.cue_core.specs.declared.event.Event.{Event}
 use Rattle.cue_core.specs.State.{ShowState}
@@ -10,30 +10,30 @@ use Rattle.cue_keeper.proofs.CommittedLemmas.{out_of_memory, refuses, refuses_to
 use Rattle.cue_engine.proofs.recovering.close_undecided.Goals as goal
 
 -- no call was made
-pub returns-in_err-batch-clause-accepts : goal.returns-in_err-batch-clause-accepts
-returns-in_err-batch-clause-accepts g c =
+pub returns-in_err-offered-clause-accepts : goal.returns-in_err-offered-clause-accepts
+returns-in_err-offered-clause-accepts g c =
     let old = c.args.keeper.now in
     let s = state_of old in
-    let es = events_at s recovered in
-    refuses es c.from_residual.result fault.Memory old old c.from_residual.ensures.1 refl
-    (out_of_memory s es (pair_of old) g.met.D.Disk.held_now
+    let bs = events_at s recovered ∷ [] in
+    refuses bs c.from_residual.result fault.Memory old old c.from_residual.ensures.1 refl
+    (out_of_memory s bs (pair_of old) g.met.D.Disk.held_now
     (λ h k. c.is_broken-broken.ensures.stands h k c.requires.works) c.requires.works)
 
-pub returns-in_err-accept_batch-clause-accepts : goal.returns-in_err-accept_batch-clause-accepts
-returns-in_err-accept_batch-clause-accepts g c =
+pub returns-in_err-keep-clause-accepts : goal.returns-in_err-keep-clause-accepts
+returns-in_err-keep-clause-accepts g c =
     let old = c.args.keeper.now in
-    let new = c.accept_batch.new.keeper in
-    let f = c.in_err-accept_batch.field-0.0 in
-    let same : c.in_ok-batch.batch.items ≡ events_at (state_of old) recovered = c.in_ok-batch.ensures.batch
-    ∙ ap (λ (t : ShowState). events_at t recovered) c.state.ensures in
-    refuses_too (events_at (state_of old) recovered) c.from_residual-in_err-accept_batch.result f old new
-    c.from_residual-in_err-accept_batch.ensures.1
-    (subst (λ (es : List Event). Accepts es (Some f) old new) same c.in_err-accept_batch.ensures.accepts)
+    let new = c.keep.new.keeper in
+    let f = c.in_err-keep.field-0.0 in
+    let same : c.in_ok-offered.offered.group ≡ events_at (state_of old) recovered ∷ [] = c.in_ok-offered.ensures.group
+    ∙ ap (λ (t : ShowState). events_at t recovered ∷ []) c.state.ensures in
+    refuses_too (events_at (state_of old) recovered ∷ []) c.from_residual-in_err-keep.result f old new
+    c.from_residual-in_err-keep.ensures.1
+    (subst (λ (bs : List (List Event)). Accepts bs (Some f) old new) same c.in_err-keep.ensures.accepts)
 
 pub returns-clause-accepts : goal.returns-clause-accepts
 returns-clause-accepts g c =
     let old = c.args.keeper.now in
-    let new = c.accept_batch.new.keeper in
-    let same : c.in_ok-batch.batch.items ≡ events_at (state_of old) recovered = c.in_ok-batch.ensures.batch
-    ∙ ap (λ (t : ShowState). events_at t recovered) c.state.ensures in
-    subst (λ (es : List Event). Accepts es None old new) same c.in_ok-accept_batch.ensures.accepts
+    let new = c.keep.new.keeper in
+    let same : c.in_ok-offered.offered.group ≡ events_at (state_of old) recovered ∷ [] = c.in_ok-offered.ensures.group
+    ∙ ap (λ (t : ShowState). events_at t recovered ∷ []) c.state.ensures in
+    subst (λ (bs : List (List Event)). Accepts bs None old new) same c.in_ok-keep.ensures.accepts

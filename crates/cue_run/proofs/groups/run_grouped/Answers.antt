@@ -18,7 +18,7 @@ returns-in-Err g c =
         taken = begun MAX_RECEIVED left (state_of old) (state_of new) (queue_of old) (g.W.Wire.told c.args.wire.now)
             (g.W.Wire.told c.hand_out-unsent.new.wire) c.hand_out-unsent.result
             (omega (arith, c.hand_out-unsent.type_inv)) state c.hand_out-unsent.ensures.handed;
-        why = inl (inl (refl, refl, refl, same));
+        why = inl (refl, refl, refl, same);
         at_most = omega arith;
         none_taken = λ _. refl;
         emptied = c.hand_out-unsent.ensures.emptied;

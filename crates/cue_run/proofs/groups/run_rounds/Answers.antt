@@ -1,4 +1,4 @@
-use Rattle.std.proofs.Common.{◌≡◌, ◌∙◌, List, ℕ, length, refl, ap, subst, inl, arith}
+use Rattle.std.proofs.Common.{◌≡◌, ◌∙◌, List, ℕ, length, vec_capacity, refl, ap, subst, inl, arith}
 use Rattle.cue_keeper.specs.Observed as kept
 use Rattle.cue_engine.specs.Observed.{keeper_of, state_of, queue_of}
 use Rattle.cue_engine.specs.Wires.{AllHanded}
@@ -6,10 +6,9 @@ use Rattle.cue_keeper.specs.declared.fault.Fault.TheVariants.{Disk}
 use Rattle.cue_run.specs.declared.turns.RunFault.TheVariants as fault
 use Rattle.cue_run.specs.declared.groups.offering.Stop.TheVariants as stop
 use Rattle.cue_run.specs.Grouping.{HasRound}
-use Rattle.cue_run.proofs.GroupWorkLemmas.{works_join}
+use Rattle.cue_run.proofs.WorkLemmas.{begins, works_join}
 use Rattle.cue_run.proofs.RunLemmas.{begun, still}
 use Rattle.cue_run.proofs.RoundLemmas.{round_more, round_last}
-use Rattle.cue_run.proofs.WorkLemmas.{begins}
 use Rattle.cue_run.proofs.groups.run_rounds.Goals as goal
 
 pub loop-taken-init : goal.loop-taken-init
@@ -80,11 +79,12 @@ returns-in-Some g c =
     let room = c.min-room.result in
     let one = subst (λ (n : ℕ). HasRound n room r.result l.engine r.new.engine (left l.source) (left r.new.source)
     (told l.wire) (told r.new.wire)) now.1 r.ensures.round in
-    round_last size room c.args.turns l.taken l.unsent c.saturating_add-unsent.result r.result c.in-Some.stop
+    round_last size room (vec_capacity c.args.ends.now) c.args.turns l.taken l.unsent c.saturating_add-unsent.result r.result c.in-Some.stop
     c.fault_of.result old l.engine r.new.engine (left c.args.source.now) (left l.source) (left r.new.source)
     (told c.args.wire.now) (told l.wire) (told r.new.wire)
     c.saturating_add-unsent.ensures c.in-Some.is c.fault_of.ensures
-    (omega (arith, c.min-room.ensures, c.loop-taken-test.true)) r.ensures.emptied now.6 now.7 now.0 one
+    (omega (arith, c.min-room.ensures, now.2)) (omega (arith, c.min-room.ensures, c.loop-taken-test.true))
+    r.ensures.emptied now.6 now.7 now.0 one
 
 pub returns : goal.returns
 returns g c =

@@ -1,7 +1,10 @@
 use Rattle.std.proofs.Common.{[], ◌∷◌, ◌++◌, List, sym, ◌∙◌, ap, subst, true≢false}
 use Rattle.cue_core.specs.declared.event.Event.{Event}
 use Rattle.cue_core.specs.State.{ShowState}
+use Rattle.cue_keeper.specs.declared.fault.Fault.TheVariants as fault
 use Rattle.cue_keeper.specs.Observed as kept
+use Rattle.cue_keeper.specs.Turning.{IsInTheWay}
+use Rattle.cue_keeper.proofs.CommittedLemmas.{one_is_free}
 use Rattle.cue_records.proofs.TakingLemmas.{some_is}
 use Rattle.cue_engine.specs.declared.offers.Offered.{Offered}
 use Rattle.cue_engine.specs.Given.{given_of}
@@ -35,3 +38,10 @@ returns-in_ok-offer_next-in-Some-clause-room g c =
     let batch = (given_of old.draft.state c.args.now (input_view c.args.input)).batch in
     next_fits old c.offer_next.new.offered.group batch
     (said.group ∙ ap (λ (bs : List (List Event)). bs ++ batch ∷ []) (sym (ap offered_batches c.in-Some.is))) said.fits
+
+-- one input alone has room
+pub returns-in_ok-first-in-None-clause-room : goal.returns-in_ok-first-in-None-clause-room
+returns-in_ok-first-in-None-clause-room g c = λ _ way.
+    let pair = kept.pair_of c.args.self.now.keeper in
+    one_is_free pair (given_of c.state.result.now c.args.now (input_view c.args.input)).batch
+    (subst (λ (bs : List (List Event)). IsInTheWay pair bs fault.Full) c.in_ok-first-in-None.ensures.group way)

@@ -1,4 +1,4 @@
-use Rattle.std.proofs.Common.{◌≡◌, ap, sym, ◌∙◌, subst, true≢false}
+use Rattle.std.proofs.Common.{◌≡◌, [], ◌∷◌, ap, sym, ◌∙◌, subst, true≢false}
 use Rattle.cue_core.specs.Happenings.{events_at, recovered}
 use Rattle.cue_core.specs.State.{ShowState}
 use Rattle.cue_keeper.specs.declared.fault.Fault.{Fault}
@@ -6,7 +6,8 @@ use Rattle.cue_keeper.specs.Accepting.{HasCause}
 use Rattle.cue_keeper.specs.Pairs.{LeavesPairsAtEachMoment}
 use Rattle.cue_keeper.specs.Stands.{StandsEither, StandsAs}
 use Rattle.cue_keeper.specs.Observed.{state_of, pair_of, first_of, second_of, generation_of, count_of, end_of}
-use Rattle.cue_keeper.proofs.CommittedLemmas.{unless_disk}
+use Rattle.cue_keeper.proofs.CommittedLemmas.{unless_disk, one_is_free}
+use Rattle.cue_keeper.proofs.GroupLemmas.{one_has, has_one}
 use Rattle.cue_snap.specs.Observed as snap
 use Rattle.cue_keeper.specs.declared.fault.Fault.TheVariants as fault
 use Rattle.cue_keeper.specs.declared.fault.StoreFault.TheVariants as store
@@ -17,34 +18,35 @@ use Rattle.cue_engine.proofs.engine.opening.close_opened.Goals as goal
 pub store_fault-requires-clause-works : goal.store_fault-requires-clause-works
 store_fault-requires-clause-works g c = λ broken.
     let keeper = c.args.keeper in
-    let why = subst (λ (f : Fault). HasCause (events_at (state_of keeper) recovered) (pair_of keeper)
+    let why = subst (λ (f : Fault). HasCause (events_at (state_of keeper) recovered ∷ []) (pair_of keeper)
     (pair_of c.close_undecided.new.keeper) f) broken c.in-Err.ensures.accepts.pair.cause in
     absurd (true≢false (sym why ∙ c.requires.works))
 
 pub store_fault-requires-clause-room : goal.store_fault-requires-clause-room
 store_fault-requires-clause-room g c = λ full.
     let keeper = c.args.keeper in
-    subst (λ (f : Fault). HasCause (events_at (state_of keeper) recovered) (pair_of keeper)
-    (pair_of c.close_undecided.new.keeper) f) full c.in-Err.ensures.accepts.pair.cause
+    one_is_free (pair_of keeper) (events_at (state_of keeper) recovered)
+    (subst (λ (f : Fault). HasCause (events_at (state_of keeper) recovered ∷ []) (pair_of keeper)
+    (pair_of c.close_undecided.new.keeper) f) full c.in-Err.ensures.accepts.pair.cause)
 
 pub returns-in-Err-clause-exhausted : goal.returns-in-Err-clause-exhausted
 returns-in-Err-clause-exhausted g c = λ first second refused.
     let d = g.D.Disk in
     let keeper = c.args.keeper in
-    let told = subst (λ (f : Fault). HasCause (events_at (state_of keeper) recovered) (pair_of keeper)
+    let told = subst (λ (f : Fault). HasCause (events_at (state_of keeper) recovered ∷ []) (pair_of keeper)
     (pair_of c.close_undecided.new.keeper) f) (c.store_fault.ensures.exhausted.0 refused)
     c.in-Err.ensures.accepts.pair.cause in
     no_generation (d.held (first_of keeper)) (d.held (second_of keeper)) (state_of keeper) (generation_of keeper)
     (count_of keeper) (end_of keeper)
     (c.is_broken-broken.ensures.kept first second c.requires.works)
     (g.met.D.Disk.reads_as_image (first_of keeper) first) (g.met.D.Disk.reads_as_image (second_of keeper) second)
-    told.0.0 told.0.1 told.1
+    (one_has (events_at (state_of keeper) recovered) told.1) told.0 told.2
 
 pub returns-in-Err-clause-disk : goal.returns-in-Err-clause-disk
 returns-in-Err-clause-disk g c = λ refused.
     let keeper = c.args.keeper in
     rw (c.close-first.ensures.first, c.close-first.ensures.second)
-    (subst (λ (f : Fault). HasCause (events_at (state_of keeper) recovered) (pair_of keeper)
+    (subst (λ (f : Fault). HasCause (events_at (state_of keeper) recovered ∷ []) (pair_of keeper)
     (pair_of c.close_undecided.new.keeper) f) (c.store_fault.ensures.disk.0 refused)
     c.in-Err.ensures.accepts.pair.cause)
 
@@ -135,7 +137,8 @@ returns-in-Err-clause-due_at_the_last g c = λ first second none.
     let last = generation_is one other (state_of keeper) (generation_of keeper) (count_of keeper) (end_of keeper) kept
     image_one image_other none.area none.state none.needs ∙ none.last in
     told_one c.in-Err.fault fault.Memory fault.Exhausted c.store_fault.result store.Memory store.Exhausted
-    (c.in-Err.ensures.accepts.pair.due_at_the_last c.requires.works needs last) c.store_fault.ensures.memory.1
+    (c.in-Err.ensures.accepts.pair.in_the_way c.requires.works fault.Exhausted
+    (needs.1, has_one (events_at (state_of keeper) recovered) needs.0, last)) c.store_fault.ensures.memory.1
     c.store_fault.ensures.exhausted.1
 
 pub returns-in-Ok-clause-due_at_the_last : goal.returns-in-Ok-clause-due_at_the_last
@@ -151,4 +154,5 @@ returns-in-Ok-clause-due_at_the_last g c = λ first second none.
     image_one image_other none.area none.state none.needs in
     let last = generation_is one other (state_of keeper) (generation_of keeper) (count_of keeper) (end_of keeper) kept
     image_one image_other none.area none.state none.needs ∙ none.last in
-    none_told fault.Memory fault.Exhausted (c.in-Ok.ensures.accepts.pair.due_at_the_last c.requires.works needs last)
+    none_told fault.Memory fault.Exhausted (c.in-Ok.ensures.accepts.pair.in_the_way c.requires.works fault.Exhausted
+    (needs.1, has_one (events_at (state_of keeper) recovered) needs.0, last))

@@ -1,5 +1,5 @@
 use Rattle.cue_engine.specs.Observed.{state_of, queue_of, first_of, second_of}
-use Rattle.cue_engine.proofs.LifeLemmas.{lives_together, lives_still, promised_in_commit, rests_in_commit}
+use Rattle.cue_engine.proofs.LifeLemmas.{lives_committed, lives_still, promised_in_commit, rests_in_commit}
 use Rattle.cue_engine.proofs.CommittingLemmas.{state_taken, queue_taken, leaves_taken}
 use Rattle.cue_engine.proofs.laws.lives.commit.Goals as goal
 
@@ -7,7 +7,7 @@ pub returns-clause-taken : goal.returns-clause-taken
 returns-clause-taken g c = λ inputs offered s store is.
     let old = c.args.engine.now in
     let new = c.commit.new.self in
-    lives_together s store is inputs (state_of old) (state_of new) (queue_of old) (queue_of new) c.commit.result
+    lives_committed s store is inputs (state_of old) (state_of new) (queue_of old) (queue_of new) c.commit.result
     (state_taken inputs old new c.commit.result offered c.commit.ensures.gives)
     (queue_taken inputs old new c.commit.result offered c.commit.ensures.gives)
 

@@ -31,7 +31,7 @@ returns-in-Err-clause-round g c =
     subst (λ (r : Round). HasRound size c.args.room r old new (left c.args.source.now) (left c.offer_group.new.source)
     (told c.args.wire.now) (told c.args.wire.now)) (sym c.none.ensures)
     (stopped_round size c.args.room (vec_len c.offer_group.new.ends) c.in-Err.stop old new (left c.args.source.now)
-    (left c.offer_group.new.source) (told c.args.wire.now) (told c.args.wire.now) g.met.D.Disk.held_now
+    (left c.offer_group.new.source) (told c.args.wire.now) (told c.args.wire.now) g.met.D.Disk.held_now c.requires.some
     (begins (keeper_of old) (keeper_of old) refl c.state-state.ensures.stands) refl c.in-Err.ensures.offered)
 
 pub returns-in-Err-clause-emptied : goal.returns-in-Err-clause-emptied

@@ -1,7 +1,36 @@
 //! The desk as a machine over values: from what it hears it makes one view, and at most one message.
 //!
 //! Nothing here reads a clock, a file or a socket: two moments come with each thing that is heard, one of a clock that
-//! never goes back, and one of the clock of the wall, by which the controller counts its ten seconds.
+//! never goes back, and one of the clock of the wall, by which the controller counts its ten seconds. `heard` has what
+//! is heard, `cue_view` what is shown; `Station::step` hears one thing. An evening is a list of turns, the newest
+//! first: what came, what was shown, what was sent. The law (`specs/Laws.antt`) speaks of these turns alone, never of
+//! what the machine keeps.
+//!
+//! Why it is so:
+//! - An age counts from the beginning: of a copy from the moment at which its reading began, of a status from its
+//!   question, of a press from the making of the view that it names. So nothing is younger than it says, and a
+//!   browser's clock is not needed. A press names its view: one that is heard more than a second after its view was
+//!   made is not sent, however long it was on the way.
+//! - GO is for an attempt that was chosen: the one that came of the last STANDBY of this desk, or one that a press
+//!   chose. After a GO nothing is chosen, so a second tap never gives the next cue, and a cue that somebody else stands
+//!   by never takes GO.
+//! - A press without a reply is open until a copy was begun after a status came that was asked after the press: then
+//!   the store shows what became of it. While a press is open no other one may be sent, but for CANCEL, which is the
+//!   safe way.
+//! - What came to a socket before it was opened is nothing; the answer of a press is the first that comes after it was
+//!   sent.
+//! - A failure stays until somebody says that it was seen, also if later attempts end well: an operator who looked away
+//!   has to find it. That press names a view, too. The newest failure stays also if a newer snapshot has swallowed its
+//!   events.
+//! - If the snapshot has swallowed its start, an attempt that ended is shown without a cue: to guess it from the place
+//!   would name a wrong one after a move.
+//! - What is left of ten seconds is what the earlier of two clocks leaves: a clock that is put back makes no time.
+//! - Another store is named after a second of disagreement: each change makes a short one. STANDBY and GO are dark at
+//!   once.
+//! - A relay that cannot be read has written nothing new: what it wrote last stands, and after five seconds it has
+//!   stopped. A device is as old as its relay said, and the time since; if the relay's clock was put back its age is
+//!   unknown, and not 0.
+//! - The number of a view is that of the views before it: a drawing of an older view never replaces a newer one.
 #![tactic(auto)]
 
 pub mod alarms;

@@ -17,11 +17,14 @@ use Rattle.cue_view.specs.declared.view.Next.{Next}
 use Rattle.cue_view.specs.declared.view.Next.TheVariants as next
 use Rattle.cue_view.specs.declared.view.View.{View}
 use Rattle.cue_board.specs.Alarms.{alarm_words}
+use Rattle.cue_board.specs.Columns.{fit_of}
 use Rattle.cue_board.specs.Ends.{last_said}
 use Rattle.cue_board.specs.Progress.{progress_of}
 use Rattle.cue_board.specs.Times.{seconds}
+use Rattle.cue_board.specs.declared.columns.TheConstants.{COLUMNS}
 use Rattle.cue_board.specs.declared.line.BoardLine.{BoardLine}
 use Rattle.cue_board.specs.declared.live.TheConstants.{NAME_AT}
+use Rattle.cue_board.specs.declared.names.Names.{Names}
 use Rattle.cue_board.specs.declared.progress.Progress.{Progress}
 use Rattle.cue_board.specs.declared.progress.Progress.TheVariants as progress
 use Rattle.cue_board.specs.declared.stack.TheConstants.{ALWAYS, SHOWN}
@@ -172,21 +175,22 @@ read_said at (Some read) = codes "READ   " ++ (seconds (at - read) ++ codes " s 
 read_said at None = codes "READ   nothing yet"
 
 -- the attempt that ended last, and the age of what is shown
-abbrev pub ends_said : View → List (List ℕ)
-ends_said v = last_said v.last ∷ read_said v.at v.read ∷ []
+abbrev pub ends_said : Names → View → List (List ℕ)
+ends_said names v = last_said names v.last ∷ read_said v.at v.read ∷ []
 
 -- the loudest alarm, the stack, each live attempt with its devices, the last attempt, and the age
-abbrev pub board_with : ℕ → ℕ → View → List (List ℕ)
-board_with shown port v = alarm_said port v ++ (stack_said shown v ++ (live_said v.at v.live.items ++ ends_said v))
+abbrev pub board_with : ℕ → Names → View → List (List ℕ)
+board_with shown names v =
+    alarm_said names.port v ++ (stack_said shown v ++ (live_said v.at v.live.items ++ ends_said names v))
 
 -- the same without cues, and with a line for each answer in place of one for each device
-abbrev pub board_brief : ℕ → View → List (List ℕ)
-board_brief port v =
-    alarm_said port v ++ (stack_said 0 v ++ (flat_map (attempt_brief v.at) v.live.items ++ ends_said v))
+abbrev pub board_brief : Names → View → List (List ℕ)
+board_brief names v =
+    alarm_said names.port v ++ (stack_said 0 v ++ (flat_map (attempt_brief v.at) v.live.items ++ ends_said names v))
 
 -- with so many cues; where none has room, the devices share lines
-abbrev pub board_said : ℕ → ℕ → View → List (List ℕ)
-board_said shown port v = if shown == 0 then board_brief port v else board_with shown port v
+abbrev pub board_said : ℕ → Names → View → List (List ℕ)
+board_said shown names v = if shown == 0 then board_brief names v else board_with shown names v
 
 -- the lines that the live attempts leave of so many: each has one, and one for each of its devices
 abbrev pub room_after : ℕ → List LiveAttempt → ℕ
@@ -202,13 +206,13 @@ cues_within room live =
 unfoldable pub said_of : BoardLine → List ℕ
 said_of line = string_bytes line.said
 
--- a line as it is shown
+-- a line as it is shown: as much as fits of what it says of the view, and then of what follows
 unfoldable pub text_of : BoardLine → List ℕ
-text_of line = string_bytes line.said ++ string_bytes line.rest
+text_of line = fit_of COLUMNS (string_bytes line.said ++ string_bytes line.rest)
 
--- the line begins so
+-- the line is as much as fits of this front and of something after it
 abbrev pub Begins : List ℕ → List ℕ → Type 0
-Begins front line = (rest : List ℕ) × (line ≡ front ++ rest)
+Begins front line = (rest : List ℕ) × (line ≡ fit_of COLUMNS (front ++ rest))
 
 -- There are as many lines as fronts, and each line begins with its own.
 abbrev pub EachBegins : List (List ℕ) → List (List ℕ) → Type 0

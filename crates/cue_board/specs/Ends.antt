@@ -1,9 +1,14 @@
--- How attempts ended, in words.
-use Rattle.std.specs.Prelude.{ℕ, List, [], ◌++◌, codes, Option, None, Some}
+-- How attempts ended, in words, with the names of their devices.
+use Rattle.std.specs.Prelude.{ℕ, ◌==◌, length, List, [], ◌∷◌, ◌++◌, codes, Option, None, Some, if◌then◌else◌}
 use Rattle.std.specs.Fmt.{decimal}
+use Rattle.std.specs.List.{flat_map}
 use Rattle.cue_exchange.specs.declared.attempt.Reason.{Reason}
 use Rattle.cue_words.specs.Answered.{outcome_words, reason_words}
 use Rattle.cue_view.specs.declared.view.Told.{Told}
+use Rattle.cue_board.specs.Columns.{fit_of}
+use Rattle.cue_board.specs.Names.{cue_name, device_name}
+use Rattle.cue_board.specs.declared.ends.TheConstants.{NAME}
+use Rattle.cue_board.specs.declared.names.Names.{Names}
 
 -- why it was given up; nothing where it was not
 abbrev pub why : Option Reason → List ℕ
@@ -14,15 +19,41 @@ why (Some reason) = codes ": " ++ reason_words reason
 abbrev pub end_front : Told → List ℕ
 end_front t = outcome_words t.outcome ++ why t.reason
 
+-- a space and a name, as much of it as has room; nothing where there is none
+abbrev pub name_after : List ℕ → List ℕ
+name_after name = if length name == 0 then [] else codes " " ++ fit_of NAME name
+
+-- a device with its name, after these words
+unfoldable pub device_words : Names → List ℕ → ℕ → List ℕ
+device_words names words d = words ++ (codes " " ++ (decimal d ++ name_after (device_name names d)))
+
+-- each device with its name, the first after these words and the others after commas
+abbrev pub devices_words : Names → List ℕ → List ℕ → List ℕ
+devices_words names words [] = []
+devices_words names words (d ∷ ds) = device_words names words d ++ flat_map (device_words names (codes ",")) ds
+
+-- which devices failed
+abbrev pub failed_words : Names → List ℕ → List ℕ
+failed_words names [] = []
+failed_words names (d ∷ ds) = devices_words names (codes ": device") (d ∷ ds) ++ codes " aborted"
+
+-- which devices failed, and which it went without
+abbrev pub end_rest : Names → Told → List ℕ
+end_rest names t = failed_words names t.failed ++ devices_words names (codes " without device") t.excused
+
+-- how it ended
+unfoldable pub end_words : Names → Told → List ℕ
+end_words names t = end_front t ++ end_rest names t
+
 -- which attempt it is: its cue, or its number where the cue is not known any more
-abbrev pub which : Option (List ℕ) → ℕ → List ℕ
-which (Some cue) seq = codes "LAST   cue " ++ cue
-which None seq = codes "LAST   attempt " ++ decimal seq
+abbrev pub which : Names → Option (List ℕ) → ℕ → List ℕ
+which names (Some cue) seq = codes "LAST   cue " ++ (cue ++ name_after (cue_name names cue))
+which names None seq = codes "LAST   attempt " ++ decimal seq
 
-unfoldable pub last_front : Told → List ℕ
-last_front t = which t.cue t.seq
+unfoldable pub last_front : Names → Told → List ℕ
+last_front names t = which names t.cue t.seq
 
--- the front of the line of the last attempt
-unfoldable pub last_said : Option Told → List ℕ
-last_said None = codes "LAST   no attempt has ended yet"
-last_said (Some t) = last_front t
+-- the line of the last attempt: which one it is, and how it ended
+unfoldable pub last_said : Names → Option Told → List ℕ
+last_said names None = codes "LAST   no attempt has ended yet"
+last_said names (Some t) = last_front names t ++ (codes ": " ++ end_words names t)

@@ -2,6 +2,7 @@ pub mod Alarms
 pub mod Board
 pub mod Columns
 pub mod Ends
+pub mod Names
 pub mod Network
 pub mod Presses
 pub mod Progress

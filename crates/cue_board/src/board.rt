@@ -1,8 +1,9 @@
-//! The board: what an operator sees of a show. Lines of text that are made of one view and the names of a show file, and
-//! of nothing else.
+//! The board: what an operator sees of a show. Lines of text that are made of one view and the names of a show file,
+//! and of nothing else.
 ghost use Rattle.std.specs.Prelude.{◌≡◌, ◌++◌, IfOk, OnOk, ℕ, map, string_bytes};
 ghost use Rattle.cue_board.specs.Board as board;
 ghost use Rattle.cue_board.specs.Board.{Begin, said_of};
+ghost use Rattle.cue_board.specs.Columns.{AreFit};
 
 use crate::alarms::alarm_words;
 use crate::brief::push_live_brief;
@@ -74,7 +75,7 @@ fn push_ends(
     names: &Names<'_>,
 ) -> Result<(), AllocError>
     ensures { OnOk result
-        (map said_of lines.new.items ≡ map said_of lines.old.items ++ board.ends_said view.now) }
+        (map said_of lines.new.items ≡ map said_of lines.old.items ++ board.ends_said names.now view.now) }
 {
     lines.push(last_line(alloc, view.last.as_ref(), names)?)?;
     let read = read_said(alloc, view)?;
@@ -89,7 +90,7 @@ fn lines_with(
     names: &Names<'_>,
     shown: usize,
 ) -> Result<Vec<BoardLine>, AllocError>
-    ensures { IfOk result (λ lines. map said_of lines.items ≡ board.board_with shown names.now.port view.now) }
+    ensures { IfOk result (λ lines. map said_of lines.items ≡ board.board_with shown names.now view.now) }
 {
     let mut lines = Vec::new(alloc);
     push_alarm(alloc, &mut lines, view, names.port)?;
@@ -101,7 +102,7 @@ fn lines_with(
 
 // The lines of the board without cues, with a line for each answer.
 fn brief_lines(alloc: Global, view: &View, names: &Names<'_>) -> Result<Vec<BoardLine>, AllocError>
-    ensures { IfOk result (λ lines. map said_of lines.items ≡ board.board_brief names.now.port view.now) }
+    ensures { IfOk result (λ lines. map said_of lines.items ≡ board.board_brief names.now view.now) }
 {
     let mut lines = Vec::new(alloc);
     push_alarm(alloc, &mut lines, view, names.port)?;
@@ -118,7 +119,7 @@ fn lines_of(
     names: &Names<'_>,
     shown: usize,
 ) -> Result<Vec<BoardLine>, AllocError>
-    ensures { IfOk result (λ lines. map said_of lines.items ≡ board.board_said shown names.now.port view.now) }
+    ensures { IfOk result (λ lines. map said_of lines.items ≡ board.board_said shown names.now view.now) }
 {
     if shown == 0 {
         brief_lines(alloc, view, names)
@@ -142,17 +143,24 @@ fn cues_in(room: Option<usize>, view: &View, taken: usize) -> usize {
 
 // The lines as they are shown, and after them what a relay says.
 #[tactic(auto, using(crate::proofs::BoardLemmas::begin_drawn))]
-fn drawn(alloc: Global, lines: &[BoardLine], heard: Vec<String>) -> Result<Vec<String>, AllocError>
-    ensures { IfOk result (λ all. Begin (map said_of lines.now) (map string_bytes all.items)) }
+fn drawn(
+    alloc: Global,
+    lines: &[BoardLine],
+    mut heard: Vec<String>,
+) -> Result<Vec<String>, AllocError>
+    requires { AreFit heard.items }
+    ensures said { IfOk result (λ all. Begin (map said_of lines.now) (map string_bytes all.items)) }
+    ensures fit { IfOk result (λ all. AreFit all.items) }
 {
     let mut all = texts(alloc, lines)?;
-    all.extend(heard)?;
+    all.append(&mut heard)?;
     Ok(all)
 }
 
-/// The lines of the board, each of at most `COLUMNS` columns: the loudest alarm, the next cue with its note, the stack
-/// around the place, each live attempt with its devices, how the last one ended, the age of what is shown, and what a
-/// relay says. Only a cue number of 16 characters in an attempt with a number above 99,999 makes a line that is longer.
+/// The lines of the board, each of at most `COLUMNS` columns, with nothing in them that a terminal might obey: the
+/// loudest alarm, the next cue with its note, the stack around the place, each live attempt with its devices, how the
+/// last one ended, the age of what is shown, and what a relay says. What does not fit into a line is cut off at its
+/// end.
 ///
 /// `room` is how many lines there are; none: as many as it takes. The stack has fewer cues where the live attempts need
 /// the room. Where no cue has room any more, the devices of an attempt that have answered the same share a line, by
@@ -163,8 +171,9 @@ pub fn board_lines(
     names: &Names<'_>,
     room: Option<usize>,
 ) -> Result<Vec<String>, AllocError>
-    ensures { IfOk result (λ lines. (shown : ℕ)
-        × Begin (board.board_said shown names.now.port view.now) (map string_bytes lines.items)) }
+    ensures said { IfOk result (λ lines. (shown : ℕ)
+        × Begin (board.board_said shown names.now view.now) (map string_bytes lines.items)) }
+    ensures fit { IfOk result (λ lines. AreFit lines.items) }
 {
     let heard = heard_lines(alloc, &view.network)?;
     let shown = cues_in(room, view, heard.len());

@@ -1,5 +1,6 @@
 //! How an attempt ended, in words, with the names of its devices.
-ghost use Rattle.std.specs.Prelude.{◌≡◌, IfOk, option_map, string_bytes};
+ghost use Rattle.std.specs.Prelude.{◌≡◌, ◌++◌, IfOk, OnOk, codes, option_map, string_bytes};
+ghost use Rattle.std.specs.List.{flat_map};
 ghost use Rattle.cue_board.specs.Ends as ends;
 ghost use Rattle.cue_board.specs.Board.{said_of};
 
@@ -17,12 +18,46 @@ use std::alloc::{AllocError, Global};
 const NAME: usize = 28;
 
 // A space and a name, as much of it as has room; nothing where there is none.
-fn name_after(alloc: Global, name: &str) -> Result<String, AllocError> {
+fn name_after(alloc: Global, name: &str) -> Result<String, AllocError>
+    ensures { IfOk result (λ text. string_bytes text ≡ ends.name_after name.now) }
+{
     if name.is_empty() {
         return Ok(String::new(alloc));
     }
     let name = fitted(alloc, name, NAME)?;
-    format!(in alloc; " {}", name.as_str())
+    let name = name.as_str();
+    format!(in alloc; " {name}")
+}
+
+// A device with its name, after these words.
+#[tactic(auto, unfolding(crate::specs::Ends::device_words))]
+fn device_words(
+    alloc: Global,
+    words: &str,
+    device: DeviceNo,
+    names: &Names<'_>,
+) -> Result<String, AllocError>
+    ensures { IfOk result (λ text. string_bytes text ≡ ends.device_words names.now words.now device) }
+{
+    let name = name_after(alloc, names.device_name(device))?;
+    let (number, name) = (device.number(), name.as_str());
+    format!(in alloc; "{words} {number}{name}")
+}
+
+// Puts the devices with their names after the text, each after a comma.
+fn push_others(
+    alloc: Global,
+    text: &mut String,
+    devices: &[DeviceNo],
+    names: &Names<'_>,
+) -> Result<(), AllocError>
+    ensures { OnOk result (string_bytes text.new
+        ≡ string_bytes text.old ++ flat_map (ends.device_words names.now (codes ",")) devices.now) }
+{
+    for device in devices {
+        text.push_str(device_words(alloc, ",", *device, names)?.as_str())?;
+    }
+    Ok(())
 }
 
 // The devices with their names, after these words.
@@ -31,17 +66,17 @@ fn devices_words(
     words: &str,
     devices: &[DeviceNo],
     names: &Names<'_>,
-) -> Result<String, AllocError> {
-    let mut text = String::new(alloc);
-    let mut front = words;
-    for device in devices {
-        let name = name_after(alloc, names.device_name(*device))?;
-        let number = device.number();
-        let one = format!(in alloc; "{front} {number}{}", name.as_str())?;
-        text.push_str(one.as_str())?;
-        front = ",";
+) -> Result<String, AllocError>
+    ensures { IfOk result (λ text. string_bytes text ≡ ends.devices_words names.now words.now devices.now) }
+{
+    match devices {
+        [] => Ok(String::new(alloc)),
+        [first, others @ ..] => {
+            let mut text = device_words(alloc, words, *first, names)?;
+            push_others(alloc, &mut text, others, names)?;
+            Ok(text)
+        }
     }
-    Ok(text)
 }
 
 // Which devices failed.
@@ -49,12 +84,17 @@ fn failed_words(
     alloc: Global,
     devices: &[DeviceNo],
     names: &Names<'_>,
-) -> Result<String, AllocError> {
-    if devices.is_empty() {
-        return Ok(String::new(alloc));
+) -> Result<String, AllocError>
+    ensures { IfOk result (λ text. string_bytes text ≡ ends.failed_words names.now devices.now) }
+{
+    match devices {
+        [] => Ok(String::new(alloc)),
+        _ => {
+            let mut text = devices_words(alloc, ": device", devices, names)?;
+            text.push_str(" aborted")?;
+            Ok(text)
+        }
     }
-    let words = devices_words(alloc, ": device", devices, names)?;
-    format!(in alloc; "{} aborted", words.as_str())
 }
 
 // Why it was given up; nothing where it was not.
@@ -81,29 +121,36 @@ fn end_front(alloc: Global, told: &Told) -> Result<String, AllocError>
 }
 
 // Which devices failed, and which it went without.
-fn end_rest(alloc: Global, told: &Told, names: &Names<'_>) -> Result<String, AllocError> {
-    let failed = failed_words(alloc, told.failed.as_slice(), names)?;
+fn end_rest(alloc: Global, told: &Told, names: &Names<'_>) -> Result<String, AllocError>
+    ensures { IfOk result (λ text. string_bytes text ≡ ends.end_rest names.now told.now) }
+{
+    let mut text = failed_words(alloc, told.failed.as_slice(), names)?;
     let excused = devices_words(alloc, " without device", told.excused.as_slice(), names)?;
-    format!(in alloc; "{}{}", failed.as_str(), excused.as_str())
+    text.push_str(excused.as_str())?;
+    Ok(text)
 }
 
 /// How an attempt ended: the outcome, why it was given up, which devices failed, and which it went without.
-pub fn end_words(alloc: Global, told: &Told, names: &Names<'_>) -> Result<String, AllocError> {
+#[tactic(auto, unfolding(crate::specs::Ends::end_words))]
+pub fn end_words(alloc: Global, told: &Told, names: &Names<'_>) -> Result<String, AllocError>
+    ensures { IfOk result (λ text. string_bytes text ≡ ends.end_words names.now told.now) }
+{
     let mut text = end_front(alloc, told)?;
     let rest = end_rest(alloc, told, names)?;
     text.push_str(rest.as_str())?;
     Ok(text)
 }
 
-// Which attempt ended: its cue, or its number where the cue is not known any more.
+// Which attempt ended: its cue with its name, or its number where the cue is not known any more.
 #[tactic(auto, unfolding(crate::specs::Ends::last_front))]
-fn last_front(alloc: Global, told: &Told) -> Result<String, AllocError>
-    ensures { IfOk result (λ text. string_bytes text ≡ ends.last_front told.now) }
+fn last_front(alloc: Global, told: &Told, names: &Names<'_>) -> Result<String, AllocError>
+    ensures { IfOk result (λ text. string_bytes text ≡ ends.last_front names.now told.now) }
 {
     match told.cue {
         Some(cue) => {
-            let cue = cue_text(&cue);
-            format!(in alloc; "LAST   cue {cue}")
+            let name = name_after(alloc, names.cue_name(cue))?;
+            let (cue, name) = (cue_text(&cue), name.as_str());
+            format!(in alloc; "LAST   cue {cue}{name}")
         }
         None => {
             let seq = told.seq;
@@ -112,14 +159,15 @@ fn last_front(alloc: Global, told: &Told) -> Result<String, AllocError>
     }
 }
 
-// What follows after the cue: its name, and how it ended.
-fn last_rest(alloc: Global, told: &Told, names: &Names<'_>) -> Result<String, AllocError> {
-    let name = match told.cue {
-        Some(cue) => name_after(alloc, names.cue_name(cue))?,
-        None => String::new(alloc),
-    };
+// Which attempt ended, and how.
+fn told_said(alloc: Global, told: &Told, names: &Names<'_>) -> Result<String, AllocError>
+    ensures { IfOk result (λ text. string_bytes text
+        ≡ ends.last_front names.now told.now ++ (codes ": " ++ ends.end_words names.now told.now)) }
+{
+    let front = last_front(alloc, told, names)?;
     let words = end_words(alloc, told, names)?;
-    format!(in alloc; "{}: {}", name.as_str(), words.as_str())
+    let (front, words) = (front.as_str(), words.as_str());
+    format!(in alloc; "{front}: {words}")
 }
 
 /// The line of the attempt that ended last.
@@ -129,17 +177,12 @@ pub(crate) fn last_line(
     last: Option<&Told>,
     names: &Names<'_>,
 ) -> Result<BoardLine, AllocError>
-    ensures { IfOk result (λ line. said_of line ≡ ends.last_said (option_map (λ t. t.now) last.entry)) }
+    ensures { IfOk result (λ line. said_of line
+        ≡ ends.last_said names.now (option_map (λ t. t.now) last.entry)) }
 {
-    match last {
-        Some(told) => {
-            let said = last_front(alloc, told)?;
-            let rest = last_rest(alloc, told, names)?;
-            BoardLine::with_rest(alloc, said, rest.as_str())
-        }
-        None => Ok(BoardLine::bare(
-            alloc,
-            String::from_str(alloc, "LAST   no attempt has ended yet")?,
-        )),
-    }
+    let said = match last {
+        Some(told) => told_said(alloc, told, names)?,
+        None => String::from_str(alloc, "LAST   no attempt has ended yet")?,
+    };
+    Ok(BoardLine::bare(alloc, said))
 }

@@ -1,16 +1,16 @@
 //! A line of the board.
 ghost use Rattle.std.specs.Prelude.{◌≡◌, ◌++◌, IfOk, OnOk, map, replicate, string_bytes};
 ghost use Rattle.cue_board.specs.Board.{said_of, text_of};
+ghost use Rattle.cue_board.specs.Columns.{AreFit, IsFit};
 
 use crate::columns::{COLUMNS, fitted};
 use std::alloc::{AllocError, Global};
 
-/// A line of the board: what the state says, and what follows after it.
+/// A line of the board: what the view says, and what follows after it.
 #[derive(Drop)]
 pub(crate) struct BoardLine {
-    /// ASCII, with no control character.
     pub(crate) said: String,
-    /// Names and notes of the show file, as a terminal can be given them.
+    /// Names and notes, as the show file has them.
     pub(crate) rest: String,
 }
 
@@ -26,7 +26,7 @@ impl BoardLine {
         }
     }
 
-    /// A line with this after it, as much of it as fits.
+    /// A line with this after it.
     #[tactic(auto, unfolding(crate::specs::Board::said_of))]
     pub(crate) fn with_rest(
         alloc: Global,
@@ -35,21 +35,21 @@ impl BoardLine {
     ) -> Result<BoardLine, AllocError>
         ensures { IfOk result (λ line. said_of line ≡ string_bytes said) }
     {
-        let left = COLUMNS.saturating_sub(said.len());
         Ok(BoardLine {
             said,
-            rest: fitted(alloc, rest, left)?,
+            rest: String::from_str(alloc, rest)?,
         })
     }
 
-    // The line as it is shown.
+    // The line as it is shown: as much of it as fits.
     #[tactic(auto, unfolding(crate::specs::Board::text_of))]
     fn text(&self, alloc: Global) -> Result<String, AllocError>
-        ensures { IfOk result (λ text. string_bytes text ≡ text_of self.now) }
+        ensures value { IfOk result (λ text. string_bytes text ≡ text_of self.now) }
+        ensures fit { IfOk result (λ text. IsFit COLUMNS (string_bytes text)) }
     {
         let mut text = String::from_str(alloc, self.said.as_str())?;
         text.push_str(self.rest.as_str())?;
-        Ok(text)
+        fitted(alloc, text.as_str(), COLUMNS)
     }
 }
 
@@ -64,8 +64,10 @@ pub(crate) fn push_spaces(text: &mut String, count: usize) -> Result<(), AllocEr
 }
 
 /// The lines as they are shown.
+#[tactic(auto, using(crate::proofs::ColumnLemmas::are_fit_push))]
 pub(crate) fn texts(alloc: Global, lines: &[BoardLine]) -> Result<Vec<String>, AllocError>
-    ensures { IfOk result (λ texts. map string_bytes texts.items ≡ map text_of lines.now) }
+    ensures value { IfOk result (λ texts. map string_bytes texts.items ≡ map text_of lines.now) }
+    ensures fit { IfOk result (λ texts. AreFit texts.items) }
 {
     let mut texts = Vec::new(alloc);
     for line in lines {

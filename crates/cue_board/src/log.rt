@@ -1,4 +1,7 @@
 //! The last lines of a log, as the board shows them.
+ghost use Rattle.std.specs.Prelude.{IfOk, OnOk};
+ghost use Rattle.cue_board.specs.Columns.{AreFit};
+
 use crate::columns::{COLUMNS, fitted};
 use std::alloc::{AllocError, Global};
 
@@ -21,28 +24,33 @@ fn without_date(line: &str) -> &str {
     }
 }
 
-// As many words of a text as fit into so many bytes, and the rest of it.
+// As many words of a text as fit into so many bytes, and the rest of it. A word that is longer than that is cut.
 fn cut(text: &str, room: usize) -> (&str, &str) {
-    let mut front = 0;
+    if text.len() <= room {
+        return (text, "");
+    }
+    let (mut front, mut space) = (0, 0);
     for (at, c) in text.char_indices() {
         if at > room {
             break;
         }
+        front = at;
         if c == ' ' {
-            front = at;
+            space = at;
         }
     }
-    if text.len() <= room || front == 0 {
-        return (text, "");
-    }
-    match text.split_at_checked(front) {
+    match text.split_at_checked(if space > 0 { space } else { front }) {
         Some((first, rest)) => (first, rest.trim_start()),
         None => (text, ""),
     }
 }
 
 // Puts a line of the log after the others, on as many lines of the board as it takes.
-fn push_wrapped(alloc: Global, lines: &mut Vec<String>, text: &str) -> Result<(), AllocError> {
+#[tactic(auto, using(crate::proofs::ColumnLemmas::are_fit_push))]
+fn push_wrapped(alloc: Global, lines: &mut Vec<String>, text: &str) -> Result<(), AllocError>
+    requires { AreFit lines.old.items }
+    ensures { OnOk result (AreFit lines.new.items) }
+{
     let (mut left, mut margin) = (text, FIRST);
     for _ in 0..ROWS {
         let (first, rest) = cut(left, COLUMNS - 7);
@@ -56,9 +64,11 @@ fn push_wrapped(alloc: Global, lines: &mut Vec<String>, text: &str) -> Result<()
     Ok(())
 }
 
-/// The last lines of a log, so many at most, as the board shows them: without the date, and each on as many lines of the
-/// board as it takes, three at most. So the reason is there that stands at its end.
-pub fn log_lines(alloc: Global, log: &str, most: usize) -> Result<Vec<String>, AllocError> {
+/// The last lines of a log, so many at most, as the board shows them: without the date, and each on as many lines of
+/// the board as it takes, three at most. So the reason is there that stands at its end.
+pub fn log_lines(alloc: Global, log: &str, most: usize) -> Result<Vec<String>, AllocError>
+    ensures { IfOk result (λ lines. AreFit lines.items) }
+{
     let mut last = Vec::new(alloc);
     for line in log.lines() {
         last.push(line)?;

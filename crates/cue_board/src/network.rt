@@ -1,5 +1,6 @@
 //! When each device of a relay was heard.
-ghost use Rattle.std.specs.Prelude.{◌≡◌, IfOk, string_bytes};
+ghost use Rattle.std.specs.Prelude.{◌≡◌, IfOk, OnOk, string_bytes};
+ghost use Rattle.cue_board.specs.Columns.{AreFit};
 ghost use Rattle.cue_board.specs.Network as network;
 
 use crate::columns::{COLUMNS, fitted};
@@ -75,14 +76,20 @@ fn push_gap(line: &mut String, begun: usize) -> Result<(), AllocError> {
 }
 
 // Puts a line after the others, without the spaces at its end.
-fn push_line(alloc: Global, lines: &mut Vec<String>, line: &str) -> Result<(), AllocError> {
+#[tactic(auto, using(crate::proofs::ColumnLemmas::are_fit_push))]
+fn push_line(alloc: Global, lines: &mut Vec<String>, line: &str) -> Result<(), AllocError>
+    requires { AreFit lines.old.items }
+    ensures { OnOk result (AreFit lines.new.items) }
+{
     let line = fitted(alloc, line.trim_end(), COLUMNS)?;
     lines.push(line)?;
     Ok(())
 }
 
 /// When each device of a relay was heard, as many devices a line as fit, with two columns between them at least.
-pub(crate) fn heard_lines(alloc: Global, network: &[Contacted]) -> Result<Vec<String>, AllocError> {
+pub(crate) fn heard_lines(alloc: Global, network: &[Contacted]) -> Result<Vec<String>, AllocError>
+    ensures { IfOk result (λ lines. AreFit lines.items) }
+{
     let mut lines = Vec::new(alloc);
     let mut line = String::from_str(alloc, HEARD)?;
     for contact in network {

@@ -13,8 +13,8 @@ use std::alloc::{AllocError, Global};
 /// How many cues are shown at most.
 pub(crate) const SHOWN: usize = 9;
 
-/// How many lines a board has beside cues, live attempts, the alarm and the network: the next cue, its note, the heading
-/// of the stack, the last attempt, and the age. The line that nothing is stood by is one more.
+/// How many lines a board has beside cues, live attempts, the alarm and the network: the next cue, its note, the
+/// heading of the stack, the last attempt, and the age. The line that nothing is stood by is one more.
 const ALWAYS: usize = 5;
 
 /// The column at which the name of a cue of the stack stands.

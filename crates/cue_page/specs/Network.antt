@@ -1,5 +1,5 @@
 -- When each device of a relay was heard, as JSON (RFC 8259).
-use Rattle.std.specs.Prelude.{ℕ, List, codes}
+use Rattle.std.specs.Prelude.{codes}
 use Rattle.serde_json.specs.Data.{Data, boolean, number, unsigned, string, object, member, no_members}
 use Rattle.cue_view.specs.declared.view.Contacted.{Contacted}
 use Rattle.cue_board.specs.Network.{contact_words}

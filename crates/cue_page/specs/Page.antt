@@ -1,7 +1,7 @@
 -- A view as JSON (RFC 8259): what the page draws.
 use Rattle.std.specs.Prelude.{ℕ, List, ◌-◌, map, codes, Option, None, Some}
-use Rattle.serde_json.specs.Data.{Data, null, number, unsigned, string, array, object, member, no_members}
-use Rattle.serde_json.specs.View.{items_of}
+use Rattle.serde_json.specs.Data.{Data, null, number, unsigned, string, array, object, Members, member, no_members, put}
+use Rattle.serde_json.specs.View.{items_of, view}
 use Rattle.cue_view.specs.declared.view.View.{View}
 use Rattle.cue_page.specs.Alarms.{alarm_data}
 use Rattle.cue_page.specs.Ends.{told_data, told_or_null}
@@ -10,6 +10,9 @@ use Rattle.cue_page.specs.Live.{attempt_data}
 use Rattle.cue_page.specs.Network.{contact_data}
 use Rattle.cue_page.specs.Said.{said_data, unsent_data}
 use Rattle.cue_page.specs.Stack.{next_data, stack_data}
+use Rattle.cue_page.specs.declared.board.FirstHalf.{FirstHalf}
+use Rattle.cue_page.specs.declared.board.Parts.{Parts}
+use Rattle.cue_page.specs.declared.board.SecondHalf.{SecondHalf}
 
 -- how old a thing of this moment is; null where it never came
 abbrev pub age_data : ℕ → Option ℕ → Data
@@ -39,9 +42,42 @@ view_data port v =
     (member (codes "stack") (stack_data v.stack)
     (member (codes "unsent") (unsent_data v.unsent) no_members))))))))))))))
 
+-- the first half of the parts, each by its name, and more members after them
+abbrev pub first_members : FirstHalf → Members → Members
+first_members p more =
+    member (codes "alarms") (view p.alarms)
+    (member (codes "chosen") (view p.chosen)
+    (member (codes "last") (view p.last)
+    (member (codes "lit") (view p.lit)
+    (member (codes "live") (view p.live)
+    (member (codes "network") (view p.network)
+    (member (codes "next") (view p.next) more))))))
+
+-- the second half
+abbrev pub second_members : SecondHalf → Members
+second_members p =
+    member (codes "number") (number (unsigned p.number))
+    (member (codes "past") (view p.past)
+    (member (codes "read") (view p.read)
+    (member (codes "said") (view p.said)
+    (member (codes "served") (view p.served)
+    (member (codes "stack") (view p.stack)
+    (member (codes "unsent") (view p.unsent) no_members))))))
+
+abbrev pub parts_data : Parts → Data
+parts_data p = object (first_members p.first (second_members p.second))
+
+-- members to which the second half was added, one after the other
+unfoldable pub with_second : SecondHalf → Members → Members
+with_second p members =
+    put (codes "unsent") (view p.unsent) (put (codes "stack") (view p.stack)
+    (put (codes "served") (view p.served) (put (codes "said") (view p.said)
+    (put (codes "read") (view p.read) (put (codes "past") (view p.past)
+    (put (codes "number") (number (unsigned p.number)) members))))))
+
 -- what the page gets: the view, in which run of the desk it was made, and what its numbers are called
 abbrev pub page_data : Data → List ℕ → Data → Data
-page_data called run view =
+page_data called run facts =
     object (member (codes "names") called
     (member (codes "run") (string run)
-    (member (codes "view") view no_members)))
+    (member (codes "view") facts no_members)))

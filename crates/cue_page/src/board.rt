@@ -1,7 +1,8 @@
-//! A view as JSON: what the page draws, and nothing else. What it says of the show, the buttons and the alarms is made of
-//! the view alone; the names of a show file stand beside it, by the numbers that they belong to.
-ghost use Rattle.std.specs.Prelude.{◌≡◌, IfOk};
-ghost use Rattle.serde_json.specs.View.{view};
+//! A view as JSON: what the page draws, and nothing else. What it says of the show, the buttons and the alarms is made
+//! of the view alone; the names of a show file stand beside it, by the numbers that they belong to.
+ghost use Rattle.std.specs.Prelude.{◌≡◌, IfOk, OnOk};
+ghost use Rattle.serde_json.specs.Data.{no_members};
+ghost use Rattle.serde_json.specs.View.{members_view, view};
 ghost use Rattle.cue_page.specs.Page as page;
 
 mod alarms;
@@ -22,7 +23,7 @@ use lit::lit_value;
 use live::live_value;
 use network::network_value;
 use said::{said_value, unsent_value};
-use serde_json::{Value, json};
+use serde_json::{Map, Value, json, put};
 use stack::{next_value, stack_value};
 use std::alloc::{AllocError, Global};
 
@@ -46,29 +47,131 @@ fn chosen_value(chosen: Option<u32>) -> Value
     }
 }
 
+// What a view says, part by part: the first half by their names.
+#[derive(Drop)]
+struct FirstHalf {
+    alarms: Value,
+    chosen: Value,
+    last: Value,
+    lit: Value,
+    live: Value,
+    network: Value,
+    next: Value,
+}
+
+// The second half.
+#[derive(Drop)]
+struct SecondHalf {
+    number: u64,
+    past: Value,
+    read: Value,
+    said: Value,
+    served: Value,
+    stack: Value,
+    unsent: Value,
+}
+
+// The first half of the members.
+fn first_members(alloc: Global, half: FirstHalf) -> Result<Map<String, Value>, AllocError>
+    ensures { IfOk result (λ map. members_view map.entries ≡ page.first_members half no_members) }
+{
+    let FirstHalf {
+        alarms,
+        chosen,
+        last,
+        lit,
+        live,
+        network,
+        next,
+    } = half;
+    let mut map = Map::new(alloc);
+    put(&mut map, alloc, "alarms", alarms)?;
+    put(&mut map, alloc, "chosen", chosen)?;
+    put(&mut map, alloc, "last", last)?;
+    put(&mut map, alloc, "lit", lit)?;
+    put(&mut map, alloc, "live", live)?;
+    put(&mut map, alloc, "network", network)?;
+    put(&mut map, alloc, "next", next)?;
+    Ok(map)
+}
+
+// Puts the second half of the members after them.
+#[tactic(auto, unfolding(crate::specs::Page::with_second))]
+fn put_second(
+    alloc: Global,
+    map: &mut Map<String, Value>,
+    half: SecondHalf,
+) -> Result<(), AllocError>
+    ensures { OnOk result
+        (members_view map.new.entries ≡ page.with_second half (members_view map.old.entries)) }
+{
+    let SecondHalf {
+        number,
+        past,
+        read,
+        said,
+        served,
+        stack,
+        unsent,
+    } = half;
+    put(map, alloc, "number", Value::from(number))?;
+    put(map, alloc, "past", past)?;
+    put(map, alloc, "read", read)?;
+    put(map, alloc, "said", said)?;
+    put(map, alloc, "served", served)?;
+    put(map, alloc, "stack", stack)?;
+    put(map, alloc, "unsent", unsent)
+}
+
+// All parts of a view.
+#[derive(Drop)]
+struct Parts {
+    first: FirstHalf,
+    second: SecondHalf,
+}
+
+// All parts, each by its name.
+fn joined(alloc: Global, parts: Parts) -> Result<Value, AllocError>
+    ensures { IfOk result (λ v. view v ≡ page.parts_data parts) }
+{
+    let Parts { first, second } = parts;
+    let mut map = first_members(alloc, first)?;
+    put_second(alloc, &mut map, second)?;
+    Ok(Value::Object(map))
+}
+
+// The parts of a view.
+fn parts_of(alloc: Global, shown: &View, port: u16) -> Result<Parts, AllocError>
+    ensures { IfOk result (λ parts. page.parts_data parts ≡ page.view_data port shown.now) }
+{
+    let at = shown.at;
+    let first = FirstHalf {
+        alarms: alarms_value(alloc, &shown.alarms, at, port)?,
+        chosen: chosen_value(shown.chosen),
+        last: told_or_null(alloc, shown.last.as_ref())?,
+        lit: lit_value(alloc, &shown.lit)?,
+        live: live_value(alloc, &shown.live, at)?,
+        network: network_value(alloc, &shown.network)?,
+        next: next_value(alloc, shown.next)?,
+    };
+    let second = SecondHalf {
+        number: shown.number,
+        past: past_value(alloc, &shown.past)?,
+        read: age_value(at, shown.read),
+        said: said_value(alloc, shown.said, port)?,
+        served: age_value(at, shown.served),
+        stack: stack_value(alloc, &shown.stack)?,
+        unsent: unsent_value(alloc, shown.unsent)?,
+    };
+    Ok(Parts { first, second })
+}
+
 /// What a view says.
 pub fn view_value(alloc: Global, shown: &View, port: u16) -> Result<Value, AllocError>
     ensures { IfOk result (λ v. view v ≡ page.view_data port shown.now) }
 {
-    let (at, chosen) = (shown.at, chosen_value(shown.chosen));
-    let live = live_value(alloc, &shown.live, at)?;
-    let lit = lit_value(alloc, &shown.lit)?;
-    let (next, stack) = (
-        next_value(alloc, shown.next)?,
-        stack_value(alloc, &shown.stack)?,
-    );
-    let last = told_or_null(alloc, shown.last.as_ref())?;
-    let past = past_value(alloc, &shown.past)?;
-    let said = said_value(alloc, shown.said, port)?;
-    let unsent = unsent_value(alloc, shown.unsent)?;
-    let alarms = alarms_value(alloc, &shown.alarms, at, port)?;
-    let network = network_value(alloc, &shown.network)?;
-    let (read, served) = (age_value(at, shown.read), age_value(at, shown.served));
-    json!(in alloc; {
-        "alarms": alarms, "chosen": chosen, "last": last, "lit": lit, "live": live, "network": network, "next": next,
-        "number": shown.number, "past": past, "read": read, "said": said, "served": served, "stack": stack,
-        "unsent": unsent
-    })
+    let parts = parts_of(alloc, shown, port)?;
+    joined(alloc, parts)
 }
 
 // What the page gets: the facts of a view, the run in which it was made, and what its numbers are called.

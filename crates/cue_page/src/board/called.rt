@@ -3,6 +3,7 @@ use cue_board::Names;
 use cue_show::{CueNo, DeviceNo};
 use cue_show_file::cue_text;
 use cue_view::view::{Alarm, Next, Told, View};
+use cue_words::shown_text;
 use serde_json::{Value, json};
 use std::alloc::{AllocError, Global};
 
@@ -74,18 +75,19 @@ fn devices_of(alloc: Global, view: &View) -> Result<Vec<DeviceNo>, AllocError> {
     Ok(devices)
 }
 
-// The cues with their names and notes.
+// The cues with their names and notes, as a screen may get them.
 fn cue_names(alloc: Global, cues: &[CueNo], names: &Names<'_>) -> Result<Value, AllocError> {
     let mut values = Vec::with_capacity(alloc, cues.len())?;
     for cue in cues {
-        let (name, note) = (names.cue_name(*cue), names.cue_note(*cue));
-        let number = cue_text(cue);
+        let name = shown_text(alloc, names.cue_name(*cue))?;
+        let note = shown_text(alloc, names.cue_note(*cue))?;
+        let (number, name, note) = (cue_text(cue), name.as_str(), note.as_str());
         values.push(json!(in alloc; {"cue": number, "name": name, "note": note})?)?;
     }
     Ok(Value::Array(values))
 }
 
-// The devices with their names.
+// The devices with their names, as a screen may get them.
 fn device_names(
     alloc: Global,
     devices: &[DeviceNo],
@@ -94,8 +96,8 @@ fn device_names(
     let mut values = Vec::with_capacity(alloc, devices.len())?;
     for device in devices {
         let number = u64::from(device.number());
-        let name = names.device_name(*device);
-        values.push(json!(in alloc; {"device": number, "name": name})?)?;
+        let name = shown_text(alloc, names.device_name(*device))?;
+        values.push(json!(in alloc; {"device": number, "name": name.as_str()})?)?;
     }
     Ok(Value::Array(values))
 }

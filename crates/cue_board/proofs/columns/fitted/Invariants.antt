@@ -1,7 +1,10 @@
-use Rattle.std.proofs.Common.{string_bytes}
-use Rattle.cue_board.specs.Columns.{IsFitting}
+use Rattle.std.proofs.Common.{length, string_bytes}
+use Rattle.std.specs.Str.{chars}
+use Rattle.cue_board.specs.Columns.{fit_of}
+use Rattle.cue_board.proofs.ColumnLemmas.{IsWay}
 use Rattle.cue_board.proofs.columns.fitted.Given as goal
 
--- what was put there fits, with the columns that are left
+-- what was put there, and what has room of the characters that are left, is all that fits
 abbrev pub invariant-loop-c : goal.invariant-loop-c
-invariant-loop-c l = IsFitting l.columns l.left (string_bytes l.fit)
+invariant-loop-c l =
+    IsWay l.left l.room (length l.yielded) (chars l.text) (string_bytes l.fit) (fit_of l.columns l.text)

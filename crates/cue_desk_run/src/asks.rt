@@ -126,18 +126,22 @@ impl Ask {
     }
 
     // What a reply is to this ask: the status if that was asked, else what became of exactly one command.
-    fn is_answer(&self, replied: Replied) -> bool {
+    fn is_answer(&self, replied: &Replied) -> bool {
         match replied {
             Replied::Status(_) => self.is_status,
-            Replied::Reply { .. } => !self.is_status && answer_in(replied).is_some(),
+            Replied::Reply { .. } => !self.is_status && answer_in(*replied).is_some(),
         }
     }
 
     // What the datagram says. Where memory runs out nothing is heard, as of a datagram that is lost.
     fn read(&self, alloc: Global, datagram: &[u8]) -> Came {
-        match read_reply(alloc, &self.shown, datagram) {
-            Ok(Some(replied)) if self.is_answer(replied) => Came::Replied(replied),
-            _ => Came::Noise,
+        let Ok(Some(replied)) = read_reply(alloc, &self.shown, datagram) else {
+            return Came::Noise;
+        };
+        if self.is_answer(&replied) {
+            Came::Replied(replied)
+        } else {
+            Came::Noise
         }
     }
 
@@ -154,8 +158,9 @@ impl Ask {
     fn answer(&self, alloc: Global) -> Option<Heard> {
         for _ in 0..MAX_READ {
             let came = self.next(alloc);
+            let is_nothing = came == Came::Nothing;
             let heard = heard_of(self.number, came);
-            if heard.is_some() || came == Came::Nothing {
+            if heard.is_some() || is_nothing {
                 return heard;
             }
         }

@@ -1,5 +1,5 @@
 -- Stacks of unequal length.
-use Rattle.std.proofs.Common.{◌≡◌, ℕ, ◌≤◌, Bool, false, List, [], ◌∷◌, length, arith, refl}
+use Rattle.std.proofs.Common.{◌≡◌, ◌≤◌, false, [], ◌∷◌, length, arith, refl}
 use Rattle.cue_show.specs.Show.{Cues}
 use Rattle.cue_loading.specs.Loaded.{same_cues}
 

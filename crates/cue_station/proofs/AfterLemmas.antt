@@ -1,6 +1,8 @@
 -- What is kept after a turn says what the evening says with that turn.
-use Rattle.std.proofs.Common.{◌≡◌, refl, sym, ap, ap₂, ◌∙◌, subst, ℕ, suc, ◌+◌, Bool, true, not, ◌&&◌, ◌||◌, List, [], ◌∷◌, map, take, length, add-one}
-use Rattle.std.proofs.Common.{Option, None, Some, is_some, is_none, filter, nat_eq, IsTrue, IsSome, option_map, inl, inr, ⊎_elim, cond, zero}
+use Rattle.std.proofs.Common.{◌≡◌, refl, sym, ap, ap₂, ◌∙◌, subst, ℕ, suc, ◌+◌, Bool, true, not, ◌&&◌, ◌||◌, List, []}
+use Rattle.std.proofs.Common.{◌∷◌, map, take, length, add-one}
+use Rattle.std.proofs.Common.{Option, None, Some, is_some, is_none, filter, nat_eq, IsTrue, IsSome, option_map, inl}
+use Rattle.std.proofs.Common.{inr, ⊎_elim, cond, zero}
 use Rattle.std.specs.List.{list_any, list_all}
 use Rattle.cue_show.proofs.TestLemmas.{both}
 use Rattle.cue_view.specs.declared.button.Button.{Button}
@@ -26,8 +28,10 @@ use Rattle.cue_station.specs.declared.station.Station.{Station}
 use Rattle.cue_station.specs.Turns.{Turn}
 use Rattle.cue_station.specs.Alarms.{acknowledged_by, differs_by, failures_by, lasting, newest, nobody_by}
 use Rattle.cue_station.specs.Alarms.{stands_by, trouble_with}
-use Rattle.cue_station.specs.Asking.{followed, is_final, is_open, is_open_ask, is_press_sent, is_quiet, newest_of, presses_of, sent_press}
-use Rattle.cue_station.specs.Choosing.{chosen_by_press, chosen_by_sending, chosen_number, chosen_of, found_in, grown, is_refused}
+use Rattle.cue_station.specs.Asking.{followed, is_final, is_open, is_open_ask, is_press_sent, is_quiet, newest_of}
+use Rattle.cue_station.specs.Asking.{presses_of, sent_press}
+use Rattle.cue_station.specs.Choosing.{chosen_by_press, chosen_by_sending, chosen_number, chosen_of, found_in, grown}
+use Rattle.cue_station.specs.Choosing.{is_refused}
 use Rattle.cue_station.specs.Lighting.{footing_of, is_live_as, is_ready, is_number, may, may_by}
 use Rattle.cue_station.specs.Memory.{IsAfter, IsKept, if_open, is_beside, open_in, turn_of}
 use Rattle.cue_station.specs.Network.{relayed_with}
@@ -35,13 +39,16 @@ use Rattle.cue_station.specs.Noting.{beside_after, footing_by, order_by, press_a
 use Rattle.cue_station.specs.Offering.{is_offered, kept_in, kept_of}
 use Rattle.cue_station.specs.Opening.{has_ask, is_some_final}
 use Rattle.cue_station.specs.Pressing.{ask_after, is_heeded, order_of}
-use Rattle.cue_station.specs.Reading.{answered_of, answered_with, question_of, question_with, read_with, reading_of, seen_since}
+use Rattle.cue_station.specs.Reading.{answered_of, answered_with, question_of, question_with, read_with, reading_of}
+use Rattle.cue_station.specs.Reading.{seen_since}
 use Rattle.cue_station.specs.Seeing.{seen_after}
 use Rattle.cue_station.specs.Showing.{given_in, given_since, since_in}
 use Rattle.cue_station.specs.Stepping.{Makes, is_heeded_by, kept_with, noted_now, reading_now, shown_in}
 use Rattle.cue_show.specs.Number.{same_text}
-use Rattle.cue_station.proofs.OpenLemmas.{LeavesOne, beside_followed, leaves_one, newest-sent, one_open, still_closed, gone_beside, was_open}
-use Rattle.cue_station.proofs.PressLemmas.{all-filter, any-filter, ask-two, final-two, newest-map, none-filter, none_in, none_in-two, open_followed}
+use Rattle.cue_station.proofs.OpenLemmas.{LeavesOne, beside_followed, leaves_one, newest-sent, one_open, still_closed}
+use Rattle.cue_station.proofs.OpenLemmas.{gone_beside, was_open}
+use Rattle.cue_station.proofs.PressLemmas.{all-filter, any-filter, ask-two, final-two, newest-map, none-filter}
+use Rattle.cue_station.proofs.PressLemmas.{none_in, none_in-two, open_followed}
 use Rattle.cue_station.proofs.SeeingLemmas.{given-seen, since-seen}
 use Rattle.cue_station.proofs.SentLemmas.{KeepsOpen, keeps_none, keeps_pressed, may_leaves, sending}
 
@@ -120,7 +127,8 @@ may-kept turns n r relay seen views k now wall b =
 pub heeded-kept : (past : List Turn) (s : Station) → IsAfter past s → (i : Input) (view : ℕ) (b : Button)
     → is_heeded_by s i view b ≡ is_heeded past i.at i.wall view b
 heeded-kept past s k i view b =
-    ap (λ v. is_offered view i.at b v && may_by (footing_by s.notes s.reading i.at i.wall) (since_in s.seen.items) s.reading b)
+    ap (λ v. is_offered view i.at b v
+    && may_by (footing_by s.notes s.reading i.at i.wall) (since_in s.seen.items) s.reading b)
     k.views
     ∙ ap (λ m. is_offered view i.at b (kept_of past) && m)
     (may-kept past s.notes s.reading s.relay s.seen.items s.views.items k i.at i.wall b)
@@ -204,7 +212,8 @@ sent_by_heard (heard.Relay x) at send r press beside all e k g = keeps_none r pr
 sent_by_heard heard.Tick at send r press beside all e k g = keeps_none r press beside all e k
 
 -- a press is sent only if it is heeded
-sent_leaves : (past : List Turn) (s : Station) → IsAfter past s → (i : Input) (due : Bool) (ask : ℕ) (send : Option Send)
+sent_leaves : (past : List Turn) (s : Station) → IsAfter past s → (i : Input) (due : Bool) (ask : ℕ)
+    (send : Option Send)
     → send ≡ send_by (order_by i.heard (is_heeded_by s i)) due ask → (view : ℕ) (b : Button)
     → i.heard ≡ heard.Pressed view b → is_press_sent send ≡ true
     → LeavesOne b (if_open (reading_of past) s.notes.press) s.notes.beside

@@ -8,7 +8,8 @@ use Rattle.cue_view.specs.declared.view.Trouble.{Trouble}
 use Rattle.cue_station.specs.declared.limits.TheConstants.{COPY_MS, OTHER_MS, STATUS_MS}
 use Rattle.cue_view.specs.declared.view.Alarm.{Alarm}
 use Rattle.cue_view.specs.declared.view.Alarm.TheVariants as alarm
-use Rattle.cue_station.specs.Alarms.{failed_by, is_within, old_by, old_store, other_by, other_store, relay_stopped, silence}
+use Rattle.cue_station.specs.Alarms.{failed_by, is_within, old_by, old_store, other_by, other_store, relay_stopped}
+use Rattle.cue_station.specs.Alarms.{silence}
 use Rattle.cue_station.specs.Alarms.{silence_by, silent_in, stopped_by}
 use Rattle.cue_station.specs.Network.{is_stopped}
 use Rattle.cue_station.specs.Warning.{AgeIsSaid, SilenceIsSaid, is_age, is_silence}
@@ -86,7 +87,8 @@ no_silence false (Some w) read = refl
 
 pub silence_said : SilenceIsSaid
 silence_said f back failures network =
-    first_only is_silence (option_to_list (silence f)) (option_to_list (other_store f)) (option_to_list (relay_stopped f))
+    first_only is_silence (option_to_list (silence f)) (option_to_list (other_store f))
+    (option_to_list (relay_stopped f))
     (option_to_list (old_store f)) (map alarm.ClockPutBack back) (map alarm.Failed (failed_by f failures))
     (map alarm.DeviceSilent (silent_in network)) (not (is_within STATUS_MS f.at f.asked))
     (silence_of (is_within STATUS_MS f.at f.asked) f.nobody f.asked) (none_other is_silence (λ s. refl) f.differs f.at)
@@ -98,7 +100,8 @@ silence_said f back failures network =
 
 -- ---- age
 
-no_age : (alive nobody : Bool) (asked : Option ℕ) → list_any is_age (option_to_list (silence_by alive nobody asked)) ≡ false
+no_age : (alive nobody : Bool) (asked : Option ℕ)
+    → list_any is_age (option_to_list (silence_by alive nobody asked)) ≡ false
 no_age true nobody asked = refl
 no_age false true asked = refl
 no_age false false asked = refl

@@ -5,7 +5,8 @@ use Rattle.cue_show.proofs.TextLemmas.{same_text-true, same_text-itself}
 use Rattle.cue_show.specs.Number.{same_text}
 use Rattle.cue_view.specs.declared.button.Button.{Button}
 use Rattle.cue_view.specs.declared.button.Button.TheVariants as button
-use Rattle.cue_station.specs.Offering.{is_cancel, is_choice, is_go, is_move, is_release, is_seen, is_standby, same_button}
+use Rattle.cue_station.specs.Offering.{is_cancel, is_choice, is_go, is_move, is_release, is_seen, is_standby}
+use Rattle.cue_station.specs.Offering.{same_button}
 
 standby_true : (c : List ℕ) (b : Button) → IsTrue (is_standby c b) → button.Standby c ≡ b
 standby_true c (button.Standby c') h = ap button.Standby (same_text-true c c' h)

@@ -1,5 +1,6 @@
 -- An evening grows turn by turn.
-use Rattle.std.proofs.Common.{◌≡◌, refl, sym, ap, ◌∙◌, subst, ◌+◌, List, [], ◌∷◌, ◌++◌, length, take, arith, length-append, append-nil, Result, Ok, Err, OnErr}
+use Rattle.std.proofs.Common.{◌≡◌, refl, sym, ap, ◌∙◌, subst, ◌+◌, List, [], ◌∷◌, ◌++◌, length, take, arith}
+use Rattle.std.proofs.Common.{length-append, append-nil, Result, Ok, Err, OnErr}
 use Rattle.cue_station.specs.declared.heard.Input.{Input}
 use Rattle.cue_station.specs.declared.station.Station.{Station}
 use Rattle.cue_station.specs.declared.station.Step.{Step}

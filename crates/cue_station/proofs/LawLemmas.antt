@@ -1,5 +1,6 @@
 -- A step keeps the law.
-use Rattle.std.proofs.Common.{◌≡◌, refl, sym, ap, ap₂, ◌∙◌, subst, ℕ, Bool, true, false, ◌&&◌, cond, List, [], ◌∷◌, map, filter}
+use Rattle.std.proofs.Common.{◌≡◌, refl, sym, ap, ap₂, ◌∙◌, subst, ℕ, Bool, true, false, ◌&&◌, cond, List, [], ◌∷◌}
+use Rattle.std.proofs.Common.{map, filter}
 use Rattle.std.proofs.Common.{Option, None, Some, is_some, is_none, IsTrue, IsSome, option_map, ◌⊎◌, inl, inr, ⊎_elim}
 use Rattle.cue_show.proofs.TestLemmas.{join}
 use Rattle.cue_exchange.specs.Steps.{can_go_now}
@@ -23,7 +24,8 @@ use Rattle.cue_view.specs.declared.view.LiveAttempt.{LiveAttempt}
 use Rattle.cue_view.specs.declared.view.Unsent.{Unsent}
 use Rattle.cue_view.specs.declared.view.View.{View}
 use Rattle.cue_station.specs.Turns.{Turn}
-use Rattle.cue_station.specs.Alarms.{alarms_by, asked_at, differs_since, failures_by, is_put_back, is_over_by, nobody_of, put_back_in}
+use Rattle.cue_station.specs.Alarms.{alarms_by, asked_at, differs_since, failures_by, is_put_back, is_over_by}
+use Rattle.cue_station.specs.Alarms.{nobody_of, put_back_in}
 use Rattle.cue_station.specs.Alarms.{read_at, stands_by, trouble_of}
 use Rattle.cue_station.specs.Asking.{is_press_sent, said_by}
 use Rattle.cue_station.specs.Choosing.{chosen_number}

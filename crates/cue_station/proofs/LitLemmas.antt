@@ -1,5 +1,6 @@
 -- Which buttons are lit: of those that there are, the ones that may be; and the great ones are among them.
-use Rattle.std.proofs.Common.{◌≡◌, refl, sym, ap, ◌∙◌, subst, ℕ, Bool, true, false, ◌&&◌, ◌||◌, cond, List, [], ◌∷◌, ◌++◌}
+use Rattle.std.proofs.Common.{◌≡◌, refl, sym, ap, ◌∙◌, subst, ℕ, Bool, true, false, ◌&&◌, ◌||◌, cond, List, [], ◌∷◌}
+use Rattle.std.proofs.Common.{◌++◌}
 use Rattle.std.proofs.Common.{Option, None, Some, filter, IsTrue, ⊎_elim}
 use Rattle.std.specs.Option.{option_map_or}
 use Rattle.cue_show.proofs.TestLemmas.{both, cases, or_left, or_right, same_number}
@@ -20,7 +21,8 @@ use Rattle.cue_view.specs.declared.view.Next.TheVariants as next
 use Rattle.cue_station.proofs.ButtonLemmas.{same_button-itself, same_button-true}
 use Rattle.cue_station.specs.Following.{next_in}
 use Rattle.cue_station.specs.Laws.{is_key}
-use Rattle.cue_station.specs.Lighting.{go_and_cancel, is_live_as, is_next, is_number, is_ready, keys_of, keys_of_choice, may_by, may_in, standby_of}
+use Rattle.cue_station.specs.Lighting.{go_and_cancel, is_live_as, is_next, is_number, is_ready, keys_of}
+use Rattle.cue_station.specs.Lighting.{keys_of_choice, may_by, may_in, standby_of}
 use Rattle.cue_station.specs.Offering.{is_lit, same_button}
 use Rattle.cue_station.specs.Showing.{since_in}
 use Rattle.cue_station.specs.Viewing.{LightsBy}
@@ -113,7 +115,8 @@ choice_lit b live cue q chosen test n l h =
     let found = live_found q (λ a. same_text a.cue cue && test a) (attempt_of live q) l in
     let at = both (same_text found.0.cue cue) (test found.0) found.2 in
     subst (λ ks. IsTrue (is_lit b ks))
-    (sym (choice_there live cue q chosen found.0 (chosen_is q chosen n) found.1 (same_text-true found.0.cue cue at.0))) h
+    (sym (choice_there live cue q chosen found.0 (chosen_is q chosen n) found.1
+    (same_text-true found.0.cue cue at.0))) h
 
 standby_lit : (cue : List ℕ) (n : Next) → IsTrue (is_next cue n) → IsTrue (is_lit (button.Standby cue) (standby_of n))
 standby_lit cue (next.Cue d) h = or_left (same_text cue d) false (same_text-swapped cue d ∙ h)
@@ -161,4 +164,5 @@ pub lights-dark : (f : Footing) (seen : List Seen) (r : Option Reading) (lit : L
 lights-dark f seen None lit e b k h = (cc)
 lights-dark f seen (Some r) lit e b k h =
     subst (λ v. IsTrue (is_lit b v)) (sym e.1)
-    (passes-lit (may_in f (since_in seen) r.copy) b (keys_of f r.copy) e.0 h (keys-there f (since_in seen) r.copy b k h))
+    (passes-lit (may_in f (since_in seen) r.copy) b (keys_of f r.copy) e.0 h
+    (keys-there f (since_in seen) r.copy b k h))

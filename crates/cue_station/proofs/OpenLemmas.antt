@@ -1,6 +1,8 @@
 -- What is open stays so only as long as nothing closes it; and what is kept beside a new press.
-use Rattle.std.proofs.Common.{◌≡◌, refl, sym, ap, ◌∙◌, subst, ℕ, ◌≤◌, Bool, true, false, not, ◌&&◌, cond, max, List, [], ◌∷◌, ◌++◌, map}
-use Rattle.std.proofs.Common.{Option, None, Some, is_none, nat_le, IsTrue, arith, inl, inr, ◌⊎◌, ⊎_elim, option_map, option_to_list}
+use Rattle.std.proofs.Common.{◌≡◌, refl, sym, ap, ◌∙◌, subst, ℕ, ◌≤◌, Bool, true, false, not, ◌&&◌, cond, max, List}
+use Rattle.std.proofs.Common.{[], ◌∷◌, ◌++◌, map}
+use Rattle.std.proofs.Common.{Option, None, Some, is_none, nat_le, IsTrue, arith, inl, inr, ◌⊎◌, ⊎_elim, option_map}
+use Rattle.std.proofs.Common.{option_to_list}
 use Rattle.std.proofs.lemmas.Bool.{leb-true, le-leb}
 use Rattle.cue_show.proofs.TestLemmas.{both, cases, join, not_so}
 use Rattle.cue_view.specs.declared.button.Button.{Button}
@@ -31,7 +33,8 @@ pub record Rises (r : Reading) (new : Option Reading) : Type 0 where
 
 rises_copied : (c : Copied) (r : Reading) (b : Bool) → nat_le r.at c.begun ≡ b
     → Rises r (cond b (Some (record { at = c.begun; copy = c })) (Some r))
-rises_copied c r true e = record { next = record { at = c.begun; copy = c }; is = refl; later = leb-true r.at c.begun e }
+rises_copied c r true e =
+    record { next = record { at = c.begun; copy = c }; is = refl; later = leb-true r.at c.begun e }
 rises_copied c r false e = record { next = r; is = refl; later = omega arith }
 
 rises_same : (begun : ℕ) (r : Reading) → r.at ≤ max r.at begun

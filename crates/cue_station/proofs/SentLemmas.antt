@@ -32,7 +32,8 @@ may_leaves f since None b o h = (cc)
 may_leaves f since (Some r) (button.Go c q) o h = (first_three f.stands f.is_quiet _ _ h)
 may_leaves f since (Some r) (button.Cancel c q) o h = (first_three f.stands f.is_calm _ _ h)
 may_leaves f since (Some r) (button.Standby c) o h = (both f.stands f.is_quiet (both (f.stands && f.is_quiet) _ h).0).1
-may_leaves f since (Some r) (button.Release q d) o h = (both f.stands f.is_quiet (both (f.stands && f.is_quiet) _ h).0).1
+may_leaves f since (Some r) (button.Release q d) o h =
+    (both f.stands f.is_quiet (both (f.stands && f.is_quiet) _ h).0).1
 may_leaves f since (Some r) (button.MoveTo c) o h = (both f.stands f.is_quiet (both (f.stands && f.is_quiet) _ h).0).1
 may_leaves f since (Some r) (button.Choose q) o h = (cc)
 may_leaves f since (Some r) (button.Seen q) o h = (cc)

@@ -182,7 +182,8 @@ makes_heard s at wall heard.Tick m k =
     }
 
 -- what is kept, whichever way it is told
-pub kept_as : (turns : List Turn) (n p : Notes) → n ≡ p → (r o : Option Reading) → r ≡ o → (x y : Option Relayed) → x ≡ y
+pub kept_as : (turns : List Turn) (n p : Notes) → n ≡ p → (r o : Option Reading) → r ≡ o → (x y : Option Relayed)
+    → x ≡ y
     → (s t : List Seen) → s ≡ t → (v w : List Shown) → v ≡ w → IsKept turns n r x s v → IsKept turns p o y t w
 kept_as turns n p en r o er x y ex s t es v w ev k =
     subst (λ a. IsKept turns a o y t w) en
@@ -191,7 +192,8 @@ kept_as turns n p en r o er x y ex s t es v w ev k =
     (subst (λ a. IsKept turns n r x a w) es
     (subst (λ a. IsKept turns n r x s a) ev k))))
 
-made_keeps : (old : Station) (i : Input) (r : Option Reading) (x : Option Relayed) (m : Made) (new : Station) (step : Step)
+made_keeps : (old : Station) (i : Input) (r : Option Reading) (x : Option Relayed) (m : Made) (new : Station)
+    (step : Step)
     → r ≡ read_with i.heard old.reading → x ≡ relayed_with i.heard i.at old.relay → Makes old i m
     → KeepsMade (taken old r x) m new step → StepKeeps old i new step
 made_keeps old i r x m new step er ex makes keeps = λ past after.

@@ -1,5 +1,6 @@
 -- Which attempt GO and CANCEL are for.
-use Rattle.std.specs.Prelude.{ℕ, pos, Bool, false, ◌&&◌, if◌then◌else◌, List, [], ◌∷◌, Option, None, Some, nat_eq, int_lt}
+use Rattle.std.specs.Prelude.{ℕ, pos, Bool, false, ◌&&◌, if◌then◌else◌, List, [], ◌∷◌, Option, None, Some, nat_eq}
+use Rattle.std.specs.Prelude.{int_lt}
 use Rattle.cue_exchange.specs.Live.{attempt_of_cue}
 use Rattle.cue_exchange.specs.declared.attempt.Attempt.{Attempt}
 use Rattle.cue_desk.specs.declared.orders.Order.{Order}

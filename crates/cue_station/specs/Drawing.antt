@@ -11,7 +11,8 @@ use Rattle.cue_view.specs.declared.view.Next.TheVariants as next
 use Rattle.cue_view.specs.declared.view.View.{View}
 use Rattle.cue_station.specs.Turns.{Turn}
 use Rattle.cue_station.specs.Reading.{reading_of, answered_of, seen_since}
-use Rattle.cue_station.specs.Alarms.{acknowledged_of, alarms_by, asked_at, differs_since, failed_of, failures_by, nobody_of}
+use Rattle.cue_station.specs.Alarms.{acknowledged_of, alarms_by, asked_at, differs_since, failed_of, failures_by}
+use Rattle.cue_station.specs.Alarms.{nobody_of}
 use Rattle.cue_station.specs.Alarms.{put_back_in, read_at, trouble_of}
 use Rattle.cue_station.specs.Following.{next_in}
 use Rattle.cue_station.specs.Network.{network_by, relayed_of}

@@ -34,8 +34,8 @@ pub record LitIsSo (t : Turn) (past : List Turn) : Type 0 where
   pub dark : (b : Button) → IsTrue (is_key b) → IsTrue (may (t ∷ past) t.input.at t.input.wall b)
       → IsTrue (is_lit b t.view.lit.items)
 
--- A PRESS IS WHAT WAS SHOWN, AND YOUNG: nothing is sent but for a press that is heeded, or to ask for the status, each by
--- an ask of its own; a press that is heeded is sent; and of one that is not sent the view says why.
+-- A PRESS IS WHAT WAS SHOWN, AND YOUNG: nothing is sent but for a press that is heeded, or to ask for the status, each
+-- by an ask of its own; a press that is heeded is sent; and of one that is not sent the view says why.
 pub record PressIsSo (t : Turn) (past : List Turn) : Type 0 where
   pub sent : (s : Send) → t.sent ≡ Some s → (s.order ≡ order.Status) ⊎ IsOfPress t past s
   pub own : (s : Send) → t.sent ≡ Some s → s.ask ≡ asks_of past
@@ -55,8 +55,8 @@ pub record AgeIsSo (t : Turn) (past : List Turn) : Type 0 where
   pub read : t.view.read ≡ read_at (reading_of (t ∷ past))
   pub served : t.view.served ≡ asked_at (answered_of (t ∷ past))
 
--- LAST IS SO, AND SO ARE NEXT, THE STACK AND WHAT IS LIVE: by the newest copy and its events, and no first cue after the
--- end; an attempt is ready only where GO can be given.
+-- LAST IS SO, AND SO ARE NEXT, THE STACK AND WHAT IS LIVE: by the newest copy and its events, and no first cue after
+-- the end; an attempt is ready only where GO can be given.
 abbrev pub CopyIsSo : Turn → List Turn → Type 0
 CopyIsSo t past =
     ShowsReading (stands_by t.input.at (answered_of (t ∷ past)) (reading_of (t ∷ past)))

@@ -48,7 +48,8 @@ may_go f since cue q c =
     (f.stands && (f.is_quiet && is_number q f.chosen))
     && is_live_as q (λ a. same_text a.cue cue && is_ready (since q) f.at f.wall a) c.state.live
 
--- CANCEL: the attempt prepares, and was chosen. An open STANDBY or release of ours does not stop it: it is the safe way.
+-- CANCEL: the attempt prepares, and was chosen. An open STANDBY or release of ours does not stop it: it is the safe
+-- way.
 abbrev pub may_cancel : Footing → List ℕ → ℕ → Copied → Bool
 may_cancel f cue q c =
     (f.stands && (f.is_calm && is_number q f.chosen))

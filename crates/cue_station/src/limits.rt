@@ -21,8 +21,8 @@ pub const SHOWN_CUES: usize = 24;
 /// How many of them stand before the place, at most.
 pub const CUES_BEFORE: usize = 3;
 
-/// How long what is served has to disagree with the copy before it is called another store, in milliseconds: each change
-/// makes a short disagreement.
+/// How long what is served has to disagree with the copy before it is called another store, in milliseconds: each
+/// change makes a short disagreement.
 pub const OTHER_MS: u64 = 1_000;
 
 /// How long a relay has to write nothing new before it counts as stopped, in milliseconds.

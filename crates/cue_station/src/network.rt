@@ -51,8 +51,8 @@ fn contacts(alloc: Global, status: &Status, age: u64) -> Result<Vec<Contacted>, 
         .collect(alloc)
 }
 
-/// What the relay says of its devices at this moment, if it wrote this, and nothing new since; nothing if it has stopped,
-/// or has never been read.
+/// What the relay says of its devices at this moment, if it wrote this, and nothing new since; nothing if it has
+/// stopped, or has never been read.
 pub fn network_in(
     alloc: Global,
     status: Option<&Status>,

@@ -27,8 +27,8 @@ pub fn trouble_with(heard: &Heard, old: Option<Trouble>) -> Option<Trouble>
     }
 }
 
-/// Whether nobody listened when the status was asked last, once this was heard; `asked`: the number of the newest ask for
-/// the status.
+/// Whether nobody listened when the status was asked last, once this was heard; `asked`: the number of the newest ask
+/// for the status.
 pub fn nobody_with(heard: &Heard, asked: Option<u64>, old: bool) -> bool
     ensures { result ≡ alarms.nobody_by asked heard.now old }
 {

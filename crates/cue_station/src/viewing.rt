@@ -176,8 +176,8 @@ fn lit(
     }
 }
 
-/// The view of the notes, of the newest copy, of the relay and of the attempts that are seen, without a number. `failures`:
-/// those that the copy tells of.
+/// The view of the notes, of the newest copy, of the relay and of the attempts that are seen, without a number.
+/// `failures`: those that the copy tells of.
 pub(crate) fn view_of(
     alloc: Global,
     notes: &Notes,

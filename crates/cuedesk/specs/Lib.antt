@@ -1,4 +1,2 @@
 pub mod Loading
-pub mod Orders
-pub mod Sockets
 pub mod Windows

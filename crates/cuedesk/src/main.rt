@@ -1,7 +1,6 @@
 //! `cuedesk`: the desk beside `cuectl`. It reads show files, asks one message for each command, and shows the board.
 #![tactic(auto)]
 
-mod line;
 mod program;
 
 use std::env::{self, VarError};

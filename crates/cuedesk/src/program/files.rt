@@ -1,11 +1,11 @@
 //! Show files and stores, as the commands read them.
-use super::rehearsing::{PlanPlace, knows_plan, plan_of};
-use super::saying::{print, say};
 use cue_copies::{Seen, look_again};
 use cue_desk::counting::Count;
 use cue_desk::ending::Ending;
 use cue_disk::{FileDisk, MemDisk};
 use cue_keeper::Keeper;
+use cue_rehearsal_run::{PlanPlace, knows_plan, plan_of};
+use cue_saying::{print, say};
 use cue_show::Show;
 use cue_show_file::{
     Draft, Finding, Review, ShowFile, check, condensed, of_show, read, review_of, written,

@@ -10,12 +10,12 @@ mod replacing;
 
 use super::files::{Sound, read_sound};
 use super::wire::Wire;
-use crate::line::words::Manner;
 use asking::Asker;
 use comparing::{Compared, say_differences};
 use counts::{Became, Counts};
 use cue_desk::ending::Ending;
 use cue_desk::ports::controller_port;
+use cue_desk_line::Manner;
 use cue_show_file::{ShowFile, Subject};
 use progress::Progress;
 use std::fs::{File, Files};

@@ -1,11 +1,11 @@
 //! The commands of an evening: one message each, as it was typed.
-use super::saying::{print, say};
 use cue_desk::answered::{Answered, answer_in, ending_of};
 use cue_desk::ending::Ending;
 use cue_desk::orders::Order;
 use cue_desk::replying::{Replied, Status};
 use cue_desk_run::ask_once;
 use cue_exchange::Outcome;
+use cue_saying::{print, say};
 use cue_station::heard::Heard;
 use cue_words::{code_words, outcome_words};
 use std::alloc::{AllocError, Global};
@@ -58,7 +58,7 @@ fn tell_answer<R: Eprint, W: Write>(
 }
 
 // What stands after the words that nobody replied: of what was asked nothing is known but this.
-fn open_words(order: Order) -> &'static str {
+fn open_words(order: &Order) -> &'static str {
     match order {
         Order::Status => "is serve running, and not stopped?",
         Order::OfCue(_, _) | Order::Release(_) | Order::RemoveDevice(_) => {
@@ -67,9 +67,8 @@ fn open_words(order: Order) -> &'static str {
     }
 }
 
-// Says that nobody replied at this port within a second.
-fn say_silent<R: Eprint>(rt: &R, order: Order, port: u16) -> Ending {
-    let words = open_words(order);
+// Says that nobody replied at this port within a second, and these words.
+fn say_silent<R: Eprint>(rt: &R, words: &str, port: u16) -> Ending {
     say(
         rt,
         format_args!("nobody replied at 127.0.0.1:{port} within a second: {words}"),
@@ -92,10 +91,12 @@ fn tell<R: Eprint + AllocGlobal, W: Write>(
     replied: Replied,
     writer: &mut W,
 ) -> Result<(), Ending> {
-    match (replied, answer_in(replied)) {
-        (Replied::Status(status), _) => print(writer, status_text(rt.alloc(), status)?.as_str()),
-        (_, Some(answered)) => tell_answer(rt, answered, writer),
-        (_, None) => Err(Ending::Silent),
+    match replied {
+        Replied::Status(status) => print(writer, status_text(rt.alloc(), status)?.as_str()),
+        Replied::Reply { .. } => match answer_in(replied) {
+            Some(answered) => tell_answer(rt, answered, writer),
+            None => Err(Ending::Silent),
+        },
     }
 }
 
@@ -106,10 +107,11 @@ pub fn carry_order<R: Net + Clock + Eprint + AllocGlobal, W: Write>(
     port: u16,
     writer: &mut W,
 ) -> Result<(), Ending> {
+    let words = open_words(&order);
     match ask_once(rt, order, port) {
         Ok(Some(Heard::Replied(_, replied))) => tell(rt, replied, writer),
         Ok(Some(Heard::Nobody(_))) => Err(say_alone(rt, port)),
-        Ok(_) => Err(say_silent(rt, order, port)),
+        Ok(_) => Err(say_silent(rt, words, port)),
         Err(why) => {
             say(rt, format_args!("no socket: {why}"));
             Err(Ending::Failed)

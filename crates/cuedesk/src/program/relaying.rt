@@ -1,17 +1,12 @@
 //! The command `relay`: it stands between the controller and devices that are on the stage's network.
-mod ready;
-mod reporting;
-mod sockets;
-
 use super::PORT;
 use super::files::read_file;
-use super::saying::{print, say};
 use cue_desk::counting::Count;
 use cue_desk::ending::Ending;
 use cue_relay::{Address, Relay, RelayFault, Route, run};
+use cue_relay_run::{NetSource, NetWire, Reporter, Sides, bind};
+use cue_saying::{print, say};
 use cue_show_file::{ShowFile, routes, shared_port};
-use reporting::Reporter;
-use sockets::{NetSource, NetWire, Sides, bind};
 use std::fs::{File, Files};
 use std::io::{Eprint, Write};
 use std::net::{Ipv4Addr, Net};

@@ -1,12 +1,12 @@
 //! The command `web`: the board with buttons, served to a browser on this machine.
 use super::files::read_file;
 use super::port_of;
-use super::saying::{failed, print, say, say_fault};
-use crate::line::web::Web;
 use cue_board::Names;
 use cue_desk::ending::Ending;
+use cue_desk_line::Web;
 use cue_desk_run::{Desk, Sources};
 use cue_request::request::Door;
+use cue_saying::{failed, print, say, say_fault};
 use cue_web::{Hall, Pages};
 use hex::encode;
 use std::alloc::Global;

@@ -1,7 +1,6 @@
 //! The socket of a loading: one datagram, and what the controller replies to each of its messages.
 ghost use Rattle.std.specs.Prelude.{◌≡◌, IfOk, IfSome, length};
 
-use super::saying::say;
 use cue_desk::answered::{Answered, push};
 use cue_desk::asking::{Asked, address, datagram};
 use cue_desk::ending::Ending;
@@ -9,6 +8,7 @@ use cue_desk::hearing::{Heard, is_wanted, unheard};
 use cue_desk::replying::{Replied, read_reply};
 use cue_desk_run::local;
 use cue_osc::MAX_LEN;
+use cue_saying::say;
 use std::alloc::{AllocError, Global};
 use std::io::Eprint;
 use std::net::{Net, UdpSocket};
@@ -36,6 +36,11 @@ fn said(alloc: Global, asked: &[u8], datagram: &[u8]) -> Result<Heard, Ending> {
         Ok(None) => Ok(Heard::Noise),
         Err(AllocError) => Err(Ending::Failed),
     }
+}
+
+// Whether it is what is waited for.
+fn is_awaited(heard: &Heard, wants_status: bool) -> bool {
+    is_wanted(*heard, wants_status)
 }
 
 impl Wire {
@@ -138,7 +143,7 @@ impl Wire {
         let mut silent = 0u32;
         for _ in 0..MAX_HEARD {
             let heard = self.hear(alloc, asked)?;
-            if is_wanted(heard, wants_status) {
+            if is_awaited(&heard, wants_status) {
                 return Ok(heard);
             }
             if heard == Heard::Silence {

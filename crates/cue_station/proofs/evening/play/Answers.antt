@@ -1,4 +1,6 @@
-use Rattle.std.proofs.Common.{refl, sym, ap, subst, ◌∙◌, [], ◌∷◌, ◌++◌, append_assoc, arith}
+use Rattle.std.proofs.Common.{◌≡◌, refl, sym, ap, subst, ◌∙◌, List, [], ◌∷◌, ◌++◌, append_assoc, arith}
+use Rattle.cue_station.specs.declared.heard.Input.{Input}
+use Rattle.cue_station.specs.declared.station.Step.{Step}
 use Rattle.cue_station.specs.Evening.{Plays}
 use Rattle.cue_station.proofs.EveningLemmas.{all_heard, on_err, plays-more, plays-none, plays-same, stops}
 use Rattle.cue_station.proofs.evening.play.Goals as goal
@@ -30,10 +32,13 @@ loop-input-preserved c =
     let old = c.args.station.now in
     let l = c.loop-input in
     let new = c.step.new.self in
+    let rest = c.next.new.self.rest.items in
+    let first : l.input-iterator.rest.items ≡ c.in-Some.input ∷ rest = c.in-Some.ensures.steps.0 in
     record {
       split = append_assoc l.yielded (c.in-Some.input ∷ []) c.next.new.self.rest.items
-          ∙ ap (λ v. l.yielded ++ v) (sym c.in-Some.ensures.steps.0) ∙ l.invariant.split;
-      plays = subst (λ s. Plays old (l.yielded ++ (c.in-Some.input ∷ [])) s new) (sym c.in_ok-push.ensures.items)
+          ∙ ap (λ v. l.yielded ++ v) (sym {A = List Input} first) ∙ l.invariant.split;
+      plays = subst (λ s. Plays old (l.yielded ++ (c.in-Some.input ∷ [])) s new)
+          (sym {A = List Step} c.in_ok-push.ensures.items)
           (plays-more old l.station new l.yielded l.steps.items c.in-Some.input c.in_ok-step.field-0 l.invariant.plays
           c.in_ok-step.ensures.keeps);
     }
@@ -43,11 +48,13 @@ returns-in_err-push-clause-err c =
     let old = c.args.station.now in
     let l = c.loop-input in
     let new = c.step.new.self in
+    let rest = c.next.new.self.rest.items in
+    let first : l.input-iterator.rest.items ≡ c.in-Some.input ∷ rest = c.in-Some.ensures.steps.0 in
     on_err c.from_residual-in_err-push.result
     (stops old new c.args.inputs.items (l.yielded ++ (c.in-Some.input ∷ [])) c.next.new.self.rest.items
     (l.steps.items ++ (c.in_ok-step.field-0 ∷ []))
     (append_assoc l.yielded (c.in-Some.input ∷ []) c.next.new.self.rest.items
-    ∙ ap (λ v. l.yielded ++ v) (sym c.in-Some.ensures.steps.0) ∙ l.invariant.split)
+    ∙ ap (λ v. l.yielded ++ v) (sym {A = List Input} first) ∙ l.invariant.split)
     (plays-more old l.station new l.yielded l.steps.items c.in-Some.input c.in_ok-step.field-0 l.invariant.plays
     c.in_ok-step.ensures.keeps))
 

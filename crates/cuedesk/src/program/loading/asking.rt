@@ -1,13 +1,13 @@
 //! What is asked while a show file is loaded: again where no reply came, with words where it is refused.
 ghost use Rattle.std.specs.Prelude.{◌≡◌, IfOk, IfSome, length};
 
-use super::super::saying::say;
 use super::super::wire::{Sendings, Wire};
 use cue_desk::answered::{Answered, push};
 use cue_desk::asking::{Asked, bundle_of_cues, bundle_of_devices};
 use cue_desk::ending::Ending;
 use cue_desk::hearing::reply_in;
 use cue_desk::replying::{Replied, Status};
+use cue_saying::say;
 use cue_show::CueNo;
 use cue_show_file::{CueEntry, DeviceEntry, Subject};
 use cue_words::code_words;

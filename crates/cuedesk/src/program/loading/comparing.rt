@@ -1,11 +1,11 @@
 //! The store is compared with the show file: what differs is said, with what to do.
 use super::super::files::open_store;
-use super::super::saying::say;
 use super::asking::Asker;
 use cue_core::State;
 use cue_desk::ending::Ending;
 use cue_desk::replying::Status;
 use cue_loading::{Difference, differences};
+use cue_saying::say;
 use cue_show::{CueNo, Show};
 use cue_show_file::cue_text;
 use std::fs::{File, Files};

@@ -1,6 +1,6 @@
 //! How far a loading has come, on a terminal: a line that is drawn over itself.
-use super::super::saying::print;
 use cue_desk::ending::Ending;
+use cue_saying::print;
 use std::alloc::{AllocError, Global};
 use std::io::Write;
 

@@ -95,11 +95,10 @@ impl<'a, R: Files<File = File> + Net + Eprint + AllocGlobal, W: Write> Loading<'
     // Asks what a step says. A refusal is said, and ends the loading.
     fn carry_out(&mut self, step: &Step) -> Result<(), Ending> {
         self.is_open |= removes(step);
-        let subject = subject_of(step);
-        let answered = self.asker.ask(subject, &asked_by(step))?;
+        let answered = self.asker.ask(subject_of(step), &asked_by(step))?;
         if let Some(code) = refusal_of(step, answered) {
             self.progress.clear();
-            self.asker.say_refused(subject, code);
+            self.asker.say_refused(subject_of(step), code);
             return Err(Ending::Refused);
         }
         self.progress.advance(1)

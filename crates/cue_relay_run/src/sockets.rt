@@ -1,13 +1,13 @@
 //! The sockets of the relay: two for each route, all waited at in one loop.
 ghost use Rattle.std.specs.Prelude.{◌≡◌, None, IfOk, length};
-ghost use Rattle.cuedesk.specs.declared.program.relaying.sockets.Try.TheVariants.{Passes};
-ghost use Rattle.cuedesk.specs.Sockets.{IsTryWithin};
+ghost use Rattle.cue_relay_run.specs.declared.sockets.Try.TheVariants.{Passes};
+ghost use Rattle.cue_relay_run.specs.Sockets.{IsTryWithin};
 
-use super::super::saying::say;
-use super::ready::Ready;
+use crate::ready::Ready;
 use cue_desk::ending::Ending;
 use cue_desk::hearing::{Heard, unheard};
 use cue_relay::{Address, Opening, Route, Side, Source, SourceFault, Turn, Way, Wire, WireFault};
+use cue_saying::say;
 use mio::net::UdpSocket;
 use mio::{Events, Interest, Poll, Token};
 use std::alloc::Global;

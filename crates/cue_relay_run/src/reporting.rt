@@ -1,7 +1,7 @@
 //! What the relay says while it runs: a line when a device is heard or falls silent, and the status for the desk.
-use super::super::saying::{print, say};
 use cue_relay::status::{Status, written};
 use cue_relay::{Contact, Counts, Happening, Message, News, Opening, Route, Watch};
+use cue_saying::{print, say};
 use std::alloc::{AllocError, Global};
 use std::fs::{self, File, Files};
 use std::io::{Eprint, Write};

@@ -2,7 +2,7 @@
 ghost use Rattle.std.specs.Prelude.{IfOk, codes};
 ghost use Rattle.cue_operator.specs.Methods.{cue_verb_text};
 ghost use Rattle.cue_desk.specs.Orders.{spelling_of};
-ghost use Rattle.cuedesk.specs.Orders.{IsAskedBy};
+ghost use Rattle.cue_desk_line.specs.Orders.{IsAskedBy};
 
 mod commands;
 pub mod rehearsing;

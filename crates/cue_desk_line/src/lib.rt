@@ -1,0 +1,9 @@
+//! The command line of `cuedesk`, read over `clap`: which command its words name, or why they name none.
+#![tactic(auto)]
+
+mod reading;
+
+pub use reading::line;
+pub use reading::rehearsing::{Flags, Rehearsal, with_flags};
+pub use reading::web::Web;
+pub use reading::words::{Line, Manner, Watched};

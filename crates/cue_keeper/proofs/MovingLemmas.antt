@@ -2,7 +2,7 @@
 use Rattle.std.proofs.Common.{◌≡◌, inl, inr, ℕ, Bool, true, false, not, if◌then◌else◌, List, refl, sym, ◌∙◌, ap, subst}
 use Rattle.std.proofs.Common.{arith}
 use Rattle.cue_disk.specs.Disk.{Contents, IsImage, LeavesAtEachMoment}
-use Rattle.cue_disk.proofs.MomentLemmas.{and_then, weaker}
+use Rattle.cue_disk.proofs.MomentLemmas.{and_then}
 use Rattle.cue_log.specs.Area.{Area}
 use Rattle.cue_snap.specs.Pair.{PairIsEither, AfterBarrier}
 use Rattle.cue_snap.proofs.PairLemmas.{swapped}

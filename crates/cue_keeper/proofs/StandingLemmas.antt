@@ -1,8 +1,8 @@
 -- What an area stands for, and what one batch or one turn-over makes of it.
 use Rattle.std.proofs.Common.{◌≡◌, inl, inr, ℕ, ◌≤◌, Bool, true, false, ◌&&◌, if◌then◌else◌, nat_le, length, arith}
-use Rattle.std.proofs.Common.{List, [], ◌∷◌, ◌++◌, map, Some, IsTrue, refl, sym, ◌∙◌, ap, subst}
+use Rattle.std.proofs.Common.{List, [], ◌∷◌, map, Some, IsTrue, refl, sym, ◌∙◌, ap, subst}
 use Rattle.cue_disk.specs.Disk.{Contents}
-use Rattle.cue_log.specs.Area.{Area, fresh, with_payload}
+use Rattle.cue_log.specs.Area.{Area, fresh}
 use Rattle.cue_snap.specs.Pair.{PairIsEither, PairLeaves}
 use Rattle.cue_snap.proofs.PairLemmas.{swapped}
 use Rattle.cue_snap.proofs.ReaderLemmas.{one_of_a_pair}

@@ -1,10 +1,9 @@
 -- What became of batches, put together from what the calls on the pair say.
-use Rattle.std.specs.Prelude.{IsErrAnd, IsErrOf, IfSome}
+use Rattle.std.specs.Prelude.{IsErrAnd, IsErrOf}
 use Rattle.std.specs.Result.{result_err}
 use Rattle.std.proofs.Common.{◌≡◌, ◌⊎◌, inl, inr, ℕ, ◌+◌, ◌≤◌, if◌then◌else◌, Bool, true, false, List, [], ◌∷◌, length, map}
-use Rattle.std.proofs.Common.{Option, Some, None, Result, Ok, Err, refl, sym, ◌∙◌, ap, subst, arith, true≢false, append-nil}
+use Rattle.std.proofs.Common.{Some, None, Result, Ok, Err, refl, sym, ◌∙◌, ap, subst, arith, true≢false, append-nil}
 use Rattle.cue_disk.specs.declared.disk.Disk.{Ghosts}
-use Rattle.cue_disk.specs.Disk.{Contents}
 use Rattle.cue_log.specs.Area.{Area, fresh, with_payloads}
 use Rattle.cue_snap.specs.Pair.{PairLeaves}
 use Rattle.cue_snap.specs.declared.snap.Snap.{Snap}
@@ -299,14 +298,6 @@ module _ {D : Type 0} {disk : Ghosts D} where
       at_most_one : (es : List Event) → 2 ≤ length (with_events (es ∷ [])) → ⊥
       at_most_one [] two = omega (arith, two)
       at_most_one (e ∷ es) two = omega (arith, two)
-
-  -- what works on after a fault has not been changed
-  pub unless_broken : (old new : Snap D disk) (f : Fault) → LeavesPair old new f → is_broken new ≡ false → new ≡ old
-  unless_broken old new fault.Broken same works = same
-  unless_broken old new fault.Memory same works = same
-  unless_broken old new fault.Exhausted same works = same
-  unless_broken old new fault.Full same works = same
-  unless_broken old new fault.Disk broken works = absurd (true≢false (sym broken ∙ works))
 
   -- a fault that is no device's own has changed nothing
   pub unless_disk : (old new : Snap D disk) (f : Fault) → LeavesPair old new f → (f ≡ fault.Disk → ⊥) → new ≡ old

@@ -2,7 +2,7 @@
 use Rattle.std.proofs.Common.{◌≡◌, inl, inr, ℕ, Bool, true, false, not, if◌then◌else◌, List, refl, sym, ◌∙◌, ap, subst}
 use Rattle.std.proofs.Common.{arith}
 use Rattle.cue_disk.specs.Disk.{Contents, IsImage, LeavesAtEachMoment}
-use Rattle.cue_disk.proofs.MomentLemmas.{and_then, weaker}
+use Rattle.cue_disk.proofs.MomentLemmas.{and_then}
 use Rattle.cue_log.specs.Area.{Area}
 use Rattle.cue_snap.specs.Pair.{PairIsEither, AfterBarrier}
 use Rattle.cue_snap.proofs.PairLemmas.{swapped}
@@ -39,16 +39,6 @@ module _ {D : Type 0} (moment : D → ℕ) (held : D → Contents) (held_at : D 
     honest = (λ h. first.honest.0 (second.honest.0 h), λ h. second.honest.1 (first.honest.1 h));
     leaves = λ rests honest x left. and_then moment held_at old mid new (P x) (first.leaves rests honest x left)
         (second.leaves rests (first.honest.1 honest) x left);
-  }
-
-  pub writes_weaker : (rest old new : D) (P Q : List ℕ → List ℕ → Type 0) → ((x y : List ℕ) → P x y → Q x y)
-      → Writes moment held held_at failures is_honest rest old new P
-      → Writes moment held held_at failures is_honest rest old new Q
-  writes_weaker rest old new P Q from writes = record {
-    failures_ = writes.failures_;
-    honest = writes.honest;
-    leaves = λ rests honest x left. weaker moment held_at old new (P x) (Q x) (from x)
-        (writes.leaves rests honest x left);
   }
 
   -- a disk at rest, and one that is written
@@ -206,24 +196,6 @@ module _ {D : Type 0} (moment : D → ℕ) (held : D → Contents) (held_at : D 
     leaves = λ honest_a honest_b. leaves_weaker a b new_a new_b P Q (from honest_a honest_b)
         (moves.leaves honest_a honest_b);
   }
-
-  -- no call was made
-  pub moves_none : (P : List ℕ → List ℕ → Type 0) → ((x y : List ℕ) → P x y → P y x) → (was : Bool) (live spare : D)
-      → (is_honest live → held_at live (moment live) ≡ held live)
-      → (is_honest spare → held_at spare (moment spare) ≡ held spare)
-      → (is_honest live → is_honest spare → (x y : List ℕ) → IsImage (held live) x → IsImage (held spare) y → P x y)
-      → Moves moment held_at failures is_honest (if was then live else spare) (if was then spare else live)
-      (if was then live else spare) (if was then spare else live) P
-  moves_none P turn was live spare now_live now_spare here =
-      in_order (λ a b new_a new_b. Moves moment held_at failures is_honest a b new_a new_b P) (moves_swapped P turn) was
-      was live spare live spare refl
-      (record {
-        failures_a = omega arith;
-        failures_b = omega arith;
-        honest_a = (λ h. h, λ h. h);
-        honest_b = (λ h. h, λ h. h);
-        leaves = rests live spare P now_live now_spare here;
-      })
 
   -- both disks are opened, and then calls are made on the pair
   pub opened_then : (a b mid_a mid_b new_a new_b : D) (P : List ℕ → List ℕ → Type 0) → held_at a (moment a) ≡ held a

@@ -1,8 +1,8 @@
 -- What an area stands for, and what one batch or one turn-over makes of it.
 use Rattle.std.proofs.Common.{◌≡◌, inl, inr, ℕ, ◌≤◌, Bool, true, false, ◌&&◌, if◌then◌else◌, nat_le, length, arith}
-use Rattle.std.proofs.Common.{List, [], ◌∷◌, ◌++◌, map, Some, IsTrue, refl, sym, ◌∙◌, ap, subst}
+use Rattle.std.proofs.Common.{List, [], ◌∷◌, map, Some, IsTrue, refl, sym, ◌∙◌, ap, subst}
 use Rattle.cue_disk.specs.Disk.{Contents}
-use Rattle.cue_log.specs.Area.{Area, fresh, with_payload}
+use Rattle.cue_log.specs.Area.{Area, fresh}
 use Rattle.cue_snap.specs.Pair.{PairIsEither, PairLeaves}
 use Rattle.cue_snap.proofs.PairLemmas.{swapped}
 use Rattle.cue_snap.proofs.ReaderLemmas.{one_of_a_pair}
@@ -195,46 +195,7 @@ symmetric x y s stands =
 pub is_a_state : WhatStandsIsAState
 is_a_state x y s stands = state_kept stands.area s stands.stands
 
--- ---- one batch more, or the state written again
-
-in_turn_more : (s : ShowState) (batches : List (List Event)) (batch : List Event) → IsTrue (are_in_turn s batches)
-    → IsTrue (is_batch batch) → IsTrue (are_acceptable (folded_all s batches) batch)
-    → IsTrue (are_in_turn s (batches ++ batch ∷ []))
-in_turn_more s [] batch h one may = into_turn s batch [] (record { is_one = one; acceptable = may; rest = refl })
-in_turn_more s (first ∷ batches) batch h one may =
-    let k = in_turn s first batches h in
-    into_turn s first (batches ++ batch ∷ [])
-    (record {
-      is_one = k.is_one;
-      acceptable = k.acceptable;
-      rest =
-          in_turn_more (after_events s first) batches batch k.rest one may;
-    })
-
-folded_more : (s : ShowState) (batches : List (List Event)) (batch : List Event)
-    → folded_all s (batches ++ batch ∷ []) ≡ after_events (folded_all s batches) batch
-folded_more s [] batch = refl
-folded_more s (first ∷ batches) batch = folded_more (after_events s first) batches batch
-
-texts_more : (batches : List (List Event)) (batch : List Event)
-    → map batch_text batches ++ batch_text batch ∷ [] ≡ map batch_text (batches ++ batch ∷ [])
-texts_more [] batch = refl
-texts_more (first ∷ batches) batch = ap (λ ps. batch_text first ∷ ps) (texts_more batches batch)
-
-pub area_more : (area : Area) (s : ShowState) (events : List Event) (payload : List ℕ) → StandsFor area s
-    → IsTrue (is_batch events) → IsTrue (are_acceptable s events) → payload ≡ batch_text events
-    → StandsFor (with_payload area payload) (after_events s events)
-area_more area s events payload stands one may text = record {
-  base = stands.base;
-  batches = stands.batches ++ events ∷ [];
-  is_base = stands.is_base;
-  in_turn = in_turn_more stands.base stands.batches events stands.in_turn one
-      (subst (λ (t : ShowState). IsTrue (are_acceptable t events)) stands.is may);
-  base_text = stands.base_text;
-  texts = ap (λ ps. ps ++ payload ∷ []) stands.texts ∙ ap (λ p. map batch_text stands.batches ++ p ∷ []) text
-      ∙ texts_more stands.batches events;
-  is = ap (λ t. after_events t events) stands.is ∙ sym (folded_more stands.base stands.batches events);
-}
+-- ---- the state written again
 
 pub fresh_stands : (generation : ℕ) (s : ShowState) (snapshot : List ℕ) → IsTrue (is_state s) → snapshot ≡ state_text s
     → StandsFor (fresh generation snapshot) s
@@ -261,10 +222,6 @@ pub leaves_stands : (one other : Contents) (area : Area) (s : ShowState) → Pai
     → StandsAs one other s
 leaves_stands one other area s leaves stands x y left_x left_y =
     record { area = area; reads = leaves x y left_x left_y; stands = stands }
-
-pub either_symmetric : (s t : ShowState) (x y : List ℕ) → StandsEither s t x y → StandsEither s t y x
-either_symmetric s t x y (inl stands) = inl (symmetric x y s stands)
-either_symmetric s t x y (inr stands) = inr (symmetric x y t stands)
 
 pub any_stands : (before new_area after : Area) (s t : ShowState) → StandsFor before s → StandsFor new_area s
     → StandsFor after t → (x y : List ℕ) → PairIsAny before new_area after x y → StandsEither s t x y

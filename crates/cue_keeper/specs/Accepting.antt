@@ -1,15 +1,15 @@
 -- What a call that accepts batches does to a store, whether it succeeds or fails: the one word for it in each layer. One
 -- batch is a list of one.
-use Rattle.std.specs.Prelude.{◌≡◌, ◌⊎◌, ◌≤◌, ◌+◌, ◌↔◌, if◌then◌else◌, ℕ, Bool, false, true}
-use Rattle.std.specs.Prelude.{List, [], ◌∷◌}
-use Rattle.std.specs.Prelude.{length, IsTrue}
+use Rattle.std.specs.Prelude.{◌≡◌, ◌⊎◌, ◌≤◌, ◌+◌, ◌↔◌, if◌then◌else◌, false, true}
+use Rattle.std.specs.Prelude.{List, []}
+use Rattle.std.specs.Prelude.{length}
 use Rattle.std.specs.Prelude.{Option, Some, MatchOption, IfSome, IfNone, ⊤}
 use Rattle.cue_disk.specs.declared.disk.Disk.{Ghosts}
 use Rattle.cue_disk.specs.Disk.{Contents}
 use Rattle.cue_disk.specs.Disk.{MoreFailures}
 use Rattle.cue_snap.specs.declared.snap.Snap.{Snap}
 use Rattle.cue_log.specs.Area.{Area, fresh, with_payloads}
-use Rattle.cue_snap.specs.Observed.{first_of, second_of, is_broken, generation_of, count_of, end_of, live_area_of}
+use Rattle.cue_snap.specs.Observed.{first_of, second_of, is_broken, generation_of, count_of, live_area_of}
 use Rattle.cue_core.specs.declared.event.Event.{Event}
 use Rattle.cue_core.specs.State.{ShowState}
 use Rattle.cue_records.specs.State.{state_text}

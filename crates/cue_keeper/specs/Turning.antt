@@ -1,5 +1,5 @@
 -- When batches need a new area, and what can stand in their way.
-use Rattle.std.specs.Prelude.{◌≡◌, ◌≤◌, ◌<◌, ◌+◌, ◌-◌, ◌^◌, Bool, List, length, IsTrue}
+use Rattle.std.specs.Prelude.{◌≡◌, ◌<◌, ◌+◌, ◌-◌, ◌^◌, Bool, List, length, IsTrue}
 use Rattle.cue_disk.specs.declared.disk.Disk.{Ghosts}
 use Rattle.cue_log.specs.declared.area.TheConstants.{MAX_AREA, FRAME_LEN, HEAD_LEN}
 use Rattle.cue_snap.specs.declared.snap.Snap.{Snap}

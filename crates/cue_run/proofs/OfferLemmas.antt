@@ -1,5 +1,5 @@
 -- One input more is offered, and none.
-use Rattle.std.proofs.Common.{◌≡◌, ℕ, ◌+◌, List, [], ◌∷◌, ◌++◌, Option, None, refl, sym, ap, ◌∙◌, subst, arith}
+use Rattle.std.proofs.Common.{◌≡◌, ℕ, ◌+◌, List, [], ◌∷◌, ◌++◌, Option, refl, sym, ap, ◌∙◌, subst, arith}
 use Rattle.std.proofs.Common.{length-append, append_assoc, append-nil, Bool, true, false, Result, Ok, Err, IsTrue}
 use Rattle.cue_disk.specs.declared.disk.Disk.{Ghosts}
 use Rattle.cue_core.specs.declared.event.Event.{Event}
@@ -108,10 +108,6 @@ module _ {D : Type 0} {disk : Ghosts D} where
     offered = offers_stay size a b c x y z left mid same stays h;
     cut = subst (λ (k : Keeper D disk). CutShort size why k mid left_then) h.keeper cut;
   }
-
-  pub gathered_all : (size a b : ℕ) (x y : Engine D disk) (left mid : Option (List Answer))
-      → HasOffered size a b x y left mid → Gathered size a b None x y left mid
-  gathered_all size a b x y left mid h = record { mid = mid; offered = h; cut = refl }
 
   -- the first of a group, and those after it
   pub gathered_after : (size now_size a b c : ℕ) (why : Option RunFault) (x y z : Engine D disk)

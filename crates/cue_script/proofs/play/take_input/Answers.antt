@@ -1,4 +1,4 @@
-use Rattle.std.proofs.Common.{ℕ, List, ◌++◌, [], ◌∷◌, ◌∙◌, ap, append-nil}
+use Rattle.std.proofs.Common.{ℕ, List, ◌++◌, [], ◌∙◌, ap, append-nil}
 use Rattle.cue_outbox.specs.Sending.{datagrams}
 use Rattle.cue_engine.specs.Given.{given_of}
 use Rattle.cue_engine.specs.Inputs.{input_view}

@@ -1,4 +1,4 @@
-use Rattle.std.proofs.Common.{Some, None, ◌≡◌, refl, sym, ◌∙◌, subst}
+use Rattle.std.proofs.Common.{◌≡◌, refl, sym, ◌∙◌, subst}
 use Rattle.cue_snap.specs.Observed.{live_of, spare_of, is_first_live, live_area_of}
 use Rattle.cue_core.specs.State.{ShowState}
 use Rattle.cue_keeper.specs.Stands.{StandsFor, folded_all}

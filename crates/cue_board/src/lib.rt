@@ -1,4 +1,24 @@
-//! The board: a view of the desk as lines of a terminal, and the words that page and board have for it.
+//! The board: a view of the desk as lines of a terminal, and the words that page and board have for it. Nothing here
+//! opens a file or a socket, or looks at a store or a clock.
+//!
+//! The board is a list of fronts that a view gives, and each line begins with its own (`specs/Board.antt`): so its
+//! contract speaks of the front of each line, and names of any kind change nothing of it. Words are tables over the
+//! parts of a view. `IsFit` says what a terminal may get (`specs/Columns.antt`).
+//!
+//! Why it is so:
+//! - If a board has few lines the stack gives way: which cue is next, each live attempt with its devices and the last
+//!   attempt are what an operator waits for. With a third of the cues before the place it stays down to one cue. If not
+//!   even that one has room, the devices of an attempt that have answered the same share a line.
+//! - There is a line for the loudest alarm alone, and for a failure none: the line of the last cue says it. On a
+//!   terminal nobody can say that a failure was seen.
+//! - In the line of the last cue its name stands before how it ended, and has 28 columns at most, so that the end is
+//!   not cut away. A text has at most four bytes a column: marks that belong to the letter before them take no column.
+//! - A line of the log takes up to three lines: the reason stands at its end.
+//! - A cue all of whose devices are ready is `held` if GO cannot be given all the same, as while `serve` does not
+//!   answer.
+//!
+//! Only tested: names and notes, the lines of a log and of a relay. Neither: that a terminal gives a character the
+//! columns that Unicode gives it.
 #![tactic(auto)]
 
 mod alarms;

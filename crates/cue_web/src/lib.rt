@@ -1,4 +1,18 @@
 //! The page, served to the browsers of this machine: connections that keep nobody waiting, and what each is answered.
+//!
+//! A request is read by `cue_request`; a press is one step of the desk (`cue_desk_run`), and its answer is the view
+//! that follows. A round never waits: `Hall::admit` takes the connections that wait, at most 64, and `Hall::serve`
+//! hears and answers each. If memory runs out while an answer is made, that connection is closed, and the others go on.
+//!
+//! Why it is so:
+//! - Many connections side by side, each for a second: a browser opens connections before it needs them and says
+//!   nothing on them. At most 128 are open, each with at most 9 kB. If there is no room for one more, the one that has
+//!   waited longest is closed; each is heard before that, so hundreds that say nothing keep nobody waiting.
+//! - After an answer the rest of the request is read and dropped, for a second at most: a socket that is closed with
+//!   bytes unread resets the connection, and the answer may be lost.
+//! - The text of the newest view is kept until the next view: ten who ask for it cost one drawing.
+//!
+//! Only tested: the connections.
 #![tactic(auto)]
 
 mod hall;

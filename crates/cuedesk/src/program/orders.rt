@@ -108,13 +108,16 @@ pub fn carry_order<R: Net + Clock + Eprint + AllocGlobal, W: Write>(
     writer: &mut W,
 ) -> Result<(), Ending> {
     let words = open_words(&order);
-    match ask_once(rt, order, port) {
-        Ok(Some(Heard::Replied(_, replied))) => tell(rt, replied, writer),
-        Ok(Some(Heard::Nobody(_))) => Err(say_alone(rt, port)),
-        Ok(_) => Err(say_silent(rt, words, port)),
+    let heard = match ask_once(rt, order, port) {
+        Ok(heard) => heard,
         Err(why) => {
             say(rt, format_args!("no socket: {why}"));
-            Err(Ending::Failed)
+            return Err(Ending::Failed);
         }
+    };
+    match &heard {
+        Some(Heard::Replied(_, replied)) => tell(rt, *replied, writer),
+        Some(Heard::Nobody(_)) => Err(say_alone(rt, port)),
+        _ => Err(say_silent(rt, words, port)),
     }
 }

@@ -10,7 +10,7 @@ use cue_desk_run::local;
 use cue_osc::MAX_LEN;
 use cue_saying::say;
 use std::alloc::{AllocError, Global};
-use std::io::Eprint;
+use std::io::{Eprint, ErrorKind};
 use std::net::{Net, UdpSocket};
 use std::time::Duration;
 
@@ -35,6 +35,14 @@ fn said(alloc: Global, asked: &[u8], datagram: &[u8]) -> Result<Heard, Ending> {
         Ok(Some(replied)) => Ok(Heard::Replied(replied)),
         Ok(None) => Ok(Heard::Noise),
         Err(AllocError) => Err(Ending::Failed),
+    }
+}
+
+// What it means that a call brought no datagram.
+fn silence(kind: ErrorKind) -> Result<Heard, Ending> {
+    match unheard(kind) {
+        Some(heard) => Ok(heard),
+        None => Err(Ending::Failed),
     }
 }
 
@@ -65,7 +73,7 @@ impl Wire {
         let mut buffer = [0; MAX_LEN];
         match self.socket.recv(&mut buffer) {
             Ok(n) => said(alloc, asked, &buffer[..n]),
-            Err(error) => unheard(error.kind()).ok_or(Ending::Failed),
+            Err(error) => silence(error.kind()),
         }
     }
 

@@ -1,6 +1,6 @@
-"""The listing of docs/PLC.md, turned into Python statement by statement, so that it can play docs/vectors.txt.
+"""examples/plc_device.st, turned into Python statement by statement, so that it can play docs/vectors.txt.
 
-What the listing leaves to a PLC is here: which datagram is an order (device_model.Device.read), Same and Say.
+What that leaves to a PLC is here: which datagram is an order (device_model.Device.read), Same and Say.
 """
 import re
 
@@ -48,10 +48,9 @@ def body_of(text, names):
 
 
 class Plc:
-    """The listing, with its global variables."""
+    """What a text in Structured Text does, with its global variables."""
 
-    def __init__(self, page):
-        text = "\n".join(line[4:] for line in page.splitlines() if line.startswith("    "))
+    def __init__(self, text):
         text = re.sub(r"\(\*.*?\*\)", "", text, flags=re.S)
         self.names = [name for block in re.findall(r"^VAR_GLOBAL.*?^END_VAR", text, re.M | re.S)
                       for name in re.findall(r"^    (\w+) :", block, re.M)]

@@ -173,21 +173,43 @@ fn round<R: Files<File = File> + Net + Clock + AllocGlobal>(
     Ok(pictures.is_due(desk.now()?))
 }
 
+// Draws the picture that is due.
+fn draw<R: Files<File = File> + Net + Clock + Eprint + AllocGlobal, W: Write>(
+    board: &mut Board<'_, R>,
+    screen: &mut Screen,
+    writer: &mut W,
+) -> Result<(), Ending> {
+    let lines = board.lines()?;
+    let picture = screen.picture(board.rt.alloc(), lines)?;
+    print(writer, picture.as_str())
+}
+
+// What follows a round: a picture, if one is due, and why the last message was not sent.
+fn show_round<R: Files<File = File> + Net + Clock + Eprint + AllocGlobal, W: Write>(
+    board: &mut Board<'_, R>,
+    screen: &mut Screen,
+    is_due: io::Result<bool>,
+    writer: &mut W,
+) -> Result<(), Ending> {
+    match is_due {
+        Ok(true) => draw(board, screen, writer)?,
+        Ok(false) => {}
+        Err(why) => return Err(failed(board.rt, &why)),
+    }
+    say_fault(board.rt, board.desk.take_fault());
+    Ok(())
+}
+
 // The board until the terminal or a signal ends it.
 fn show_on<R: Files<File = File> + Net + Clock + Eprint + AllocGlobal, W: Write>(
     board: &mut Board<'_, R>,
     writer: &mut W,
 ) -> Result<(), Ending> {
-    let alloc = board.rt.alloc();
-    let (mut screen, mut pictures) = (Screen::new(alloc), Beat::of(PICTURE));
+    let mut screen = Screen::new(board.rt.alloc());
+    let mut pictures = Beat::of(PICTURE);
     let mut is_due = hear_all(&mut board.desk, FIRST).map(|()| true);
     for _ in 0..u64::MAX {
-        match is_due {
-            Ok(true) => print(writer, screen.picture(alloc, board.lines()?)?.as_str())?,
-            Ok(false) => {}
-            Err(why) => return Err(failed(board.rt, &why)),
-        }
-        say_fault(board.rt, board.desk.take_fault());
+        show_round(board, &mut screen, is_due, writer)?;
         is_due = round(&mut board.desk, &mut pictures);
     }
     Ok(())

@@ -60,7 +60,7 @@ class Controller:
 
     def replies(self, asked, made):
         address, sender = asked
-        self.wire.sendto(model.reply(address, made, 0, 1 - made, 0 if made else 13), sender)
+        self.wire.sendto(model.reply(address.encode(), made, 0, 1 - made, 0 if made else 13), sender)
 
     def close(self):
         self.wire.close()

@@ -84,7 +84,8 @@ def prepares(page, evening, pictures):
     check("seconds are shown", re.search(r"\d\.\d s left", page.text("live")))
     if pictures:
         page.picture(pictures / "page-preparing.png")
-        evening.printed, _, _ = serving.run(evening.desk, "board", evening.folder, evening.file, "--once")
+        evening.printed, _, _ = serving.run(evening.desk, "board", evening.folder, evening.file, "--once",
+                                             "--port", evening.serve.port)
     attempt = evening.view()["live"][0]["attempt"]
     said = page.run("return fetch('/command', {method: 'POST', headers: {'Cuedesk-Token': arguments[0]}, body: "
                     "arguments[1]}).then(r => r.json())", evening.token, evening.body(f"go 5 {attempt}").decode())

@@ -1,8 +1,8 @@
 //! The desk, who presses its buttons, and what it reads.
-use crate::house::House;
-use crate::judge::broken;
+use crate::house::{House, take_due};
+use crate::judge::is_lawful;
 use crate::record::{Record, Turn};
-use crate::scene::{ASKS, OPERATOR, Weather};
+use crate::scene::{ASKS, Letter, OPERATOR, Weather};
 use cue_desk::asking::{Asked, address, datagram};
 use cue_desk::orders::asked_by;
 use cue_desk::replying::read_reply;
@@ -18,28 +18,15 @@ use std::alloc::{AllocError, Global};
 use std::process::Abort;
 use std::test::Fail;
 
-/// What the relay counts.
-const NO_COUNTS: Counts = Counts {
-    passed: 0,
-    lost: 0,
-    dropped: 0,
-};
-
-/// A message that a desk sent; its socket is at `ASKS` and its place.
-#[derive(Drop)]
-pub(crate) struct Ask {
-    number: u64,
-    address: Vec<u8>,
-}
-
 /// An evening: the house, the desk that works, and what it has heard, shown and sent.
 #[derive(Drop)]
 pub(crate) struct Desk {
     pub(crate) house: House,
     station: Station,
     pub(crate) record: Record,
-    /// What all desks of the evening have sent, and where those of this one begin.
-    asks: Vec<Ask>,
+    /// The addresses of all that desks of the evening have sent, each from the socket at `ASKS` and its place; and where
+    /// those of this one begin.
+    asks: Vec<Vec<u8>>,
     pub(crate) first: usize,
     /// A reading that is under way, the version that was read last, and a copy that was held up.
     reading: Option<Copied>,
@@ -63,7 +50,7 @@ fn copy_again(copy: &Copied) -> Result<Copied, AllocError> {
     })
 }
 
-// What is kept of what was heard.
+// What is kept of what was heard: all but what the relay says.
 fn heard_again(heard: &Heard) -> Result<Heard, AllocError> {
     Ok(match heard {
         Heard::Copied(copy) => Heard::Copied(copy_again(copy)?),
@@ -72,13 +59,7 @@ fn heard_again(heard: &Heard) -> Result<Heard, AllocError> {
         Heard::Replied(ask, replied) => Heard::Replied(*ask, *replied),
         Heard::Nobody(ask) => Heard::Nobody(*ask),
         Heard::Pressed(view, button) => Heard::Pressed(*view, *button),
-        Heard::Relay(None) => Heard::Relay(None),
-        Heard::Relay(Some(status)) => Heard::Relay(Some(Status {
-            now: status.now,
-            counts: status.counts,
-            devices: status.devices.clone()?,
-        })),
-        Heard::Tick => Heard::Tick,
+        Heard::Relay(_) | Heard::Tick => Heard::Tick,
     })
 }
 
@@ -95,14 +76,11 @@ fn message_of(alloc: Global, asked: &Asked<'_>) -> Result<Vec<u8>, Fail> {
     if !asked.is_askable() {
         return Err("it can be asked".into());
     }
-    match datagram(alloc, asked) {
-        Ok(bytes) => Ok(bytes),
-        Err(_) => Err("it can be written".into()),
-    }
+    Ok(datagram(alloc, asked).ok().ok_or("it can be written")?)
 }
 
 // How readily a button is pressed, in a hundred.
-fn readiness(button: Button) -> u32 {
+fn readiness(button: &Button) -> u32 {
     match button {
         Button::Go(_, _) => 60,
         Button::Standby(_) => 40,
@@ -122,7 +100,12 @@ impl Desk {
     ) -> Result<Desk, Fail> {
         let house = House::new(rt, alloc, seed, weather)?;
         let other = house.copied(0)?;
-        Ok(Desk {
+        Ok(Desk::of(alloc, house, other))
+    }
+
+    // The desk of the house, before it has heard anything.
+    fn of(alloc: Global, house: House, other: Copied) -> Desk {
+        Desk {
             house,
             station: Station::new(alloc),
             record: Record::new(alloc),
@@ -136,6 +119,20 @@ impl Desk {
             other_until: 0,
             unread_until: 0,
             stamp: 0,
+        }
+    }
+
+    // The station hears this, and the turn is put behind the others.
+    fn step(&mut self, alloc: Global, heard: Heard) -> Result<(), AllocError> {
+        let (at, wall) = (self.house.now, self.house.wall);
+        let again = heard_again(&heard)?;
+        let Step { view, send } = self.station.step(alloc, Input { at, wall, heard })?;
+        self.record.push(Turn {
+            at,
+            wall,
+            heard: again,
+            view,
+            sent: send,
         })
     }
 
@@ -146,21 +143,10 @@ impl Desk {
         alloc: Global,
         heard: Heard,
     ) -> Result<(), Fail> {
-        let (at, wall) = (self.house.now, self.house.wall);
-        let again = heard_again(&heard)?;
         let shown = shown_in(&heard);
-        let Step { view, send } = self.station.step(alloc, Input { at, wall, heard })?;
-        self.record.push(Turn {
-            at,
-            wall,
-            heard: again,
-            view,
-            sent: send,
-        })?;
-        let rule = broken(&self.record);
-        let turn = self.record.turns.len();
-        assert!(rt; rule.is_none(), "{rule:?} is broken in turn {turn} at {at}");
-        match send {
+        self.step(alloc, heard)?;
+        is_lawful(rt, &self.record);
+        match self.record.sent() {
             Some(send) => self.send(alloc, send, shown),
             None => Ok(()),
         }
@@ -169,41 +155,34 @@ impl Desk {
     // A message goes out, from a socket of its own.
     fn send(&mut self, alloc: Global, send: Send, shown: u32) -> Result<(), Fail> {
         let port = ASKS.saturating_add(u16::try_from(self.asks.len())?);
-        let asked = asked_by(send.order);
-        let bytes = message_of(alloc, &asked)?;
-        self.asks.push(Ask {
-            number: send.ask,
-            address: address(alloc, &asked)?,
-        })?;
-        self.house.send(alloc, port, shown, &bytes)?;
-        Ok(())
+        self.asks.push(address(alloc, &asked_by(send.order))?)?;
+        let bytes = message_of(alloc, &asked_by(send.order))?;
+        Ok(self.house.send(alloc, port, shown, &bytes)?)
     }
 
-    // What comes to the sockets: three datagrams at most.
+    // What a datagram says that came to one of the sockets.
+    fn heard_by(&self, alloc: Global, letter: &Letter) -> Result<Option<Heard>, AllocError> {
+        let place = usize::from(letter.port.saturating_sub(ASKS));
+        let (Some(asked), Some(ask)) = (self.asks.get(place), place.checked_sub(self.first)) else {
+            return Ok(None);
+        };
+        if letter.bytes.is_empty() {
+            return Ok(Some(Heard::Nobody(ask as u64)));
+        }
+        Ok(match read_reply(alloc, asked, &letter.bytes)? {
+            Some(replied) => Some(Heard::Replied(ask as u64, replied)),
+            None => None,
+        })
+    }
+
+    /// What comes to the sockets: three datagrams at most.
     pub(crate) fn hear_replies(&mut self, rt: &impl Abort, alloc: Global) -> Result<(), Fail> {
         for _ in 0..3 {
-            let now = self.house.now;
-            let Some(place) = self
-                .house
-                .replies
-                .iter()
-                .position(|letter| letter.due <= now)
-            else {
+            let Some(letter) = take_due(&mut self.house.replies, self.house.now) else {
                 return Ok(());
             };
-            let letter = self.house.replies.remove(place);
-            let ask = usize::from(letter.port.saturating_sub(ASKS));
-            if ask < self.first {
-                continue;
-            }
-            let Some(asked) = self.asks.get(ask) else {
-                continue;
-            };
-            let number = asked.number;
-            if letter.bytes.is_empty() {
-                self.hear(rt, alloc, Heard::Nobody(number))?;
-            } else if let Some(replied) = read_reply(alloc, &asked.address, &letter.bytes)? {
-                self.hear(rt, alloc, Heard::Replied(number, replied))?;
+            if let Some(heard) = self.heard_by(alloc, &letter)? {
+                self.hear(rt, alloc, heard)?;
             }
         }
         Ok(())
@@ -211,7 +190,7 @@ impl Desk {
 
     // A reading begins.
     fn begin_to_read(&mut self) -> Result<(), AllocError> {
-        self.reading_version = self.house.version;
+        self.reading_version = self.house.kept.version;
         let now = self.house.now;
         self.reading = Some(if now < self.other_until {
             let mut copy = copy_again(&self.other)?;
@@ -230,7 +209,7 @@ impl Desk {
         if now < self.unread_until {
             return Ok(Heard::Unread(Trouble::Changing));
         }
-        let version = self.house.version;
+        let version = self.house.kept.version;
         if begun < self.other_until {
             self.read = None;
             return Ok(Heard::Copied(copy));
@@ -252,8 +231,7 @@ impl Desk {
             }
         }
         let Some(copy) = self.reading.take() else {
-            self.begin_to_read()?;
-            return Ok(());
+            return Ok(self.begin_to_read()?);
         };
         if self.house.chance.up_to(30) == 0 {
             self.held = Some(copy);
@@ -274,7 +252,11 @@ impl Desk {
                 }
                 Some(Status {
                     now: self.stamp,
-                    counts: NO_COUNTS,
+                    counts: Counts {
+                        passed: 0,
+                        lost: 0,
+                        dropped: 0,
+                    },
                     devices: Vec::new(alloc),
                 })
             }
@@ -300,12 +282,9 @@ impl Desk {
         let number = turn.view.number;
         for _ in 0..6 {
             let button = *lit.get(self.house.chance.up_to(last) as usize)?;
-            if self.house.chance.up_to(99) < readiness(button) {
-                let never = if self.house.chance.up_to(49) == 0 {
-                    1_000
-                } else {
-                    0
-                };
+            if self.house.chance.up_to(99) < readiness(&button) {
+                let is_never = self.house.chance.up_to(49) == 0;
+                let never = if is_never { 1_000 } else { 0 };
                 return Some((number.saturating_add(never), button));
             }
         }
@@ -335,8 +314,7 @@ impl Desk {
             _ => Asked::OfCue(CueVerb::Standby, cue),
         };
         let bytes = message_of(alloc, &asked)?;
-        self.house.send(alloc, OPERATOR, 0, &bytes)?;
-        Ok(())
+        Ok(self.house.send(alloc, OPERATOR, 0, &bytes)?)
     }
 
     /// The desk is killed, and started again: its sockets are closed, and it knows nothing.

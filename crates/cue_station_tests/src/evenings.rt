@@ -2,12 +2,12 @@
 use crate::desk::Desk;
 use crate::judge::became_of;
 use crate::record::Press;
-use crate::scene::{ASKS, Given, Weather};
-use crate::sights::{WANTED, count};
+use crate::scene::{ASKS, Weather};
+use crate::sights::{ALL, look};
 use cue_station::heard::Heard;
 use cue_view::button::Button;
 use cue_view::view::Became;
-use std::alloc::Global;
+use std::alloc::{AllocError, Global};
 use std::process::Abort;
 use std::test::Fail;
 
@@ -20,14 +20,8 @@ const STEPS: u32 = 130;
 fn befall(rt: &impl Abort, alloc: Global, desk: &mut Desk) -> Result<(), Fail> {
     let now = desk.house.now;
     match desk.house.chance.up_to(1_799) {
-        0..=2 => {
-            let jump = u64::from(desk.house.chance.up_to(12_000));
-            desk.house.wall = desk.house.wall.saturating_add(jump);
-        }
-        3..=5 => {
-            let jump = u64::from(desk.house.chance.up_to(12_000));
-            desk.house.wall = desk.house.wall.saturating_sub(jump);
-        }
+        0..=2 => desk.house.set_clock(true),
+        3..=5 => desk.house.set_clock(false),
         6..=9 => desk.house.stopped_until = now.saturating_add(2_500),
         10..=13 => desk.other_until = now.saturating_add(2_500),
         14..=16 => desk.unread_until = now.saturating_add(2_000),
@@ -43,7 +37,7 @@ fn befall(rt: &impl Abort, alloc: Global, desk: &mut Desk) -> Result<(), Fail> {
     Ok(())
 }
 
-// One step of an evening.
+/// One step of an evening.
 pub(crate) fn step(rt: &impl Abort, alloc: Global, desk: &mut Desk) -> Result<(), Fail> {
     let most = if desk.house.weather.is_slow { 300 } else { 100 };
     let millis = u64::from(desk.house.chance.up_to(most));
@@ -66,15 +60,17 @@ pub(crate) fn step(rt: &impl Abort, alloc: Global, desk: &mut Desk) -> Result<()
     }
 }
 
-// Whether the datagram of the press gave this attempt.
-fn is_of(desk: &Desk, press: Press, given: &Given) -> bool {
+// Whether the datagram of the press gave an attempt.
+fn has_given(desk: &Desk, press: &Press) -> bool {
     let first = desk.first.saturating_add(usize::from(ASKS)) as u64;
-    u64::from(given.by) == first.saturating_add(press.ask)
+    let port = first.saturating_add(press.ask);
+    let mut given = desk.house.kept.given.iter();
+    given.any(|(_, giver)| u64::from(giver.by) == port)
 }
 
 // Whether the attempt was given by somebody.
 fn was_given(desk: &Desk, seq: u32) -> bool {
-    desk.house.given.iter().any(|given| given.seq == seq)
+    desk.house.kept.given.iter().any(|(given, _)| *given == seq)
 }
 
 // What is said of each press of a GO that this desk sent is what happened: where datagrams keep their order and none is
@@ -84,22 +80,16 @@ fn are_said_rightly(rt: &impl Abort, desk: &Desk) {
         let Button::Go(_, seq) = press.button else {
             continue;
         };
-        let became = became_of(&desk.record, *press, desk.record.turns.len());
-        let is_by_it = desk
-            .house
-            .given
-            .iter()
-            .any(|given| is_of(desk, *press, given));
+        let became = became_of(&desk.record, press, desk.record.turns.len());
+        let is_by_it = has_given(desk, press);
         let is_so = match became {
             Became::Made => is_by_it,
             Became::Carried => was_given(desk, seq),
             Became::Refused(_) | Became::Lost | Became::Nobody => !is_by_it,
             Became::Known | Became::Open | Became::Unknown => true,
         };
-        assert!(rt;
-            is_so || !desk.house.weather.is_orderly,
-            "{became:?} is said of {seq}"
-        );
+        let is_orderly = desk.house.weather.is_orderly;
+        assert!(rt; is_so || !is_orderly, "{became:?} is said of {seq}");
     }
 }
 
@@ -108,11 +98,13 @@ fn are_said_rightly(rt: &impl Abort, desk: &Desk) {
 fn are_given_as_shown(rt: &impl Abort, desk: &Desk) -> u32 {
     let weather = desk.house.weather;
     let mut count = 0u32;
-    for given in desk.house.given.iter().filter(|given| given.by >= ASKS) {
-        let is_it = given.seq == given.shown;
-        assert!(rt; given.shown > 0 && (is_it || !given.was_live));
-        assert!(rt; is_it || !weather.is_orderly || weather.are_two);
-        count = count.saturating_add(1);
+    for (seq, giver) in &desk.house.kept.given {
+        if giver.by >= ASKS {
+            let is_it = *seq == giver.shown;
+            assert!(rt; giver.shown > 0 && (is_it || !giver.was_live));
+            assert!(rt; is_it || !weather.is_orderly || weather.are_two);
+            count = count.saturating_add(1);
+        }
     }
     for seq in &desk.house.moved {
         assert!(rt; was_given(desk, *seq), "attempt {seq} moves");
@@ -120,36 +112,50 @@ fn are_given_as_shown(rt: &impl Abort, desk: &Desk) -> u32 {
     count
 }
 
-// An evening of this seed: how many attempts were given by a desk.
-fn play(rt: &impl Abort, alloc: Global, seed: u64, counts: &mut [u32; 24]) -> Result<u32, Fail> {
+// An evening that begins with this seed.
+fn evening(rt: &impl Abort, alloc: Global, seed: u64) -> Result<Desk, Fail> {
     let weather = Weather {
         is_orderly: seed % 2 == 0,
         are_two: seed / 2 % 2 == 0,
         is_full: seed / 4 % 2 == 0,
         is_slow: seed % 3 == 2,
     };
-    let mut desk = Desk::new(rt, alloc, seed, weather)?;
+    Desk::new(rt, alloc, seed, weather)
+}
+
+// Notes what is seen in the turns from the place on.
+fn look_from(seen: &mut Vec<&'static str>, desk: &Desk, place: usize) -> Result<(), AllocError> {
+    for later in place..desk.record.turns.len() {
+        look(seen, &desk.record, later)?;
+    }
+    Ok(())
+}
+
+// Plays an evening: how many attempts were given by a desk.
+fn play(
+    rt: &impl Abort,
+    alloc: Global,
+    desk: &mut Desk,
+    seen: &mut Vec<&'static str>,
+) -> Result<u32, Fail> {
     for _ in 0..STEPS {
         let before = desk.record.turns.len();
-        step(rt, alloc, &mut desk)?;
-        for place in before..desk.record.turns.len() {
-            count(counts, &desk.record, place);
-        }
+        step(rt, alloc, desk)?;
+        look_from(seen, desk, before)?;
     }
-    are_said_rightly(rt, &desk);
-    Ok(are_given_as_shown(rt, &desk))
+    are_said_rightly(rt, desk);
+    Ok(are_given_as_shown(rt, desk))
 }
 
 #[test]
 fn the_law_holds(rt: HostRuntime) -> Result<(), Fail> {
-    let mut counts = [0; 24];
+    let mut seen = Vec::new(rt.alloc());
     let mut given = 0u32;
     for seed in 0..EVENINGS {
-        given = given.saturating_add(play(&rt, rt.alloc(), seed, &mut counts)?);
+        let mut desk = evening(&rt, rt.alloc(), seed)?;
+        given = given.saturating_add(play(&rt, rt.alloc(), &mut desk, &mut seen)?);
     }
     assert!(rt; given > 9, "{given} were given");
-    for (count, name) in counts.iter().zip(WANTED) {
-        assert!(rt; *count > 0, "it never came up that {name}");
-    }
+    assert!(rt; seen.len() == ALL, "only this came up: {seen:?}");
     Ok(())
 }

@@ -1,13 +1,13 @@
 //! The controller with its disks, its devices, and the network between it and the desk.
-use crate::scene::{ASKS, Given, Letter, OPERATOR, SHOW, SPARE, Weather};
-use cue_copies::{Found, read};
+use crate::scene::{
+    ASKS, Giver, Letter, NOBODY, OPERATOR, SHOW, SPARE, Weather, devices, formed, found,
+};
 use cue_core::{Event, State};
 use cue_device::{Answer, Device, MAX_ANSWER, Order, command};
 use cue_disk::MemDisk;
 use cue_engine::{Engine, Input, MemWire};
 use cue_keeper::MAX_RECORDS;
 use cue_rehearsal::Chance;
-use cue_show::DeviceNo;
 use cue_station::heard::Copied;
 use std::alloc::{AllocError, Global};
 use std::process::Abort;
@@ -23,83 +23,42 @@ pub(crate) struct House {
     engine: Option<Engine<MemDisk>>,
     disks: Option<(MemDisk, MemDisk)>,
     /// What the files stand for while no controller runs.
-    kept: State,
+    state: State,
     /// Until then the controller is stopped: what comes waits for it.
     pub(crate) stopped_until: u64,
+    pub(crate) kept: Kept,
+    letters: Vec<Letter>,
+    pub(crate) replies: Vec<Letter>,
+    devices: Vec<Device>,
+    /// The attempts of which a device was ordered to move.
+    pub(crate) moved: Vec<u32>,
+}
+
+/// What was kept in the store.
+#[derive(Drop)]
+pub(crate) struct Kept {
     /// How often the store changed.
     pub(crate) version: u64,
     /// The events since the snapshot, and in how many records.
     events: Vec<Event>,
     records: u64,
-    letters: Vec<Letter>,
-    pub(crate) replies: Vec<Letter>,
-    devices: Vec<Device>,
-    pub(crate) given: Vec<Given>,
-    /// The attempts of which a device was ordered to move.
-    pub(crate) moved: Vec<u32>,
+    /// The attempts that were given, and by whom.
+    pub(crate) given: Vec<(u32, Giver)>,
 }
 
-// An engine over an empty store.
-fn formed(alloc: Global) -> Result<Engine<MemDisk>, Fail> {
-    match Engine::form(alloc, MemDisk::new(alloc), MemDisk::new(alloc)) {
-        Ok(engine) => Ok(engine),
-        Err((fault, _, _)) => Err(fault.into()),
-    }
-}
-
-// The devices, each with its machine at rest.
-fn devices(rt: &impl Abort, alloc: Global) -> Result<Vec<Device>, AllocError> {
-    let mut devices = Vec::new(alloc);
-    for number in 1..=4u8 {
-        let number = DeviceNo::of_byte(number).expect(rt, "it is a device number");
-        devices.push(Device::new(number, 0))?;
-    }
-    Ok(devices)
-}
-
-impl House {
-    /// A house with the show, and maybe with many records.
-    pub(crate) fn new(
-        rt: &impl Abort,
-        alloc: Global,
-        seed: u64,
-        weather: Weather,
-    ) -> Result<House, Fail> {
-        let mut house = House {
-            chance: Chance::new(seed),
-            weather,
-            now: 5_000,
-            wall: 1_000_000,
-            engine: Some(formed(alloc)?),
-            disks: None,
-            kept: State::empty(alloc),
-            stopped_until: 0,
+impl Kept {
+    fn new(alloc: Global) -> Kept {
+        Kept {
             version: 0,
             events: Vec::new(alloc),
             records: 0,
-            letters: Vec::new(alloc),
-            replies: Vec::new(alloc),
-            devices: devices(rt, alloc)?,
             given: Vec::new(alloc),
-            moved: Vec::new(alloc),
-        };
-        for bytes in SHOW {
-            house.hear(alloc, OPERATOR, 0, bytes)?;
         }
-        let moves = if weather.is_full { 242 } else { 0 };
-        for turn in 0..moves {
-            house.hear(alloc, OPERATOR, 0, SPARE[turn % 2])?;
-        }
-        Ok(house)
     }
 
-    /// Whether a controller runs.
-    pub(crate) fn runs(&self) -> bool {
-        self.engine.is_some()
-    }
-
-    // Keeps the events of the batch that was accepted. A full area is turned over before: the snapshot has its events.
-    fn keep(&mut self, batch: &[Event]) -> Result<(), AllocError> {
+    // Keeps the events of the batch that was accepted, and who gave which attempt. A full area is turned over before:
+    // the snapshot has its events.
+    fn keep(&mut self, batch: &[Event], giver: Giver) -> Result<(), AllocError> {
         if batch.is_empty() {
             return Ok(());
         }
@@ -110,49 +69,116 @@ impl House {
         self.records = self.records.saturating_add(1);
         self.version = self.version.saturating_add(1);
         for event in batch {
+            if let Event::Go(seq) = event {
+                self.given.push((*seq, giver))?;
+            }
             self.events.push(event.clone()?)?;
         }
         Ok(())
     }
+}
 
-    // Notes who gave which attempt.
-    fn note(
-        &mut self,
-        batch: &[Event],
-        by: u16,
-        shown: u32,
-        was_live: bool,
-    ) -> Result<(), AllocError> {
-        for event in batch {
-            if let Event::Go(seq) = event {
-                self.given.push(Given {
-                    seq: *seq,
-                    by,
-                    shown,
-                    was_live,
-                })?;
-            }
+// The engine takes an input, and hands out what it owes.
+fn take_in(
+    alloc: Global,
+    engine: &mut Engine<MemDisk>,
+    kept: &mut Kept,
+    wall: u64,
+    input: Input<'_>,
+    giver: Giver,
+) -> Result<MemWire, Fail> {
+    let was_live = engine.state().live().of_seq(giver.shown).is_some();
+    engine.take(wall, input)?;
+    kept.keep(engine.last_batch(), Giver { was_live, ..giver })?;
+    let mut wire = MemWire::new(alloc);
+    let _refused = engine.hand_out(&mut wire);
+    Ok(wire)
+}
+
+/// Takes the first datagram that is due.
+pub(crate) fn take_due(letters: &mut Vec<Letter>, now: u64) -> Option<Letter> {
+    let place = letters.iter().position(|letter| letter.due <= now)?;
+    Some(letters.remove(place))
+}
+
+impl House {
+    // A house with nothing in it.
+    fn empty(alloc: Global, seed: u64, weather: Weather) -> House {
+        House {
+            chance: Chance::new(seed),
+            weather,
+            now: 5_000,
+            wall: 1_000_000,
+            engine: None,
+            disks: None,
+            state: State::empty(alloc),
+            stopped_until: 0,
+            kept: Kept::new(alloc),
+            letters: Vec::new(alloc),
+            replies: Vec::new(alloc),
+            devices: Vec::new(alloc),
+            moved: Vec::new(alloc),
+        }
+    }
+
+    /// A house with the show, and maybe with many records.
+    pub(crate) fn new(
+        rt: &impl Abort,
+        alloc: Global,
+        seed: u64,
+        weather: Weather,
+    ) -> Result<House, Fail> {
+        let mut house = House::empty(alloc, seed, weather);
+        house.fill(rt, alloc)?;
+        Ok(house)
+    }
+
+    // Controller, devices and show come, and maybe many records.
+    fn fill(&mut self, rt: &impl Abort, alloc: Global) -> Result<(), Fail> {
+        self.engine = Some(formed(alloc)?);
+        self.devices = devices(rt, alloc)?;
+        self.hear_all(alloc, &SHOW)?;
+        let moves = if self.weather.is_full { 121 } else { 0 };
+        for _ in 0..moves {
+            self.hear_all(alloc, &SPARE)?;
         }
         Ok(())
     }
 
-    // The controller takes an input, and hands out what it owes.
-    fn take(&mut self, alloc: Global, input: Input<'_>, by: u16, shown: u32) -> Result<(), Fail> {
-        let Some(mut engine) = self.engine.take() else {
-            return Ok(());
+    fn hear_all(&mut self, alloc: Global, datagrams: &[&[u8]]) -> Result<(), Fail> {
+        for bytes in datagrams {
+            self.hear(alloc, OPERATOR, 0, bytes)?;
+        }
+        Ok(())
+    }
+
+    /// The clock of the wall is put on or back.
+    pub(crate) fn set_clock(&mut self, is_on: bool) {
+        let jump = u64::from(self.chance.up_to(12_000));
+        self.wall = if is_on {
+            self.wall.saturating_add(jump)
+        } else {
+            self.wall.saturating_sub(jump)
         };
-        let was_live = engine.state().live().of_seq(shown).is_some();
-        engine.take(self.wall, input)?;
-        let mut wire = MemWire::new(alloc);
-        let _refused = engine.hand_out(&mut wire);
-        self.note(engine.last_batch(), by, shown, was_live)?;
-        self.keep(engine.last_batch())?;
-        self.engine = Some(engine);
+    }
+
+    // The controller takes an input, and hands out what it owes.
+    fn take(&mut self, alloc: Global, input: Input<'_>, giver: Giver) -> Result<(), Fail> {
+        let wall = self.wall;
+        let wire = match &mut self.engine {
+            Some(engine) => take_in(alloc, engine, &mut self.kept, wall, input, giver)?,
+            None => return Ok(()),
+        };
         self.hand_over(alloc, &wire)
     }
 
     fn hear(&mut self, alloc: Global, from: u16, shown: u32, bytes: &[u8]) -> Result<(), Fail> {
-        self.take(alloc, Input::Datagram { from, bytes }, from, shown)
+        let giver = Giver {
+            by: from,
+            shown,
+            was_live: false,
+        };
+        self.take(alloc, Input::Datagram { from, bytes }, giver)
     }
 
     // What the controller sent goes to its devices, and to the desk.
@@ -285,12 +311,10 @@ impl House {
 
     // The next datagram that is due comes to the controller. Where none runs a reply without bytes says so.
     fn deliver(&mut self, alloc: Global) -> Result<bool, Fail> {
-        let now = self.now;
-        let Some(place) = self.letters.iter().position(|letter| letter.due <= now) else {
+        let Some(letter) = take_due(&mut self.letters, self.now) else {
             return Ok(false);
         };
-        let letter = self.letters.remove(place);
-        if self.runs() {
+        if self.engine.is_some() {
             self.hear(alloc, letter.port, letter.shown, &letter.bytes)?;
         } else if letter.port >= ASKS {
             self.reply(alloc, letter.port, &[])?;
@@ -301,12 +325,8 @@ impl House {
     /// Some time passes in the house.
     pub(crate) fn pass(&mut self, alloc: Global, millis: u64) -> Result<(), Fail> {
         self.now = self.now.saturating_add(millis);
-        let wall = if self.weather.is_slow {
-            millis / 2
-        } else {
-            millis
-        };
-        self.wall = self.wall.saturating_add(wall);
+        let pace = if self.weather.is_slow { 2 } else { 1 };
+        self.wall = self.wall.saturating_add(millis / pace);
         self.work(alloc)?;
         self.work(alloc)?;
         if self.now < self.stopped_until {
@@ -318,7 +338,7 @@ impl House {
             }
         }
         if self.chance.up_to(2) == 0 {
-            self.take(alloc, Input::Tick, 0, 0)?;
+            self.take(alloc, Input::Tick, NOBODY)?;
         }
         Ok(())
     }
@@ -331,16 +351,12 @@ impl House {
         let (first, second) = engine.close();
         let mut first = first.crash(0, &[])?;
         let mut second = second.crash(0, &[])?;
-        match read(alloc, &mut first, &mut second, &None) {
-            Found::Whole(_copies, keeper, events) => {
-                assert!(rt;
-                    events.len() == self.events.len(),
-                    "the events are those that were kept"
-                );
-                self.kept = keeper.state().try_clone()?;
-            }
-            _ => return Err("the store is whole".into()),
-        }
+        let (state, events) = found(alloc, &mut first, &mut second)?;
+        assert!(rt;
+            events == self.kept.events.len(),
+            "they are those that were kept"
+        );
+        self.state = state;
         self.disks = Some((first, second));
         self.stopped_until = 0;
         Ok(())
@@ -353,9 +369,9 @@ impl House {
         };
         match Engine::recover(alloc, first, second) {
             Ok(engine) => {
-                self.keep(engine.last_batch())?;
+                let kept = self.kept.keep(engine.last_batch(), NOBODY);
                 self.engine = Some(engine);
-                Ok(())
+                Ok(kept?)
             }
             Err((fault, _, _)) => Err(fault.into()),
         }
@@ -365,12 +381,12 @@ impl House {
     pub(crate) fn copied(&self, begun: u64) -> Result<Copied, AllocError> {
         let state = match &self.engine {
             Some(engine) => engine.state().try_clone()?,
-            None => self.kept.try_clone()?,
+            None => self.state.try_clone()?,
         };
         Ok(Copied {
             begun,
             state,
-            events: self.events.clone()?,
+            events: self.kept.events.clone()?,
         })
     }
 }

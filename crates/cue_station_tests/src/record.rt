@@ -7,6 +7,11 @@ use cue_view::button::Button;
 use cue_view::view::{Became, View};
 use std::alloc::{AllocError, Global};
 
+/// How many of the newest views a press may name, and how old such a view may be, in milliseconds.
+const VIEWS: usize = 128;
+
+const VIEW: u64 = 1_000;
+
 /// What came at a moment, the view that was made of it, and the message that was sent for it.
 #[derive(Drop)]
 pub(crate) struct Turn {
@@ -28,7 +33,7 @@ pub(crate) struct Newest {
 #[derive(Clone, Copy)]
 pub(crate) struct Life {
     pub(crate) asked: u64,
-    pub(crate) came: u64,
+    came: u64,
     pub(crate) status: Status,
 }
 
@@ -54,7 +59,7 @@ const NOTHING: Known = Known {
 #[derive(Clone, Copy)]
 pub(crate) struct Press {
     pub(crate) turn: usize,
-    pub(crate) at: u64,
+    at: u64,
     pub(crate) ask: u64,
     pub(crate) button: Button,
 }
@@ -67,9 +72,9 @@ pub(crate) struct Record {
     pub(crate) presses: Vec<Press>,
 }
 
-/// Whether the message asks for the status.
-pub(crate) fn is_status(order: Order) -> bool {
-    matches!(order, Order::Status)
+/// Whether the moment is at most so long past.
+pub(crate) fn is_within(moment: u64, long: u64, now: u64) -> bool {
+    now <= moment.saturating_add(long)
 }
 
 // An older copy never takes the place of a newer one; files that were found as they were stand for that moment, too.
@@ -89,7 +94,7 @@ fn copy_after(old: Option<Newest>, place: usize, heard: &Heard) -> Option<Newest
 }
 
 // A status counts only at the socket of the newest question for it; and there it is said, too, that nobody listens.
-fn life_after(known: Known, turn: &Turn) -> Option<Life> {
+fn life_after(known: &Known, turn: &Turn) -> Option<Life> {
     match (&turn.heard, known.question) {
         (Heard::Replied(to, Replied::Status(status)), Some((ask, asked))) if *to == ask => {
             Some(Life {
@@ -104,25 +109,29 @@ fn life_after(known: Known, turn: &Turn) -> Option<Life> {
 }
 
 // What is known once a turn came.
-fn known_after(known: Known, place: usize, turn: &Turn) -> Known {
+fn known_after(known: &Known, place: usize, turn: &Turn) -> Known {
     let life = life_after(known, turn);
-    let is_new = life.is_some_and(|life| life.came == turn.at) && known.question.is_some();
-    let asks = turn.sent.is_some_and(|send| is_status(send.order));
+    let came = match &life {
+        Some(life) => life.came == turn.at,
+        None => false,
+    };
+    let (question, is_answered) = match turn.sent {
+        Some(send) if turn.order().is_none() => (Some((send.ask, turn.at)), false),
+        _ => (known.question, known.is_answered || came),
+    };
     Known {
         copy: copy_after(known.copy, place, &turn.heard),
-        question: match turn.sent {
-            Some(send) if asks => Some((send.ask, turn.at)),
-            _ => known.question,
-        },
-        is_answered: !asks && (known.is_answered || is_new),
+        question,
+        is_answered,
         life,
     }
 }
 
 // The press that was sent in the turn.
 fn press_in(place: usize, turn: &Turn) -> Option<Press> {
+    let _order = turn.order()?;
     match (&turn.heard, turn.sent) {
-        (Heard::Pressed(_, button), Some(send)) if !is_status(send.order) => Some(Press {
+        (Heard::Pressed(_, button), Some(send)) => Some(Press {
             turn: place,
             at: turn.at,
             ask: send.ask,
@@ -134,25 +143,33 @@ fn press_in(place: usize, turn: &Turn) -> Option<Press> {
 
 // What came to the socket of the ask: a reply of which exactly one number is 1, or that nobody listens.
 fn word_to(ask: u64, heard: &Heard) -> Option<Became> {
-    let Heard::Replied(to, replied) = heard else {
-        return match heard {
-            Heard::Nobody(to) if *to == ask => Some(Became::Nobody),
-            _ => None,
-        };
-    };
-    match replied {
-        Replied::Reply {
-            made,
-            known,
-            refused,
-            code,
-        } if *to == ask => match (*made, *known, *refused) {
+    match heard {
+        Heard::Nobody(to) if *to == ask => Some(Became::Nobody),
+        Heard::Replied(
+            to,
+            Replied::Reply {
+                made,
+                known,
+                refused,
+                code,
+            },
+        ) if *to == ask => match (*made, *known, *refused) {
             (1, 0, 0) => Some(Became::Made),
             (0, 1, 0) => Some(Became::Known),
             (0, 0, 1) => Some(Became::Refused(*code)),
             _ => None,
         },
         _ => None,
+    }
+}
+
+impl Turn {
+    /// The message that was sent in it, other than a question for the status.
+    pub(crate) fn order(&self) -> Option<Order> {
+        match self.sent?.order {
+            Order::Status => None,
+            order => Some(order),
+        }
     }
 }
 
@@ -169,12 +186,16 @@ impl Record {
     pub(crate) fn push(&mut self, turn: Turn) -> Result<(), AllocError> {
         let place = self.turns.len();
         let before = self.known(place).copied().unwrap_or(NOTHING);
-        let known = known_after(before, place, &turn);
-        self.known.push(known)?;
+        self.known.push(known_after(&before, place, &turn))?;
         if let Some(press) = press_in(place, &turn) {
             self.presses.push(press)?;
         }
         Ok(self.turns.push(turn)?)
+    }
+
+    /// What the newest turn sent.
+    pub(crate) fn sent(&self) -> Option<Send> {
+        self.turns.last()?.sent
     }
 
     // What was known after so many turns.
@@ -193,6 +214,12 @@ impl Record {
             Some(turns) => turns,
             None => &[],
         }
+    }
+
+    /// The turn of the young view with this number, of the newest ones of so many.
+    pub(crate) fn offer(&self, count: usize, at: u64, view: u64) -> Option<&Turn> {
+        let kept = self.from(count.saturating_sub(VIEWS), count);
+        kept.iter().find(|turn| turn.view.number == view && is_within(turn.view.at, VIEW, at))
     }
 
     /// The status that was answered last, after so many turns.
@@ -235,16 +262,13 @@ impl Record {
             if self.live(later, seq).is_none() {
                 return since;
             }
-            since = match self.before(later) {
-                Some(turn) => Some(turn.at),
-                None => since,
-            };
+            since = Some(self.before(later)?.at);
         }
         since
     }
 
     /// What came to the socket of the press, and when: the first that did.
-    pub(crate) fn answer(&self, press: Press, count: usize) -> Option<(u64, Became)> {
+    pub(crate) fn answer(&self, press: &Press, count: usize) -> Option<(u64, Became)> {
         for turn in self.from(press.turn.saturating_add(1), count) {
             if let Some(became) = word_to(press.ask, &turn.heard) {
                 return Some((turn.at, became));
@@ -254,7 +278,7 @@ impl Record {
     }
 
     // After so many turns the newest copy was begun after a status came that was asked after the press.
-    fn is_settled(&self, press: Press, count: usize) -> bool {
+    fn is_settled(&self, press: &Press, count: usize) -> bool {
         match (self.life(count), self.newest(count)) {
             (Some(life), Some(copy)) => press.at < life.asked && life.came <= copy.moment,
             _ => false,
@@ -262,7 +286,7 @@ impl Record {
     }
 
     /// The first copy that settles the press.
-    pub(crate) fn settling(&self, press: Press, count: usize) -> Option<&Copied> {
+    pub(crate) fn settling(&self, press: &Press, count: usize) -> Option<&Copied> {
         for later in press.turn.saturating_add(2)..count.saturating_add(1) {
             if self.is_settled(press, later) {
                 return self.copy(later);
@@ -272,7 +296,7 @@ impl Record {
     }
 
     /// The press has neither an answer with a copy that was begun after it, nor a copy that settles it.
-    pub(crate) fn is_open(&self, press: Press, count: usize) -> bool {
+    pub(crate) fn is_open(&self, press: &Press, count: usize) -> bool {
         let is_read = match (self.answer(press, count), self.newest(count)) {
             (Some((came, _)), Some(copy)) => came <= copy.moment,
             _ => false,
@@ -281,20 +305,12 @@ impl Record {
     }
 
     /// Whether a press is open after so many turns, or a GO or CANCEL is. A third one is never sent beside two that are
-    /// open: so the newest three are looked at.
+    /// open: so the newest five are looked at.
     pub(crate) fn has_open(&self, count: usize, is_final: bool) -> bool {
-        let newest = self
-            .presses
-            .iter()
-            .rev()
-            .filter(|press| press.turn < count)
-            .take(3);
-        for press in newest {
+        let newest = self.presses.len().saturating_sub(5);
+        self.presses.iter().skip(newest).any(|press| {
             let is_one = matches!(press.button, Button::Go(_, _) | Button::Cancel(_, _));
-            if (is_one || !is_final) && self.is_open(*press, count) {
-                return true;
-            }
-        }
-        false
+            press.turn < count && (is_one || !is_final) && self.is_open(press, count)
+        })
     }
 }

@@ -1,4 +1,13 @@
-//! What an evening is made of: the show, datagrams on their way, and what was given.
+//! What an evening is made of: the show, devices and disks, datagrams on their way, and what was given.
+use cue_copies::{Found, read};
+use cue_core::State;
+use cue_device::Device;
+use cue_disk::MemDisk;
+use cue_engine::Engine;
+use cue_show::DeviceNo;
+use std::alloc::{AllocError, Global};
+use std::process::Abort;
+use std::test::Fail;
 
 /// The second operator's port. Those of the devices are 9001 to 9004, and from `ASKS` on each ask has its own.
 pub(crate) const OPERATOR: u16 = 8000;
@@ -32,14 +41,20 @@ pub(crate) struct Letter {
     pub(crate) bytes: Vec<u8>,
 }
 
-/// An attempt that was given, by whose datagram, and for which attempt its button was lit: whether that was live then.
+/// Whose datagram gave an attempt, and for which attempt its button was lit: whether that was live then.
 #[derive(Clone, Copy)]
-pub(crate) struct Given {
-    pub(crate) seq: u32,
+pub(crate) struct Giver {
     pub(crate) by: u16,
     pub(crate) shown: u32,
     pub(crate) was_live: bool,
 }
+
+/// No datagram.
+pub(crate) const NOBODY: Giver = Giver {
+    by: 0,
+    shown: 0,
+    was_live: false,
+};
 
 /// How the evening is.
 #[derive(Clone, Copy)]
@@ -52,4 +67,34 @@ pub(crate) struct Weather {
     pub(crate) is_full: bool,
     /// Buttons are pressed rarely, and the clock of the wall goes slowly.
     pub(crate) is_slow: bool,
+}
+
+/// An engine over an empty store.
+pub(crate) fn formed(alloc: Global) -> Result<Engine<MemDisk>, Fail> {
+    match Engine::form(alloc, MemDisk::new(alloc), MemDisk::new(alloc)) {
+        Ok(engine) => Ok(engine),
+        Err((fault, _, _)) => Err(fault.into()),
+    }
+}
+
+/// The devices, each with its machine at rest.
+pub(crate) fn devices(rt: &impl Abort, alloc: Global) -> Result<Vec<Device>, AllocError> {
+    let mut devices = Vec::new(alloc);
+    for number in 1..=4u8 {
+        let number = DeviceNo::of_byte(number).expect(rt, "it is a device number");
+        devices.push(Device::new(number, 0))?;
+    }
+    Ok(devices)
+}
+
+/// What both disks stand for, and how many events they have.
+pub(crate) fn found(
+    alloc: Global,
+    first: &mut MemDisk,
+    second: &mut MemDisk,
+) -> Result<(State, usize), Fail> {
+    match read(alloc, first, second, &None) {
+        Found::Whole(_copies, keeper, events) => Ok((keeper.state().try_clone()?, events.len())),
+        _ => Err("the store is whole".into()),
+    }
 }

@@ -1,53 +1,55 @@
-//! How attempts ended, by the events of a copy.
+//! How attempts went, by the events of a copy.
 use cue_core::Event;
 use cue_exchange::{Outcome, Reason};
-use cue_show::{CueNo, DeviceNo};
+use cue_show::CueNo;
 use cue_station::heard::Copied;
 use cue_view::view::{Told, View};
 
-// What the event says of the attempt: its cue, why it was given up, who failed, who was excused.
-#[derive(Clone, Copy, PartialEq, Eq)]
-enum Word {
-    Start(CueNo),
-    Cancel(Reason),
-    Failed(DeviceNo),
-    Excused(DeviceNo),
-    Other,
+/// What the events say of an attempt: its cue, whether it was given, why it was given up, and whether a device failed.
+#[derive(Clone, Copy)]
+pub(crate) struct Story {
+    pub(crate) cue: Option<CueNo>,
+    pub(crate) is_given: bool,
+    pub(crate) reason: Option<Reason>,
+    has_failed: bool,
 }
 
-fn word_of(seq: u32, event: &Event) -> Word {
+// What is known of the attempt once the event came.
+fn told_by(event: &Event, seq: u32, story: Story) -> Story {
+    let mut next = story;
     match event {
-        Event::Start(of, cue, _) if *of == seq => Word::Start(*cue),
-        Event::Cancel(of, reason) if *of == seq => Word::Cancel(*reason),
-        Event::Failed(of, device) if *of == seq => Word::Failed(*device),
-        Event::Excuse(of, device) if *of == seq => Word::Excused(*device),
-        _ => Word::Other,
+        Event::Start(of, cue, _) if *of == seq => next.cue = story.cue.or(Some(*cue)),
+        Event::Go(of) if *of == seq => next.is_given = true,
+        Event::Cancel(of, why) if *of == seq => next.reason = story.reason.or(Some(*why)),
+        Event::Failed(of, _) if *of == seq => next.has_failed = true,
+        _ => {}
     }
+    next
 }
 
-// The cue and the reason that the events have for the attempt.
-fn cue_and_reason(seq: u32, events: &[Event]) -> (Option<CueNo>, Option<Reason>) {
-    let mut cue = None;
-    let mut reason = None;
+/// What the events say of the attempt.
+pub(crate) fn story_of(seq: u32, events: &[Event]) -> Story {
+    let mut story = Story {
+        cue: None,
+        is_given: false,
+        reason: None,
+        has_failed: false,
+    };
     for event in events {
-        match word_of(seq, event) {
-            Word::Start(of) if cue.is_none() => cue = Some(of),
-            Word::Cancel(why) if reason.is_none() => reason = Some(why),
-            _ => {}
-        }
+        story = told_by(event, seq, story);
     }
-    (cue, reason)
+    story
 }
 
 // Failed and excused devices of the attempt are these, in order.
-fn are_devices_so(seq: u32, events: &[Event], told: &Told) -> bool {
+fn are_devices_so(told: &Told, events: &[Event]) -> bool {
     let mut failed = told.failed.as_slice().iter();
     let mut excused = told.excused.as_slice().iter();
     for event in events {
-        let is_so = match word_of(seq, event) {
-            Word::Failed(device) => failed.next().copied() == Some(device),
-            Word::Excused(device) => excused.next().copied() == Some(device),
-            Word::Start(_) | Word::Cancel(_) | Word::Other => true,
+        let is_so = match event {
+            Event::Failed(of, device) if *of == told.seq => failed.next() == Some(device),
+            Event::Excuse(of, device) if *of == told.seq => excused.next() == Some(device),
+            _ => true,
         };
         if !is_so {
             return false;
@@ -56,28 +58,16 @@ fn are_devices_so(seq: u32, events: &[Event], told: &Told) -> bool {
     failed.next().is_none() && excused.next().is_none()
 }
 
-// How it ended, where its start is among the events: given up, or without a device, or whole.
-fn outcome_of(seq: u32, events: &[Event]) -> Outcome {
-    let words = [
-        events
-            .iter()
-            .any(|event| matches!(word_of(seq, event), Word::Cancel(_))),
-        events
-            .iter()
-            .any(|event| matches!(word_of(seq, event), Word::Failed(_))),
-    ];
-    match words {
-        [true, _] => Outcome::Cancelled,
-        [false, true] => Outcome::Failed,
-        [false, false] => Outcome::Complete,
-    }
-}
-
-// What is told is what the events have.
+// What is told is what the events have; and where its start is among them, how it ended follows from them.
 fn is_told_so(told: &Told, events: &[Event]) -> bool {
-    let (cue, reason) = cue_and_reason(told.seq, events);
-    let is_whole = cue.is_none() || told.outcome == outcome_of(told.seq, events);
-    is_whole && told.cue == cue && told.reason == reason && are_devices_so(told.seq, events, told)
+    let story = story_of(told.seq, events);
+    let outcome = match story.reason {
+        Some(_) => Outcome::Cancelled,
+        None if story.has_failed => Outcome::Failed,
+        None => Outcome::Complete,
+    };
+    let is_whole = story.cue.is_none() || told.outcome == outcome;
+    is_whole && told.cue == story.cue && told.reason == story.reason && are_devices_so(told, events)
 }
 
 /// LAST is the attempt of the state that ended last, as the events tell of it.

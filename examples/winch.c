@@ -4,7 +4,8 @@
  *     winch NUMBER PORT KEPT [PREPARE MOVE [LET_GO]]
  *
  * NUMBER is 0 to 111, PORT is its port on 127.0.0.1. In the file KEPT it keeps the highest number that it has heard of,
- * and where that came from: remove it for a new show. PREPARE, MOVE and LET_GO say how long its motor takes, in milliseconds.
+ * and where that came from: remove it for a new show. PREPARE, MOVE and LET_GO say how many milliseconds its motor
+ * takes. It hears each sender, as tools/try-device needs it: a device of a show calls cue_hear_only (14a).
  *
  * On SIGUSR1 the motor finds that it cannot go on. */
 #include "cue_device.h"
@@ -73,8 +74,8 @@ static void open_kept(const char *path)
     errno = EINVAL; /* where the file has something else */
     ssize_t length = pread(kept.file, line, LINE, 0);
     if (length == 0)
-        return keep(0, kept.from);
-    if (length != LINE || sscanf(line, "%10u %8x %6x", &number, &address, &port) != 3)
+        keep(0, kept.from);
+    else if (length != LINE || sscanf(line, "%10u %8x %6x", &number, &address, &port) != 3)
         end(path);
     kept.number = number;
     kept.from = cue_place_of(address, (uint16_t)port);
@@ -111,9 +112,9 @@ static void look_at_motor(struct cue_device *device, struct cue_answer *answer)
     uint32_t order = motor.order;
     answer->length = 0;
     if (fault) {
-        fault = 0;
         motor.order = CUE_NO_ORDER;
-        cue_cannot(device, answer);
+        if (cue_cannot(device, answer) != CUE_BAD_CALL)
+            fault = 0; /* else it stays, and the next CUE_PREPARE is answered with abort */
     } else if (order != CUE_NO_ORDER && now() >= motor.due) {
         motor.order = CUE_NO_ORDER;
         if (order == CUE_PREPARE)

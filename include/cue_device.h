@@ -9,7 +9,7 @@
  * One `struct cue_device` is one device. Give it to one call at a time: if an interrupt reports of the motor, let it
  * set a flag, and report from your loop. Each call answers a null pointer and a struct that is no device with
  * CUE_BAD_CALL, and then changes nothing and has nothing to send. A struct is no device if neither cue_new nor
- * cue_restarted of this header made it, or if one of its numbers is out of its range.
+ * cue_restarted of this header made it, or if one of its numbers but `last` and `doing_number` is out of its range.
  *
  * Never keep the struct itself over a restart: a copy from before a motion would move again. Keep `device.last` and
  * `device.controller`, and hand them to cue_restarted. */
@@ -27,7 +27,7 @@ extern "C" {
 enum cue_order {
     CUE_NO_ORDER = 0, /* the machine has nothing new to do */
     CUE_PREPARE = 1,  /* prepare for the cue in `device.cue` with `device.bytes`; then call cue_prepared. Give up first
-                         what you still hold for an earlier number */
+                         what you still hold for an earlier number. CUE_GIVE_UP may come meanwhile, in its place */
     CUE_MOVE = 2,     /* carry out what you prepared; then call cue_moved */
     CUE_GIVE_UP = 3,  /* stop preparing, or let go of what you prepared; then call cue_gave_up */
     CUE_BAD_CALL = 4  /* a null pointer, a number out of range, a struct that is no device, or a report that is not the
@@ -147,19 +147,20 @@ static inline uint32_t cue_restarted(struct cue_device *device, uint32_t number,
     return made == CUE_BAD_CALL ? cue_bad_call(answer) : cue_device_tick(device, answer);
 }
 
-/* Names the one sender whose datagrams the device hears from now on; no place: it hears each sender. Call it after
- * cue_new or cue_restarted, if you know the address and port of the controller or the relay. A number that a stranger
- * makes up could else keep the device from each later cue. Gives CUE_NO_ORDER. */
+/* Names the one sender whose datagrams the device hears from now on, by its address and port; no place: it hears each
+ * sender. Call it after cue_new or cue_restarted, if you know the controller's or the relay's: docs/DEVICES.md, 14a. A
+ * number that a stranger makes up could else keep the device from each later cue. Gives CUE_NO_ORDER. */
 static inline uint32_t cue_hear_only(struct cue_device *device, const struct cue_place *sender)
 {
     return device == NULL || sender == NULL ? (uint32_t)CUE_BAD_CALL : cue_device_hear_only(device, sender);
 }
 
 /* A datagram of `length` bytes has come from there: call it for each one, also while the machine works. Gives what the
- * machine is to do now, for the attempt `device.last`. If that number or `device.controller` is a new one, write both
- * where they survive a restart before you carry the order out or send the answer. What is no order for this device has
- * CUE_NO_ORDER and no answer, and changes nothing; so has a datagram of a sender that is not heard. A /reply to an
- * abort ends its copies. */
+ * machine is to do now, for the attempt `device.last`. If that number or `device.controller` is not what you have
+ * stored (compare with that, not with the call before), write both where they survive a loss of power, before you carry
+ * the order out or send the answer. If you cannot, do neither, and stop or reset: the struct has gone on without you.
+ * What is no order for this device has CUE_NO_ORDER and no answer, and changes nothing; so has a datagram of a sender
+ * that is not heard. A /reply to an abort ends its copies. */
 static inline uint32_t cue_hear(struct cue_device *device, const struct cue_place *from, const uint8_t *datagram,
                                 size_t length, struct cue_answer *answer)
 {
@@ -168,20 +169,24 @@ static inline uint32_t cue_hear(struct cue_device *device, const struct cue_plac
     return cue_device_hear(device, from, datagram == NULL ? (const uint8_t *)"" : datagram, length, answer);
 }
 
-/* The machine has prepared: call it once for each CUE_PREPARE, when it is done. The answer is standing_by; there is
- * none if the attempt has gone on meanwhile. Gives CUE_NO_ORDER, or CUE_BAD_CALL if `device.doing` is another order. */
+/* The machine has prepared: call it when the CUE_PREPARE in `device.doing` is done. If CUE_GIVE_UP came meanwhile, that
+ * has taken its place, and you report that alone. The answer is standing_by; there is none if the attempt has failed or
+ * a higher number came meanwhile. Gives CUE_NO_ORDER, or CUE_BAD_CALL if `device.doing` is another order. */
 static inline uint32_t cue_prepared(struct cue_device *device, struct cue_answer *answer)
 {
     return device == NULL || answer == NULL ? cue_bad_call(answer) : cue_device_prepared(device, answer);
 }
 
-/* The machine has carried the cue out: call it once for each CUE_MOVE, when it is at rest. The answer is complete. */
+/* The machine has carried the cue out: call it once for each CUE_MOVE, when it is at rest. The answer is complete;
+ * there is none if the attempt has failed or a higher number came meanwhile. Gives what cue_prepared gives. */
 static inline uint32_t cue_moved(struct cue_device *device, struct cue_answer *answer)
 {
     return device == NULL || answer == NULL ? cue_bad_call(answer) : cue_device_moved(device, answer);
 }
 
-/* The machine has given up what it prepared: call it once for each CUE_GIVE_UP. The answer is cancelled. */
+/* The machine has given up what it prepared, or was preparing: call it once for each CUE_GIVE_UP. The answer is
+ * cancelled; there is none if the attempt has failed or a higher number came meanwhile. Gives what cue_prepared
+ * gives. */
 static inline uint32_t cue_gave_up(struct cue_device *device, struct cue_answer *answer)
 {
     return device == NULL || answer == NULL ? cue_bad_call(answer) : cue_device_gave_up(device, answer);

@@ -2,8 +2,9 @@
  *
  *     cc examples/osc/liblo.c -llo -o /tmp/device
  *
- * Tried with Debian's liblo-dev 0.31. lo_send sends from another port, lo_send_from from the one that listens.
- * lo_message_serialise gives the bytes of a message again, for cue_hear. */
+ * Tried with Debian's liblo-dev 0.31. lo_send sends from another port, lo_send_from from the one that listens. Give
+ * cue_hear what recvfrom gives at lo_server_get_socket_fd, and never what lo_message_serialise makes: of a message in a
+ * bundle, or with wrong padding, that would make an order (10c, 10d). */
 #include <lo/lo.h>
 #include <stddef.h>
 

@@ -11,7 +11,7 @@ STATEMENT = re.compile(r"\s*(?:IF (?P<if>.*?) THEN|ELSIF (?P<elsif>.*?) THEN|(?P
                        r"(?P<set>\w+) := (?P<value>.*?);|"
                        r"(?P<return>RETURN);|(?P<call>\w+\(.*?\));)", re.S)
 PHASES = {name: name.upper().replace(" ", "_") for name in ("over", *device_model.ROWS)}
-WORKS = {"": "NOTHING", "prepare": "PREPARE", "move": "MOVE", "give up": "GIVE_UP"}
+WORKS = {"": "NOTHING", "prepare": "PREPARE", "move": "DO_MOVE", "give up": "GIVE_UP"}
 
 
 def expression(text):
@@ -65,16 +65,16 @@ class Plc:
     def begin(self, state):
         """It has come to this state."""
         self.said = []
-        values = {"Last": state.last, "From": state.controller, "Phase": PHASES[state.phase], "Unheard": state.unheard,
-                  "Doing": WORKS[state.doing], "DoingNumber": state.doing_number, "Asked": state.asked,
-                  "IsAsked": state.asked is not None}
+        values = {"Last": state.last, "CameFrom": state.controller, "Phase": PHASES[state.phase],
+                  "Unheard": state.unheard, "Doing": WORKS[state.doing], "DoingNumber": state.doing_number,
+                  "Asked": state.asked, "IsAsked": state.asked is not None}
         self.now |= {name: values[name] for name in self.names}
 
     def happens(self, state, event, *words):
         if event == "hear":
             self.hears(state, *words)
         else:
-            self.now[{"cannot": "Cannot", "tick": "Repeat"}.get(event, "Ended")]()
+            self.now[{"cannot": "Cannot", "tick": "SayAgain"}.get(event, "Ended")]()
 
     def hears(self, state, sender, data):
         order = state.read(data)
@@ -87,7 +87,7 @@ class Plc:
     def is_in(self, state):
         """Whether it is in this state."""
         now = self.now
-        return (now["Last"], now["Phase"], now["Doing"], now["Unheard"], now["From"]) == (
+        return (now["Last"], now["Phase"], now["Doing"], now["Unheard"], now["CameFrom"]) == (
             state.last, PHASES[state.phase], WORKS[state.doing], state.unheard, state.controller) and (
             now["Asked"] if now["IsAsked"] else None) == state.asked and (
             not state.doing or now["DoingNumber"] == state.doing_number)

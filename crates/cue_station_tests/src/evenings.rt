@@ -147,15 +147,30 @@ fn play(
     Ok(are_given_as_shown(rt, desk))
 }
 
+// One evening; how many cues were given.
+fn played(
+    rt: &impl Abort,
+    alloc: Global,
+    seed: u64,
+    seen: &mut Vec<&'static str>,
+) -> Result<u32, Fail> {
+    let mut desk = evening(rt, alloc, seed)?;
+    play(rt, alloc, &mut desk, seen)
+}
+
+// Each situation that is worth seeing came up.
+fn all_came_up(rt: &impl Abort, seen: &Vec<&'static str>) {
+    assert!(rt; seen.len() == ALL, "only this came up: {seen:?}");
+}
+
 #[test]
 fn the_law_holds(rt: HostRuntime) -> Result<(), Fail> {
     let mut seen = Vec::new(rt.alloc());
     let mut given = 0u32;
     for seed in 0..EVENINGS {
-        let mut desk = evening(&rt, rt.alloc(), seed)?;
-        given = given.saturating_add(play(&rt, rt.alloc(), &mut desk, &mut seen)?);
+        given = given.saturating_add(played(&rt, rt.alloc(), seed, &mut seen)?);
     }
     assert!(rt; given > 9, "{given} were given");
-    assert!(rt; seen.len() == ALL, "only this came up: {seen:?}");
+    all_came_up(&rt, &seen);
     Ok(())
 }

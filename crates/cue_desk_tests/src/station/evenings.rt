@@ -7,7 +7,7 @@ use cue_operator::CueVerb;
 use cue_station::heard::{Heard, Input, Send};
 use cue_station::station::{Station, Step};
 use cue_view::button::Button;
-use cue_view::view::{Alarm, Became, Next, Unsent, View};
+use cue_view::view::{Alarm, Next, View};
 use std::alloc::Global;
 use std::process::Abort;
 use std::test::Fail;
@@ -102,48 +102,67 @@ impl Evening {
     }
 }
 
+// A desk that has read the store and knows that it is served.
+fn looked(rt: &impl Abort, alloc: Global) -> Result<Evening, Fail> {
+    let mut evening = Evening::new(rt, alloc)?;
+    let send = evening.hear(alloc, Heard::Tick)?;
+    evening.exchange(rt, alloc, send)?;
+    evening.look(rt, alloc)?;
+    Ok(evening)
+}
+
+// Cue 1 is stood by, and its device is ready.
+fn stand_by(rt: &impl Abort, alloc: Global, evening: &mut Evening) -> Result<(), Fail> {
+    evening.pressed(rt, alloc, Button::Standby(cue(rt, "1")))?;
+    evening
+        .house
+        .answer(rt, alloc, 3, 1, AnswerKind::StandingBy)?;
+    evening.look(rt, alloc)
+}
+
+// Cue 1 is given, and its device has moved.
+fn give(rt: &impl Abort, alloc: Global, evening: &mut Evening) -> Result<(), Fail> {
+    evening.pressed(rt, alloc, Button::Go(cue(rt, "1"), 1))?;
+    evening.house.answer(rt, alloc, 3, 1, AnswerKind::Complete)?;
+    evening.look(rt, alloc)
+}
+
+// The cue that is next, and nothing is wrong.
+fn is_next(rt: &impl Abort, evening: &Evening, number: &str) -> bool {
+    let view = evening.shown(rt);
+    view.alarms.is_empty() && view.next == Next::Cue(cue(rt, number))
+}
+
 #[test]
-fn a_cue_is_stood_by_and_given(rt: HostRuntime) -> Result<(), Fail> {
+fn a_desk_that_has_heard_nothing_says_so(rt: HostRuntime) -> Result<(), Fail> {
     let alloc = rt.alloc();
     let mut evening = Evening::new(&rt, alloc)?;
-    let send = evening.hear(alloc, Heard::Tick)?;
+    evening.hear(alloc, Heard::Tick)?;
     assert!(rt; evening.shown(&rt).next == Next::Unknown);
     assert!(rt;
         evening.shown(&rt).alarms.as_slice() == [Alarm::Silent(None), Alarm::Old(None)].as_slice()
     );
-    evening.exchange(&rt, alloc, send)?;
-    evening.look(&rt, alloc)?;
-    let one = cue(&rt, "1");
-    assert!(rt; evening.shown(&rt).next == Next::Cue(one));
-    assert!(rt; evening.is_lit(&rt, Button::Standby(one)));
-    assert!(rt; evening.shown(&rt).alarms.is_empty());
-    evening.pressed(&rt, alloc, Button::Standby(one))?;
+    Ok(())
+}
+
+#[test]
+fn a_cue_is_stood_by(rt: HostRuntime) -> Result<(), Fail> {
+    let alloc = rt.alloc();
+    let mut evening = looked(&rt, alloc)?;
+    assert!(rt; is_next(&rt, &evening, "1"));
+    stand_by(&rt, alloc, &mut evening)?;
     assert!(rt; evening.shown(&rt).chosen == Some(1));
-    assert!(rt; evening.is_lit(&rt, Button::Cancel(one, 1)));
-    assert!(rt; !evening.is_lit(&rt, Button::Go(one, 1)));
-    evening
-        .house
-        .answer(&rt, alloc, 3, 1, AnswerKind::StandingBy)?;
-    evening.look(&rt, alloc)?;
-    assert!(rt; evening.is_lit(&rt, Button::Go(one, 1)));
-    evening.pressed(&rt, alloc, Button::Go(one, 1))?;
+    assert!(rt; evening.is_lit(&rt, Button::Go(cue(&rt, "1"), 1)));
+    Ok(())
+}
+
+#[test]
+fn a_cue_is_given(rt: HostRuntime) -> Result<(), Fail> {
+    let alloc = rt.alloc();
+    let mut evening = looked(&rt, alloc)?;
+    stand_by(&rt, alloc, &mut evening)?;
+    give(&rt, alloc, &mut evening)?;
     assert!(rt; evening.shown(&rt).chosen.is_none());
-    assert!(rt;
-        evening
-            .shown(&rt)
-            .said
-            .is_some_and(|said| said.became == Became::Made)
-    );
-    evening
-        .house
-        .answer(&rt, alloc, 3, 1, AnswerKind::Complete)?;
-    evening.look(&rt, alloc)?;
-    assert!(rt; evening.shown(&rt).next == Next::Cue(cue(&rt, "2")));
-    let last = evening
-        .shown(&rt)
-        .last
-        .as_ref()
-        .expect(&rt, "a last attempt");
-    assert!(rt; last.seq == 1 && last.cue == Some(one));
+    assert!(rt; is_next(&rt, &evening, "2"));
     Ok(())
 }

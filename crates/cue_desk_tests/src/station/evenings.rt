@@ -7,7 +7,7 @@ use cue_operator::CueVerb;
 use cue_station::heard::{Heard, Input, Send};
 use cue_station::station::{Station, Step};
 use cue_view::button::Button;
-use cue_view::view::{Alarm, Next, View};
+use cue_view::view::{Next, View};
 use std::alloc::Global;
 use std::process::Abort;
 use std::test::Fail;
@@ -131,18 +131,6 @@ fn give(rt: &impl Abort, alloc: Global, evening: &mut Evening) -> Result<(), Fai
 fn is_next(rt: &impl Abort, evening: &Evening, number: &str) -> bool {
     let view = evening.shown(rt);
     view.alarms.is_empty() && view.next == Next::Cue(cue(rt, number))
-}
-
-#[test]
-fn a_desk_that_has_heard_nothing_says_so(rt: HostRuntime) -> Result<(), Fail> {
-    let alloc = rt.alloc();
-    let mut evening = Evening::new(&rt, alloc)?;
-    evening.hear(alloc, Heard::Tick)?;
-    assert!(rt; evening.shown(&rt).next == Next::Unknown);
-    assert!(rt;
-        evening.shown(&rt).alarms.as_slice() == [Alarm::Silent(None), Alarm::Old(None)].as_slice()
-    );
-    Ok(())
 }
 
 #[test]

@@ -1,5 +1,5 @@
-"""The commands of docs/OPERATING.md: its first evening block by block, then every other one; its log; and a copy that is
-put back."""
+"""The commands of docs/OPERATING.md: its first evening block by block, then every other one; its log; and a copy that
+is put back."""
 import re
 import time
 import urllib.request

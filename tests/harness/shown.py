@@ -7,11 +7,13 @@ from pathlib import Path
 ROOT = Path(__file__).resolve().parent.parent.parent
 PAGES = ("README.md", "CONTRIBUTING.md", "CHANGELOG.md", "tests/README.md",
          *(f"docs/{name}.md" for name in ("OPERATING", "NETWORK", "DEVICES", "PROTOCOL", "FORMAT", "PROOF")))
-PROGRAMS = """apt apt-get c++ cat cc chmod chown cp curl export g++ gcc git install journalctl kill ln mkdir mv oscdump
-    oscsend pip python3 rm rt runuser scp sha256sum sleep ss ssh sudo sync systemctl tail tar useradd wg wg-quick""".split()
+PROGRAMS = """apt apt-get c++ cat cc chmod chown cp curl export g++ gcc git install journalctl kill ln mkdir mv
+    oscdump oscsend pip python3 rm rt runuser scp sha256sum sleep ss ssh sudo sync systemctl tail tar
+    useradd wg wg-quick""".split()
 DESK = "load|export|board|web|check|rehearse|relay|standby|go|cancel|goto|release|remove|status"  # words of cuedesk
 LINE = re.compile(rf"\(cd |(?:{'|'.join(map(re.escape, PROGRAMS))}) |(?:\./)?(?:cuectl|cuedesk) "
                   r"|(?:\./|tools/|tests/|examples/|\.ci/|/tmp/)\S")
+BLOCK = re.compile(r"(?<=\n\n)(?:    .*\n+)+")  # what is shown after an empty line
 
 # What is not carried out by tests/runs/examples: a command as a pattern, and what carries it out, or why nothing does.
 ELSEWHERE = (
@@ -78,9 +80,8 @@ def is_inline(span):
 def commands(page):
     """Each command that a page shows."""
     text = (ROOT / page).read_text()
-    found = [line for block in blocks(text) for line in block if LINE.match(line)]
-    prose = re.sub(r"(?m)^    .*$", "", text)
-    spans = [" ".join(span.split()) for span in re.findall(r"`([^`]+)`", prose)]
+    found = [line for piece in BLOCK.findall(text) for block in blocks(piece) for line in block if LINE.match(line)]
+    spans = [" ".join(span.split()) for span in re.findall(r"`([^`]+)`", BLOCK.sub("", text))]
     found += [span if LINE.match(span) or "/" in span.split()[0] else f"cuedesk {span}" for span in spans
               if is_inline(span)]
     return {plain(command) for command in found}

@@ -7,7 +7,7 @@ import urllib.request
 import model
 import serving
 from checking import check
-from shown import blocks, section
+from shown import ROOT, blocks, section
 from typed import until
 
 PAGE = "docs/OPERATING.md"
@@ -33,6 +33,12 @@ TYPED = (
     ("cuedesk export show", 'number = "12.5"'), ("cuedesk board show evening.toml", "NEXT   cue"),
     ("+ cuedesk board show evening.toml --once --log evening.log --rows 50", "LOG    "),
     ("+ export CUEDESK_PORT=9300; cuedesk status", "last attempt"))
+
+# While cue 5 waits for a silent device; before the last one serve is ended.
+REFUSED = (("cuedesk go 5", "refused, code 13: not every device is ready"),
+           ("cuedesk standby 1", "refused, code 11: the cue or a device of it is busy"),
+           ("cuedesk go 2", "refused, code 12: nothing is stood by"),
+           ("cuedesk go 5", "nobody listens at 127.0.0.1:9100: nothing was carried out"))
 
 
 class Evening:
@@ -110,6 +116,17 @@ def page_and_rehearsal(evening):
     check("a cue is stood by", evening.at.types("./cuedesk standby 5") == ("made\n", 0))
     time.sleep(1.5)
     check("and the silent devices do not answer", re.search(r"device 22: waiting", evening.board()))
+    refusals(evening)
+
+
+def refusals(evening):
+    """What the table of the first evening says that a command prints, it prints."""
+    page = (ROOT / PAGE).read_text()
+    for typed, words in REFUSED:
+        if words.startswith("nobody"):
+            evening.windows.pop("serve").close()
+        printed, status = evening.at.types(typed)
+        check(f"{PAGE}: `{words}`", evening.at.with_ports(words) in printed and f"`{words}`" in page and status)
 
 
 def log_of_the_evening(cuectl, work):

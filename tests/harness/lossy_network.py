@@ -52,13 +52,18 @@ class LossyNetwork(threading.Thread):
 
     @staticmethod
     def noted(data):
-        """The address of a datagram, of a reply also what it replies to; of an answer the number of its attempt; and
-        this moment."""
-        address = data[:data.index(b"\0")].decode()
+        """The address of a datagram, and what a reply replies to; else the number of its attempt; and this moment."""
+        address, at = LossyNetwork.text(data, 0)
+        _, at = LossyNetwork.text(data, at)
         if address == "/reply":
-            address += " " + data[16:data.index(b"\0", 16)].decode()
-        number = struct.unpack(">i", data[-4:])[0] if address.startswith("/device/") else None
-        return address, number, time.monotonic()
+            return f"/reply {LossyNetwork.text(data, at)[0]}", None, time.monotonic()
+        return address, struct.unpack_from(">i", data, at)[0], time.monotonic()
+
+    @staticmethod
+    def text(data, at):
+        """An OSC-string, and the place after its zeros."""
+        end = data.index(b"\0", at)
+        return data[at:end].decode(), end + 4 - end % 4
 
     def take(self, wire):
         """The copies that go on of a datagram that came, each with its delay."""
@@ -95,9 +100,9 @@ class LossyNetwork(threading.Thread):
             time.sleep(0.005)
         return holds()
 
-    def brings(self, address, since, seconds):
-        """Waits until a message with this address has come through since then; whether it has."""
-        return self.waits(lambda: self.has_brought(address, since), seconds)
+    def brings(self, address, since, seconds, number=None):
+        """Waits until such a message has come through since then; whether it has."""
+        return self.waits(lambda: self.has_brought(address, since, number), seconds)
 
     def hears(self, address, number, seconds):
         """Waits until the device has sent this answer; whether it has."""

@@ -97,7 +97,8 @@ after_joined s [] = refl
 after_joined s (batch ∷ batches) = after_events-append s batch (joined_list batches)
     ∙ after_joined (after_events s batch) batches
 
-pub joined_append : (first then : List (List Event)) → joined_list (first ++ then) ≡ joined_list first ++ joined_list then
+pub joined_append : (first then : List (List Event))
+    → joined_list (first ++ then) ≡ joined_list first ++ joined_list then
 joined_append [] then = refl
 joined_append (batch ∷ first) then = ap (λ (es : List Event). batch ++ es) (joined_append first then)
     ∙ sym (append_assoc batch (joined_list first) (joined_list then))

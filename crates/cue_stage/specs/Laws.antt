@@ -20,9 +20,9 @@ WasToMove from past d q = has_moved q (orders_by from past d) ≡ true
 abbrev pub WasToGiveUp : Beginning → List Happening → ℕ → ℕ → Type 0
 WasToGiveUp from past d q = Contains (life_of d past) (hears (Cancel q))
 
--- The batches that the store keeps, a prefix of the accepted ones with every acknowledged one. They make the state
--- that the store has, and hold the Go of each attempt for which any device was ordered to move, and the Cancel of each
--- of which a CANCEL came to any device.
+-- The batches that the store keeps: every acknowledged one, and of those of a call that was cut off all or none. They
+-- make the state that the store has. They hold the Go of each attempt for which any device was ordered to move, and
+-- the Cancel of each of which a CANCEL came to any device.
 pub record KeepsEachDecision (from : Beginning) (past : List Happening) (x y : List ℕ) : Type 0 where
   pub kept : List (List Event)
   pub prefix : AreKept empty_state (incidents past) kept

@@ -74,7 +74,7 @@ sends_more s (i ∷ is) now input =
 
 -- ---- as a run
 
-with_first : (batch : List Event) (batches : List (List Event))
+pub with_first : (batch : List Event) (batches : List (List Event))
     → with_batch batch (with_events batches) ≡ with_events (batch ∷ batches)
 with_first [] batches = refl
 with_first (e ∷ es) batches = refl

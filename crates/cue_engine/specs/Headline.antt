@@ -17,7 +17,7 @@ use Rattle.cue_engine.specs.Given.{given_recovery}
 use Rattle.cue_engine.specs.Groups.{batches_given}
 use Rattle.cue_engine.specs.Recovery.{ClosedFrom}
 use Rattle.cue_engine.specs.Runs.{joined_list, rests}
-use Rattle.cue_engine.specs.InBytes.{BytesRest}
+use Rattle.cue_engine.specs.InBytes.{BytesRest, BytesPending}
 use Rattle.cue_engine.specs.Incidents.{Incident, committed, handed_out, stopped, stopped_in_commit}
 use Rattle.cue_engine.specs.Incidents.{recovered, stopped_in_recovery, Store, running, at_rest, unformed, LeavesOnly}
 use Rattle.cue_engine.specs.Incidents.{AreLeft}
@@ -93,13 +93,15 @@ HasState (unformed one other) x y s = (s ≡ empty_state) × (NeitherHas x y ⊎
 
 -- What a store came to from a state on: batches are kept, in order and each whole, every acknowledged one among them;
 -- they make the state that it has; and each datagram that was handed to the network rests on them, down to its bytes:
--- a GO_2PC on the Go of its attempt, a CANCEL on its Cancel, a STANDBY or CANCEL on its Start.
+-- a GO_2PC on the Go of its attempt, a CANCEL on its Cancel, a STANDBY or CANCEL on its Start. Each order was pending in
+-- a state that the first of their events make.
 pub record CameTo (s : ShowState) (store : Store) (is : List Incident) (x y : List ℕ) : Type 0 where
   pub kept : List (List Event)
   pub prefix : AreKept s is kept
   pub has : HasState (left_by_all store is) x y (after_events s (joined_list kept))
   pub decided : IsTrue (list_all (rests s (joined_list kept)) (all_handed store is))
   pub in_bytes : AllByRecursion (λ d. BytesRest s (joined_list kept) d.1) (datagrams (all_handed store is))
+  pub was_pending : AllByRecursion (λ d. BytesPending s (joined_list kept) d.1) (datagrams (all_handed store is))
 
 -- Whatever happens to a store, it comes to that.
 abbrev pub WhateverHappens : Type 0

@@ -13,7 +13,7 @@ use Rattle.cue_engine.specs.Given.{Input}
 use Rattle.cue_engine.specs.Groups.{batches_given, sends_given}
 use Rattle.cue_engine.specs.Taking.{IsOffered, WhateverWasOffered}
 use Rattle.cue_engine.specs.Observed.{keeper_of, queue_of, offered_of, has_room, HasRoomForAll}
-use Rattle.cue_run.specs.Sources.{Answer, comes, GaveAll}
+use Rattle.cue_engine.specs.Sources.{Answer, comes, GaveAll}
 use Rattle.cue_run.specs.declared.turns.RunFault.{RunFault}
 use Rattle.cue_run.specs.Running.{given_answers}
 use Rattle.cue_run.specs.Grouping.{StaysOffered, HasOffered, CutShort, Gathered, OfferedNext}

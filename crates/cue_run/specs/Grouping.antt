@@ -20,7 +20,7 @@ use Rattle.cue_run.specs.declared.groups.offering.Stop.{Stop}
 use Rattle.cue_run.specs.declared.groups.offering.Stop.TheVariants as stop
 use Rattle.cue_run.specs.declared.groups.offering.First.{First}
 use Rattle.cue_run.specs.Running.{given_answers, HasRun, Keeps, Works, Refuses}
-use Rattle.cue_run.specs.Sources.{Answer, comes, ends, fails, GaveAll}
+use Rattle.cue_engine.specs.Sources.{Answer, comes, ends, fails, GaveAll}
 
 -- ---- what was offered
 

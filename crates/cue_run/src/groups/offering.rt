@@ -7,10 +7,9 @@ ghost use Rattle.cue_engine.specs.Observed.{keeper_of, queue_of, HasRoomForAll};
 ghost use Rattle.cue_run.specs.Grouping.{StaysOffered, StillFits, IsTurnedDown, OfferedNext};
 ghost use Rattle.cue_run.specs.Grouping.{OfferedFirst, OfferedGroup, Gathered, answers_beside};
 
-use crate::source::{Source, Turn, Waiting};
 use crate::turns::RunFault;
 use cue_disk::Disk;
-use cue_engine::{Engine, Input};
+use cue_engine::{Engine, Input, Source, Turn, Waiting};
 use cue_keeper::Fault;
 
 /// Why no round follows.

@@ -8,12 +8,12 @@ use Rattle.std.specs.IoError.{error_kind}
 use Rattle.std.specs.declared.io.Error.{Error}
 use Rattle.std.specs.declared.io.ErrorKind.{ErrorKind}
 use Rattle.std.specs.declared.io.ErrorKind.TheVariants.{WouldBlock, TimedOut, ConnectionRefused, Interrupted}
-use Rattle.cue_run.specs.declared.udp.came.Came.{Came}
-use Rattle.cue_run.specs.declared.udp.came.Came.TheVariants as came
-use Rattle.cue_run.specs.declared.source.Turn.{Turn}
-use Rattle.cue_run.specs.declared.source.Waiting.{Waiting}
-use Rattle.cue_run.specs.declared.source.Turn.TheVariants as turn
-use Rattle.cue_run.specs.Sources.{IsWithin}
+use Rattle.cue_engine.specs.declared.sources.udp.came.Came.{Came}
+use Rattle.cue_engine.specs.declared.sources.udp.came.Came.TheVariants as came
+use Rattle.cue_engine.specs.declared.sources.source.Turn.{Turn}
+use Rattle.cue_engine.specs.declared.sources.source.Waiting.{Waiting}
+use Rattle.cue_engine.specs.declared.sources.source.Turn.TheVariants as turn
+use Rattle.cue_engine.specs.Sources.{IsWithin}
 
 -- 127.0.0.1: no other machine sends to it, and it reaches none
 abbrev pub IsThisMachine : IpAddr → Type 0

@@ -1,10 +1,10 @@
 -- What a source in memory says of itself.
 use Rattle.std.specs.Prelude.{List, map, drop, Option, Some}
 use Rattle.cue_engine.specs.Given.{datagram, tick}
-use Rattle.cue_run.specs.Sources.{Answer, comes, ends, fails}
-use Rattle.cue_run.specs.declared.mem_source.MemAnswer.{MemAnswer}
-use Rattle.cue_run.specs.declared.mem_source.MemAnswer.TheVariants as mem
-use Rattle.cue_run.specs.declared.mem_source.MemSource.{MemSource}
+use Rattle.cue_engine.specs.Sources.{Answer, comes, ends, fails}
+use Rattle.cue_engine.specs.declared.sources.mem_source.MemAnswer.{MemAnswer}
+use Rattle.cue_engine.specs.declared.sources.mem_source.MemAnswer.TheVariants as mem
+use Rattle.cue_engine.specs.declared.sources.mem_source.MemSource.{MemSource}
 
 -- an answer as contracts of sources see it
 abbrev pub answer_view : MemAnswer → Answer

@@ -1,9 +1,9 @@
 //! A source in memory: it gives the answers of a list, and then ends.
 ghost use Rattle.std.specs.Prelude.{◌≡◌, ◌≤◌, Some, length, take};
-ghost use Rattle.cue_run.specs.Sources.{gave, cut, IsWithin};
-ghost use Rattle.cue_run.specs.MemSources.{answer_view, left_by, answers_view};
+ghost use Rattle.cue_engine.specs.Sources.{gave, cut, IsWithin};
+ghost use Rattle.cue_engine.specs.MemSources.{answer_view, left_by, answers_view};
 
-use crate::source::{Source, SourceFault, Turn, Waiting};
+use crate::sources::source::{Source, SourceFault, Turn, Waiting};
 
 /// What a source in memory is to answer: one call each.
 #[derive(Debug, Drop)]

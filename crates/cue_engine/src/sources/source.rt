@@ -1,6 +1,6 @@
 //! Where datagrams and ticks come from.
 ghost use Rattle.std.specs.Prelude.{List, Option, [], ◌∷◌, length};
-ghost use Rattle.cue_run.specs.Sources.{Answer, gave, IsWithin, GaveAll, WaitsWithin, Waited};
+ghost use Rattle.cue_engine.specs.Sources.{Answer, gave, IsWithin, GaveAll, WaitsWithin, Waited};
 
 use std::error::Error;
 use std::fmt;
@@ -47,8 +47,11 @@ pub trait Source {
         ensures gave { GaveAll (length buffer.old) (left self.old) (gave result buffer.new ∷ []) (left self.new) };
 
     /// A datagram that is there already, cut to the length of the buffer; None where none is. It does not wait, and it
-    /// is never a tick.
+    /// is never a tick. A source that cannot tell has none: then each input is a group of its own.
     fn waiting(&mut self, buffer: &mut [u8]) -> Result<Option<Waiting>, SourceFault>
         ensures within { WaitsWithin result (length buffer.old) }
-        ensures waited { Waited (length buffer.old) result buffer.new (left self.old) (left self.new) };
+        ensures waited { Waited (length buffer.old) result buffer.new (left self.old) (left self.new) }
+    {
+        Ok(None)
+    }
 }

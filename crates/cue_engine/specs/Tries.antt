@@ -2,8 +2,8 @@
 use Rattle.std.specs.Prelude.{◌≡◌, ℕ, zero, suc, List, [], ◌∷◌, Option, Some, None, Result, Ok, Err}
 use Rattle.std.specs.Result.{result_ok}
 use Rattle.std.specs.declared.io.Error.{Error}
-use Rattle.cue_run.specs.declared.source.Turn.{Turn}
-use Rattle.cue_run.specs.declared.source.SourceFault.{SourceFault}
+use Rattle.cue_engine.specs.declared.sources.source.Turn.{Turn}
+use Rattle.cue_engine.specs.declared.sources.source.SourceFault.{SourceFault}
 
 -- what one try brings: what is passed over, a turn, or a fault
 pub data Try : Type 0 where

@@ -1,9 +1,9 @@
 -- Tries that are passed over, and the first turn.
 use Rattle.std.specs.Prelude.{◌≡◌, ℕ, zero, suc, ◌+◌, ◌-◌, ◌<◌, List, [], ◌∷◌, Option, Some, None, Ok, Err}
 use Rattle.std.proofs.Common.{refl, sym, ◌∙◌, arith}
-use Rattle.cue_run.specs.declared.source.Turn.{Turn}
-use Rattle.cue_run.specs.declared.source.SourceFault.{SourceFault}
-use Rattle.cue_run.specs.Tries.{Try, passes, brings, breaks, Tried, first_of, GaveFirst}
+use Rattle.cue_engine.specs.declared.sources.source.Turn.{Turn}
+use Rattle.cue_engine.specs.declared.sources.source.SourceFault.{SourceFault}
+use Rattle.cue_engine.specs.Tries.{Try, passes, brings, breaks, Tried, first_of, GaveFirst}
 
 -- so many tries were passed over, and the first turn is that of the others
 abbrev pub Passed : ℕ → ℕ → Option (List Try) → Option (List Try) → Type 0

@@ -1,9 +1,9 @@
 -- What a source gives, and what it says is left.
 use Rattle.std.specs.Prelude.{◌≡◌, ◌≤◌, ℕ, List, [], ◌∷◌, take, Option, Some, None, Result, Ok, Err}
-use Rattle.cue_run.specs.declared.source.Turn.{Turn}
-use Rattle.cue_run.specs.declared.source.Turn.TheVariants as turn
-use Rattle.cue_run.specs.declared.source.SourceFault.{SourceFault}
-use Rattle.cue_run.specs.declared.source.Waiting.{Waiting}
+use Rattle.cue_engine.specs.declared.sources.source.Turn.{Turn}
+use Rattle.cue_engine.specs.declared.sources.source.Turn.TheVariants as turn
+use Rattle.cue_engine.specs.declared.sources.source.SourceFault.{SourceFault}
+use Rattle.cue_engine.specs.declared.sources.source.Waiting.{Waiting}
 use Rattle.cue_engine.specs.Given.{Input, datagram, tick}
 
 -- one answer of a source: an input at a time, the end, or a fault

@@ -1,11 +1,11 @@
 //! The first turn that a few tries bring.
 ghost use Rattle.std.specs.Prelude.{◌≡◌, List, Option, length, IfOk};
-ghost use Rattle.cue_run.specs.Sources.{IsWithin};
-ghost use Rattle.cue_run.specs.Udp.{NextWithin};
-ghost use Rattle.cue_run.specs.Tries.{Try, try_of, Tried, GaveFirst};
-ghost use Rattle.cue_run.specs.declared.udp.tries.TheConstants.{MAX_DROPPED};
+ghost use Rattle.cue_engine.specs.Sources.{IsWithin};
+ghost use Rattle.cue_engine.specs.Udp.{NextWithin};
+ghost use Rattle.cue_engine.specs.Tries.{Try, try_of, Tried, GaveFirst};
+ghost use Rattle.cue_engine.specs.declared.sources.udp.tries.TheConstants.{MAX_DROPPED};
 
-use crate::source::{SourceFault, Turn};
+use crate::sources::source::{SourceFault, Turn};
 use std::io;
 
 /// How many datagrams of the own port are dropped in one call, before the call is a fault.

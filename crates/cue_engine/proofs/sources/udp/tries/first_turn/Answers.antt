@@ -1,6 +1,6 @@
 use Rattle.std.proofs.Common.{◌≡◌, arith}
-use Rattle.cue_run.proofs.TryLemmas.{passed_none, passed_more, gave_turn, gave_fault, gave_none}
-use Rattle.cue_run.proofs.udp.tries.first_turn.Goals as goal
+use Rattle.cue_engine.proofs.TryLemmas.{passed_none, passed_more, gave_turn, gave_fault, gave_none}
+use Rattle.cue_engine.proofs.sources.udp.tries.first_turn.Goals as goal
 
 pub loop-init : goal.loop-init
 loop-init g c = passed_none c.args.most (g.T.Tries.left c.args.tries.now)

@@ -1,9 +1,9 @@
 //! When the clock ticks, and what a wait makes.
 ghost use Rattle.std.specs.Prelude.{◌≡◌};
-ghost use Rattle.cue_run.specs.Udp.{is_tick_due, last_after, next_of, tick_if_due};
+ghost use Rattle.cue_engine.specs.Udp.{is_tick_due, last_after, next_of, tick_if_due};
 
 use super::came::Came;
-use crate::source::Turn;
+use crate::sources::source::Turn;
 
 /// The time between two ticks, in milliseconds.
 pub const TICK: u64 = 250;

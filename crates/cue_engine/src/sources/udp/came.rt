@@ -1,8 +1,8 @@
 //! What came while a call waited for a datagram.
 ghost use Rattle.std.specs.Prelude.{◌≡◌};
-ghost use Rattle.cue_run.specs.Udp.{came_of, meaning_of, waiting_of};
+ghost use Rattle.cue_engine.specs.Udp.{came_of, meaning_of, waiting_of};
 
-use crate::source::Waiting;
+use crate::sources::source::Waiting;
 use std::io::{self, ErrorKind};
 
 /// What came while a call waited.

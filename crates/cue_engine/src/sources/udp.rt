@@ -1,16 +1,16 @@
 //! The network: one UDP socket on 127.0.0.1.
 ghost use Rattle.std.specs.Prelude.{◌≡◌, ◌≤◌, None, length, IfOk};
 ghost use Rattle.std.specs.Net.Socket.{socket_ip, socket_port};
-ghost use Rattle.cue_run.specs.Udp.{CameWithin, IsThisMachine, is_whole};
+ghost use Rattle.cue_engine.specs.Udp.{CameWithin, IsThisMachine, is_whole};
 
 mod came;
 mod receive;
 mod ticks;
 mod tries;
 
-use crate::source::{Source, SourceFault, Turn, Waiting};
+use crate::sources::source::{Source, SourceFault, Turn, Waiting};
+use crate::wire::{Wire, WireFault};
 use came::{Came, waiting_of, what_came};
-use cue_engine::{Wire, WireFault};
 pub use receive::{Receive, UdpReceiver};
 use std::io::{self, ErrorKind};
 use std::net::{IpAddr, Ipv4Addr, SocketAddr, UdpSocket};
@@ -36,7 +36,8 @@ fn now_of<C: Clock>(clock: &C) -> io::Result<u64> {
 }
 
 /// The datagrams of a receiver, and ticks between them: one where the clock shows 250 ms since the last tick or was put
-/// back, or where the receiver waited and no datagram came. It reports nothing.
+/// back, or where the receiver waited and no datagram came. It reports nothing. Of the 65,536 datagrams that a call
+/// drops at most no contract speaks; a test counts them.
 #[derive(Drop)]
 pub struct UdpSource<'a, C: Clock, R: Receive + Drop> {
     clock: &'a C,

@@ -15,7 +15,8 @@ pub enum AnswerKind {
     Abort,
 }
 
-/// Why a command is refused.
+/// Why a command is refused. A datagram that is refused whole has a code of its own, 30 to 33 (`Refusal`): no command
+/// was read there, so `judge` can never answer one of those.
 #[derive(Clone, Copy, PartialEq, Eq, Debug)]
 pub enum Code {
     /// 1: the message could not be read whole, and was discarded.

@@ -36,4 +36,4 @@ pub use event::{Ended, Event};
 pub use events::Events;
 pub use judging::judge;
 pub use refusal::Refusal;
-pub use state::{State, undecided};
+pub use state::{State, apply, undecided};

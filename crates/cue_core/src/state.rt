@@ -1,12 +1,13 @@
 //! The state of a show: the show itself, the attempts that are live, the last number, and how the last attempt ended.
-ghost use Rattle.std.specs.Prelude.{◌≡◌, ◌↔◌, IsTrue, IsSome, IfOk, IfSome, map, filter, nat_le};
+ghost use Rattle.std.specs.Prelude.{◌≡◌, ◌↔◌, IsTrue, IsSome, IfOk, IfSome, OnOk, OnErr, map, filter, nat_le};
 ghost use Rattle.std.specs.List.{list_all};
 ghost use Rattle.cue_exchange.specs.Answers.{is_preparing};
 ghost use Rattle.cue_core.specs.State.{empty_state, is_state, are_tied, are_of_parts, is_of_part, is_at_cue, is_ended};
+ghost use Rattle.cue_core.specs.Steps.{acceptable, after};
 
-mod apply;
+mod applying;
 
-use crate::event::Ended;
+use crate::event::{Ended, Event};
 use cue_exchange::limits::MAX_NUMBER;
 use cue_exchange::{Attempt, DeviceAnswer, Live};
 use cue_show::{Part, Show};
@@ -14,6 +15,9 @@ use std::alloc::{AllocError, Global};
 use std::marker::Model;
 
 /// The state of a show. It keeps the allocator that it was made with.
+///
+/// Its four fields are private, and calls of their names give them: a type that keeps an invariant has no public field,
+/// or anybody could break it.
 #[derive(Drop)]
 pub struct State {
     show: Show,
@@ -113,6 +117,17 @@ impl State {
             ended: self.ended,
         })
     }
+}
+
+/// Applies an event to a state, as `State::apply` does. Where memory runs out nothing changes.
+///
+/// Whoever reads events from outside asks `State::can_apply` first; the events of `judge` are acceptable in turn.
+pub fn apply(state: &mut State, event: &Event) -> Result<(), AllocError>
+    requires { IsTrue (acceptable state.old event.now) }
+    ensures ok { OnOk result (state.new ≡ after state.old event.now) }
+    ensures err { OnErr result (state.new ≡ state.old) }
+{
+    state.apply(event)
 }
 
 /// The numbers of the attempts that are Preparing, rising: those that a recovery from power loss gives up.

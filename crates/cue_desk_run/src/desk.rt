@@ -220,7 +220,8 @@ impl<'a, R: Files<File = File> + Net + Clock + AllocGlobal> Desk<'a, R> {
             .poll(&mut self.events, Some(Duration::from_millis(most)))
     }
 
-    /// Whether the status that was answered last is not of the store that was read last, as for a moment after each change.
+    /// Whether the status that was answered last is not of the store that was read last, as for a moment after each
+    /// change.
     pub fn differs(&self) -> bool {
         self.station.notes.differs.is_some()
     }

@@ -37,13 +37,13 @@ use Rattle.cue_engine.proofs.SentLemmas.{Each, HoldsElsewhere, happening-each}
 
 -- ---- a message is read with the address in front
 
-abbrev address_in : Content → List ℕ
+abbrev pub address_in : Content → List ℕ
 address_in (message a xs) = a
 address_in (discarded a) = a
 address_in (bundle t cs) = []
 
 -- what is read has this address
-abbrev HasAddress : List ℕ → Result Content Fault → Type 0
+abbrev pub HasAddress : List ℕ → Result Content Fault → Type 0
 HasAddress a (Ok c) = address_in c ≡ a
 HasAddress a (Err f) = Unit {0}
 
@@ -78,7 +78,7 @@ message_has a rest is_text = let P : Result (List ℕ × List ℕ) Fault
     → Type 0 = λ r. HasAddress a (r >>= λ x. after_address x.0 x.1) in
     subst P (sym (string_again a rest is_text)) (behind_has a rest)
 
-datagram_has : (a rest : List ℕ) → IsText a → is_message_start (osc_string a ++ rest) ≡ true
+pub datagram_has : (a rest : List ℕ) → IsText a → is_message_start (osc_string a ++ rest) ≡ true
     → HasAddress a (datagram_at (osc_string a ++ rest))
 unfolding datagram_at
 datagram_has a rest is_text starts =
@@ -91,11 +91,11 @@ datagram_has a rest is_text starts =
 
 -- ---- addresses differ in their sixth character
 
-abbrev letter : List ℕ → ℕ
+abbrev pub letter : List ℕ → ℕ
 letter (a ∷ b ∷ c ∷ d ∷ e ∷ f ∷ others) = f
 letter _ = 0
 
-differ : {A : Type 0} (a b : List ℕ) → nat_eq (letter a) (letter b) ≡ false → a ≡ b → A
+pub differ : {A : Type 0} (a b : List ℕ) → nat_eq (letter a) (letter b) ≡ false → a ≡ b → A
 differ a b apart e = let P : List ℕ → Type 0 = λ x. nat_eq (letter a) (letter x) ≡ true in
     absurd (true≢false (sym (subst P e (itself (letter a))) ∙ apart))
 
@@ -129,11 +129,11 @@ status_rests s es l p v e o = record {
 
 -- ---- a command is read as what was meant
 
-abbrev number_in : Argument → ℕ
+abbrev pub number_in : Argument → ℕ
 number_in (int (pos n)) = n
 number_in _ = 0
 
-abbrev first_number : Content → ℕ
+abbrev pub first_number : Content → ℕ
 first_number (message a (x ∷ xs)) = number_in x
 first_number _ = 0
 
@@ -168,7 +168,7 @@ cancel_says s es (cancel p d) q xs h e = let w = both (is_live_in s p || list_an
 cancel_says s es (go_2pc p d) q xs h e = differ (codes "/msc/go_2pc") (codes "/msc/cancel") refl (ap address_in e)
 cancel_says s es (standby p d c b) q xs h e = differ (codes "/msc/standby") (codes "/msc/cancel") refl (ap address_in e)
 
-abbrev content_or : Content → Result Content Fault → Content
+abbrev pub content_or : Content → Result Content Fault → Content
 content_or c (Ok d) = d
 content_or c (Err f) = c
 

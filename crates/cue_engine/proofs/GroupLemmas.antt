@@ -74,7 +74,7 @@ sends_more s (i ∷ is) now input =
 
 -- ---- as a run
 
-with_first : (batch : List Event) (batches : List (List Event))
+pub with_first : (batch : List Event) (batches : List (List Event))
     → with_batch batch (with_events batches) ≡ with_events (batch ∷ batches)
 with_first [] batches = refl
 with_first (e ∷ es) batches = refl
@@ -97,7 +97,8 @@ after_joined s [] = refl
 after_joined s (batch ∷ batches) = after_events-append s batch (joined_list batches)
     ∙ after_joined (after_events s batch) batches
 
-pub joined_append : (first then : List (List Event)) → joined_list (first ++ then) ≡ joined_list first ++ joined_list then
+pub joined_append : (first then : List (List Event))
+    → joined_list (first ++ then) ≡ joined_list first ++ joined_list then
 joined_append [] then = refl
 joined_append (batch ∷ first) then = ap (λ (es : List Event). batch ++ es) (joined_append first then)
     ∙ sym (append_assoc batch (joined_list first) (joined_list then))

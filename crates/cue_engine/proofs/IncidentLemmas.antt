@@ -34,6 +34,7 @@ use Rattle.cue_engine.proofs.HistoryLemmas.{input-ok, happening-ok}
 use Rattle.cue_engine.proofs.GroupLemmas.{after_joined, joined_some, joined_one, inputs-ok}
 use Rattle.cue_core.proofs.rules.BatchLemmas.{is_state-after_events}
 use Rattle.cue_engine.proofs.SentLemmas.{Each}
+use Rattle.cue_engine.proofs.AskedLemmas.{WasAsked, all_asked-earlier, all_asked-more, inputs_asked, pending_asked}
 use Rattle.cue_engine.proofs.BytesLemmas.{IsReadable, pending_readable, given_readable}
 use Rattle.cue_outbox.proofs.ListLemmas.{each_append}
 
@@ -47,10 +48,11 @@ HasOn (running t owed) x y s = t ≡ s
 HasOn (at_rest one other) x y s = Stands x y s
 HasOn (unformed one other) x y s = (s ≡ empty_state) × LeavesFirst one other
 
--- what the store has after these events, and that what is owed rests on them and can be read again
+-- what the store has after these events, and that what is owed rests on them, was pending, and can be read again
 pub record IsOn (s : ShowState) (es : List Event) (store : Store) (x y : List ℕ) : Type 0 where
   pub has : HasOn store x y (after_events s es)
   pub owed : list_all (rests s es) (owed_by store) ≡ true
+  pub asked : Each (WasAsked s es) (owed_by store)
   pub readable : Each IsReadable (owed_by store)
   pub rules : IsTrue (is_state (after_events s es))
 
@@ -89,18 +91,18 @@ each_taken P zero xs h = tt
 each_taken P (suc n) [] h = tt
 each_taken P (suc n) (x ∷ xs) h = (h.0, each_taken P n xs h.1)
 
-pub handed_readable : (store : Store) (i : Incident) → Each IsReadable (owed_by store)
-    → Each IsReadable (handed_in store i)
-handed_readable store formed h = tt
-handed_readable store (stopped_in_form one other) h = tt
-handed_readable store (committed inputs) h = tt
-handed_readable store handed_out h = h
-handed_readable store (stopped n one other) h = each_taken (λ (m : ℕ × Send). IsReadable m.1) n (owed_by store) h
-handed_readable store (stopped_in_commit inputs n one other) h =
-    each_taken (λ (m : ℕ × Send). IsReadable m.1) n (owed_by store) h
-handed_readable store (recovered t) h = tt
-handed_readable store (stopped_in_recovery one other) h = tt
-handed_readable store (refused one other) h = tt
+pub handed_each : (R : Send → Type 0) (store : Store) (i : Incident) → Each R (owed_by store)
+    → Each R (handed_in store i)
+handed_each R store formed h = tt
+handed_each R store (stopped_in_form one other) h = tt
+handed_each R store (committed inputs) h = tt
+handed_each R store handed_out h = h
+handed_each R store (stopped n one other) h = each_taken (λ (m : ℕ × Send). R m.1) n (owed_by store) h
+handed_each R store (stopped_in_commit inputs n one other) h =
+    each_taken (λ (m : ℕ × Send). R m.1) n (owed_by store) h
+handed_each R store (recovered t) h = tt
+handed_each R store (stopped_in_recovery one other) h = tt
+handed_each R store (refused one other) h = tt
 
 -- the rules of a state hold after an acceptable batch
 rules_after : (s : ShowState) (es batch : List Event) → IsTrue (is_state (after_events s es))
@@ -159,7 +161,7 @@ as_before s es store x y on = let P : List Event → Type 0 = λ fs. IsOn s fs s
 
 pub resting_at : (s : ShowState) (es : List Event) (one other : Contents) (x y : List ℕ)
     → IsTrue (is_state (after_events s es)) → Stands x y (after_events s es) → IsOn s es (at_rest one other) x y
-resting_at s es one other x y rules h = record { has = h; owed = refl; readable = tt; rules = rules }
+resting_at s es one other x y rules h = record { has = h; owed = refl; asked = tt; readable = tt; rules = rules }
 
 -- a stop leaves the state from before or the one after the batch
 resting_either : (s : ShowState) (es batch : List Event) (one other : Contents) (x y : List ℕ)
@@ -212,6 +214,9 @@ goes_committed s es owed inputs x y on =
       has = sym (after_joined before (batches_given before inputs)) ∙ sym (after_events-append s es batch);
       owed = all-append (rests s (es ++ batch)) owed sends (all_more s es batch owed on.owed)
           (all_earlier s es batch sends (inputs_rest before inputs));
+      asked = each_append (λ (m : ℕ × Send). WasAsked s (es ++ batch) m.1) owed sends
+          (all_asked-more s es batch owed on.asked)
+          (all_asked-earlier s es batch sends (inputs_asked before inputs));
       readable = each_append (λ (m : ℕ × Send). IsReadable m.1) owed sends on.readable
           (inputs_readable before inputs on.rules);
       rules = rules_after s es batch on.rules (inputs-ok before inputs on.rules);
@@ -226,7 +231,7 @@ goes_running s es owed (stopped_in_form one other) x y on ok may = absurd ok
 goes_running s es owed (committed inputs) x y on ok may = goes_committed s es owed inputs x y on
 goes_running s es owed handed_out x y on ok may =
     inl (as_before s es (running (after_events s es) []) x y
-    (record { has = refl; owed = refl; readable = tt; rules = on.rules }))
+    (record { has = refl; owed = refl; asked = tt; readable = tt; rules = on.rules }))
 goes_running s es owed (stopped n one other) x y on ok may =
     inl (as_before s es (at_rest one other) x y (resting_at s es one other x y on.rules (ok x y may.0 may.1)))
 goes_running s es owed (stopped_in_commit inputs n one other) x y on ok may =
@@ -255,7 +260,7 @@ chosen_running t owed i x y ok may = record {
   second = [];
   may = tt;
   goes = λ s es on. goes_on s es t owed i x y on.has
-      (record { has = refl; owed = on.owed; readable = on.readable; rules = on.rules }) ok may;
+      (record { has = refl; owed = on.owed; asked = on.asked; readable = on.readable; rules = on.rules }) ok may;
 }
 
 -- ---- while none runs
@@ -272,6 +277,8 @@ begins_again s es t x y rules same =
       has = sym (after_events-append s es batch);
       owed = all_earlier s es batch (all_pending (closed_state (after_events s es)))
           (all_pending_rest (after_events s es) batch);
+      asked = all_asked-earlier s es batch (all_pending (closed_state (after_events s es)))
+          (pending_asked (after_events s es) batch);
       readable = pending_readable (closed_state (after_events s es))
           (is_state-after_events (after_events s es) batch rules ok);
       rules = rules_after s es batch rules ok;
@@ -376,7 +383,7 @@ pub unformed_at : (s : ShowState) (es : List Event) (one other : Contents) (x y 
     → IsTrue (is_state (after_events s es)) → after_events s es ≡ empty_state → LeavesFirst one other
     → IsOn s es (unformed one other) x y
 unformed_at s es one other x y rules same first =
-    record { has = (same, first); owed = refl; readable = tt; rules = rules }
+    record { has = (same, first); owed = refl; asked = tt; readable = tt; rules = rules }
 
 -- an engine over the state owes what is pending in it
 begins_on : (s : ShowState) (es : List Event) (t : ShowState) (x y : List ℕ) → IsTrue (is_state (after_events s es))
@@ -386,6 +393,7 @@ begins_on s es t x y rules same =
     subst P same (record {
       has = sym (after_events-append s es []);
       owed = all_earlier s es [] (all_pending (after_events s es)) (all_pending_rest (after_events s es) []);
+      asked = all_asked-earlier s es [] (all_pending (after_events s es)) (pending_asked (after_events s es) []);
       readable = pending_readable (after_events s es) rules;
       rules = rules_after s es [] rules refl;
     })

@@ -21,8 +21,10 @@ use Rattle.cue_engine.proofs.RestingLemmas.{all_pending_rest}
 use Rattle.cue_engine.proofs.GroupLemmas.{joined_append}
 use Rattle.cue_engine.proofs.SentLemmas.{Each}
 use Rattle.cue_engine.proofs.BytesLemmas.{IsReadable, pending_readable, all_say}
+use Rattle.cue_engine.proofs.AskedLemmas.{WasAsked, all_asked-more, pending_asked}
+use Rattle.cue_engine.proofs.OrderBytesLemmas.{all_pending_in_bytes}
 use Rattle.cue_outbox.proofs.ListLemmas.{each_append}
-use Rattle.cue_engine.proofs.IncidentLemmas.{HasOn, IsOn, Goes, MayOn, all_more, handed_rests, handed_readable}
+use Rattle.cue_engine.proofs.IncidentLemmas.{HasOn, IsOn, Goes, MayOn, all_more, handed_rests, handed_each}
 use Rattle.cue_engine.proofs.IncidentLemmas.{as_before, resting_at, unformed_at, chosen}
 use Rattle.cue_engine.proofs.IncidentLemmas.{events_of, joined_batches, folded_batches}
 
@@ -33,12 +35,20 @@ record Found (s : ShowState) (es : List Event) (store : Store) (is : List Incide
   prefix : AreKept (after_events s es) is kept
   has : HasOn (left_by_all store is) x y (after_events s (es ++ joined_list kept))
   decided : list_all (rests s (es ++ joined_list kept)) (all_handed store is) ≡ true
+  asked : Each (WasAsked s (es ++ joined_list kept)) (all_handed store is)
   readable : Each IsReadable (all_handed store is)
 
 found_none : (s : ShowState) (es : List Event) (store : Store) (x y : List ℕ) → IsOn s es store x y
     → Found s es store [] x y
 found_none s es store x y on =
-    record { kept = []; prefix = refl; has = (as_before s es store x y on).has; decided = refl; readable = tt }
+    record {
+      kept = [];
+      prefix = refl;
+      has = (as_before s es store x y on).has;
+      decided = refl;
+      asked = tt;
+      readable = tt;
+    }
 
 found_whole : (s : ShowState) (es : List Event) (store : Store) (i : Incident) (is : List Incident)
     (x y first second : List ℕ) → IsOn s es store first second
@@ -55,6 +65,7 @@ found_whole s es store i is x y first second on f =
     append_assoc es batch (joined_list f.kept) ∙ ap (λ (xs : List Event). es ++ xs) joined in
     let Q : List Event → Type 0 = λ xs. HasOn (left_by_all (left_by store i) is) x y (after_events s xs) in
     let R : List Event → Type 0 = λ xs. list_all (rests s xs) (all_handed (left_by store i) is) ≡ true in
+    let S : List Event → Type 0 = λ xs. Each (WasAsked s xs) (all_handed (left_by store i) is) in
     record {
       kept = batches ++ f.kept;
       prefix = inl (f.kept, (refl, subst P (after_events-append s es batch ∙ sym (folded_batches before i)) f.prefix));
@@ -63,8 +74,12 @@ found_whole s es store i is x y first second on f =
           (all_handed (left_by store i) is)
           (all_more s es (joined_list (batches ++ f.kept)) (handed_in store i)
           (handed_rests s es store i on.owed)) (subst R same f.decided);
+      asked = each_append (λ (m : ℕ × Send). WasAsked s (es ++ joined_list (batches ++ f.kept)) m.1)
+          (handed_in store i) (all_handed (left_by store i) is)
+          (all_asked-more s es (joined_list (batches ++ f.kept)) (handed_in store i)
+          (handed_each (WasAsked s es) store i on.asked)) (subst S same f.asked);
       readable = each_append (λ (m : ℕ × Send). IsReadable m.1) (handed_in store i) (all_handed (left_by store i) is)
-          (handed_readable store i on.readable) f.readable;
+          (handed_each IsReadable store i on.readable) f.readable;
     }
 
 found_cut : (s : ShowState) (es : List Event) (store : Store) (i : Incident) (is : List Incident)
@@ -76,8 +91,12 @@ found_cut s es store i is x y first second on cut f = record {
   has = f.has;
   decided = all-append (rests s (es ++ joined_list f.kept)) (handed_in store i) (all_handed (left_by store i) is)
       (all_more s es (joined_list f.kept) (handed_in store i) (handed_rests s es store i on.owed)) f.decided;
+  asked = each_append (λ (m : ℕ × Send). WasAsked s (es ++ joined_list f.kept) m.1) (handed_in store i)
+      (all_handed (left_by store i) is)
+      (all_asked-more s es (joined_list f.kept) (handed_in store i) (handed_each (WasAsked s es) store i on.asked))
+      f.asked;
   readable = each_append (λ (m : ℕ × Send). IsReadable m.1) (handed_in store i) (all_handed (left_by store i) is)
-      (handed_readable store i on.readable) f.readable;
+      (handed_each IsReadable store i on.readable) f.readable;
 }
 
 found_either : (s : ShowState) (es : List Event) (store : Store) (i : Incident) (is : List Incident)
@@ -124,6 +143,7 @@ starts s (running t owed) x y h begins may =
     subst P (sym begins.1) (record {
       has = begins.0;
       owed = all_pending_rest s [];
+      asked = pending_asked s [];
       readable = pending_readable s h;
       rules = h;
     })
@@ -157,6 +177,7 @@ whatever_happens s store is x y h begins ok may =
       has = has_state (left_by_all store is) x y (after_events s (joined_list f.kept)) may f.has;
       decided = f.decided;
       in_bytes = all_say s (joined_list f.kept) (all_handed store is) f.readable f.decided;
+      was_pending = all_pending_in_bytes s (joined_list f.kept) (all_handed store is) f.readable f.asked;
     }
 
 -- recovery closes the state that the two stand for

@@ -87,8 +87,8 @@ needs_new_area one other s generation count end kept first second area t needs =
       subst (λ (x : ShowState). 1 ≤ length (events_at x recovered)) same.1 needs.some,
       subst (λ (x : ShowState). IsTrue (lacks_room count end (cancels_records x))) same.1
           (subst (λ (n : ℕ). IsTrue (lacks_room count n (cancels_records t))) (sym kept.same_end)
-          (subst (λ (n : ℕ). IsTrue (lacks_room n (length (area_text kept.area)) (cancels_records t))) (sym kept.same_count)
-          due)),
+          (subst (λ (n : ℕ). IsTrue (lacks_room n (length (area_text kept.area)) (cancels_records t)))
+          (sym kept.same_count) due)),
     )
 
 -- its generation is that of the kept state

@@ -55,8 +55,8 @@ is_order_with test (order o) = test o
 abbrev pub was_sent : (Order → Bool) → List Happening → Bool
 was_sent test hs = list_any (λ m. is_order_with test m.1) (run empty_state hs).sends
 
--- Once a device is done with in an attempt, since it has answered for the last time or was excused, nothing more is
--- sent to it there, whatever comes later.
+-- Once a device is done with in an attempt, since it has answered for the last time or was excused, no later input has
+-- anything sent to it there. What earlier ones had sent may be handed over after that: the order is that of the inputs.
 abbrev pub NothingMoreIsSent : Type 0
 NothingMoreIsSent = (hs later : List Happening) (q d : ℕ) → IsTrue (list_any (is_end_of q d) (accepted_events hs))
     → IsTrue (not (list_any (λ m. is_order_with (is_order_to q d) m.1) (run (run empty_state hs).state later).sends))

@@ -17,7 +17,7 @@ use Rattle.cue_engine.specs.Given.{given_recovery}
 use Rattle.cue_engine.specs.Groups.{batches_given}
 use Rattle.cue_engine.specs.Recovery.{ClosedFrom}
 use Rattle.cue_engine.specs.Runs.{joined_list, rests}
-use Rattle.cue_engine.specs.InBytes.{BytesRest}
+use Rattle.cue_engine.specs.InBytes.{BytesRest, BytesPending}
 use Rattle.cue_engine.specs.Incidents.{Incident, committed, handed_out, stopped, stopped_in_commit}
 use Rattle.cue_engine.specs.Incidents.{recovered, stopped_in_recovery, Store, running, at_rest, unformed, LeavesOnly}
 use Rattle.cue_engine.specs.Incidents.{AreLeft}
@@ -57,9 +57,9 @@ is_cut_off (stopped_in_commit inputs n one other) = true
 is_cut_off (stopped_in_recovery one other) = true
 is_cut_off _ = false
 
--- These are the kept ones of the batches that came to the state, in their order, each by itself and whole. Only those
--- of a call that was cut off may not be kept, and then none of them is; a recovery comes after them. So between two
--- recoveries they are a prefix of the accepted batches that holds every acknowledged one.
+-- These are the kept ones of the batches that came to the state, in their order, each by itself and whole. Every
+-- acknowledged one is kept. Those of a call that was cut off all are, or none is: after it no other is accepted until a
+-- recovery. So between two recoveries the kept ones are a prefix.
 abbrev pub AreKept : ShowState → List Incident → List (List Event) → Type 0
 AreKept s [] kept = kept ≡ []
 AreKept s (i ∷ is) kept =
@@ -91,15 +91,17 @@ HasState (unformed one other) x y s = (s ≡ empty_state) × (NeitherHas x y ⊎
 
 -- ---- the promise
 
--- What a store came to from a state on: whole batches are kept, a prefix with every acknowledged one; they make the
--- state that it has; and each datagram that was handed to the network rests on them, down to its bytes: a GO_2PC on
--- the Go of its attempt, a CANCEL on its Cancel, a STANDBY or CANCEL on its Start.
+-- What a store came to from a state on: batches are kept, in order and each whole, every acknowledged one among them;
+-- they make the state that it has; and each datagram that was handed to the network rests on them, down to its bytes:
+-- a GO_2PC on the Go of its attempt, a CANCEL on its Cancel, a STANDBY or CANCEL on its Start. Each order was pending in
+-- a state that the first of their events make.
 pub record CameTo (s : ShowState) (store : Store) (is : List Incident) (x y : List ℕ) : Type 0 where
   pub kept : List (List Event)
   pub prefix : AreKept s is kept
   pub has : HasState (left_by_all store is) x y (after_events s (joined_list kept))
   pub decided : IsTrue (list_all (rests s (joined_list kept)) (all_handed store is))
   pub in_bytes : AllByRecursion (λ d. BytesRest s (joined_list kept) d.1) (datagrams (all_handed store is))
+  pub was_pending : AllByRecursion (λ d. BytesPending s (joined_list kept) d.1) (datagrams (all_handed store is))
 
 -- Whatever happens to a store, it comes to that.
 abbrev pub WhateverHappens : Type 0
@@ -121,9 +123,9 @@ pub record IsAnswered (x y : List ℕ) (state : ShowState) (queue : List (ℕ ×
   pub stood : ClosedFrom x y state
   pub owed : queue ≡ datagrams (all_pending state)
 
--- What recovery gives from disks that read as x and y: the state of a prefix of the accepted batches, each whole, that
--- holds every acknowledged one, with its undecided attempts cancelled, and the datagrams that are pending in it; and
--- no GO_2PC was handed to the network for an attempt whose decision that prefix lacks.
+-- What recovery gives from disks that read as x and y: the state of the kept batches, with its undecided attempts
+-- cancelled, and the datagrams that are pending in it; and no GO_2PC was handed to the network for an attempt whose
+-- decision the kept batches lack.
 pub record IsPromised (s : ShowState) (store : Store) (is : List Incident) (x y : List ℕ) : Type 0 where
   pub kept : List (List Event)
   pub prefix : AreKept s is kept

@@ -7,8 +7,9 @@ use Rattle.cue_osc.specs.Reading.{datagram_at}
 use Rattle.cue_core.specs.declared.event.Event.{Event}
 use Rattle.cue_core.specs.Events.{is_cancel_of, is_go_of, is_start_of}
 use Rattle.cue_core.specs.State.{ShowState, is_state}
-use Rattle.cue_outbox.specs.Sending.{number, datagrams}
-use Rattle.cue_engine.specs.Runs.{Happening, is_cancelling_in, run, joined_list}
+use Rattle.cue_core.specs.Pending.{Order}
+use Rattle.cue_outbox.specs.Sending.{number, datagrams, order_content}
+use Rattle.cue_engine.specs.Runs.{Happening, WasPending, is_cancelling_in, run, joined_list}
 use Rattle.cue_core.specs.Batches.{is_live_in, is_decided_in}
 
 -- the bytes are read as a message to this address about the attempt with this number
@@ -27,6 +28,10 @@ pub record BytesRest (s : ShowState) (es : List Event) (bytes : List ℕ) : Type
       → IsTrue (is_live_in s q || list_any (is_start_of q) es)
   pub cancelled : (q : ℕ) → AreReadAs bytes (codes "/msc/cancel") q
       → IsTrue (is_cancelling_in s q || list_any (is_cancel_of q) es)
+
+-- Bytes that are read as an order are of one that is pending in the state, or in the one after the first of the events.
+abbrev pub BytesPending : ShowState → List Event → List ℕ → Type 0
+BytesPending s es bytes = (o : Order) → datagram_at bytes ≡ Ok (order_content o) → WasPending s es o
 
 -- The bytes of each datagram of a run, recoveries in between or not, rest on the first state and the batches.
 abbrev pub BytesOfEachRest : Type 0

@@ -1,6 +1,6 @@
 -- What may happen to a store, and what it leaves.
 --
--- A store's life is a list of incidents: it is formed, inputs are taken, datagrams are handed over, and there are
+-- A store's life is a list of incidents: it is formed, inputs are committed, datagrams are handed over, and there are
 -- stops, recoveries and refusals. `Permits` says of each incident what the contract of its call says of what the two
 -- disks are left with, and nothing else. The laws of `Permitted` say that it does so.
 use Rattle.std.specs.Prelude.{ℕ, List, [], ◌∷◌, ◌++◌}
@@ -26,8 +26,8 @@ pub data Incident : Type 0 where
   -- A stop came while no call wrote to the disks, or the engine was closed. Of what was owed the first n datagrams had
   -- been handed to the network by then.
   stopped : (n : ℕ) (one other : Contents) → Incident
-  -- A stop came within `take` or `commit` of these inputs, or a disk failed there: they are kept together or not at all.
-  -- Of what was owed before it n datagrams may still be handed over.
+  -- A stop came within `take` or `commit` of these inputs, or a disk failed there: the batches of all of them are kept,
+  -- or none. Of what was owed before it n datagrams may still be handed over.
   stopped_in_commit : (inputs : List (ℕ × Input)) (n : ℕ) (one other : Contents) → Incident
   -- `recover` answered Ok, with this state.
   recovered : (state : ShowState) → Incident
@@ -65,9 +65,9 @@ pub record RecoversAs (one other : Contents) (s : ShowState) : Type 0 where
   pub left : AreLeft one other first second
   pub closed : ClosedFrom first second s
 
--- While an engine runs and no call writes, whatever a crash leaves stands for the state (`accepts` of `take`,
--- `stands` of `recover` and `close`, `formed` of `form`). A stop within `take` or `commit` leaves the state from before
--- or the one after all of the batches (`any_moment`).
+-- While an engine runs and no call writes, whatever a crash leaves stands for the state (`accepts` of `take` and
+-- `commit`, `stands` of `recover`, `state` and `close`, `formed` of `form`). A stop within `take` or `commit` leaves
+-- the state from before or the one after all of the batches (`any_moment`).
 abbrev pub PermitsRunning : ShowState → Incident → Type 0
 PermitsRunning s (committed inputs) = Unit {0}
 PermitsRunning s handed_out = Unit {0}

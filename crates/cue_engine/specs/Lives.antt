@@ -93,9 +93,8 @@ pub record LeavesAtEachStop {D : Type 0} (moment : D → ℕ) (held_at : D → �
   pub each : (i j : ℕ) (one other : Contents) → IsStop moment held_at a b new_a new_b P barrier i j
       → IsWithin (held_at new_a i) one → IsWithin (held_at new_b j) other → Q one other
 
--- A recovery gave this state and this queue: those of a prefix of the accepted batches, each whole, that holds every
--- acknowledged one, with its undecided attempts cancelled, and what is pending in it; and no GO_2PC was handed to the
--- network for an attempt whose decision that prefix lacks.
+-- A recovery gave this state and this queue: the state of the kept batches, with its undecided attempts cancelled, and
+-- what is pending in it; and no GO_2PC was handed to the network for an attempt whose decision the kept batches lack.
 pub record IsGivenBack (s : ShowState) (store : Store) (is : List Incident) (state : ShowState)
     (queue : List (ℕ × List ℕ)) : Type 0 where
   pub kept : List (List Event)

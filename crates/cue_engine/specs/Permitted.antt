@@ -45,7 +45,8 @@ abbrev pub PowerLossIsWithin : Type 0
 PowerLossIsWithin = (then_held : Contents) (bytes : List ℕ) → IsImage then_held bytes
     → IsWithin then_held (settled_contents bytes)
 
--- Between two calls (`accepts` of `take`, `stands` of `form`, `recover` and `close`): a stop is permitted.
+-- Between two calls (`accepts` of `take` and `commit`, `formed` of `form`, `stands` of `recover`, `state` and `close`):
+-- a stop is permitted.
 abbrev pub StopIsPermitted : {D : Type 0} (held : D → Contents) → Type 0
 StopIsPermitted {D} held =
     (s : ShowState) (owed : List (ℕ × Send)) (n : ℕ) (a b : D) (one other : Contents)

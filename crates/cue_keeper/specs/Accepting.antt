@@ -1,5 +1,5 @@
--- What a call that accepts batches does to a store, whether it succeeds or fails: the one word for it in each layer. One
--- batch is a list of one.
+-- What a call that accepts batches does to a store, whether it succeeds or fails: the one word for it in each layer.
+-- One batch is a list of one.
 use Rattle.std.specs.Prelude.{◌≡◌, ◌⊎◌, ◌≤◌, ◌+◌, ◌↔◌, if◌then◌else◌, false, true}
 use Rattle.std.specs.Prelude.{List, []}
 use Rattle.std.specs.Prelude.{length}
@@ -45,7 +45,8 @@ LeavesPair old new fault.Full = new ≡ old
 LeavesPair old new fault.Disk = is_broken new ≡ true
 
 -- the area into which the batches go: the live one, or a new one that has the state as it is written today
-abbrev pub area_for : {D : Type 0} {disk : Ghosts D} → (D → Contents) → ShowState → Snap D disk → List (List Event) → Area
+abbrev pub area_for : {D : Type 0} {disk : Ghosts D} → (D → Contents) → ShowState → Snap D disk → List (List Event)
+    → Area
 area_for held s snap batches =
     if lack_room snap batches then fresh (generation_of snap + 1) (state_text s) else live_area_of held snap
 

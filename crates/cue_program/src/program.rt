@@ -354,7 +354,7 @@ fn carry_out<R: Files<File = File> + Net + Clock + Eprint, I: Read, W: Write>(
 
 /// Carries a command line out, the program's name first, and answers the exit status: 0 where it is done, 1 where the
 /// show or the script refuses, 2 where the words are no command, 3 where the machine does. A refusal is printed as
-/// `! NAME`; why, and of which file or port, stands on standard error.
+/// `! NAME`; why, and of which file or port, stands on standard error. It takes no allocator: `rt` has one.
 pub fn perform<R: Files<File = File> + Net + Clock + Eprint + AllocGlobal, I: Read, W: Write>(
     rt: &R,
     words: &[String],

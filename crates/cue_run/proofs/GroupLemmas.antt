@@ -10,7 +10,7 @@ use Rattle.cue_engine.specs.Given.{Input, given_of}
 use Rattle.cue_engine.specs.Groups.{batches_given, sends_given}
 use Rattle.cue_engine.specs.Wires.{Handed, Grew, AllHanded}
 use Rattle.cue_engine.proofs.GroupLemmas.{is_a_run}
-use Rattle.cue_run.specs.Sources.{Answer, comes, GaveAll}
+use Rattle.cue_engine.specs.Sources.{Answer, comes, GaveAll}
 use Rattle.cue_run.specs.Running.{given_answers, story, HasRun}
 use Rattle.cue_run.specs.Grouping.{HandedCounted, CountedSoFar}
 use Rattle.cue_run.proofs.RunLemmas.{gave_none, gave_all_more, datagrams_more, all_handed_both}

@@ -3,5 +3,4 @@ mod OfferLemmas
 mod RoundLemmas
 mod RunLemmas
 mod StandLemmas
-mod TryLemmas
 mod WorkLemmas

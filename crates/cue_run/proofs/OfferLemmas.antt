@@ -12,8 +12,8 @@ use Rattle.cue_engine.specs.declared.engine.Engine.{Engine}
 use Rattle.cue_engine.specs.Given.{Input}
 use Rattle.cue_engine.specs.Groups.{batches_given, sends_given}
 use Rattle.cue_engine.specs.Taking.{IsOffered, WhateverWasOffered}
-use Rattle.cue_engine.specs.Observed.{keeper_of, queue_of, offered_of, has_room, FitsTogether}
-use Rattle.cue_run.specs.Sources.{Answer, comes, GaveAll}
+use Rattle.cue_engine.specs.Observed.{keeper_of, queue_of, offered_of, has_room, HasRoomForAll}
+use Rattle.cue_engine.specs.Sources.{Answer, comes, GaveAll}
 use Rattle.cue_run.specs.declared.turns.RunFault.{RunFault}
 use Rattle.cue_run.specs.Running.{given_answers}
 use Rattle.cue_run.specs.Grouping.{StaysOffered, HasOffered, CutShort, Gathered, OfferedNext}
@@ -32,7 +32,7 @@ module _ {D : Type 0} {disk : Ghosts D} where
   }
 
   -- and still fits
-  still_fits : (old new : Engine D disk) → StaysOffered old new → FitsTogether old → FitsTogether new
+  still_fits : (old new : Engine D disk) → StaysOffered old new → HasRoomForAll old → HasRoomForAll new
   still_fits old new stays fits =
       subst (λ (k : Keeper D disk). IsInTheWay (kept.pair_of k) (offered_of new) kept_fault.Full → ⊥) (sym stays.keeper)
       (subst (λ (bs : List (List Event)). IsInTheWay (kept.pair_of (keeper_of old)) bs kept_fault.Full → ⊥)
@@ -41,7 +41,7 @@ module _ {D : Type 0} {disk : Ghosts D} where
   -- the next input was offered where there was room for it, or nothing was
   pub fits_after : (size a b : ℕ) (r : Result Bool RunFault) (old new : Engine D disk)
       (left left_then : Option (List Answer)) → IsTrue (has_room old)
-      → OfferedNext size a b r old new left left_then → FitsTogether old → FitsTogether new
+      → OfferedNext size a b r old new left left_then → HasRoomForAll old → HasRoomForAll new
   fits_after size a b (Ok true) old new left left_then room next fits = next.2 room
   fits_after size a b (Ok false) old new left left_then room next fits = still_fits old new next.0 fits
   fits_after size a b (Err why) old new left left_then room next fits = still_fits old new next.0 fits

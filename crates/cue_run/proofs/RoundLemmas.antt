@@ -18,7 +18,7 @@ use Rattle.cue_engine.specs.Groups.{batches_given, sends_given}
 use Rattle.cue_engine.specs.Taking.{IsOffered}
 use Rattle.cue_engine.specs.Observed.{keeper_of, state_of, queue_of, offered_of, offered_sends_of, has_room}
 use Rattle.cue_engine.specs.Wires.{Handed}
-use Rattle.cue_run.specs.Sources.{Answer}
+use Rattle.cue_engine.specs.Sources.{Answer}
 use Rattle.cue_run.specs.declared.turns.RunFault.{RunFault}
 use Rattle.cue_run.specs.declared.turns.RunFault.TheVariants as fault
 use Rattle.cue_run.specs.declared.groups.round.Round.{Round}

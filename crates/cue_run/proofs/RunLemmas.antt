@@ -4,7 +4,7 @@ use Rattle.std.proofs.Common.{refl, sym, ap, ◌∙◌, subst, arith, length-app
 use Rattle.cue_core.specs.State.{ShowState}
 use Rattle.cue_outbox.specs.Sending.{datagram, datagrams, Send}
 use Rattle.cue_engine.specs.Wires.{Handed, handed_as, Grew, how_many_refused, AllHanded}
-use Rattle.cue_run.specs.Sources.{Answer, others_left, GaveInTurn, GaveAll}
+use Rattle.cue_engine.specs.Sources.{Answer, others_left, GaveInTurn, GaveAll}
 use Rattle.cue_run.specs.Running.{HasRun}
 
 gave_more : (size : ℕ) (old : List Answer) (gs : List Answer) (mid : List Answer) (hs : List Answer) (new : List Answer)

@@ -14,7 +14,7 @@ use Rattle.cue_keeper.specs.Observed as kept
 use Rattle.cue_keeper.proofs.CommittedLemmas.{unless_disk, still_broken, out_of_memory}
 use Rattle.cue_engine.specs.Given.{Input}
 use Rattle.cue_engine.specs.Groups.{batches_given}
-use Rattle.cue_run.specs.Sources.{Answer, comes, fails, GaveAll}
+use Rattle.cue_engine.specs.Sources.{Answer, comes, fails, GaveAll}
 use Rattle.cue_run.specs.declared.turns.RunFault.{RunFault}
 use Rattle.cue_run.specs.declared.turns.RunFault.TheVariants as fault
 use Rattle.cue_run.specs.declared.groups.offering.Stop.{Stop}

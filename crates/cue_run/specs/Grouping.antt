@@ -11,7 +11,7 @@ use Rattle.cue_engine.specs.declared.engine.Engine.{Engine}
 use Rattle.cue_engine.specs.Given.{Input}
 use Rattle.cue_engine.specs.Taking.{IsOffered, WhateverWasOffered}
 use Rattle.cue_engine.specs.Observed.{keeper_of, state_of, queue_of, offered_of, offered_sends_of, has_room}
-use Rattle.cue_engine.specs.Observed.{FitsTogether}
+use Rattle.cue_engine.specs.Observed.{HasRoomForAll}
 use Rattle.cue_engine.specs.Wires.{Handed, AllHanded}
 use Rattle.cue_run.specs.declared.turns.RunFault.{RunFault}
 use Rattle.cue_run.specs.declared.turns.RunFault.TheVariants as fault
@@ -20,7 +20,7 @@ use Rattle.cue_run.specs.declared.groups.offering.Stop.{Stop}
 use Rattle.cue_run.specs.declared.groups.offering.Stop.TheVariants as stop
 use Rattle.cue_run.specs.declared.groups.offering.First.{First}
 use Rattle.cue_run.specs.Running.{given_answers, HasRun, Keeps, Works, Refuses}
-use Rattle.cue_run.specs.Sources.{Answer, comes, ends, fails, GaveAll}
+use Rattle.cue_engine.specs.Sources.{Answer, comes, ends, fails, GaveAll}
 
 -- ---- what was offered
 
@@ -56,7 +56,7 @@ CutShort size (Some (fault.Engine f)) keeper left left_then =
 
 -- what is offered now can be committed together, if there was room for one input more
 abbrev pub StillFits : {D : Type 0} {disk : Ghosts D} → (old new : Engine D disk) → Type 0
-StillFits old new = IsTrue (has_room old) → FitsTogether new
+StillFits old new = IsTrue (has_room old) → HasRoomForAll new
 
 -- the next input was offered, or nothing was there
 abbrev pub OfferedNext : {D : Type 0} {disk : Ghosts D} → (size count count_then : ℕ) → Result Bool RunFault
@@ -146,7 +146,7 @@ pub record LostGroup {D : Type 0} {disk : Ghosts D} (round : Round) (old new : E
   pub unsent : round.unsent ≡ 0
   pub stop : round.stop ≡ Some (stop.Fault (fault.Engine why))
   pub accepts : Accepts (offered_of old) (Some why) (keeper_of old) (keeper_of new)
-  pub not_full : FitsTogether old → why ≡ Full → ⊥
+  pub not_full : HasRoomForAll old → why ≡ Full → ⊥
   pub told_same : told_then ≡ told
 
 -- why no round follows

@@ -20,7 +20,7 @@ use Rattle.cue_engine.specs.Wires.{Handed, AllHanded}
 use Rattle.cue_run.specs.declared.turns.Ended.{Ended}
 use Rattle.cue_run.specs.declared.turns.RunFault.{RunFault}
 use Rattle.cue_run.specs.declared.turns.RunFault.TheVariants as fault
-use Rattle.cue_run.specs.Sources.{Answer, comes, ends, fails, GaveAll}
+use Rattle.cue_engine.specs.Sources.{Answer, comes, ends, fails, GaveAll}
 
 -- inputs in turn, each at its time: as a source gives them, and as a run takes them
 abbrev pub given_answers : List (ℕ × Input) → List Answer

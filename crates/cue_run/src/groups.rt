@@ -9,11 +9,10 @@ mod handing;
 mod offering;
 mod round;
 
-use crate::source::Source;
 use crate::turns::{Ended, MAX_RECEIVED, RunFault};
 use crate::watch::{Unwatched, Watch};
 use cue_disk::Disk;
-use cue_engine::{Engine, Wire};
+use cue_engine::{Engine, Source, Wire};
 use cue_keeper::Fault;
 use offering::Stop;
 use round::take_round;

@@ -2,7 +2,6 @@
 use Rattle.std.proofs.Common.{◌≡◌, ◌⊎◌, inl, inr, ℕ, ◌+◌, ◌<◌, Bool, true, false, cond, ◌&&◌, ◌||◌, List, [], ◌∷◌, ◌++◌}
 use Rattle.std.proofs.Common.{nat_eq, refl, sym, ap, ◌∙◌, subst, true≢false, arith, IsTrue}
 use Rattle.std.specs.List.{AllByRecursion, Contains, list_all, list_any}
-use Rattle.std.proofs.lemmas.Bool.Decides.{nat_tests}
 use Rattle.cue_show.specs.declared.part.Part.{Part}
 use Rattle.cue_core.specs.declared.event.Event.{Event}
 use Rattle.cue_core.specs.declared.event.Event.TheVariants as event
@@ -10,28 +9,25 @@ use Rattle.cue_core.specs.Events.{is_about, is_ready_of, is_start_of}
 use Rattle.cue_core.specs.Happenings.{onto}
 use Rattle.cue_core.specs.History.{is_history, parts_by, state_of}
 use Rattle.cue_core.specs.State.{ShowState, empty_state}
-use Rattle.cue_core.specs.Steps.{acceptable}
-use Rattle.cue_core.proofs.history.TellsLemmas.{parts_by-on, quiet}
-use Rattle.cue_core.proofs.history.HappeningLemmas.{history-onto}
 use Rattle.cue_core.proofs.lists.AnyLemmas.{any-append, or_left, or_right}
 use Rattle.cue_core.proofs.lists.ConditionLemmas.{both, neither}
-use Rattle.cue_core.proofs.rules.SoundLemmas.{kept-history}
 use Rattle.cue_core.proofs.rules.BatchLemmas.{onto-append}
 use Rattle.cue_engine.specs.Attempts.{IsDecidedInOrder, may_go_after}
 use Rattle.cue_engine.specs.Incidents.{Incident, formed, stopped_in_form, committed, handed_out, stopped}
 use Rattle.cue_engine.specs.Incidents.{stopped_in_commit, recovered, stopped_in_recovery, refused}
 use Rattle.cue_engine.specs.Runs.{joined_list}
 use Rattle.cue_engine.proofs.AttemptLemmas.{any_in}
+use Rattle.cue_engine.proofs.KeptLemmas.{Around, around, kept_in_order, kept_is_a_history}
 use Rattle.cue_device.specs.Hearing.{device_at_rest}
 use Rattle.cue_device.specs.Histories.{answers_of}
 use Rattle.cue_device.specs.Laws.{has_stood_by}
 use Rattle.cue_stage.specs.Stage.{Beginning, Happening, meets, befalls, incidents, life_of}
 use Rattle.cue_stage.specs.Consent.{HasStoodBy, IsRequired, OnlyDevicesAnswer, OnlyWithConsent}
 use Rattle.cue_stage.proofs.DeliveredLemmas.{each_has}
-use Rattle.cue_stage.proofs.KeptLemmas.{Around, around, decided_kept, kept_ok}
 use Rattle.cue_stage.proofs.LifeLemmas.{keeps_numbers}
 use Rattle.cue_stage.proofs.PreparedLemmas.{said_told, said_still}
 use Rattle.cue_stage.proofs.SayingLemmas.{SaidIn, SaysAt, kept_says}
+use Rattle.cue_stage.proofs.StartLemmas.{no_start, parts_stay}
 
 -- ---- what an input says has been answered
 
@@ -80,64 +76,6 @@ said_is_answered from (meets i ∷ past) d q only said =
     by f (inr now) = true_now from past d q i only now
 said_is_answered from (befalls e what ∷ past) d q only said =
     answered_still from (befalls e what) past d q (said_is_answered from past d q only.1 said)
-
--- ---- the parts of an attempt are those of its Start, whatever comes later
-
-parts_stay : (q : ℕ) (es past : List Event) → list_any (is_start_of q) es ≡ false
-    → parts_by (onto es past) q ≡ parts_by past q
-parts_stay q [] past none = refl
-parts_stay q (e ∷ es) past none = by (is_start_of q e) refl (λ k. parts_stay q es (e ∷ past) k) none
-  where
-    by : (b : Bool) → is_start_of q e ≡ b
-        → (list_any (is_start_of q) es ≡ false → parts_by (onto es (e ∷ past)) q ≡ parts_by (e ∷ past) q)
-        → (b || list_any (is_start_of q) es) ≡ false → parts_by (onto es (e ∷ past)) q ≡ parts_by past q
-    by true is f k = absurd (true≢false k)
-    by false is f k = f k ∙ parts_by-on q e past is
-
-history_before : (es past : List Event) → IsTrue (is_history (onto es past)) → IsTrue (is_history past)
-history_before [] past h = h
-history_before (e ∷ es) past h =
-    (both (acceptable (state_of past) e) (is_history past) (history_before es (e ∷ past) h)).1
-
--- a number that is drawn is above the last one
-start_is_above : (q : ℕ) (s : ShowState) (e : Event) → is_start_of q e ≡ true → acceptable s e ≡ true → s.last_seq < q
-start_is_above q s (event.Device e p) is ok = absurd (true≢false (sym is))
-start_is_above q s (event.NoDevice e) is ok = absurd (true≢false (sym is))
-start_is_above q s (event.Cue x ps) is ok = absurd (true≢false (sym is))
-start_is_above q s (event.NoCue x) is ok = absurd (true≢false (sym is))
-start_is_above q s (event.Place x) is ok = absurd (true≢false (sym is))
-start_is_above q s (event.Start p x t) is ok = let drawn = (both (nat_eq p (s.last_seq + 1)) _ ok).0 in
-    grind (arith, nat_tests)
-start_is_above q s (event.Ready p e) is ok = absurd (true≢false (sym is))
-start_is_above q s (event.Go p) is ok = absurd (true≢false (sym is))
-start_is_above q s (event.Done p e) is ok = absurd (true≢false (sym is))
-start_is_above q s (event.Cancel p r) is ok = absurd (true≢false (sym is))
-start_is_above q s (event.LetGo p e) is ok = absurd (true≢false (sym is))
-start_is_above q s (event.Failed p e) is ok = absurd (true≢false (sym is))
-start_is_above q s (event.Excuse p e) is ok = absurd (true≢false (sym is))
-
-none_started : (q : ℕ) (es : List Event) → list_any (is_about q) es ≡ false → list_any (is_start_of q) es ≡ false
-none_started q [] h = refl
-none_started q (e ∷ es) h = let w = neither (is_about q e) (list_any (is_about q) es) h in
-    rw (quiet q e w.0).start (none_started q es w.1)
-
--- an attempt that has started does not start again
-no_start : (q : ℕ) (es past : List Event) → IsTrue (is_history (onto es past)) → list_any (is_start_of q) past ≡ true
-    → list_any (is_start_of q) es ≡ false
-no_start q [] past h started = refl
-no_start q (e ∷ es) past h started =
-    by (is_start_of q e) refl (λ k. no_start q es (e ∷ past) h (or_right (is_start_of q e) _ started))
-  where
-    new : is_start_of q e ≡ true → ⊥
-    new is =
-        let w = both (acceptable (state_of past) e) (is_history past) (history_before es (e ∷ past) h) in
-        let above : (state_of past).last_seq < q = start_is_above q (state_of past) e is w.0 in
-        true≢false (sym started ∙ none_started q past ((kept-history past w.1).unused q above))
-
-    by : (b : Bool) → is_start_of q e ≡ b → (Unit {0} → list_any (is_start_of q) es ≡ false)
-        → (b || list_any (is_start_of q) es) ≡ false
-    by true is f = absurd (new is)
-    by false is f = f tt
 
 -- ---- consent
 
@@ -196,9 +134,10 @@ pub only_with_consent : OnlyWithConsent
 only_with_consent from past x y d q h only keeps moved =
     let es : List Event = joined_list keeps.kept in
     let history : IsTrue (is_history (onto es [])) =
-    history-onto es [] refl (kept_ok empty_state (incidents past) keeps.kept refl keeps.prefix) in
+    kept_is_a_history (incidents past) keeps.kept keeps.prefix in
     let a : Around q es = around q es (keeps.decided d q moved) in
-    let decided : IsDecidedInOrder q a.before a.later = decided_kept q (incidents past) keeps.kept keeps.prefix a in
+    let decided : IsDecidedInOrder q a.before a.later =
+    kept_in_order (incidents past) keeps.kept q a.before a.later keeps.prefix a.split in
     record {
       started = started_in q a.before a.later es a.split decided.started;
       each = λ e r.

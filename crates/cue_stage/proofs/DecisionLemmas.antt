@@ -1,5 +1,5 @@
 -- What is handed over rests on the batches that are kept.
-use Rattle.std.proofs.Common.{ℕ, ◌^◌, ◌<◌, ◌≤◌, List, [], ◌∷◌, refl, ap, ◌∙◌, IsTrue, arith}
+use Rattle.std.proofs.Common.{◌≡◌, ℕ, ◌^◌, ◌<◌, ◌≤◌, Ok, List, [], ◌∷◌, refl, ap, ◌∙◌, IsTrue, arith}
 use Rattle.std.specs.Prelude.{codes}
 use Rattle.std.specs.List.{AllByRecursion, list_any}
 use Rattle.std.proofs.lemmas.Bool.{leb-true}
@@ -7,38 +7,43 @@ use Rattle.cue_show.specs.declared.limits.TheConstants.{MAX_DEVICE_NUMBER}
 use Rattle.cue_show.specs.DeviceNumber.{is_device}
 use Rattle.cue_core.specs.declared.event.Event.{Event}
 use Rattle.cue_core.specs.Events.{is_cancel_of, is_go_of}
+use Rattle.cue_core.specs.Happenings.{onto}
+use Rattle.cue_core.specs.History.{is_history}
 use Rattle.cue_core.specs.State.{empty_state}
 use Rattle.cue_core.specs.Pending.{cancel, go_2pc}
 use Rattle.cue_outbox.specs.Sending.{number, order_content}
 use Rattle.cue_osc.specs.Reading.{datagram_at}
 use Rattle.cue_outbox.proofs.ReadBackLemmas.{read_back, cancel_writable, go_2pc_writable}
 use Rattle.cue_engine.specs.Headline.{CameTo}
-use Rattle.cue_engine.specs.InBytes.{AreReadAs, BytesRest}
+use Rattle.cue_engine.specs.InBytes.{AreReadAs, BytesPending, BytesRest}
 use Rattle.cue_engine.specs.Runs.{joined_list}
+use Rattle.cue_engine.proofs.KeptLemmas.{kept_is_a_history, never_both}
 use Rattle.cue_engine.proofs.PromisedLemmas.{whatever_happens}
 use Rattle.cue_device.specs.declared.asked.Command.TheVariants.{Go, Cancel}
 use Rattle.cue_device.specs.declared.reading.TheConstants.{MAX_NUMBER}
 use Rattle.cue_device.specs.Datagrams.{IsFor, command_text}
 use Rattle.cue_stage.specs.Stage.{Beginning, Happening, handed_by, incidents}
-use Rattle.cue_stage.specs.Laws.{KeepsEachDecision, MovesRestOnDecisions, NotByHalves}
+use Rattle.cue_stage.specs.Laws.{KeepsEachDecision, MovesRestOnDecisions, NotByHalves, WasToMove}
 use Rattle.cue_stage.proofs.LifeLemmas.{begins, store_happens}
 use Rattle.cue_stage.proofs.DeliveredLemmas.{WasTold, each_has, was_told, was_told_to_go}
-use Rattle.cue_stage.proofs.KeptLemmas.{never_both}
+use Rattle.cue_stage.proofs.OfAttemptLemmas.{IsOfAttempt, of_pending}
 
 device_fits : (d : ℕ) → IsTrue (is_device d) → d < 2 ^ 31
 device_fits d h = let le : d ≤ MAX_DEVICE_NUMBER = leb-true d MAX_DEVICE_NUMBER h in omega arith
 
--- the bytes that a device takes for a GO_2PC are read as one
+-- the bytes that a device takes for a GO_2PC are read as one, to it
+read_as_order : (d q : ℕ) (bytes : List ℕ) → IsTrue (is_device d) → IsFor d bytes (Go q)
+    → datagram_at bytes ≡ Ok (order_content (go_2pc q d))
+unfolding command_text order_content
+read_as_order d q bytes is_number f =
+    let most : q ≤ MAX_NUMBER = f.is_command.numbered.1 in
+    let below : q < 2 ^ 31 = omega arith in
+    ap datagram_at f.text ∙ read_back (order_content (go_2pc q d)) (go_2pc_writable q d below (device_fits d is_number))
+
 read_as_go : (d q : ℕ) (bytes : List ℕ) → IsTrue (is_device d) → IsFor d bytes (Go q)
     → AreReadAs bytes (codes "/msc/go_2pc") q
-unfolding command_text order_content
-read_as_go d q bytes is_number f =
-    let most : q ≤ MAX_NUMBER = f.is_command.numbered.1 in
-    let below : q < 2 ^ 31 = omega arith in (
-      number d ∷ [],
-      ap datagram_at f.text
-          ∙ read_back (order_content (go_2pc q d)) (go_2pc_writable q d below (device_fits d is_number)),
-    )
+unfolding order_content
+read_as_go d q bytes is_number f = (number d ∷ [], read_as_order d q bytes is_number f)
 
 read_as_cancel : (d q : ℕ) (bytes : List ℕ) → IsTrue (is_device d) → IsFor d bytes (Cancel q)
     → AreReadAs bytes (codes "/msc/cancel") q
@@ -71,11 +76,28 @@ cancel_rests from past es d q rest told =
     (handed_by from past) m.datagram rest m.was_handed in
     bytes.cancelled q (read_as_cancel d q m.datagram.1 told.number m.is_command)
 
+-- all orders that were handed over were pending
+abbrev WerePending : Beginning → List Happening → List Event → Type 0
+WerePending from past es = AllByRecursion (λ m. BytesPending empty_state es m.1) (handed_by from past)
+
+go_of_attempt : (from : Beginning) (past : List Happening) (es : List Event) (d q : ℕ) → IsTrue (is_history (onto es []))
+    → WerePending from past es → WasTold from past d (Go q) → IsOfAttempt es q d
+go_of_attempt from past es d q h pending told =
+    let m = told.delivered in
+    let bytes : BytesPending empty_state es m.datagram.1 =
+    each_has (λ (m : ℕ × List ℕ). BytesPending empty_state es m.1) (handed_by from past) m.datagram pending
+    m.was_handed in
+    of_pending es q d h (bytes (go_2pc q d) (read_as_order d q m.datagram.1 told.number m.is_command))
+
 pub moves_rest_on_decisions : MovesRestOnDecisions
 moves_rest_on_decisions from past x y h may =
     let came : CameTo empty_state from.store (incidents past) x y =
     whatever_happens empty_state from.store (incidents past) x y refl (begins from past h)
     (store_happens from past h) may in
+    let es : List Event = joined_list came.kept in
+    let history : IsTrue (is_history (onto es [])) = kept_is_a_history (incidents past) came.kept came.prefix in
+    let going : (d q : ℕ) → WasToMove from past d q → IsOfAttempt es q d =
+    λ d q m. go_of_attempt from past es d q history came.was_pending (was_told_to_go from past d q h m) in
     record {
       kept = came.kept;
       prefix = came.prefix;
@@ -84,6 +106,8 @@ moves_rest_on_decisions from past x y h may =
           (was_told_to_go from past d q h m);
       cancelled = λ d q m. cancel_rests from past (joined_list came.kept) d q came.in_bytes
           (was_told from past d (Cancel q) h m);
+      of_attempt = λ d q m. (going d q m).among;
+      not_excused = λ d q m. (going d q m).not_excused;
     }
 
 pub not_by_halves : NotByHalves

@@ -2,10 +2,11 @@ pub mod MoveLemmas
 pub mod LifeLemmas
 pub mod DeliveredLemmas
 pub mod DecisionLemmas
-pub mod KeptLemmas
 pub mod OnceLemmas
 pub mod ReadyLemmas
 pub mod AskingLemmas
 pub mod SayingLemmas
 pub mod PreparedLemmas
+pub mod StartLemmas
 pub mod ConsentingLemmas
+pub mod OfAttemptLemmas

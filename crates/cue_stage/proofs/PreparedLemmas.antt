@@ -27,7 +27,7 @@ use Rattle.cue_device.specs.Table.{new_number, answer_over, new_standby, other_s
 use Rattle.cue_device.specs.Table.{same_standby}
 use Rattle.cue_device.proofs.HistoryLemmas.{all_fits}
 use Rattle.cue_device.proofs.FitsLemmas.{Stands}
-use Rattle.cue_stage.proofs.SayingLemmas.{further}
+use Rattle.cue_engine.proofs.AskedLemmas.{further}
 
 -- ---- what an answer comes of
 

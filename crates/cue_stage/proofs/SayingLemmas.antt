@@ -27,7 +27,8 @@ use Rattle.cue_engine.specs.Groups.{batches_given}
 use Rattle.cue_engine.specs.Heard.{Heard, carried_out, hear, heard_events, hear_all, all_events}
 use Rattle.cue_engine.specs.Headline.{AreKept}
 use Rattle.cue_engine.proofs.IncidentLemmas.{events_of, folded_batches}
-use Rattle.cue_stage.proofs.KeptLemmas.{joined_kept}
+use Rattle.cue_engine.proofs.AskedLemmas.{further}
+use Rattle.cue_engine.proofs.KeptLemmas.{joined_kept}
 use Rattle.cue_engine.specs.Incidents.{Incident, formed, stopped_in_form, committed, handed_out, stopped}
 use Rattle.cue_engine.specs.Incidents.{stopped_in_commit, recovered, stopped_in_recovery, refused}
 use Rattle.cue_engine.specs.Runs.{joined_list}
@@ -35,10 +36,6 @@ use Rattle.cue_engine.proofs.GivenLemmas.{given_by_test, in_full}
 use Rattle.cue_stage.specs.Consent.{IsStandingBy, SaysStandingBy}
 use Rattle.cue_stage.proofs.ReadyLemmas.{Among, ready_among}
 use Rattle.cue_stage.proofs.AskingLemmas.{read_among}
-
--- one that is at a place is there, too, where one more stands before it
-pub further : {X : Type 0} (x y : X) (xs : List X) → Contains xs y → Contains (x ∷ xs) y
-further x y xs c = let lt : c.0 < length xs = c.1 in (suc c.0, omega arith, c.2)
 
 -- ---- one message
 

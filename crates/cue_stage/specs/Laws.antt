@@ -1,8 +1,11 @@
 -- What holds of every stage, whatever happens to it.
-use Rattle.std.specs.Prelude.{◌≡◌, ◌≤◌, ℕ, true, List, IsTrue, count_by}
+use Rattle.std.specs.Prelude.{◌≡◌, ◌≤◌, ℕ, true, false, List, [], IsTrue, count_by}
 use Rattle.std.specs.List.{Contains, list_any}
 use Rattle.cue_core.specs.declared.event.Event.{Event}
-use Rattle.cue_core.specs.Events.{is_cancel_of, is_go_of}
+use Rattle.cue_show.specs.Devices.{is_among}
+use Rattle.cue_core.specs.Events.{is_cancel_of, is_excuse_of, is_go_of}
+use Rattle.cue_core.specs.Happenings.{onto}
+use Rattle.cue_core.specs.History.{devices_by}
 use Rattle.cue_core.specs.State.{empty_state}
 use Rattle.cue_core.specs.Steps.{after_events}
 use Rattle.cue_engine.specs.Headline.{AreKept, HasState, MayRead}
@@ -20,15 +23,25 @@ WasToMove from past d q = has_moved q (orders_by from past d) ≡ true
 abbrev pub WasToGiveUp : Beginning → List Happening → ℕ → ℕ → Type 0
 WasToGiveUp from past d q = Contains (life_of d past) (hears (Cancel q))
 
--- The batches that the store keeps, a prefix of the accepted ones with every acknowledged one. They make the state
--- that the store has, and hold the Go of each attempt for which any device was ordered to move, and the Cancel of each
--- of which a CANCEL came to any device.
+-- The batches that the store keeps: every acknowledged one, and of those of a call that was cut off all or none. They
+-- make the state that the store has. They hold the Go of each attempt for which any device was ordered to move, and
+-- the Cancel of each of which a CANCEL came to any device. By them a device that was ordered to move is one of the
+-- attempt's, and was not excused.
+--
+-- They do not say that all devices of the attempt move: one may fail, restart or never hear its GO_2PC. Nor that one
+-- that stood by still holds what it prepared. Nor what task it prepared: that a device hears no second STANDBY of the
+-- attempt with another task, for which it would give up without any CANCEL, is not proved.
 pub record KeepsEachDecision (from : Beginning) (past : List Happening) (x y : List ℕ) : Type 0 where
   pub kept : List (List Event)
   pub prefix : AreKept empty_state (incidents past) kept
   pub has : HasState (store_after from past) x y (after_events empty_state (joined_list kept))
   pub decided : (d q : ℕ) → WasToMove from past d q → IsTrue (list_any (is_go_of q) (joined_list kept))
   pub cancelled : (d q : ℕ) → WasToGiveUp from past d q → IsTrue (list_any (is_cancel_of q) (joined_list kept))
+  pub of_attempt :
+      (d q : ℕ)
+      → WasToMove from past d q
+      → IsTrue (is_among d (devices_by (onto (joined_list kept) []) q))
+  pub not_excused : (d q : ℕ) → WasToMove from past d q → list_any (is_excuse_of q d) (joined_list kept) ≡ false
 
 -- A move rests on a decision that stays: whatever happens, and whatever the disks then read as, the store keeps the
 -- Go of each attempt for which any device was ever ordered to move.
@@ -36,8 +49,8 @@ abbrev pub MovesRestOnDecisions : Type 0
 MovesRestOnDecisions = (from : Beginning) (past : List Happening) (x y : List ℕ) → Happens from past
     → MayRead (store_after from past) x y → KeepsEachDecision from past x y
 
--- Not by halves: where one device was ordered to move for an attempt, the controller has none give it up, and the
--- other way round.
+-- Not by halves: where one device was ordered to move for an attempt, no CANCEL of it comes to any, and the other way
+-- round.
 abbrev pub NotByHalves : Type 0
 NotByHalves = (from : Beginning) (past : List Happening) (x y : List ℕ) (d e q : ℕ) → Happens from past
     → MayRead (store_after from past) x y → WasToMove from past d q → WasToGiveUp from past e q → ⊥

@@ -3,7 +3,8 @@ ghost use Rattle.cue_stage.specs.Consent.{OnlyWithConsent};
 ghost use Rattle.cue_stage.specs.Laws.{MovesOnce, MovesRestOnDecisions, NotByHalves};
 
 /// A move rests on a decision that stays: a device is ordered to move for an attempt only where its Go is in the
-/// batches that the store keeps, and there it is kept, before and after every stop from then on.
+/// batches that the store keeps, and there it is kept, before and after every stop from then on. The device is one of
+/// the attempt's, and was not excused.
 pub fn moves_rest_on_decisions()
     ensures { MovesRestOnDecisions }
 {}

@@ -7,7 +7,8 @@ ghost use Rattle.cue_words.specs.Signs as said;
 use std::alloc::{AllocError, Global};
 
 /// Whether a terminal shows the character as a sign of its own. It does not show a control, a mark that turns the
-/// direction of a line, or a character without width that belongs to no other.
+/// direction of a line, or a character that Unicode lets every screen ignore: those without width, and those that
+/// choose a variant of the sign before them. An accent that stands over its letter is shown.
 pub fn is_shown(c: char) -> bool
     ensures { result ≡ said.is_shown c }
 {
@@ -19,14 +20,19 @@ pub fn is_shown(c: char) -> bool
             | '\u{34f}'
             | '\u{61c}'
             | '\u{115f}'..='\u{1160}'
-            | '\u{180e}'
+            | '\u{17b4}'..='\u{17b5}'
+            | '\u{180b}'..='\u{180f}'
             | '\u{200b}'..='\u{200f}'
             | '\u{2028}'..='\u{202e}'
             | '\u{2060}'..='\u{206f}'
             | '\u{3164}'
+            | '\u{fe00}'..='\u{fe0f}'
             | '\u{feff}'
             | '\u{ffa0}'
-            | '\u{fff9}'..='\u{fffb}'
+            | '\u{fff0}'..='\u{fffb}'
+            | '\u{13430}'..='\u{1343f}'
+            | '\u{1bca0}'..='\u{1bca3}'
+            | '\u{1d173}'..='\u{1d17a}'
             | '\u{e0000}'..='\u{e0fff}'
     )
 }

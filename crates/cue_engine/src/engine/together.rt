@@ -20,7 +20,7 @@ use cue_keeper::Fault;
 impl<D: Disk> Engine<D> {
     ghost use Rattle.cue_engine.specs.Taking.{Offers, IsOffered, TakesUp};
     ghost use Rattle.cue_engine.specs.Observed.{keeper_of, state_of, queue_of, latest_of, has_room, last_batches_of};
-    ghost use Rattle.cue_engine.specs.Observed.{offered_of, offered_sends_of, FitsTogether};
+    ghost use Rattle.cue_engine.specs.Observed.{offered_of, offered_sends_of, HasRoomForAll};
 
     /// Judges what came after all that was offered before, and keeps what it gives until `commit`; it answers how many
     /// commands are made, known and refused then. It makes no device call, and state and queue stay as they are. Where
@@ -35,7 +35,7 @@ impl<D: Disk> Engine<D> {
         ensures broken { IsErrOf result Fault.Broken ↔ (kept.is_broken (keeper_of self.old) ≡ true) }
         ensures memory { IfErr result (λ fault. (fault ≡ Fault.Broken) ⊎ (fault ≡ Fault.Memory)) }
         // Where `has_room` was asked before, `commit` has room for all of them.
-        ensures room { IsTrue (has_room self.old) → OnOk result (FitsTogether self.new) }
+        ensures room { IsTrue (has_room self.old) → OnOk result (HasRoomForAll self.new) }
     {
         if self.keeper.is_broken() {
             return Err(Fault::Broken);
@@ -110,7 +110,7 @@ impl<D: Disk> Engine<D> {
         ensures accepts { Accepts (offered_of self.old) (result_err result)
             (keeper_of self.old) (keeper_of self.new) }
         // It answers Full only where several inputs change something and the live area lacks room for them.
-        ensures no_full { FitsTogether self.old → IsErrOf result Fault.Full → ⊥ }
+        ensures no_full { HasRoomForAll self.old → IsErrOf result Fault.Full → ⊥ }
         ensures dropped { IsOffered [] self.new }
     {
         let offered = self.offered.take();

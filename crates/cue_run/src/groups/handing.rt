@@ -3,7 +3,7 @@ ghost use Rattle.std.specs.Prelude.{◌≡◌, [], MatchResult, IsErrOf};
 ghost use Rattle.std.specs.Result.{result_err};
 ghost use Rattle.cue_keeper.specs.Accepting.{Accepts};
 ghost use Rattle.cue_engine.specs.Taking.{IsOffered};
-ghost use Rattle.cue_engine.specs.Observed.{keeper_of, queue_of, offered_of, offered_sends_of, FitsTogether};
+ghost use Rattle.cue_engine.specs.Observed.{keeper_of, queue_of, offered_of, offered_sends_of, HasRoomForAll};
 ghost use Rattle.cue_run.specs.Grouping.{HandedCounted};
 
 use crate::watch::Watch;
@@ -59,7 +59,7 @@ pub(crate) fn take_group<D: Disk, W: Wire, V: Watch<W>>(
     ensures handed { MatchResult result
         (λ unsent. HandedCounted (W.told wire.old) (offered_sends_of engine.old) unsent (W.told wire.new))
         (λ _. W.told wire.new ≡ W.told wire.old) }
-    ensures no_full { FitsTogether engine.old → IsErrOf result Fault.Full → ⊥ }
+    ensures no_full { HasRoomForAll engine.old → IsErrOf result Fault.Full → ⊥ }
     ensures emptied { queue_of engine.new ≡ [] }
     ensures dropped { IsOffered [] engine.new }
 {

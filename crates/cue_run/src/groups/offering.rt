@@ -3,14 +3,13 @@ ghost use Rattle.std.specs.Prelude.{◌≡◌, ◌≤◌, ◌<◌, ◌+◌, ◌+
 ghost use Rattle.std.specs.Prelude.{vec_len, vec_capacity, OnOk, IfErr};
 ghost use Rattle.cue_engine.specs.Inputs.{input_view};
 ghost use Rattle.cue_engine.specs.Taking.{IsOffered, WhateverWasOffered};
-ghost use Rattle.cue_engine.specs.Observed.{keeper_of, queue_of, FitsTogether};
+ghost use Rattle.cue_engine.specs.Observed.{keeper_of, queue_of, HasRoomForAll};
 ghost use Rattle.cue_run.specs.Grouping.{StaysOffered, StillFits, IsTurnedDown, OfferedNext};
 ghost use Rattle.cue_run.specs.Grouping.{OfferedFirst, OfferedGroup, Gathered, answers_beside};
 
-use crate::source::{Source, Turn, Waiting};
 use crate::turns::RunFault;
 use cue_disk::Disk;
-use cue_engine::{Engine, Input};
+use cue_engine::{Engine, Input, Source, Turn, Waiting};
 use cue_keeper::Fault;
 
 /// Why no round follows.
@@ -91,7 +90,7 @@ fn offer_beside<D: Disk, S: Source>(
     requires room { vec_len ends.old < vec_capacity ends.old }
     ensures offered { OfferedNext (length buffer.old) (vec_len ends.old) (vec_len ends.new) result
         engine.old engine.new (S.left source.old) (S.left source.new) }
-    ensures fits { FitsTogether engine.old → FitsTogether engine.new }
+    ensures fits { HasRoomForAll engine.old → HasRoomForAll engine.new }
     ensures capacity { vec_capacity ends.new ≡ vec_capacity ends.old }
 {
     if !engine.has_room() {
@@ -144,7 +143,7 @@ fn gather<D: Disk, S: Source>(
     ensures gathered { Gathered (length buffer.old) (vec_len ends.old) (vec_len ends.new) result
         engine.old engine.new (S.left source.old) (S.left source.new) }
     // What is offered in the end can be committed together.
-    ensures fits { FitsTogether engine.old → FitsTogether engine.new }
+    ensures fits { HasRoomForAll engine.old → HasRoomForAll engine.new }
     ensures at_most { vec_len ends.new + answers_beside result ≤ most }
     ensures capacity { vec_capacity ends.new ≡ vec_capacity ends.old }
 {

@@ -6,11 +6,10 @@ ghost use Rattle.cue_run.specs.Grouping.{HasRound, LostGroup, TookGroup, stop_of
 
 use super::handing::take_group;
 use super::offering::{Stop, offer_group};
-use crate::source::Source;
 use crate::turns::RunFault;
 use crate::watch::Watch;
 use cue_disk::Disk;
-use cue_engine::{Engine, Wire};
+use cue_engine::{Engine, Source, Wire};
 
 /// What a round came to.
 #[derive(Clone, Copy)]

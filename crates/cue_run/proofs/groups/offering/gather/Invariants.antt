@@ -1,5 +1,5 @@
 use Rattle.std.proofs.Common.{◌≡◌, length, vec_len, vec_capacity}
-use Rattle.cue_engine.specs.Observed.{FitsTogether}
+use Rattle.cue_engine.specs.Observed.{HasRoomForAll}
 use Rattle.cue_run.specs.Grouping.{HasOffered}
 use Rattle.cue_run.proofs.groups.offering.gather.Given as goal
 
@@ -10,4 +10,4 @@ invariant-loop-count g l =
     × (vec_len l.ends ≡ l.count)
     × (vec_capacity l.ends ≡ vec_capacity l.fn.ends)
     × (length l.buffer ≡ length l.fn.buffer)
-    × (FitsTogether l.fn.engine → FitsTogether l.engine)
+    × (HasRoomForAll l.fn.engine → HasRoomForAll l.engine)

@@ -1,0 +1,55 @@
+-- What an attempt may count on, over every life of a store, with stops anywhere.
+--
+-- `Attempts` says the same of runs, which lose no batch. Here every list of incidents is meant, with whatever batches
+-- it may have kept.
+use Rattle.std.specs.Prelude.{◌≡◌, ℕ, Bool, not, ◌&&◌, List, ◌∷◌, ◌++◌, [], IsTrue}
+use Rattle.std.specs.List.{list_any}
+use Rattle.cue_core.specs.declared.event.Event.{Event}
+use Rattle.cue_core.specs.declared.event.Event.TheVariants.{Start, Go}
+use Rattle.cue_core.specs.Events.{is_start_of}
+use Rattle.cue_core.specs.State.{ShowState, empty_state}
+use Rattle.cue_core.specs.Happenings.{onto}
+use Rattle.cue_core.specs.History.{is_history}
+use Rattle.cue_core.specs.Pending.{Order}
+use Rattle.cue_core.specs.Safety.{is_go_to, is_cancel_to}
+use Rattle.cue_engine.specs.Attempts.{IsDecidedInOrder, is_order_with}
+use Rattle.cue_engine.specs.Headline.{AreKept, BeginsWith, MayRead, all_handed}
+use Rattle.cue_engine.specs.Incidents.{Incident, Store, Happens, left_by_all}
+use Rattle.cue_engine.specs.Runs.{Happening, run, joined_list}
+
+-- These are all batches of this run.
+pub record IsOfRun (s : ShowState) (kept : List (List Event)) : Type 0 where
+  pub happenings : List Happening
+  pub same : (run s happenings).batches ≡ kept
+
+-- What is kept are the batches of a run, in which what was cut off and lost never came: each law on runs holds of it.
+abbrev pub KeptIsARun : Type 0
+KeptIsARun = (s : ShowState) (is : List Incident) (kept : List (List Event)) → AreKept s is kept → IsOfRun s kept
+
+-- It is a history: each law on histories holds of it.
+abbrev pub KeptIsAHistory : Type 0
+KeptIsAHistory = (is : List Incident) (kept : List (List Event)) → AreKept empty_state is kept
+    → IsTrue (is_history (onto (joined_list kept) []))
+
+-- Go of an attempt is kept only after Ready of each required device, after Ready or Excuse of each optional one, and
+-- after no Cancel; and no Cancel is kept after it.
+abbrev pub KeptInOrder : Type 0
+KeptInOrder = (is : List Incident) (kept : List (List Event)) (q : ℕ) (before later : List Event)
+    → AreKept empty_state is kept → joined_list kept ≡ before ++ Go q ∷ later → IsDecidedInOrder q before later
+
+-- A number names one attempt for good: no other Start that is kept has it.
+abbrev pub KeptNumberNamesOne : Type 0
+KeptNumberNamesOne = (is : List Incident) (kept : List (List Event)) (q : ℕ) (cue : List ℕ) (deadline : ℕ)
+    (before later : List Event) → AreKept empty_state is kept
+    → joined_list kept ≡ before ++ Start q cue deadline ∷ later
+    → IsTrue (not (list_any (is_start_of q) before) && not (list_any (is_start_of q) later))
+
+-- some order that was handed to the network passes the test
+abbrev pub was_handed : (Order → Bool) → Store → List Incident → Bool
+was_handed test store is = list_any (λ m. is_order_with test m.1) (all_handed store is)
+
+-- Where a GO_2PC of an attempt was handed to the network, for whichever device, no CANCEL of it is, for any.
+abbrev pub NeverHandedBoth : Type 0
+NeverHandedBoth = (store : Store) (is : List Incident) (x y : List ℕ) (q d e : ℕ) → BeginsWith store empty_state
+    → Happens store is → MayRead (left_by_all store is) x y
+    → IsTrue (not (was_handed (is_go_to q d) store is && was_handed (is_cancel_to q e) store is))

@@ -1,8 +1,10 @@
 """A network that loses, copies and delays datagrams, between a controller and one device."""
+import collections
 import heapq
 import random
 import select
 import socket
+import struct
 import threading
 import time
 
@@ -10,14 +12,16 @@ LOSS, COPIES = 0.2, 0.2
 
 
 class LossyNetwork(threading.Thread):
-    """Stands at a port of its own, and hands on what it does not lose: some twice, each after a delay of its own."""
+    """Stands at a port of its own, and hands on what it does not lose: some twice, each after a delay of its own. What
+    becomes of a datagram is drawn from its bytes and how often they came: a run can be repeated, whatever the load."""
 
     def __init__(self, device_port, seed, delay):
         super().__init__(daemon=True)
-        self.device, self.chance, self.delay = ("127.0.0.1", device_port), random.Random(seed), delay
+        self.device, self.seed, self.delay = ("127.0.0.1", device_port), seed, delay
         self.front, self.back = self.open(), self.open()  # at the front is the controller, at the back the device
         self.port, self.controller = self.front.getsockname()[1], None
-        self.came, self.lost, self.overtaken = [], 0, 0  # what was handed on: its address, and when
+        self.said, self.came, self.overtaken = [], [], 0  # by the device, and to either: address, number, and when
+        self.copies = collections.Counter()  # how often the same bytes came to the same side
         self.ended = threading.Event()
 
     @staticmethod
@@ -31,9 +35,9 @@ class LossyNetwork(threading.Thread):
         while not self.ended.is_set():
             ready, _, _ = select.select([self.front, self.back], [], [], 0.005)
             for wire in ready:
-                for copy in self.take(wire):
+                for delay, *copy in self.take(wire):
                     count += 1
-                    heapq.heappush(under_way, (time.monotonic() + self.delay * self.chance.random(), count, *copy))
+                    heapq.heappush(under_way, (time.monotonic() + delay, count, *copy))
             while under_way and under_way[0][0] <= time.monotonic():
                 _, number, wire, data = heapq.heappop(under_way)
                 self.overtaken += number < latest
@@ -44,32 +48,65 @@ class LossyNetwork(threading.Thread):
         to = self.device if wire is self.back else self.controller
         if to:
             wire.sendto(data, to)
-            self.came.append((data[:data.index(b"\0")].decode(), time.monotonic()))
+            self.came.append(self.noted(data))
+
+    @staticmethod
+    def noted(data):
+        """The address of a datagram, and what a reply replies to; else the number of its attempt; and this moment."""
+        address, at = LossyNetwork.text(data, 0)
+        _, at = LossyNetwork.text(data, at)
+        if address == "/reply":
+            return f"/reply {LossyNetwork.text(data, at)[0]}", None, time.monotonic()
+        return address, struct.unpack_from(">i", data, at)[0], time.monotonic()
+
+    @staticmethod
+    def text(data, at):
+        """An OSC-string, and the place after its zeros."""
+        end = data.index(b"\0", at)
+        return data[at:end].decode(), end + 4 - end % 4
 
     def take(self, wire):
-        """The copies that go on of a datagram that came."""
+        """The copies that go on of a datagram that came, each with its delay."""
         try:
             data, sender = wire.recvfrom(4096)
         except ConnectionRefusedError:
             return []
         if wire is self.front:
             self.controller = sender
-        chance = self.chance.random()
-        self.lost += chance < LOSS
-        on = (self.back if wire is self.front else self.front, data)
-        return [on] * (0 if chance < LOSS else 2 if chance > 1 - COPIES else 1)
+        else:
+            self.said.append(self.noted(data))
+        side = "front" if wire is self.front else "back"
+        self.copies[side, data] += 1
+        chance = random.Random(f"{self.seed} {side} {data.hex()} {self.copies[side, data]}")
+        drawn = chance.random()
+        copies = 0 if drawn < LOSS else 2 if drawn > 1 - COPIES else 1
+        return [(self.delay * chance.random(), self.back if side == "front" else self.front, data)
+                for _ in range(copies)]
 
-    def has_brought(self, address, since):
-        return any(came == address and at >= since for came, at in list(self.came))
+    def has_brought(self, address, since=0.0, number=None, before=float("inf")):
+        """Whether a message with this address, and this number if it is asked for, came through between two moments."""
+        return any(came == address and number in (None, of) and since <= at < before
+                   for came, of, at in list(self.came))
 
-    def brings(self, address, since, seconds):
-        """Waits until a message with this address has come through since then; whether it has."""
+    def has_heard(self, address, number):
+        """Whether the device has sent this answer, also if it was lost."""
+        return any((said, of) == (address, number) for said, of, _ in list(self.said))
+
+    @staticmethod
+    def waits(holds, seconds):
+        """Waits until this holds; whether it does."""
         end = time.monotonic() + seconds
-        while time.monotonic() < end:
-            if self.has_brought(address, since):
-                return True
+        while not holds() and time.monotonic() < end:
             time.sleep(0.005)
-        return False
+        return holds()
+
+    def brings(self, address, since, seconds, number=None):
+        """Waits until such a message has come through since then; whether it has."""
+        return self.waits(lambda: self.has_brought(address, since, number), seconds)
+
+    def hears(self, address, number, seconds):
+        """Waits until the device has sent this answer; whether it has."""
+        return self.waits(lambda: self.has_heard(address, number), seconds)
 
     def close(self):
         self.ended.set()

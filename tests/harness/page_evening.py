@@ -3,6 +3,7 @@ import json
 import re
 import socket
 import subprocess
+import sys
 import tempfile
 import time
 from pathlib import Path
@@ -11,8 +12,10 @@ import serving
 from checking import check
 from desk_show import EVENING, at_own_ports
 
-NASTY = "<script>alert(1)</script> & \\\"'<b>"
-SHOWN = "<script>alert(1)</script> & \"'<b>"
+# Names that a page could take for more than texts; in the pictures of docs/pictures plain ones.
+IS_PLAIN = "--pictures" in sys.argv
+NASTY = "House to half" if IS_PLAIN else "<script>alert(1)</script> & \\\"'<b>"
+SHOWN = NASTY.replace("\\", "")
 
 
 def free_tcp():

@@ -121,8 +121,6 @@ fn all_slips_of_an_entry_are_said(rt: HostRuntime) {
 #[test]
 fn mistakes_have_their_lines_with_any_editor(rt: HostRuntime) {
     let alloc = rt.alloc();
-    let draft = read(alloc, LACKS).expect(&rt, "memory");
-    assert!(rt; are_said(alloc, &draft.findings, &LACKING).expect(&rt, "memory"));
     for (front, end) in EDITORS {
         let text = edited(alloc, LACKS, front, end).expect(&rt, "memory");
         let draft = read(alloc, text.as_str()).expect(&rt, "memory");

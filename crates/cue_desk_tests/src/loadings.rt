@@ -1,5 +1,5 @@
 //! Plans of loadings: stores that differ from their show file in each way, and in random ways.
-use cue_loading::{Difference, Step, after, differences, plan};
+use cue_loading::{Difference, after, differences, plan};
 use cue_show::{CueNo, DeviceNo, Show};
 use cue_show_file::{check, read};
 use std::alloc::{AllocError, Global};
@@ -289,16 +289,4 @@ fn what_differs_is_named(rt: HostRuntime) {
     assert!(rt; differences.as_slice() == wanted.as_slice());
     let none = found(alloc, stored, stored).expect(&rt, "memory");
     assert!(rt; none.is_empty());
-}
-
-#[test]
-fn a_step_that_a_controller_refuses_is_none(rt: HostRuntime) {
-    let store = show_of(rt.alloc(), TWO, "1:3").expect(&rt, "memory");
-    let Some(store) = store else {
-        panic!(rt; "there is a show");
-    };
-    let used = [Step::RemoveDevice(device(&rt, 3))];
-    assert!(rt; after(&store, &used).expect(&rt, "memory").is_none());
-    let unused = [Step::RemoveDevice(device(&rt, 4))];
-    assert!(rt; after(&store, &unused).expect(&rt, "memory").is_some());
 }

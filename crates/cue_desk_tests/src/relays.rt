@@ -1,8 +1,8 @@
-//! A relay over a list in memory, when a device is silent, and the text of a status.
+//! A relay over a list in memory, and the text of a status.
 use cue_relay::status::{Ordered, Status, heard_words, read, written};
 use cue_relay::{
-    Address, Contact, Counts, MemAnswer, MemSource, MemWire, Message, News, Opening, Relay, Route,
-    Side, Unwatched, run,
+    Address, Contact, Counts, MemAnswer, MemSource, MemWire, Message, Opening, Relay, Route, Side,
+    Unwatched, run,
 };
 use cue_show::DeviceNo;
 use std::alloc::Global;
@@ -151,89 +151,6 @@ fn only_answers_and_orders_go_on(rt: HostRuntime) {
     }
     let (counts, _wire) = relayed(&rt, answers);
     assert!(rt; (counts.passed, counts.dropped) == (0, 21));
-}
-
-// At each of these times an answer of device 3 comes so many times, and so many of them go on: a hundred within a
-// second, and again once the clock is put back.
-const RATES: [(u64, u32, u64); 6] = [
-    (5_000, 60, 60),
-    (5_500, 60, 40),
-    (5_999, 10, 0),
-    (6_000, 90, 60),
-    (6_500, 60, 40),
-    (1_000, 130, 100),
-];
-
-#[test]
-fn a_device_has_its_rate(rt: HostRuntime) {
-    let mut answers = Vec::new(rt.alloc());
-    let mut wanted = 0u64;
-    for (now, count, goes_on) in RATES {
-        for _ in 0..count {
-            let answer = came(&rt, now, (0, Side::Stage), WINCH, COMPLETE);
-            answers.push(answer).expect(&rt, "memory");
-        }
-        wanted = wanted.saturating_add(goes_on);
-        let other = came(&rt, now, (1, Side::Controller), CONTROLLER, CANCEL);
-        answers.push(other).expect(&rt, "memory");
-    }
-    let (counts, _wire) = relayed(&rt, answers);
-    assert!(rt;
-        counts.passed == wanted.saturating_add(6),
-        "{} passed",
-        counts.passed
-    );
-}
-
-const STANDBY_7: Message = Message::Order {
-    order: Ordered::Standby,
-    seq: 7,
-};
-
-const GO_7: Message = Message::Order {
-    order: Ordered::Go,
-    seq: 7,
-};
-
-const STANDBY_8: Message = Message::Order {
-    order: Ordered::Standby,
-    seq: 8,
-};
-
-const ANSWER_3: Message = Message::Answer { seq: 3 };
-
-const ANSWER_7: Message = Message::Answer { seq: 7 };
-
-const ANSWER_8: Message = Message::Answer { seq: 8 };
-
-// What a device sends and is sent, and what is said of it then: at a time in milliseconds.
-const SEEN: [(u64, Option<Message>, Option<News>); 14] = [
-    (1_000, Some(STANDBY_7), None),
-    (2_000, Some(ANSWER_7), Some(News::FirstHeard)),
-    (2_000, Some(Message::Reply), None),
-    (60_000, None, None),
-    (60_000, Some(GO_7), None),
-    (120_000, None, None),
-    (120_000, Some(ANSWER_7), None),
-    (200_000, Some(STANDBY_8), None),
-    (203_000, Some(STANDBY_8), None),
-    (204_000, Some(ANSWER_3), None),
-    (208_999, None, None),
-    (209_000, None, Some(News::Silent)),
-    (210_000, None, None),
-    (211_000, Some(ANSWER_8), Some(News::HeardAgain)),
-];
-
-#[test]
-fn a_device_is_silent_that_does_not_answer(rt: HostRuntime) {
-    let mut contact = Contact::NEVER;
-    for (now, message, wanted) in SEEN {
-        let news = match message {
-            Some(message) => contact.take(message, now),
-            None => contact.pass(now),
-        };
-        assert!(rt; news == wanted, "at {now}: {news:?}");
-    }
 }
 
 fn status(rt: &(impl Abort + AllocGlobal), alloc: Global) -> Status {

@@ -1,6 +1,5 @@
 pub mod Alarms
 pub mod Ends
-pub mod Lit
 pub mod Live
 pub mod Network
 pub mod Page

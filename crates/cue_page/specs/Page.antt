@@ -3,9 +3,9 @@ use Rattle.std.specs.Prelude.{ℕ, List, ◌-◌, map, codes, Option, None, Some
 use Rattle.serde_json.specs.Data.{Data, null, number, unsigned, string, array, object, Members, member, no_members, put}
 use Rattle.serde_json.specs.View.{items_of, view}
 use Rattle.cue_view.specs.declared.view.View.{View}
+use Rattle.cue_request.specs.Lit.{button_data}
 use Rattle.cue_page.specs.Alarms.{alarm_data}
 use Rattle.cue_page.specs.Ends.{told_data, told_or_null}
-use Rattle.cue_page.specs.Lit.{button_data}
 use Rattle.cue_page.specs.Live.{attempt_data}
 use Rattle.cue_page.specs.Network.{contact_data}
 use Rattle.cue_page.specs.Said.{said_data, unsent_data}

@@ -4,7 +4,8 @@
 //! 9112, over the kit's `httparse`, and a body of at most 256 bytes. Its host, origin and token, and whether a page of
 //! another site asks, are looked at before anything else. A field that is there twice counts as not there. A press is
 //! the number of the view that was shown, a space, and the text of one of its buttons, as `712 go 12.5 31` for attempt
-//! 31: `specs/Requests.antt` (`IsCommand`), `specs/Presses.antt`; an answer is its bytes (`specs/Answers.antt`).
+//! 31: `specs/Requests.antt` (`IsCommand`), `specs/Presses.antt`; the lit buttons are given with these texts
+//! (`specs/Lit.antt`), and an answer is its bytes (`specs/Answers.antt`).
 //!
 //! Why it is so:
 //! - Any page that the same person has open can send requests to this machine. So a command is taken only with our own
@@ -21,6 +22,7 @@
 
 pub mod answering;
 mod fields;
+pub mod lit;
 mod numbers;
 pub mod pressing;
 pub mod replying;

@@ -1,4 +1,4 @@
-// A strict OSC 1.0 reader by hand, timed beside `cue_bench`. Build: c++ -std=c++17 -O2 -o osc_reader osc_reader.cpp
+// A strict OSC 1.0 reader by hand, beside `tests/tools/bench`. Build: c++ -std=c++17 -O2 -o osc_reader osc_reader.cpp
 //
 // It holds a datagram to each rule that `cue_osc::read` does, and builds the same value: a bundle is a vector of its
 // items, a message is a slice of the datagram and a vector of arguments. Nothing of the datagram is copied.

@@ -120,13 +120,6 @@ fn stand_by(rt: &impl Abort, alloc: Global, evening: &mut Evening) -> Result<(),
     evening.look(rt, alloc)
 }
 
-// Cue 1 is given, and its device has moved.
-fn give(rt: &impl Abort, alloc: Global, evening: &mut Evening) -> Result<(), Fail> {
-    evening.pressed(rt, alloc, Button::Go(cue(rt, "1"), 1))?;
-    evening.house.answer(rt, alloc, 3, 1, AnswerKind::Complete)?;
-    evening.look(rt, alloc)
-}
-
 // The cue that is next, and nothing is wrong.
 fn is_next(rt: &impl Abort, evening: &Evening, number: &str) -> bool {
     let view = evening.shown(rt);
@@ -141,16 +134,5 @@ fn a_cue_is_stood_by(rt: HostRuntime) -> Result<(), Fail> {
     stand_by(&rt, alloc, &mut evening)?;
     assert!(rt; evening.shown(&rt).chosen == Some(1));
     assert!(rt; evening.is_lit(&rt, Button::Go(cue(&rt, "1"), 1)));
-    Ok(())
-}
-
-#[test]
-fn a_cue_is_given(rt: HostRuntime) -> Result<(), Fail> {
-    let alloc = rt.alloc();
-    let mut evening = looked(&rt, alloc)?;
-    stand_by(&rt, alloc, &mut evening)?;
-    give(&rt, alloc, &mut evening)?;
-    assert!(rt; evening.shown(&rt).chosen.is_none());
-    assert!(rt; is_next(&rt, &evening, "2"));
     Ok(())
 }

@@ -10,13 +10,6 @@ const GROUP: [&[u8]; 4] = [
     b"/show/device\0\0\0\0,ii\0\0\0\0\x03\0\0\x23\x29",
 ];
 
-/// A second cue, and datagrams that move to each of both.
-const CUE_2: &[u8] = b"/show/cue\0\0\0,sib\0\0\0\x002\0\0\0\0\0\0\x03\0\0\0\x02\x0a\x0b\0\0";
-
-const GOTO_1: &[u8] = b"/cue/1/goto\0";
-
-const GOTO_2: &[u8] = b"/cue/2/goto\0";
-
 fn input(bytes: &[u8]) -> Input<'_> {
     Input::Datagram { from: 8000, bytes }
 }
@@ -136,25 +129,6 @@ fn as_one_at_a_time(rt: HostRuntime) -> Result<(), Fail> {
     Ok(())
 }
 
-fn offer_and_withdraw(rt: &impl Abort, engine: &mut Engine<MemDisk>) -> Result<(), Fail> {
-    offer_each(rt, engine)?;
-    engine.withdraw();
-    engine.commit()?;
-    assert!(rt; engine.queue().is_empty());
-    Ok(())
-}
-
-/// What was offered and is withdrawn is not committed.
-#[test]
-fn withdrawn(rt: HostRuntime) -> Result<(), Fail> {
-    let alloc = rt.alloc();
-    let plain = show(&rt, alloc, &[])?;
-    let mut engine = opened(alloc, show(&rt, alloc, &[])?)?;
-    let done = offer_and_withdraw(&rt, &mut engine);
-    expect_same_bytes(&rt, &closed(engine), &plain);
-    done
-}
-
 // The first disk's calls while a show is recovered.
 fn calls_at_recovery(rt: &impl Abort, alloc: Global) -> Result<u64, Fail> {
     let disks = show(rt, alloc, &[])?;
@@ -211,43 +185,4 @@ fn stops_within_a_commit(rt: HostRuntime) -> Result<(), Fail> {
         expect_none_or_all(&rt, alloc, &disks)?;
     }
     Ok(())
-}
-
-// Fills the live area but for one record.
-fn fill(engine: &mut Engine<MemDisk>) -> Result<(), Fail> {
-    let _made = take_each(engine)?;
-    let _counts = engine.take(0, input(CUE_2))?;
-    for _ in 0..126 {
-        let _counts = engine.take(0, input(GOTO_2))?;
-        let _counts = engine.take(0, input(GOTO_1))?;
-    }
-    Ok(())
-}
-
-// Offers two where there is room for one, and then one.
-fn offer_too_many(rt: &impl Abort, engine: &mut Engine<MemDisk>) -> Result<(), Fail> {
-    let owed = engine.queue().len();
-    let _counts = engine.offer(0, input(GOTO_2))?;
-    assert!(rt; !engine.has_room());
-    let _counts = engine.offer(0, input(GOTO_1))?;
-    assert_eq!(rt; engine.commit(), Err(Fault::Full));
-    assert_eq!(rt; engine.queue().len(), owed);
-    assert_eq!(rt; engine.offered_sends(), 0);
-    let _counts = engine.offer(0, input(GOTO_2))?;
-    Ok(engine.commit()?)
-}
-
-fn fill_and_offer(rt: &impl Abort, engine: &mut Engine<MemDisk>) -> Result<(), Fail> {
-    fill(engine)?;
-    offer_too_many(rt, engine)
-}
-
-/// Where an area lacks room for all that was offered, the commit is refused, and what was offered is dropped.
-#[test]
-fn full_without_room(rt: HostRuntime) -> Result<(), Fail> {
-    let alloc = rt.alloc();
-    let mut engine = opened(alloc, show(&rt, alloc, &[])?)?;
-    let done = fill_and_offer(&rt, &mut engine);
-    let _disks = closed(engine);
-    done
 }

@@ -6,7 +6,6 @@ use cue_evening::reasons::standby_line;
 use cue_evening::replies;
 use cue_exchange::{Answer, Answers, Attempt, DeviceAnswer, Reason, Stage};
 use cue_show::{CueNo, DeviceNo};
-use cue_words::code_words;
 use std::alloc::{AllocError, Global};
 use std::process::Abort;
 use std::test::Fail;
@@ -141,46 +140,6 @@ fn two_that_end_a_preparation(rt: HostRuntime) -> Result<(), Fail> {
         assert_eq!(rt; count_of(&events, commands), count);
     }
     Ok(())
-}
-
-/// Numbers of codes with their words, as the table for the stage manager has them.
-const WORDS: [(i32, &str); 28] = [
-    (-1, "refused"),
-    (0, "refused"),
-    (1, "the message could not be read whole"),
-    (2, "the address is no pattern"),
-    (3, "no such method, cue or device"),
-    (4, "the arguments are not those of the method"),
-    (5, "a number is out of range"),
-    (6, "it is there already, and differs"),
-    (7, "no room"),
-    (8, "not parts that a cue can have"),
-    (9, "a part is for a device that is not there"),
-    (10, "a cue uses the device"),
-    (11, "the cue or a device of it is busy"),
-    (12, "nothing is stood by"),
-    (13, "not every device is ready"),
-    (14, "the cue was given"),
-    (15, "the answer came late"),
-    (16, "the answer came early"),
-    (17, "the answer came from another port"),
-    (18, "the moment is too late for a deadline"),
-    (19, "no number is left for an attempt"),
-    (20, "the device is not part of the attempt"),
-    (21, "refused"),
-    (30, "the datagram is no OSC packet"),
-    (31, "the datagram is too long"),
-    (32, "the datagram is for later"),
-    (33, "the datagram asks for too much at once"),
-    (34, "refused"),
-];
-
-/// Each code has its words.
-#[test]
-fn words_of_codes(rt: HostRuntime) {
-    for (number, words) in WORDS {
-        assert!(rt; code_words(number) == words, "{number}");
-    }
 }
 
 // An attempt at the cue 12.5 whose devices are these, each with whether it is optional.

@@ -1,10 +1,10 @@
-//! The lit buttons, each with the text that a press of it sends.
+//! The lit buttons as JSON (RFC 8259), each with the text that a press of it sends.
 ghost use Rattle.std.specs.Prelude.{◌≡◌, IfOk, map};
 ghost use Rattle.serde_json.specs.Data.{array};
 ghost use Rattle.serde_json.specs.View.{items_of, view};
-ghost use Rattle.cue_page.specs.Lit as lit;
+ghost use Rattle.cue_request.specs.Lit as lit;
 
-use cue_request::pressing::press_text;
+use crate::pressing::press_text;
 use cue_show_file::cue_text;
 use cue_view::button::Button;
 use serde_json::{Value, json};
@@ -60,8 +60,8 @@ fn device_value(button: Button) -> Value
     }
 }
 
-/// A button that is lit: which one, what it is for, and the text that a press of it sends after the view's number.
-pub fn button_value(alloc: Global, button: Button) -> Result<Value, AllocError>
+// A button that is lit: which one, what it is for, and the text that a press of it sends after the view's number.
+fn button_value(alloc: Global, button: Button) -> Result<Value, AllocError>
     ensures { IfOk result (λ v. view v ≡ lit.button_data button) }
 {
     let press = press_text(alloc, button)?;
@@ -71,8 +71,8 @@ pub fn button_value(alloc: Global, button: Button) -> Result<Value, AllocError>
     json!(in alloc; {"attempt": attempt, "cue": cue, "device": device, "kind": kind, "press": press})
 }
 
-/// The buttons that are lit.
-pub(super) fn lit_value(alloc: Global, buttons: &[Button]) -> Result<Value, AllocError>
+/// The buttons that are lit, in the order of the view.
+pub fn lit_value(alloc: Global, buttons: &[Button]) -> Result<Value, AllocError>
     ensures { IfOk result (λ v. view v ≡ array (items_of (map lit.button_data buttons.now))) }
 {
     let mut lit = Vec::with_capacity(alloc, buttons.len())?;

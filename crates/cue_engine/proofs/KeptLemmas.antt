@@ -1,6 +1,6 @@
 -- What a store keeps is a run, and so what the laws on runs say holds of it.
 use Rattle.std.proofs.Common.{◌≡◌, inl, inr, ℕ, Bool, true, false, ◌&&◌, ◌||◌, List, [], ◌∷◌, ◌++◌, nat_eq, refl, sym}
-use Rattle.std.proofs.Common.{ap, ◌∙◌, subst, true≢false, IsTrue, append_assoc}
+use Rattle.std.proofs.Common.{ap, ◌∙◌, subst, true≢false, IsTrue}
 use Rattle.std.specs.List.{list_all, list_any}
 use Rattle.cue_core.specs.declared.event.Event.{Event}
 use Rattle.cue_core.specs.declared.event.Event.TheVariants as event
@@ -16,7 +16,7 @@ use Rattle.cue_core.proofs.lists.ConditionLemmas.{both}
 use Rattle.cue_keeper.specs.Stands.{folded_all}
 use Rattle.cue_outbox.specs.Sending.{Send, reply, status, order}
 use Rattle.cue_engine.specs.Attempts.{IsDecidedInOrder, is_order_with}
-use Rattle.cue_engine.specs.Given.{Given, given_recovery}
+use Rattle.cue_engine.specs.Given.{given_recovery}
 use Rattle.cue_engine.specs.Groups.{all_took, batches_given}
 use Rattle.cue_engine.specs.Headline.{AreKept, CameTo, all_handed, batches_of}
 use Rattle.cue_engine.specs.Incidents.{Incident, formed, stopped_in_form, committed, handed_out, stopped}

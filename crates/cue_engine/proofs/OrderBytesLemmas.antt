@@ -4,8 +4,8 @@ use Rattle.std.proofs.Common.{rules}
 use Rattle.std.specs.Prelude.{codes}
 use Rattle.std.specs.List.{AllByRecursion}
 use Rattle.cue_osc.specs.declared.fault.Fault.{Fault}
-use Rattle.cue_osc.specs.Argument.{Argument, int, text, blob}
-use Rattle.cue_osc.specs.Content.{Content, message, discarded, bundle}
+use Rattle.cue_osc.specs.Argument.{Argument, text, blob}
+use Rattle.cue_osc.specs.Content.{Content, message}
 use Rattle.cue_osc.specs.Spelling.{IsText, osc_string}
 use Rattle.cue_osc.specs.Reading.{datagram_at, is_message_start}
 use Rattle.cue_osc.specs.Writing.{text_of}

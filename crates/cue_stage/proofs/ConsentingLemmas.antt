@@ -1,16 +1,16 @@
 -- A device moves only with the consent of each required device, where only devices answer.
-use Rattle.std.proofs.Common.{◌≡◌, ◌⊎◌, inl, inr, ℕ, ◌+◌, ◌<◌, Bool, true, false, cond, ◌&&◌, ◌||◌, List, [], ◌∷◌, ◌++◌}
-use Rattle.std.proofs.Common.{nat_eq, refl, sym, ap, ◌∙◌, subst, true≢false, arith, IsTrue}
+use Rattle.std.proofs.Common.{◌≡◌, ◌⊎◌, inl, inr, ℕ, Bool, true, false, cond, ◌&&◌, ◌||◌, List, [], ◌∷◌, ◌++◌}
+use Rattle.std.proofs.Common.{nat_eq, refl, sym, ap, ◌∙◌, subst, true≢false, IsTrue}
 use Rattle.std.specs.List.{AllByRecursion, Contains, list_all, list_any}
 use Rattle.cue_show.specs.declared.part.Part.{Part}
 use Rattle.cue_core.specs.declared.event.Event.{Event}
 use Rattle.cue_core.specs.declared.event.Event.TheVariants as event
-use Rattle.cue_core.specs.Events.{is_about, is_ready_of, is_start_of}
+use Rattle.cue_core.specs.Events.{is_ready_of, is_start_of}
 use Rattle.cue_core.specs.Happenings.{onto}
-use Rattle.cue_core.specs.History.{is_history, parts_by, state_of}
-use Rattle.cue_core.specs.State.{ShowState, empty_state}
-use Rattle.cue_core.proofs.lists.AnyLemmas.{any-append, or_left, or_right}
-use Rattle.cue_core.proofs.lists.ConditionLemmas.{both, neither}
+use Rattle.cue_core.specs.History.{is_history, parts_by}
+use Rattle.cue_core.specs.State.{empty_state}
+use Rattle.cue_core.proofs.lists.AnyLemmas.{any-append, or_left}
+use Rattle.cue_core.proofs.lists.ConditionLemmas.{both}
 use Rattle.cue_core.proofs.rules.BatchLemmas.{onto-append}
 use Rattle.cue_engine.specs.Attempts.{IsDecidedInOrder, may_go_after}
 use Rattle.cue_engine.specs.Incidents.{Incident, formed, stopped_in_form, committed, handed_out, stopped}

@@ -6,8 +6,8 @@
 //! the same loop over every source and wire.
 //!
 //! Why it is so:
-//! - A run may be watched; a watch can change neither the show nor what is sent. It is shown the state after the whole
-//!   group, and its batches, so the log lets the events happen to a state of its own.
+//! - A run may be watched; a watch cannot change the show, nor what is sent over a wire that reports. It is shown the
+//!   state after the whole group, and its batches, so the log lets the events happen to a state of its own.
 //! - Each turn of a run by groups is an offer and a commit, also a tick and a datagram that comes alone: a round has
 //!   one way through it. A tick is a group of its own. Nothing that waits keeps a tick back, since after each group the
 //!   source looks at its clock. A group is handed out input by input: the log takes the notes of each apart.

@@ -4,8 +4,8 @@ ghost use Rattle.std.specs.Prelude.{◌≡◌};
 use cue_core::{Event, State};
 use cue_engine::Wire;
 
-/// Looks on while a show runs: after the first hand-out, and after each input that was taken and handed out. It can
-/// change neither the show nor what is sent.
+/// Looks on while a show runs: after the first hand-out, and after each input that was taken and handed out. It cannot
+/// change the show, nor what is sent over a wire that reports.
 pub trait Watch<W: Wire> {
     /// Looks at the state, at the events of the input that was taken (none at the first look), and at the wire, which
     /// may have kept notes of what was sent. Where inputs are committed together, the state is the one after all of

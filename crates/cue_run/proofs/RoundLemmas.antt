@@ -28,7 +28,7 @@ use Rattle.cue_run.specs.Running.{HasRun, Works, Ran}
 use Rattle.cue_run.specs.Grouping.{OfferedGroup, TookGroup, LostGroup, HandedCounted, StoppedBy, HasRound, fault_of}
 use Rattle.cue_run.proofs.GroupLemmas.{group_has_run, none_has_run, runs_join}
 use Rattle.cue_run.proofs.WorkLemmas.{keeps_join, works_join, works_on, worked, keeps_group, works_still, refuses_group}
-use Rattle.cue_run.proofs.WorkLemmas.{stopped_by_cut, stopped_at_first, ended_as_stopped}
+use Rattle.cue_run.proofs.WorkLemmas.{rests_group, stopped_by_cut, stopped_at_first, ended_as_stopped}
 
 goes_on : {P : Type 0} (why : Stop) → None ≡ Some why → P
 goes_on why same = cc
@@ -86,6 +86,7 @@ module _ {D : Type 0} {disk : Ghosts D} where
         at_most = omega (arith, took.turns, group.2);
         some = λ _. omega (arith, took.turns, group.1);
         none_taken = λ broken. absurd (true≢false (sym broken ∙ unbroken));
+        rests = λ broken. absurd (true≢false (sym broken ∙ unbroken));
         keeps = works.keeps;
         works = λ _. works;
       }
@@ -118,6 +119,7 @@ module _ {D : Type 0} {disk : Ghosts D} where
         at_most = omega (arith, lost.turns);
         some = λ is. goes_on (stop.Fault (fault.Engine lost.why)) (sym is ∙ lost.stop);
         none_taken = λ _. lost.turns;
+        rests = rests_group batches (Some lost.why) (keeper_of old) (keeper_of new) accepts;
         keeps = keeps_group batches (Some lost.why) (keeper_of old) (keeper_of new) accepts;
         works = λ other. works_still batches lost.why (keeper_of old) (keeper_of new) works accepts
             (λ is. other (lost.stop ∙ ap (λ (f : Fault). Some (stop.Fault (fault.Engine f))) is));
@@ -161,6 +163,7 @@ module _ {D : Type 0} {disk : Ghosts D} where
         at_most = omega arith;
         some = λ is. goes_on why (sym is);
         none_taken = λ _. refl;
+        rests = λ _. ap kept.pair_of same;
         keeps = still.keeps;
         works = λ _. still;
       }
@@ -197,12 +200,14 @@ module _ {D : Type 0} {disk : Ghosts D} where
       → queue_of new ≡ []
       → Works (keeper_of first) (keeper_of old)
       → (kept.is_broken (keeper_of first) ≡ true → turns ≡ 0)
+      → (kept.is_broken (keeper_of first) ≡ true
+      → kept.pair_of (keeper_of old) ≡ kept.pair_of (keeper_of first))
       → HasRun size left (state_of first) (queue_of first) told turns unsent mid (state_of old) mid_told
       → HasRound size room round old new mid left_then mid_told told_then
       → Ran size most asked (record { turns = turns + round.turns; unsent = all; fault = cause }) first new left
       left_then told told_then
   round_last size room most asked turns unsent all round why cause first old new left mid left_then told mid_told
-      told_then is stops causes within fits emptied works none run one =
+      told_then is stops causes within fits emptied works none rests run one =
       let so = subst (λ (st : Option Stop). StoppedBy size room st (keeper_of old) (keeper_of new) one.mid left_then) stops
       one.why in
       record {
@@ -213,6 +218,7 @@ module _ {D : Type 0} {disk : Ghosts D} where
             (keeper_of old) (keeper_of new) one.mid left_then within works so);
         at_most = omega (arith, fits, one.at_most);
         none_taken = λ broken. omega (arith, none broken, one.none_taken (works.broken ∙ broken));
+        rests = λ broken. one.rests (works.broken ∙ broken) ∙ rests broken;
         emptied = emptied;
         keeps = keeps_join (keeper_of first) (keeper_of old) (keeper_of new) works.keeps one.keeps;
         works = λ other. works_join (keeper_of first) (keeper_of old) (keeper_of new) works

@@ -1,5 +1,5 @@
 -- What groups, one after the other, leave of a keeper, and why a run ended.
-use Rattle.std.specs.Prelude.{◌↔◌, ◌⊎◌}
+use Rattle.std.specs.Prelude.{◌↔◌, ◌⊎◌, IfSome}
 use Rattle.std.proofs.Common.{◌≡◌, ℕ, ◌+◌, ◌≤◌, Bool, true, false, List, [], ◌∷◌, length, Option, Some, None, refl, sym, ◌∙◌}
 use Rattle.std.proofs.Common.{subst, inl, inr, arith, true≢false}
 use Rattle.cue_disk.specs.declared.disk.Disk.{Ghosts}
@@ -8,7 +8,7 @@ use Rattle.cue_core.specs.State.{ShowState}
 use Rattle.cue_keeper.specs.declared.fault.Fault.{Fault}
 use Rattle.cue_keeper.specs.declared.fault.Fault.TheVariants.{Broken, Memory, Disk, Full}
 use Rattle.cue_keeper.specs.declared.keeper.Keeper.{Keeper}
-use Rattle.cue_keeper.specs.Accepting.{Commits, Accepts}
+use Rattle.cue_keeper.specs.Accepting.{Commits, Accepts, LeavesPair}
 use Rattle.cue_keeper.specs.Stands.{StandsAs, folded_all}
 use Rattle.cue_keeper.specs.Observed as kept
 use Rattle.cue_keeper.proofs.CommittedLemmas.{unless_disk, still_broken, out_of_memory}
@@ -108,6 +108,13 @@ module _ {D : Type 0} {disk : Ghosts D} where
     first_honest = accepts.pair.first_honest;
     second_honest = accepts.pair.second_honest;
   }
+
+  -- a broken pair is left as it was
+  pub rests_group : (batches : List (List Event)) (refused : Option Fault) (old new : Keeper D disk)
+      → Accepts batches refused old new → kept.is_broken old ≡ true → kept.pair_of new ≡ kept.pair_of old
+  rests_group batches refused old new accepts broken =
+      subst (λ (f : Option Fault). IfSome f (LeavesPair (kept.pair_of old) (kept.pair_of new)))
+      (accepts.pair.broken broken) accepts.pair.after
 
   -- what accepts a group works
   pub worked : (batches : List (List Event)) (old new : Keeper D disk) → Accepts batches None old new

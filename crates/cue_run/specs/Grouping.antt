@@ -167,5 +167,6 @@ pub record HasRound {D : Type 0} {disk : Ghosts D} (size room : ℕ) (round : Ro
   pub at_most : round.turns ≤ room
   pub some : round.stop ≡ None → 1 ≤ round.turns
   pub none_taken : kept.is_broken (keeper_of old) ≡ true → round.turns ≡ 0
+  pub rests : kept.is_broken (keeper_of old) ≡ true → kept.pair_of (keeper_of new) ≡ kept.pair_of (keeper_of old)
   pub keeps : Keeps (keeper_of old) (keeper_of new)
   pub works : (round.stop ≡ Some (stop.Fault (fault.Engine Disk)) → ⊥) → Works (keeper_of old) (keeper_of new)

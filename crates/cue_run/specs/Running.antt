@@ -108,5 +108,7 @@ pub record Ran {D : Type 0} {disk : Ghosts D} (size most asked : ℕ) (ended : E
   pub at_most : ended.turns ≤ asked
   pub none_taken : kept.is_broken (keeper_of old) ≡ true → ended.turns ≡ 0
   pub emptied : queue_of new ≡ []
+  -- a broken engine's disks are left as they were
+  pub rests : kept.is_broken (keeper_of old) ≡ true → kept.pair_of (keeper_of new) ≡ kept.pair_of (keeper_of old)
   pub keeps : Keeps (keeper_of old) (keeper_of new)
   pub works : (ended.fault ≡ Some (fault.Engine Disk) → ⊥) → Works (keeper_of old) (keeper_of new)

@@ -1,6 +1,7 @@
 //! The run of a show: it takes what a source gives, and hands out what that owes. What waits together is committed
 //! together, and then handed out input by input; a run of single inputs is one of groups of one.
-ghost use Rattle.std.specs.Prelude.{◌≡◌, ◌≤◌, length, max, vec_capacity, IfOk};
+ghost use Rattle.std.specs.Prelude.{◌≡◌, ◌≤◌, [], length, max, vec_capacity, IfOk};
+ghost use Rattle.cue_engine.specs.Taking.{IsOffered};
 ghost use Rattle.cue_run.specs.Grouping.{fault_of};
 ghost use Rattle.cue_run.specs.Running.{Ran};
 ghost use Rattle.cue_run.specs.declared.turns.TheConstants.{MAX_RECEIVED};
@@ -52,8 +53,9 @@ fn run_rounds<D: Disk, S: Source, W: Wire, V: Watch<W>>(
     turns: u64,
 ) -> Ended
     requires { 1 ≤ vec_capacity ends.old }
-    ensures { Ran (length buffer.old) (vec_capacity ends.old) turns result engine.old engine.new
+    ensures ran { Ran (length buffer.old) (vec_capacity ends.old) turns result engine.old engine.new
         (S.left source.old) (S.left source.new) (W.told wire.old) (W.told wire.new) }
+    ensures dropped { IsOffered [] engine.new }
 {
     engine.withdraw();
     let mut unsent = engine.hand_out(wire);
@@ -79,11 +81,12 @@ fn run_rounds<D: Disk, S: Source, W: Wire, V: Watch<W>>(
     }
 }
 
-/// Hands out what is owed, and then takes at most so many inputs, in groups: an input, and the datagrams that are there
-/// already, up to `most` of them and the room of the live area. A group is committed with the writes and syncs of one
-/// input; then what each owes is handed out in order, and after each `watch` looks. A tick is a group of its own. The
-/// run ends at its turns, where the source ends, or at the first fault; what was offered before the fault is committed
-/// and handed out first. Of a group whose commit is refused nothing is handed out.
+/// Withdraws what was offered and not committed, and hands out what is owed. Then it takes at most so many inputs, in
+/// groups: an input, and the datagrams that are there already, up to `most` of them and the room of the live area. A
+/// group is committed with the writes and syncs of one input; then what each owes is handed out in order, and after
+/// each `watch` looks. A tick is a group of its own. The run ends at its turns, where the source ends, or at the first
+/// fault; what was offered before the fault is committed and handed out first. Of a group whose commit is refused
+/// nothing is handed out.
 pub fn run_grouped<D: Disk, S: Source, W: Wire, V: Watch<W>>(
     alloc: Global,
     engine: &mut Engine<D>,
@@ -97,6 +100,8 @@ pub fn run_grouped<D: Disk, S: Source, W: Wire, V: Watch<W>>(
     // it, one input after the other; it ended for its reason, and the engine works on unless a device failed.
     ensures ran { Ran MAX_RECEIVED (max 1 most) turns result engine.old engine.new
         (S.left source.old) (S.left source.new) (W.told wire.old) (W.told wire.new) }
+    // Nothing is left of what was offered before it, nor of what it offered.
+    ensures dropped { IsOffered [] engine.new }
 {
     match places(alloc, most) {
         Ok((mut buffer, mut ends)) => {
@@ -105,6 +110,7 @@ pub fn run_grouped<D: Disk, S: Source, W: Wire, V: Watch<W>>(
         Err(_) => {
             // Called for its clause that an engine that works stands for its state.
             let _state = engine.state();
+            engine.withdraw();
             let unsent = engine.hand_out(wire);
             Ended {
                 turns: 0,

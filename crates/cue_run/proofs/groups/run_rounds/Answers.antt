@@ -39,6 +39,7 @@ loop-taken-init g c =
       },
       begins (keeper_of old) (keeper_of new) same (rw same at c.state.ensures.stands),
       λ _. refl,
+      λ _. ap kept.pair_of same,
     )
 
 pub loop-taken-preserved : goal.loop-taken-preserved
@@ -65,10 +66,11 @@ loop-taken-preserved g c =
       works_join (keeper_of old) (keeper_of l.engine) (keeper_of r.new.engine) now.6
           (one.works (c.in_default.not-Some (stop.Fault (fault.Engine Disk)))),
       λ broken. omega (arith, now.7 broken, one.none_taken (now.6.broken ∙ broken)),
+      λ broken. one.rests (now.6.broken ∙ broken) ∙ now.8 broken,
     )
 
-pub returns-in-Some : goal.returns-in-Some
-returns-in-Some g c =
+pub returns-in-Some-clause-ran : goal.returns-in-Some-clause-ran
+returns-in-Some-clause-ran g c =
     let old = c.args.engine.now in
     let told = g.W.Wire.told in
     let left = g.S.Source.left in
@@ -84,10 +86,13 @@ returns-in-Some g c =
     (told c.args.wire.now) (told l.wire) (told r.new.wire)
     c.saturating_add-unsent.ensures c.in-Some.is c.fault_of.ensures
     (omega (arith, c.min-room.ensures, now.2)) (omega (arith, c.min-room.ensures, c.loop-taken-test.true))
-    r.ensures.emptied now.6 now.7 now.0 one
+    r.ensures.emptied now.6 now.7 now.8 now.0 one
 
-pub returns : goal.returns
-returns g c =
+pub returns-in-Some-clause-dropped : goal.returns-in-Some-clause-dropped
+returns-in-Some-clause-dropped g c = c.take_round-round.ensures.dropped
+
+pub returns-clause-ran : goal.returns-clause-ran
+returns-clause-ran g c =
     let now = c.loop-taken.invariant in
     let all : c.loop-taken.taken ≡ c.args.turns = omega (arith, c.loop-taken-test.false, now.3) in
     let works = now.6 in
@@ -97,7 +102,11 @@ returns g c =
       why = inl (refl, refl);
       at_most = omega arith;
       none_taken = rw all at now.7;
+      rests = now.8;
       emptied = now.4;
       keeps = works.keeps;
       works = λ _. works;
     }
+
+pub returns-clause-dropped : goal.returns-clause-dropped
+returns-clause-dropped g c = c.loop-taken.invariant.5

@@ -1,5 +1,5 @@
 use Rattle.std.proofs.Common.{◌≡◌, ◌≤◌, ◌-◌, true, [], length, vec_capacity}
-use Rattle.cue_keeper.specs.Observed.{is_broken}
+use Rattle.cue_keeper.specs.Observed.{is_broken, pair_of}
 use Rattle.cue_engine.specs.Taking.{IsOffered}
 use Rattle.cue_engine.specs.Observed.{keeper_of, state_of, queue_of}
 use Rattle.cue_run.specs.Running.{HasRun, Works}
@@ -16,6 +16,7 @@ invariant-loop-taken g l =
     × IsOffered [] l.engine
     × Works (keeper_of l.fn.engine) (keeper_of l.engine)
     × (is_broken (keeper_of l.fn.engine) ≡ true → l.taken ≡ 0)
+    × (is_broken (keeper_of l.fn.engine) ≡ true → pair_of (keeper_of l.engine) ≡ pair_of (keeper_of l.fn.engine))
 
 abbrev pub decreases-loop-taken : goal.decreases-loop-taken
 decreases-loop-taken g l = l.turns - l.taken

@@ -5,9 +5,7 @@ import os
 import re
 import subprocess
 import tarfile
-import time
 from email.utils import formatdate
-from pathlib import Path
 
 import contents
 

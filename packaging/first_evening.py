@@ -30,8 +30,9 @@ def words(text):
 
 def table(piece):
     head, *rows = pages.cells(piece)
-    line = lambda tag, row: "<tr>" + "".join(f"<{tag}>{words(cell)}</{tag}>" for cell in row) + "</tr>"
-    return "\n".join(["<table>", line("th", head), *(line("td", row) for row in rows), "</table>"])
+    drawn = [f"<tr>{''.join(f'<{tag}>{words(cell)}</{tag}>' for cell in row)}</tr>"
+             for tag, row in [("th", head), *(("td", row) for row in rows)]]
+    return "\n".join(["<table>", *drawn, "</table>"])
 
 
 def shown(piece):
@@ -48,6 +49,10 @@ def listed(piece):
 def made():
     """The page."""
     text = pages.without_links(pages.section("docs/OPERATING.md", "The first evening"))
+    text, count = re.subn(r"(?<=\*\*Once, some days before\.\*\*).*?`\./cuectl`\. Then, in a window:",
+                          " In a window:", text, flags=re.S)
+    if count != 1:
+        raise SystemExit("docs/OPERATING.md does not say how the programs are had")
     text = text.replace("./cue", "cue").replace("examples/evening.toml", "/usr/share/cuectl/evening.toml")
     drawn = {"table": table, "shown": shown, "items": listed}
     return HEAD + "\n".join(drawn.get(kind, lambda piece: f"<p>{words(piece)}</p>")(piece)

@@ -3,10 +3,10 @@ import re
 
 import pages
 
-SAFETY = ("It is not a safety system: it has no emergency stop and no interlock, and does not know whether what a device "
-          "answers is true. Read the first evening in /usr/share/doc/cuectl before you hang anything on it.")
+SAFETY = ("It is not a safety system: it has no emergency stop and no interlock, and does not know whether what a "
+          "device answers is true. Read the first evening in /usr/share/doc/cuectl before you hang anything on it.")
 FILES = {
-    "/var/lib/cuectl/NAME": "the folder of the show NAME: its store, a.area and b.area, and its show file, evening.toml",
+    "/var/lib/cuectl/NAME": "the folder of the show NAME: its store, a.area and b.area, and its file, evening.toml",
     "/etc/cuectl/NAME.conf": "what its units are told, if it is there: CUEDESK_PORT=9100, CUEDESK_HTTP=8080, and for a "
                              "relay CUEDESK_PAGE=--relay /run/cuectl/NAME/relay",
     "/var/log/cuectl/NAME": "the log of its controller, a file for each day",
@@ -84,8 +84,8 @@ def of_programs(cuectl, cuedesk, version, date):
     """cuectl(1) and cuedesk(1), by their names."""
     status = of_page(pages.section("docs/OPERATING.md", "How a command ends"))
     files = listed(FILES.items())
-    see = {"cuectl": ["cuedesk"], "cuedesk": ["cuectl"]}
-    also = {name: [f".BR {other} (1),", "file:/usr/share/doc/cuectl/docs/OPERATING.md"] for name, (other,) in see.items()}
+    also = {name: [f".BR {other} (1),", "/usr/share/doc/cuectl/docs/OPERATING.md"]
+            for name, other in (("cuectl", "cuedesk"), ("cuedesk", "cuectl"))}
     ends = {"cuectl": [("EXIT STATUS", status), ("FILES", files)],
             "cuedesk": [("ENVIRONMENT", listed([("CUEDESK_PORT", " ".join(cuedesk.ends))])), ("EXIT STATUS", status),
                         ("FILES", files)]}

@@ -1,4 +1,4 @@
-"""Reads the little Markdown that the pages of this repository use: headings, paragraphs, lists, tables, and commands."""
+"""Reads the little Markdown that the pages of this repository use: headings, words, lists, tables, and commands."""
 import re
 from pathlib import Path
 

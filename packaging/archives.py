@@ -8,6 +8,7 @@ import tarfile
 from email.utils import formatdate
 
 import contents
+import licences
 
 SCRIPTS = ("postinst", "prerm", "postrm")
 
@@ -30,10 +31,9 @@ def control(tree, name, version, maintainer, fields, depends):
     return "".join(f"{key}: {value}\n" for key, value in lines.items() if value)
 
 
-def documents(tree, name, version, maintainer, seconds):
+def documents(tree, name, version, maintainer, crates, seconds):
     """Its licence, and its changelog, which says where the changes stand."""
-    text = (contents.HERE / "debian" / "copyright").read_text()
-    tree.text(f"usr/share/doc/{name}/copyright", contents.fill(text, maintainer=maintainer))
+    tree.text(f"usr/share/doc/{name}/copyright", licences.copyright_of(maintainer, *crates))
     date = formatdate(seconds)
     change = f"{name} ({version}) unstable; urgency=medium\n\n  * See CHANGELOG.md.\n\n -- {maintainer}  {date}\n"
     zipped(tree, f"usr/share/doc/{name}/changelog.gz", change.encode())

@@ -12,7 +12,7 @@ import manuals
 
 ROOT = Path(__file__).resolve().parent.parent
 HERE = ROOT / "packaging"
-ARCHITECTURES = {"x86_64": "x86_64-unknown-linux-gnu", "aarch64": "aarch64-unknown-linux-gnu"}
+ARCHITECTURES = {"aarch64": "aarch64-unknown-linux-gnu", "x86_64": "x86_64-unknown-linux-gnu"}
 LIBRARIES = "usr/lib/x86_64-linux-gnu"
 UNITS = "usr/lib/systemd/system"
 TESTER = "Plays the controller of cuectl against a device, and says which of its duties it breaks"

@@ -1,5 +1,5 @@
-"""A Debian in a folder, without systemd, in which packages are installed: with a network, processes and accounts of its
-own. The units of a package are started by what their files say; nothing of the sandbox that they ask for is there."""
+"""A Debian in a folder whose systemd does not run, in which packages are installed: with a network, processes and
+accounts of its own. Units are started by what their files say; nothing of the sandbox that they ask for is there."""
 import os
 import re
 import shlex
@@ -11,7 +11,7 @@ import tempfile
 from pathlib import Path
 
 SUITE, MIRROR = "bookworm", "http://deb.debian.org/debian"
-CACHE = Path(tempfile.gettempdir()) / f"cuectl-{SUITE}-{os.getuid()}"
+CACHE = Path(tempfile.gettempdir()) / f"cuectl-{SUITE}-systemd"
 UNITS = "usr/lib/systemd/system"
 
 
@@ -27,7 +27,7 @@ def bootstrapped():
     """The folder of a Debian that nothing is installed in, made once; none if no mirror is reached."""
     if not CACHE.exists():
         new = CACHE.with_suffix(f".{os.getpid()}")
-        words = ["debootstrap", "--variant=minbase", "--include=systemd-standalone-sysusers", SUITE, new, MIRROR]
+        words = ["debootstrap", "--variant=minbase", "--include=systemd,systemd-sysv,dbus", SUITE, new, MIRROR]
         done = subprocess.run([*map(str, words)], stdout=subprocess.PIPE, stderr=subprocess.STDOUT, check=False)
         if done.returncode:
             shutil.rmtree(new, ignore_errors=True)
@@ -44,12 +44,18 @@ def unit_of(text, name):
     return settings
 
 
+def copy(work, name):
+    """A copy of it, to install in."""
+    root = Path(work) / name
+    subprocess.run(["cp", "-a", "--reflink=auto", CACHE, root], check=True)
+    return root
+
+
 class System:
-    """A copy of it that runs: `close` ends all that runs in it."""
+    """One of them with processes of its own: `close` ends all that runs in it."""
 
     def __init__(self, work):
-        self.root = Path(work) / "debian"
-        subprocess.run(["cp", "-a", "--reflink=auto", CACHE, self.root], check=True)
+        self.root = copy(work, "debian")
         begin = f"mount -t proc proc {self.root}/proc && ip link set lo up && echo up && exec sleep infinity"
         self.holder = subprocess.Popen(["unshare", "--mount", "--net", "--pid", "--fork", "--kill-child",
                                         "bash", "-c", begin], stdout=subprocess.PIPE)

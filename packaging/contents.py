@@ -1,0 +1,126 @@
+"""What each package holds, and where: the one place that says it."""
+import os
+import re
+import shutil
+import subprocess
+from pathlib import Path
+
+import command_help
+import completions
+import first_evening
+import manuals
+
+ROOT = Path(__file__).resolve().parent.parent
+HERE = ROOT / "packaging"
+ARCHITECTURES = {"aarch64": "aarch64-unknown-linux-gnu", "x86_64": "x86_64-unknown-linux-gnu"}
+LIBRARIES = "usr/lib/x86_64-linux-gnu"
+UNITS = "usr/lib/systemd/system"
+TESTER = "Plays the controller of cuectl against a device, and says which of its duties it breaks"
+
+
+class Tree:
+    """The files of a package, in a folder that stands for /."""
+
+    def __init__(self, folder):
+        self.folder = folder
+
+    def place(self, to):
+        made = self.folder / to
+        made.parent.mkdir(parents=True, exist_ok=True)
+        return made
+
+    def text(self, to, text, mode=0o644):
+        made = self.place(to)
+        made.write_text(text)
+        made.chmod(mode)
+
+    def copy(self, source, to, mode=0o644):
+        """Copies a file to a path, or below it where that ends with a slash."""
+        made = self.place(to + Path(source).name if to.endswith("/") else to)
+        shutil.copyfile(source, made)
+        made.chmod(mode)
+        return made
+
+    def program(self, source, to):
+        """A program without what only a debugger reads, and without the name of its build."""
+        made = self.copy(source, to, 0o755)
+        subprocess.run(["strip", "--strip-unneeded", "-R", ".comment", "-R", ".note.gnu.build-id", made], check=True)
+
+    def files(self):
+        """All files and links, in the order of their paths."""
+        return sorted(path for path in self.folder.rglob("*") if path.is_symlink() or path.is_file())
+
+
+def fill(text, **words):
+    """The text with these words in place of their marks."""
+    for name, word in words.items():
+        text = text.replace(f"@{name.upper()}@", word)
+    return text
+
+
+def pages_of(tree, folder):
+    """The pages, each where its links find it."""
+    listed = subprocess.run(["git", "ls-files", "*.md", "docs"], cwd=ROOT, stdout=subprocess.PIPE, check=True)
+    for name in listed.stdout.decode().split():
+        tree.copy(ROOT / name, f"{folder}/{name}")
+
+
+def units(tree):
+    """The units, each service with the same hardening; the account; what they call."""
+    for unit in sorted((HERE / "units").glob("cuectl*")):
+        tree.copy(unit, f"{UNITS}/")
+        if unit.suffix == ".service":
+            tree.copy(HERE / "units" / "hardened.conf", f"{UNITS}/{unit.name}.d/")
+    tree.copy(HERE / "sysusers.conf", "usr/lib/sysusers.d/cuectl.conf")
+    for script in [*sorted((HERE / "scripts").iterdir()), ROOT / "tools" / "disk-room"]:
+        tree.copy(script, "usr/libexec/cuectl/", 0o755)
+
+
+def cuectl(tree, programs, version, date):
+    """Both programs, their units, and what a stage manager reads."""
+    for name in ("cuectl", "cuedesk"):
+        tree.program(programs / name, f"usr/bin/{name}")
+    asked = {name: command_help.command(programs / name, name) for name in ("cuectl", "cuedesk")}
+    for name, text in manuals.of_programs(asked["cuectl"], asked["cuedesk"], version, date).items():
+        tree.text(f"usr/share/man/man1/{name}", text)
+    for name, program in asked.items():
+        tree.text(f"usr/share/bash-completion/completions/{name}", completions.bash(program))
+        tree.text(f"usr/share/zsh/vendor-completions/_{name}", completions.zsh(program))
+    units(tree)
+    tree.copy(ROOT / "examples" / "evening.toml", "usr/share/cuectl/")
+    tree.text("usr/share/doc/cuectl/first-evening.html", first_evening.made())
+    pages_of(tree, "usr/share/doc/cuectl")
+
+
+def device(tree, libraries, version, date):
+    """What the maker of a device needs: the header, the libraries that there are, the C file, and the trials."""
+    tree.copy(ROOT / "include" / "cue_device.h", "usr/include/")
+    if "x86_64" in libraries:
+        tree.copy(libraries["x86_64"], f"{LIBRARIES}/libcue_device_c.a")
+    if "aarch64" in libraries:
+        tree.copy(libraries["aarch64"], "usr/lib/cue-device/aarch64/libcue_device_c.a")
+    prefix, libdir = "${pcfiledir}/../../..", "${pcfiledir}/.."
+    tree.text(f"{LIBRARIES}/pkgconfig/cue_device.pc", fill(
+        (HERE / "cue_device.pc").read_text(), prefix=prefix, libdir=libdir, version=re.split("[+~]", version)[0]))
+    for name in ("device/cue_device.c", "docs/vectors.txt", "docs/device-table.csv"):
+        tree.copy(ROOT / name, "usr/share/cue-device/")
+    tester = ROOT / "tools" / "try-device"
+    tree.text("usr/bin/cue-try-device", tester.read_text().replace("#!/usr/bin/env python3", "#!/usr/bin/python3", 1),
+              0o755)
+    shown = re.search(r'"""(.*?)"""', tester.read_text(), re.S)[1].replace("    try-device", "    cue-try-device")
+    tree.text("usr/share/man/man1/cue-try-device.1",
+              manuals.as_printed("cue-try-device", TESTER, shown.partition("\n\n")[2], version, date))
+    for name in ("winch.c", "device.py", "plc_device.st"):
+        tree.copy(ROOT / "examples" / name, "usr/share/doc/libcue-device-dev/examples/", 0o644)
+    for name in ("DEVICES.md", "PROTOCOL.md"):
+        tree.copy(ROOT / "docs" / name, "usr/share/doc/libcue-device-dev/docs/")
+
+
+def settle(tree, seconds):
+    """Every file and folder as old as the commit; folders that everybody may read."""
+    for path in sorted(tree.folder.rglob("*"), reverse=True):
+        if path.is_dir():
+            path.chmod(0o755)
+        os.utime(path, (seconds, seconds), follow_symlinks=False)
+    tree.folder.chmod(0o755)
+    os.utime(tree.folder, (seconds, seconds))

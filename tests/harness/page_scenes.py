@@ -198,7 +198,8 @@ def follows(page, evening, cues=("1", "2", "3", "4", "1")):
         page.waits_for(lambda: page.text("standby-cue") == f"cue {cue}", 3)
         found.append(1000 * (time.monotonic() - made))
     print(f"     a change is shown after {statistics.median(found):.0f} ms, at most {max(found):.0f} ms", flush=True)
-    check("a change is shown within half a second", is_checked(evening.desk) or max(found) < 500)
+    check("a change is shown within 0.35 s, and never later than half a second",
+          is_checked(evening.desk) or (statistics.median(found) <= 350 and max(found) < 500))
 
 
 def hears(page, evening, relay, pictures):

@@ -21,7 +21,7 @@ pub any_in : (p : Alarm → Bool) (xs ys : List Alarm) (b c : Bool) → list_any
     → list_any p (xs ++ ys) ≡ (b || c)
 any_in p xs ys b c first second = rw (list_any-append p xs ys, first, second) refl
 
-any_of_none : {A : Type 0} (p : Alarm → Bool) (f : A → Alarm) → ((x : A) → p (f x) ≡ false) → (xs : List A)
+pub any_of_none : {A : Type 0} (p : Alarm → Bool) (f : A → Alarm) → ((x : A) → p (f x) ≡ false) → (xs : List A)
     → list_any p (map f xs) ≡ false
 any_of_none p f fails [] = refl
 any_of_none p f fails (x ∷ xs) = rw (fails x) (any_of_none p f fails xs)
@@ -35,12 +35,12 @@ or_none : (b : Bool) → (b || false) ≡ b
 or_none true = refl
 or_none false = refl
 
-none_other : (p : Alarm → Bool) → ((s : ℕ) → p (alarm.OtherStore s) ≡ false) → (since : Option ℕ) (now : ℕ)
+pub none_other : (p : Alarm → Bool) → ((s : ℕ) → p (alarm.OtherStore s) ≡ false) → (since : Option ℕ) (now : ℕ)
     → list_any p (option_to_list (other_by since now)) ≡ false
 none_other p fails None now = refl
 none_other p fails (Some s) now = any_if p (alarm.OtherStore s) (fails s) (nat_le (s + OTHER_MS) now)
 
-none_stopped : (p : Alarm → Bool) → ((s : ℕ) → p (alarm.RelayStopped s) ≡ false) → (since : Option ℕ) (now : ℕ)
+pub none_stopped : (p : Alarm → Bool) → ((s : ℕ) → p (alarm.RelayStopped s) ≡ false) → (since : Option ℕ) (now : ℕ)
     → list_any p (option_to_list (stopped_by since now)) ≡ false
 none_stopped p fails None now = refl
 none_stopped p fails (Some s) now = any_if p (alarm.RelayStopped s) (fails s) (is_stopped s now)
@@ -51,7 +51,7 @@ none_of_three : (p : Alarm → Bool) (e f g : List Alarm) → list_any p e ≡ f
 none_of_three p e f g he hf hg = any_in p e (f ++ g) false false he (any_in p f g false false hf hg)
 
 -- of seven lists the first alone passes the test, or not
-first_only : (p : Alarm → Bool) (a b c d e f g : List Alarm) (x : Bool) → list_any p a ≡ x → list_any p b ≡ false
+pub first_only : (p : Alarm → Bool) (a b c d e f g : List Alarm) (x : Bool) → list_any p a ≡ x → list_any p b ≡ false
     → list_any p c ≡ false → list_any p d ≡ false → list_any p e ≡ false → list_any p f ≡ false
     → list_any p g ≡ false → list_any p (a ++ (b ++ (c ++ (d ++ (e ++ (f ++ g)))))) ≡ x
 first_only p a b c d e f g x ha hb hc hd he hf hg =

@@ -1,7 +1,8 @@
 -- A step keeps the law.
 use Rattle.std.proofs.Common.{◌≡◌, refl, sym, ap, ap₂, ◌∙◌, subst, ℕ, Bool, true, false, ◌&&◌, cond, List, [], ◌∷◌}
 use Rattle.std.proofs.Common.{map, filter}
-use Rattle.std.proofs.Common.{Option, None, Some, is_some, is_none, IsTrue, IsSome, option_map, ◌⊎◌, inl, inr, ⊎_elim}
+use Rattle.std.proofs.Common.{Option, None, Some, is_some, IsTrue, option_map, ◌⊎◌, inl, inr, ⊎_elim}
+use Rattle.std.specs.List.{list_any}
 use Rattle.cue_show.proofs.TestLemmas.{join}
 use Rattle.cue_exchange.specs.Steps.{can_go_now}
 use Rattle.cue_exchange.specs.declared.attempt.Attempt.{Attempt}
@@ -30,18 +31,23 @@ use Rattle.cue_station.specs.Alarms.{read_at, stands_by, trouble_of}
 use Rattle.cue_station.specs.Asking.{is_press_sent, said_by}
 use Rattle.cue_station.specs.Choosing.{chosen_number}
 use Rattle.cue_station.specs.Drawing.{ShowsReading, alarms_of, facts_of, live_by}
-use Rattle.cue_station.specs.Laws.{Keeps, LitIsSo, PressIsSo}
+use Rattle.cue_station.specs.Laws.{Keeps, LitIsSo, PressIsSo, StatusIsAsked}
 use Rattle.cue_station.specs.Lighting.{may, may_by}
 use Rattle.cue_station.specs.Memory.{IsAfter, IsKept, turn_of}
 use Rattle.cue_station.specs.Network.{network_by, relayed_of, relayed_with}
 use Rattle.cue_station.specs.Noting.{footing_by, order_by, send_by}
-use Rattle.cue_station.specs.Pressing.{is_heeded, order_of}
+use Rattle.cue_station.specs.Offering.{is_offered, is_recent, kept_of}
+use Rattle.cue_station.specs.Pacing.{is_overdue}
+use Rattle.cue_station.specs.Pressing.{is_heeded, order_of, refusal_by, unsent_by, unsent_of}
 use Rattle.cue_station.specs.Reading.{answered_of, reading_of, seen_since}
 use Rattle.cue_station.specs.Showing.{given_in, given_since, is_in_time, left_of, shown_live, since_in}
-use Rattle.cue_station.specs.Stepping.{Makes, Refuses, is_heeded_by, kept_with, reading_now}
+use Rattle.cue_station.specs.Stepping.{Makes, is_heeded_by, kept_with, noted_now, reading_now, refusal_now}
+use Rattle.cue_station.specs.Stepping.{unsent_now}
 use Rattle.cue_station.specs.Viewing.{alarms_in, facts_by, stamped_at}
 use Rattle.cue_station.proofs.AfterLemmas.{heeded-kept, may-kept, step-after}
+use Rattle.cue_station.proofs.FailureLemmas.{seen-lit}
 use Rattle.cue_station.proofs.LitLemmas.{lights-dark, lights-lit}
+use Rattle.cue_station.proofs.PacingLemmas.{due-sent}
 use Rattle.cue_station.proofs.SentLemmas.{sending, sends_status}
 
 -- ---- what is drawn of a copy, whichever way the moments are told
@@ -176,12 +182,26 @@ pressed-sent s i due send view b is h =
     ap is_press_sent (is ∙ ap (λ x. send_by (order_by x (is_heeded_by s i)) due s.notes.next_ask) h)
     ∙ (sending (is_heeded_by s i view b) due b s.notes.next_ask).press
 
--- a press that is not sent is refused
-unsent_said : (u : Option Unsent) (b o : Bool) → is_none u ≡ b → o ≡ true → (b && o) ≡ false → IsSome u
-unsent_said (Some u) b o e k h = refl
-unsent_said None true true e k h = absurd (cc)
-unsent_said None true false e k h = absurd (cc)
-unsent_said None false o e k h = absurd (cc)
+-- why a press is refused, whichever way that is told
+unsent-same : (f g : ℕ → Button → Option Unsent) → ((view : ℕ) (b : Button) → f view b ≡ g view b) → (h : Heard)
+    → unsent_by f h ≡ unsent_by g h
+unsent-same f g e (heard.Copied c) = refl
+unsent-same f g e (heard.Same begun) = refl
+unsent-same f g e (heard.Unread why) = refl
+unsent-same f g e (heard.Replied n a) = refl
+unsent-same f g e (heard.Nobody n) = refl
+unsent-same f g e (heard.Pressed view b) = e view b
+unsent-same f g e (heard.Relay x) = refl
+unsent-same f g e heard.Tick = refl
+
+unsent-kept : (past : List Turn) (s : Station) → IsAfter past s → (i : Input) → unsent_now s i ≡ unsent_of past i
+unsent-kept past s k i =
+    unsent-same (refusal_now s i)
+    (λ view b. refusal_by (list_any (is_recent view i.at) (kept_of past)) (is_offered view i.at b (kept_of past))
+    (may past i.at i.wall b))
+    (λ view b.
+    ap₂ (λ v m. refusal_by (list_any (is_recent view i.at) v) (is_offered view i.at b v) m) k.views
+    (may-kept past s.notes s.reading s.relay s.seen.items s.views.items k i.at i.wall b)) i.heard
 
 press-kept : (past : List Turn) (s : Station) (i : Input) (m : Made) → IsAfter past s → Makes s i m
     → PressIsSo (turn_of i m.step) past
@@ -206,11 +226,15 @@ press-kept past s i m k makes =
       heeded = λ view b h e o.
           pressed-sent s i makes.due m.step.send view b makes.send h
           ∙ join (is_heeded_by s i view b) (is_some (order_of b)) (same view b ∙ e) o;
-      told = λ view b h e o.
-          unsent_said m.step.view.unsent (is_heeded_by s i view b) (is_some (order_of b))
-          (subst (λ x. Refuses (is_heeded_by s i) x m.step.view.unsent) h makes.unsent) o
-          (sym (pressed-sent s i makes.due m.step.send view b makes.send h) ∙ e);
+      told = makes.unsent ∙ unsent-kept past s k i;
     }
+
+asked-kept : (past : List Turn) (s : Station) (i : Input) (m : Made) → IsAfter past s → Makes s i m
+    → StatusIsAsked (turn_of i m.step) past
+asked-kept past s i m k makes h =
+    ap is_some makes.send
+    ∙ due-sent (order_by i.heard (is_heeded_by s i)) makes.due (noted_now s i).next_ask
+    (makes.overdue (subst (λ o. IsTrue (is_overdue o i.at)) (sym k.question) h))
 
 -- ---- the law
 
@@ -225,9 +249,16 @@ lit-kept past s i m k makes =
     λ b. may-kept turns m.notes r (relayed_with i.heard i.at s.relay) m.seen.items
     (kept_with m.shown s.views.items) after i.at i.wall b in
     let f = footing_by m.notes r i.at i.wall in
+    let v = m.step.view in
     record {
-      lit = λ b h. sym (same b) ∙ lights-lit f m.seen.items r m.step.view.lit.items makes.view.lit b h;
-      dark = λ b key h. lights-dark f m.seen.items r m.step.view.lit.items makes.view.lit b key (same b ∙ h);
+      lit = λ b h. sym (same b) ∙ lights-lit f m.seen.items r v.stack.cues.items v.alarms.items v.lit.items
+          makes.view.lit b h;
+      dark = λ b key h. lights-dark f m.seen.items r v.stack.cues.items v.alarms.items v.lit.items makes.view.lit b key
+          (same b ∙ h);
+      seen = seen-lit f m.seen.items r v.stack.cues.items v.alarms.items v.lit.items makes.view.lit turns i.at i.wall
+          after.reading
+          (makes.view.alarms ∙ alarms-kept turns m.notes r (relayed_with i.heard i.at s.relay) m.seen.items
+          (kept_with m.shown s.views.items) after i.at i.wall);
     }
 
 pub step-keeps : (past : List Turn) (s : Station) (i : Input) (m : Made) → IsAfter past s → Makes s i m
@@ -240,6 +271,7 @@ step-keeps past s i m k makes =
     record {
       lit = lit-kept past s i m k makes;
       press = press-kept past s i m k makes;
+      asked = asked-kept past s i m k makes;
       answer = makes.view.said ∙ ap (option_map said_by) after.press;
       age = record {
         made = makes.view.at;

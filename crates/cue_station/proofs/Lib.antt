@@ -4,6 +4,8 @@ mod PressLemmas
 mod SeeingLemmas
 mod ButtonLemmas
 mod LitLemmas
+mod FailureLemmas
+mod PacingLemmas
 mod OpenLemmas
 mod SentLemmas
 mod AfterLemmas

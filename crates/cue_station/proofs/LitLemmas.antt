@@ -16,6 +16,7 @@ use Rattle.cue_station.specs.declared.heard.Copied.{Copied}
 use Rattle.cue_station.specs.declared.lighting.Footing.{Footing}
 use Rattle.cue_station.specs.declared.memory.Reading.{Reading}
 use Rattle.cue_station.specs.declared.memory.Seen.{Seen}
+use Rattle.cue_view.specs.declared.view.Alarm.{Alarm}
 use Rattle.cue_view.specs.declared.view.Next.{Next}
 use Rattle.cue_view.specs.declared.view.Next.TheVariants as next
 use Rattle.cue_station.proofs.ButtonLemmas.{same_button-itself, same_button-true}
@@ -25,6 +26,7 @@ use Rattle.cue_station.specs.Lighting.{go_and_cancel, is_live_as, is_next, is_nu
 use Rattle.cue_station.specs.Lighting.{keys_of_choice, may_by, may_in, standby_of}
 use Rattle.cue_station.specs.Offering.{is_lit, same_button}
 use Rattle.cue_station.specs.Showing.{since_in}
+use Rattle.cue_station.specs.Smaller.{smaller_of}
 use Rattle.cue_station.specs.Viewing.{LightsBy}
 
 -- ---- what is lit passes the test
@@ -153,16 +155,17 @@ keys-there f since c (button.Seen q) k h = (cc)
 
 -- ---- what is lit of a scene
 
-pub lights-lit : (f : Footing) (seen : List Seen) (r : Option Reading) (lit : List Button) → LightsBy f seen r lit
-    → (b : Button) → IsTrue (is_lit b lit) → IsTrue (may_by f (since_in seen) r b)
-lights-lit f seen None lit e b h = absurd (cc (subst (λ v. IsTrue (is_lit b v)) e h))
-lights-lit f seen (Some r) lit e b h =
-    lit-passes (may_in f (since_in seen) r.copy) b (keys_of f r.copy ++ e.0) (subst (λ v. IsTrue (is_lit b v)) e.1 h)
+pub lights-lit : (f : Footing) (seen : List Seen) (r : Option Reading) (cues : List (List ℕ)) (all : List Alarm)
+    (lit : List Button) → LightsBy f seen r cues all lit → (b : Button) → IsTrue (is_lit b lit) → IsTrue (may_by f (since_in seen) r b)
+lights-lit f seen None cues all lit e b h = absurd (cc (subst (λ v. IsTrue (is_lit b v)) e h))
+lights-lit f seen (Some r) cues all lit e b h =
+    lit-passes (may_in f (since_in seen) r.copy) b (keys_of f r.copy ++ smaller_of r.copy.state.live cues all)
+    (subst (λ v. IsTrue (is_lit b v)) e h)
 
-pub lights-dark : (f : Footing) (seen : List Seen) (r : Option Reading) (lit : List Button) → LightsBy f seen r lit
-    → (b : Button) → IsTrue (is_key b) → IsTrue (may_by f (since_in seen) r b) → IsTrue (is_lit b lit)
-lights-dark f seen None lit e b k h = (cc)
-lights-dark f seen (Some r) lit e b k h =
-    subst (λ v. IsTrue (is_lit b v)) (sym e.1)
-    (passes-lit (may_in f (since_in seen) r.copy) b (keys_of f r.copy) e.0 h
+pub lights-dark : (f : Footing) (seen : List Seen) (r : Option Reading) (cues : List (List ℕ)) (all : List Alarm)
+    (lit : List Button) → LightsBy f seen r cues all lit → (b : Button) → IsTrue (is_key b) → IsTrue (may_by f (since_in seen) r b) → IsTrue (is_lit b lit)
+lights-dark f seen None cues all lit e b k h = (cc)
+lights-dark f seen (Some r) cues all lit e b k h =
+    subst (λ v. IsTrue (is_lit b v)) (sym e)
+    (passes-lit (may_in f (since_in seen) r.copy) b (keys_of f r.copy) (smaller_of r.copy.state.live cues all) h
     (keys-there f (since_in seen) r.copy b k h))

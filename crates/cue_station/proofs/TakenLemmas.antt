@@ -91,6 +91,7 @@ makes_heard : (s : Station) (at wall : ℕ) (h : Heard) (m : Made)
 makes_heard s at wall (heard.Copied c) m k =
     record {
       due = k.due;
+      overdue = k.overdue;
       send = k.send;
       notes = k.notes
           ∙ ap (notes_sent (heard.Same c.begun) at (newer c s.reading) m.step.send)
@@ -104,6 +105,7 @@ makes_heard s at wall (heard.Copied c) m k =
 makes_heard s at wall (heard.Same begun) m k =
     record {
       due = k.due;
+      overdue = k.overdue;
       send = k.send;
       notes = k.notes;
       seen = k.seen;
@@ -115,6 +117,7 @@ makes_heard s at wall (heard.Same begun) m k =
 makes_heard s at wall (heard.Unread why) m k =
     record {
       due = k.due;
+      overdue = k.overdue;
       send = k.send;
       notes = k.notes;
       seen = k.seen;
@@ -126,6 +129,7 @@ makes_heard s at wall (heard.Unread why) m k =
 makes_heard s at wall (heard.Replied n a) m k =
     record {
       due = k.due;
+      overdue = k.overdue;
       send = k.send;
       notes = k.notes;
       seen = k.seen;
@@ -137,6 +141,7 @@ makes_heard s at wall (heard.Replied n a) m k =
 makes_heard s at wall (heard.Nobody n) m k =
     record {
       due = k.due;
+      overdue = k.overdue;
       send = k.send;
       notes = k.notes;
       seen = k.seen;
@@ -148,6 +153,7 @@ makes_heard s at wall (heard.Nobody n) m k =
 makes_heard s at wall (heard.Pressed view b) m k =
     record {
       due = k.due;
+      overdue = k.overdue;
       send = k.send;
       notes = k.notes;
       seen = k.seen;
@@ -159,6 +165,7 @@ makes_heard s at wall (heard.Pressed view b) m k =
 makes_heard s at wall (heard.Relay x) m k =
     record {
       due = k.due;
+      overdue = k.overdue;
       send = k.send;
       notes = k.notes
           ∙ ap (notes_sent (heard.Relay None) at s.reading m.step.send)
@@ -172,6 +179,7 @@ makes_heard s at wall (heard.Relay x) m k =
 makes_heard s at wall heard.Tick m k =
     record {
       due = k.due;
+      overdue = k.overdue;
       send = k.send;
       notes = k.notes;
       seen = k.seen;

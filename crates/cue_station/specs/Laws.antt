@@ -1,12 +1,18 @@
 -- The law of the desk: what holds of each turn, whatever came before it.
+--
+-- What it cannot say: what another operator does between the copy and the moment at which the controller judges a
+-- message; which attempt that is then, since `go` names a cue and no number; and which program holds the port. What it
+-- does not say: that the status is asked sooner than after a second; and that an older failure that nobody has said he
+-- saw keeps an alarm of its own once a snapshot has swallowed its events: the newest failure has one always.
 use Rattle.std.specs.Prelude.{◌≡◌, ℕ, Bool, true, false, List, [], ◌∷◌, Some, IsSome, IsTrue, ◌⊎◌, length}
+use Rattle.std.specs.List.{list_any}
 use Rattle.cue_desk.specs.declared.orders.Order.TheVariants as order
 use Rattle.cue_view.specs.declared.button.Button.{Button}
 use Rattle.cue_view.specs.declared.button.Button.TheVariants as button
 use Rattle.cue_station.specs.declared.heard.Heard.TheVariants.{Pressed}
 use Rattle.cue_station.specs.declared.heard.Send.{Send}
 use Rattle.cue_station.specs.Turns.{Turn}
-use Rattle.cue_station.specs.Reading.{reading_of, answered_of, seen_since}
+use Rattle.cue_station.specs.Reading.{reading_of, answered_of, question_of, seen_since}
 use Rattle.cue_station.specs.Alarms.{asked_at, read_at, stands_by}
 use Rattle.cue_station.specs.Asking.{is_press_sent, said_of}
 use Rattle.cue_station.specs.Choosing.{chosen_of, chosen_number}
@@ -14,8 +20,10 @@ use Rattle.cue_station.specs.Drawing.{ShowsReading, alarms_of}
 use Rattle.cue_station.specs.Lighting.{may}
 use Rattle.cue_station.specs.Network.{network_by, relayed_of}
 use Rattle.cue_station.specs.Offering.{is_lit}
-use Rattle.cue_station.specs.Pressing.{IsOfPress, asks_of, is_heeded, order_of}
+use Rattle.cue_station.specs.Pacing.{is_overdue}
+use Rattle.cue_station.specs.Pressing.{IsOfPress, asks_of, is_heeded, order_of, unsent_of}
 use Rattle.cue_station.specs.Showing.{given_since}
+use Rattle.cue_station.specs.Smaller.{is_failure_of}
 
 -- the three great buttons
 abbrev pub is_key : Button → Bool
@@ -27,22 +35,27 @@ is_key (button.MoveTo c) = false
 is_key (button.Choose q) = false
 is_key (button.Seen q) = false
 
--- LIT IS SO: what is lit may be lit; and of the great buttons what may be lit is.
+-- LIT IS SO: what is lit may be lit; of the great buttons what may be lit is; and that a failure was seen can be said
+-- exactly where its alarm is shown.
 pub record LitIsSo (t : Turn) (past : List Turn) : Type 0 where
   pub lit : (b : Button) → IsTrue (is_lit b t.view.lit.items)
       → IsTrue (may (t ∷ past) t.input.at t.input.wall b)
   pub dark : (b : Button) → IsTrue (is_key b) → IsTrue (may (t ∷ past) t.input.at t.input.wall b)
       → IsTrue (is_lit b t.view.lit.items)
+  pub seen : (q : ℕ) → is_lit (button.Seen q) t.view.lit.items ≡ list_any (is_failure_of q) t.view.alarms.items
 
 -- A PRESS IS WHAT WAS SHOWN, AND YOUNG: nothing is sent but for a press that is heeded, or to ask for the status, each
--- by an ask of its own; a press that is heeded is sent; and of one that is not sent the view says why.
+-- by an ask of its own; a press that is heeded is sent; and of one that is not heeded the view says why, of no other.
 pub record PressIsSo (t : Turn) (past : List Turn) : Type 0 where
   pub sent : (s : Send) → t.sent ≡ Some s → (s.order ≡ order.Status) ⊎ IsOfPress t past s
   pub own : (s : Send) → t.sent ≡ Some s → s.ask ≡ asks_of past
   pub heeded : (view : ℕ) (b : Button) → t.input.heard ≡ Pressed view b
       → IsTrue (is_heeded past t.input.at t.input.wall view b) → IsSome (order_of b) → IsTrue (is_press_sent t.sent)
-  pub told : (view : ℕ) (b : Button) → t.input.heard ≡ Pressed view b → is_press_sent t.sent ≡ false
-      → IsSome (order_of b) → IsSome t.view.unsent
+  pub told : t.view.unsent ≡ unsent_of past t.input
+
+-- THE STATUS IS ASKED: where none was ever asked, or a second ago, a message goes out: a question, or that of a press.
+abbrev pub StatusIsAsked : Turn → List Turn → Type 0
+StatusIsAsked t past = IsTrue (is_overdue (question_of past) t.input.at) → IsSome t.sent
 
 -- THE ANSWER IS THIS PRESS'S: what is said of the last press that was sent is what came to its own socket, or what the
 -- store shows that was read later, or that it is open.
@@ -83,6 +96,7 @@ IsNewest t past = t.view.number ≡ length past
 pub record Keeps (t : Turn) (past : List Turn) : Type 0 where
   pub lit : LitIsSo t past
   pub press : PressIsSo t past
+  pub asked : StatusIsAsked t past
   pub answer : AnswerIsSo t past
   pub age : AgeIsSo t past
   pub copy : CopyIsSo t past

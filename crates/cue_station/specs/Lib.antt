@@ -13,6 +13,7 @@ pub mod Asking
 pub mod Opening
 pub mod Choosing
 pub mod Lighting
+pub mod Smaller
 pub mod Pressing
 pub mod Laws
 pub mod Memory

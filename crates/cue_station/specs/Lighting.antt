@@ -72,7 +72,8 @@ may_move f cue c = (f.stands && f.is_quiet) && has_cue c.state.show cue
 abbrev pub may_choose : ℕ → Copied → Bool
 may_choose q c = is_live_as q (λ a. is_preparing a.stage) c.state.live
 
--- when a button may be lit over a copy
+-- When a button may be lit over a copy. Seen sends nothing, and rests on no copy: it is lit exactly for the failures
+-- whose alarm is shown (`LitIsSo`).
 abbrev pub may_in : Footing → (ℕ → Option ℕ) → Copied → Button → Bool
 may_in f since c (button.Go cue q) = may_go f since cue q c
 may_in f since c (button.Cancel cue q) = may_cancel f cue q c

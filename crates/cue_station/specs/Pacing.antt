@@ -20,6 +20,11 @@ is_after_press (Some p) now = nat_lt p.at now
 abbrev pub is_at_once : Notes → Pace → ℕ → Bool
 is_at_once n p now = p.is_wanted && (p.is_answered && is_after_press n.press now)
 
+-- none was ever asked, or the newest one was a second ago
+abbrev pub is_overdue : Option Question → ℕ → Bool
+is_overdue None now = true
+is_overdue (Some q) now = nat_le (q.at + ASK_MS) now
+
 -- a question is due, by the newest one that was sent
 abbrev pub is_due_after : Option Question → Notes → Pace → ℕ → Bool
 is_due_after None n p now = true

@@ -1,15 +1,20 @@
 -- What is sent, and for what.
-use Rattle.std.specs.Prelude.{◌≡◌, ℕ, Bool, ◌&&◌, List, Option, None, Some, IsTrue, [], ◌∷◌, ◌+◌}
+use Rattle.std.specs.Prelude.{◌≡◌, ℕ, Bool, ◌&&◌, if◌then◌else◌, List, Option, None, Some, IsTrue, [], ◌∷◌, ◌+◌}
+use Rattle.std.specs.List.{list_any}
 use Rattle.cue_desk.specs.declared.orders.Order.{Order}
 use Rattle.cue_desk.specs.declared.orders.Order.TheVariants as order
 use Rattle.cue_operator.specs.declared.method.CueVerb.TheVariants as verb
 use Rattle.cue_view.specs.declared.button.Button.{Button}
 use Rattle.cue_view.specs.declared.button.Button.TheVariants as button
+use Rattle.cue_view.specs.declared.view.Unsent.{Unsent}
+use Rattle.cue_view.specs.declared.view.Unsent.TheVariants as unsent
+use Rattle.cue_station.specs.declared.heard.Heard.{Heard}
 use Rattle.cue_station.specs.declared.heard.Heard.TheVariants.{Pressed}
+use Rattle.cue_station.specs.declared.heard.Input.{Input}
 use Rattle.cue_station.specs.declared.heard.Send.{Send}
 use Rattle.cue_station.specs.Turns.{Turn}
 use Rattle.cue_station.specs.Lighting.{may}
-use Rattle.cue_station.specs.Offering.{is_offered, kept_of}
+use Rattle.cue_station.specs.Offering.{is_offered, is_recent, kept_of}
 
 -- the message of a button; none where nothing is sent
 abbrev pub order_of : Button → Option Order
@@ -25,6 +30,25 @@ order_of (button.Seen q) = None
 -- the same button, for the same cue and attempt, may be lit at this moment still.
 abbrev pub is_heeded : List Turn → ℕ → ℕ → ℕ → Button → Bool
 is_heeded past now wall view b = is_offered view now b (kept_of past) && may past now wall b
+
+-- Why a press is not heeded: no young view has its number; else that view had the button dark; else it may no longer be
+-- lit.
+abbrev pub refusal_by : Bool → Bool → Bool → Option Unsent
+refusal_by recent offered may =
+    if offered then if may then None else Some unsent.Changed else if recent then Some unsent.Dark
+    else Some unsent.Old
+
+-- of what was heard a press alone is refused
+abbrev pub unsent_by : (ℕ → Button → Option Unsent) → Heard → Option Unsent
+unsent_by refusal (Pressed view b) = refusal view b
+unsent_by refusal _ = None
+
+-- why the press that was heard is not heeded; none where it is, and where none was heard
+abbrev pub unsent_of : List Turn → Input → Option Unsent
+unsent_of past i =
+    unsent_by
+    (λ view b. refusal_by (list_any (is_recent view i.at) (kept_of past)) (is_offered view i.at b (kept_of past))
+    (may past i.at i.wall b)) i.heard
 
 -- The message is that of a press that is heeded.
 pub record IsOfPress (t : Turn) (past : List Turn) (s : Send) : Type 0 where

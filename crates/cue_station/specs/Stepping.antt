@@ -1,5 +1,6 @@
 -- What a step makes, part by part.
-use Rattle.std.specs.Prelude.{◌≡◌, ◌&&◌, ℕ, Bool, false, List, ◌∷◌, Option, None, is_none, take}
+use Rattle.std.specs.Prelude.{◌≡◌, ◌&&◌, ℕ, Bool, true, false, List, ◌∷◌, Option, None, is_none, take, IsTrue}
+use Rattle.std.specs.List.{list_any}
 use Rattle.cue_view.specs.declared.button.Button.{Button}
 use Rattle.cue_station.specs.declared.heard.Heard.{Heard}
 use Rattle.cue_station.specs.declared.heard.Heard.TheVariants as heard
@@ -18,7 +19,9 @@ use Rattle.cue_view.specs.declared.view.View.{View}
 use Rattle.cue_station.specs.Lighting.{may_by}
 use Rattle.cue_station.specs.Network.{relayed_with}
 use Rattle.cue_station.specs.Noting.{footing_by, notes_heard, notes_sent, order_by, send_by}
-use Rattle.cue_station.specs.Offering.{is_offered}
+use Rattle.cue_station.specs.Offering.{is_offered, is_recent}
+use Rattle.cue_station.specs.Pacing.{is_overdue}
+use Rattle.cue_station.specs.Pressing.{refusal_by, unsent_by}
 use Rattle.cue_station.specs.Reading.{read_with}
 use Rattle.cue_station.specs.Seeing.{seen_after}
 use Rattle.cue_station.specs.Showing.{since_in}
@@ -65,13 +68,22 @@ is_heeded_by s i view b =
     is_offered view i.at b s.views.items
     && may_by (footing_by s.notes s.reading i.at i.wall) (since_in s.seen.items) s.reading b
 
--- why a press is not heeded, if it is not
+-- a press that is heeded is not refused
 abbrev pub Refuses : (ℕ → Button → Bool) → Heard → Option Unsent → Type 0
 Refuses is_heeded (heard.Pressed view b) u = is_none u ≡ is_heeded view b
 Refuses is_heeded _ u = Unit {0}
 
 abbrev pub IsRefusal : Station → Input → Option Unsent → Type 0
 IsRefusal s i u = Refuses (is_heeded_by s i) i.heard u
+
+-- why a press is not heeded, if it is not
+abbrev pub refusal_now : Station → Input → ℕ → Button → Option Unsent
+refusal_now s i view b =
+    refusal_by (list_any (is_recent view i.at) s.views.items) (is_offered view i.at b s.views.items)
+    (may_by (footing_by s.notes s.reading i.at i.wall) (since_in s.seen.items) s.reading b)
+
+abbrev pub unsent_now : Station → Input → Option Unsent
+unsent_now s i = unsent_by (refusal_now s i) i.heard
 
 -- the newest copy once this was heard
 abbrev pub reading_now : Station → Input → Option Reading
@@ -84,12 +96,13 @@ noted_now s i = notes_heard i.heard i.at (reading_now s i) s.views.items s.notes
 -- what a step makes before anything is kept
 pub record Makes (s : Station) (i : Input) (m : Made) : Type 0 where
   pub due : Bool
+  pub overdue : IsTrue (is_overdue s.notes.question i.at) → due ≡ true
   pub send : m.step.send ≡ send_by (order_by i.heard (is_heeded_by s i)) due (noted_now s i).next_ask
   pub notes : m.notes ≡ notes_sent i.heard i.at (reading_now s i) m.step.send (noted_now s i)
   pub seen : m.seen.items ≡ seen_after s.seen.items i.at (reading_now s i)
   pub shown : m.shown ≡ shown_in m.step.view
   pub number : m.step.view.number ≡ s.notes.number
-  pub unsent : IsRefusal s i m.step.view.unsent
+  pub unsent : m.step.view.unsent ≡ unsent_now s i
   pub view : IsView m.notes (reading_now s i) (relayed_with i.heard i.at s.relay) m.seen.items
       (footing_by m.notes (reading_now s i) i.at i.wall) m.step.view
 
@@ -102,19 +115,21 @@ noted_in s i = notes_heard i.heard i.at s.reading s.views.items s.notes
 -- what is noted, and what is sent
 pub record TakesNotes (s : Station) (i : Input) (n : Noted) : Type 0 where
   pub due : Bool
+  pub overdue : IsTrue (is_overdue s.notes.question i.at) → due ≡ true
   pub send : n.send ≡ send_by (order_by i.heard (is_heeded_by s i)) due (noted_in s i).next_ask
   pub notes : n.notes ≡ notes_sent i.heard i.at s.reading n.send (noted_in s i)
-  pub unsent : IsRefusal s i n.unsent
+  pub unsent : n.unsent ≡ unsent_now s i
 
 -- what a step makes
 pub record MakesIn (s : Station) (i : Input) (m : Made) : Type 0 where
   pub due : Bool
+  pub overdue : IsTrue (is_overdue s.notes.question i.at) → due ≡ true
   pub send : m.step.send ≡ send_by (order_by i.heard (is_heeded_by s i)) due (noted_in s i).next_ask
   pub notes : m.notes ≡ notes_sent i.heard i.at s.reading m.step.send (noted_in s i)
   pub seen : m.seen.items ≡ seen_after s.seen.items i.at s.reading
   pub shown : m.shown ≡ shown_in m.step.view
   pub number : m.step.view.number ≡ s.notes.number
-  pub unsent : IsRefusal s i m.step.view.unsent
+  pub unsent : m.step.view.unsent ≡ unsent_now s i
   pub view : IsView m.notes s.reading s.relay m.seen.items (footing_by m.notes s.reading i.at i.wall) m.step.view
 
 -- what was made is kept

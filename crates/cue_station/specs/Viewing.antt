@@ -19,6 +19,7 @@ use Rattle.cue_station.specs.Drawing.{ShowsReading, live_by}
 use Rattle.cue_station.specs.Following.{next_in}
 use Rattle.cue_station.specs.Lighting.{keys_of, may_in}
 use Rattle.cue_station.specs.Network.{network_by}
+use Rattle.cue_station.specs.Smaller.{smaller_of}
 use Rattle.cue_station.specs.Showing.{ShowsStack, given_in, shown_live, since_in}
 use Rattle.cue_station.specs.Telling.{last_in, past_in}
 
@@ -72,11 +73,12 @@ DrawsBy f seen (Some r) d = DrawsCopy f seen r.copy d
 
 -- ---- the lit buttons
 
--- of the great buttons, and of smaller ones, those that may be lit
-abbrev pub LightsBy : Footing → List Seen → Option Reading → List Button → Type 0
-LightsBy f seen None lit = lit ≡ []
-LightsBy f seen (Some r) lit =
-    (smaller : List Button) × (lit ≡ filter (may_in f (since_in seen) r.copy) (keys_of f r.copy ++ smaller))
+-- of the great buttons, and of the smaller ones, those that may be lit
+abbrev pub LightsBy : Footing → List Seen → Option Reading → List (List ℕ) → List Alarm → List Button → Type 0
+LightsBy f seen None cues alarms lit = lit ≡ []
+LightsBy f seen (Some r) cues alarms lit =
+    lit ≡ filter (may_in f (since_in seen) r.copy)
+    (keys_of f r.copy ++ smaller_of r.copy.state.live cues alarms)
 
 -- ---- the view
 
@@ -89,6 +91,6 @@ pub record IsView (n : Notes) (r : Option Reading) (relay : Option Relayed) (see
   pub chosen : v.chosen ≡ f.chosen
   pub said : v.said ≡ option_map said_by n.press
   pub copy : ShowsReading f.stands (since_in seen) (given_in seen) f.at f.wall v r
-  pub lit : LightsBy f seen r v.lit.items
+  pub lit : LightsBy f seen r v.stack.cues.items v.alarms.items v.lit.items
   pub network : v.network.items ≡ network_by relay f.at
   pub alarms : v.alarms.items ≡ alarms_in n r relay seen (failures_by r) f

@@ -1,5 +1,6 @@
 //! Which buttons are lit.
-ghost use Rattle.std.specs.Prelude.{◌≡◌, ◌&&◌, ◌++◌, List, IfOk, OnOk, is_none, filter};
+ghost use Rattle.std.specs.Prelude.{◌≡◌, ◌&&◌, ◌++◌, IfOk, OnOk, is_none, filter, map};
+ghost use Rattle.std.specs.List.{filter_map, flat_map};
 ghost use Rattle.cue_exchange.specs.Answers.{answer_passes, is_preparing, is_waiting};
 ghost use Rattle.cue_exchange.specs.Live.{attempt_of_cue};
 ghost use Rattle.cue_show.specs.Number.{same_text};
@@ -8,7 +9,8 @@ ghost use Rattle.cue_station.specs.Following.{next_in};
 ghost use Rattle.cue_station.specs.Alarms as alarms;
 ghost use Rattle.cue_station.specs.Lighting as lighting;
 ghost use Rattle.cue_station.specs.Showing.{since_in};
-ghost use Rattle.cue_view.specs.declared.button.Button.{Button};
+ghost use Rattle.cue_station.specs.Smaller as smaller;
+ghost use Rattle.cue_view.specs.declared.button.Button.TheVariants as button;
 
 use crate::alarms::{is_alive, is_young};
 use crate::following::next_in;
@@ -288,15 +290,21 @@ fn push_standby(keys: &mut Vec<Button>, next: Next) -> Result<(), AllocError>
 }
 
 // Puts the smaller buttons of a live attempt after the others.
-fn push_attempt(buttons: &mut Vec<Button>, attempt: &Attempt) -> Result<(), AllocError> {
+fn push_attempt(buttons: &mut Vec<Button>, attempt: &Attempt) -> Result<(), AllocError>
+    ensures { OnOk result (buttons.new.items ≡ buttons.old.items ++ smaller.of_attempt attempt.now) }
+{
     buttons.push(Button::Choose(attempt.seq))?;
-    for answer in attempt.answers.as_slice() {
+    let answers = attempt.answers.as_slice();
+    for answer in answers {
         buttons.push(Button::Release(attempt.seq, answer.device))?;
     }
     Ok(())
 }
 
-fn push_attempts(buttons: &mut Vec<Button>, live: &[Attempt]) -> Result<(), AllocError> {
+// Puts those of each live attempt after the others.
+fn push_attempts(buttons: &mut Vec<Button>, live: &[Attempt]) -> Result<(), AllocError>
+    ensures { OnOk result (buttons.new.items ≡ buttons.old.items ++ flat_map smaller.of_attempt live.now) }
+{
     for attempt in live {
         push_attempt(buttons, attempt)?;
     }
@@ -304,19 +312,42 @@ fn push_attempts(buttons: &mut Vec<Button>, live: &[Attempt]) -> Result<(), Allo
 }
 
 // Puts the buttons of the cues that are shown after the others.
-fn push_moves(buttons: &mut Vec<Button>, cues: &[CueNo]) -> Result<(), AllocError> {
+fn push_moves(buttons: &mut Vec<Button>, cues: &[CueNo]) -> Result<(), AllocError>
+    ensures { OnOk result (buttons.new.items ≡ buttons.old.items ++ map button.MoveTo cues.now) }
+{
     for cue in cues {
         buttons.push(Button::MoveTo(*cue))?;
     }
     Ok(())
 }
 
+// The failure of which it is the alarm.
+fn failure_of(alarm: &Alarm) -> Option<u32>
+    ensures { result ≡ smaller.failure_of alarm.now }
+{
+    match alarm {
+        Alarm::Failed(seq) => Some(*seq),
+        Alarm::NobodyListens | Alarm::Silent(_) | Alarm::OtherStore(_) | Alarm::RelayStopped(_) => None,
+        Alarm::Unread(_) | Alarm::Old(_) | Alarm::ClockPutBack(_) | Alarm::DeviceSilent(_) => None,
+    }
+}
+
+// The failures of which there is an alarm.
+fn failures_in(alloc: Global, alarms: &[Alarm]) -> Result<Vec<u32>, AllocError>
+    ensures { IfOk result (λ numbers. numbers.items ≡ filter_map smaller.failure_of alarms.now) }
+{
+    alarms
+        .iter()
+        .filter_map(|alarm| failure_of(alarm))
+        .collect(alloc)
+}
+
 // Puts the buttons of the failures after the others.
-fn push_seen(buttons: &mut Vec<Button>, alarms: &[Alarm]) -> Result<(), AllocError> {
-    for alarm in alarms {
-        if let Alarm::Failed(seq) = alarm {
-            buttons.push(Button::Seen(*seq))?;
-        }
+fn push_seen(buttons: &mut Vec<Button>, numbers: &[u32]) -> Result<(), AllocError>
+    ensures { OnOk result (buttons.new.items ≡ buttons.old.items ++ map button.Seen numbers.now) }
+{
+    for seq in numbers {
+        buttons.push(Button::Seen(*seq))?;
     }
     Ok(())
 }
@@ -327,11 +358,14 @@ fn smaller_of(
     live: &[Attempt],
     cues: &[CueNo],
     alarms: &[Alarm],
-) -> Result<Vec<Button>, AllocError> {
+) -> Result<Vec<Button>, AllocError>
+    ensures { IfOk result (λ buttons. buttons.items ≡ smaller.smaller_of live.now cues.now alarms.now) }
+{
+    let failures = failures_in(alloc, alarms)?;
     let mut buttons = Vec::new(alloc);
     push_attempts(&mut buttons, live)?;
     push_moves(&mut buttons, cues)?;
-    push_seen(&mut buttons, alarms)?;
+    push_seen(&mut buttons, &failures)?;
     Ok(buttons)
 }
 
@@ -362,9 +396,8 @@ pub(crate) fn lit_of(
     seen: &[Seen],
     footing: Footing,
 ) -> Result<Vec<Button>, AllocError>
-    ensures { IfOk result (λ lit. (smaller : List Button) × (lit.items
-        ≡ filter (lighting.may_in footing (since_in seen.now) copy.now)
-        (lighting.keys_of footing copy.now ++ smaller))) }
+    ensures { IfOk result (λ lit. lit.items ≡ filter (lighting.may_in footing (since_in seen.now) copy.now)
+        (lighting.keys_of footing copy.now ++ smaller.smaller_of copy.now.state.live cues.now alarms.now)) }
 {
     let mut buttons = keys_of_choice(alloc, &copy.state, footing.chosen)?;
     push_standby(&mut buttons, next_in(copy))?;

@@ -1,7 +1,8 @@
 //! Which presses are sent.
 ghost use Rattle.std.specs.Prelude.{◌≡◌, ◌&&◌, is_none};
+ghost use Rattle.std.specs.List.{list_any};
 ghost use Rattle.cue_station.specs.Lighting.{may_by};
-ghost use Rattle.cue_station.specs.Offering.{is_offered};
+ghost use Rattle.cue_station.specs.Offering.{is_offered, is_recent};
 ghost use Rattle.cue_station.specs.Pressing as pressing;
 ghost use Rattle.cue_station.specs.Showing.{since_in};
 
@@ -37,8 +38,11 @@ pub(crate) fn refusal_of(
     seen: &[Seen],
     footing: &Footing,
 ) -> Option<Unsent>
-    ensures { is_none result ≡ (is_offered view footing.now.at button.now views.now
+    ensures heeded { is_none result ≡ (is_offered view footing.now.at button.now views.now
         && may_by footing.now (since_in seen.now) reading.now button.now) }
+    ensures why { result ≡ pressing.refusal_by (list_any (is_recent view footing.now.at) views.now)
+        (is_offered view footing.now.at button.now views.now)
+        (may_by footing.now (since_in seen.now) reading.now button.now) }
 {
     if !is_offered(views, view, footing.at, *button) {
         if is_one_recent(views, view, footing.at) {

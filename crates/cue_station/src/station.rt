@@ -153,7 +153,8 @@ impl Station {
 
     // Why the press that was heard is not heeded.
     fn refusal(&self, input: &Input) -> Option<Unsent>
-        ensures { stepping.IsRefusal self.now input.now result }
+        ensures heeded { stepping.IsRefusal self.now input.now result }
+        ensures why { result ≡ stepping.unsent_now self.now input.now }
     {
         match &input.heard {
             Heard::Pressed(view, button) => {

@@ -168,7 +168,7 @@ fn lit(
     seen: &[Seen],
     footing: Footing,
 ) -> Result<Vec<Button>, AllocError>
-    ensures { IfOk result (λ v. viewing.LightsBy footing seen.now reading.now v.items) }
+    ensures { IfOk result (λ v. viewing.LightsBy footing seen.now reading.now cues.now alarms.now v.items) }
 {
     match reading {
         Some(reading) => lit_of(alloc, &reading.copy, cues, alarms, seen, footing),

@@ -18,6 +18,7 @@ returns c =
     c.in_ok-bare.ensures) in
     record {
       due = c.in_ok-notes.ensures.due;
+      overdue = c.in_ok-notes.ensures.overdue;
       send = c.in_ok-notes.ensures.send;
       notes = c.in_ok-notes.ensures.notes;
       seen = c.in_ok-seen.ensures ∙ ap (λ l. seen_after l i.at s.reading) c.deref-2.ensures.value;

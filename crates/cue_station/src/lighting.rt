@@ -327,7 +327,8 @@ fn failure_of(alarm: &Alarm) -> Option<u32>
 {
     match alarm {
         Alarm::Failed(seq) => Some(*seq),
-        Alarm::NobodyListens | Alarm::Silent(_) | Alarm::OtherStore(_) | Alarm::RelayStopped(_) => None,
+        Alarm::NobodyListens | Alarm::Silent(_) | Alarm::OtherStore(_) | Alarm::RelayStopped(_) =>
+            None,
         Alarm::Unread(_) | Alarm::Old(_) | Alarm::ClockPutBack(_) | Alarm::DeviceSilent(_) => None,
     }
 }

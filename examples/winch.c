@@ -160,8 +160,8 @@ static void take(int wire, struct cue_device *device)
     say(wire, &answer);
 }
 
-/* What is said unasked, if it is due now; and when the next is. What the winch was ready for before a restart is over: it
- * says so forty times in its first second, whatever comes but an order with a higher number. Then cue_tick does. */
+/* Says what nobody asked for, if it is due; gives when the next is. What the winch was ready for before a restart is
+ * over: it says so forty times in its first second, whatever comes but a higher number. Then cue_tick does. */
 static int64_t say_unasked(int wire, const struct cue_device *device, int64_t due)
 {
     struct cue_answer answer;

@@ -66,7 +66,7 @@ class Plc:
         """It has come to this state."""
         self.said = []
         values = {"Last": state.last, "CameFrom": state.controller, "Phase": PHASES[state.phase],
-                  "Unheard": state.unheard, "Doing": WORKS[state.doing], "DoingNumber": state.doing_number,
+                  "Unheard": state.unheard, "Copies": 0, "Doing": WORKS[state.doing], "DoingNumber": state.doing_number,
                   "Asked": state.asked, "IsAsked": state.asked is not None}
         self.now |= {name: values[name] for name in self.names}
 

@@ -59,8 +59,20 @@ class Plc:
         self.now |= {"Same": lambda a, b: a == b, "Say": lambda word, number: self.said.append((word, number))}
         for name, inside in re.findall(r"^FUNCTION (\w+) *\n(.*?)^END_FUNCTION", text, re.M | re.S):
             inputs = re.findall(r"(\w+) :", "".join(re.findall(r"VAR_INPUT(.*?)END_VAR", inside)))
-            lines = body_of(re.sub(r"VAR(?:_INPUT)?\b.*?END_VAR", "", inside, flags=re.S), self.names)
-            exec(f"def {name}({', '.join(inputs)}):\n    " + "\n    ".join(lines), self.now)
+            self.define(name, inputs, re.sub(r"VAR(?:_INPUT)?\b.*?END_VAR", "", inside, flags=re.S))
+        self.define("AtTheStart", [], text.partition("\nFUNCTION")[0].rpartition("END_VAR")[2])
+
+    def define(self, name, inputs, body):
+        """A function of these statements."""
+        lines = body_of(body, self.names)
+        exec(f"def {name}({', '.join(inputs)}):\n    " + "\n    ".join(lines), self.now)
+
+    def starts(self, last):
+        """Its power has come back, and it had kept this number."""
+        self.said = []
+        self.now |= {"Last": last, "Phase": "OVER", "Doing": "NOTHING", "DoingNumber": 0, "Unheard": False, "Copies": 0,
+                     "Asked": None, "IsAsked": False}
+        self.now["AtTheStart"]()
 
     def begin(self, state):
         """It has come to this state."""

@@ -18,6 +18,7 @@ import struct
 import time
 
 REPEAT = 0.25  # seconds between two copies of an abort that nobody asked for
+COPIES, SOON = 40, 0.025  # after a restart: so many, and the seconds between two
 ORDERS = {"/msc/standby": ",iisb", "/msc/go_2pc": ",ii", "/msc/cancel": ",ii"}
 
 
@@ -94,6 +95,8 @@ class Device:
         # A work, or the last answer; and when something comes next without a command. After a restart it says at once
         # that it has forgotten what it prepared.
         self.step, self.due = ("abort", 0.0) if self.attempt else (None, None)
+        self.copies = COPIES if self.attempt else 0  # of that, in its first second, whatever comes but a higher number
+        self.is_heard = False  # whether the controller has replied to its abort
         self.printed = None
         self.sender = None  # of the last datagram
         self.controller = kept.sender if kept else None  # where the last order came from
@@ -102,7 +105,8 @@ class Device:
         """What to answer to a datagram; None where there is nothing to say, or not yet."""
         abort = text("/reply") + text(",siiii") + text(f"/device/{self.number}/abort")
         if self.step == "abort" and data[:-16] == abort:
-            self.due = None  # the abort has come to the controller
+            self.is_heard = True
+            self.due = self.due if self.copies else None
         address, attempt, device, asked = read_order(data)
         if device != self.number or attempt < 1:
             return None  # for another device, or no number
@@ -111,6 +115,7 @@ class Device:
             self.kept.keep(max(attempt, self.kept.number), self.controller)  # before anything is done or answered
         if attempt > self.attempt and self.step != "moving":
             self.attempt, self.asked, self.step, self.due = attempt, None, None, None  # what was prepared is let go
+            self.copies, self.is_heard = 0, False
         return self.say(attempt, self.answer_to(address, attempt, asked, now))
 
     def answer_to(self, address, attempt, asked, now):
@@ -148,7 +153,7 @@ class Device:
         return self.answer()
 
     def on_cancel(self, now):
-        if self.step != "complete":
+        if self.step not in ("complete", "abort"):
             self.enter("cancelled", now)
         return "cancelled"  # where it has moved, too: only a store that was restored from a copy asks for that
 
@@ -165,10 +170,18 @@ class Device:
         """What to answer without a command: a work is done, or it cannot go on."""
         if self.due is None or now < self.due:
             return None
+        due = self.due
         self.enter(self.NEXT[self.step], now)
         if self.step == "abort":
-            self.due = now + REPEAT  # nobody asked for it, so nobody repeats a command: again, until its reply comes
+            self.due = self.repeats(due or now, now)
         return self.say(self.attempt, self.step)
+
+    def repeats(self, due, now):
+        """When it says its abort again: nobody asked for it, so nobody repeats a command. Until its reply comes."""
+        self.copies = max(0, self.copies - 1)
+        if self.copies:
+            return due + SOON
+        return None if self.is_heard else now + REPEAT
 
     def say(self, attempt, answer):
         if answer is None:

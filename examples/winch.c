@@ -22,7 +22,8 @@
 #include <time.h>
 #include <unistd.h>
 
-enum { TICK = 250 }; /* milliseconds between two calls of cue_tick */
+enum { TICK = 250 };             /* milliseconds between two calls of cue_tick */
+enum { SOON = 25, COPIES = 40 }; /* milliseconds between two copies of cue_restarted's answer, and how many (15b) */
 
 static volatile sig_atomic_t fault; /* the motor's own signal */
 
@@ -37,6 +38,11 @@ static struct {
     uint32_t number; /* what the file holds: the highest number that the winch has heard of */
     struct cue_place from;
 } kept;
+
+static struct {
+    struct cue_answer answer; /* of cue_restarted */
+    int left;                 /* how many copies of it are still to send */
+} restarted;
 
 /* Ends the winch, with its motor at rest. */
 static void end(const char *what)
@@ -154,6 +160,24 @@ static void take(int wire, struct cue_device *device)
     say(wire, &answer);
 }
 
+/* Says what nobody asked for, if it is due; gives when the next is. What the winch was ready for before a restart is
+ * over: it says so forty times in its first second, whatever comes but a higher number. Then cue_tick does. */
+static int64_t say_unasked(int wire, const struct cue_device *device, int64_t due)
+{
+    struct cue_answer answer;
+    if (now() < due)
+        return due;
+    if (restarted.left > 0 && device->phase == CUE_OVER) {
+        restarted.left--;
+        restarted.answer.to = device->controller;
+        say(wire, &restarted.answer);
+        return due + SOON;
+    }
+    cue_tick(device, &answer);
+    say(wire, &answer);
+    return now() + TICK;
+}
+
 int main(int count, char **words)
 {
     struct cue_device device;
@@ -162,7 +186,8 @@ int main(int count, char **words)
     int wire = socket(AF_INET, SOCK_DGRAM, 0);
     if (count > 3)
         open_kept(words[3]);
-    if (count < 4 || cue_restarted(&device, (uint32_t)atoi(words[1]), kept.number, &kept.from, &answer) != CUE_NO_ORDER)
+    if (count < 4 || cue_restarted(&device, (uint32_t)atoi(words[1]), kept.number, &kept.from, &restarted.answer) !=
+                         CUE_NO_ORDER)
         return fprintf(stderr, "winch NUMBER PORT KEPT [PREPARE MOVE [LET_GO]]\n"), 2;
     here.sin_port = htons((uint16_t)atoi(words[2]));
     here.sin_addr.s_addr = htonl(INADDR_LOOPBACK);
@@ -173,18 +198,14 @@ int main(int count, char **words)
     motor.takes[CUE_GIVE_UP] = count > 6 ? atoi(words[6]) : 0;
     signal(SIGUSR1, on_fault);
     setvbuf(stdout, NULL, _IOLBF, 0);
-    say(wire, &answer); /* what it was ready for before a restart is over */
-    for (int64_t tick = now() + TICK;;) {
+    restarted.left = restarted.answer.length > 0 ? COPIES : 0;
+    for (int64_t due = now();;) {
         struct pollfd ears = {.fd = wire, .events = POLLIN};
-        int64_t next = motor.order != CUE_NO_ORDER && motor.due < tick ? motor.due : tick, left = next - now();
+        int64_t next = motor.order != CUE_NO_ORDER && motor.due < due ? motor.due : due, left = next - now();
         if (poll(&ears, 1, left > 0 ? (int)left : 0) > 0)
             take(wire, &device);
         look_at_motor(&device, &answer);
         say(wire, &answer);
-        if (now() >= tick) {
-            tick = now() + TICK;
-            cue_tick(&device, &answer);
-            say(wire, &answer);
-        }
+        due = say_unasked(wire, &device, due);
     }
 }

@@ -134,9 +134,10 @@ static inline uint32_t cue_new(struct cue_device *device, uint32_t number)
 
 /* Makes a device that was restarted: its machine is at rest and holds nothing. `kept` is the `device.last` that you
  * kept, 0 to 2147483647, and `controller` the `device.controller`; if nothing was kept yet, 0 and any place. It never
- * moves for a number up to `kept` again, whatever is still under way. Send the answer: it is the abort of `kept`.
- * cue_tick gives it again until its /reply came or a higher number did. So a cue that waits for this device is given up
- * before anybody moves. Gives CUE_NO_ORDER, or CUE_BAD_CALL as cue_new does, and for a number without its place. */
+ * moves for a number up to `kept` again, whatever is still under way. Send the answer, the abort of `kept`, forty
+ * times in the first second, every 25 ms, while `phase` is CUE_OVER; a /reply does not end that. From then on cue_tick
+ * gives it until its /reply came or a higher number did. So a cue that waits for this device is given up before anybody
+ * moves. Gives CUE_NO_ORDER, or CUE_BAD_CALL as cue_new does, and for a number without its place. */
 static inline uint32_t cue_restarted(struct cue_device *device, uint32_t number, uint32_t kept,
                                      const struct cue_place *controller, struct cue_answer *answer)
 {

@@ -146,6 +146,15 @@ class SaysNoRestart(Device):
         self.due = None
 
 
+class EndsAtTheFirstReply(Device):
+    """It says that it has restarted, and no more once any reply to that has come."""
+
+    def hear(self, data, now):
+        if data.startswith(b"/reply"):
+            self.copies = 0
+        return super().hear(data, now)
+
+
 class ObeysLateOrders(Device):
     """A late cancel of a lower number makes it let go."""
 
@@ -304,6 +313,7 @@ BROKEN = {
     "counts-by-itself": (CountsByItself, "12d"),
     "forgets-over-a-restart": (ForgetsOverARestart, "13c"),
     "says-no-restart": (SaysNoRestart, "15a"),
+    "ends-at-the-first-reply": (EndsAtTheFirstReply, "15b"),
     "obeys-late-orders": (ObeysLateOrders, "7d"),
     "aborts-once": (AbortsOnce, "9a"),
     "obeys-others-orders": (ObeysOthersOrders, "10b"),

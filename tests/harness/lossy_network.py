@@ -74,7 +74,7 @@ class LossyNetwork(threading.Thread):
         if wire is self.front:
             self.controller = sender
         else:
-            self.said.append(self.noted(data))
+            self.said.append(self.noted(data)[:2])
         side = "front" if wire is self.front else "back"
         self.copies[side, data] += 1
         chance = random.Random(f"{self.seed} {side} {data.hex()} {self.copies[side, data]}")
@@ -83,14 +83,13 @@ class LossyNetwork(threading.Thread):
         return [(self.delay * chance.random(), self.back if side == "front" else self.front, data)
                 for _ in range(copies)]
 
-    def has_brought(self, address, since=0.0, number=None, before=float("inf")):
-        """Whether a message with this address, and this number if it is asked for, came through between two moments."""
-        return any(came == address and number in (None, of) and since <= at < before
-                   for came, of, at in list(self.came))
+    def has_brought(self, address, since=0.0, number=None):
+        """Whether a message with this address, and this number if it is asked for, came through since then."""
+        return any(came == address and number in (None, of) and since <= at for came, of, at in list(self.came))
 
-    def has_heard(self, address, number):
-        """Whether the device has sent this answer, also if it was lost."""
-        return any((said, of) == (address, number) for said, of, _ in list(self.said))
+    def times_said(self, address, number):
+        """How often the device has sent this answer, also if it was lost."""
+        return list(self.said).count((address, number))
 
     @staticmethod
     def waits(holds, seconds):
@@ -106,7 +105,7 @@ class LossyNetwork(threading.Thread):
 
     def hears(self, address, number, seconds):
         """Waits until the device has sent this answer; whether it has."""
-        return self.waits(lambda: self.has_heard(address, number), seconds)
+        return self.waits(lambda: self.times_said(address, number) > 0, seconds)
 
     def close(self):
         self.ended.set()

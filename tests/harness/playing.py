@@ -21,6 +21,7 @@ class Controller:
     def __init__(self, program, folder, *more):
         self.folder, self.port = Path(folder), serving.device_port(7)
         self.kept, self.said = self.folder / "kept", self.folder / "said"
+        self.copies = []  # of what it said first of all, in spite of a reply
         self.words = [*map(str, [*program, NUMBER, self.port, self.kept, *more])]
         self.kept.unlink(missing_ok=True)
         self.said.write_text("")
@@ -57,11 +58,13 @@ class Controller:
         return self.is_told()
 
     def is_told(self):
-        """What a device that was started says of the number that it kept, until it has a reply."""
+        """What a device that was started says of the number that it kept: in its first second, and until a reply."""
         said = self.answer(3.0)
         if said:
             self.sends("/reply", b"/device/%d/%s" % (NUMBER, said[0].encode()), 0, 0, 1, 15)
-            self.answers(0.1)
+            self.copies = self.answers(1.1)
+            while self.answer(0.2):
+                pass
         return said
 
     def trips(self):

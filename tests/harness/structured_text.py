@@ -59,14 +59,26 @@ class Plc:
         self.now |= {"Same": lambda a, b: a == b, "Say": lambda word, number: self.said.append((word, number))}
         for name, inside in re.findall(r"^FUNCTION (\w+) *\n(.*?)^END_FUNCTION", text, re.M | re.S):
             inputs = re.findall(r"(\w+) :", "".join(re.findall(r"VAR_INPUT(.*?)END_VAR", inside)))
-            lines = body_of(re.sub(r"VAR(?:_INPUT)?\b.*?END_VAR", "", inside, flags=re.S), self.names)
-            exec(f"def {name}({', '.join(inputs)}):\n    " + "\n    ".join(lines), self.now)
+            self.define(name, inputs, re.sub(r"VAR(?:_INPUT)?\b.*?END_VAR", "", inside, flags=re.S))
+        self.define("AtTheStart", [], text.partition("\nFUNCTION")[0].rpartition("END_VAR")[2])
+
+    def define(self, name, inputs, body):
+        """A function of these statements."""
+        lines = body_of(body, self.names)
+        exec(f"def {name}({', '.join(inputs)}):\n    " + "\n    ".join(lines), self.now)
+
+    def starts(self, last):
+        """Its power has come back, and it had kept this number."""
+        self.said = []
+        self.now |= {"Last": last, "Phase": "OVER", "Doing": "NOTHING", "DoingNumber": 0, "Unheard": False, "Copies": 0,
+                     "Asked": None, "IsAsked": False}
+        self.now["AtTheStart"]()
 
     def begin(self, state):
         """It has come to this state."""
         self.said = []
         values = {"Last": state.last, "CameFrom": state.controller, "Phase": PHASES[state.phase],
-                  "Unheard": state.unheard, "Doing": WORKS[state.doing], "DoingNumber": state.doing_number,
+                  "Unheard": state.unheard, "Copies": 0, "Doing": WORKS[state.doing], "DoingNumber": state.doing_number,
                   "Asked": state.asked, "IsAsked": state.asked is not None}
         self.now |= {name: values[name] for name in self.names}
 

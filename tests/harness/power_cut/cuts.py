@@ -95,13 +95,12 @@ def key(past, parts):
 
 
 def images(recorded, scene, sector, count, seed, lies=False, every=True):
-    """About `count` images of a scene, no two the same between two acknowledgements, by rising moments. With `every`
-    each flush and each acknowledgement is among them."""
+    """Some `count` images of a scene, no two the same between two acknowledgements, by rising moments. With `every` those
+    of each flush and each acknowledgement come on top."""
     draw = random.Random(f"{seed} {scene.name} {sector} {lies}")
     wanted = list(systematic(scene, recorded.log)) if every else []
     more = moments(scene, recorded.log, draw)
-    while len(wanted) < count:
-        wanted.append((next(more), draw.choice(CHOICES)))
+    wanted += [(next(more), draw.choice(CHOICES)) for _ in range(count)]
     past, seen = disk.Past(recorded, scene.begin, lies), set()
     for moment, choose in sorted(wanted, key=lambda one: one[0]):
         past.to(moment)

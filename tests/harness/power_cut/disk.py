@@ -68,6 +68,15 @@ class Disk:
         all_of_them = {at // BLOCK: self.base[at:at + BLOCK] for at in range(0, len(self.base), BLOCK)}
         return {number: data for number, data in all_of_them.items() if data.strip(b"\0")}
 
+    def write_image(self, path, blocks):
+        """Makes the file the disk on which these blocks differ from the base."""
+        with open(path, "r+b" if Path(path).exists() else "wb") as file:
+            file.truncate(0)
+            file.truncate(len(self.base))
+            for number, data in {**self.filled, **blocks}.items():
+                file.seek(number * BLOCK)
+                file.write(data)
+
     def close(self):
         self.listener.close()
 

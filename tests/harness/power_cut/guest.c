@@ -150,8 +150,10 @@ static void read_file(const char *name) {
     if (file < 0) return tell(1);
     errno = 0;
     size_t count = read_all(file);
-    if (errno) return tell(1);
+    int failed = errno;
     close(file);
+    errno = failed;
+    if (failed) return tell(1);
     strcpy(answer, "ok ");
     in_hexadecimal(answer + 3, bytes, count);
 }

@@ -9,7 +9,7 @@ import time
 from pathlib import Path
 
 HERE = Path(__file__).resolve().parent
-DRIVERS = ("virtio_pci", "virtio_console", "virtio_blk")
+DRIVERS = ("crc32c_generic", "virtio_pci", "virtio_console", "virtio_blk")
 TOOLS = ("sh", "cp", "mv", "mkdir", "rm", "sync", "sleep", "cat")
 QEMU = "qemu-system-x86_64"
 
@@ -262,8 +262,8 @@ class Here(Place):
         self.root, self.printed = Path(work) / "mounted", Path(work) / "printed"
         self.root.mkdir(exist_ok=True)
         path = ":".join([*(str(Path(program).parent) for program in programs.values()), os.environ["PATH"]])
-        words = ["unshare", "--mount", "--net", Path(work) / "guest", other.fileno(), self.root]
-        self.child = subprocess.Popen(list(map(str, words)), pass_fds=[other.fileno()], env={**os.environ, "PATH": path})
+        words = ["unshare", "--mount", "--net", str(Path(work) / "guest"), str(other.fileno()), str(self.root)]
+        self.child = subprocess.Popen(words, pass_fds=[other.fileno()], env={**os.environ, "PATH": path})
         other.close()
 
     @staticmethod
@@ -279,9 +279,4 @@ class Here(Place):
         subprocess.run(["losetup", "--detach", self.device], check=False)
 
     def show(self, blocks):
-        with open(self.file, "r+b") as file:
-            file.truncate(0)
-            file.truncate(len(self.disk.base))
-            for number, data in {**self.disk.filled, **blocks}.items():
-                file.seek(number * len(data))
-                file.write(data)
+        self.disk.write_image(self.file, blocks)

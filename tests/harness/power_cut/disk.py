@@ -70,12 +70,20 @@ class Disk:
 
     def write_image(self, path, blocks):
         """Makes the file the disk on which these blocks differ from the base."""
-        with open(path, "r+b" if Path(path).exists() else "wb") as file:
-            file.truncate(0)
-            file.truncate(len(self.base))
-            for number, data in {**self.filled, **blocks}.items():
-                file.seek(number * BLOCK)
-                file.write(data)
+        write_image(path, len(self.base), {**self.filled, **blocks})
+
+    def recording(self):
+        """All of it, to be kept in a file."""
+        return len(self.base), self.filled, self.log, self.ends, self.blocks
+
+    @classmethod
+    def again(cls, recording, work):
+        """A disk as it was at the end of a recording."""
+        size, filled, log, ends, blocks = recording
+        write_image(Path(work) / "base", size, filled)
+        disk = cls(Path(work) / "base", work)
+        disk.log, disk.ends, disk.blocks = log, ends, blocks
+        return disk
 
     def close(self):
         self.listener.close()
@@ -180,6 +188,16 @@ class Disk:
             wire.sendall(b"".join(answers))
             if self.records and self.ends[-1] != len(self.log):
                 self.ends.append(len(self.log))
+
+
+def write_image(path, size, blocks):
+    """Makes the file a disk with these blocks, and with zeros elsewhere. It stays the same file if it is there."""
+    with open(path, "r+b" if Path(path).exists() else "wb") as file:
+        file.truncate(0)
+        file.truncate(size)
+        for number, data in blocks.items():
+            file.seek(number * BLOCK)
+            file.write(data)
 
 
 def exactly(wire, count):

@@ -46,8 +46,9 @@ def judged(scene, moment, state):
     the state."""
     found, known = all_of(state), [all_of(one) for one in scene.states]
     acked, sent = scene.window(moment)
-    if found in known[max(acked, 0):sent + 1]:
-        return None, known.index(found)
+    for number in range(max(acked, 0), sent + 1):
+        if found == known[number]:
+            return None, number
     if acked < 0 and (scene.early is None or found in map(all_of, scene.early)):
         return None, None
     if found in known:

@@ -196,9 +196,12 @@ class Place:
 # ---- a virtual machine
 
 def acceleration():
-    """`kvm` if this processor has it, else `tcg`, some ten times slower."""
+    """KVM if this processor has it. Else it is some ten times slower, and its clock goes by the instructions that were
+    carried out: so a cue's ten seconds do not pass while other processes have the processor."""
     words = set(Path("/proc/cpuinfo").read_text().split())
-    return "kvm" if os.access("/dev/kvm", os.R_OK | os.W_OK) and words & {"vmx", "svm"} else "tcg"
+    if os.access("/dev/kvm", os.R_OK | os.W_OK) and words & {"vmx", "svm"}:
+        return ["-accel", "kvm"]
+    return ["-accel", "tcg", "-icount", "shift=2,sleep=on", "-rtc", "clock=vm"]
 
 
 class Machine(Place):
@@ -211,7 +214,7 @@ class Machine(Place):
         self.port, self.log = Path(work) / "machine.port", Path(work) / "machine.log"
         self.port.unlink(missing_ok=True)
         words = [QEMU, "-nodefaults", "-no-user-config", "-display", "none", "-no-reboot", "-m", "512", "-smp", "1",
-                 "-accel", acceleration(), "-cpu", "max", "-kernel", image, "-initrd", begin,
+                 *acceleration(), "-cpu", "max", "-kernel", image, "-initrd", begin,
                  "-append", "console=ttyS0 panic=-1 no_timer_check random.trust_cpu=on", "-serial", f"file:{self.log}",
                  "-drive", f"file=nbd+unix:///?socket={disk.socket},format=raw,if=none,id=disk,cache=none",
                  "-device", "virtio-blk-pci,drive=disk,physical_block_size=4096", "-device", "virtio-serial-pci",

@@ -95,8 +95,8 @@ def key(past, parts):
 
 
 def images(recorded, scene, sector, count, seed, lies=False, every=True):
-    """Some `count` images of a scene, no two the same between two acknowledgements, by rising moments. With `every` those
-    of each flush and each acknowledgement come on top."""
+    """Some `count` images of a scene, no two the same between two acknowledgements, by rising moments. With `every`
+    those of each flush and each acknowledgement come on top."""
     draw = random.Random(f"{seed} {scene.name} {sector} {lies}")
     wanted = list(systematic(scene, recorded.log)) if every else []
     more = moments(scene, recorded.log, draw)

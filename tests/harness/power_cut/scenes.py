@@ -4,6 +4,7 @@ import store_writer
 
 PORT, DESK = 9100, 8000
 FIRST, SECOND = 9003, 9004  # where devices 3 and 4 listen
+NOISE = "k=0; while sleep 1; do k=$(((k + 1) % 9)); cat /store/full/b.area >{root}/noise.$k; done"
 WRONG = {"no sync": "all", "the gate alone synced": "body", "the body alone synced": "gate"}
 say, Blob = model.message, model.Blob
 
@@ -22,6 +23,11 @@ class Scene:
         """A state that was asked for at this moment."""
         self.states.append(state)
         self.sent.append(moment)
+
+    def holds(self, state, moment):
+        """The store is in this state, and that is safe."""
+        self.add(state, moment)
+        self.acked.append(moment)
 
     def window(self, moment):
         """The last state that had been acknowledged, and the last that had been asked for, by their numbers."""
@@ -84,6 +90,10 @@ class Recorder:
             if heard is None or heard.startswith(b"/reply") and b"/status" not in heard:
                 break
         raise RuntimeError(f"{heard} in place of {reply}")
+
+    def make_noise(self):
+        """Another program writes to the disk, and syncs nothing."""
+        self.noise = self.machine.start(NOISE.format(root=self.machine.root))
 
     def end(self, scene):
         """The program is killed; what was not synced may still be written for a while."""
@@ -200,8 +210,7 @@ def form_and_evening(recorder):
     scene.acked.append(recorder.disk.now())
     scene.end = recorder.disk.now()
     scene = recorder.begin(Scene("an evening", "show", empty), settled=False)
-    scene.add(empty, scene.begin)
-    scene.acked.append(scene.begin)
+    scene.holds(empty, scene.begin)
     recorder.serve(scene)
     for messages in evening():
         recorder.tell(scene, *messages)
@@ -212,8 +221,7 @@ def turn_over(recorder):
     path = recorder.path("full")
     recorder.machine.do(f"mkdir {path} && cp /store/full/* {path}")
     scene = recorder.begin(Scene("a turn-over", "full", state_after(nearly_full())))
-    scene.add(scene.first, scene.begin)
-    scene.acked.append(scene.begin)
+    scene.holds(scene.first, scene.begin)
     recorder.serve(scene)
     for k in range(6):
         recorder.tell(scene, (DESK, say(f"/cue/{200 + k}/goto")))
@@ -247,8 +255,7 @@ def wrong_evening(recorder, name):
     path, empty = recorder.path(WRONG[name]), model.State()
     recorder.machine.do(f"mkdir {path} && cuectl form {path}")
     scene = recorder.begin(Scene(name, WRONG[name], empty))
-    scene.add(empty, scene.begin)
-    scene.acked.append(scene.begin)
+    scene.holds(empty, scene.begin)
     recorder.serve(scene, drop=WRONG[name])
     for messages in short_evening():
         recorder.tell(scene, *messages)
@@ -256,9 +263,11 @@ def wrong_evening(recorder, name):
 
 
 def all_scenes(recorder):
+    recorder.make_noise()
     form_and_evening(recorder)
     turn_over(recorder)
     restores(recorder)
+    recorder.machine.stop(recorder.noise)
     good, recorder.scenes = recorder.scenes, []
     for name in WRONG:
         wrong_evening(recorder, name)

@@ -244,8 +244,8 @@ def read_batch(payload):
     return events
 
 
-def opened(a, b):
-    """The lines of the state, or the name of the fault."""
+def state_of(a, b):
+    """The state, or the name of the fault."""
     try:
         areas = [found for found in (area(a), area(b)) if found]
         if len(areas) == 2 and areas[0][0] == areas[1][0]:
@@ -264,4 +264,10 @@ def opened(a, b):
                 state.happen(event)
     except Bad:
         return "Malformed"
-    return list(state.lines())
+    return state
+
+
+def opened(a, b):
+    """The lines of the state, or the name of the fault."""
+    state = state_of(a, b)
+    return state if isinstance(state, str) else list(state.lines())

@@ -46,15 +46,15 @@ def newest_package():
     return max(serving.ROOT.glob("out/cuectl_*_amd64.deb"), key=lambda path: path.stat().st_mtime, default=None)
 
 
-def prepared(usage, kinds=("kvm", "tcg")):
+def prepared(usage):
     """The image, how machines run, and the package, by the words of the command line. Ends a run, aloud, that cannot
     have them."""
     words = argparse.ArgumentParser(usage=usage)
-    words.add_argument("--accel", choices=kinds)
+    words.add_argument("--accel", choices=("kvm", "tcg", "uml"))
     words.add_argument("--cache")
     words.add_argument("package", nargs="?", default=newest_package())
     words = words.parse_args()
-    lacks = virtual_machine.missing() + ([] if words.package else ["a package (tools/package)"])
+    lacks = virtual_machine.missing(words.accel) + ([] if words.package else ["a package (tools/package)"])
     if lacks:
         print(f"--   missing: {', '.join(lacks)}")
         print("left out: no machine was booted")

@@ -51,6 +51,10 @@ RestartSec=0
 [Install]
 WantedBy=multi-user.target
 """,
+    "etc/systemd/system/systemd-udev-trigger.service.d/few.conf": """[Service]
+ExecStart=
+ExecStart=-udevadm trigger --action=add --subsystem-match=block --subsystem-match=net --subsystem-match=virtio-ports
+""",
     "etc/systemd/system/network-cards.service": """[Unit]
 Description=the addresses of /etc/network-cards
 Before=network-online.target
@@ -111,9 +115,10 @@ KERNEL_WORDS = ("root=/dev/vda rw console=ttyS0 quiet net.ifnames=0 no_timer_che
                 "systemd.journald.forward_to_console=1")
 
 
-def missing():
+def missing(acceleration=None):
     """What has to be installed, or to be so, before a machine can be made; empty if nothing has."""
-    lacks = [f"{package} (apt-get install)" for tool, package in TOOLS.items() if not shutil.which(tool)]
+    tools = {**TOOLS, "linux.uml": "user-mode-linux"} if acceleration == "uml" else TOOLS
+    lacks = [f"{package} (apt-get install)" for tool, package in tools.items() if not shutil.which(tool)]
     return lacks + ([] if os.geteuid() == 0 else ["root, for debootstrap"])
 
 
@@ -126,7 +131,7 @@ class Image:
     """Debian's kernel, its initrd and the root file system of every machine; made if the folder does not have them."""
 
     def __init__(self, cache):
-        recipe = repr((SUITE, PACKAGES, INIT, MASKED, RULES, DRIVERS, sorted(FILES.items())))
+        recipe = repr((SUITE, PACKAGES, INIT, MASKED, RULES, DRIVERS, UML_MODULES.exists(), sorted(FILES.items())))
         self.folder = Path(cache) / f"{SUITE}-{hashlib.sha256(recipe.encode()).hexdigest()[:12]}"
         self.folder.parent.mkdir(parents=True, exist_ok=True)
         with open(self.folder.with_suffix(".lock"), "w") as lock:
@@ -145,6 +150,7 @@ class Image:
             subprocess.run(["debootstrap", "--variant=minbase", f"--include={','.join(PACKAGES)}", SUITE, str(root),
                             MIRROR], stdout=log, stderr=subprocess.STDOUT, check=True)
         for name, text in FILES.items():
+            (root / name).parent.mkdir(parents=True, exist_ok=True)
             (root / name).write_text(text)
         (root / "usr/local/sbin/answer-commands").chmod(0o755)
         small_initrd(root / "small")

@@ -240,7 +240,7 @@ class Machine:
         """The command line of qemu."""
         words = ["qemu-system-x86_64", "-nodefaults", "-no-user-config", "-display", "none", "-no-reboot",
                  "-accel", self.acceleration, "-cpu", "host" if self.acceleration == "kvm" else "Nehalem",
-                 "-m", str(self.memory), "-smp", "2" if self.acceleration == "kvm" else "1",
+                 "-m", str(self.memory), "-smp", "2",
                  "-kernel", str(self.image.folder / "vmlinux"),
                  "-initrd", str(self.image.folder / "initrd"), "-append", KERNEL_WORDS,
                  "-serial", f"file:{self.console}", "-device", "virtio-serial",

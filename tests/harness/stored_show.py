@@ -41,6 +41,12 @@ def comes_to(machine, holds, seconds=15.0):
     return machine.waits(lambda: store_of(machine), holds, seconds)
 
 
+def desk(machine, words, seconds=60.0, port=9100):
+    """A command of the desk; again, if a slow machine did not reply in the time that it waits."""
+    again = "*replied* | *acknowledged*) ;; *) echo $said; exit 1"
+    machine.does(f"until said=$(cuedesk {words} --port {port} 2>&1); do case $said in {again} ;; esac; done", seconds)
+
+
 def newest_package():
     """The newest that `tools/package` left in out/; none if there is none."""
     return max(serving.ROOT.glob("out/cuectl_*_amd64.deb"), key=lambda path: path.stat().st_mtime, default=None)

@@ -49,7 +49,7 @@ def listed(piece):
 def made():
     """The page."""
     text = pages.without_links(pages.section("docs/OPERATING.md", "The first evening"))
-    text, count = re.subn(r"(?<=\*\*Once, some days before\.\*\*).*?`\./cuectl`\. Then, in a window:",
+    text, count = re.subn(r"(?<=\*\*Once, some days before\.\*\*).*?in two hours\. Then, in a window:",
                           " In a window:", text, flags=re.S)
     if count != 1:
         raise SystemExit("docs/OPERATING.md does not say how the programs are had")

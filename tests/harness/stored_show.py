@@ -14,7 +14,7 @@ def show_file(cues, addresses):
     """Two devices or more, by number, beyond the relay; so many cues, each with all of them."""
     devices = "".join(f'[[device]]\nnumber = {n}\nport = {9000 + n}\naddress = "{address}"\nname = "Winch {n}"\n\n'
                       for n, address in addresses.items())
-    parts = ", ".join('{ device = %d, hex = "0a0b" }' % n for n in addresses)
+    parts = ", ".join('{ device = %d, hex = "%s" }' % (n, "0a" * 32) for n in addresses)
     return f'port = 9100\nlisten = "10.0.7.1"\n\n{devices}' + "".join(
         f'[[cue]]\nnumber = "{n}"\nparts = [{parts}]\n\n' for n in range(1, cues + 1))
 
@@ -41,10 +41,16 @@ def comes_to(machine, holds, seconds=15.0):
     return machine.waits(lambda: store_of(machine), holds, seconds)
 
 
+def again(words, end, port=9100):
+    """A command of the desk for a shell; again, if a slow machine did not reply in the time that it waits. After another
+    answer that is not good, the shell does this."""
+    silent = f"*replied* | *acknowledged*) ;; *) echo $said; {end}"
+    return f"until said=$(cuedesk {words} --port {port} 2>&1); do case $said in {silent} ;; esac; done"
+
+
 def desk(machine, words, seconds=60.0, port=9100):
-    """A command of the desk; again, if a slow machine did not reply in the time that it waits."""
-    again = "*replied* | *acknowledged*) ;; *) echo $said; exit 1"
-    machine.does(f"until said=$(cuedesk {words} --port {port} 2>&1); do case $said in {again} ;; esac; done", seconds)
+    """The same in a machine; it has to be good."""
+    machine.does(again(words, "exit 1", port), seconds)
 
 
 def newest_package():

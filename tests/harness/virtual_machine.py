@@ -111,8 +111,9 @@ MASKED = ("getty@tty1 serial-getty@ getty-static apt-daily.timer apt-daily-upgra
 RULES = ("50-udev-default", "60-block", "60-persistent-storage", "65-drbd", "99-systemd")
 DRIVERS = ("block", "char", "net", "virtio")
 KERNEL_WORDS = ("root=/dev/vda rw console=ttyS0 quiet net.ifnames=0 no_timer_check mitigations=off audit=0 nokaslr "
-                "random.trust_cpu=on cryptomgr.notests tsc=reliable systemd.show_status=0 systemd.log_level=warning "
-                "systemd.journald.forward_to_console=1")
+                "norandmaps random.trust_cpu=on cryptomgr.notests tsc=reliable systemd.show_status=0 "
+                "systemd.log_level=warning systemd.journald.forward_to_console=1")  # norandmaps: tcg translates a
+# program once, and not each time that it is started.
 
 
 def missing(acceleration=None):
@@ -239,7 +240,8 @@ class Machine:
     def words(self):
         """The command line of qemu."""
         words = ["qemu-system-x86_64", "-nodefaults", "-no-user-config", "-display", "none", "-no-reboot",
-                 "-accel", self.acceleration, "-cpu", "host" if self.acceleration == "kvm" else "Nehalem",
+                 "-accel", "tcg,tb-size=512" if self.acceleration == "tcg" else self.acceleration,
+                 "-cpu", "host" if self.acceleration == "kvm" else "Nehalem",
                  "-m", str(self.memory), "-smp", "2",
                  "-kernel", str(self.image.folder / "vmlinux"),
                  "-initrd", str(self.image.folder / "initrd"), "-append", KERNEL_WORDS,

@@ -62,11 +62,11 @@ def prepared(usage):
     """The image, how machines run, and the package, by the words of the command line. Ends a run, aloud, that cannot
     have them."""
     words = argparse.ArgumentParser(usage=usage)
-    words.add_argument("--accel", choices=("kvm", "tcg", "uml"))
+    words.add_argument("--accel", choices=("kvm", "tcg"))
     words.add_argument("--cache")
     words.add_argument("package", nargs="?", default=newest_package())
     words = words.parse_args()
-    lacks = virtual_machine.missing(words.accel) + ([] if words.package else ["a package (tools/package)"])
+    lacks = virtual_machine.missing() + ([] if words.package else ["a package (tools/package)"])
     if lacks:
         print(f"--   missing: {', '.join(lacks)}")
         print("left out: no machine was booted")

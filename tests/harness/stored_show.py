@@ -42,8 +42,8 @@ def comes_to(machine, holds, seconds=15.0):
 
 
 def again(words, end, port=9100):
-    """A command of the desk for a shell; again, if a slow machine did not reply in the time that it waits. After another
-    answer that is not good, the shell does this."""
+    """A command of the desk for a shell; again, if a slow machine did not reply in the time that it waits. If it was
+    refused, the shell does `end`."""
     silent = f"*replied* | *acknowledged*) ;; *) echo $said; {end}"
     return f"until said=$(cuedesk {words} --port {port} 2>&1); do case $said in {silent} ;; esac; done"
 

@@ -106,10 +106,10 @@ MASKED = ("getty@tty1 serial-getty@ getty-static apt-daily.timer apt-daily-upgra
           "systemd-ask-password-wall.path drbd").split()
 RULES = ("50-udev-default", "60-block", "60-persistent-storage", "65-drbd", "99-systemd")
 DRIVERS = ("block", "char", "net", "virtio")
+# With `norandmaps` tcg translates a program once, and not each time that it is started.
 KERNEL_WORDS = ("root=/dev/vda rw console=ttyS0 quiet net.ifnames=0 no_timer_check mitigations=off audit=0 nokaslr "
                 "norandmaps random.trust_cpu=on cryptomgr.notests tsc=reliable systemd.show_status=0 "
-                "systemd.log_level=warning systemd.journald.forward_to_console=1")  # norandmaps: tcg translates a
-# program once, and not each time that it is started.
+                "systemd.log_level=warning systemd.journald.forward_to_console=1")
 
 
 def missing():

@@ -14,7 +14,7 @@ def show_file(cues, addresses):
     """Two devices or more, by number, beyond the relay; so many cues, each with all of them."""
     devices = "".join(f'[[device]]\nnumber = {n}\nport = {9000 + n}\naddress = "{address}"\nname = "Winch {n}"\n\n'
                       for n, address in addresses.items())
-    parts = ", ".join('{ device = %d, hex = "0a0b" }' % n for n in addresses)
+    parts = ", ".join('{ device = %d, hex = "%s" }' % (n, "0a" * 32) for n in addresses)
     return f'port = 9100\nlisten = "10.0.7.1"\n\n{devices}' + "".join(
         f'[[cue]]\nnumber = "{n}"\nparts = [{parts}]\n\n' for n in range(1, cues + 1))
 
@@ -41,10 +41,16 @@ def comes_to(machine, holds, seconds=15.0):
     return machine.waits(lambda: store_of(machine), holds, seconds)
 
 
+def again(words, end, port=9100):
+    """A command of the desk for a shell; again, if a slow machine did not reply in the time that it waits. If it was
+    refused, the shell does `end`."""
+    silent = f"*replied* | *acknowledged*) ;; *) echo $said; {end}"
+    return f"until said=$(cuedesk {words} --port {port} 2>&1); do case $said in {silent} ;; esac; done"
+
+
 def desk(machine, words, seconds=60.0, port=9100):
-    """A command of the desk; again, if a slow machine did not reply in the time that it waits."""
-    again = "*replied* | *acknowledged*) ;; *) echo $said; exit 1"
-    machine.does(f"until said=$(cuedesk {words} --port {port} 2>&1); do case $said in {again} ;; esac; done", seconds)
+    """The same in a machine; it has to be good."""
+    machine.does(again(words, "exit 1", port), seconds)
 
 
 def newest_package():
@@ -56,11 +62,11 @@ def prepared(usage):
     """The image, how machines run, and the package, by the words of the command line. Ends a run, aloud, that cannot
     have them."""
     words = argparse.ArgumentParser(usage=usage)
-    words.add_argument("--accel", choices=("kvm", "tcg", "uml"))
+    words.add_argument("--accel", choices=("kvm", "tcg"))
     words.add_argument("--cache")
     words.add_argument("package", nargs="?", default=newest_package())
     words = words.parse_args()
-    lacks = virtual_machine.missing(words.accel) + ([] if words.package else ["a package (tools/package)"])
+    lacks = virtual_machine.missing() + ([] if words.package else ["a package (tools/package)"])
     if lacks:
         print(f"--   missing: {', '.join(lacks)}")
         print("left out: no machine was booted")

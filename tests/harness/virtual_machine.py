@@ -11,7 +11,6 @@ import lzma
 import os
 import re
 import shutil
-import signal
 import socket
 import subprocess
 import sys
@@ -27,9 +26,7 @@ TOOLS = {"qemu-system-x86_64": "qemu-system-x86", "qemu-img": "qemu-utils", "deb
 SHELL = """#!/bin/bash
 # Runs each command that comes over the line; answers with its status and what it printed.
 line=/dev/virtio-ports/cue.shell
-grep -q 'User Mode Linux' /proc/cpuinfo && line=/dev/ttyS1
 until exec 3<>$line; do sleep 0.1; done 2>/dev/null
-[ $line = /dev/ttyS1 ] && stty raw -echo <&3
 echo ready >&3
 while read -r line <&3; do
   said=$(bash -c "$(base64 -d <<<"$line")" 2>&1 </dev/null)
@@ -87,7 +84,6 @@ WantedBy=time-sync.target
     "etc/hosts": "127.0.0.1 localhost\n",
     "etc/machine-id": "",
 }
-UML_MODULES = Path("/usr/lib/uml/modules")  # of Debian's user-mode-linux
 MODULES = ("virtio virtio_ring virtio_pci_legacy_dev virtio_pci_modern_dev virtio_pci virtio_blk crc16 mbcache jbd2 "
            "crc32c_generic ext4 failover net_failover virtio_net virtio_console").split()
 INIT = f"""#!/bin/busybox sh
@@ -110,15 +106,15 @@ MASKED = ("getty@tty1 serial-getty@ getty-static apt-daily.timer apt-daily-upgra
           "systemd-ask-password-wall.path drbd").split()
 RULES = ("50-udev-default", "60-block", "60-persistent-storage", "65-drbd", "99-systemd")
 DRIVERS = ("block", "char", "net", "virtio")
+# With `norandmaps` tcg translates a program once, and not each time that it is started.
 KERNEL_WORDS = ("root=/dev/vda rw console=ttyS0 quiet net.ifnames=0 no_timer_check mitigations=off audit=0 nokaslr "
-                "random.trust_cpu=on cryptomgr.notests tsc=reliable systemd.show_status=0 systemd.log_level=warning "
-                "systemd.journald.forward_to_console=1")
+                "norandmaps random.trust_cpu=on cryptomgr.notests tsc=reliable systemd.show_status=0 "
+                "systemd.log_level=warning systemd.journald.forward_to_console=1")
 
 
-def missing(acceleration=None):
+def missing():
     """What has to be installed, or to be so, before a machine can be made; empty if nothing has."""
-    tools = {**TOOLS, "linux.uml": "user-mode-linux"} if acceleration == "uml" else TOOLS
-    lacks = [f"{package} (apt-get install)" for tool, package in tools.items() if not shutil.which(tool)]
+    lacks = [f"{package} (apt-get install)" for tool, package in TOOLS.items() if not shutil.which(tool)]
     return lacks + ([] if os.geteuid() == 0 else ["root, for debootstrap"])
 
 
@@ -131,7 +127,7 @@ class Image:
     """Debian's kernel, its initrd and the root file system of every machine; made if the folder does not have them."""
 
     def __init__(self, cache):
-        recipe = repr((SUITE, PACKAGES, INIT, MASKED, RULES, DRIVERS, UML_MODULES.exists(), sorted(FILES.items())))
+        recipe = repr((SUITE, PACKAGES, INIT, MASKED, RULES, DRIVERS, sorted(FILES.items())))
         self.folder = Path(cache) / f"{SUITE}-{hashlib.sha256(recipe.encode()).hexdigest()[:12]}"
         self.folder.parent.mkdir(parents=True, exist_ok=True)
         with open(self.folder.with_suffix(".lock"), "w") as lock:
@@ -160,9 +156,6 @@ class Image:
             with open(part / "log", "a") as log:
                 subprocess.run(["chroot", str(root), "sh", "-c", command], stdout=log, stderr=subprocess.STDOUT,
                                check=True)
-        if UML_MODULES.exists():
-            shutil.copytree(next(UML_MODULES.iterdir()), root / "usr/lib/modules" / next(UML_MODULES.iterdir()).name,
-                            dirs_exist_ok=True)
         (part / "vmlinux").write_bytes(unpacked(next((root / "boot").glob("vmlinuz-*")).read_bytes()))
         shutil.copy(root / "boot/small", part / "initrd")
         disk_of(root, part / "disk.img", "1G")
@@ -213,6 +206,12 @@ def layer(file, below, kind="qcow2"):
     return file
 
 
+def made(image, acceleration, folder, name, below, disks, cards, memory=384):
+    """A machine whose root file system begins as the one below, or as the image's own if that is none."""
+    root = layer(folder / f"{name}.qcow2", below or image.folder / "disk.img", "qcow2" if below else "raw")
+    return Machine(image, folder, name, [root, *disks], cards, acceleration, memory)
+
+
 def accelerator(image, given=None):
     """`kvm` if a kernel comes up with it within some seconds, else `tcg`, which is slower."""
     if given or not os.access("/dev/kvm", os.R_OK | os.W_OK):
@@ -239,7 +238,8 @@ class Machine:
     def words(self):
         """The command line of qemu."""
         words = ["qemu-system-x86_64", "-nodefaults", "-no-user-config", "-display", "none", "-no-reboot",
-                 "-accel", self.acceleration, "-cpu", "host" if self.acceleration == "kvm" else "Nehalem",
+                 "-accel", "tcg,tb-size=512" if self.acceleration == "tcg" else self.acceleration,
+                 "-cpu", "host" if self.acceleration == "kvm" else "Nehalem",
                  "-m", str(self.memory), "-smp", "2",
                  "-kernel", str(self.image.folder / "vmlinux"),
                  "-initrd", str(self.image.folder / "initrd"), "-append", KERNEL_WORDS,
@@ -283,13 +283,10 @@ class Machine:
         """The power is gone."""
         atexit.unregister(self.cut)
         if self.child and self.child.poll() is None:
-            self.kill()
+            self.child.kill()
             self.child.wait()
         if self.line:
             self.line.close()
-
-    def kill(self):
-        os.kill(self.child.pid, signal.SIGKILL)
 
     def power_off(self, seconds=60):
         """Ends it in order: all that it has written is on its disks."""

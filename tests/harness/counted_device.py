@@ -11,11 +11,12 @@ import socket
 import sys
 from pathlib import Path
 
-PLACES = (Path(__file__).resolve().parent.parent.parent / "examples" / "device.py", Path("/root/device.py"))
+HERE = Path(__file__).resolve().parent
+PLACES = (HERE / "device.py", HERE.parent.parent / "examples" / "device.py")
 
 
 def example():
-    """The module of the example: in this tree, or where a virtual machine has it."""
+    """The module of the example: beside this file, as a virtual machine has it, or in this tree."""
     spec = importlib.util.spec_from_file_location("device", next(place for place in PLACES if place.exists()))
     module = importlib.util.module_from_spec(spec)
     spec.loader.exec_module(module)

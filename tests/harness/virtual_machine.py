@@ -89,9 +89,9 @@ MODULES = ("virtio virtio_ring virtio_pci_legacy_dev virtio_pci_modern_dev virti
 INIT = f"""#!/bin/busybox sh
 /bin/busybox mount -t devtmpfs none /dev
 for name in {' '.join(MODULES)}; do /bin/busybox insmod /$name.ko; done
-while ! /bin/busybox mount -t ext4 /dev/vda /root; do /bin/busybox sleep 0.1; done
-/bin/busybox mount --move /dev /root/dev
-exec /bin/busybox switch_root /root /sbin/init
+while ! /bin/busybox mount -t ext4 /dev/vda /new; do /bin/busybox sleep 0.1; done
+/bin/busybox mount --move /dev /new/dev
+exec /bin/busybox switch_root /new /sbin/init
 """
 # What of Debian's start the machines do without, since without KVM each program that is started takes long.
 MASKED = ("getty@tty1 serial-getty@ getty-static apt-daily.timer apt-daily-upgrade.timer dpkg-db-backup.timer "
@@ -165,7 +165,7 @@ class Image:
 
 def small_initrd(folder):
     """What mounts the root file system, and nothing else: without KVM Debian's own takes long."""
-    for name in ("bin", "dev", "root"):
+    for name in ("bin", "dev", "new"):
         (folder / name).mkdir(parents=True)
     (folder / "init").write_text(INIT)
     (folder / "init").chmod(0o755)

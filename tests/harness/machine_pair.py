@@ -56,7 +56,8 @@ class Stage:
 
     def says(self, number, line, more_than=0, seconds=15.0):
         """Whether a device has printed this line more often than that, in time."""
-        return self.machine.waits(lambda: self.count(number, line), lambda count: count > more_than, seconds) > more_than
+        ask = lambda: self.count(number, line)  # noqa: E731
+        return self.machine.waits(ask, lambda count: count > more_than, seconds) > more_than
 
 
 class Pair:

@@ -130,7 +130,7 @@ class Pair:
     def starts(self, machine):
         """Has this machine serve; what systemd says if it does not."""
         said, status = machine.run("systemctl start show-here@first", 120)
-        return "" if status == 0 else said or "refused"
+        return "" if status == 0 else f": {said}"
 
     def change(self):
         """The other machine is the one that serves now."""

@@ -1,11 +1,12 @@
 """Two virtual machines with one store, as docs/NETWORK.md sets them up, and a third one with the devices."""
+import re
 import threading
 from pathlib import Path
 
 from paths import ROOT, TESTS
 import serving
 from checking import check
-from stored_show import FILE, STORE, desk, show_file
+from stored_show import FILE, READY, STORE, desk, show_file
 from virtual_machine import disk_of, made
 
 ADDRESSES = {n: f"10.0.7.31:{9000 + n}" for n in (3, 4)}
@@ -128,9 +129,13 @@ class Pair:
         desk(self.here, words, seconds)
 
     def starts(self, machine):
-        """Has this machine serve; what systemd says if it does not."""
+        """Has this machine serve: nothing once it is ready, else what systemd says."""
+        ready = lambda: len(re.findall(READY, machine.journal()))  # noqa: E731
+        before = ready()
         said, status = machine.run("systemctl start show-here@first", 120)
-        return "" if status == 0 else f": {said}"
+        if status == 0 and machine.waits(ready, lambda count: count > before, 60) > before:
+            return ""
+        return f": {said or 'it was not ready'}"
 
     def change(self):
         """The other machine is the one that serves now."""

@@ -111,7 +111,7 @@ class Pair:
         """The store, on one machine, from which the other one gets it; then the show."""
         here = self.here
         check("the machines have found each other", self.comes("cstate", "Connected"))
-        here.does("drbdadm primary --force first; mkfs.ext4 -q /dev/drbd0", 120)
+        here.does("drbdadm primary --force first; mkfs.ext4 -q -b 4096 /dev/drbd0", 120)
         here.does("systemctl start show-here@first cuectl-form@first", 120)
         here.put(FILE, show_file(3, ADDRESSES))
         here.told("cuectl: ready", 60)

@@ -1,7 +1,7 @@
 -- A live attempt is at the cue of its Start, and its cue has the parts that it had then.
 use Rattle.std.proofs.Common.{◌≡◌, ℕ, ◌+◌, Bool, true, false, not, cond, ◌&&◌, List, [], ◌∷◌, ◌++◌}
-use Rattle.std.proofs.Common.{map, filter, if◌then◌else◌, nat_eq, nat_le, Option, None, Some, is_some, unwrap_or, refl, sym, ap}
-use Rattle.std.proofs.Common.{◌∙◌, subst, true≢false, arith, IsTrue}
+use Rattle.std.proofs.Common.{map, filter, if◌then◌else◌, nat_eq, nat_le, Option, None, Some, is_some, unwrap_or}
+use Rattle.std.proofs.Common.{refl, sym, ap, ◌∙◌, subst, true≢false, arith, IsTrue}
 use Rattle.std.specs.List.{AllByRecursion, list_all, list_any}
 use Rattle.std.proofs.lemmas.Bool.Decides.{nat_tests}
 use Rattle.cue_show.specs.declared.part.Part.{Part}

@@ -1,5 +1,6 @@
 -- What is handed over rests on the batches that are kept.
-use Rattle.std.proofs.Common.{◌≡◌, ◌⊎◌, inl, inr, ℕ, ◌^◌, ◌<◌, ◌≤◌, Ok, List, [], ◌∷◌, length, refl, ap, ◌∙◌, IsTrue, arith}
+use Rattle.std.proofs.Common.{◌≡◌, ◌⊎◌, inl, inr, ℕ, ◌^◌, ◌<◌, ◌≤◌, Ok, List, [], ◌∷◌, length, refl, ap, ◌∙◌, IsTrue}
+use Rattle.std.proofs.Common.{arith}
 use Rattle.std.specs.Prelude.{codes}
 use Rattle.std.specs.List.{AllByRecursion, list_any}
 use Rattle.std.proofs.lemmas.Bool.{leb-true}
@@ -33,8 +34,7 @@ use Rattle.cue_stage.proofs.LifeLemmas.{begins, store_happens}
 use Rattle.cue_stage.proofs.DeliveredLemmas.{WasTold, each_has, was_told, was_told_to_go}
 use Rattle.cue_stage.proofs.OfAttemptLemmas.{IsOfAttempt, of_pending}
 use Rattle.cue_stage.proofs.StandbyLemmas.{task_of_pending}
-use Rattle.cue_stage.proofs.TaskLemmas.{all_for_it, gives_up_by_cancel}
-use Rattle.cue_stage.proofs.TaskLemmas.{IsFor as IsForOne}
+use Rattle.cue_stage.proofs.TaskLemmas.{IsForOne, all_for_it, gives_up_by_cancel}
 
 device_fits : (d : ℕ) → IsTrue (is_device d) → d < 2 ^ 31
 device_fits d h = let le : d ≤ MAX_DEVICE_NUMBER = leb-true d MAX_DEVICE_NUMBER h in omega arith
@@ -110,10 +110,11 @@ go_of_attempt from past es d q h pending told =
     m.was_handed in
     of_pending es q d h (bytes (go_2pc q d) (read_as_order d q m.datagram.1 told.number m.is_command))
 
-standby_gives_task : (from : Beginning) (past : List Happening) (es : List Event) (d q : ℕ) (t : Task)
+-- a STANDBY that came to a device gave it its task
+gives_task : (from : Beginning) (past : List Happening) (es : List Event) (d q : ℕ) (t : Task)
     → IsTrue (is_history (onto es [])) → WerePending from past es → WasTold from past d (Standby q t)
     → IsTaskOf es q d t
-standby_gives_task from past es d q t h pending told =
+gives_task from past es d q t h pending told =
     let m = told.delivered in
     let bytes : BytesPending empty_state es m.datagram.1 =
     each_has (λ (m : ℕ × List ℕ). BytesPending empty_state es m.1) (handed_by from past) m.datagram pending
@@ -121,6 +122,7 @@ standby_gives_task from past es d q t h pending told =
     task_of_pending es q d t h
     (bytes (standby q d t.cue t.bytes) (read_as_standby d q t m.datagram.1 told.number m.is_command))
 
+-- and so all that its machine was ordered was for its task
 ordered_for_tasks : (from : Beginning) (past : List Happening) (es : List Event) (d : ℕ)
     → ((q : ℕ) (t : Task) → HeardStandby from past d q t → IsTaskOf es q d t)
     → AllByRecursion (IsForItsTask es d) (tasks_by from past d)
@@ -139,7 +141,7 @@ moves_rest_on_decisions from past x y h may =
     let going : (d q : ℕ) → WasToMove from past d q → IsOfAttempt es q d =
     λ d q m. go_of_attempt from past es d q history came.was_pending (was_told_to_go from past d q h m) in
     let given : (d q : ℕ) (t : Task) → HeardStandby from past d q t → IsTaskOf es q d t =
-    λ d q t m. standby_gives_task from past es d q t history came.was_pending (was_told from past d (Standby q t) h m) in
+    λ d q t m. gives_task from past es d q t history came.was_pending (was_told from past d (Standby q t) h m) in
     let cancelled : (d q : ℕ) → HeardCancel from past d q → IsTrue (list_any (is_cancel_of q) es) =
     λ d q m. cancel_rests from past es d q came.in_bytes (was_told from past d (Cancel q) h m) in
     record {

@@ -35,6 +35,7 @@ use Rattle.cue_stage.proofs.StartLemmas.{cue_stays, history_before, no_start, pa
 
 -- ---- the devices of an attempt
 
+-- the attempt has begun, and its devices are those of its parts
 abbrev HasDevices : List Event → ShowLists → Attempt → Type 0
 HasDevices h show a = IsBegun h show a × (devices_of a.answers ≡ devices_by h a.seq)
 

@@ -48,27 +48,27 @@ came_for hs d n a is holds =
 -- ---- what an order is for
 
 -- the order is for a task of which this holds
-abbrev pub IsFor : (ℕ → Task → Type 0) → Order × Option Task → Type 0
-IsFor P o = (t : Task) × (o.1 ≡ Some t) × P (ordered_for o.0) t
+abbrev pub IsForOne : (ℕ → Task → Type 0) → Order × Option Task → Type 0
+IsForOne P o = (t : Task) × (o.1 ≡ Some t) × P (ordered_for o.0) t
 
 ordered_for_it : (P : ℕ → Task → Type 0) (hs : List Happening) (n : ℕ) (p : Phase) (t : Option Task) (o : Option Order)
     (rest : List (Order × Option Task)) → AllGive P hs → CameFor hs n p t → OrdersFor n p o
-    → AllByRecursion (IsFor P) rest → AllByRecursion (IsFor P) (latest (option_map (λ x. (x, t)) o) rest)
+    → AllByRecursion (IsForOne P) rest → AllByRecursion (IsForOne P) (latest (option_map (λ x. (x, t)) o) rest)
 ordered_for_it P hs n p t None rest all came orders k = k
 ordered_for_it P hs n p None (Some o) rest all came orders k = absurd (orders.1 came)
 ordered_for_it P hs n p (Some t) (Some o) rest all came orders k =
     ((t, refl, subst (λ (m : ℕ). P m t) (sym orders.0) (all n t came)), k)
 
 new_for_it : (P : ℕ → Task → Type 0) (hs : List Happening) (free : Bool) (n : ℕ) (t : Task)
-    (rest : List (Order × Option Task)) → AllGive P (hears (Standby n t) ∷ hs) → AllByRecursion (IsFor P) rest
-    → AllByRecursion (IsFor P) (latest (option_map (λ x. (x, Some t)) (new_standby n free).order) rest)
+    (rest : List (Order × Option Task)) → AllGive P (hears (Standby n t) ∷ hs) → AllByRecursion (IsForOne P) rest
+    → AllByRecursion (IsForOne P) (latest (option_map (λ x. (x, Some t)) (new_standby n free).order) rest)
 new_for_it P hs true n t rest all k = ((t, refl, all n t (0, omega arith, refl)), k)
 new_for_it P hs false n t rest all k = k
 
 heard_for_it : (P : ℕ → Task → Type 0) (hs : List Happening) (d : Device) (c : Command) (p : Place)
     (rest : List (Order × Option Task)) → place d (seq_of c) ≡ p → Holds hs d → AllGive P (hears c ∷ hs)
-    → AllByRecursion (IsFor P) rest
-    → AllByRecursion (IsFor P)
+    → AllByRecursion (IsForOne P) rest
+    → AllByRecursion (IsForOne P)
     (latest (option_map (λ x. (x, task_now (after_at p c d).attempt)) (heard_at p c d).order) rest)
 heard_for_it P hs d c Over rest is holds all k = k
 heard_for_it P hs d c (Same a) rest is holds all k =
@@ -79,7 +79,7 @@ heard_for_it P hs d (Go n) New rest is holds all k = k
 heard_for_it P hs d (Cancel n) New rest is holds all k = k
 
 pub all_for_it : (P : ℕ → Task → Type 0) (d over : ℕ) (hs : List Happening) → AllGive P hs
-    → AllByRecursion (IsFor P) (tasks_of (device_at_rest d over) hs)
+    → AllByRecursion (IsForOne P) (tasks_of (device_at_rest d over) hs)
 all_for_it P d over [] all = tt
 all_for_it P d over (hears c ∷ hs) all =
     let now : Device = device_after (device_at_rest d over) hs in

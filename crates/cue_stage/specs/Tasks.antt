@@ -44,7 +44,7 @@ tasks_of d (h ∷ hs) =
     latest (option_map (λ o. (o, task_now (device_after d (h ∷ hs)).attempt)) (order_at h (device_after d hs)))
     (tasks_of d hs)
 
--- The order to the machine of the device d was for a task, and by the events for its own in the attempt of the order.
+-- The machine of the device d was ordered this for a task, and by the events that is its own in the attempt.
 pub record IsForItsTask (es : List Event) (d : ℕ) (o : Order × Option Task) : Type 0 where
   pub task : Task
   pub is_it : o.1 ≡ Some task

@@ -76,6 +76,15 @@ def units(tree):
         tree.copy(script, "usr/libexec/cuectl/", 0o755)
 
 
+def two_machines(tree):
+    """What serves a show on one of two machines, and the resource of DRBD that a technician begins with."""
+    for unit in sorted((HERE / "two-machines").glob("*.service")):
+        tree.copy(unit, f"{UNITS}/")
+    for script in ("show-here", "peer-is-off"):
+        tree.copy(HERE / "two-machines" / script, "usr/libexec/cuectl/", 0o755)
+    tree.copy(HERE / "two-machines" / "first.res", "usr/share/doc/cuectl/two-machines/")
+
+
 def cuectl(tree, programs, version, date):
     """Both programs, their units, and what a stage manager reads."""
     for name in ("cuectl", "cuedesk"):
@@ -87,6 +96,7 @@ def cuectl(tree, programs, version, date):
         tree.text(f"usr/share/bash-completion/completions/{name}", completions.bash(program))
         tree.text(f"usr/share/zsh/vendor-completions/_{name}", completions.zsh(program))
     units(tree)
+    two_machines(tree)
     tree.copy(ROOT / "examples" / "evening.toml", "usr/share/cuectl/")
     tree.text("usr/share/doc/cuectl/first-evening.html", first_evening.made())
     pages_of(tree, "usr/share/doc/cuectl")

@@ -19,8 +19,8 @@ import time
 from pathlib import Path
 
 SUITE, MIRROR = "bookworm", "http://deb.debian.org/debian"
-PACKAGES = ("systemd systemd-sysv udev kmod iproute2 iputils-arping procps linux-image-amd64 busybox-static drbd-utils "
-            "python3-minimal").split()
+PACKAGES = ("systemd systemd-sysv udev kmod fdisk iproute2 iputils-arping procps linux-image-amd64 busybox-static "
+            "drbd-utils python3-minimal").split()
 TOOLS = {"qemu-system-x86_64": "qemu-system-x86", "qemu-img": "qemu-utils", "debootstrap": "debootstrap",
          "mke2fs": "e2fsprogs"}
 SHELL = """#!/bin/bash

@@ -10,3 +10,7 @@ pub mod PreparedLemmas
 pub mod StartLemmas
 pub mod ConsentingLemmas
 pub mod OfAttemptLemmas
+pub mod BegunLemmas
+pub mod StandbyLemmas
+pub mod HeldLemmas
+pub mod TaskLemmas

@@ -118,10 +118,10 @@ waits_among d (x ∷ xs) h =
     (λ k. or_right (nat_eq x.device d) _ (waits_among d xs k)) h
 
 -- the history of the first events, and that of all
-abbrev past_of : List Event → List Event
+abbrev pub past_of : List Event → List Event
 past_of before = onto before []
 
-all_of_them : (es before later : List Event) → es ≡ before ++ later → onto es [] ≡ onto later (past_of before)
+pub all_of_them : (es before later : List Event) → es ≡ before ++ later → onto es [] ≡ onto later (past_of before)
 all_of_them es before later split = ap (λ (xs : List Event). onto xs []) split ∙ onto-append before later []
 
 -- ---- not excused

@@ -140,7 +140,7 @@ answer_comes New t q = tt
 
 -- ---- the attempt that a command speaks of
 
-place_same : (d : Device) (n : ℕ) (a : Attempt) → place d n ≡ Same a → (n ≡ d.last) × (d.attempt ≡ Some a)
+pub place_same : (d : Device) (n : ℕ) (a : Attempt) → place d n ≡ Same a → (n ≡ d.last) × (d.attempt ≡ Some a)
 place_same d n a e = at (nat_lt d.last n) e
   where
     known : (b : Bool) (o : Option Attempt) → nat_eq n d.last ≡ b → d.attempt ≡ o → place_known b o ≡ Same a

@@ -1,4 +1,4 @@
--- An attempt starts once, and its parts are those of its Start, whatever comes later.
+-- An attempt starts once, and its cue and its parts are those of its Start, whatever comes later.
 use Rattle.std.proofs.Common.{◌≡◌, ℕ, ◌+◌, ◌<◌, Bool, true, false, ◌||◌, List, [], ◌∷◌, nat_eq, refl, sym, ◌∙◌}
 use Rattle.std.proofs.Common.{true≢false, arith, IsTrue}
 use Rattle.std.specs.List.{list_any}
@@ -14,6 +14,7 @@ use Rattle.cue_core.proofs.history.TellsLemmas.{parts_by-on, quiet}
 use Rattle.cue_core.proofs.lists.AnyLemmas.{or_right}
 use Rattle.cue_core.proofs.lists.ConditionLemmas.{both, neither}
 use Rattle.cue_core.proofs.rules.SoundLemmas.{kept-history}
+use Rattle.cue_stage.specs.Tasks.{cue_by}
 
 pub parts_stay : (q : ℕ) (es past : List Event) → list_any (is_start_of q) es ≡ false
     → parts_by (onto es past) q ≡ parts_by past q
@@ -25,6 +26,20 @@ parts_stay q (e ∷ es) past none = by (is_start_of q e) refl (λ k. parts_stay 
         → (b || list_any (is_start_of q) es) ≡ false → parts_by (onto es (e ∷ past)) q ≡ parts_by past q
     by true is f k = absurd (true≢false k)
     by false is f k = f k ∙ parts_by-on q e past is
+
+cue_by-on : (q : ℕ) (e : Event) (h : List Event) → is_start_of q e ≡ false → cue_by (e ∷ h) q ≡ cue_by h q
+cue_by-on q e h n = rw n refl
+
+pub cue_stays : (q : ℕ) (es past : List Event) → list_any (is_start_of q) es ≡ false
+    → cue_by (onto es past) q ≡ cue_by past q
+cue_stays q [] past none = refl
+cue_stays q (e ∷ es) past none = by (is_start_of q e) refl (λ k. cue_stays q es (e ∷ past) k) none
+  where
+    by : (b : Bool) → is_start_of q e ≡ b
+        → (list_any (is_start_of q) es ≡ false → cue_by (onto es (e ∷ past)) q ≡ cue_by (e ∷ past) q)
+        → (b || list_any (is_start_of q) es) ≡ false → cue_by (onto es (e ∷ past)) q ≡ cue_by past q
+    by true is f k = absurd (true≢false k)
+    by false is f k = f k ∙ cue_by-on q e past is
 
 pub history_before : (es past : List Event) → IsTrue (is_history (onto es past)) → IsTrue (is_history past)
 history_before [] past h = h

@@ -1,3 +1,4 @@
+pub mod Tasks
 pub mod Stage
 pub mod Laws
 pub mod Consent

@@ -2,7 +2,7 @@
 --
 -- All that a stage is follows from how it began and from what happened since, the latest first. The network has each
 -- datagram that the controller ever handed to it, and may deliver it to any device, now, later, again or never.
-use Rattle.std.specs.Prelude.{ℕ, if◌then◌else◌, List, [], ◌∷◌, ◌++◌, nat_eq, IsTrue}
+use Rattle.std.specs.Prelude.{ℕ, if◌then◌else◌, List, [], ◌∷◌, ◌++◌, Option, nat_eq, IsTrue}
 use Rattle.std.specs.List.{Contains}
 use Rattle.cue_show.specs.DeviceNumber.{is_device}
 use Rattle.cue_core.specs.State.{empty_state}
@@ -10,12 +10,14 @@ use Rattle.cue_outbox.specs.Sending.{datagrams}
 use Rattle.cue_engine.specs.Incidents.{Incident, Store, Permits, left_by_all}
 use Rattle.cue_engine.specs.Headline.{BeginsWith, all_handed}
 use Rattle.cue_device.specs.declared.asked.Command.{Command}
+use Rattle.cue_device.specs.declared.asked.Task.{Task}
 use Rattle.cue_device.specs.declared.words.Answer.{Answer}
 use Rattle.cue_device.specs.declared.words.Order.{Order}
 use Rattle.cue_device.specs.Datagrams.{IsFor}
 use Rattle.cue_device.specs.Hearing.{device_at_rest}
 use Rattle.cue_device.specs.Histories.{hears, KeepsNumber, answers_of, orders_of}
 use Rattle.cue_device.specs.Histories as device
+use Rattle.cue_stage.specs.Tasks.{tasks_of}
 
 -- How a stage begins: this store, and each device with its machine at rest. The numbers up to `over d` are over for
 -- the device d.
@@ -55,6 +57,10 @@ handed_by from past = datagrams (all_handed from.store (incidents past))
 -- what the device d has ordered its machine by now, the latest first
 abbrev pub orders_by : Beginning → List Happening → ℕ → List Order
 orders_by from past d = orders_of (device_at_rest d (from.over d)) (life_of d past)
+
+-- the same, each order with the task that it was for
+abbrev pub tasks_by : Beginning → List Happening → ℕ → List (Order × Option Task)
+tasks_by from past d = tasks_of (device_at_rest d (from.over d)) (life_of d past)
 
 -- what the device d has answered by now, the latest first
 abbrev pub answers_by : Beginning → List Happening → ℕ → List Answer

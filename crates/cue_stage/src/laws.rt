@@ -4,13 +4,14 @@ ghost use Rattle.cue_stage.specs.Laws.{MovesOnce, MovesRestOnDecisions, NotByHal
 
 /// A move rests on a decision that stays: a device is ordered to move for an attempt only where its Go is in the
 /// batches that the store keeps, and there it is kept, before and after every stop from then on. The device is one of
-/// the attempt's, and was not excused.
+/// the attempt's, and was not excused. What it prepares, moves or gives up is its own task: the cue, and the part that
+/// the show gave it there as the attempt started. It is ordered to give up only if the kept batches have the Cancel.
 pub fn moves_rest_on_decisions()
     ensures { MovesRestOnDecisions }
 {}
 
-/// Where one device was ordered to move for an attempt, no CANCEL of it ever comes to any device, and the other way
-/// round.
+/// If one device was ordered to move for an attempt, no CANCEL of it ever comes to any device, and none is ever ordered
+/// to give it up; and the other way round.
 pub fn not_by_halves()
     ensures { NotByHalves }
 {}

@@ -1,0 +1,13 @@
+-- Texts in HTML.
+use Rattle.std.specs.Prelude.{ℕ, Bool, not, ◌||◌, List, [], ◌∷◌, codes, if◌then◌else◌, nat_eq}
+use Rattle.std.specs.List.{list_all, flat_map}
+
+-- what stands for a byte of a text in a page: a name for `&`, `<`, `>` and both quotation marks, else the byte
+abbrev pub escape_of : ℕ → List ℕ
+escape_of b =
+    if nat_eq b 38 then codes "&amp;"
+    else if nat_eq b 60 then codes "&lt;"
+    else if nat_eq b 62 then codes "&gt;"
+    else if nat_eq b 34 then codes "&quot;"
+    else if nat_eq b 39 then codes "&#39;"
+    else b ∷ []

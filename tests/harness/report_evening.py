@@ -131,8 +131,11 @@ class Played(Evening):
 
     def keeps_log(self):
         """Puts what this `serve` said into the file of the evening."""
+        said = self.errors()
+        if IS_PLAIN:
+            said = said.replace(f"{self.folder} at 127.0.0.1:{self.port}", "show at 127.0.0.1:9100")
         with self.log.open("a") as file:
-            file.write(self.errors())
+            file.write(said)
 
     def is_lost(self):
         """`kill -9`, and a start again some seconds later."""

@@ -82,11 +82,14 @@ fn send_name(alloc: Global, socket: &UdpSocket, name: AskerName) -> io::Result<(
 // Sends a message, once. If nobody heard the name before it, the system says so here and has not sent the message: then
 // it is sent now, and its own answer is waited for.
 fn send_after_name(socket: &UdpSocket, message: &[u8]) -> io::Result<()> {
-    let sent = match socket.send(message) {
-        Err(why) if why.kind() == ErrorKind::ConnectionRefused => socket.send(message),
-        sent => sent,
+    let Err(why) = socket.send(message) else {
+        return Ok(());
     };
-    sent.map(|_| ())
+    if why.kind() != ErrorKind::ConnectionRefused {
+        return Err(why);
+    }
+    socket.send(message)?;
+    Ok(())
 }
 
 // Whether the message is a question for the status.

@@ -1,7 +1,10 @@
 -- What the report makes of the lines of an attempt.
-use Rattle.std.specs.Prelude.{ℕ, Bool, true, false, Option, Some, None, ◌-◌}
+use Rattle.std.specs.Prelude.{ℕ, Bool, true, false, not, ◌||◌, Option, Some, None, ◌-◌}
+use Rattle.cue_report.specs.declared.attempt.Course.{Course}
 use Rattle.cue_report.specs.declared.attempt.Fate.{Fate}
 use Rattle.cue_report.specs.declared.attempt.Fate.TheVariants as fate
+use Rattle.cue_report.specs.declared.entry.OrderKind.{OrderKind}
+use Rattle.cue_report.specs.declared.entry.OrderKind.TheVariants as order
 
 -- the seconds from one line to another, never below 0; none if one of them is not there
 abbrev pub span : Option ℕ → Option ℕ → Option ℕ
@@ -13,6 +16,21 @@ span (Some from) (Some to) = Some (to - from)
 abbrev pub first_of : Option ℕ → ℕ → Option ℕ
 first_of (Some first) at = Some first
 first_of None at = Some at
+
+-- an order was sent to a device: what was sent first counts
+abbrev pub after_order : OrderKind → ℕ → Bool → Course → Course
+after_order order.Standby at is_sent c =
+    record c { asked = first_of c.asked at; is_unsent = c.is_unsent || not is_sent }
+after_order order.Go at is_sent c = record c { sent = first_of c.sent at; is_unsent = c.is_unsent || not is_sent }
+after_order order.Cancel at is_sent c = record c { is_unsent = c.is_unsent || not is_sent }
+
+-- a device stands by
+abbrev pub after_ready : ℕ → Course → Course
+after_ready at c = record c { ready = first_of c.ready at }
+
+-- a device has carried the cue out
+abbrev pub after_done : ℕ → Course → Course
+after_done at c = record c { done = first_of c.done at }
 
 -- a cue that was given went without the device
 abbrev pub is_excused : Fate → Bool

@@ -1,5 +1,10 @@
 -- The fixed words that a line of the log begins with, after its date.
 use Rattle.std.specs.Prelude.{ℕ, Bool, true, false, ◌&&◌, ◌||◌, List, [], ◌∷◌, codes, Option, Some, None, if◌then◌else◌, nat_eq, nat_le, starts_with}
+use Rattle.cue_report.specs.declared.entry.Entry.{Entry}
+use Rattle.cue_report.specs.declared.entry.Entry.TheVariants as entry
+use Rattle.cue_report.specs.declared.entry.Ordered.{Ordered}
+use Rattle.cue_report.specs.declared.entry.OrderKind.{OrderKind}
+use Rattle.cue_report.specs.declared.entry.OrderKind.TheVariants as order
 use Rattle.cue_report.specs.declared.reading.fronts.Front.{Front}
 use Rattle.cue_report.specs.declared.reading.fronts.Front.TheVariants as front
 
@@ -39,3 +44,24 @@ or_else None other = other
 abbrev pub front_of : List ℕ → Option Front
 front_of said =
     if begins_with_digit said then Some front.Asked else or_else (attempt_front said) (own_front said)
+
+-- the word of an order is the one that the line begins with
+abbrev pub is_order : Front → OrderKind → Bool
+is_order front.Standby order.Standby = true
+is_order front.Go order.Go = true
+is_order front.Cancel order.Cancel = true
+is_order _ _ = false
+
+-- a line that begins with these words says something of this kind, and nothing else
+abbrev pub is_of : Front → Entry → Bool
+is_of front.Ready (entry.Ready dir port) = true
+is_of front.Own entry.Stopped = true
+is_of front.Own (entry.Said text) = true
+is_of front.Recovered (entry.Recovered list) = true
+is_of f (entry.Ordered o) = is_order f o.kind
+is_of front.Standby (entry.Alone t) = true
+is_of front.Cancel (entry.GivenUp t why) = true
+is_of front.End (entry.End t e) = true
+is_of front.Asked (entry.Replied r) = true
+is_of front.Fault (entry.Ended text) = true
+is_of _ _ = false

@@ -112,6 +112,32 @@ impl Course {
         }
     }
 
+    // An order was sent to it, at this second. What was sent first counts.
+    fn order(&mut self, kind: OrderKind, at: u64, is_sent: bool)
+        ensures { self.new ≡ spec.after_order kind at is_sent self.old }
+    {
+        match kind {
+            OrderKind::Standby => self.asked = first_of(self.asked, at),
+            OrderKind::Go => self.sent = first_of(self.sent, at),
+            OrderKind::Cancel => {}
+        }
+        self.is_unsent = self.is_unsent || !is_sent;
+    }
+
+    // It stands by, at this second.
+    fn stand_by(&mut self, at: u64)
+        ensures { self.new ≡ spec.after_ready at self.old }
+    {
+        self.ready = first_of(self.ready, at);
+    }
+
+    // It has carried the cue out, at this second.
+    fn finish(&mut self, at: u64)
+        ensures { self.new ≡ spec.after_done at self.old }
+    {
+        self.done = first_of(self.done, at);
+    }
+
     /// How many seconds it took to prepare; none if the log has not both lines.
     pub fn prepared(&self) -> Option<u64>
         ensures { result ≡ spec.span self.now.asked self.now.ready }
@@ -167,7 +193,7 @@ fn first_of(there: Option<u64>, at: u64) -> Option<u64>
 
 impl Attempt {
     /// An attempt of which its number and its cue are known.
-    pub fn new(alloc: Global, attempt: Try) -> Attempt {
+    pub fn new(alloc: Global, attempt: &Try) -> Attempt {
         Attempt {
             number: attempt.number,
             cue: attempt.cue,
@@ -187,6 +213,28 @@ impl Attempt {
         ensures devices { self.new.devices ≡ self.old.devices }
     {
         self.ended = Some(Ended { at, outcome });
+    }
+
+    /// It was stood by at this second, if that is not known yet.
+    pub fn begin(&mut self, at: u64, by: &Who) {
+        if self.begun.is_none() {
+            self.begun = Some(Moment { at, by: *by });
+        }
+    }
+
+    /// It was given at this second, if that is not known yet.
+    pub fn give(&mut self, at: u64, by: &Who) {
+        if self.given.is_none() {
+            self.given = Some(Moment { at, by: *by });
+        }
+    }
+
+    /// It was given up at this second, if that is not known yet.
+    pub fn give_up(&mut self, at: u64, by: &Who, why: String) {
+        if self.given_up.is_none() {
+            self.given_up = Some(Moment { at, by: *by });
+            self.why = why;
+        }
     }
 
     // The place of a device, if it is known here.
@@ -215,12 +263,7 @@ impl Attempt {
         is_sent: bool,
     ) -> Result<(), AllocError> {
         if let Some(course) = self.course_of(device)? {
-            match kind {
-                OrderKind::Standby => course.asked = first_of(course.asked, at),
-                OrderKind::Go => course.sent = first_of(course.sent, at),
-                OrderKind::Cancel => {}
-            }
-            course.is_unsent = course.is_unsent || !is_sent;
+            course.order(kind, at, is_sent);
         }
         Ok(())
     }
@@ -228,7 +271,7 @@ impl Attempt {
     /// A device stands by.
     pub fn ready(&mut self, device: DeviceNo, at: u64) -> Result<(), AllocError> {
         if let Some(course) = self.course_of(device)? {
-            course.ready = first_of(course.ready, at);
+            course.stand_by(at);
         }
         Ok(())
     }
@@ -236,7 +279,7 @@ impl Attempt {
     /// A device has carried the cue out.
     pub fn done(&mut self, device: DeviceNo, at: u64) -> Result<(), AllocError> {
         if let Some(course) = self.course_of(device)? {
-            course.done = first_of(course.done, at);
+            course.finish(at);
         }
         Ok(())
     }

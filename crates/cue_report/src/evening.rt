@@ -121,6 +121,8 @@ pub struct Evening {
     holders: Holders,
     /// Whether `serve` runs, as far as the log says.
     is_running: bool,
+    /// Whether the last line was one that stood there before.
+    is_repeating: bool,
     pub counts: Counts,
     /// The seconds of the first and of the last line.
     pub first: Option<u64>,
@@ -141,6 +143,7 @@ impl Evening {
             latest: BTreeMap::new(alloc),
             holders: Holders([None; MAX_DEVICES]),
             is_running: false,
+            is_repeating: false,
             counts: Counts {
                 told: 0,
                 others: 0,

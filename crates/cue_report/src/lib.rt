@@ -32,11 +32,10 @@ pub mod entry;
 mod escaping;
 mod evening;
 pub mod html;
+pub mod laws;
 mod names;
 mod naming;
 mod reading;
-#[cfg(test)]
-mod reports;
 mod sentences;
 pub mod text;
 mod ungiven;

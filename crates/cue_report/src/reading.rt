@@ -1,5 +1,5 @@
 //! Reads a line of the log.
-ghost use Rattle.std.specs.Prelude.{◌≡◌, ◌→◌, None, IfSome, IsTrue, nat_eq, starts_with};
+ghost use Rattle.std.specs.Prelude.{IfSome, IsTrue};
 ghost use Rattle.cue_report.specs.Fronts as spec;
 
 mod attempts;
@@ -48,7 +48,9 @@ fn read_own(text: &[u8]) -> Option<Entry<'_>> {
 }
 
 // What follows the date of a line, by the words that it begins with.
-fn read_said(front: Front, said: &[u8]) -> Option<Entry<'_>> {
+fn read_said(front: Front, said: &[u8]) -> Option<Entry<'_>>
+    ensures { IfSome result (λ entry. IsTrue (spec.is_of front entry)) }
+{
     match front {
         Front::Ready => read_ready(said.strip_prefix(b"cuectl: ready, ".as_slice())?),
         Front::Own => read_own(said),
@@ -83,7 +85,10 @@ pub fn read(line: &[u8]) -> Option<Line<'_>> {
     let Some((at, said)) = dated(line) else {
         return read_undated(line);
     };
-    let entry = read_said(front_of(said)?, said)?;
+    let front = front_of(said)?;
+    let Some(entry) = read_said(front, said) else {
+        return None;
+    };
     Some(Line {
         at: Some(at),
         entry,

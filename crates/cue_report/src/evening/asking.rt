@@ -192,15 +192,16 @@ impl Asking {
         verb: Verb,
         cue: Option<CueNo>,
         at: u64,
-        by: Who,
+        by: &Who,
     ) -> Result<(), AllocError> {
-        self.keep(verb, Made { at, by, cue })
+        let made = Made { at, by: *by, cue };
+        self.keep(verb, made)
     }
 
     /// Who asked for this of a cue at this second: the last one, in this very second, else nobody who is seen.
-    pub fn asker(&self, verb: Verb, cue: Option<CueNo>, at: u64) -> Who {
+    pub fn asker(&self, verb: Verb, cue: &Option<CueNo>, at: u64) -> Who {
         let found = self.made.iter().rev().find(|(other, made)| {
-            *other == verb && made.at == at && (made.cue.is_none() || made.cue == cue)
+            *other == verb && made.at == at && (made.cue.is_none() || made.cue == *cue)
         });
         match found {
             Some((_, made)) => made.by,

@@ -1,7 +1,7 @@
 //! Follows how attempts are recovered, given up and ended.
 use super::asking::Verb;
 use super::{Deed, Done, Evening};
-use crate::attempt::{Attempt, Fate, Moment};
+use crate::attempt::{Attempt, Fate};
 use crate::entry::{Ending, Try};
 use crate::reading::live_in;
 use crate::sentences::shown_bytes;
@@ -54,28 +54,23 @@ impl Evening {
 
     // One attempt that was live when `serve` began. What was preparing is given up.
     fn recover_one(&mut self, at: u64, said: &[u8]) -> Result<(), AllocError> {
-        match live_in(said) {
-            Some((attempt, words)) if words == LOST => {
-                self.give_up(at, attempt, b"the power was lost")
-            }
-            Some((attempt, _)) => {
-                let _ = self.place_of(attempt, at)?;
-                Ok(())
-            }
-            None => Ok(()),
+        let Some((attempt, words)) = live_in(said) else {
+            return Ok(());
+        };
+        if words == LOST {
+            return self.give_up(at, &attempt, b"the power was lost");
         }
+        let _ = self.place_of(&attempt, at)?;
+        Ok(())
     }
 
     // An attempt was given up.
-    pub(super) fn give_up(&mut self, at: u64, attempt: Try, why: &[u8]) -> Result<(), AllocError> {
+    pub(super) fn give_up(&mut self, at: u64, attempt: &Try, why: &[u8]) -> Result<(), AllocError> {
         let place = self.place_of(attempt, at)?;
-        let by = self.asking.asker(Verb::Cancel, attempt.cue, at);
+        let by = self.asking.asker(Verb::Cancel, &attempt.cue, at);
         let why = shown_bytes(self.alloc, why)?;
         if let Some(attempt) = self.attempts.get_mut(place) {
-            if attempt.given_up.is_none() {
-                attempt.given_up = Some(Moment { at, by });
-                attempt.why = why;
-            }
+            attempt.give_up(at, &by, why);
         }
         Ok(())
     }
@@ -84,7 +79,7 @@ impl Evening {
     pub(super) fn end(
         &mut self,
         at: u64,
-        attempt: Try,
+        attempt: &Try,
         ending: &Ending<'_>,
     ) -> Result<(), AllocError> {
         let place = self.place_of(attempt, at)?;

@@ -1,7 +1,7 @@
 //! Follows what the lines say.
 use super::asking::Verb;
 use super::{Deed, Done, Evening};
-use crate::attempt::{Attempt, Moment, Who};
+use crate::attempt::{Attempt, Who};
 use crate::entry::{Entry, OrderKind, Ordered, Try};
 use crate::sentences::shown_bytes;
 use std::alloc::AllocError;
@@ -40,11 +40,11 @@ impl Evening {
             Entry::Replied(reply) => self.reply(at, reply),
             Entry::Ordered(ordered) => self.order(at, ordered),
             Entry::Alone(attempt) => {
-                let _ = self.place_of(*attempt, at)?;
+                let _ = self.place_of(attempt, at)?;
                 Ok(())
             }
-            Entry::GivenUp(attempt, why) => self.give_up(at, *attempt, why),
-            Entry::End(attempt, ending) => self.end(at, *attempt, ending),
+            Entry::GivenUp(attempt, why) => self.give_up(at, attempt, why),
+            Entry::End(attempt, ending) => self.end(at, attempt, ending),
         }
     }
 
@@ -75,7 +75,7 @@ impl Evening {
 
     // The place of an attempt that a line of this second names. One that is not there yet is added: also if an attempt of an older store had its number
     // and has ended.
-    pub(super) fn place_of(&mut self, attempt: Try, at: u64) -> Result<usize, AllocError> {
+    pub(super) fn place_of(&mut self, attempt: &Try, at: u64) -> Result<usize, AllocError> {
         if let Some(place) = self.latest.get(&attempt.number).copied() {
             if self.is_same(place, attempt, at) {
                 return Ok(place);
@@ -86,7 +86,7 @@ impl Evening {
 
     // Whether the attempt at a place is the one that a line of this second names: not, if it had ended before that or
     // has another cue.
-    fn is_same(&self, place: usize, attempt: Try, at: u64) -> bool {
+    fn is_same(&self, place: usize, attempt: &Try, at: u64) -> bool {
         match self.attempts.get(place) {
             Some(known) => {
                 let is_over = match known.ended {
@@ -104,33 +104,37 @@ impl Evening {
     }
 
     // Adds an attempt, and answers its place.
-    fn add(&mut self, attempt: Try) -> Result<usize, AllocError> {
+    fn add(&mut self, attempt: &Try) -> Result<usize, AllocError> {
         let place = self.attempts.len();
-        self.attempts.push(Attempt::new(self.alloc, attempt))?;
+        let added = Attempt::new(self.alloc, attempt);
+        self.attempts.push(added)?;
         let _ = self.latest.insert(attempt.number, place)?;
         Ok(place)
+    }
+
+    // Who asked for an order.
+    fn asker_of(&self, at: u64, ordered: &Ordered) -> Who {
+        match ordered.kind {
+            OrderKind::Standby => self.asking.asker(Verb::Standby, &ordered.attempt.cue, at),
+            OrderKind::Go => self.asking.asker(Verb::Go, &ordered.attempt.cue, at),
+            OrderKind::Cancel => Who::Unseen,
+        }
     }
 
     // An order was sent.
     fn order(&mut self, at: u64, ordered: &Ordered) -> Result<(), AllocError> {
         self.asking.order(ordered)?;
-        let place = self.place_of(ordered.attempt, at)?;
-        let cue = ordered.attempt.cue;
-        let by = match ordered.kind {
-            OrderKind::Standby => self.asking.asker(Verb::Standby, cue, at),
-            OrderKind::Go => self.asking.asker(Verb::Go, cue, at),
-            OrderKind::Cancel => Who::Unseen,
-        };
+        let place = self.place_of(&ordered.attempt, at)?;
+        let by = self.asker_of(at, ordered);
         if let Some(attempt) = self.attempts.get_mut(place) {
-            let moment = Some(Moment { at, by });
             match ordered.kind {
-                OrderKind::Standby if attempt.begun.is_none() => attempt.begun = moment,
-                OrderKind::Go if attempt.given.is_none() => attempt.given = moment,
-                _ => {}
+                OrderKind::Standby => attempt.begin(at, &by),
+                OrderKind::Go => attempt.give(at, &by),
+                OrderKind::Cancel => {}
             }
             attempt.order(ordered.kind, ordered.device, at, ordered.is_sent)?;
-            self.holders.hold(ordered.device, place);
         }
+        self.holders.hold(ordered.device, place);
         Ok(())
     }
 }

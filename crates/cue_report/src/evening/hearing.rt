@@ -52,10 +52,13 @@ impl Evening {
         Ok(())
     }
 
-    // Whether a line goes back in time and was heard a moment ago.
+    // Whether a line was heard a moment ago and goes back in time, or follows one that does.
     fn is_repeated(&self, line: &[u8], at: u64) -> bool {
         match self.last {
-            Some(last) => at < last && self.repeats.knows(line),
+            Some(last) => {
+                let goes_back = at < last || (at == last && self.is_repeating);
+                goes_back && self.repeats.knows(line)
+            }
             None => false,
         }
     }
@@ -70,10 +73,12 @@ impl Evening {
     fn hear_said(&mut self, line: &[u8], said: &Line<'_>) -> Result<(), AllocError> {
         let at = match said.at {
             Some(at) if self.is_repeated(line, at) => {
+                self.is_repeating = true;
                 self.counts.repeated = self.counts.repeated.saturating_add(1);
                 return Ok(());
             }
             Some(at) => {
+                self.is_repeating = false;
                 self.repeats.keep(line)?;
                 at
             }

@@ -26,24 +26,24 @@ impl Evening {
         }
         let by = self.asking.who(reply, at);
         if reply.refused > 0 {
-            self.refuse(at, by, reply)?;
+            self.refuse(at, &by, reply)?;
         }
         if reply.made == 0 {
             return Ok(());
         }
         match asked_at(reply.address) {
-            Asked::OfCue(verb, cue) => self.asking.made(verb, Some(cue), at, by),
-            Asked::OfCues(verb) => self.asking.made(verb, None, at, by),
+            Asked::OfCue(verb, cue) => self.asking.made(verb, Some(cue), at, &by),
+            Asked::OfCues(verb) => self.asking.made(verb, None, at, &by),
             Asked::OfDevice(word, device) => self.hear_device(at, word, device),
             Asked::Other => Ok(()),
         }
     }
 
     // A command was refused.
-    fn refuse(&mut self, at: u64, by: Who, reply: &Reply<'_>) -> Result<(), AllocError> {
+    fn refuse(&mut self, at: u64, by: &Who, reply: &Reply<'_>) -> Result<(), AllocError> {
         let refusal = Refusal {
             at,
-            by,
+            by: *by,
             address: shown_bytes(self.alloc, reply.address)?,
             code: reply.code,
             why: shown_bytes(self.alloc, reply.why)?,

@@ -5,7 +5,10 @@ use crate::naming::AskerName;
 use cue_show::limits::MAX_DEVICES;
 use cue_show::{CueNo, DeviceNo};
 use std::alloc::{AllocError, Global};
-use std::collections::HashMap;
+use std::collections::{HashMap, VecDeque};
+
+/// How many commands of one second are known: a datagram carries fewer.
+const MOST: usize = 256;
 
 /// For how many seconds a port has the name that was sent from it.
 const NAMED: u64 = 10;
@@ -117,8 +120,8 @@ pub struct Asking {
     names: HashMap<u16, (u64, AskerName)>,
     devices: HashMap<u16, DeviceNo>,
     ports: [u16; MAX_DEVICES],
-    // Those of the newest second.
-    made: Vec<(Verb, Made)>,
+    // The last ones of the newest second.
+    made: VecDeque<(Verb, Made)>,
 }
 
 impl Asking {
@@ -128,7 +131,7 @@ impl Asking {
             names: HashMap::new(alloc),
             devices: HashMap::new(alloc),
             ports: [0; MAX_DEVICES],
-            made: Vec::new(alloc),
+            made: VecDeque::new(alloc),
         }
     }
 
@@ -178,11 +181,17 @@ impl Asking {
 
     // Keeps a command of this second.
     fn keep(&mut self, verb: Verb, made: Made) -> Result<(), AllocError> {
-        let is_old = self.made.iter().any(|(_, old)| old.at != made.at);
+        let is_old = match self.made.back() {
+            Some((_, last)) => last.at != made.at,
+            None => false,
+        };
         if is_old {
             self.made.clear();
         }
-        self.made.push((verb, made))?;
+        if self.made.len() >= MOST {
+            let _ = self.made.pop_front();
+        }
+        self.made.push_back((verb, made))?;
         Ok(())
     }
 

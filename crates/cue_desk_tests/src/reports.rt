@@ -68,6 +68,17 @@ number = \"14\"
 parts = [ { device = 3, hex = \"0a\" } ]
 ";
 
+fn names(alloc: Global, file: &ShowFile) -> Result<Names<'_>, Fail> {
+    let mut names = Names::new(alloc);
+    for device in file.devices.iter() {
+        names.add_device(&device.number, device.name.as_deref().unwrap_or(""))?;
+    }
+    for cue in file.cues.iter() {
+        names.add_cue(&cue.number, cue.name.as_deref().unwrap_or(""))?;
+    }
+    Ok(names)
+}
+
 fn file(alloc: Global) -> Result<ShowFile, Fail> {
     let Draft { file, .. } = cue_show_file::read(alloc, FILE)?;
     Ok(file)
@@ -151,7 +162,7 @@ TOTALS
 fn an_evening_is_told(rt: HostRuntime) -> Result<(), Fail> {
     let alloc = rt.alloc();
     let file = file(alloc)?;
-    let names = Names::new(alloc, &file)?;
+    let names = names(alloc, &file)?;
     let evening = heard(alloc, LOG.as_bytes())?;
     assert_eq!(rt; whole_text(alloc, &evening, &names)?.as_str(), REPORT);
     Ok(())
@@ -161,7 +172,7 @@ fn an_evening_is_told(rt: HostRuntime) -> Result<(), Fail> {
 fn no_name_is_markup(rt: HostRuntime) -> Result<(), Fail> {
     let alloc = rt.alloc();
     let file = file(alloc)?;
-    let names = Names::new(alloc, &file)?;
+    let names = names(alloc, &file)?;
     let evening = heard(alloc, LOG.as_bytes())?;
     let page = whole_page(alloc, &evening, &names)?;
     assert!(rt; !page.as_str().contains("<script"));

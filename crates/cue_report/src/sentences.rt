@@ -41,7 +41,7 @@ pub fn device_words(
     device: DeviceNo,
 ) -> Result<String, AllocError> {
     let mut text = format!(in alloc; "device {}", device.number())?;
-    push_name(alloc, &mut text, names.device_name(device))?;
+    push_name(alloc, &mut text, names.device_name(&device))?;
     Ok(text)
 }
 
@@ -55,8 +55,8 @@ pub fn cue_words(
         return String::from_str(alloc, "a cue of which the log does not say which");
     };
     let mut text = format!(in alloc; "cue {}", cue.text().escape_ascii())?;
-    push_name(alloc, &mut text, names.cue_name(cue))?;
-    if names.place_of(cue).is_none() {
+    push_name(alloc, &mut text, names.cue_name(&cue))?;
+    if names.place_of(&cue).is_none() {
         text.push_str(", which is not in the file")?;
     }
     Ok(text)

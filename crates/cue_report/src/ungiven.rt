@@ -10,10 +10,10 @@ fn given_marks(
     evening: &Evening,
     names: &Names<'_>,
 ) -> Result<Vec<bool>, AllocError> {
-    let mut marks = vec![in alloc; false; names.file().cues.len()]?;
+    let mut marks = vec![in alloc; false; names.count()]?;
     for attempt in evening.attempts.iter() {
-        if attempt.given.is_some() {
-            let place = attempt.cue.and_then(|cue| names.place_of(cue));
+        if let (Some(cue), Some(_)) = (&attempt.cue, &attempt.given) {
+            let place = names.place_of(cue);
             if let Some(mark) = place.and_then(|place| marks.get_mut(place)) {
                 *mark = true;
             }
@@ -30,9 +30,11 @@ pub fn ungiven(
 ) -> Result<Vec<CueNo>, AllocError> {
     let marks = given_marks(alloc, evening, names)?;
     let mut cues = Vec::new(alloc);
-    for (cue, mark) in names.file().cues.iter().zip(marks.iter()) {
+    for (place, mark) in marks.iter().enumerate() {
         if !*mark {
-            cues.push(cue.number)?;
+            if let Some(cue) = names.cue_at(place) {
+                cues.push(cue)?;
+            }
         }
     }
     Ok(cues)

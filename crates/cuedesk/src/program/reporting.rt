@@ -4,11 +4,25 @@ use cue_desk::ending::Ending;
 use cue_desk_line::Report;
 use cue_report::{Evening, Names, html, text};
 use cue_saying::say;
+use cue_show_file::ShowFile;
+use std::alloc::{AllocError, Global};
 use std::fs::{File, Files};
 use std::io::{self, Eprint, Read, Write};
 
 /// How many bytes of the log are read at once.
 const PIECE: usize = 65_536;
+
+// The names of a show file.
+fn names_of(alloc: Global, file: &ShowFile) -> Result<Names<'_>, AllocError> {
+    let mut names = Names::new(alloc);
+    for device in file.devices.iter() {
+        names.add_device(&device.number, device.name.as_deref().unwrap_or(""))?;
+    }
+    for cue in file.cues.iter() {
+        names.add_cue(&cue.number, cue.name.as_deref().unwrap_or(""))?;
+    }
+    Ok(names)
+}
 
 // Why a log was not read.
 fn unread<R: Eprint>(rt: &R, path: &str, why: &io::Error) -> Ending {
@@ -92,7 +106,7 @@ pub fn report_evening<R: Files<File = File> + Eprint + AllocGlobal, W: Write>(
         Ok(evening) => evening,
         Err(why) => return Err(unread(rt, report.log.as_str(), &why)),
     };
-    let names = Names::new(rt.alloc(), &file)?;
+    let names = names_of(rt.alloc(), &file)?;
     if report.html {
         put_page(rt, &evening, &names, writer)
     } else {

@@ -4,10 +4,14 @@ use Rattle.std.specs.List.{list_all, flat_map}
 use Rattle.std.proofs.lemmas.List.Folds.{list_all-append}
 use Rattle.cue_report.specs.Escaping.{escape_of, is_plain, NoTextIsMarkup}
 
+is_plain-other : (b : ℕ) → nat_eq b 39 ≡ false → nat_eq b 34 ≡ false → nat_eq b 62 ≡ false → nat_eq b 60 ≡ false
+    → is_plain b ≡ true
+is_plain-other b m q g l = rw l (rw g (rw q (rw m refl)))
+
 of-mark : (b : ℕ) (m : Bool) → nat_eq b 39 ≡ m → nat_eq b 34 ≡ false → nat_eq b 62 ≡ false → nat_eq b 60 ≡ false
     → nat_eq b 38 ≡ false → list_all is_plain (escape_of b) ≡ true
 of-mark b true m q g l a = rw a (rw l (rw g (rw q (rw m refl))))
-of-mark b false m q g l a = rw a (rw l (rw g (rw q (rw m refl))))
+of-mark b false m q g l a = rw a (rw l (rw g (rw q (rw m (rw (is_plain-other b m q g l) refl)))))
 
 of-quote : (b : ℕ) (q : Bool) → nat_eq b 34 ≡ q → nat_eq b 62 ≡ false → nat_eq b 60 ≡ false → nat_eq b 38 ≡ false
     → list_all is_plain (escape_of b) ≡ true

@@ -1,1 +1,2 @@
 mod EscapeLemmas
+mod FrontLemmas

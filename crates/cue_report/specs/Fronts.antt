@@ -1,5 +1,6 @@
 -- The fixed words that a line of the log begins with, after its date.
-use Rattle.std.specs.Prelude.{ℕ, Bool, true, false, ◌&&◌, ◌||◌, List, [], ◌∷◌, codes, Option, Some, None, if◌then◌else◌, nat_eq, nat_le, starts_with}
+use Rattle.std.specs.Prelude.{ℕ, Bool, true, false, ◌&&◌, ◌||◌, List, [], ◌∷◌, codes, Option, Some, None, if◌then◌else◌, nat_eq, nat_le}
+use Rattle.std.specs.List.{starts_with}
 use Rattle.cue_report.specs.declared.entry.Entry.{Entry}
 use Rattle.cue_report.specs.declared.entry.Entry.TheVariants as entry
 use Rattle.cue_report.specs.declared.entry.Ordered.{Ordered}
@@ -44,6 +45,12 @@ or_else None other = other
 abbrev pub front_of : List ℕ → Option Front
 front_of said =
     if begins_with_digit said then Some front.Asked else or_else (attempt_front said) (own_front said)
+
+-- the words of an order
+abbrev pub order_front : OrderKind → Front
+order_front order.Standby = front.Standby
+order_front order.Go = front.Go
+order_front order.Cancel = front.Cancel
 
 -- the word of an order is the one that the line begins with
 abbrev pub is_order : Front → OrderKind → Bool

@@ -1,5 +1,5 @@
 //! What an asker calls itself.
-ghost use Rattle.std.specs.Prelude.{◌≡◌, ◌≤◌, IfSome, IsTrue, is_some, length};
+ghost use Rattle.std.specs.Prelude.{◌≡◌, ◌≤◌, true, is_some, length};
 ghost use Rattle.std.specs.List.{list_all};
 ghost use Rattle.cue_report.specs.Naming as said;
 
@@ -22,11 +22,26 @@ fn is_sign(byte: u8) -> bool
     byte.is_ascii_lowercase() || byte.is_ascii_digit() || byte == b'-'
 }
 
+// Whether the text is as long as a name.
+fn has_length(text: &[u8]) -> bool
+    ensures value { result ≡ said.has_length text.now }
+    ensures short { result ≡ true → length text.now ≤ 16 }
+{
+    1 <= text.len() && text.len() <= MAX_NAME
+}
+
+// Whether each byte of the text may stand in a name.
+fn has_signs(text: &[u8]) -> bool
+    ensures { result ≡ list_all said.is_sign text.now }
+{
+    text.iter().all(|byte| is_sign(*byte))
+}
+
 // Whether the text is a name.
 fn is_name(text: &[u8]) -> bool
     ensures { result ≡ said.is_name text.now }
 {
-    !text.is_empty() && text.len() <= MAX_NAME && text.iter().all(|byte| is_sign(*byte))
+    has_length(text) && has_signs(text)
 }
 
 impl AskerName {

@@ -1,6 +1,7 @@
 //! Reads a line of the log.
 ghost use Rattle.std.specs.Prelude.{IfSome, IsTrue};
 ghost use Rattle.cue_report.specs.Fronts as spec;
+ghost use Rattle.cue_report.specs.declared.reading.fronts.Front.TheVariants as front;
 
 mod attempts;
 mod fronts;
@@ -26,7 +27,9 @@ pub struct Line<'a> {
 const HOME: &[u8] = b" at 127.0.0.1:";
 
 // A start of `serve`, by what follows `cuectl: ready, `.
-fn read_ready(text: &[u8]) -> Option<Entry<'_>> {
+fn read_ready(text: &[u8]) -> Option<Entry<'_>>
+    ensures { IfSome result (λ entry. IsTrue (spec.is_of front.Ready entry)) }
+{
     let at = memchr::memmem::rfind(text, HOME)?;
     let (dir, rest) = text.split_at_checked(at)?;
     let (port, left) = number_in(rest.strip_prefix(HOME)?)?;
@@ -40,7 +43,9 @@ fn read_ready(text: &[u8]) -> Option<Entry<'_>> {
 }
 
 // What `cuectl` says of itself: that it was stopped, or something else.
-fn read_own(text: &[u8]) -> Option<Entry<'_>> {
+fn read_own(text: &[u8]) -> Option<Entry<'_>>
+    ensures { IfSome result (λ entry. IsTrue (spec.is_of front.Own entry)) }
+{
     if text == b"cuectl: stopped".as_slice() {
         return Some(Entry::Stopped);
     }

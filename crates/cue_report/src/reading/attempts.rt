@@ -1,5 +1,9 @@
 //! The lines of attempts: orders, why one was given up, and how one ended.
-ghost use Rattle.std.specs.Prelude.{◌≡◌};
+ghost use Rattle.std.specs.Prelude.{IfSome, IsTrue, nat_eq};
+ghost use Rattle.std.specs.List.{starts_with};
+ghost use Rattle.cue_words.specs.Answered.{outcome_words};
+ghost use Rattle.cue_report.specs.Fronts as spec;
+ghost use Rattle.cue_report.specs.declared.reading.fronts.Front.TheVariants as front;
 
 use super::words::{cut_before, number_in};
 use crate::entry::{Ending, Entry, OrderKind, Ordered, Try};
@@ -33,7 +37,10 @@ fn try_of(number: u32, cue: &[u8]) -> Option<Try> {
 }
 
 // An order, by what follows the word `device `.
-fn order_in(kind: OrderKind, attempt: Try, text: &[u8]) -> Option<Entry<'_>> {
+#[tactic(auto, using(crate::proofs::FrontLemmas::is_order_front))]
+fn order_in(kind: OrderKind, attempt: Try, text: &[u8]) -> Option<Entry<'_>>
+    ensures { IfSome result (λ entry. IsTrue (spec.is_of (spec.order_front kind) entry)) }
+{
     let (device, rest) = number_in(text)?;
     let (port, rest) = number_in(rest.strip_prefix(b" at ".as_slice())?)?;
     let is_sent = match rest {
@@ -51,7 +58,9 @@ fn order_in(kind: OrderKind, attempt: Try, text: &[u8]) -> Option<Entry<'_>> {
 }
 
 // What is said of an attempt after a colon.
-fn said_of(kind: OrderKind, attempt: Try, text: &[u8]) -> Option<Entry<'_>> {
+fn said_of(kind: OrderKind, attempt: Try, text: &[u8]) -> Option<Entry<'_>>
+    ensures { IfSome result (λ entry. IsTrue (spec.is_of (spec.order_front kind) entry)) }
+{
     match kind {
         OrderKind::Standby => Some(Entry::Alone(attempt)),
         OrderKind::Go => None,
@@ -60,7 +69,9 @@ fn said_of(kind: OrderKind, attempt: Try, text: &[u8]) -> Option<Entry<'_>> {
 }
 
 /// A line of an attempt, by what follows its first word: an order, or what is said of it.
-pub fn read_attempt(kind: OrderKind, text: &[u8]) -> Option<Entry<'_>> {
+pub fn read_attempt(kind: OrderKind, text: &[u8]) -> Option<Entry<'_>>
+    ensures { IfSome result (λ entry. IsTrue (spec.is_of (spec.order_front kind) entry)) }
+{
     let (number, rest) = attempt_in(text)?;
     let (cue, rest) = cue_in(rest);
     let attempt = try_of(number, cue)?;
@@ -84,12 +95,16 @@ pub fn live_in(text: &[u8]) -> Option<(Try, &[u8])> {
 const OUTCOMES: [Outcome; 3] = [Outcome::Complete, Outcome::Cancelled, Outcome::Failed];
 
 // How an attempt ended, by the word that the text begins with.
-fn outcome_in(text: &[u8]) -> Option<Outcome> {
+fn outcome_in(text: &[u8]) -> Option<Outcome>
+    ensures { IfSome result (λ outcome. IsTrue (starts_with nat_eq text.now (outcome_words outcome))) }
+{
     OUTCOMES.iter().copied().find(|outcome| text.starts_with(outcome_words(*outcome).as_bytes()))
 }
 
 /// The line of an attempt that has ended, by what follows its first word.
-pub fn read_end(text: &[u8]) -> Option<Entry<'_>> {
+pub fn read_end(text: &[u8]) -> Option<Entry<'_>>
+    ensures { IfSome result (λ entry. IsTrue (spec.is_of front.End entry)) }
+{
     let (number, rest) = attempt_in(text)?;
     let (cue, rest) = cue_in(rest);
     let attempt = try_of(number, cue)?;

@@ -1,4 +1,8 @@
 //! The lines of replies.
+ghost use Rattle.std.specs.Prelude.{IfSome, IsTrue};
+ghost use Rattle.cue_report.specs.Fronts as spec;
+ghost use Rattle.cue_report.specs.declared.reading.fronts.Front.TheVariants as front;
+
 use super::words::number_in;
 use crate::entry::{Entry, Reply};
 use memchr::memmem::rfind;
@@ -57,7 +61,9 @@ fn counts_in(text: &[u8]) -> Option<Counts<'_>> {
 }
 
 /// The line of a reply.
-pub fn read_reply(text: &[u8]) -> Option<Entry<'_>> {
+pub fn read_reply(text: &[u8]) -> Option<Entry<'_>>
+    ensures { IfSome result (λ entry. IsTrue (spec.is_of front.Asked entry)) }
+{
     let (port, rest) = number_in(text)?;
     let asked = rest.strip_prefix(b" asked ".as_slice())?;
     let (address, rest) = asked.split_at_checked(rfind(asked, COUNTS)?)?;

@@ -3,7 +3,6 @@ use Rattle.std.specs.Prelude.{ℕ, Bool, true, false, ◌&&◌, ◌||◌, List, 
 use Rattle.std.specs.List.{starts_with}
 use Rattle.cue_report.specs.declared.entry.Entry.{Entry}
 use Rattle.cue_report.specs.declared.entry.Entry.TheVariants as entry
-use Rattle.cue_report.specs.declared.entry.Ordered.{Ordered}
 use Rattle.cue_report.specs.declared.entry.OrderKind.{OrderKind}
 use Rattle.cue_report.specs.declared.entry.OrderKind.TheVariants as order
 use Rattle.cue_report.specs.declared.reading.fronts.Front.{Front}

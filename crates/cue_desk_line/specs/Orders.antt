@@ -6,5 +6,5 @@ use Rattle.cue_desk_line.specs.declared.reading.words.Line.TheVariants as line
 
 -- the command asks what the word says
 abbrev pub IsAskedBy : List ℕ → Line → Type 0
-IsAskedBy word (line.Ask order port) = word_of order ≡ word
+IsAskedBy word (line.Ask order port name) = word_of order ≡ word
 IsAskedBy word _ = ⊥

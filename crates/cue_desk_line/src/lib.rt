@@ -5,5 +5,6 @@ mod reading;
 
 pub use reading::line;
 pub use reading::rehearsing::{Flags, Rehearsal, with_flags};
+pub use reading::reporting::Report;
 pub use reading::web::Web;
-pub use reading::words::{Line, Manner, Watched};
+pub use reading::words::{Environment, Line, Manner, Watched};

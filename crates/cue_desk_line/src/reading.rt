@@ -6,6 +6,7 @@ ghost use Rattle.cue_desk_line.specs.Orders.{IsAskedBy};
 
 mod commands;
 pub mod rehearsing;
+pub mod reporting;
 pub mod web;
 pub mod words;
 
@@ -17,9 +18,10 @@ use cue_desk::ports::said_port;
 use cue_operator::CueVerb;
 use cue_show::{CueNo, DeviceNo};
 use rehearsing::rehearsal_in;
+use reporting::{asker_in, asker_said, report_in};
 use std::alloc::Global;
 use web::web_in;
-use words::{Line, Manner, Watched};
+use words::{Environment, Line, Manner, Watched};
 
 // What has to stand there and does not. `clap` sees to it before, so nobody meets it.
 fn lacking(alloc: Global, id: &str) -> LineFault {
@@ -79,6 +81,7 @@ fn of_cue_in(alloc: Global, verb: CueVerb, found: &ArgMatches<'_>) -> Result<Lin
     Ok(Line::Ask {
         order: Order::OfCue(verb, cue_in(alloc, found)?),
         port: port_in(alloc, found)?,
+        name: asker_in(alloc, found)?,
     })
 }
 
@@ -91,6 +94,7 @@ fn remove_in(alloc: Global, found: &ArgMatches<'_>) -> Result<Line, LineFault>
         Some((_, of)) => Ok(Line::Ask {
             order: Order::RemoveDevice(device_in(alloc, of)?),
             port: port_in(alloc, of)?,
+            name: asker_in(alloc, of)?,
         }),
         None => Err(unfit(
             alloc,
@@ -167,6 +171,7 @@ fn file_line_in(
         "web" => Some(web_in(alloc, found).map(Line::Web)),
         "rehearse" => Some(rehearsal_in(alloc, found).map(Line::Rehearse)),
         "relay" => Some(relay_in(alloc, found)),
+        "report" => Some(report_in(alloc, found).map(Line::Report)),
         _ => None,
     }
 }
@@ -217,11 +222,13 @@ fn asked_in(alloc: Global, word: Word, found: &ArgMatches<'_>) -> Result<Line, L
         Word::Release => Ok(Line::Ask {
             order: Order::Release(device_in(alloc, found)?),
             port: port_in(alloc, found)?,
+            name: asker_in(alloc, found)?,
         }),
         Word::Remove => remove_in(alloc, found),
         Word::Status => Ok(Line::Ask {
             order: Order::Status,
             port: port_in(alloc, found)?,
+            name: asker_in(alloc, found)?,
         }),
     }
 }
@@ -269,12 +276,22 @@ fn port_of(alloc: Global, text: &str) -> Result<u16, LineFault> {
 }
 
 /// Reads a command line, the program's name first, as `clap` matches it. Where a command speaks to the controller and
-/// its words name no port, the port is the one that CUEDESK_PORT says, where that is set.
-pub fn line(alloc: Global, words: &[String], environment: Option<&str>) -> Result<Line, LineFault> {
+/// its words name no port, the port is the one that CUEDESK_PORT says, where that is set; and where they do not name who
+/// asks, that is who CUEDESK_AS says.
+pub fn line(
+    alloc: Global,
+    words: &[String],
+    environment: Environment<'_>,
+) -> Result<Line, LineFault> {
     let mut line = matched(alloc, words)?;
-    if let (Some(port), Some(text)) = (line.port(), environment) {
+    if let (Some(port), Some(text)) = (line.port(), environment.port) {
         if port.is_none() {
             *port = said_port(*port, Some(port_of(alloc, text)?));
+        }
+    }
+    if let (Some(name), Some(text)) = (line.name(), environment.name) {
+        if name.is_none() {
+            *name = Some(asker_said(alloc, text)?);
         }
     }
     Ok(line)

@@ -1,5 +1,5 @@
 //! Tests of the desk over public calls: show files and how they are loaded, what is asked and replied, the board, the
-//! page, rehearsed devices and the relay.
+//! page, rehearsed devices, the relay and the report.
 #![tactic(auto)]
 
 #[cfg(test)]
@@ -20,5 +20,7 @@ mod rehearsals;
 mod relays;
 #[cfg(test)]
 mod replies;
+#[cfg(test)]
+mod reports;
 #[cfg(test)]
 mod station;

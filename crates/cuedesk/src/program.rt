@@ -11,6 +11,7 @@ mod loading;
 mod orders;
 mod rehearsing;
 mod relaying;
+mod reporting;
 mod web;
 mod wire;
 
@@ -18,7 +19,7 @@ use board::{show_board, window_of};
 use cue_desk::ending::Ending;
 use cue_desk::line::LineFault;
 use cue_desk::ports::{PORT, controller_port};
-use cue_desk_line::{Line, line};
+use cue_desk_line::{Environment, Line, line};
 use cue_saying::{print, say};
 use cue_show_file::ShowFile;
 use files::{check_file, export};
@@ -26,6 +27,7 @@ use loading::{Loaded, load};
 use orders::carry_order;
 use rehearsing::rehearse;
 use relaying::relay_devices;
+use reporting::report_evening;
 use std::fs::{File, Files};
 use std::io::{Eprint, Write};
 use std::net::Net;
@@ -107,20 +109,21 @@ fn carry_out<R: Files<File = File> + Net + Clock + RandomSource + Eprint + Alloc
         Line::Relay { file, port, status } => {
             relay_devices(rt, file.as_str(), *port, status.as_deref(), writer)
         }
-        Line::Ask { order, port } => {
-            carry_order(rt, *order, controller_port(*port, None), writer)
+        Line::Report(report) => report_evening(rt, report, writer),
+        Line::Ask { order, port, name } => {
+            carry_order(rt, *order, controller_port(*port, None), *name, writer)
         },
     }
 }
 
 /// Carries a command line out, the program's name first, and answers the exit status: 0 where it is done, 1 where the
 /// controller refuses or a show file has mistakes, 2 where the command line is not understood, 3 where nobody
-/// replies or the machine fails. Why stands on standard error. The environment says the port of the controller where
-/// the command line does not.
+/// replies or the machine fails. Why stands on standard error. The environment says the port of the controller, and who
+/// asks, where the command line does not.
 pub fn perform<R: Files<File = File> + Net + Clock + RandomSource + Eprint + AllocGlobal, W: Write>(
     rt: &R,
     words: &[String],
-    environment: Option<&str>,
+    environment: Environment<'_>,
     is_terminal: bool,
     writer: &mut W,
 ) -> u8 {

@@ -1,5 +1,6 @@
 //! The commands, as `clap` knows them.
 use super::rehearsing::rehearse;
+use super::reporting::{asker, report};
 use super::web::web_command;
 use clap::{Arg, ArgAction, Command, value_parser};
 use std::alloc::{AllocError, Global};
@@ -65,7 +66,8 @@ fn of_cue<'a>(alloc: Global, name: &'a str, about: &'a str) -> Result<Command<'a
     Command::new(alloc, name)
         .about(about)
         .arg(word(alloc, "CUE", "The number of the cue, as 12.5"))?
-        .arg(port(alloc))
+        .arg(port(alloc))?
+        .arg(asker(alloc))
 }
 
 // A command that asks something of a device.
@@ -73,7 +75,8 @@ fn of_device<'a>(alloc: Global, name: &'a str, about: &'a str) -> Result<Command
     Command::new(alloc, name)
         .about(about)
         .arg(word(alloc, "DEVICE", "The number of the device, 0 to 111"))?
-        .arg(port(alloc))
+        .arg(port(alloc))?
+        .arg(asker(alloc))
 }
 
 /// A command over a show file.
@@ -166,7 +169,8 @@ fn release<'a>(alloc: Global) -> Result<Command<'a>, AllocError> {
 fn status<'a>(alloc: Global) -> Result<Command<'a>, AllocError> {
     Command::new(alloc, "status")
         .about("Say how the show stands:  cuedesk status")
-        .arg(port(alloc))
+        .arg(port(alloc))?
+        .arg(asker(alloc))
 }
 
 // The command `remove`, which is of a cue or of a device.
@@ -191,12 +195,10 @@ fn with<'a>(
     command.subcommand(below?)
 }
 
-// The commands that read or write a show file.
+// The commands that read or write a show file, and end.
 fn with_files<'a>(alloc: Global, command: Command<'a>) -> Result<Command<'a>, AllocError> {
-    with(
-        with(with(command, check(alloc))?, load(alloc))?,
-        export(alloc),
-    )
+    let command = with(with(command, check(alloc))?, load(alloc))?;
+    with(with(command, export(alloc))?, report(alloc))
 }
 
 // The commands that go on until Ctrl-C.

@@ -1,8 +1,10 @@
 //! The command `web`, and what stands after it.
 use super::commands::{names_file, over_dir, port_or_file, relay_status};
+use super::reporting::{asker, asker_in};
 use super::{no_port, option_in, port_in, text_in};
 use clap::{Arg, ArgAction, ArgMatches, Command, value_parser};
 use cue_desk::line::LineFault;
+use cue_report::AskerName;
 use std::alloc::{AllocError, Global};
 
 /// What is shown as a page, and where.
@@ -18,6 +20,8 @@ pub struct Web {
     pub http: u16,
     /// The port of the controller, where the command line or the environment says it.
     pub port: Option<u16>,
+    /// Who presses, where the command line or the environment says it.
+    pub name: Option<AskerName>,
 }
 
 // The port of 127.0.0.1 at which the page is.
@@ -42,7 +46,8 @@ pub fn web_command<'a>(alloc: Global) -> Result<Command<'a>, AllocError> {
     web_of_files(alloc)?
         .arg(http(alloc))?
         .arg(relay_status(alloc))?
-        .arg(port_or_file(alloc))
+        .arg(port_or_file(alloc))?
+        .arg(asker(alloc))
 }
 
 /// The command `web`, with what stands after it.
@@ -55,6 +60,7 @@ pub fn web_in(alloc: Global, found: &ArgMatches<'_>) -> Result<Web, LineFault> {
             relay: option_in(alloc, found, "relay")?,
             http,
             port: port_in(alloc, found)?,
+            name: asker_in(alloc, found)?,
         }),
         _ => Err(no_port(alloc, "0")),
     }

@@ -1,7 +1,9 @@
 //! What a command line can say.
 use super::rehearsing::Rehearsal;
+use super::reporting::Report;
 use super::web::Web;
 use cue_desk::orders::Order;
+use cue_report::AskerName;
 
 /// What a board is made of: the paths of what it reads.
 #[derive(Drop)]
@@ -16,6 +18,15 @@ pub struct Watched {
     pub relay: Option<String>,
     /// The port of the controller, where the command line or the environment says it.
     pub port: Option<u16>,
+}
+
+/// What a window says for all its commands, if it says something.
+#[derive(Clone, Copy)]
+pub struct Environment<'a> {
+    /// CUEDESK_PORT: the port of the controller.
+    pub port: Option<&'a str>,
+    /// CUEDESK_AS: who asks.
+    pub name: Option<&'a str>,
 }
 
 /// What becomes of what is in the store already.
@@ -66,10 +77,14 @@ pub enum Line {
         port: Option<u16>,
         status: Option<String>,
     },
+    /// Tell an evening by its log.
+    Report(Report),
     /// Ask one thing.
     Ask {
         order: Order,
         port: Option<u16>,
+        /// Who asks, where the command line or the environment says it.
+        name: Option<AskerName>,
     },
 }
 
@@ -82,7 +97,18 @@ impl Line {
             }
             Line::Board { watched, .. } => Some(&mut watched.port),
             Line::Web(web) => Some(&mut web.port),
-            Line::Check { .. } | Line::Export { .. } | Line::Rehearse(_) => None,
+            Line::Check { .. } | Line::Export { .. } => None,
+            Line::Rehearse(_) | Line::Report(_) => None,
+        }
+    }
+
+    /// Who asks, of a command that asks the controller for something.
+    pub fn name(&mut self) -> Option<&mut Option<AskerName>> {
+        match self {
+            Line::Ask { name, .. } => Some(name),
+            Line::Web(web) => Some(&mut web.name),
+            Line::Check { .. } | Line::Export { .. } | Line::Load { .. } => None,
+            Line::Board { .. } | Line::Rehearse(_) | Line::Relay { .. } | Line::Report(_) => None,
         }
     }
 }

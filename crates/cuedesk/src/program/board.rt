@@ -227,6 +227,7 @@ pub fn show_board<R: Files<File = File> + Net + Clock + Eprint + AllocGlobal, W:
         None => None,
     };
     let sources = Sources {
+        name: None,
         dir: watched.dir.as_str(),
         port: port_of(watched.port, file.as_ref()),
         relay: watched.relay.as_deref(),

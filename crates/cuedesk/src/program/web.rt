@@ -98,6 +98,7 @@ pub fn serve_page<
         dir: web.dir.as_str(),
         port: port_of(web.port, file.as_ref()),
         relay: web.relay.as_deref(),
+        name: web.name,
     };
     let door = Door {
         port: web.http,

@@ -1,0 +1,4 @@
+pub mod Escaping
+pub mod Following
+pub mod Fronts
+pub mod Naming

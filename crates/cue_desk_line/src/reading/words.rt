@@ -1,7 +1,18 @@
 //! What a command line can say.
+use super::buttons::Buttons;
+use super::pressing::Pressed;
 use super::rehearsing::Rehearsal;
 use super::web::Web;
 use cue_desk::orders::Order;
+
+/// What the environment says, where a command line does not.
+#[derive(Clone, Copy)]
+pub struct Environment<'a> {
+    /// CUEDESK_PORT: the port of the controller.
+    pub port: Option<&'a str>,
+    /// CUEDESK_STORE: the folder of the store.
+    pub store: Option<&'a str>,
+}
 
 /// What a board is made of: the paths of what it reads.
 #[derive(Drop)]
@@ -58,6 +69,10 @@ pub enum Line {
     },
     /// Show the board of a folder with buttons in a browser.
     Web(Web),
+    /// Hear a real desk.
+    Buttons(Buttons),
+    /// Press a button at a desk without a browser.
+    Press(Pressed),
     /// Play every device of a show file.
     Rehearse(Rehearsal),
     /// Stand between the controller and the devices of this show file that are on the stage's network.
@@ -82,6 +97,8 @@ impl Line {
             }
             Line::Board { watched, .. } => Some(&mut watched.port),
             Line::Web(web) => Some(&mut web.port),
+            Line::Buttons(buttons) => Some(&mut buttons.port),
+            Line::Press(pressed) => Some(&mut pressed.port),
             Line::Check { .. } | Line::Export { .. } | Line::Rehearse(_) => None,
         }
     }

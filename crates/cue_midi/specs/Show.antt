@@ -1,0 +1,48 @@
+-- A command of MIDI Show Control, as the data bytes between F0 and F7 spell it.
+use Rattle.std.specs.Prelude.{ℕ, ◌+◌, Bool, ◌&&◌, if◌then◌else◌, List, [], ◌∷◌, Option, None, Some}
+use Rattle.std.specs.Prelude.{length, take, drop, nat_eq, nat_lt}
+use Rattle.std.specs.List.{position_or_len}
+use Rattle.cue_show.specs.Number.{is_cue_number}
+use Rattle.cue_midi.specs.declared.show.Named.{Named}
+use Rattle.cue_midi.specs.declared.show.Named.TheVariants as named
+use Rattle.cue_midi.specs.declared.show.Said.{Said}
+use Rattle.cue_midi.specs.declared.show.Said.TheVariants as said
+use Rattle.cue_midi.specs.declared.show.Show.{Show}
+
+-- where the first zero is, which ends the number of the cue; the length if there is none
+abbrev pub zero_at : List ℕ → ℕ
+zero_at data = position_or_len (λ b. nat_eq b 0) data
+
+-- the cue that is named by this text: digits and points
+abbrev pub cue_named : List ℕ → Named
+cue_named text = if is_cue_number text then named.Cue text else named.Unfit
+
+-- the cue of a list: both are digits and points, so no path follows
+abbrev pub of_list : List ℕ → List ℕ → Named
+of_list text list =
+    if is_cue_number text then if is_cue_number list then named.OfList text list else named.Unfit else named.Unfit
+
+-- what names a cue that stands there: with a zero, a list follows
+abbrev pub named_by : List ℕ → Named
+named_by data =
+    if nat_lt (zero_at data) (length data) then of_list (take (zero_at data) data) (drop (zero_at data + 1) data)
+    else cue_named data
+
+-- the cue that stands after a command
+abbrev pub named_in : List ℕ → Named
+named_in [] = named.Nothing
+named_in (b ∷ bs) = named_by (b ∷ bs)
+
+-- 01 is GO, and 05 is LOAD
+abbrev pub said_by : ℕ → List ℕ → Said
+said_by command data =
+    if nat_eq command 1 then said.Go (named_in data) else if nat_eq command 5 then said.Load (named_in data)
+    else said.Other command
+
+-- a command of show control: 7F, the device, 02, the format, the command, and what it is about
+abbrev pub show_in : List ℕ → Option Show
+show_in (real_time ∷ id ∷ kind ∷ format ∷ command ∷ data) =
+    if nat_eq real_time 127 && nat_eq kind 2 then
+        Some (record { id = id; format = format; said = said_by command data })
+    else None
+show_in _ = None

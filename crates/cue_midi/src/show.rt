@@ -1,0 +1,125 @@
+//! A command of MIDI Show Control, read from the data bytes of an exclusive message.
+ghost use Rattle.std.specs.Prelude.{◌≡◌};
+ghost use Rattle.cue_midi.specs.Show as show;
+
+use cue_show::CueNo;
+
+/// The cue that a command names.
+#[derive(Clone, Copy, PartialEq, Eq, Debug)]
+pub enum Named {
+    /// It names none.
+    Nothing,
+    Cue(CueNo),
+    /// The cue, of this list.
+    OfList(CueNo, CueNo),
+    /// What stands there is no cue number of 1 to 16 digits and points, or a path follows.
+    Unfit,
+}
+
+/// What a command says.
+#[derive(Clone, Copy, PartialEq, Eq, Debug)]
+pub enum Said {
+    Go(Named),
+    /// Place the cue into a standby position.
+    Load(Named),
+    /// Another command, by its number.
+    Other(u8),
+}
+
+/// A command of show control: for which device, 127 for all, in which format, 127 for all, and what it says.
+#[derive(Clone, Copy, PartialEq, Eq, Debug)]
+pub struct Show {
+    pub id: u8,
+    pub format: u8,
+    pub said: Said,
+}
+
+/// The byte that says an exclusive message is for everybody, in real time.
+const REAL_TIME: u8 = 0x7f;
+
+/// What says that it is of show control.
+const SHOW_CONTROL: u8 = 0x02;
+
+const GO: u8 = 0x01;
+
+const LOAD: u8 = 0x05;
+
+// Where the first zero is; the length if there is none.
+fn zero_at(data: &[u8]) -> usize
+    ensures { result ≡ show.zero_at data.now }
+{
+    match data.iter().position(|byte| *byte == 0) {
+        Some(at) => at,
+        None => data.len(),
+    }
+}
+
+// The cue whose number this text is.
+fn cue_named(text: &[u8]) -> Named
+    ensures { result ≡ show.cue_named text.now }
+{
+    match CueNo::read(text) {
+        Some(cue) => Named::Cue(cue),
+        None => Named::Unfit,
+    }
+}
+
+// The cue of a list.
+fn of_list(text: &[u8], list: &[u8]) -> Named
+    ensures { result ≡ show.of_list text.now list.now }
+{
+    match CueNo::read(text) {
+        Some(cue) => match CueNo::read(list) {
+            Some(list) => Named::OfList(cue, list),
+            None => Named::Unfit,
+        },
+        None => Named::Unfit,
+    }
+}
+
+// The cue that stands after a command.
+fn named_in(data: &[u8]) -> Named
+    ensures { result ≡ show.named_in data.now }
+{
+    if data.is_empty() {
+        return Named::Nothing;
+    }
+    let at = zero_at(data);
+    if at < data.len() {
+        of_list(&data[..at], &data[at + 1..])
+    } else {
+        cue_named(data)
+    }
+}
+
+// What the command with this number says.
+fn said_by(command: u8, data: &[u8]) -> Said
+    ensures { result ≡ show.said_by command data.now }
+{
+    match command {
+        GO => Said::Go(named_in(data)),
+        LOAD => Said::Load(named_in(data)),
+        _ => Said::Other(command),
+    }
+}
+
+/// The command of show control that the data bytes of an exclusive message are; none if they are something else.
+/// `Parser::hear` calls it at the end of each exclusive message.
+pub fn read_show(body: &[u8]) -> Option<Show>
+    ensures { result ≡ show.show_in body.now }
+{
+    match body {
+        [real_time, id, kind, format, command, data @ ..] => {
+            if *real_time == REAL_TIME && *kind == SHOW_CONTROL {
+                Some(Show {
+                    id: *id,
+                    format: *format,
+                    said: said_by(*command, data),
+                })
+            } else {
+                None
+            }
+        }
+        _ => None,
+    }
+}

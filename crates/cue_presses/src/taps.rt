@@ -1,0 +1,18 @@
+//! Two taps of one finger.
+ghost use Rattle.std.specs.Prelude.{◌≡◌};
+ghost use Rattle.cue_presses.specs.Taps as taps;
+
+use crate::wish::Wish;
+
+/// How long after a GO the next one that names no cue is a second tap, in milliseconds.
+pub const TAP_MS: u64 = 1_000;
+
+/// Whether the wish is the second tap of a GO that was pressed at this moment.
+pub fn is_second_tap(wish: &Wish, last: Option<u64>, now: u64) -> bool
+    ensures { result ≡ taps.is_second_tap wish.now last now }
+{
+    match (wish, last) {
+        (Wish::Go(None), Some(last)) => now.saturating_sub(last) < TAP_MS,
+        _ => false,
+    }
+}

@@ -19,7 +19,7 @@ StruckIsHeard =
 -- It is heard at nothing else: at a data byte above 0, after the status byte of its channel and its note.
 pub record IsStruck (past : List ℕ) (b channel note velocity : ℕ) : Type 0 where
   pub last : b ≡ velocity
-  pub data : IsTrue (is_data b)
+  pub low : IsTrue (is_data b)
   pub sounds : 0 < b
   pub status : status_of past ≡ Some (144 + channel)
   pub first : half_of (run_of past) ≡ Some note

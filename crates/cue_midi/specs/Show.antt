@@ -11,7 +11,7 @@ use Rattle.cue_midi.specs.declared.show.Show.{Show}
 
 -- where the first zero is, which ends the number of the cue; the length if there is none
 abbrev pub zero_at : List ℕ → ℕ
-zero_at data = position_or_len (λ b. nat_eq b 0) data
+zero_at bytes = position_or_len (λ b. nat_eq b 0) bytes
 
 -- the cue that is named by this text: digits and points
 abbrev pub cue_named : List ℕ → Named
@@ -24,9 +24,9 @@ of_list text list =
 
 -- what names a cue that stands there: with a zero, a list follows
 abbrev pub named_by : List ℕ → Named
-named_by data =
-    if nat_lt (zero_at data) (length data) then of_list (take (zero_at data) data) (drop (zero_at data + 1) data)
-    else cue_named data
+named_by bytes =
+    if nat_lt (zero_at bytes) (length bytes) then of_list (take (zero_at bytes) bytes) (drop (zero_at bytes + 1) bytes)
+    else cue_named bytes
 
 -- the cue that stands after a command
 abbrev pub named_in : List ℕ → Named
@@ -35,14 +35,14 @@ named_in (b ∷ bs) = named_by (b ∷ bs)
 
 -- 01 is GO, and 05 is LOAD
 abbrev pub said_by : ℕ → List ℕ → Said
-said_by command data =
-    if nat_eq command 1 then said.Go (named_in data) else if nat_eq command 5 then said.Load (named_in data)
+said_by command bytes =
+    if nat_eq command 1 then said.Go (named_in bytes) else if nat_eq command 5 then said.Load (named_in bytes)
     else said.Other command
 
 -- a command of show control: 7F, the device, 02, the format, the command, and what it is about
 abbrev pub show_in : List ℕ → Option Show
-show_in (real_time ∷ id ∷ kind ∷ format ∷ command ∷ data) =
+show_in (real_time ∷ id ∷ kind ∷ format ∷ command ∷ bytes) =
     if nat_eq real_time 127 && nat_eq kind 2 then
-        Some (record { id = id; format = format; said = said_by command data })
+    Some (record { id = id; format = format; said = said_by command bytes })
     else None
 show_in _ = None

@@ -45,12 +45,12 @@ const GO: u8 = 0x01;
 const LOAD: u8 = 0x05;
 
 // Where the first zero is; the length if there is none.
-fn zero_at(data: &[u8]) -> usize
-    ensures { result ≡ show.zero_at data.now }
+fn zero_at(bytes: &[u8]) -> usize
+    ensures { result ≡ show.zero_at bytes.now }
 {
-    match data.iter().position(|byte| *byte == 0) {
+    match bytes.iter().position(|byte| *byte == 0) {
         Some(at) => at,
-        None => data.len(),
+        None => bytes.len(),
     }
 }
 
@@ -78,27 +78,27 @@ fn of_list(text: &[u8], list: &[u8]) -> Named
 }
 
 // The cue that stands after a command.
-fn named_in(data: &[u8]) -> Named
-    ensures { result ≡ show.named_in data.now }
+fn named_in(bytes: &[u8]) -> Named
+    ensures { result ≡ show.named_in bytes.now }
 {
-    if data.is_empty() {
+    if bytes.is_empty() {
         return Named::Nothing;
     }
-    let at = zero_at(data);
-    if at < data.len() {
-        of_list(&data[..at], &data[at + 1..])
+    let at = zero_at(bytes);
+    if at < bytes.len() {
+        of_list(&bytes[..at], &bytes[at + 1..])
     } else {
-        cue_named(data)
+        cue_named(bytes)
     }
 }
 
 // What the command with this number says.
-fn said_by(command: u8, data: &[u8]) -> Said
-    ensures { result ≡ show.said_by command data.now }
+fn said_by(command: u8, bytes: &[u8]) -> Said
+    ensures { result ≡ show.said_by command bytes.now }
 {
     match command {
-        GO => Said::Go(named_in(data)),
-        LOAD => Said::Load(named_in(data)),
+        GO => Said::Go(named_in(bytes)),
+        LOAD => Said::Load(named_in(bytes)),
         _ => Said::Other(command),
     }
 }
@@ -109,12 +109,12 @@ pub fn read_show(body: &[u8]) -> Option<Show>
     ensures { result ≡ show.show_in body.now }
 {
     match body {
-        [real_time, id, kind, format, command, data @ ..] => {
+        [real_time, id, kind, format, command, rest @ ..] => {
             if *real_time == REAL_TIME && *kind == SHOW_CONTROL {
                 Some(Show {
                     id: *id,
                     format: *format,
-                    said: said_by(*command, data),
+                    said: said_by(*command, rest),
                 })
             } else {
                 None

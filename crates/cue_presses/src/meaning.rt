@@ -154,7 +154,11 @@ fn go_alone(view: &View, is_awaited: bool) -> Result<Press, Why>
         return Err(Why::Awaited);
     }
     match view.chosen {
-        Some(seq) => go_of(view.chosen, chosen_of(&wanted, seq, &view.live), Why::NotThis),
+        Some(seq) => go_of(
+            view.chosen,
+            chosen_of(&wanted, seq, &view.live),
+            Why::NotThis,
+        ),
         None => go_of(view.chosen, sole_of(&wanted, &view.live), Why::Nobody),
     }
 }
@@ -168,7 +172,11 @@ fn cancel_alone(view: &View, is_awaited: bool) -> Result<Press, Why>
         return Err(Why::Awaited);
     }
     match view.chosen {
-        Some(seq) => cancel_of(view.chosen, chosen_of(&wanted, seq, &view.live), Why::NotThis),
+        Some(seq) => cancel_of(
+            view.chosen,
+            chosen_of(&wanted, seq, &view.live),
+            Why::NotThis,
+        ),
         None => cancel_of(view.chosen, sole_of(&wanted, &view.live), Why::Nobody),
     }
 }
@@ -246,8 +254,7 @@ pub fn is_lit(view: &View, press: &Press) -> bool {
 fn may_come(named: &Option<CueNo>, live: &[LiveAttempt]) -> bool
     ensures { result ≡ meaning.may_come named.now live.now }
 {
-    live.iter()
-        .any(|attempt| attempt.stage.is_preparing() && is_meant(named, &attempt.cue))
+    live.iter().any(|attempt| attempt.stage.is_preparing() && is_meant(named, &attempt.cue))
 }
 
 /// Whether it is no use to wait: no attempt prepares that the wish could be of.

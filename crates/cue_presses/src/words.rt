@@ -78,7 +78,10 @@ fn waited_for(alloc: Global, answers: &Answers) -> Result<String, AllocError> {
     let mut text = String::new(alloc);
     for answer in answers.as_slice() {
         if answer.answer == Answer::Waiting {
-            let (comma, device) = (if text.is_empty() { "" } else { ", " }, answer.device.number());
+            let (comma, device) = (
+                if text.is_empty() { "" } else { ", " },
+                answer.device.number(),
+            );
             write!(text, "{comma}{device}")?;
         }
     }
@@ -98,7 +101,14 @@ fn preparing_words(alloc: Global, attempt: &LiveAttempt) -> Result<String, Alloc
     if devices.is_empty() {
         return format!(in alloc; "cue {cue} is held");
     }
-    let (word, devices) = (if devices.contains(",") { "devices" } else { "device" }, devices.as_str());
+    let (word, devices) = (
+        if devices.contains(",") {
+            "devices"
+        } else {
+            "device"
+        },
+        devices.as_str(),
+    );
     format!(in alloc; "cue {cue} waits for {word} {devices}")
 }
 
@@ -117,7 +127,10 @@ fn each_attempt(alloc: Global, view: &View, cue: Option<CueNo>) -> Result<String
     let mut text = String::new(alloc);
     for attempt in &view.live {
         if cue.is_none() || cue == Some(attempt.cue) {
-            let (semicolon, words) = (if text.is_empty() { "" } else { "; " }, attempt_words(alloc, attempt)?);
+            let (semicolon, words) = (
+                if text.is_empty() { "" } else { "; " },
+                attempt_words(alloc, attempt)?,
+            );
             let words = words.as_str();
             write!(text, "{semicolon}{words}")?;
         }
@@ -126,7 +139,12 @@ fn each_attempt(alloc: Global, view: &View, cue: Option<CueNo>) -> Result<String
 }
 
 // What is said of the attempts, or these words if there is none.
-fn attempts_or(alloc: Global, view: &View, cue: Option<CueNo>, none: &str) -> Result<String, AllocError> {
+fn attempts_or(
+    alloc: Global,
+    view: &View,
+    cue: Option<CueNo>,
+    none: &str,
+) -> Result<String, AllocError> {
     let text = each_attempt(alloc, view, cue)?;
     if text.is_empty() {
         return String::from_str(alloc, none);
@@ -157,7 +175,10 @@ fn other_next_words(alloc: Global, next: Next) -> Result<String, AllocError> {
 
 // The cue that the chosen attempt is at.
 fn chosen_cue(view: &View) -> Option<CueNo> {
-    let chosen = view.live.iter().find(|attempt| view.chosen == Some(attempt.seq));
+    let chosen = view
+        .live
+        .iter()
+        .find(|attempt| view.chosen == Some(attempt.seq));
     chosen.map(|attempt| attempt.cue)
 }
 
@@ -180,7 +201,12 @@ pub fn why_words(alloc: Global, view: &View, wish: &Wish, why: Why) -> Result<St
         Why::OtherNext => other_next_words(alloc, view.next),
         Why::Nobody => attempts_or(alloc, view, None, "no cue stands by"),
         Why::IsLive | Why::NotThis => {
-            attempts_or(alloc, view, cue_of(view, wish), "this cue does not stand by")
+            attempts_or(
+                alloc,
+                view,
+                cue_of(view, wish),
+                "this cue does not stand by",
+            )
         }
         Why::Many => {
             let each = each_attempt(alloc, view, None)?;

@@ -31,7 +31,8 @@ fn cue<'a>(alloc: Global, help: &'a str) -> Arg<'a> {
 
 // The folder of the store, for a command without a number.
 fn store<'a>(alloc: Global) -> Arg<'a> {
-    let help = "Without a cue: the folder that a.area and b.area stand in; else CUEDESK_STORE says it";
+    let help =
+        "Without a cue: the folder that a.area and b.area stand in; else CUEDESK_STORE says it";
     option(alloc, "store", help).value_name("DIR")
 }
 
@@ -51,7 +52,10 @@ fn wait<'a>(alloc: Global) -> Arg<'a> {
 pub fn standby_command<'a>(alloc: Global) -> Result<Command<'a>, AllocError> {
     Command::new(alloc, "standby")
         .about("Have the devices of a cue stand by:  cuedesk standby 12.5")
-        .arg(cue(alloc, "The number of the cue, as 12.5; else it is the cue that is next"))?
+        .arg(cue(
+            alloc,
+            "The number of the cue, as 12.5; else it is the cue that is next",
+        ))?
         .arg(store(alloc))?
         .arg(port(alloc))
 }
@@ -60,7 +64,10 @@ pub fn standby_command<'a>(alloc: Global) -> Result<Command<'a>, AllocError> {
 pub fn go_command<'a>(alloc: Global) -> Result<Command<'a>, AllocError> {
     Command::new(alloc, "go")
         .about("Give a cue that is stood by:  cuedesk go 12.5")
-        .arg(cue(alloc, "The number of the cue, as 12.5; else it is the only one that is ready"))?
+        .arg(cue(
+            alloc,
+            "The number of the cue, as 12.5; else it is the only one that is ready",
+        ))?
         .arg(store(alloc))?
         .arg(wait(alloc))?
         .arg(port(alloc))

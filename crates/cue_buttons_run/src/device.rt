@@ -1,6 +1,4 @@
 //! A device that gives bytes.
-ghost use Rattle.std.specs.Prelude.{◌≤◌, length};
-
 use mio::unix::SourceFd;
 use mio::{Interest, Registry, Token};
 use std::fs::{self, File, Files, Metadata, OpenOptions};

@@ -1,5 +1,5 @@
 -- What a stream of MIDI bytes spells. The bytes are listed with the newest first.
-use Rattle.std.specs.Prelude.{◌≡◌, ℕ, ◌-◌, Bool, true, false, ◌&&◌, if◌then◌else◌, List, [], ◌∷◌, Option, None, Some}
+use Rattle.std.specs.Prelude.{◌≡◌, ℕ, ◌-◌, Bool, true, false, ◌&&◌, ◌||◌, if◌then◌else◌, List, [], ◌∷◌, ◌++◌, Option, None, Some}
 use Rattle.std.specs.Prelude.{length, reverse, nat_eq, nat_le, nat_lt, is_some}
 use Rattle.cue_midi.specs.Show.{show_in}
 use Rattle.cue_midi.specs.declared.heard.Heard.{Heard}
@@ -123,6 +123,25 @@ pub record IsAfter (past : List ℕ) (p : Parser) : Type 0 where
   pub half : p.half ≡ half_of (run_of past)
   pub long : p.is_long ≡ nat_lt MAX_EXCLUSIVE (length (run_of past))
   pub body : p.is_long ≡ false → p.body.items ≡ reverse (run_of past)
+
+-- ---- what a parser keeps
+
+-- there are more data bytes than are kept
+abbrev pub is_more : Bool → List ℕ → Bool
+is_more is_long body = is_long || nat_le MAX_EXCLUSIVE (length body)
+
+-- one more data byte is kept if there is room for it
+abbrev pub more : ℕ → List ℕ → List ℕ
+more b body = if nat_lt (length body) MAX_EXCLUSIVE then body ++ b ∷ [] else body
+
+-- what a status byte finishes, by what a parser keeps
+abbrev pub by_status_kept : Option ℕ → Option ℕ → Bool → List ℕ → ℕ → Option Heard
+by_status_kept None half is_long body b = by_status false b
+by_status_kept (Some status) half is_long body b =
+    if nat_eq status 240 && nat_eq b 247 then Some (ended_by is_long body) else by_status (is_open status half) b
+
+abbrev pub by_status_in : Parser → ℕ → Option Heard
+by_status_in p b = by_status_kept p.status p.half p.is_long p.body.items b
 
 -- what is heard of one more byte, whatever the bytes before were
 abbrev pub HearsAt : Parser → ℕ → Option Heard → Type 0

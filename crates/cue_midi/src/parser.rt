@@ -1,6 +1,5 @@
 //! The parser: what each byte of a stream finishes.
-ghost use Rattle.std.specs.Prelude.{◌≡◌, ◌≤◌, ◌<◌, ◌++◌, ℕ, List, [], ◌∷◌, None, Some, true, false, length};
-ghost use Rattle.cue_midi.specs.declared.parser.TheConstants.{MAX_EXCLUSIVE};
+ghost use Rattle.std.specs.Prelude.{◌≡◌, [], None, Some, false};
 ghost use Rattle.cue_midi.specs.Stream as stream;
 
 use crate::heard::{Heard, Kind};
@@ -21,21 +20,34 @@ pub struct Parser {
     is_long: bool,
 }
 
+// The data byte that awaits a second one, after one more.
+fn joined(byte: u8, half: Option<u8>) -> Option<u8>
+    ensures { result ≡ stream.joined byte half }
+{
+    match half {
+        Some(_) => None,
+        None => Some(byte),
+    }
+}
+
 // What a channel message is whose status byte and data bytes are these.
 fn of_two(status: u8, first: u8, last: u8) -> Heard
-    requires { 128 ≤ status }
     ensures { result ≡ stream.of_two status first last }
 {
-    match status {
-        0x80..=0x8f => Heard::Ignored(Kind::NoteOff),
-        0x90..=0x9f => note_on(status - 0x90, first, last),
-        0xa0..=0xaf => Heard::Ignored(Kind::KeyPressure),
-        0xb0..=0xbf => Heard::Controller {
+    if status < 0x90 {
+        Heard::Ignored(Kind::NoteOff)
+    } else if status < 0xa0 {
+        note_on(status - 0x90, first, last)
+    } else if status < 0xb0 {
+        Heard::Ignored(Kind::KeyPressure)
+    } else if status < 0xc0 {
+        Heard::Controller {
             channel: status - 0xb0,
             number: first,
             value: last,
-        },
-        _ => Heard::Ignored(Kind::PitchBend),
+        }
+    } else {
+        Heard::Ignored(Kind::PitchBend)
     }
 }
 
@@ -53,19 +65,40 @@ fn note_on(channel: u8, note: u8, velocity: u8) -> Heard
     }
 }
 
+// What the second of two data bytes finishes, if there is a first one.
+fn by_second(status: u8, half: Option<u8>, byte: u8) -> Option<Heard>
+    ensures { result ≡ stream.by_second status half byte }
+{
+    match half {
+        Some(first) => Some(of_two(status, first, byte)),
+        None => None,
+    }
+}
+
 // What a data byte finishes after this status byte, and perhaps one data byte.
 fn by_data(status: u8, half: Option<u8>, byte: u8) -> Option<Heard>
-    requires { 128 ≤ status }
     ensures { result ≡ stream.by_data status half byte }
 {
+    if status >= 0xf0 {
+        None
+    } else if status < 0xc0 {
+        by_second(status, half, byte)
+    } else if status < 0xd0 {
+        Some(Heard::Ignored(Kind::Program))
+    } else if status < 0xe0 {
+        Some(Heard::Ignored(Kind::ChannelPressure))
+    } else {
+        by_second(status, half, byte)
+    }
+}
+
+// The same, where there may be no status byte.
+fn by_data_at(status: Option<u8>, half: Option<u8>, byte: u8) -> Option<Heard>
+    ensures { result ≡ stream.by_data_at status half byte }
+{
     match status {
-        0xc0..=0xcf => Some(Heard::Ignored(Kind::Program)),
-        0xd0..=0xdf => Some(Heard::Ignored(Kind::ChannelPressure)),
-        0xf0..=0xff => None,
-        _ => match half {
-            Some(first) => Some(of_two(status, first, byte)),
-            None => None,
-        },
+        Some(status) => by_data(status, half, byte),
+        None => None,
     }
 }
 
@@ -73,11 +106,14 @@ fn by_data(status: u8, half: Option<u8>, byte: u8) -> Option<Heard>
 fn is_open(status: u8, half: Option<u8>) -> bool
     ensures { result ≡ stream.is_open status half }
 {
-    match status {
-        0xf0 => true,
-        0xf1..=0xff => false,
-        0xc0..=0xdf => false,
-        _ => half.is_some(),
+    if status == 0xf0 {
+        true
+    } else if status > 0xf0 {
+        false
+    } else if status >= 0xc0 && status < 0xe0 {
+        false
+    } else {
+        half.is_some()
     }
 }
 
@@ -134,19 +170,14 @@ impl Parser {
     fn add(&mut self, byte: u8)
         ensures status { self.new.status ≡ self.old.status }
         ensures half { self.new.half ≡ stream.joined byte self.old.half }
-        ensures room { length self.old.body.items < MAX_EXCLUSIVE →
-            self.new.is_long ≡ self.old.is_long × self.new.body.items ≡ self.old.body.items ++ byte ∷ [] }
-        ensures full { MAX_EXCLUSIVE ≤ length self.old.body.items → self.new.is_long ≡ true }
-        ensures long { self.old.is_long ≡ true → self.new.is_long ≡ true }
+        ensures long { self.new.is_long ≡ stream.is_more self.old.is_long self.old.body.items }
+        ensures body { self.new.body.items ≡ stream.more byte self.old.body.items }
     {
-        self.half = match self.half {
-            Some(_) => None,
-            None => Some(byte),
-        };
-        if self.body.is_full() {
-            self.is_long = true;
-        } else {
+        self.half = joined(byte, self.half);
+        if self.body.len() < MAX_EXCLUSIVE {
             self.body.push(byte);
+        } else {
+            self.is_long = true;
         }
     }
 
@@ -157,18 +188,22 @@ impl Parser {
         if self.is_long {
             Some(Heard::Ignored(Kind::Long))
         } else {
-            Some(exclusive(&self.body))
+            Some(exclusive(self.body.as_slice()))
         }
     }
 
     // What a status byte finishes.
     fn ended_by(&self, byte: u8) -> Option<Heard>
-        ensures { (past : List ℕ) → stream.IsAfter past self.now
-            → result ≡ stream.by_status_at (stream.status_of past) (stream.run_of past) byte }
+        ensures { result ≡ stream.by_status_in self.now byte }
     {
         match self.status {
-            Some(0xf0) if byte == 0xf7 => self.by_end(),
-            Some(status) => by_status(is_open(status, self.half), byte),
+            Some(status) => {
+                if status == 0xf0 && byte == 0xf7 {
+                    self.by_end()
+                } else {
+                    by_status(is_open(status, self.half), byte)
+                }
+            }
             None => by_status(false, byte),
         }
     }
@@ -179,18 +214,15 @@ impl Parser {
         ensures keeps { stream.KeepsAt self.old byte self.new }
     {
         if byte >= 0xf8 {
-            return Some(Heard::Ignored(Kind::RealTime));
-        }
-        if byte < 0x80 {
-            let heard = match self.status {
-                Some(status) => by_data(status, self.half, byte),
-                None => None,
-            };
+            Some(Heard::Ignored(Kind::RealTime))
+        } else if byte < 0x80 {
+            let heard = by_data_at(self.status, self.half, byte);
             self.add(byte);
-            return heard;
+            heard
+        } else {
+            let heard = self.ended_by(byte);
+            self.begin(byte);
+            heard
         }
-        let heard = self.ended_by(byte);
-        self.begin(byte);
-        heard
     }
 }

@@ -60,9 +60,9 @@ impl Tally {
 
     /// Counts one more. Answers whether it is the first of its kind.
     pub fn count(&mut self, passed: Passed) -> Result<bool, AllocError> {
-        for (kind, count) in self.counts.iter_mut() {
-            if *kind == passed {
-                *count = count.saturating_add(1);
+        for entry in self.counts.iter_mut() {
+            if entry.0 == passed {
+                entry.1 = entry.1.saturating_add(1);
                 return Ok(false);
             }
         }
@@ -73,9 +73,10 @@ impl Tally {
     /// All counts in words, as `20 of notes off, 3 of real time`; empty if nothing was heard.
     pub fn text(&self, alloc: Global) -> Result<String, AllocError> {
         let mut text = String::new(alloc);
-        for (kind, count) in &self.counts {
+        for entry in &self.counts {
             let comma = if text.is_empty() { "" } else { ", " };
-            let words = kind.words(alloc)?;
+            let count = entry.1;
+            let words = entry.0.words(alloc)?;
             let words = words.as_str();
             write!(text, "{comma}{count} of {words}")?;
         }

@@ -67,10 +67,12 @@ fn is_dark(alarm: &Alarm) -> bool {
 
 /// Why no button of the view is lit, if that is so. `port` is that of the controller.
 pub fn trouble_words(alloc: Global, view: &View, port: u16) -> Result<Option<String>, AllocError> {
-    match view.alarms.iter().find(|alarm| is_dark(alarm)) {
-        Some(alarm) => Ok(Some(alarm_words(alloc, *alarm, view.at, port)?)),
-        None => Ok(None),
+    for alarm in &view.alarms {
+        if is_dark(alarm) {
+            return Ok(Some(alarm_words(alloc, *alarm, view.at, port)?));
+        }
     }
+    Ok(None)
 }
 
 // The numbers of the devices that are waited for, with commas.

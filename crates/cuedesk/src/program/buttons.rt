@@ -9,7 +9,7 @@ use cue_desk_line::Buttons;
 use cue_desk_run::{Beat, Desk, Sources};
 use cue_saying::{failed, print, say_fault};
 use panel::Panel;
-use std::alloc::AllocError;
+use std::alloc::{AllocError, Global};
 use std::fs::{File, Files};
 use std::io::{self, Eprint, Write};
 use std::net::Net;
@@ -62,11 +62,12 @@ impl<'a> Ear<'a> {
                 panel.opened(now);
                 panel.line(format_args!("hearing {path}"))?;
             }
-            Err(why) if !self.is_told => {
+            Err(why) => {
+                if !self.is_told {
+                    panel.line(format_args!("{path}: {why}: it is tried again each second"))?;
+                }
                 self.is_told = true;
-                panel.line(format_args!("{path}: {why}: it is tried again each second"))?;
             }
-            Err(_) => {}
         }
         Ok(())
     }
@@ -139,14 +140,14 @@ impl<'a> Ear<'a> {
 }
 
 // Says that the device is opened: if it is held by another program, nothing follows.
-fn say_opening<W: Write>(ear: &mut Ear<'_>, writer: &mut W) -> Result<(), Ending> {
+fn say_opening<W: Write>(alloc: Global, ear: &mut Ear<'_>, writer: &mut W) -> Result<(), Ending> {
     if ear.is_said {
         return Ok(());
     }
     ear.is_said = true;
-    print(writer, "opening ")?;
-    print(writer, ear.path)?;
-    print(writer, "\n")
+    let path = ear.path;
+    let text = format!(in alloc; "opening {path}\n")?;
+    print(writer, text.as_str())
 }
 
 // Opens the device where it is not open, and hears what is there. Answers whether it has ended.
@@ -158,14 +159,15 @@ fn listen<R: Files<File = File> + Net + Clock + AllocGlobal, W: Write>(
     writer: &mut W,
 ) -> Result<bool, Ending> {
     if ear.device.is_none() && ear.tries.is_due(now) {
-        say_opening(ear, writer)?;
+        say_opening(rt.alloc(), ear, writer)?;
         ear.open(rt, panel, now)?;
     }
     panel.begin(now);
-    let silence = match ear.hear(panel)? {
-        Some(silence) => Some(silence),
-        None if ear.is_elsewhere(rt, now) => Some(Silence::Gone(None)),
-        None => None,
+    let heard = ear.hear(panel)?;
+    let silence = if heard.is_none() && ear.is_elsewhere(rt, now) {
+        Some(Silence::Gone(None))
+    } else {
+        heard
     };
     match &silence {
         Some(silence) => Ok(ear.close(panel, silence)?),

@@ -93,9 +93,12 @@ impl<'a, R: Files<File = File> + Net + Clock + Eprint + AllocGlobal> Hand<'a, R>
         }
     }
 
-    // Hears what is there, and waits a moment for more.
+    // Hears what is there. Answers the moment.
     fn round(&mut self) -> Result<u64, Ending> {
-        match self.desk.round().and_then(|()| self.desk.now()) {
+        if let Err(why) = self.desk.round() {
+            return Err(failed(self.rt, &why));
+        }
+        match self.desk.now() {
             Ok(now) => Ok(now),
             Err(why) => Err(failed(self.rt, &why)),
         }

@@ -324,7 +324,10 @@ impl<'a, R: Files<File = File> + Net + Clock + AllocGlobal> Panel<'a, R> {
 
     // Says what became of a press, once it is settled; and that it is open, if that lasts.
     fn say_pending(&mut self) -> Result<(), AllocError> {
-        let (Some(became), Some(pending)) = (self.became(), self.pending.take()) else {
+        let Some(became) = self.became() else {
+            return Ok(());
+        };
+        let Some(pending) = self.pending.take() else {
             return Ok(());
         };
         let is_open = became == Became::Open;
@@ -335,9 +338,12 @@ impl<'a, R: Files<File = File> + Net + Clock + AllocGlobal> Panel<'a, R> {
             self.line(format_args!("{what}: {words}"))?;
         }
         if is_open {
+            let Pending { ask, since, what, is_told } = pending;
             self.pending = Some(Pending {
-                is_told: is_said || pending.is_told,
-                ..pending
+                ask,
+                since,
+                what,
+                is_told: is_said || is_told,
             });
         }
         Ok(())

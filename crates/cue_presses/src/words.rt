@@ -140,6 +140,16 @@ fn each_attempt(alloc: Global, view: &View, cue: Option<CueNo>) -> Result<String
     Ok(text)
 }
 
+// What is said if nothing is live that is meant.
+fn none_words(view: &View, wish: &Wish) -> &'static str {
+    match wish {
+        Wish::Go(None) | Wish::Cancel if view.chosen.is_some() => {
+            "the cue that was stood by last is not live any more"
+        }
+        _ => "this cue does not stand by",
+    }
+}
+
 // What is said of the attempts, or these words if there is none.
 fn attempts_or(
     alloc: Global,
@@ -196,20 +206,22 @@ fn cue_of(view: &View, wish: &Wish) -> Option<CueNo> {
     }
 }
 
+// How far the attempt has come that is meant.
+fn this_words(alloc: Global, view: &View, wish: &Wish) -> Result<String, AllocError> {
+    let none = none_words(view, wish);
+    match cue_of(view, wish) {
+        Some(cue) => attempts_or(alloc, view, Some(cue), none),
+        None => String::from_str(alloc, none),
+    }
+}
+
 /// Why a wish presses nothing, in words. The view is the one that it was looked up in.
 pub fn why_words(alloc: Global, view: &View, wish: &Wish, why: Why) -> Result<String, AllocError> {
     match why {
         Why::NoNext => String::from_str(alloc, no_next_words(view.next)),
         Why::OtherNext => other_next_words(alloc, view.next),
         Why::Nobody => attempts_or(alloc, view, None, "no cue stands by"),
-        Why::IsLive | Why::NotThis => {
-            attempts_or(
-                alloc,
-                view,
-                cue_of(view, wish),
-                "this cue does not stand by",
-            )
-        }
+        Why::IsLive | Why::NotThis => this_words(alloc, view, wish),
         Why::Many => {
             let each = each_attempt(alloc, view, None)?;
             let each = each.as_str();

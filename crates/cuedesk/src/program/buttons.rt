@@ -21,7 +21,7 @@ const PAUSE: u64 = 20;
 /// How many bytes are read at once, and how many times in a round.
 const PIECE: usize = 1_024;
 
-const PIECES: usize = 8;
+const PIECES: usize = 2;
 
 /// How many milliseconds lie between two openings, and between two looks at the path.
 const AGAIN: u64 = 1_000;

@@ -1,5 +1,6 @@
 -- Which bytes are heard as a key that is struck.
-use Rattle.std.proofs.Common.{◌≡◌, ◌∙◌, ℕ, ◌+◌, ◌-◌, ◌<◌, ◌≤◌, ◌++◌, Bool, true, false, List, [], ◌∷◌, IsTrue}
+use Rattle.std.proofs.Common.{◌≡◌, ◌∙◌, ℕ, ◌+◌, ◌-◌, ◌<◌, ◌≤◌, ◌++◌, ◌&&◌, if◌then◌else◌, Bool, true, false, List, []}
+use Rattle.std.proofs.Common.{◌∷◌, IsTrue}
 use Rattle.std.proofs.Common.{Option, None, Some, length, reverse, refl, sym, ap, arith, nat_eq, nat_le, nat_lt}
 use Rattle.std.proofs.lemmas.Bool.Decides.{nat_tests}
 use Rattle.std.specs.List.{list_all}
@@ -56,9 +57,16 @@ struck-is_heard past first second channel note velocity h k few low sounds high 
     let note_low : nat_lt note 128 ≡ true = grind (arith, nat_tests) in
     let vel_low : nat_lt velocity 128 ≡ true = grind (arith, nat_tests) in
     let vel_real : nat_le 248 velocity ≡ false = grind (arith, nat_tests) in
-    rw (real_time-passes (note ∷ first ++ (144 + channel) ∷ past) second velocity k, vel_real, vel_low, note_low,
-    status-passes first ((144 + channel) ∷ past) h, run-passes first ((144 + channel) ∷ past) h, status, early)
-    (struck-two channel note velocity few sounds)
+    real_time-passes (note ∷ first ++ (144 + channel) ∷ past) second velocity k
+    ∙ rw (
+      vel_real,
+      vel_low,
+      note_low,
+      status-passes first ((144 + channel) ∷ past) h,
+      run-passes first ((144 + channel) ∷ past) h,
+      status,
+      early,
+    ) (struck-two channel note velocity few sounds)
 
 -- ---- nothing else is heard as one
 
@@ -171,18 +179,21 @@ no-ended : (is_long : Bool) (body : List ℕ) (channel note velocity : ℕ)
 no-ended true body channel note velocity e = cc
 no-ended false body channel note velocity e = no-said_in (show_in body) channel note velocity e
 
+-- a choice of two that are no key
+neither : (k : Bool) (x : Heard) (o : Option Heard) (channel note velocity : ℕ)
+    → (if k then Some x else o) ≡ Some (heard.NoteOn channel note velocity)
+    → (x ≡ heard.NoteOn channel note velocity → ⊥) → (o ≡ Some (heard.NoteOn channel note velocity) → ⊥) → ⊥
+neither true x o channel note velocity e n m = n (cc)
+neither false x o channel note velocity e n m = m e
+
 no-by_status_at : (status : Option ℕ) (run : List ℕ) (b channel note velocity : ℕ)
     → by_status_at status run b ≡ Some (heard.NoteOn channel note velocity) → ⊥
 no-by_status_at None run b channel note velocity e = no-by_status false b channel note velocity e
-no-by_status_at (Some status) run b channel note velocity e = by (nat_eq status 240) (nat_eq b 247) refl refl
-  where
-    by : (k l : Bool) → nat_eq status 240 ≡ k → nat_eq b 247 ≡ l → ⊥
-    by true true p q =
-        let end : Some (ended run) ≡ Some (heard.NoteOn channel note velocity) = rw (p, q) at e in
-        let bad : ended run ≡ heard.NoteOn channel note velocity = cc in
-        no-ended (nat_lt 256 (length run)) (reverse run) channel note velocity bad
-    by true false p q = no-by_status (is_open status (half_of run)) b channel note velocity (rw (p, q) at e)
-    by false l p q = no-by_status (is_open status (half_of run)) b channel note velocity (rw p at e)
+no-by_status_at (Some status) run b channel note velocity e =
+    neither (nat_eq status 240 && nat_eq b 247) (ended run) (by_status (is_open status (half_of run)) b)
+    channel note velocity e
+    (no-ended (nat_lt 256 (length run)) (reverse run) channel note velocity)
+    (no-by_status (is_open status (half_of run)) b channel note velocity)
 
 pub heard-is_struck : HeardIsStruck
 heard-is_struck past b channel note velocity e = by (nat_le 248 b) (nat_lt b 128) refl refl

@@ -1,7 +1,7 @@
 -- A command of MIDI Show Control, as the data bytes between F0 and F7 spell it.
 use Rattle.std.specs.Prelude.{ℕ, ◌+◌, Bool, ◌&&◌, if◌then◌else◌, List, [], ◌∷◌, Option, None, Some}
-use Rattle.std.specs.Prelude.{length, take, drop, nat_eq, nat_lt}
-use Rattle.std.specs.List.{position_or_len}
+use Rattle.std.specs.Prelude.{◌==◌, take, drop, nat_eq}
+use Rattle.std.specs.List.{position}
 use Rattle.cue_show.specs.Number.{is_cue_number}
 use Rattle.cue_midi.specs.declared.show.Named.{Named}
 use Rattle.cue_midi.specs.declared.show.Named.TheVariants as named
@@ -9,9 +9,9 @@ use Rattle.cue_midi.specs.declared.show.Said.{Said}
 use Rattle.cue_midi.specs.declared.show.Said.TheVariants as said
 use Rattle.cue_midi.specs.declared.show.Show.{Show}
 
--- where the first zero is, which ends the number of the cue; the length if there is none
-abbrev pub zero_at : List ℕ → ℕ
-zero_at bytes = position_or_len (λ b. nat_eq b 0) bytes
+-- where the first zero is, which ends the number of the cue
+abbrev pub zero_in : List ℕ → Option ℕ
+zero_in bytes = position (λ b. b == 0) bytes
 
 -- the cue that is named by this text: digits and points
 abbrev pub cue_named : List ℕ → Named
@@ -23,10 +23,12 @@ of_list text list =
     if is_cue_number text then if is_cue_number list then named.OfList text list else named.Unfit else named.Unfit
 
 -- what names a cue that stands there: with a zero, a list follows
+abbrev pub split_at : List ℕ → Option ℕ → Named
+split_at bytes None = cue_named bytes
+split_at bytes (Some at) = of_list (take at bytes) (drop (at + 1) bytes)
+
 abbrev pub named_by : List ℕ → Named
-named_by bytes =
-    if nat_lt (zero_at bytes) (length bytes) then of_list (take (zero_at bytes) bytes) (drop (zero_at bytes + 1) bytes)
-    else cue_named bytes
+named_by bytes = split_at bytes (zero_in bytes)
 
 -- the cue that stands after a command
 abbrev pub named_in : List ℕ → Named

@@ -44,14 +44,11 @@ const GO: u8 = 0x01;
 
 const LOAD: u8 = 0x05;
 
-// Where the first zero is; the length if there is none.
-fn zero_at(bytes: &[u8]) -> usize
-    ensures { result ≡ show.zero_at bytes.now }
+// Where the first zero is, if there is one.
+fn zero_in(bytes: &[u8]) -> Option<usize>
+    ensures { result ≡ show.zero_in bytes.now }
 {
-    match bytes.iter().position(|byte| *byte == 0) {
-        Some(at) => at,
-        None => bytes.len(),
-    }
+    bytes.iter().position(|byte| *byte == 0)
 }
 
 // The cue whose number this text is.
@@ -77,18 +74,23 @@ fn of_list(text: &[u8], list: &[u8]) -> Named
     }
 }
 
+// The cue that stands there, perhaps with its list after a zero.
+fn named_by(bytes: &[u8]) -> Named
+    ensures { result ≡ show.named_by bytes.now }
+{
+    match zero_in(bytes) {
+        Some(at) => of_list(&bytes[..at], &bytes[at + 1..]),
+        None => cue_named(bytes),
+    }
+}
+
 // The cue that stands after a command.
 fn named_in(bytes: &[u8]) -> Named
     ensures { result ≡ show.named_in bytes.now }
 {
-    if bytes.is_empty() {
-        return Named::Nothing;
-    }
-    let at = zero_at(bytes);
-    if at < bytes.len() {
-        of_list(&bytes[..at], &bytes[at + 1..])
-    } else {
-        cue_named(bytes)
+    match bytes {
+        [] => Named::Nothing,
+        [_, ..] => named_by(bytes),
     }
 }
 

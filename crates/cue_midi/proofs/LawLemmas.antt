@@ -57,7 +57,7 @@ struck-is_heard past first second channel note velocity h k few low sounds high 
     let note_low : nat_lt note 128 ≡ true = grind (arith, nat_tests) in
     let vel_low : nat_lt velocity 128 ≡ true = grind (arith, nat_tests) in
     let vel_real : nat_le 248 velocity ≡ false = grind (arith, nat_tests) in
-    real_time-passes (note ∷ first ++ (144 + channel) ∷ past) second velocity k
+    real_time-passes (note ∷ (first ++ ((144 + channel) ∷ past))) second velocity k
     ∙ rw (
       vel_real,
       vel_low,

@@ -14,7 +14,7 @@ abbrev pub StruckIsHeard : Type 0
 StruckIsHeard =
     (past first second : List ℕ) (channel note velocity : ℕ) → IsTrue (list_all is_real_time first)
     → IsTrue (list_all is_real_time second) → channel < 16 → note < 128 → 0 < velocity → velocity < 128
-    → heard_at (second ++ note ∷ first ++ (144 + channel) ∷ past) velocity ≡ Some (heard.NoteOn channel note velocity)
+    → heard_at (second ++ (note ∷ (first ++ ((144 + channel) ∷ past)))) velocity ≡ Some (heard.NoteOn channel note velocity)
 
 -- It is heard at nothing else: at a data byte above 0, after the status byte of its channel and its note.
 pub record IsStruck (past : List ℕ) (b channel note velocity : ℕ) : Type 0 where

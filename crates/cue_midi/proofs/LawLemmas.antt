@@ -7,9 +7,9 @@ use Rattle.std.specs.List.{list_all}
 use Rattle.cue_show.proofs.TestLemmas.{both}
 use Rattle.cue_midi.specs.Laws.{HeardIsStruck, IsStruck, RealTimePasses, StruckIsHeard}
 use Rattle.cue_midi.specs.Show.{show_in}
-use Rattle.cue_midi.specs.Stream.{status_of, run_of, half_of, joined, is_real_time, is_data, heard_at, by_data_at, by_data}
-use Rattle.cue_midi.specs.Stream.{by_second, of_two, note_on, by_status_at, by_status, is_open, ended, ended_by, said_in}
-use Rattle.cue_midi.specs.Stream.{exclusive}
+use Rattle.cue_midi.specs.Stream.{status_of, run_of, half_of, joined, is_real_time, is_data, heard_at, by_data_at}
+use Rattle.cue_midi.specs.Stream.{by_data, by_second, of_two, note_on, by_status_at, by_status, is_open, ended}
+use Rattle.cue_midi.specs.Stream.{ended_by, said_in, exclusive}
 use Rattle.cue_midi.specs.declared.heard.Heard.{Heard}
 use Rattle.cue_midi.specs.declared.heard.Heard.TheVariants as heard
 use Rattle.cue_midi.specs.declared.heard.Kind.TheVariants as kind

@@ -4,8 +4,8 @@ use Rattle.std.proofs.Common.{Option, None, Some, length, reverse, refl, sym, ap
 use Rattle.std.proofs.lemmas.Bool.Decides.{nat_tests}
 use Rattle.std.proofs.lemmas.List.{length-reverse, reverse-append}
 use Rattle.cue_midi.specs.Stream.{status_of, run_of, half_of, joined, ended_by, ended, is_more, more, by_status}
-use Rattle.cue_midi.specs.Stream.{by_data_at, by_status_kept, by_status_at, heard_at, is_open, IsAfter, HearsAt, KeepsAt}
-use Rattle.cue_midi.specs.Stream.{by_status_in}
+use Rattle.cue_midi.specs.Stream.{by_data_at, by_status_kept, by_status_at, heard_at, is_open, IsAfter}
+use Rattle.cue_midi.specs.Stream.{by_status_in, HearsAt, KeepsAt}
 use Rattle.cue_midi.specs.declared.heard.Heard.TheVariants as heard
 use Rattle.cue_midi.specs.declared.heard.Kind.TheVariants as kind
 use Rattle.cue_midi.specs.declared.parser.Parser.{Parser}

@@ -1,6 +1,6 @@
 -- What a stream of MIDI bytes spells. The bytes are listed with the newest first.
-use Rattle.std.specs.Prelude.{◌≡◌, ℕ, ◌-◌, Bool, true, false, ◌&&◌, ◌||◌, if◌then◌else◌, List, [], ◌∷◌, ◌++◌, Option, None, Some}
-use Rattle.std.specs.Prelude.{length, reverse, nat_eq, nat_le, nat_lt, is_some}
+use Rattle.std.specs.Prelude.{◌≡◌, ℕ, ◌-◌, Bool, true, false, ◌&&◌, ◌||◌, if◌then◌else◌, List, [], ◌∷◌, ◌++◌}
+use Rattle.std.specs.Prelude.{Option, None, Some, length, reverse, nat_eq, nat_le, nat_lt, is_some}
 use Rattle.cue_midi.specs.Show.{show_in}
 use Rattle.cue_midi.specs.declared.heard.Heard.{Heard}
 use Rattle.cue_midi.specs.declared.heard.Heard.TheVariants as heard
@@ -50,7 +50,8 @@ note_on channel note velocity =
 -- a message of a status byte and two data bytes
 abbrev pub of_two : ℕ → ℕ → ℕ → Heard
 of_two status first last =
-    if nat_lt status 144 then heard.Ignored kind.NoteOff else if nat_lt status 160 then note_on (status - 144) first last
+    if nat_lt status 144 then heard.Ignored kind.NoteOff
+    else if nat_lt status 160 then note_on (status - 144) first last
     else if nat_lt status 176 then heard.Ignored kind.KeyPressure
     else if nat_lt status 192 then heard.Controller (status - 176) first last else heard.Ignored kind.PitchBend
 

@@ -65,7 +65,8 @@ cancel_of chosen (sole.One seq cue) nobody =
     Ok (record { choose = choose_by chosen seq; button = button.Cancel cue seq })
 cancel_of chosen sole.Many nobody = Err why.Many
 
--- GO that names no cue: of the attempt that is chosen, and of no other; if none is chosen, of the only one that is ready
+-- GO that names no cue: of the attempt that is chosen, and of no other; if none is chosen, of the only one that is
+-- ready
 abbrev pub go_by : Option ℕ → List LiveAttempt → Result Press Why
 go_by None live = go_of None (sole_of wanted.Ready live) why.Nobody
 go_by (Some seq) live = go_of (Some seq) (chosen_of wanted.Ready seq live) why.NotThis

@@ -12,6 +12,11 @@ use std::alloc::{AllocError, Global};
 /// How long `--wait` waits at most, in seconds: a cue that is stood by has no longer.
 const MOST: u64 = 10;
 
+/// What is said where neither a cue nor the store is named.
+const NO_STORE: &str =
+    "wants the number of a cue, as 12.5; or else the folder of the store, to see which cue it is: \
+--store show, or `export CUEDESK_STORE=show`";
+
 /// What is pressed by a word, at a desk without a browser.
 #[derive(Drop)]
 pub struct Pressed {
@@ -105,11 +110,7 @@ fn dir_in(
 ) -> Result<String, LineFault> {
     match found.get_str("store").or(environment) {
         Some(dir) => Ok(String::from_str(alloc, dir)?),
-        None => Err(unfit(
-            alloc,
-            name,
-            "wants the number of a cue, as 12.5; or else the folder of the store, to see which cue it is: --store show, or `export CUEDESK_STORE=show`",
-        )),
+        None => Err(unfit(alloc, name, NO_STORE)),
     }
 }
 

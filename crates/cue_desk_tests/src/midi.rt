@@ -2,7 +2,7 @@
 use cue_midi::{Heard, Kind, Named, Parser, Said, Show};
 use cue_presses::{
     Address, Held, Key, Keys, Settling, Spoken, Wish, held_after, is_of_keys, is_second_tap,
-    spoken, wish_of,
+    spoken_to, wish_of,
 };
 use cue_show::CueNo;
 use std::alloc::{AllocError, Global};
@@ -88,12 +88,12 @@ fn the_go_of_a_lighting_desk(rt: HostRuntime) {
         format: 1,
         list: None,
     };
-    assert!(rt; spoken(&address, &show) == Spoken::OtherList);
+    assert!(rt; spoken_to(&address, &show) == Spoken::OtherList);
     address.list = Some(cue(b"1").expect(&rt, "memory"));
     let wish = Wish::Go(Some(cue(b"10").expect(&rt, "memory")));
-    assert!(rt; spoken(&address, &show) == Spoken::Wish(wish));
+    assert!(rt; spoken_to(&address, &show) == Spoken::Wish(wish));
     address.format = 0x20;
-    assert!(rt; spoken(&address, &show) == Spoken::Elsewhere);
+    assert!(rt; spoken_to(&address, &show) == Spoken::Elsewhere);
 }
 
 // The bytes of an exclusive message with so many data bytes.

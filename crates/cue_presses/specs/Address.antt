@@ -43,5 +43,5 @@ said_to list (said.Load named) = load_by list named
 said_to list (said.Other command) = spoken.OtherCommand command
 
 -- what a command is to the desk with this address
-abbrev pub spoken : Address → Show → Spoken
-spoken a s = if is_for a.id s.id && is_for a.format s.format then said_to a.list s.said else spoken.Elsewhere
+abbrev pub spoken_to : Address → Show → Spoken
+spoken_to a s = if is_for a.id s.id && is_for a.format s.format then said_to a.list s.said else spoken.Elsewhere

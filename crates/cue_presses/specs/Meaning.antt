@@ -9,13 +9,13 @@ use Rattle.cue_view.specs.declared.view.LiveAttempt.{LiveAttempt}
 use Rattle.cue_view.specs.declared.view.Next.{Next}
 use Rattle.cue_view.specs.declared.view.Next.TheVariants as next
 use Rattle.cue_view.specs.declared.view.View.{View}
-use Rattle.cue_presses.specs.declared.meaning.Press.{Press}
-use Rattle.cue_presses.specs.declared.meaning.Sole.{Sole}
-use Rattle.cue_presses.specs.declared.meaning.Sole.TheVariants as sole
-use Rattle.cue_presses.specs.declared.meaning.Wanted.{Wanted}
-use Rattle.cue_presses.specs.declared.meaning.Wanted.TheVariants as wanted
-use Rattle.cue_presses.specs.declared.meaning.Why.{Why}
-use Rattle.cue_presses.specs.declared.meaning.Why.TheVariants as why
+use Rattle.cue_presses.specs.declared.pressing.Press.{Press}
+use Rattle.cue_presses.specs.declared.pressing.Sole.{Sole}
+use Rattle.cue_presses.specs.declared.pressing.Sole.TheVariants as sole
+use Rattle.cue_presses.specs.declared.pressing.Wanted.{Wanted}
+use Rattle.cue_presses.specs.declared.pressing.Wanted.TheVariants as wanted
+use Rattle.cue_presses.specs.declared.pressing.Why.{Why}
+use Rattle.cue_presses.specs.declared.pressing.Why.TheVariants as why
 use Rattle.cue_presses.specs.declared.wish.Wish.{Wish}
 use Rattle.cue_presses.specs.declared.wish.Wish.TheVariants as wish
 

@@ -1,6 +1,6 @@
 //! Which commands of show control are for this desk, and what they wish.
 ghost use Rattle.std.specs.Prelude.{◌≡◌};
-ghost use Rattle.cue_presses.specs.Address as address;
+ghost use Rattle.cue_presses.specs.Address as rule;
 
 use crate::wish::Wish;
 use cue_midi::{Named, Said, Show};
@@ -38,14 +38,14 @@ pub enum Spoken {
 
 // Whether this is the number, or that of all.
 fn is_for(number: u8, wanted: u8) -> bool
-    ensures { result ≡ address.is_for number wanted }
+    ensures { result ≡ rule.is_for number wanted }
 {
     wanted == number || wanted == ALL
 }
 
 // Whether the list is this one.
 fn is_list(list: &Option<CueNo>, named: &CueNo) -> bool
-    ensures { result ≡ address.is_list list.now named.now }
+    ensures { result ≡ rule.is_list list.now named.now }
 {
     match list {
         Some(list) => list == named,
@@ -55,7 +55,7 @@ fn is_list(list: &Option<CueNo>, named: &CueNo) -> bool
 
 // What a GO wishes.
 fn go_by(list: &Option<CueNo>, named: &Named) -> Spoken
-    ensures { result ≡ address.go_by list.now named.now }
+    ensures { result ≡ rule.go_by list.now named.now }
 {
     match named {
         Named::Nothing => Spoken::Wish(Wish::Go(None)),
@@ -73,7 +73,7 @@ fn go_by(list: &Option<CueNo>, named: &Named) -> Spoken
 
 // What a LOAD wishes.
 fn load_by(list: &Option<CueNo>, named: &Named) -> Spoken
-    ensures { result ≡ address.load_by list.now named.now }
+    ensures { result ≡ rule.load_by list.now named.now }
 {
     match named {
         Named::Nothing => Spoken::NoCue,
@@ -90,8 +90,8 @@ fn load_by(list: &Option<CueNo>, named: &Named) -> Spoken
 }
 
 /// What a command of show control is to the desk with this address.
-pub fn spoken(address: &Address, show: &Show) -> Spoken
-    ensures { result ≡ address.spoken address.now show.now }
+pub fn spoken_to(address: &Address, show: &Show) -> Spoken
+    ensures { result ≡ rule.spoken_to address.now show.now }
 {
     if !(is_for(address.id, show.id) && is_for(address.format, show.format)) {
         return Spoken::Elsewhere;

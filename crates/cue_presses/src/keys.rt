@@ -1,6 +1,6 @@
 //! The keys of a real desk: notes and controllers.
 ghost use Rattle.std.specs.Prelude.{◌≡◌};
-ghost use Rattle.cue_presses.specs.Keys as keys;
+ghost use Rattle.cue_presses.specs.Keys as rule;
 
 use crate::wish::Wish;
 use cue_midi::Heard;
@@ -35,7 +35,7 @@ pub const PRESSED: u8 = 64;
 
 // Whether the key is pressed by what is heard.
 fn is_pressed(key: Key, is_held: bool, heard: &Heard) -> bool
-    ensures { result ≡ keys.is_pressed key is_held heard.now }
+    ensures { result ≡ rule.is_pressed key is_held heard.now }
 {
     match (key, heard) {
         (Key::Note(wanted), Heard::NoteOn { note, .. }) => *note == wanted,
@@ -48,7 +48,7 @@ fn is_pressed(key: Key, is_held: bool, heard: &Heard) -> bool
 
 // Whether the key is held after what is heard.
 fn is_held_after(key: Key, is_held: bool, heard: &Heard) -> bool
-    ensures { result ≡ keys.is_held_after key is_held heard.now }
+    ensures { result ≡ rule.is_held_after key is_held heard.now }
 {
     match (key, heard) {
         (Key::Controller(wanted), Heard::Controller { number, value, .. }) => {
@@ -64,7 +64,7 @@ fn is_held_after(key: Key, is_held: bool, heard: &Heard) -> bool
 
 /// What is wished by what is heard; none where no key is pressed.
 pub fn wish_of(keys: &Keys, held: &Held, heard: &Heard) -> Option<Wish>
-    ensures { result ≡ keys.wish_of keys.now held.now heard.now }
+    ensures { result ≡ rule.wish_of keys.now held.now heard.now }
 {
     if is_pressed(keys.standby, held.standby, heard) {
         Some(Wish::Standby(None))
@@ -79,7 +79,7 @@ pub fn wish_of(keys: &Keys, held: &Held, heard: &Heard) -> Option<Wish>
 
 /// Which keys are held after what is heard.
 pub fn held_after(keys: &Keys, held: &Held, heard: &Heard) -> Held
-    ensures { result ≡ keys.held_after keys.now held.now heard.now }
+    ensures { result ≡ rule.held_after keys.now held.now heard.now }
 {
     Held {
         standby: is_held_after(keys.standby, held.standby, heard),
@@ -90,7 +90,7 @@ pub fn held_after(keys: &Keys, held: &Held, heard: &Heard) -> Held
 
 // Whether it is of the key.
 fn is_of(key: Key, heard: &Heard) -> bool
-    ensures { result ≡ keys.is_of key heard.now }
+    ensures { result ≡ rule.is_of key heard.now }
 {
     match (key, heard) {
         (Key::Note(wanted), Heard::NoteOn { note, .. }) => *note == wanted,
@@ -101,7 +101,7 @@ fn is_of(key: Key, heard: &Heard) -> bool
 
 /// Whether what is heard is of one of the keys, be it pressed or not.
 pub fn is_of_keys(keys: &Keys, heard: &Heard) -> bool
-    ensures { result ≡ keys.is_of_keys keys.now heard.now }
+    ensures { result ≡ rule.is_of_keys keys.now heard.now }
 {
     is_of(keys.standby, heard) || is_of(keys.go, heard) || is_of(keys.cancel, heard)
 }

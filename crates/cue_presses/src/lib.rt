@@ -21,17 +21,17 @@
 pub mod address;
 pub mod ending;
 pub mod keys;
-pub mod meaning;
+pub mod pressing;
 pub mod settling;
 pub mod tally;
 pub mod taps;
 pub mod wish;
 mod words;
 
-pub use address::{Address, Spoken, spoken};
+pub use address::{Address, Spoken, spoken_to};
 pub use ending::ending_by;
 pub use keys::{Held, Key, Keys, held_after, is_of_keys, wish_of};
-pub use meaning::{Press, Why, is_hopeless, is_lit, meaning};
+pub use pressing::{Press, Why, is_hopeless, is_lit, meaning};
 pub use settling::Settling;
 pub use tally::{Passed, Tally};
 pub use taps::is_second_tap;

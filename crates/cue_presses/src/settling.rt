@@ -1,6 +1,6 @@
 //! Which bytes of a device may press.
 ghost use Rattle.std.specs.Prelude.{◌≡◌};
-ghost use Rattle.cue_presses.specs.Settling as settling;
+ghost use Rattle.cue_presses.specs.Settling as rule;
 
 /// How long after its opening what a device gives is only heard, in milliseconds.
 pub const SETTLE_MS: u64 = 100;
@@ -19,7 +19,7 @@ pub struct Settling {
 impl Settling {
     /// The device is opened at this moment.
     pub fn new(now: u64) -> Settling
-        ensures { result ≡ settling.opened now }
+        ensures { result ≡ rule.opened now }
     {
         Settling {
             from: now.saturating_add(SETTLE_MS),
@@ -29,7 +29,7 @@ impl Settling {
 
     /// It is read at this moment: since when what it gives may press.
     pub fn read(self, now: u64) -> Settling
-        ensures { result ≡ settling.read self now }
+        ensures { result ≡ rule.read self now }
     {
         if now.saturating_sub(self.last) > AWAY_MS {
             return Settling::new(now);
@@ -42,7 +42,7 @@ impl Settling {
 
     /// Whether what was read last may press.
     pub fn is_over(&self) -> bool
-        ensures { result ≡ settling.is_over self.now }
+        ensures { result ≡ rule.is_over self.now }
     {
         self.from <= self.last
     }

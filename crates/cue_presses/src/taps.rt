@@ -1,6 +1,6 @@
 //! Two taps of one finger.
 ghost use Rattle.std.specs.Prelude.{◌≡◌};
-ghost use Rattle.cue_presses.specs.Taps as taps;
+ghost use Rattle.cue_presses.specs.Taps as rule;
 
 use crate::wish::Wish;
 
@@ -9,7 +9,7 @@ pub const TAP_MS: u64 = 1_000;
 
 /// Whether the wish is the second tap of a GO that was pressed at this moment.
 pub fn is_second_tap(wish: &Wish, last: Option<u64>, now: u64) -> bool
-    ensures { result ≡ taps.is_second_tap wish.now last now }
+    ensures { result ≡ rule.is_second_tap wish.now last now }
 {
     match (wish, last) {
         (Wish::Go(None), Some(last)) => now.saturating_sub(last) < TAP_MS,

@@ -1,7 +1,7 @@
 //! Wishes, keys and presses in words, and why nothing is pressed.
 use crate::address::Spoken;
 use crate::keys::Key;
-use crate::meaning::Why;
+use crate::pressing::Why;
 use crate::wish::Wish;
 use cue_board::alarm_words;
 use cue_exchange::{Answer, Answers, Stage};

@@ -129,7 +129,8 @@ impl<'a, R: Files<File = File> + Net + Clock + Eprint + AllocGlobal> Hand<'a, R>
         let trouble = trouble_words(alloc, self.desk.view(), self.port)?;
         let words = match &trouble {
             Some(words) => words.as_str(),
-            None => "serve says otherwise than the store: a change is under way, or it has other files",
+            None =>
+                "serve says otherwise than the store: a change is under way, or it has other files",
         };
         let wish = wish.as_str();
         say(self.rt, format_args!("{wish}: {words}: nothing was sent"));

@@ -6,7 +6,7 @@ use cue_desk_run::{Beat, Desk};
 use cue_midi::{Heard, Parser, Show};
 use cue_presses::{
     Held, Passed, Press, Settling, Spoken, Tally, Why, Wish, button_words, held_after, is_of_keys,
-    is_second_tap, key_words, meaning, spoken, spoken_words, trouble_words, why_words, wish_of,
+    is_second_tap, key_words, meaning, spoken_to, spoken_words, trouble_words, why_words, wish_of,
     wish_words,
 };
 use cue_view::button::Button;
@@ -15,10 +15,9 @@ use mio::Registry;
 use std::alloc::AllocError;
 use std::fmt::{Display, Write as _};
 use std::fs::{File, Files};
-use std::io;
-use std::mem;
 use std::net::Net;
 use std::time::Clock;
+use std::{io, mem};
 
 /// How many presses are heard in a round: nobody has more fingers.
 const MAX_PRESSES: u32 = 8;
@@ -143,7 +142,9 @@ impl<'a, R: Files<File = File> + Net + Clock + AllocGlobal> Panel<'a, R> {
         let go = key_words(alloc, keys.go)?;
         let cancel = key_words(alloc, keys.cancel)?;
         let (standby, go, cancel) = (standby.as_str(), go.as_str(), cancel.as_str());
-        self.line(format_args!("{standby} is STANDBY, {go} is GO, {cancel} is CANCEL; Ctrl-C ends it"))
+        self.line(format_args!(
+            "{standby} is STANDBY, {go} is GO, {cancel} is CANCEL; Ctrl-C ends it"
+        ))
     }
 
     /// Says what was heard and is no key.
@@ -209,7 +210,7 @@ impl<'a, R: Files<File = File> + Net + Clock + AllocGlobal> Panel<'a, R> {
 
     // Takes a command of show control.
     fn take_show(&mut self, show: &Show) -> Result<(), AllocError> {
-        match spoken(&self.buttons.address, show) {
+        match spoken_to(&self.buttons.address, show) {
             Spoken::Wish(wish) => self.wish("show control", &wish),
             Spoken::Elsewhere => self.pass(Passed::Elsewhere),
             other => {
@@ -243,7 +244,9 @@ impl<'a, R: Files<File = File> + Net + Clock + AllocGlobal> Panel<'a, R> {
             return Ok(());
         }
         if is_second_tap(wish, self.last_go, self.now) {
-            return self.line(format_args!("{source}: GO: a second tap within a second: nothing is sent"));
+            return self.line(format_args!(
+                "{source}: GO: a second tap within a second: nothing is sent"
+            ));
         }
         match meaning(self.desk.view(), self.desk.awaits(), wish) {
             Ok(press) => self.press(source, &press),
@@ -331,14 +334,20 @@ impl<'a, R: Files<File = File> + Net + Clock + AllocGlobal> Panel<'a, R> {
             return Ok(());
         };
         let is_open = became == Became::Open;
-        let is_said = !is_open || (!pending.is_told && self.now.saturating_sub(pending.since) > OPEN);
+        let is_said = !is_open
+            || (!pending.is_told && self.now.saturating_sub(pending.since) > OPEN);
         if is_said {
             let words = became_words(self.rt.alloc(), became, self.port)?;
             let (what, words) = (pending.what.as_str(), words.as_str());
             self.line(format_args!("{what}: {words}"))?;
         }
         if is_open {
-            let Pending { ask, since, what, is_told } = pending;
+            let Pending {
+                ask,
+                since,
+                what,
+                is_told,
+            } = pending;
             self.pending = Some(Pending {
                 ask,
                 since,
@@ -353,7 +362,9 @@ impl<'a, R: Files<File = File> + Net + Clock + AllocGlobal> Panel<'a, R> {
     fn say_dropped(&mut self) -> Result<(), AllocError> {
         if self.waited > 0 && self.settling.is_over() {
             let waited = mem::replace(&mut self.waited, 0);
-            self.line(format_args!("{waited} presses waited in the device, nobody knows how long: dropped"))?;
+            self.line(format_args!(
+                "{waited} presses waited in the device, nobody knows how long: dropped"
+            ))?;
         }
         if self.flooded > 0 && self.floods.is_due(self.now) {
             let flooded = mem::replace(&mut self.flooded, 0);

@@ -1,6 +1,6 @@
 //! Which buttons of a view a wish presses.
 ghost use Rattle.std.specs.Prelude.{◌≡◌};
-ghost use Rattle.cue_presses.specs.Meaning as meaning;
+ghost use Rattle.cue_presses.specs.Meaning as rule;
 
 use crate::wish::Wish;
 use cue_show::CueNo;
@@ -55,7 +55,7 @@ pub enum Sole {
 
 // Whether the attempt is as it is wanted.
 fn fits(wanted: &Wanted, attempt: &LiveAttempt) -> bool
-    ensures { result ≡ meaning.fits wanted.now attempt.now }
+    ensures { result ≡ rule.fits wanted.now attempt.now }
 {
     match wanted {
         Wanted::Ready => attempt.ready,
@@ -66,7 +66,7 @@ fn fits(wanted: &Wanted, attempt: &LiveAttempt) -> bool
 
 // One attempt more that is as it is wanted.
 fn joined(attempt: &LiveAttempt, others: Sole) -> Sole
-    ensures { result ≡ meaning.joined attempt.now others }
+    ensures { result ≡ rule.joined attempt.now others }
 {
     match others {
         Sole::Nobody => Sole::One(attempt.seq, attempt.cue),
@@ -76,7 +76,7 @@ fn joined(attempt: &LiveAttempt, others: Sole) -> Sole
 
 // How many of the live attempts are as they are wanted.
 fn sole_of(wanted: &Wanted, live: &[LiveAttempt]) -> Sole
-    ensures { result ≡ meaning.sole_of wanted.now live.now }
+    ensures { result ≡ rule.sole_of wanted.now live.now }
 {
     match live {
         [] => Sole::Nobody,
@@ -93,7 +93,7 @@ fn sole_of(wanted: &Wanted, live: &[LiveAttempt]) -> Sole
 
 // The attempt with this number, if it is as it is wanted.
 fn chosen_of(wanted: &Wanted, seq: u32, live: &[LiveAttempt]) -> Sole
-    ensures { result ≡ meaning.chosen_of wanted.now seq live.now }
+    ensures { result ≡ rule.chosen_of wanted.now seq live.now }
 {
     match live {
         [] => Sole::Nobody,
@@ -109,7 +109,7 @@ fn chosen_of(wanted: &Wanted, seq: u32, live: &[LiveAttempt]) -> Sole
 
 // What has to be chosen first.
 fn choose_by(chosen: Option<u32>, seq: u32) -> Option<u32>
-    ensures { result ≡ meaning.choose_by chosen seq }
+    ensures { result ≡ rule.choose_by chosen seq }
 {
     match chosen {
         Some(chosen) if chosen == seq => None,
@@ -119,7 +119,7 @@ fn choose_by(chosen: Option<u32>, seq: u32) -> Option<u32>
 
 // GO of the only attempt.
 fn go_of(chosen: Option<u32>, sole: Sole, nobody: Why) -> Result<Press, Why>
-    ensures { result ≡ meaning.go_of chosen sole nobody }
+    ensures { result ≡ rule.go_of chosen sole nobody }
 {
     match sole {
         Sole::Nobody => Err(nobody),
@@ -133,7 +133,7 @@ fn go_of(chosen: Option<u32>, sole: Sole, nobody: Why) -> Result<Press, Why>
 
 // CANCEL of the only attempt.
 fn cancel_of(chosen: Option<u32>, sole: Sole, nobody: Why) -> Result<Press, Why>
-    ensures { result ≡ meaning.cancel_of chosen sole nobody }
+    ensures { result ≡ rule.cancel_of chosen sole nobody }
 {
     match sole {
         Sole::Nobody => Err(nobody),
@@ -147,7 +147,7 @@ fn cancel_of(chosen: Option<u32>, sole: Sole, nobody: Why) -> Result<Press, Why>
 
 // GO that names no cue: of the chosen attempt, else of the only one that is ready.
 fn go_alone(view: &View, is_awaited: bool) -> Result<Press, Why>
-    ensures { result ≡ meaning.go_alone view.now.chosen is_awaited view.now.live.items }
+    ensures { result ≡ rule.go_alone view.now.chosen is_awaited view.now.live.items }
 {
     let wanted = Wanted::Ready;
     if is_awaited {
@@ -165,7 +165,7 @@ fn go_alone(view: &View, is_awaited: bool) -> Result<Press, Why>
 
 // CANCEL: of the chosen attempt, else of the only one that prepares.
 fn cancel_alone(view: &View, is_awaited: bool) -> Result<Press, Why>
-    ensures { result ≡ meaning.cancel_alone view.now.chosen is_awaited view.now.live.items }
+    ensures { result ≡ rule.cancel_alone view.now.chosen is_awaited view.now.live.items }
 {
     let wanted = Wanted::Preparing;
     if is_awaited {
@@ -183,14 +183,14 @@ fn cancel_alone(view: &View, is_awaited: bool) -> Result<Press, Why>
 
 // Whether something is live at the cue.
 fn is_live(cue: &CueNo, live: &[LiveAttempt]) -> bool
-    ensures { result ≡ meaning.is_live cue.now live.now }
+    ensures { result ≡ rule.is_live cue.now live.now }
 {
     live.iter().any(|attempt| attempt.cue == *cue)
 }
 
 // STANDBY of the cue that is next.
 fn standby_of(cue: &CueNo, live: &[LiveAttempt]) -> Result<Press, Why>
-    ensures { result ≡ meaning.standby_of cue.now live.now }
+    ensures { result ≡ rule.standby_of cue.now live.now }
 {
     if is_live(cue, live) {
         return Err(Why::IsLive);
@@ -203,7 +203,7 @@ fn standby_of(cue: &CueNo, live: &[LiveAttempt]) -> Result<Press, Why>
 
 // Whether the cue may be meant by who names this one, or none.
 fn is_meant(named: &Option<CueNo>, cue: &CueNo) -> bool
-    ensures { result ≡ meaning.is_meant named.now cue.now }
+    ensures { result ≡ rule.is_meant named.now cue.now }
 {
     match named {
         Some(named) => named == cue,
@@ -213,7 +213,7 @@ fn is_meant(named: &Option<CueNo>, cue: &CueNo) -> bool
 
 // STANDBY, perhaps with a cue.
 fn standby_by(view: &View, named: &Option<CueNo>) -> Result<Press, Why>
-    ensures { result ≡ meaning.standby_by view.now.next view.now.live.items named.now }
+    ensures { result ≡ rule.standby_by view.now.next view.now.live.items named.now }
 {
     match &view.next {
         Next::Cue(cue) => {
@@ -229,7 +229,7 @@ fn standby_by(view: &View, named: &Option<CueNo>) -> Result<Press, Why>
 
 /// What a wish presses, by this view; else why nothing. `is_awaited`: a STANDBY of this desk awaits its attempt.
 pub fn meaning(view: &View, is_awaited: bool, wish: &Wish) -> Result<Press, Why>
-    ensures { result ≡ meaning.meaning view.now is_awaited wish.now }
+    ensures { result ≡ rule.meaning view.now is_awaited wish.now }
 {
     match wish {
         Wish::Standby(named) => standby_by(view, named),
@@ -252,14 +252,14 @@ pub fn is_lit(view: &View, press: &Press) -> bool {
 
 // Whether an attempt prepares that may be meant by who names this cue, or none.
 fn may_come(named: &Option<CueNo>, live: &[LiveAttempt]) -> bool
-    ensures { result ≡ meaning.may_come named.now live.now }
+    ensures { result ≡ rule.may_come named.now live.now }
 {
     live.iter().any(|attempt| attempt.stage.is_preparing() && is_meant(named, &attempt.cue))
 }
 
 /// Whether it is no use to wait: no attempt prepares that the wish could be of.
 pub fn is_hopeless(view: &View, wish: &Wish, why: &Why) -> bool
-    ensures { result ≡ meaning.is_hopeless view.now wish.now why.now }
+    ensures { result ≡ rule.is_hopeless view.now wish.now why.now }
 {
     match (wish, why) {
         (Wish::Go(named), Why::Nobody | Why::NotThis) => !may_come(named, &view.live),

@@ -17,7 +17,7 @@ is_note n _ = false
 
 -- a controller is pressed when it rises: it was not held
 abbrev pub rises : ℕ → Bool → Heard → Bool
-rises n is_held (heard.Controller channel number value) = nat_eq number n && nat_le PRESSED value && not is_held
+rises n is_held (heard.Controller channel number value) = (nat_eq number n && nat_le PRESSED value) && not is_held
 rises n is_held _ = false
 
 abbrev pub is_pressed : Key → Bool → Heard → Bool

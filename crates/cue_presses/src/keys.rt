@@ -33,16 +33,51 @@ pub struct Held {
 /// The value of a controller from which on it is pressed.
 pub const PRESSED: u8 = 64;
 
+// Whether the note is struck.
+fn is_note(wanted: u8, heard: &Heard) -> bool
+    ensures { result ≡ rule.is_note wanted heard.now }
+{
+    match heard {
+        Heard::NoteOn { note, .. } => *note == wanted,
+        Heard::Controller { .. } | Heard::Show(_) | Heard::Ignored(_) => false,
+    }
+}
+
+// Whether the controller rises.
+fn rises(wanted: u8, is_held: bool, heard: &Heard) -> bool
+    ensures { result ≡ rule.rises wanted is_held heard.now }
+{
+    match heard {
+        Heard::Controller { number, value, .. } => {
+            *number == wanted && *value >= PRESSED && !is_held
+        }
+        Heard::NoteOn { .. } | Heard::Show(_) | Heard::Ignored(_) => false,
+    }
+}
+
 // Whether the key is pressed by what is heard.
 fn is_pressed(key: Key, is_held: bool, heard: &Heard) -> bool
     ensures { result ≡ rule.is_pressed key is_held heard.now }
 {
-    match (key, heard) {
-        (Key::Note(wanted), Heard::NoteOn { note, .. }) => *note == wanted,
-        (Key::Controller(wanted), Heard::Controller { number, value, .. }) => {
-            *number == wanted && *value >= PRESSED && !is_held
+    match key {
+        Key::Note(wanted) => is_note(wanted, heard),
+        Key::Controller(wanted) => rises(wanted, is_held, heard),
+    }
+}
+
+// Whether the controller is held after what is heard.
+fn stays(wanted: u8, is_held: bool, heard: &Heard) -> bool
+    ensures { result ≡ rule.stays wanted is_held heard.now }
+{
+    match heard {
+        Heard::Controller { number, value, .. } => {
+            if *number == wanted {
+                *value >= PRESSED
+            } else {
+                is_held
+            }
         }
-        _ => false,
+        Heard::NoteOn { .. } | Heard::Show(_) | Heard::Ignored(_) => is_held,
     }
 }
 
@@ -50,15 +85,9 @@ fn is_pressed(key: Key, is_held: bool, heard: &Heard) -> bool
 fn is_held_after(key: Key, is_held: bool, heard: &Heard) -> bool
     ensures { result ≡ rule.is_held_after key is_held heard.now }
 {
-    match (key, heard) {
-        (Key::Controller(wanted), Heard::Controller { number, value, .. }) => {
-            if *number == wanted {
-                *value >= PRESSED
-            } else {
-                is_held
-            }
-        }
-        _ => is_held,
+    match key {
+        Key::Note(_) => is_held,
+        Key::Controller(wanted) => stays(wanted, is_held, heard),
     }
 }
 
@@ -88,14 +117,23 @@ pub fn held_after(keys: &Keys, held: &Held, heard: &Heard) -> Held
     }
 }
 
+// Whether it is of the controller.
+fn is_controller(wanted: u8, heard: &Heard) -> bool
+    ensures { result ≡ rule.is_controller wanted heard.now }
+{
+    match heard {
+        Heard::Controller { number, .. } => *number == wanted,
+        Heard::NoteOn { .. } | Heard::Show(_) | Heard::Ignored(_) => false,
+    }
+}
+
 // Whether it is of the key.
 fn is_of(key: Key, heard: &Heard) -> bool
     ensures { result ≡ rule.is_of key heard.now }
 {
-    match (key, heard) {
-        (Key::Note(wanted), Heard::NoteOn { note, .. }) => *note == wanted,
-        (Key::Controller(wanted), Heard::Controller { number, .. }) => *number == wanted,
-        _ => false,
+    match key {
+        Key::Note(wanted) => is_note(wanted, heard),
+        Key::Controller(wanted) => is_controller(wanted, heard),
     }
 }
 

@@ -112,8 +112,8 @@ fn choose_by(chosen: Option<u32>, seq: u32) -> Option<u32>
     ensures { result ≡ rule.choose_by chosen seq }
 {
     match chosen {
-        Some(chosen) if chosen == seq => None,
-        _ => Some(seq),
+        Some(chosen) => { if chosen == seq { None } else { Some(seq) } }
+        None => Some(seq),
     }
 }
 
@@ -257,12 +257,22 @@ fn may_come(named: &Option<CueNo>, live: &[LiveAttempt]) -> bool
     live.iter().any(|attempt| attempt.stage.is_preparing() && is_meant(named, &attempt.cue))
 }
 
+// Whether it is no use that a GO waits.
+fn is_hopeless_go(named: &Option<CueNo>, live: &[LiveAttempt], why: &Why) -> bool
+    ensures { result ≡ rule.is_hopeless_go named.now live.now why.now }
+{
+    match why {
+        Why::Nobody | Why::NotThis => !may_come(named, live),
+        Why::NoNext | Why::OtherNext | Why::IsLive | Why::Many | Why::Awaited => true,
+    }
+}
+
 /// Whether it is no use to wait: no attempt prepares that the wish could be of.
 pub fn is_hopeless(view: &View, wish: &Wish, why: &Why) -> bool
     ensures { result ≡ rule.is_hopeless view.now wish.now why.now }
 {
-    match (wish, why) {
-        (Wish::Go(named), Why::Nobody | Why::NotThis) => !may_come(named, &view.live),
-        _ => true,
+    match wish {
+        Wish::Go(named) => is_hopeless_go(named, &view.live, why),
+        Wish::Standby(_) | Wish::Cancel => true,
     }
 }

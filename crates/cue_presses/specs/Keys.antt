@@ -61,4 +61,4 @@ is_of (key.Note n) h = is_note n h
 is_of (key.Controller n) h = is_controller n h
 
 abbrev pub is_of_keys : Keys → Heard → Bool
-is_of_keys k h = is_of k.standby h || (is_of k.go h || is_of k.cancel h)
+is_of_keys k h = (is_of k.standby h || is_of k.go h) || is_of k.cancel h

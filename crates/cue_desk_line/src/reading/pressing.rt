@@ -1,5 +1,8 @@
 //! The words `standby` and `go` without a number, and `go --wait`: a press at the desk.
 
+ghost use Rattle.std.specs.Prelude.{IfOk, IfSome, codes};
+ghost use Rattle.cue_desk_line.specs.Orders.{IsPressedBy};
+
 use super::commands::{option, port};
 use super::words::Line;
 use super::{cue_in, port_in};
@@ -119,13 +122,15 @@ fn standby_in(
     alloc: Global,
     found: &ArgMatches<'_>,
     environment: Option<&str>,
-) -> Result<Pressed, LineFault> {
-    Ok(Pressed {
+) -> Result<Line, LineFault>
+    ensures { IfOk result (IsPressedBy (codes "standby")) }
+{
+    Ok(Line::Press(Pressed {
         wish: Wish::Standby(None),
         dir: dir_in(alloc, found, "standby", environment)?,
         wait: None,
         port: port_in(alloc, found)?,
-    })
+    }))
 }
 
 // The command `go` without a number, or that waits.
@@ -133,13 +138,15 @@ fn go_in(
     alloc: Global,
     found: &ArgMatches<'_>,
     environment: Option<&str>,
-) -> Result<Pressed, LineFault> {
-    Ok(Pressed {
+) -> Result<Line, LineFault>
+    ensures { IfOk result (IsPressedBy (codes "go")) }
+{
+    Ok(Line::Press(Pressed {
         wish: Wish::Go(some_cue_in(alloc, found)?),
         dir: dir_in(alloc, found, "go", environment)?,
         wait: wait_in(alloc, found.get_str("wait"))?,
         port: port_in(alloc, found)?,
-    })
+    }))
 }
 
 /// The commands `standby` without a number, and `go` without one or with `--wait`; none where it is another one, which
@@ -149,13 +156,15 @@ pub fn pressed_in(
     name: &str,
     found: &ArgMatches<'_>,
     environment: Option<&str>,
-) -> Option<Result<Line, LineFault>> {
+) -> Option<Result<Line, LineFault>>
+    ensures { IfSome result (λ line. IfOk line (IsPressedBy name.now)) }
+{
     match name {
         "standby" if found.get_str("CUE").is_none() => {
-            Some(standby_in(alloc, found, environment).map(Line::Press))
+            Some(standby_in(alloc, found, environment))
         }
         "go" if found.get_str("CUE").is_none() || found.get_str("wait").is_some() => {
-            Some(go_in(alloc, found, environment).map(Line::Press))
+            Some(go_in(alloc, found, environment))
         }
         _ => None,
     }

@@ -2,9 +2,8 @@
 use cue_desk::ending::Ending;
 use cue_exchange::{Answer, Answers, DeviceAnswer, Stage};
 use cue_midi::Kind;
-use cue_presses::{
-    Passed, Press, Tally, Why, Wish, ending_by, is_hopeless, is_lit, meaning, why_words,
-};
+use cue_press_words::{ending_by, why_words};
+use cue_presses::{Passed, Press, Tally, Why, Wish, is_hopeless, is_lit, meaning};
 use cue_show::{CueNo, DeviceNo};
 use cue_view::button::Button;
 use cue_view::view::{Became, LiveAttempt, Next, Stack, View};

@@ -1,5 +1,4 @@
 pub mod Address
-pub mod Endings
 pub mod Keys
 pub mod Meaning
 pub mod Settling

@@ -15,25 +15,21 @@
 //! - Nobody can say how long a byte has waited in a device. So what is there in the first tenth of a second after it
 //!   was opened, or after a second in which nobody read, is heard and not pressed.
 //!
-//! Only tested: the words.
+//! Only tested: what is counted.
 #![tactic(auto)]
 
 pub mod address;
-pub mod ending;
 pub mod keys;
 pub mod pressing;
 pub mod settling;
 pub mod tally;
 pub mod taps;
 pub mod wish;
-mod words;
 
 pub use address::{Address, Spoken, spoken_to};
-pub use ending::ending_by;
 pub use keys::{Held, Key, Keys, held_after, is_of_keys, wish_of};
 pub use pressing::{Press, Why, is_hopeless, is_lit, meaning};
 pub use settling::Settling;
 pub use tally::{Passed, Tally};
 pub use taps::is_second_tap;
 pub use wish::Wish;
-pub use words::{button_words, key_words, spoken_words, trouble_words, why_words, wish_words};

@@ -5,10 +5,8 @@ use cue_buttons_run::{Outcome, press_at};
 use cue_desk::ending::Ending;
 use cue_desk_line::Pressed;
 use cue_desk_run::{Desk, Sources};
-use cue_presses::{
-    Press, Why, button_words, ending_by, is_hopeless, is_lit, meaning, trouble_words, why_words,
-    wish_words,
-};
+use cue_press_words::{button_words, ending_by, trouble_words, why_words, wish_words};
+use cue_presses::{Press, Why, is_hopeless, is_lit, meaning};
 use cue_saying::{failed, print, say};
 use cue_view::view::{Became, Unsent};
 use std::alloc::AllocError;

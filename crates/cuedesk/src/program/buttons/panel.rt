@@ -4,10 +4,12 @@ use cue_buttons_run::{Outcome, press_at};
 use cue_desk_line::Buttons;
 use cue_desk_run::{Beat, Desk};
 use cue_midi::{Heard, Parser, Show};
+use cue_press_words::{
+    button_words, key_words, spoken_words, trouble_words, why_words, wish_words,
+};
 use cue_presses::{
-    Held, Passed, Press, Settling, Spoken, Tally, Why, Wish, button_words, held_after, is_of_keys,
-    is_second_tap, key_words, meaning, spoken_to, spoken_words, trouble_words, why_words, wish_of,
-    wish_words,
+    Held, Passed, Press, Settling, Spoken, Tally, Why, Wish, held_after, is_of_keys, is_second_tap,
+    meaning, spoken_to, wish_of,
 };
 use cue_view::button::Button;
 use cue_view::view::{Became, Unsent};

@@ -1,6 +1,6 @@
 //! How a command ends that pressed a button.
 ghost use Rattle.std.specs.Prelude.{◌≡◌};
-ghost use Rattle.cue_presses.specs.Endings.{ending_by};
+ghost use Rattle.cue_press_words.specs.Endings.{ending_by};
 
 use cue_desk::ending::Ending;
 use cue_view::view::Became;

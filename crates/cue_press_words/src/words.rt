@@ -1,10 +1,7 @@
 //! Wishes, keys and presses in words, and why nothing is pressed.
-use crate::address::Spoken;
-use crate::keys::Key;
-use crate::pressing::Why;
-use crate::wish::Wish;
 use cue_board::alarm_words;
 use cue_exchange::{Answer, Answers, Stage};
+use cue_presses::{Key, Spoken, Why, Wish};
 use cue_show::CueNo;
 use cue_view::button::Button;
 use cue_view::view::{Alarm, LiveAttempt, Next, View};

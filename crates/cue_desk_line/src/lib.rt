@@ -3,7 +3,9 @@
 
 mod reading;
 
+pub use reading::buttons::Buttons;
 pub use reading::line;
+pub use reading::pressing::Pressed;
 pub use reading::rehearsing::{Flags, Rehearsal, with_flags};
 pub use reading::reporting::Report;
 pub use reading::web::Web;

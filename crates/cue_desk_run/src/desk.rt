@@ -7,6 +7,7 @@ use crate::relay::read_young;
 use cue_core::State;
 use cue_report::AskerName;
 use cue_station::heard::{Heard, Input, Send};
+use cue_station::memory::Choice;
 use cue_station::station::{Station, Step};
 use cue_view::button::Button;
 use cue_view::view::{Alarm, View};
@@ -220,6 +221,11 @@ impl<'a, R: Files<File = File> + Net + Clock + AllocGlobal> Desk<'a, R> {
     pub fn wait(&mut self, most: u64) -> io::Result<()> {
         self.poll
             .poll(&mut self.events, Some(Duration::from_millis(most)))
+    }
+
+    /// Whether the attempt of the last STANDBY is not shown yet: it is chosen as soon as it is.
+    pub fn awaits(&self) -> bool {
+        matches!(self.station.notes.choice, Choice::Awaited(_, _))
     }
 
     /// Whether the status that was answered last is not of the store that was read last, as for a moment after each

@@ -1,5 +1,5 @@
 //! Tests of the desk over public calls: show files and how they are loaded, what is asked and replied, the board, the
-//! page, rehearsed devices, the relay and the report.
+//! page, rehearsed devices, the relay, the report, and the keys of a real desk.
 #![tactic(auto)]
 
 #[cfg(test)]
@@ -13,7 +13,11 @@ mod loadings;
 #[cfg(test)]
 mod messages;
 #[cfg(test)]
+mod midi;
+#[cfg(test)]
 mod pages;
+#[cfg(test)]
+mod presses;
 #[cfg(test)]
 mod rehearsals;
 #[cfg(test)]

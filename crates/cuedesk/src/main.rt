@@ -37,7 +37,7 @@ fn words(rt: &HostRuntime) -> io::Result<Vec<String>> {
     Ok(env::args(rt)?.collect(rt.alloc())?)
 }
 
-// What this variable of the environment says, where it is set. What is no text is no port and no name either.
+// What this variable of the environment says, where it is set. What is no text is no port, no folder and no name either.
 fn said(rt: &HostRuntime, variable: &str) -> io::Result<Option<String>> {
     match env::var(rt, variable) {
         Ok(text) => Ok(Some(text)),
@@ -51,14 +51,16 @@ fn said(rt: &HostRuntime, variable: &str) -> io::Result<Option<String>> {
 fn perform(rt: &HostRuntime) -> io::Result<u8> {
     let words = words(rt)?;
     let port = said(rt, "CUEDESK_PORT")?;
+    let store = said(rt, "CUEDESK_STORE")?;
     let name = said(rt, "CUEDESK_AS")?;
     let environment = Environment {
         port: port.as_deref(),
+        store: store.as_deref(),
         name: name.as_deref(),
     };
     let is_terminal = rt.stdout().is_terminal();
     let mut writer = BufWriter::new(rt.alloc(), io::writer(rt))?;
-    Ok(program::perform(rt, &words, environment, is_terminal, &mut writer))
+    Ok(program::perform(rt, &words, &environment, is_terminal, &mut writer))
 }
 
 fn main(rt: HostRuntime) -> ExitCode {

@@ -6,8 +6,10 @@ ghost use Rattle.cue_desk.specs.declared.line.LineFault.TheVariants.{Memory};
 
 mod beside;
 mod board;
+mod buttons;
 mod files;
 mod loading;
+mod next;
 mod orders;
 mod rehearsing;
 mod relaying;
@@ -16,6 +18,7 @@ mod web;
 mod wire;
 
 use board::{show_board, window_of};
+use buttons::hear_buttons;
 use cue_desk::ending::Ending;
 use cue_desk::line::LineFault;
 use cue_desk::ports::{PORT, controller_port};
@@ -24,6 +27,7 @@ use cue_saying::{print, say};
 use cue_show_file::ShowFile;
 use files::{check_file, export};
 use loading::{Loaded, load};
+use next::press_word;
 use orders::carry_order;
 use rehearsing::rehearse;
 use relaying::relay_devices;
@@ -105,6 +109,8 @@ fn carry_out<R: Files<File = File> + Net + Clock + RandomSource + Eprint + Alloc
             show_board(rt, watched, window_of(is_once, *rows), writer)
         }
         Line::Web(web) => serve_page(rt, web, writer),
+        Line::Buttons(buttons) => hear_buttons(rt, buttons, writer),
+        Line::Press(pressed) => press_word(rt, pressed, writer),
         Line::Rehearse(rehearsal) => rehearse(rt, rehearsal, writer),
         Line::Relay { file, port, status } => {
             relay_devices(rt, file.as_str(), *port, status.as_deref(), writer)
@@ -118,12 +124,12 @@ fn carry_out<R: Files<File = File> + Net + Clock + RandomSource + Eprint + Alloc
 
 /// Carries a command line out, the program's name first, and answers the exit status: 0 where it is done, 1 where the
 /// controller refuses or a show file has mistakes, 2 where the command line is not understood, 3 where nobody
-/// replies or the machine fails. Why stands on standard error. The environment says the port of the controller, and who
-/// asks, where the command line does not.
+/// replies or the machine fails. Why stands on standard error. The environment says the port of the controller, the
+/// folder of the store, and who asks, where the command line does not.
 pub fn perform<R: Files<File = File> + Net + Clock + RandomSource + Eprint + AllocGlobal, W: Write>(
     rt: &R,
     words: &[String],
-    environment: Environment<'_>,
+    environment: &Environment<'_>,
     is_terminal: bool,
     writer: &mut W,
 ) -> u8 {

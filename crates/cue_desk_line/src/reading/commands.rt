@@ -1,4 +1,6 @@
 //! The commands, as `clap` knows them.
+use super::buttons::buttons_command;
+use super::pressing::{go_command, standby_command};
 use super::rehearsing::rehearse;
 use super::reporting::{asker, report};
 use super::web::web_command;
@@ -21,7 +23,7 @@ pub(super) fn port_or_file<'a>(alloc: Global) -> Arg<'a> {
 }
 
 /// The port of the controller, of a command that reads no show file.
-fn port<'a>(alloc: Global) -> Arg<'a> {
+pub(super) fn port<'a>(alloc: Global) -> Arg<'a> {
     let help = "The controller's port at 127.0.0.1; else CUEDESK_PORT says it, or it is 9100";
     option(alloc, "port", help).value_parser(value_parser!(u16))
 }
@@ -204,16 +206,12 @@ fn with_files<'a>(alloc: Global, command: Command<'a>) -> Result<Command<'a>, Al
 // The commands that go on until Ctrl-C.
 fn with_views<'a>(alloc: Global, command: Command<'a>) -> Result<Command<'a>, AllocError> {
     let command = with(with(command, board(alloc))?, web_command(alloc))?;
+    let command = with(command, buttons_command(alloc))?;
     with(with(command, rehearse(alloc))?, relay(alloc))
 }
 
-// The commands that ask something of a cue.
-const OF_CUE: [(&str, &str); 4] = [
-    (
-        "standby",
-        "Have the devices of a cue stand by:  cuedesk standby 12.5",
-    ),
-    ("go", "Give a cue that is stood by:  cuedesk go 12.5"),
+// The commands that ask something of a cue, and have its number.
+const OF_CUE: [(&str, &str); 2] = [
     (
         "cancel",
         "Give the preparation of a cue up:  cuedesk cancel 12.5",
@@ -223,7 +221,7 @@ const OF_CUE: [(&str, &str); 4] = [
 
 // The commands of an evening that are of a cue.
 fn with_cues<'a>(alloc: Global, command: Command<'a>) -> Result<Command<'a>, AllocError> {
-    let mut command = command;
+    let mut command = with(with(command, standby_command(alloc))?, go_command(alloc))?;
     for (name, about) in OF_CUE {
         command = with(command, of_cue(alloc, name, about))?;
     }

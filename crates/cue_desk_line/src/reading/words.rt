@@ -1,9 +1,22 @@
 //! What a command line can say.
+use super::buttons::Buttons;
+use super::pressing::Pressed;
 use super::rehearsing::Rehearsal;
 use super::reporting::Report;
 use super::web::Web;
 use cue_desk::orders::Order;
 use cue_report::AskerName;
+
+/// What the environment says, where a command line does not.
+#[derive(Clone, Copy)]
+pub struct Environment<'a> {
+    /// CUEDESK_PORT: the port of the controller.
+    pub port: Option<&'a str>,
+    /// CUEDESK_STORE: the folder of the store.
+    pub store: Option<&'a str>,
+    /// CUEDESK_AS: who asks.
+    pub name: Option<&'a str>,
+}
 
 /// What a board is made of: the paths of what it reads.
 #[derive(Drop)]
@@ -18,15 +31,6 @@ pub struct Watched {
     pub relay: Option<String>,
     /// The port of the controller, where the command line or the environment says it.
     pub port: Option<u16>,
-}
-
-/// What a window says for all its commands, if it says something.
-#[derive(Clone, Copy)]
-pub struct Environment<'a> {
-    /// CUEDESK_PORT: the port of the controller.
-    pub port: Option<&'a str>,
-    /// CUEDESK_AS: who asks.
-    pub name: Option<&'a str>,
 }
 
 /// What becomes of what is in the store already.
@@ -69,6 +73,10 @@ pub enum Line {
     },
     /// Show the board of a folder with buttons in a browser.
     Web(Web),
+    /// Hear a real desk.
+    Buttons(Buttons),
+    /// Press a button at a desk without a browser.
+    Press(Pressed),
     /// Play every device of a show file.
     Rehearse(Rehearsal),
     /// Stand between the controller and the devices of this show file that are on the stage's network.
@@ -97,6 +105,8 @@ impl Line {
             }
             Line::Board { watched, .. } => Some(&mut watched.port),
             Line::Web(web) => Some(&mut web.port),
+            Line::Buttons(buttons) => Some(&mut buttons.port),
+            Line::Press(pressed) => Some(&mut pressed.port),
             Line::Check { .. } | Line::Export { .. } => None,
             Line::Rehearse(_) | Line::Report(_) => None,
         }
@@ -107,6 +117,8 @@ impl Line {
         match self {
             Line::Ask { name, .. } => Some(name),
             Line::Web(web) => Some(&mut web.name),
+            Line::Buttons(buttons) => Some(&mut buttons.name),
+            Line::Press(pressed) => Some(&mut pressed.name),
             Line::Check { .. } | Line::Export { .. } | Line::Load { .. } => None,
             Line::Board { .. } | Line::Rehearse(_) | Line::Relay { .. } | Line::Report(_) => None,
         }

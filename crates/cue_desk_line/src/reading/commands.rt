@@ -2,7 +2,7 @@
 use super::buttons::buttons_command;
 use super::pressing::{go_command, standby_command};
 use super::rehearsing::rehearse;
-use super::reporting::{asker, report};
+use super::reporting::{asker, report_command};
 use super::web::web_command;
 use clap::{Arg, ArgAction, Command, value_parser};
 use std::alloc::{AllocError, Global};
@@ -200,7 +200,7 @@ fn with<'a>(
 // The commands that read or write a show file, and end.
 fn with_files<'a>(alloc: Global, command: Command<'a>) -> Result<Command<'a>, AllocError> {
     let command = with(with(command, check(alloc))?, load(alloc))?;
-    with(with(command, export(alloc))?, report(alloc))
+    with(with(command, export(alloc))?, report_command(alloc))
 }
 
 // The commands that go on until Ctrl-C.

@@ -18,7 +18,7 @@ pub struct Report {
 }
 
 /// The command `report`.
-pub fn report<'a>(alloc: Global) -> Result<Command<'a>, AllocError> {
+pub fn report_command<'a>(alloc: Global) -> Result<Command<'a>, AllocError> {
     let about =
         "Tell an evening by the log of serve:  cuedesk report evening.log evening.toml --html >evening.html";
     let log = Arg::new(alloc, "LOG")

@@ -53,17 +53,17 @@ choose_by (Some chosen) seq = if nat_eq chosen seq then None else Some seq
 
 -- GO of the only attempt
 abbrev pub go_of : Option ℕ → Sole → Why → Result Press Why
-go_of chosen sole.Nobody nobody = Err nobody
-go_of chosen (sole.One seq cue) nobody =
+go_of chosen sole.Nobody refusal = Err refusal
+go_of chosen (sole.One seq cue) refusal =
     Ok (record { choose = choose_by chosen seq; button = button.Go cue seq })
-go_of chosen sole.Many nobody = Err why.Many
+go_of chosen sole.Many refusal = Err why.Many
 
 -- CANCEL of the only attempt
 abbrev pub cancel_of : Option ℕ → Sole → Why → Result Press Why
-cancel_of chosen sole.Nobody nobody = Err nobody
-cancel_of chosen (sole.One seq cue) nobody =
+cancel_of chosen sole.Nobody refusal = Err refusal
+cancel_of chosen (sole.One seq cue) refusal =
     Ok (record { choose = choose_by chosen seq; button = button.Cancel cue seq })
-cancel_of chosen sole.Many nobody = Err why.Many
+cancel_of chosen sole.Many refusal = Err why.Many
 
 -- GO that names no cue: of the attempt that is chosen, and of no other; if none is chosen, of the only one that is
 -- ready

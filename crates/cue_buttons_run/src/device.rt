@@ -1,4 +1,7 @@
 //! A device that gives bytes.
+ghost use Rattle.std.specs.Prelude.{◌≡◌};
+ghost use Rattle.cue_buttons_run.specs.Waiting.{found_nothing};
+
 use mio::unix::SourceFd;
 use mio::{Interest, Registry, Token};
 use std::fs::{self, File, Files, Metadata, OpenOptions};
@@ -35,6 +38,13 @@ struct Node {
 pub struct Device {
     file: File,
     node: Node,
+}
+
+// Whether a call that failed so only found nothing at this moment.
+fn found_nothing(kind: ErrorKind) -> bool
+    ensures { result ≡ found_nothing kind }
+{
+    matches!(kind, ErrorKind::WouldBlock | ErrorKind::Interrupted)
 }
 
 // What names the file of which the system says this.
@@ -96,10 +106,8 @@ impl Device {
         match self.file.read(room) {
             Ok(0) => Came::Ended,
             Ok(n) => Came::Bytes(n),
-            Err(why) => match why.kind() {
-                ErrorKind::WouldBlock | ErrorKind::Interrupted => Came::Nothing,
-                _ => Came::Gone(why),
-            },
+            Err(why) if found_nothing(why.kind()) => Came::Nothing,
+            Err(why) => Came::Gone(why),
         }
     }
 }

@@ -37,7 +37,7 @@ fn words(rt: &HostRuntime) -> io::Result<Vec<String>> {
     Ok(env::args(rt)?.collect(rt.alloc())?)
 }
 
-// What this variable of the environment says, where it is set. What is no text is no port, no folder and no name either.
+// What this variable of the environment says, if it is set. What is no text is no port, no folder and no name either.
 fn said(rt: &HostRuntime, variable: &str) -> io::Result<Option<String>> {
     match env::var(rt, variable) {
         Ok(text) => Ok(Some(text)),

@@ -101,8 +101,8 @@ fn tell<R: Eprint + AllocGlobal, W: Write>(
     }
 }
 
-/// Asks one thing of the controller, once, and says in words what it replied, within a second. Who asks is said first, if
-/// there is a name.
+/// Asks one thing of the controller, once, and says in words what it replied, within a second. Who asks is said first,
+/// if there is a name.
 pub fn carry_order<R: Net + Clock + Eprint + AllocGlobal, W: Write>(
     rt: &R,
     order: Order,

@@ -92,30 +92,6 @@ fn standby_is_of_the_cue_that_is_next(rt: HostRuntime) {
     assert!(rt; meaning(&view, false, &Wish::Standby(None)) == Err(Why::IsLive));
 }
 
-// GO of attempt 30 at cue 6.
-fn go_of_6(choose: Option<u32>) -> Result<Press, AllocError> {
-    Ok(Press {
-        choose,
-        button: Button::Go(cue(b"6")?, 30),
-    })
-}
-
-#[test]
-fn go_is_of_the_only_one_that_is_ready(rt: HostRuntime) {
-    let alloc = rt.alloc();
-    let mut view = busy(alloc, false).expect(&rt, "memory");
-    let press = go_of_6(Some(30)).expect(&rt, "memory");
-    assert!(rt; meaning(&view, false, &Wish::Go(None)) == Ok(press));
-    assert!(rt; meaning(&view, true, &Wish::Go(None)) == Err(Why::Awaited));
-    assert!(rt; meaning(&view, false, &Wish::Go(cue(b"6").ok())) == Ok(press));
-    assert!(rt; meaning(&view, false, &Wish::Go(cue(b"8").ok())) == Err(Why::NotThis));
-    view.chosen = Some(31);
-    assert!(rt; meaning(&view, false, &Wish::Go(None)) == Err(Why::NotThis));
-    view.chosen = Some(30);
-    let chosen = go_of_6(None).expect(&rt, "memory");
-    assert!(rt; meaning(&view, false, &Wish::Go(None)) == Ok(chosen));
-}
-
 #[test]
 fn go_of_two_is_refused_by_name(rt: HostRuntime) {
     let alloc = rt.alloc();

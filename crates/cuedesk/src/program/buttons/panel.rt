@@ -250,7 +250,17 @@ impl<'a, R: Files<File = File> + Net + Clock + AllocGlobal> Panel<'a, R> {
                 "{source}: GO: a second tap within a second: nothing is sent"
             ));
         }
-        match meaning(self.desk.view(), self.desk.awaits(), wish) {
+        self.press_meant(source, wish)
+    }
+
+    // What a wish presses at this moment, or why it presses nothing.
+    fn meant(&self, wish: &Wish) -> Result<Press, Why> {
+        meaning(self.desk.view(), self.desk.awaits(), wish)
+    }
+
+    // Presses what a wish means, or says why that is nothing.
+    fn press_meant(&mut self, source: &str, wish: &Wish) -> Result<(), AllocError> {
+        match self.meant(wish) {
             Ok(press) => self.press(source, &press),
             Err(why) => self.refuse(source, wish, why),
         }

@@ -2,7 +2,7 @@
 use crate::visitor::Asking;
 use cue_board::Names;
 use cue_desk_run::Desk;
-use cue_page::board::view_text;
+use cue_page::board::{Manner, view_text};
 use cue_page::page::{page_text, policy};
 use cue_request::answering::{Kind, NOTHING, Outcome, answer, refusal_words};
 use cue_request::replying::trouble_text;
@@ -84,7 +84,13 @@ impl<'a> Pages<'a> {
         if self.drawn == Some(view.number) {
             return Ok(());
         }
-        self.text = view_text(alloc, view, &self.names, self.run.as_str())?;
+        let manner = Manner {
+            run: self.run.as_str(),
+            is_locked: false,
+            is_read_only: false,
+            told: None,
+        };
+        self.text = view_text(alloc, view, &self.names, &manner)?;
         self.drawn = Some(view.number);
         Ok(())
     }

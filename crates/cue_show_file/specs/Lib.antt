@@ -1,4 +1,5 @@
 pub mod Accepted
+pub mod Marks
 pub mod Reading
 pub mod Reviewed
 pub mod Routes

@@ -32,6 +32,8 @@ fn cue_entry(number: CueNo, parts: &Parts) -> Result<CueEntry, AllocError>
         number,
         name: None,
         note: None,
+        color: None,
+        flag: None,
         parts: parts.clone()?,
     })
 }

@@ -99,6 +99,8 @@ fn read_cue(
                 number,
                 name,
                 note,
+                color: None,
+                flag: None,
                 parts,
             })?;
             Ok(())

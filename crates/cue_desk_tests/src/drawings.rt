@@ -7,8 +7,7 @@ use cue_show::{CueNo, DeviceNo};
 use cue_show_file::{ShowFile, read};
 use cue_view::button::Button;
 use cue_view::view::{
-    Alarm, Became, Contacted, Devices, LastHeard, LiveAttempt, Next, Said, Stack, Told, Unsent,
-    View,
+    Alarm, Became, Contacted, Devices, LastHeard, LiveAttempt, Next, Said, Told, Unsent, View,
 };
 use std::alloc::{AllocError, Global};
 
@@ -16,7 +15,7 @@ use std::alloc::{AllocError, Global};
 const FILE: &str = "[[device]]\nnumber = 9\nport = 9001\nname = \"Flugwerk\"\n\n\
 [[device]]\nnumber = 22\nport = 9002\nname = \"Fog\"\n\n\
 [[cue]]\nnumber = \"6\"\nname = \"Königin der Nacht\"\nparts = [\n  { device = 9 },\n]\n\n\
-[[cue]]\nnumber = \"7\"\nname = \"Arie\"\nnote = \"wait for the lamp\"\nparts = [\n  { device = 9 },\n]\n";
+[[cue]]\nnumber = \"7\"\nname = \"Arie\"\nnote = \"wait for the lamp\"\ncolor = \"blue\"\nflag = \"danger\"\nparts = [\n  { device = 9 },\n]\n";
 
 fn cue(text: &[u8]) -> Result<CueNo, AllocError> {
     CueNo::read(text).ok_or(AllocError)
@@ -78,11 +77,7 @@ fn view(alloc: Global) -> Result<View, AllocError> {
         served: Some(4_100),
         next: Next::Cue(cue(b"7")?),
         place: Some(cue(b"7")?),
-        stack: Stack {
-            cues,
-            before: 0,
-            after: 3,
-        },
+        stack: cues,
         live: attempts,
         chosen: Some(31),
         lit: Vec::new(alloc),
@@ -227,6 +222,10 @@ fn ready_is_what_the_view_calls_ready(rt: HostRuntime) {
     }
 }
 
+/// What the file says of cue 7.
+const NAMED: &str =
+    "{\"color\":\"blue\",\"cue\":\"7\",\"flag\":\"danger\",\"name\":\"Arie\",\"note\":\"wait for the lamp\"}";
+
 /// The facts of the view as JSON.
 const FACTS: &str =
     "\"view\":{\"alarms\":[{\"kind\":\"silent\",\"of\":0,\"words\":\"nobody listens at 127.0.0.1:9100: serve \
@@ -234,10 +233,10 @@ is not running there\"}],\"chosen\":31,\"last\":{\"attempt\":30,\"cue\":\"6\",\"
 \"reason\":\"\"},\"lit\":[{\"attempt\":31,\"cue\":\"7\",\"device\":null,\"kind\":\"go\",\"press\":\"go 7 31\"},{\"attempt\":31,\
 \"cue\":null,\"device\":22,\"kind\":\"release\",\"press\":\"release 31 22\"}],\"live\":[{\"attempt\":31,\"cue\":\"7\",\"devices\":[\
 {\"answer\":\"ready\",\"device\":9,\"optional\":false},{\"answer\":\"waiting\",\"device\":22,\"optional\":true}],\"given\":null,\
-\"left\":8250,\"ready\":false,\"reason\":\"\",\"stage\":\"preparing\"}],\"network\":[{\"device\":9,\"heard\":\"silent, heard 7 s ago\",\
+\"left\":8250,\"ready\":false,\"reason\":\"\",\"stage\":\"preparing\"}],\"moves\":true,\"network\":[{\"device\":9,\"heard\":\"silent, heard 7 s ago\",\
 \"silent\":true}],\"next\":{\"cue\":\"7\",\"why\":\"\"},\"number\":12,\"past\":[],\"read\":200,\"said\":{\"ask\":4,\"kind\":\"open\",\
-\"press\":\"standby 7\",\"words\":\"open: nobody has replied yet; it may still be carried out\"},\"served\":900,\"stack\":{\"after\":3,\
-\"before\":0,\"cues\":[\"6\",\"7\"]},\"unsent\":\"not sent: the button was not lit\"}}";
+\"press\":\"standby 7\",\"words\":\"open: nobody has replied yet; it may still be carried out\"},\"served\":900,\"stack\":[\"6\",\
+\"7\"],\"unsent\":\"not sent: the button was not lit\"}}";
 
 // The view with something of each kind.
 fn full_view(alloc: Global) -> Result<View, AllocError> {
@@ -245,6 +244,8 @@ fn full_view(alloc: Global) -> Result<View, AllocError> {
     view.alarms.push(Alarm::NobodyListens)?;
     view.lit.push(Button::Go(cue(b"7")?, 31))?;
     view.lit.push(Button::Release(31, device(22)?))?;
+    view.lit.push(Button::MoveTo(cue(b"6")?))?;
+    view.lit.push(Button::MoveTo(cue(b"7")?))?;
     view.network.push(Contacted {
         device: device(9)?,
         heard: LastHeard::Ago(7_200),
@@ -282,9 +283,7 @@ fn page_has_the_facts_of_the_view(rt: HostRuntime) {
             .contains("\"readonly\":false,\"run\":\"r1\",\"told\":null,")
     );
     assert!(rt; text.as_str().starts_with("{\"locked\":true,\"names\":"));
-    assert!(rt;
-        text.as_str().contains("{\"cue\":\"7\",\"name\":\"Arie\",\"note\":\"wait for the lamp\"}")
-    );
+    assert!(rt; text.as_str().contains(NAMED));
     assert!(rt; text.as_str().contains("{\"device\":22,\"name\":\"Fog\"}"));
 }
 

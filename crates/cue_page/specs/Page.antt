@@ -1,15 +1,17 @@
 -- A view as JSON (RFC 8259): what the page draws.
-use Rattle.std.specs.Prelude.{ℕ, List, ◌-◌, map, codes, Option, None, Some}
+use Rattle.std.specs.Prelude.{ℕ, List, ◌-◌, filter, map, codes, Option, None, Some}
+use Rattle.std.specs.List.{list_any}
 use Rattle.serde_json.specs.Data.{Data, null, boolean, number, unsigned, string, array, object, Members, member, no_members, put}
 use Rattle.serde_json.specs.View.{items_of, view}
 use Rattle.cue_view.specs.declared.view.View.{View}
 use Rattle.cue_request.specs.Lit.{button_data}
 use Rattle.cue_page.specs.Alarms.{alarm_data}
+use Rattle.cue_page.specs.Buttons.{is_move, is_other}
 use Rattle.cue_page.specs.Ends.{told_data, told_or_null}
 use Rattle.cue_page.specs.Live.{attempt_data}
 use Rattle.cue_page.specs.Network.{contact_data}
 use Rattle.cue_page.specs.Said.{said_data, unsent_data}
-use Rattle.cue_page.specs.Stack.{next_data, stack_data}
+use Rattle.cue_page.specs.Stack.{next_data, number_data}
 use Rattle.cue_page.specs.declared.board.FirstHalf.{FirstHalf}
 use Rattle.cue_page.specs.declared.board.Manner.{Manner}
 use Rattle.cue_page.specs.declared.board.Parts.{Parts}
@@ -31,8 +33,9 @@ view_data port v =
     object (member (codes "alarms") (array (items_of (map (alarm_data port v.at) v.alarms.items)))
     (member (codes "chosen") (chosen_data v.chosen)
     (member (codes "last") (told_or_null v.last)
-    (member (codes "lit") (array (items_of (map button_data v.lit.items)))
+    (member (codes "lit") (array (items_of (map button_data (filter is_other v.lit.items))))
     (member (codes "live") (array (items_of (map (attempt_data v.at) v.live.items)))
+    (member (codes "moves") (boolean (list_any is_move v.lit.items))
     (member (codes "network") (array (items_of (map contact_data v.network.items)))
     (member (codes "next") (next_data v.next)
     (member (codes "number") (number (unsigned v.number))
@@ -40,8 +43,8 @@ view_data port v =
     (member (codes "read") (age_data v.at v.read)
     (member (codes "said") (said_data port v.said)
     (member (codes "served") (age_data v.at v.served)
-    (member (codes "stack") (stack_data v.stack)
-    (member (codes "unsent") (unsent_data v.unsent) no_members))))))))))))))
+    (member (codes "stack") (array (items_of (map number_data v.stack.items)))
+    (member (codes "unsent") (unsent_data v.unsent) no_members)))))))))))))))
 
 -- the first half of the parts, each by its name, and more members after them
 abbrev pub first_members : FirstHalf → Members → Members
@@ -51,8 +54,9 @@ first_members p more =
     (member (codes "last") (view p.last)
     (member (codes "lit") (view p.lit)
     (member (codes "live") (view p.live)
+    (member (codes "moves") (boolean p.moves)
     (member (codes "network") (view p.network)
-    (member (codes "next") (view p.next) more))))))
+    (member (codes "next") (view p.next) more)))))))
 
 -- the second half
 abbrev pub second_members : SecondHalf → Members

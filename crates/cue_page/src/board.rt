@@ -6,6 +6,7 @@ ghost use Rattle.serde_json.specs.View.{members_view, view};
 ghost use Rattle.cue_page.specs.Page as page;
 
 mod alarms;
+mod buttons;
 mod called;
 mod ends;
 mod live;
@@ -14,9 +15,9 @@ mod said;
 mod stack;
 
 use alarms::alarms_value;
+use buttons::{has_moves, others_value};
 use called::names_value;
 use cue_board::Names;
-use cue_request::lit::lit_value;
 use cue_view::view::View;
 use ends::{past_value, told_or_null};
 use live::live_value;
@@ -54,6 +55,7 @@ struct FirstHalf {
     last: Value,
     lit: Value,
     live: Value,
+    moves: bool,
     network: Value,
     next: Value,
 }
@@ -80,6 +82,7 @@ fn first_members(alloc: Global, half: FirstHalf) -> Result<Map<String, Value>, A
         last,
         lit,
         live,
+        moves,
         network,
         next,
     } = half;
@@ -89,6 +92,7 @@ fn first_members(alloc: Global, half: FirstHalf) -> Result<Map<String, Value>, A
     put(&mut map, alloc, "last", last)?;
     put(&mut map, alloc, "lit", lit)?;
     put(&mut map, alloc, "live", live)?;
+    put(&mut map, alloc, "moves", Value::Bool(moves))?;
     put(&mut map, alloc, "network", network)?;
     put(&mut map, alloc, "next", next)?;
     Ok(map)
@@ -148,8 +152,9 @@ fn parts_of(alloc: Global, shown: &View, port: u16) -> Result<Parts, AllocError>
         alarms: alarms_value(alloc, &shown.alarms, at, port)?,
         chosen: chosen_value(shown.chosen),
         last: told_or_null(alloc, shown.last.as_ref())?,
-        lit: lit_value(alloc, &shown.lit)?,
+        lit: others_value(alloc, &shown.lit)?,
         live: live_value(alloc, &shown.live, at)?,
+        moves: has_moves(&shown.lit),
         network: network_value(alloc, &shown.network)?,
         next: next_value(alloc, shown.next)?,
     };
@@ -219,7 +224,7 @@ pub fn view_text(
     names: &Names<'_>,
     manner: &Manner<'_>,
 ) -> Result<String, AllocError> {
-    let called = names_value(alloc, shown, names)?;
+    let called = names_value(alloc, names)?;
     let facts = view_value(alloc, shown, names.port)?;
     page_value(alloc, &called, manner, &facts)?.to_string(alloc)
 }

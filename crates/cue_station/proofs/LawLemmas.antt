@@ -251,11 +251,11 @@ lit-kept past s i m k makes =
     let f = footing_by m.notes r i.at i.wall in
     let v = m.step.view in
     record {
-      lit = λ b h. sym (same b) ∙ lights-lit f m.seen.items r v.stack.cues.items v.alarms.items v.lit.items
+      lit = λ b h. sym (same b) ∙ lights-lit f m.seen.items r v.stack.items v.alarms.items v.lit.items
           makes.view.lit b h;
-      dark = λ b key h. lights-dark f m.seen.items r v.stack.cues.items v.alarms.items v.lit.items makes.view.lit b key
+      dark = λ b key h. lights-dark f m.seen.items r v.stack.items v.alarms.items v.lit.items makes.view.lit b key
           (same b ∙ h);
-      seen = seen-lit f m.seen.items r v.stack.cues.items v.alarms.items v.lit.items makes.view.lit turns i.at i.wall
+      seen = seen-lit f m.seen.items r v.stack.items v.alarms.items v.lit.items makes.view.lit turns i.at i.wall
           after.reading
           (makes.view.alarms ∙ alarms-kept turns m.notes r (relayed_with i.heard i.at s.relay) m.seen.items
           (kept_with m.shown s.views.items) after i.at i.wall);

@@ -1,7 +1,7 @@
 use Rattle.std.proofs.Common.{◌≡◌, ◌++◌, ◌∷◌, map, take}
 use Rattle.cue_exchange.specs.declared.attempt.DeviceAnswer.{DeviceAnswer}
 use Rattle.cue_view.specs.declared.button.Button.TheVariants as button
-use Rattle.cue_station.proofs.lighting.push_attempt.Given as goal
+use Rattle.cue_station.proofs.lit.push_attempt.Given as goal
 
 -- the devices so far may be given up
 abbrev pub invariant-loop-answer : goal.invariant-loop-answer

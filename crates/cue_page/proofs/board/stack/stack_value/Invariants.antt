@@ -1,7 +1,7 @@
 use Rattle.std.proofs.Common.{◌≡◌, map, take}
 use Rattle.serde_json.specs.View.{view}
 use Rattle.cue_page.specs.Stack.{number_data}
-use Rattle.cue_page.proofs.board.stack.cues_value.Given as goal
+use Rattle.cue_page.proofs.board.stack.stack_value.Given as goal
 
 -- those so far were put there
 abbrev pub invariant-loop-cue : goal.invariant-loop-cue

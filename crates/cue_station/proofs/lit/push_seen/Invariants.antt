@@ -1,6 +1,6 @@
 use Rattle.std.proofs.Common.{◌≡◌, ◌++◌, map, take}
 use Rattle.cue_view.specs.declared.button.Button.TheVariants as button
-use Rattle.cue_station.proofs.lighting.push_seen.Given as goal
+use Rattle.cue_station.proofs.lit.push_seen.Given as goal
 
 -- the buttons of the failures so far were put there
 abbrev pub invariant-loop-seq : goal.invariant-loop-seq

@@ -19,7 +19,7 @@ function cueRow(cue) {
   for (const each of marks(cue)) words.append(" ", each);
   line.append(make("span", "bar " + (color || "")), mark, make("span", "number", cue), words, move);
   if (note) line.append(make("span", "note", note));
-  return { line, mark, move };
+  return { cue, line, mark, move };
 }
 
 function cueRows() {
@@ -29,10 +29,12 @@ function cueRows() {
   return [...rows.values()].map((row) => row.line);
 }
 
-// Scrolls the list so that this row stands in its upper third.
-function showRow(row) {
-  const list = at("list");
-  list.scrollTop = row.line.offsetTop - (list.clientHeight - row.line.offsetHeight) / 3;
+// Scrolls the list so that this row stands in its upper third. Rows that were never in sight have no height of their own
+// yet, so it is looked at again once those around it are there.
+function showRow(row, again = 3) {
+  const list = at("list"), top = row.line.offsetTop - (list.clientHeight - row.line.offsetHeight) / 3;
+  if (Math.abs(list.scrollTop - top) > 1) list.scrollTop = top;
+  if (again) requestAnimationFrame(() => { if (rows.get(row.cue) === row) showRow(row, again - 1); });
 }
 
 function toPlace() {

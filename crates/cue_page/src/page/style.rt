@@ -44,7 +44,8 @@ section { min-height: 0; min-width: 0; overflow: auto; }
 #list { flex: 1; min-width: 0; overflow: auto; position: relative; }
 #stack, #past { list-style: none; padding: 0; }
 #stack li { display: grid; grid-template-columns: .5rem 1.2rem minmax(2.8rem, auto) minmax(0, 1fr) auto; gap: .1rem .4rem;
-  align-items: baseline; padding: .25rem .5rem .25rem 0; overflow-wrap: anywhere; border: 2px solid transparent; }
+  align-items: baseline; padding: .25rem .5rem .25rem 0; overflow-wrap: anywhere; border: 2px solid transparent;
+  content-visibility: auto; contain-intrinsic-size: auto 3.4rem; }
 #stack li[aria-current] { background: var(--panel); border-color: var(--amber); font-weight: 700; }
 #stack li.found { border-color: var(--blue); }
 #stack .note { grid-column: 4 / -1; font-weight: 400; color: var(--soft); font-size: .9rem; }

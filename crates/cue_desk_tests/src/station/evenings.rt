@@ -136,3 +136,24 @@ fn a_cue_is_stood_by(rt: HostRuntime) -> Result<(), Fail> {
     assert!(rt; evening.is_lit(&rt, Button::Go(cue(&rt, "1"), 1)));
     Ok(())
 }
+
+#[test]
+fn each_cue_of_the_stack_can_be_moved_to(rt: HostRuntime) -> Result<(), Fail> {
+    let alloc = rt.alloc();
+    let mut evening = looked(&rt, alloc)?;
+    for number in ["1", "2", "3"] {
+        assert!(rt;
+            evening.is_lit(&rt, Button::MoveTo(cue(&rt, number))),
+            "cue {number}"
+        );
+    }
+    evening.pressed(&rt, alloc, Button::MoveTo(cue(&rt, "3")))?;
+    assert!(rt; is_next(&rt, &evening, "3"));
+    let send = evening.press(&rt, alloc, Button::Standby(cue(&rt, "3")))?;
+    assert!(rt; send.is_some(), "the press was not sent");
+    assert!(rt;
+        !evening.is_lit(&rt, Button::MoveTo(cue(&rt, "1"))),
+        "a press is open"
+    );
+    Ok(())
+}

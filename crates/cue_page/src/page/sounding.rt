@@ -5,7 +5,7 @@
 pub(super) const SOUNDING: &str = r#"
 "use strict";
 const CALLING = ["failed", "device", "silent", "desk"], HIGH = 880, LOW = 587, TONE = 0.2, FLASH = 2400, FIRST = 2500;
-let calledOut = new Set(), flashUntil = 0, audio = null, wokenAt = -FIRST;
+let calledOut = new Set(), flashUntil = 0, audio = null, isWaking = false;
 let wantsSound = recall("sound") !== "off";
 
 // A browser may want a press before it lets a page sound.
@@ -42,9 +42,8 @@ function showSound() {
 
 // Any press allows the sound, where the browser waits for one.
 function wake() {
-  if (!audio || canSound()) return;
-  wokenAt = now();
-  audio.resume().then(showSound, () => {});
+  isWaking = audio !== null && !canSound();
+  if (isWaking) audio.resume().then(showSound, () => {});
 }
 
 // Whether the page has a view, or has waited for its first one long enough.
@@ -66,7 +65,7 @@ function callOut() {
 // The press that allows the sound does not also turn it off.
 at("sound").addEventListener("click", (event) => {
   if (event.detail > 0) event.currentTarget.blur();
-  if (now() - wokenAt > 1000) {
+  if (!isWaking) {
     wantsSound = !wantsSound;
     keep("sound", wantsSound ? "on" : "off");
   }

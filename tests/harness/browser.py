@@ -9,6 +9,9 @@ ENTER, ESCAPE = "\ue007", "\ue00c"
 # What a test makes happen: a request that is cut or refused, and a sound before a press allows it.
 EXPECTED = ("net::", "503", "423", "AudioContext was not allowed")
 
+# What an element is that was replaced or moved meanwhile, or that of a page which loads itself again.
+PASSING = ("StaleElement", "NoSuchElement", "ClickIntercepted", "Javascript")
+
 
 def is_there():
     """Whether a browser can be driven here."""
@@ -67,8 +70,8 @@ class Browser:
             try:
                 if holds():
                     return True
-            except Exception as error:  # an element that was replaced meanwhile, or a page that loads itself again
-                if not any(word in type(error).__name__ for word in ("StaleElement", "NoSuchElement", "Javascript")):
+            except Exception as error:
+                if not any(word in type(error).__name__ for word in PASSING):
                     raise
             time.sleep(0.02)
         return False

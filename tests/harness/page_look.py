@@ -61,7 +61,8 @@ def in_a_window(page, size, width, height):
     hidden = page.run(HIDDEN, names)
     check(f"in {width} by {height}, {size} type, what is next, live and waited for is in sight, but for {hidden}",
           hidden == [])
-    check("GO says who is waited for", "waits for 22" in page.text("go-cue"))
+    if page.run("return chosenAttempt() !== undefined"):  # the ten seconds are not over
+        check("GO says who is waited for", "waits for 22" in page.text("go-cue"))
     standby, cancel, go = page.run(AREAS)
     check("GO is no smaller than the others", go >= standby and go >= cancel)
     check("nothing is beside the window", page.run("return document.documentElement.scrollWidth <= innerWidth"))
@@ -69,11 +70,13 @@ def in_a_window(page, size, width, height):
     check(f"no word of a button or of an answer breaks, but for {broken}", broken == [])
 
 
-def in_windows(page, pictures):
-    """Each window, as a browser's zoom of 200 % and phones make it, with type of each size. A cue waits for device 22."""
+def in_windows(page, pictures, waits):
+    """Each window, as a browser's zoom of 200 % and phones make it, with type of each size, while a cue waits for device
+    22: `waits` has one do so."""
     for size in SIZES:
         set_to(page, "size", "size", size)
         page.sized()
+        waits()
         if pictures and size != "normal":
             page.picture(pictures / f"page-{size}.png")
         for width, height in WINDOWS:

@@ -5,12 +5,11 @@
 pub(super) const SOUNDING: &str = r#"
 "use strict";
 const CALLING = ["failed", "device", "silent", "desk"], HIGH = 880, LOW = 587, TONE = 0.2, FLASH = 2400, FIRST = 2500;
-let calledOut = new Set(), flashUntil = 0, audio = null, isWaking = false;
+let calledOut = new Set(), flashUntil = 0, audio = null, isAllowed = false, isWaking = false, sounded = 0;
 let wantsSound = recall("sound") !== "off";
 
-// A browser may want a press before it lets a page sound.
+// A browser may want a press before it lets a page sound. What sounds nothing rests.
 try { audio = new AudioContext(); } catch (error) { audio = null; }
-const canSound = () => audio !== null && audio.state === "running";
 
 function tone(pitch, begin) {
   const source = audio.createOscillator(), volume = audio.createGain();
@@ -24,17 +23,19 @@ function tone(pitch, begin) {
   source.stop(begin + TONE);
 }
 
-// How often it has sounded.
-let sounded = 0;
-
+// The two tones, twice; `sounded` counts how often they came.
 function sound() {
-  if (!wantsSound || !canSound()) return;
+  if (!wantsSound || !isAllowed) return;
+  const tones = [HIGH, LOW, HIGH, LOW];
   sounded += 1;
-  [HIGH, LOW, HIGH, LOW].forEach((pitch, index) => tone(pitch, audio.currentTime + index * TONE));
+  audio.resume().then(() => {
+    tones.forEach((pitch, index) => tone(pitch, audio.currentTime + index * TONE));
+    setTimeout(() => audio.suspend(), 1000 * TONE * (tones.length + 2));
+  }, () => {});
 }
 
 function showSound() {
-  const words = !wantsSound ? "Sound off" : canSound() ? "Sound on" : audio ? "Press to allow sound" : "No sound here";
+  const words = !wantsSound ? "Sound off" : isAllowed ? "Sound on" : audio ? "Press to allow sound" : "No sound here";
   write("sound", words);
   at("sound").classList.toggle("asks", words !== "Sound on");
   at("sound").setAttribute("aria-label", "Sound at alarms: " + words);
@@ -42,8 +43,15 @@ function showSound() {
 
 // Any press allows the sound, where the browser waits for one.
 function wake() {
-  isWaking = audio !== null && !canSound();
-  if (isWaking) audio.resume().then(showSound, () => {});
+  isWaking = audio !== null && !isAllowed;
+  if (isWaking) audio.resume().catch(() => {});
+}
+
+function allow() {
+  if (audio.state !== "running" || isAllowed) return;
+  isAllowed = true;
+  audio.suspend();
+  showSound();
 }
 
 // Whether the page has a view, or has waited for its first one long enough.
@@ -70,10 +78,12 @@ at("sound").addEventListener("click", (event) => {
     keep("sound", wantsSound ? "on" : "off");
   }
   showSound();
-  if (audio) audio.resume().then(sound, () => {});
+  if (isWaking) audio.resume().then(allow).then(sound).catch(() => {});
+  else sound();
 });
 
 for (const kind of ["pointerdown", "keydown"]) document.addEventListener(kind, wake, true);
-if (audio) audio.addEventListener("statechange", showSound);
+if (audio) audio.addEventListener("statechange", allow);
 showSound();
+if (audio) allow();
 "#;

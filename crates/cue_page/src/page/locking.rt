@@ -47,7 +47,7 @@ function showLock(isLocked) {
 at("lock").addEventListener("submit", (event) => {
   event.preventDefault();
   const press = waiting, text = at("lock-word").value;
-  if (!/^[ -~]+$/.test(text)) { askWord(press, "This is not its word. " + press + " wants it:"); return; }
+  if (!/^[!-~]+$/.test(text)) { askWord(press, "This is not its word. " + press + " wants it:"); return; }
   word = { text, until: now() + HELD };
   closeLock();
   send(press);

@@ -66,6 +66,7 @@ def scrolls(page, evening):
     """The list follows the place, and nothing else scrolls it."""
     check("the place moves from elsewhere", evening.tells("goto", "22"))
     check("the list follows it", page.shows("standby-cue", "cue 22") and is_in_sight(page, "22"))
+    time.sleep(0.5)
     page.run("document.getElementById('list').scrollTop = 0")
     time.sleep(0.8)
     check("left alone, it stays where it is", page.run("return document.getElementById('list').scrollTop") == 0)

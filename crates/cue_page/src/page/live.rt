@@ -19,8 +19,9 @@ function deviceRow(attempt, device) {
   const name = called(device.device, deviceName(device.device)), last = make("td", "whole");
   const lit = litOf("release", (one) => one.attempt === attempt.attempt && one.device === device.device);
   if (device.answer === "waiting") last.append(button("release-" + id, "Release", "Release device " + name, lit, true));
-  row.append(make("td", "number whole", device.device), make("td", "", deviceName(device.device)), answer,
-    make("td", "whole", device.optional ? "optional" : "required"));
+  const named = make("td", "", deviceName(device.device)), needed = device.optional ? "optional" : "required";
+  if (device.optional) named.append(make("span", "beside", " optional"));
+  row.append(make("td", "number whole", device.device), named, answer, make("td", "whole needed", needed));
   if (view.network.length) {
     const cell = make("td");
     cell.id = "heard-" + id;
@@ -33,7 +34,7 @@ function deviceRow(attempt, device) {
 function deviceTable(attempt) {
   const table = make("table"), head = make("tr");
   for (const title of ["Device", "Name", "Answer", "Needed", ...(view.network.length ? ["Heard"] : []), ""]) {
-    const cell = make("th", "", title);
+    const cell = make("th", title.toLowerCase(), title);
     cell.scope = "col";
     head.append(cell);
   }

@@ -30,11 +30,12 @@ function showLook() {
 }
 
 // How much room there is, in letters: larger type makes a window small, as a browser's zoom does.
-const LOW_ROOM = 39, NARROW_ROOM = 40, FLAT_ROOM = 30;
+const LOW_ROOM = 39, SLIM_ROOM = 60, NARROW_ROOM = 40, FLAT_ROOM = 30;
 function measure() {
   const letter = parseFloat(getComputedStyle(document.documentElement).fontSize);
   const wide = innerWidth / letter, high = innerHeight / letter;
   document.body.classList.toggle("low", high < LOW_ROOM);
+  document.body.classList.toggle("slim", wide < SLIM_ROOM);
   document.body.classList.toggle("narrow", wide < NARROW_ROOM && high >= FLAT_ROOM);
 }
 

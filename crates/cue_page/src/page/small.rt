@@ -25,7 +25,11 @@ pub(super) const SMALL: &str = r#"
 .low .attempt h3 { font-size: 1.1rem; }
 .low .since b { font-size: 1.4rem; }
 .low .left { margin: .1rem 0; }
-.low td { padding: .1rem .5rem .1rem 0; }
+.slim th { font-size: 0; padding: 0; }
+.slim .needed { display: none; }
+.slim .beside { display: inline; }
+.low td { padding: .1rem .4rem .1rem 0; }
+.slim td:nth-child(2) { min-width: 3.5rem; }
 .low .small { padding: 0 .4rem; }
 .low #find { min-width: 3rem; padding: 0 .3rem; }
 .low #lock { padding: .2rem .8rem; }
@@ -53,5 +57,4 @@ pub(super) const SMALL: &str = r#"
 .narrow #go b { font-size: 2rem; }
 .narrow.low footer button, .narrow.low #go { min-height: 2.6rem; }
 .narrow.low #go b { font-size: 1.4rem; }
-.narrow th:nth-child(4), .narrow td:nth-child(4) { display: none; }
 "#;

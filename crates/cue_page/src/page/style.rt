@@ -40,7 +40,7 @@ section { min-height: 0; min-width: 0; overflow: auto; }
   background: var(--panel); border: 1px solid var(--edge); border-radius: .3rem; }
 #find::placeholder { color: var(--soft); opacity: 1; }
 #found { font-size: .85rem; color: var(--soft); }
-#moves { flex: 1 0 9rem; min-height: 0; min-width: 0; padding: 0; border: 0; display: flex; margin-top: .4rem; }
+#moves { flex: 1 0 70%; min-height: 0; min-width: 0; padding: 0; border: 0; display: flex; margin-top: .4rem; }
 #list { flex: 1; min-width: 0; overflow: auto; position: relative; }
 #stack, #past { list-style: none; padding: 0; }
 #stack li { display: grid; grid-template-columns: .5rem 1.2rem minmax(2.8rem, auto) minmax(0, 1fr) auto; gap: .1rem .4rem;
@@ -93,7 +93,8 @@ table { width: 100%; border-collapse: collapse; margin-top: .4rem; }
 th { padding-right: .5rem; text-align: left; color: var(--soft); font-weight: 400; font-size: .85rem; }
 td { border-top: 1px solid var(--line); padding: .28rem .5rem .28rem 0; overflow-wrap: anywhere; }
 td.whole { overflow-wrap: normal; }
-td:nth-child(2) { min-width: 5.5rem; }
+td:nth-child(2) { min-width: 4rem; }
+.beside { display: none; color: var(--soft); }
 td.answer { font-weight: 700; white-space: nowrap; }
 td.heard, td.silent { font-size: .9rem; }
 .waiting { color: var(--amber); } .is-ready, .done { color: var(--green); } .failed-device { color: var(--red); }

@@ -68,11 +68,7 @@ CUES
 ";
 
 // What a call makes of a file that has no mistake.
-fn made(
-    alloc: Global,
-    text: &str,
-    is_page: bool,
-) -> Result<String, AllocError> {
+fn made(alloc: Global, text: &str, is_page: bool) -> Result<String, AllocError> {
     let draft = read(alloc, text)?;
     if is_page {
         sheet_page(alloc, "a show.toml", &draft.file)
@@ -88,7 +84,8 @@ fn a_sheet_has_all_of_a_file(rt: HostRuntime) {
 }
 
 /// Names that would be tags, and that turn the direction of a line.
-const ATTACK: &str = "[[device]]\nnumber = 3\nport = 9001\nname = \"</td><script>alert(1)</script>\"\n\n\
+const ATTACK: &str =
+    "[[device]]\nnumber = 3\nport = 9001\nname = \"</td><script>alert(1)</script>\"\n\n\
 [[cue]]\nnumber = \"1\"\nname = \"\\\" onload=\\\"x\"\nnote = \"\\u202Eevil & <\"\nparts = [{ device = 3, text = \"<&>\" }]\n";
 
 #[test]
@@ -117,5 +114,11 @@ fn a_show_file_to_begin_with_has_no_mistake(rt: HostRuntime) {
     assert!(rt; review.mistakes.is_empty() && review.hints.is_empty());
     assert_eq!(rt; draft.file.devices.len(), 2);
     assert_eq!(rt; draft.file.cues.len(), 2);
-    assert!(rt; draft.file.cues.iter().any(|cue| cue.color.is_some() && cue.note.is_some()));
+    assert!(rt;
+        draft
+            .file
+            .cues
+            .iter()
+            .any(|cue| cue.color.is_some() && cue.note.is_some())
+    );
 }

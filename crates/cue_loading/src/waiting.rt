@@ -1,6 +1,7 @@
 //! What to wait for before a show file is put in the place of another one.
 use cue_show::CueNo;
 use std::alloc::{AllocError, Global};
+use std::fmt::Write;
 
 // What stands before a cue of a list, by its place from 0.
 fn before(index: usize, count: usize) -> &'static str {
@@ -18,9 +19,7 @@ fn listed(alloc: Global, cues: &[CueNo]) -> Result<String, AllocError> {
     let mut text = String::new(alloc);
     for (index, cue) in cues.iter().enumerate() {
         text.push_str(before(index, cues.len()))?;
-        for byte in cue.text() {
-            text.push(char::from(*byte))?;
-        }
+        write!(text, "{}", cue.text().escape_ascii())?;
     }
     Ok(text)
 }

@@ -69,7 +69,11 @@ pub(crate) fn push_row(
     lines: &mut Vec<String>,
     cells: &[Cell],
 ) -> Result<(), AllocError> {
-    let height = cells.iter().map(|cell| cell.pieces.len()).max().unwrap_or(0);
+    let height = cells
+        .iter()
+        .map(|cell| cell.pieces.len())
+        .max()
+        .unwrap_or(0);
     for index in 0..height {
         lines.push(line_of(alloc, cells, index)?)?;
     }

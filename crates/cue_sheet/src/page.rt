@@ -39,6 +39,7 @@ const CUES: &str = r#"</tbody>
 const END: &str = "</table>\n</body>\n</html>\n";
 
 /// A page so far.
+#[derive(Drop)]
 struct Page<'a> {
     alloc: Global,
     file: &'a ShowFile,
@@ -63,14 +64,21 @@ impl Page<'_> {
         self.text.push_str(HEAD)?;
         self.text.push_str("Cue sheet: ")?;
         self.push_text(title)?;
-        write!(self.text, "</title>\n<style>{STYLE}</style>\n</head>\n<body>\n<h1>Cue sheet</h1>\n<p dir=\"auto\">")?;
+        write!(
+            self.text,
+            "</title>\n<style>{STYLE}</style>\n</head>\n<body>\n<h1>Cue sheet</h1>\n<p dir=\"auto\">"
+        )?;
         self.push_text(title)?;
         self.text.push_str("</p>\n")
     }
 
     fn push_device(&mut self, entry: &DeviceEntry) -> Result<(), AllocError> {
         let place = place_text(self.alloc, entry)?;
-        write!(self.text, "<tr><td class=\"number\">{}</td>", entry.number.number())?;
+        write!(
+            self.text,
+            "<tr><td class=\"number\">{}</td>",
+            entry.number.number()
+        )?;
         self.push_cell(entry.name.as_deref().unwrap_or(""))?;
         self.push_cell(place.as_str())?;
         self.text.push_str("</tr>\n")
@@ -78,7 +86,8 @@ impl Page<'_> {
 
     fn push_devices(&mut self) -> Result<(), AllocError> {
         self.text.push_str(DEVICES)?;
-        for entry in &self.file.devices {
+        let file = self.file;
+        for entry in &file.devices {
             self.push_device(entry)?;
         }
         Ok(())
@@ -88,7 +97,10 @@ impl Page<'_> {
     fn push_marks(&mut self, entry: &CueEntry) -> Result<(), AllocError> {
         if let Some(color) = entry.color {
             let word = color.word();
-            write!(self.text, "<div class=\"color\"><span class=\"bar {word}\"></span>{word}</div>")?;
+            write!(
+                self.text,
+                "<div class=\"color\"><span class=\"bar {word}\"></span>{word}</div>"
+            )?;
         }
         if let Some(flag) = entry.flag {
             write!(self.text, "<div class=\"flag\">{}</div>", flag.word())?;
@@ -115,8 +127,14 @@ impl Page<'_> {
     // The cells of a part, with which its row ends.
     fn push_part(&mut self, part: &Part) -> Result<(), AllocError> {
         let sent = sent_text(self.alloc, part.bytes.as_slice())?;
-        write!(self.text, "<td class=\"number\">{}</td>", part.device.number())?;
-        self.push_cell(self.file.device_name(part.device).unwrap_or(""))?;
+        let file = self.file;
+        let name = file.device_name(part.device).unwrap_or("");
+        write!(
+            self.text,
+            "<td class=\"number\">{}</td>",
+            part.device.number()
+        )?;
+        self.push_cell(name)?;
         self.text.push_str("<td class=\"sent\">")?;
         self.push_text(sent.as_str())?;
         self.text.push_str(if part.optional {
@@ -151,7 +169,8 @@ impl Page<'_> {
 
     fn push_cues(&mut self) -> Result<(), AllocError> {
         self.text.push_str(CUES)?;
-        for entry in &self.file.cues {
+        let file = self.file;
+        for entry in &file.cues {
             self.push_cue(entry)?;
         }
         self.text.push_str(END)

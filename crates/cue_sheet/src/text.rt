@@ -22,6 +22,7 @@ const NAME: usize = 24;
 const OPTIONAL: usize = 8;
 
 /// The lines so far, and how wide the numbers of the cues are.
+#[derive(Drop)]
 struct Sheet<'a> {
     alloc: Global,
     file: &'a ShowFile,
@@ -92,10 +93,11 @@ impl Sheet<'_> {
     fn push_devices(&mut self) -> Result<(), AllocError> {
         self.push_line("")?;
         self.push_line("DEVICES")?;
-        if self.file.devices.is_empty() {
+        let file = self.file;
+        if file.devices.is_empty() {
             return self.push_line("none");
         }
-        for entry in &self.file.devices {
+        for entry in &file.devices {
             self.push_device(entry)?;
         }
         Ok(())
@@ -154,10 +156,11 @@ impl Sheet<'_> {
     fn push_cues(&mut self) -> Result<(), AllocError> {
         self.push_line("")?;
         self.push_line("CUES")?;
-        if self.file.cues.is_empty() {
+        let file = self.file;
+        if file.cues.is_empty() {
             return self.push_line("none");
         }
-        for entry in &self.file.cues {
+        for entry in &file.cues {
             self.push_cue(entry)?;
         }
         Ok(())
@@ -165,7 +168,7 @@ impl Sheet<'_> {
 }
 
 // The lines as a terminal may get them.
-#[tactic(auto, using(Rattle::cue_board::proofs::ColumnLemmas::are_fit_push))]
+#[tactic(auto, using(cue_board::proofs::ColumnLemmas::are_fit_push))]
 fn fit_lines(alloc: Global, lines: &[String]) -> Result<Vec<String>, AllocError>
     ensures { IfOk result (λ texts. AreFit texts.items) }
 {

@@ -1,6 +1,7 @@
 //! A text in a column: as many lines as it takes.
 use cue_words::shown_text;
 use std::alloc::{AllocError, Global};
+use std::mem;
 use unicode_width::UnicodeWidthChar;
 
 /// How many bytes a line has at most for each of its columns, as on the board: marks without a width of their own
@@ -49,14 +50,17 @@ fn empty_line(alloc: Global) -> Piece {
 impl Wrapping {
     // Whether the line has room for so many columns and bytes more.
     fn has_room(&self, width: usize, bytes: usize) -> bool {
-        let (wide, long) = (self.line.width.saturating_add(width), self.line.text.len().saturating_add(bytes));
+        let (wide, long) = (
+            self.line.width.saturating_add(width),
+            self.line.text.len().saturating_add(bytes),
+        );
         wide <= self.columns && long <= self.columns.saturating_mul(BYTES)
     }
 
     // Ends the line, and begins the next one.
     fn end_line(&mut self) -> Result<(), AllocError> {
         let next = empty_line(self.alloc);
-        let line = std::mem::replace(&mut self.line, next);
+        let line = mem::replace(&mut self.line, next);
         self.ended.push(line)?;
         Ok(())
     }
@@ -82,7 +86,10 @@ impl Wrapping {
 
     // Whether a word goes on in this line: it has room there, or would not have any in the next one either.
     fn takes(&self, word: &str) -> bool {
-        let (width, bytes) = (width_of_word(word).saturating_add(1), word.len().saturating_add(1));
+        let (width, bytes) = (
+            width_of_word(word).saturating_add(1),
+            word.len().saturating_add(1),
+        );
         self.has_room(width, bytes) || (width > self.columns && self.has_room(2, BYTES))
     }
 
@@ -111,11 +118,7 @@ impl Wrapping {
 
 /// A text in so many columns, 2 at least: its lines, one at least. They break between words where they can, and lose
 /// nothing but the space at which they break. What a terminal would not show is a question mark.
-pub(crate) fn wrapped(
-    alloc: Global,
-    text: &str,
-    columns: usize,
-) -> Result<Vec<Piece>, AllocError> {
+pub(crate) fn wrapped(alloc: Global, text: &str, columns: usize) -> Result<Vec<Piece>, AllocError> {
     let text = shown_text(alloc, text)?;
     let mut wrapping = Wrapping {
         alloc,

@@ -20,7 +20,7 @@ pub fn cue_text(cue: &CueNo) -> &str
 fn is_plain_sign(byte: u8) -> bool
     ensures { result ≡ is_plain_sign byte }
 {
-    (byte == b' ' || byte.is_ascii_graphic()) && byte != b'"' && byte != b'\\'
+    (byte >= b' ' && byte <= b'~') && (byte != b'"' && byte != b'\\')
 }
 
 // Whether bytes are plain text: one at least, and each such a sign.

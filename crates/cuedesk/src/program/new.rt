@@ -23,11 +23,7 @@ fn say_unmade<R: Eprint>(rt: &R, path: &str, why: &io::Error) -> Ending {
 }
 
 // Writes the file. One that could not be written whole is taken away again: it was not there before.
-fn fill<R: Files<File = File> + Eprint>(
-    rt: &R,
-    path: &str,
-    file: &mut File,
-) -> Result<(), Ending> {
+fn fill<R: Files<File = File> + Eprint>(rt: &R, path: &str, file: &mut File) -> Result<(), Ending> {
     match file.write_all(BEGINNING.as_bytes()) {
         Ok(()) => Ok(()),
         Err(why) => {
@@ -43,7 +39,10 @@ pub fn write_new<R: Files<File = File> + Eprint + AllocGlobal, W: Write>(
     path: &str,
     writer: &mut W,
 ) -> Result<(), Ending> {
-    let made = OpenOptions::new().write(true).create_new(true).open(rt, path);
+    let made = OpenOptions::new()
+        .write(true)
+        .create_new(true)
+        .open(rt, path);
     match made {
         Ok(mut file) => fill(rt, path, &mut file)?,
         Err(why) => return Err(say_unmade(rt, path, &why)),

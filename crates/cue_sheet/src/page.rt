@@ -22,7 +22,8 @@ const HEAD: &str = r#"<!DOCTYPE html>
 /// What stands before the rows of the devices.
 const DEVICES: &str = r#"<table class="devices">
 <caption>Devices</caption>
-<thead><tr><th scope="col">No.</th><th scope="col">Device</th><th scope="col">Port or address</th></tr></thead>
+<thead><tr><th scope="col" class="number">No.</th><th scope="col">Device</th>
+<th scope="col">Port or address</th></tr></thead>
 <tbody>
 "#;
 
@@ -32,7 +33,8 @@ const CUES: &str = r#"</tbody>
 <table class="cues">
 <caption>Cues</caption>
 <thead><tr><th scope="col">Cue</th><th scope="col">Name and note</th>
-<th scope="col">No.</th><th scope="col">Device</th><th scope="col">Sent</th><th scope="col"></th></tr></thead>
+<th scope="col" class="number">No.</th><th scope="col">Device</th><th scope="col">Sent</th>
+<th scope="col"></th></tr></thead>
 "#;
 
 /// What stands after them.
@@ -177,8 +179,8 @@ impl Page<'_> {
     }
 }
 
-/// The page of a file that has no mistake, with this title. It stands alone, and each page that is printed has the heads
-/// of its table.
+/// The page of a file that has no mistake, with this title. It stands alone, and each sheet of paper has the heads of
+/// its table.
 pub fn sheet_page(alloc: Global, title: &str, file: &ShowFile) -> Result<String, AllocError> {
     let mut page = Page {
         alloc,

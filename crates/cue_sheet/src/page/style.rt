@@ -13,21 +13,21 @@ thead { display: table-header-group; }
 thead th { border-bottom: 2px solid #000; }
 tr, .cues tbody { break-inside: avoid; }
 .cues tbody, .devices tr { border-top: 1px solid #777; }
-th, td { padding: 0.2em 0.5em; text-align: left; vertical-align: top; overflow-wrap: anywhere; }
+th, td { box-sizing: border-box; padding: 0.2em 0.5em; text-align: left; vertical-align: top; overflow-wrap: anywhere; }
 .cues { table-layout: fixed; }
-.cues thead th:nth-child(1) { width: 12%; }
-.cues thead th:nth-child(2) { width: 30%; }
-.cues thead th:nth-child(3) { width: 5%; }
-.cues thead th:nth-child(4) { width: 23%; }
-.cues thead th:nth-child(6) { width: 10%; }
-.devices th:nth-child(1) { width: 5%; }
+.cues thead th:nth-child(1) { width: 9%; }
+.cues thead th:nth-child(2) { width: 28%; }
+.cues thead th:nth-child(3) { width: 6%; }
+.cues thead th:nth-child(4) { width: 22%; }
+.cues thead th:nth-child(6) { width: 11%; }
+.devices th:nth-child(1) { width: 6%; }
 .devices th:nth-child(3) { width: 30%; }
-td.number { text-align: right; }
+.number { text-align: right; }
 td[dir] { text-align: start; }
 tbody th { font-size: 1.2em; }
 .name { font-weight: bold; }
 .note { font-style: italic; }
-.sent { font-family: "DejaVu Sans Mono", monospace; font-size: 0.9em; }
+.sent { font-family: "DejaVu Sans Mono", monospace; }
 .bar { display: inline-block; width: 0; height: 0.8em; margin-right: 0.4em; outline: 1px solid #000;
   border-left: 2.5em solid; }
 .red { border-color: #d00000; }

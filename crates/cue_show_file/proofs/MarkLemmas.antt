@@ -29,11 +29,12 @@ of-flag flag.Trap = refl
 -- what is found passes the test
 found-passes : {A : Type 0} (test : A → Bool) (xs : List A) (x : A) → find test xs ≡ Some x → test x ≡ true
 found-passes test [] x e = absurd (false≢true (ap is_some e))
-found-passes test (y ∷ ys) x e = by (test y) refl e
+found-passes test (y ∷ ys) x e = by (test y) refl e (found-passes test ys x)
   where
-    by : (b : Bool) → test y ≡ b → (if b then Some y else find test ys) ≡ Some x → test x ≡ true
-    by true is k = subst (λ z. test z ≡ true) (same_Some y x k) is
-    by false is k = found-passes test ys x k
+    by : (b : Bool) → test y ≡ b → (if b then Some y else find test ys) ≡ Some x
+        → (find test ys ≡ Some x → test x ≡ true) → test x ≡ true
+    by true is k more = subst (λ z. test z ≡ true) (same_Some y x k) is
+    by false is k more = more k
 
 color-back : (t : List ℕ) (c : Color) → color_of t ≡ Some c → color_word c ≡ t
 color-back t c e =

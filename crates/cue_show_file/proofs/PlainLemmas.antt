@@ -13,6 +13,7 @@ below-ascii : (b : ℕ) → nat_le b 126 ≡ true → b < 128
 below-ascii b h = grind (arith, nat_tests)
 
 sign-small : (b : ℕ) → is_plain_sign b ≡ true → b < 128
+unfolding is_plain_sign
 sign-small b h =
     let k = and_parts (nat_le 32 b && nat_le b 126) (not (b == 34) && not (b == 92)) h in
     below-ascii b (and_parts (nat_le 32 b) (nat_le b 126) k.0).1

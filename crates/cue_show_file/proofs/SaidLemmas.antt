@@ -23,7 +23,8 @@ use Rattle.cue_show.proofs.TestLemmas.{both}
 use Rattle.cue_operator.proofs.NameLemmas.{stack_of, table_of}
 use Rattle.cue_show_file.specs.Reading.{ExportNamesNoPlace, names_no_place, no_place_in, no_places_in, said_of, said_without}
 use Rattle.cue_show_file.specs.Plain.{is_plain}
-use Rattle.cue_show_file.specs.Said.{ExportSaysTheShow, cue_said, device_said, each_said, file_said, is_of_file}
+use Rattle.cue_show_file.specs.Said.{ExportSaysTheShow, cue_said, device_said, each_said, file_said, is_of_cue}
+use Rattle.cue_show_file.specs.Said.{is_of_file}
 use Rattle.cue_show_file.specs.Said.{list_or_none, part_said, text_said}
 use Rattle.cue_show_file.specs.Written.{IsFileOf, bare_cue, bare_device, cue_members, device_members, file_text}
 use Rattle.cue_show_file.specs.Written.{part_members, show_members, tables_of, with_tables}
@@ -72,6 +73,7 @@ part-said p h =
 
 cue-said : (s : ShowLists) (c : List ℕ × List Part) → IsTrue (is_cue_of s c)
     → cue_said (cue_members (bare_cue c)) ≡ Some c
+unfolding is_of_cue
 cue-said s c h =
     let k = both (is_cue_number c.0) (are_parts c.1 && are_known s c.1) h in
     let parts = are_parts-each c.1 (both (are_parts c.1) (are_known s c.1) k.1).0 in

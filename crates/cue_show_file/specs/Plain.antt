@@ -4,7 +4,7 @@ use Rattle.std.specs.Prelude.{nat_le}
 use Rattle.std.specs.List.{list_all}
 
 -- a sign of ASCII that is printed, no quote and no backslash
-abbrev pub is_plain_sign : ℕ → Bool
+unfoldable pub is_plain_sign : ℕ → Bool
 is_plain_sign b = (nat_le 32 b && nat_le b 126) && (not (b == 34) && not (b == 92))
 
 -- one byte at least, and each such a sign

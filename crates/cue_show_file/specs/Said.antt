@@ -172,7 +172,7 @@ cue_keys =
     codes "number" ∷ codes "name" ∷ codes "note" ∷ codes "color" ∷ codes "flag" ∷ codes "parts" ∷ []
 
 -- the table has what a cue may have
-abbrev pub is_of_cue : Members → Bool
+unfoldable pub is_of_cue : Members → Bool
 is_of_cue ms = has_only cue_keys ms && has_signs ms
 
 -- a cue: its number and its parts

@@ -17,6 +17,7 @@ pub fn cue_text(cue: &CueNo) -> &str
 }
 
 // Whether a byte is a sign of ASCII that is printed and needs no escape: no quote and no backslash.
+#[tactic(auto, unfolding(crate::specs::Plain::is_plain_sign))]
 fn is_plain_sign(byte: u8) -> bool
     ensures { result ≡ is_plain_sign byte }
 {

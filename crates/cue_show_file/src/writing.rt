@@ -146,14 +146,21 @@ fn push_cue_head(text: &mut String, entry: &CueEntry) -> Result<(), AllocError>
     write!(text, "\n[[cue]]\nnumber = {number}\n")
 }
 
+// Writes what people see of a cue.
+fn push_signs(text: &mut String, entry: &CueEntry) -> Result<(), AllocError>
+    ensures { OnOk result (string_bytes text.new ≡ string_bytes text.old ++ written.signs_text entry.now) }
+{
+    push_text(text, "name", &entry.name)?;
+    push_text(text, "note", &entry.note)?;
+    push_color(text, entry.color)?;
+    push_flag(text, entry.flag)
+}
+
 fn push_cue(alloc: Global, text: &mut String, entry: &CueEntry) -> Result<(), AllocError>
     ensures { OnOk result (string_bytes text.new ≡ string_bytes text.old ++ written.cue_text entry.now) }
 {
     push_cue_head(text, entry)?;
-    push_text(text, "name", &entry.name)?;
-    push_text(text, "note", &entry.note)?;
-    push_color(text, entry.color)?;
-    push_flag(text, entry.flag)?;
+    push_signs(text, entry)?;
     push_parts_line(alloc, text, &entry.parts)
 }
 

@@ -53,6 +53,7 @@ fn read_number(
 }
 
 // Reads what a cue has beside its number.
+#[tactic(auto, unfolding(crate::specs::Said::is_of_cue))]
 fn read_rest(alloc: Global, findings: &mut Findings, table: &Table) -> Result<Rest, AllocError>
     ensures { IfOk result (λ rest. if_clean findings.new (Some rest.parts) ≡ if_clean findings.old
         (only_if (is_of_cue (table_view table.now))

@@ -106,7 +106,8 @@ impl Sheet<'_> {
     // The columns of what a part sends: an even number, so that no line ends within a byte.
     fn sent_width(&self) -> usize {
         let others = NUMBER + GAP + NAME + GAP + GAP + OPTIONAL;
-        self.beside().saturating_sub(others) / 2 * 2
+        let width = self.beside().saturating_sub(others);
+        (width / 2).saturating_mul(2)
     }
 
     // The name of a device of the file.

@@ -24,11 +24,18 @@ fn is_plain_sign(byte: u8) -> bool
     (byte >= b' ' && byte <= b'~') && (byte != b'"' && byte != b'\\')
 }
 
+// Whether each byte is such a sign.
+fn are_plain_signs(bytes: &[u8]) -> bool
+    ensures { result ≡ list_all is_plain_sign bytes.now }
+{
+    bytes.iter().all(|byte| is_plain_sign(*byte))
+}
+
 // Whether bytes are plain text: one at least, and each such a sign.
 fn is_plain(bytes: &[u8]) -> bool
     ensures { result ≡ is_plain bytes.now }
 {
-    !bytes.is_empty() && bytes.iter().all(|byte| is_plain_sign(*byte))
+    !bytes.is_empty() && are_plain_signs(bytes)
 }
 
 /// The bytes of a part as a text, where they are plain text: one byte at least, and each a sign of ASCII that is

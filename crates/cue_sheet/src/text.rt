@@ -5,7 +5,7 @@ ghost use Rattle.cue_board.specs.Columns.{AreFit};
 use crate::cells::{Cell, GAP, push_row};
 use crate::sent::sent_text;
 use cue_board::{COLUMNS, fitted};
-use cue_show::{DeviceNo, Part};
+use cue_show::Part;
 use cue_show_file::{CueEntry, DeviceEntry, ShowFile, cue_text};
 use std::alloc::{AllocError, Global};
 
@@ -110,18 +110,15 @@ impl Sheet<'_> {
         (width / 2).saturating_mul(2)
     }
 
-    // The name of a device of the file.
-    fn name_of(&self, device: DeviceNo) -> &str {
-        self.file.device_name(device).unwrap_or("")
-    }
-
     fn push_part(&mut self, part: &Part) -> Result<(), AllocError> {
+        let file = self.file;
+        let name = file.device_name(part.device).unwrap_or("");
         let sent = sent_text(self.alloc, part.bytes.as_slice())?;
         let optional = if part.optional { "optional" } else { "" };
         let cells = [
             Cell::of(self.alloc, "", self.number)?,
             Cell::number(self.alloc, part.device.number(), NUMBER)?,
-            Cell::of(self.alloc, self.name_of(part.device), NAME)?,
+            Cell::of(self.alloc, name, NAME)?,
             Cell::of(self.alloc, sent.as_str(), self.sent_width())?,
             Cell::of(self.alloc, optional, OPTIONAL)?,
         ];

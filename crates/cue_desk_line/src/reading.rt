@@ -6,6 +6,7 @@ ghost use Rattle.cue_desk_line.specs.Orders.{IsAskedBy};
 
 mod commands;
 pub mod rehearsing;
+mod sheet;
 pub mod web;
 pub mod words;
 
@@ -17,6 +18,7 @@ use cue_desk::ports::said_port;
 use cue_operator::CueVerb;
 use cue_show::{CueNo, DeviceNo};
 use rehearsing::rehearsal_in;
+use sheet::{new_in, sheet_in};
 use std::alloc::Global;
 use web::web_in;
 use words::{Line, Manner, Watched};
@@ -163,6 +165,8 @@ fn file_line_in(
         "check" => Some(check_in(alloc, found)),
         "load" => Some(load_in(alloc, found)),
         "export" => Some(export_in(alloc, found)),
+        "new" => Some(new_in(alloc, found)),
+        "sheet" => Some(sheet_in(alloc, found)),
         "board" => Some(board_in(alloc, found)),
         "web" => Some(web_in(alloc, found).map(Line::Web)),
         "rehearse" => Some(rehearsal_in(alloc, found).map(Line::Rehearse)),

@@ -11,6 +11,8 @@ mod files;
 #[cfg(test)]
 mod loadings;
 #[cfg(test)]
+mod marks;
+#[cfg(test)]
 mod messages;
 #[cfg(test)]
 mod pages;
@@ -20,5 +22,7 @@ mod rehearsals;
 mod relays;
 #[cfg(test)]
 mod replies;
+#[cfg(test)]
+mod sheets;
 #[cfg(test)]
 mod station;

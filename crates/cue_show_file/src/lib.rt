@@ -24,6 +24,7 @@
 //! Only tested: the words and lines of mistakes, names and notes.
 #![tactic(auto)]
 
+mod beginning;
 mod checking;
 mod condensing;
 mod file;
@@ -38,6 +39,7 @@ mod routing;
 mod text;
 mod writing;
 
+pub use beginning::BEGINNING;
 pub use checking::{Checked, check};
 pub use condensing::condensed;
 pub use file::{CueEntry, DeviceEntry, ShowFile};
@@ -46,5 +48,5 @@ pub use mistake::{Finding, Mistake, Section, Slip, Subject};
 pub use reading::{Draft, read};
 pub use reviewing::{Review, review_of};
 pub use routing::{routes, shared_port};
-pub use text::cue_text;
+pub use text::{cue_text, plain_text};
 pub use writing::{of_show, written};

@@ -8,9 +8,11 @@ mod beside;
 mod board;
 mod files;
 mod loading;
+mod new;
 mod orders;
 mod rehearsing;
 mod relaying;
+mod sheet;
 mod web;
 mod wire;
 
@@ -23,9 +25,11 @@ use cue_saying::{print, say};
 use cue_show_file::ShowFile;
 use files::{check_file, export};
 use loading::{Loaded, load};
+use new::write_new;
 use orders::carry_order;
 use rehearsing::rehearse;
 use relaying::relay_devices;
+use sheet::print_sheet;
 use std::fs::{File, Files};
 use std::io::{Eprint, Write};
 use std::net::Net;
@@ -94,6 +98,8 @@ fn carry_out<R: Files<File = File> + Net + Clock + RandomSource + Eprint + Alloc
             load(rt, what, *port, writer)
         }
         Line::Export { dir } => export(rt, dir.as_str(), writer),
+        Line::New { file } => write_new(rt, file.as_str(), writer),
+        Line::Sheet { file, html } => print_sheet(rt, file.as_str(), *html, writer),
         Line::Board {
             watched,
             once,

@@ -49,6 +49,16 @@ pub enum Line {
     Export {
         dir: String,
     },
+    /// Write a show file to begin with.
+    New {
+        file: String,
+    },
+    /// Print the cue sheet of this show file.
+    Sheet {
+        file: String,
+        /// As a page for a browser.
+        html: bool,
+    },
     /// Show the board.
     Board {
         watched: Watched,
@@ -82,7 +92,11 @@ impl Line {
             }
             Line::Board { watched, .. } => Some(&mut watched.port),
             Line::Web(web) => Some(&mut web.port),
-            Line::Check { .. } | Line::Export { .. } | Line::Rehearse(_) => None,
+            Line::Check { .. }
+            | Line::Export { .. }
+            | Line::New { .. }
+            | Line::Sheet { .. }
+            | Line::Rehearse(_) => None,
         }
     }
 }

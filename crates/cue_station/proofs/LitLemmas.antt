@@ -1,6 +1,6 @@
 -- Which buttons are lit: of those that there are, the ones that may be; and the great ones are among them.
 use Rattle.std.proofs.Common.{◌≡◌, refl, sym, ap, ◌∙◌, subst, ℕ, Bool, true, false, ◌&&◌, ◌||◌, cond, List, [], ◌∷◌}
-use Rattle.std.proofs.Common.{◌++◌, append-nil, map, tt}
+use Rattle.std.proofs.Common.{◌++◌, append-nil, map}
 use Rattle.std.proofs.Common.{Option, None, Some, filter, IsTrue, ⊎_elim}
 use Rattle.std.proofs.lemmas.Map.Made.{is_some-lookup}
 use Rattle.std.specs.List.{filter_map, flat_map, list_any}

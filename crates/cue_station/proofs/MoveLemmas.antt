@@ -1,6 +1,6 @@
 -- The moves to the cues of a stack: each of them may be lit, or none, so none has to be looked at by itself.
 use Rattle.std.proofs.Common.{◌≡◌, refl, sym, ap, ◌∙◌, ℕ, Bool, true, false, ◌&&◌, cond, List, [], ◌∷◌, ◌++◌, map}
-use Rattle.std.proofs.Common.{filter, append_assoc, Option, None, Some, tt}
+use Rattle.std.proofs.Common.{filter, append_assoc, Option, None, Some}
 use Rattle.std.proofs.lemmas.List.Elements.{filter-append}
 use Rattle.std.proofs.lemmas.Map.Made.{is_some-lookup}
 use Rattle.std.specs.List.{filter_map, flat_map, list_any}

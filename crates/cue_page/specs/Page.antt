@@ -1,7 +1,8 @@
 -- A view as JSON (RFC 8259): what the page draws.
 use Rattle.std.specs.Prelude.{ℕ, List, ◌-◌, filter, map, codes, Option, None, Some}
 use Rattle.std.specs.List.{list_any}
-use Rattle.serde_json.specs.Data.{Data, null, boolean, number, unsigned, string, array, object, Members, member, no_members, put}
+use Rattle.serde_json.specs.Data.{Data, null, boolean, number, unsigned, string, array, object, Members, member}
+use Rattle.serde_json.specs.Data.{no_members, put}
 use Rattle.serde_json.specs.View.{items_of, view}
 use Rattle.cue_view.specs.declared.view.View.{View}
 use Rattle.cue_request.specs.Lit.{button_data}
@@ -84,8 +85,8 @@ with_second p members =
 abbrev pub told_data : Manner → Data
 told_data m = elim m.told [ None ↦ null | Some told ↦ string told.now ]
 
--- what the page gets: the view, what its numbers are called, and in what manner it is shown: in which run of the desk it
--- was made, whether some presses need a word, whether none is taken, and what is told of the show file
+-- what the page gets: the view, what its numbers are called, and in what manner it is shown: in which run of the desk
+-- it was made, whether some presses need a word, whether none is taken, and what is told of the show file
 abbrev pub page_data : Data → Manner → Data → Data
 page_data called m facts =
     object (member (codes "locked") (boolean m.is_locked)

@@ -19,7 +19,8 @@ pub(super) const SMALL: &str = r#"
 .low .next strong { font-size: 1.15rem; }
 .low .next .bar { width: .5rem; align-self: stretch; }
 .low .next .flag, .low .next .flag.danger { font-size: 1.1rem; margin: 0; }
-.low #stack li { grid-template-columns: .4rem .9rem minmax(1.5rem, auto) minmax(0, 1fr); padding: .05rem .3rem .05rem 0; }
+.low #stack li { padding: .05rem .3rem .05rem 0;
+  grid-template-columns: .4rem .9rem minmax(1.5rem, auto) minmax(0, 1fr); }
 .low #stack li .small { grid-column: 4; justify-self: start; }
 .low .attempt { padding: .2rem .6rem; margin-top: .2rem; }
 .low .attempt h3 { font-size: 1.1rem; }

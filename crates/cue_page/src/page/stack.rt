@@ -29,8 +29,8 @@ function cueRows() {
   return [...rows.values()].map((row) => row.line);
 }
 
-// Scrolls the list so that this row stands in its upper third. Rows that were never in sight have no height of their own
-// yet, so it is looked at again once those around it are there.
+// Scrolls the list so that this row stands in its upper third. Rows that were never in sight have no height of their
+// own yet, so it is looked at again once those around it are there.
 function showRow(row, again = 3) {
   const list = at("list"), top = row.line.offsetTop - (list.clientHeight - row.line.offsetHeight) / 3;
   if (Math.abs(list.scrollTop - top) > 1) list.scrollTop = top;

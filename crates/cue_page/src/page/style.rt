@@ -43,7 +43,8 @@ section { min-height: 0; min-width: 0; overflow: auto; }
 #moves { flex: 1 0 70%; min-height: 0; min-width: 0; padding: 0; border: 0; display: flex; margin-top: .4rem; }
 #list { flex: 1; min-width: 0; overflow: auto; position: relative; }
 #stack, #past { list-style: none; padding: 0; }
-#stack li { display: grid; grid-template-columns: .5rem 1.2rem minmax(2.8rem, auto) minmax(0, 1fr) auto; gap: .1rem .4rem;
+#stack li { display: grid; gap: .1rem .4rem;
+  grid-template-columns: .5rem 1.2rem minmax(2.8rem, auto) minmax(0, 1fr) auto;
   align-items: baseline; padding: .25rem .5rem .25rem 0; overflow-wrap: anywhere; border: 2px solid transparent;
   content-visibility: auto; contain-intrinsic-size: auto 3.4rem; }
 #stack li[aria-current] { background: var(--panel); border-color: var(--amber); font-weight: 700; }

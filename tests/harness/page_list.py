@@ -8,6 +8,8 @@ from page_scenes import goes_to
 
 REDRAWN = 5  # milliseconds that drawing a view of a full show takes at most, if nothing of the list has changed
 SIGNS = {"danger": "DANGER", "fly": "FLY", "trap": "TRAP"}
+BARS = "return [...document.querySelectorAll('#stack .bar')].map(e => getComputedStyle(e).backgroundColor)"
+DRAWN = "const t = performance.now(); for (let k = 0; k < 20; k++) draw(); return (performance.now() - t) / 20"
 IN_SIGHT = """const r = rows.get(arguments[0]).line.getBoundingClientRect();
 const l = document.getElementById('list').getBoundingClientRect();
 return r.top >= l.top - 1 && r.bottom <= l.bottom + 1;"""
@@ -29,7 +31,7 @@ def is_marked(page):
     for cue, (color, flag) in MARKS.items():
         row = page.run("return rows.get(arguments[0]).line.textContent", cue)
         check(f"cue {cue} has its marks in words", (color or "") in row and SIGNS.get(flag, "") in row)
-    bars = page.run("return [...document.querySelectorAll('#stack .bar')].map(e => getComputedStyle(e).backgroundColor)")
+    bars = page.run(BARS)
     check("colours are bars", len(set(bars)) == len({color for color, _ in MARKS.values() if color}) + 1)
     goes_to(page, "6")
     check("DANGER stands at NEXT", page.waits_for(lambda: "DANGER" in page.text("next") and "red" in page.text("next")))
@@ -92,6 +94,6 @@ def is_whole(page, evening):
     check("the place moves", evening.tells("goto", "700"))
     check("the list follows it", page.shows("standby-cue", "cue 700") and is_in_sight(page, "700"))
     check("no row is made anew", page.run("return rows.get('512').line.isOld === true"))
-    took = page.run("const t = performance.now(); for (let k = 0; k < 20; k++) draw(); return (performance.now() - t) / 20")
+    took = page.run(DRAWN)
     print(f"     drawing a view of a full show takes {took:.1f} ms", flush=True)
     check(f"drawing one takes at most {REDRAWN} ms", is_checked(evening.desk) or took <= REDRAWN)

@@ -36,18 +36,18 @@ for (const e of document.querySelectorAll('body *')) {
 return least.sort((x, y) => x[0] - y[0])[0];"""
 
 
-def set_to(page, button, setting, value):
+def set_to(page, setting, value):
     """Presses a button of the header until the page has this setting."""
     for _ in range(3):
-        if page.run("return document.documentElement.dataset[arguments[0]]", setting) != value:
-            page.click(button)
-    check(f"the {setting} is {value}", page.run("return document.documentElement.dataset[arguments[0]]", setting) == value)
+        if page.run("return look[arguments[0]]", setting) != value:
+            page.click(setting)
+    check(f"the {setting} is {value}", page.run("return look[arguments[0]]", setting) == value)
 
 
 def has_contrast(page, pictures):
     """Contrast in both themes."""
     for theme in ("light", "dark"):
-        set_to(page, "theme", "theme", theme)
+        set_to(page, "theme", theme)
         least = page.run(CONTRAST)
         print(f"     the least contrast of the {theme} page is {least[0]:.1f} to 1 ({least[1]})")
         check(f"contrast of the {theme} page is at least 7 to 1", least[0] >= 7)
@@ -71,10 +71,10 @@ def in_a_window(page, size, width, height):
 
 
 def in_windows(page, pictures, waits):
-    """Each window, as a browser's zoom of 200 % and phones make it, with type of each size, while a cue waits for device
-    22: `waits` has one do so."""
+    """Each window, as a browser's zoom of 200 % and phones make it, with type of each size. A cue waits for device 22
+    meanwhile: `waits` has one do so."""
     for size in SIZES:
-        set_to(page, "size", "size", size)
+        set_to(page, "size", size)
         page.sized()
         waits()
         if pictures and size != "normal":
@@ -85,13 +85,13 @@ def in_windows(page, pictures, waits):
             if pictures and (size == "normal" or (width, height) in WINDOWS[:3]):
                 page.picture(pictures / f"page-{width}x{height}{'' if size == 'normal' else '-' + size}.png")
         page.sized()
-    set_to(page, "size", "size", "normal")
+    set_to(page, "size", "normal")
 
 
 def is_kept(page, address):
     """The browser keeps how the page looks; where it has no storage, the address does."""
-    set_to(page, "theme", "theme", "light")
-    set_to(page, "size", "size", "large")
+    set_to(page, "theme", "light")
+    set_to(page, "size", "large")
     page.open(address)
     check("the look is kept", page.shows("stack", "Finale, all in") and
           page.run("return look.theme + ' ' + look.size") == "light large")
@@ -100,8 +100,8 @@ def is_kept(page, address):
     check("without a storage it stands in the address", page.run("return location.hash").endswith("theme=dark"))
     page.run("history.replaceState(null, '', location.pathname)")
     page.open(address)
-    set_to(page, "theme", "theme", "dark")
-    set_to(page, "size", "size", "normal")
+    set_to(page, "theme", "dark")
+    set_to(page, "size", "normal")
 
 
 def is_allowed(page):

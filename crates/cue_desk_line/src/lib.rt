@@ -5,5 +5,5 @@ mod reading;
 
 pub use reading::line;
 pub use reading::rehearsing::{Flags, Rehearsal, with_flags};
-pub use reading::web::Web;
+pub use reading::web::{LockWord, PageUse, Web};
 pub use reading::words::{Line, Manner, Watched};

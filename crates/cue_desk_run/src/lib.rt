@@ -41,7 +41,7 @@ mod relay;
 mod stamps;
 
 pub use addresses::local;
-pub use clocks::Beat;
+pub use clocks::{Beat, wall_time};
 pub use desk::{Desk, Sources};
 pub use orders::ask_once;
 pub use relay::read_status;

@@ -1,5 +1,7 @@
 pub mod Answers
+pub mod Doors
 pub mod Fields
 pub mod Lit
+pub mod Locks
 pub mod Presses
 pub mod Requests

@@ -21,8 +21,10 @@
 #![tactic(auto)]
 
 pub mod answering;
+pub mod door;
 mod fields;
 pub mod lit;
+pub mod lock;
 mod numbers;
 pub mod pressing;
 pub mod replying;

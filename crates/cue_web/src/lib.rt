@@ -20,4 +20,4 @@ mod pages;
 mod visitor;
 
 pub use hall::Hall;
-pub use pages::Pages;
+pub use pages::{Beside, Pages};

@@ -8,9 +8,11 @@ mod beside;
 mod board;
 mod files;
 mod loading;
+mod locking;
 mod orders;
 mod rehearsing;
 mod relaying;
+mod renewing;
 mod web;
 mod wire;
 

@@ -1,7 +1,7 @@
 //! Views that were made by hand, and what page and board draw of them.
 use cue_board::{Names, board_lines};
 use cue_exchange::{Answer, Answers, DeviceAnswer, Outcome, Reason, Stage};
-use cue_page::board::view_text;
+use cue_page::board::{Manner, view_text};
 use cue_relay::status::Ordered;
 use cue_show::{CueNo, DeviceNo};
 use cue_show_file::{ShowFile, read};
@@ -269,9 +269,19 @@ fn page_has_the_facts_of_the_view(rt: HostRuntime) {
         port: 9100,
     };
     let view = full_view(alloc).expect(&rt, "memory");
-    let text = view_text(alloc, &view, &names, "r1").expect(&rt, "memory");
+    let manner = Manner {
+        run: "r1",
+        is_locked: true,
+        is_read_only: false,
+        told: None,
+    };
+    let text = view_text(alloc, &view, &names, &manner).expect(&rt, "memory");
     assert!(rt; text.as_str().ends_with(FACTS), "{}", text.as_str());
-    assert!(rt; text.as_str().contains("\"run\":\"r1\""));
+    assert!(rt;
+        text.as_str()
+            .contains("\"readonly\":false,\"run\":\"r1\",\"told\":null,")
+    );
+    assert!(rt; text.as_str().starts_with("{\"locked\":true,\"names\":"));
     assert!(rt;
         text.as_str().contains("{\"cue\":\"7\",\"name\":\"Arie\",\"note\":\"wait for the lamp\"}")
     );

@@ -1,6 +1,6 @@
 -- A view as JSON (RFC 8259): what the page draws.
 use Rattle.std.specs.Prelude.{ℕ, List, ◌-◌, map, codes, Option, None, Some}
-use Rattle.serde_json.specs.Data.{Data, null, number, unsigned, string, array, object, Members, member, no_members, put}
+use Rattle.serde_json.specs.Data.{Data, null, boolean, number, unsigned, string, array, object, Members, member, no_members, put}
 use Rattle.serde_json.specs.View.{items_of, view}
 use Rattle.cue_view.specs.declared.view.View.{View}
 use Rattle.cue_request.specs.Lit.{button_data}
@@ -11,6 +11,7 @@ use Rattle.cue_page.specs.Network.{contact_data}
 use Rattle.cue_page.specs.Said.{said_data, unsent_data}
 use Rattle.cue_page.specs.Stack.{next_data, stack_data}
 use Rattle.cue_page.specs.declared.board.FirstHalf.{FirstHalf}
+use Rattle.cue_page.specs.declared.board.Manner.{Manner}
 use Rattle.cue_page.specs.declared.board.Parts.{Parts}
 use Rattle.cue_page.specs.declared.board.SecondHalf.{SecondHalf}
 
@@ -75,9 +76,17 @@ with_second p members =
     (put (codes "read") (view p.read) (put (codes "past") (view p.past)
     (put (codes "number") (number (unsigned p.number)) members))))))
 
--- what the page gets: the view, in which run of the desk it was made, and what its numbers are called
-abbrev pub page_data : Data → List ℕ → Data → Data
-page_data called run facts =
-    object (member (codes "names") called
-    (member (codes "run") (string run)
-    (member (codes "view") facts no_members)))
+-- the line about the show file; null where there is none
+abbrev pub told_data : Manner → Data
+told_data m = elim m.told [ None ↦ null | Some told ↦ string told.now ]
+
+-- what the page gets: the view, what its numbers are called, and in what manner it is shown: in which run of the desk it
+-- was made, whether some presses need a word, whether none is taken, and what is told of the show file
+abbrev pub page_data : Data → Manner → Data → Data
+page_data called m facts =
+    object (member (codes "locked") (boolean m.is_locked)
+    (member (codes "names") called
+    (member (codes "readonly") (boolean m.is_read_only)
+    (member (codes "run") (string m.run.now)
+    (member (codes "told") (told_data m)
+    (member (codes "view") facts no_members))))))

@@ -5,6 +5,8 @@
 #[cfg(test)]
 mod boards;
 #[cfg(test)]
+mod doors;
+#[cfg(test)]
 mod drawings;
 #[cfg(test)]
 mod files;
@@ -12,6 +14,8 @@ mod files;
 mod loadings;
 #[cfg(test)]
 mod messages;
+#[cfg(test)]
+mod news;
 #[cfg(test)]
 mod pages;
 #[cfg(test)]

@@ -22,7 +22,7 @@ abbrev pub later_words : Later → List ℕ
 later_words later.Nothing = []
 later_words later.Port = codes "; its port counts from the next start"
 later_words later.Relay = codes "; its relay counts from the next start"
-later_words later.Both = codes "; its port and its relay count from the next start"
+later_words later.Both = codes "; port and relay count from the next start"
 
 -- a file with mistakes is not taken, and it is said where the first one is
 abbrev pub wrong_words : Option ℕ → List ℕ

@@ -74,7 +74,7 @@ fn later_words(later: Later) -> &'static str
         Later::Nothing => "",
         Later::Port => "; its port counts from the next start",
         Later::Relay => "; its relay counts from the next start",
-        Later::Both => "; its port and its relay count from the next start",
+        Later::Both => "; port and relay count from the next start",
     }
 }
 
@@ -91,12 +91,7 @@ fn wrong_words(alloc: Global, line: Option<usize>) -> Result<String, AllocError>
 }
 
 // That the file was read then, as long as that is told.
-fn read_words(
-    alloc: Global,
-    at: u64,
-    later: Later,
-    now: u64,
-) -> Result<Option<String>, AllocError>
+fn read_words(alloc: Global, at: u64, later: Later, now: u64) -> Result<Option<String>, AllocError>
     ensures { IfOk result (λ text. option_map string_bytes text ≡ told.read_words at later now) }
 {
     if now.saturating_sub(at) >= TOLD {

@@ -121,7 +121,10 @@ fn misfit(alloc: Global, fit: Fit) -> Option<LineFault> {
             "--read-only",
             "takes no press, so there is nothing to lock: leave out one of the two",
         ),
-        Fit::TwoWords => ("--lock-file", "has the word, and so has --lock: leave out one of the two"),
+        Fit::TwoWords => (
+            "--lock-file",
+            "has the word, and so has --lock: leave out one of the two",
+        ),
     };
     Some(unfit(alloc, option, words))
 }

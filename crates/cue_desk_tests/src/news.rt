@@ -2,9 +2,10 @@
 use cue_file_news::{Kept, Later, News, Trouble, later_of, told_words};
 use cue_relay::{Address, Route};
 use cue_show::DeviceNo;
+use std::process::Abort;
 
 // What is told, or "-".
-fn told(rt: &HostRuntime, trouble: Option<Trouble>, news: News, now: u64) -> String {
+fn told<R: Abort + AllocGlobal>(rt: &R, trouble: Option<Trouble>, news: News, now: u64) -> String {
     let told = told_words(rt.alloc(), trouble, news, now).expect(rt, "memory");
     match told {
         Some(told) => told,
@@ -61,7 +62,7 @@ fn what_became_of_the_file_is_told(rt: HostRuntime) {
 }
 
 // What a desk keeps of a file with this port, this listen and one route to this host.
-fn kept(rt: &HostRuntime, port: u16, listen: Option<u32>, host: &str) -> Kept {
+fn kept<R: Abort + AllocGlobal>(rt: &R, port: u16, listen: Option<u32>, host: &str) -> Kept {
     let mut routes = Vec::new(rt.alloc());
     if let Some(address) = Address::read(host) {
         let device = DeviceNo::of(3).expect(rt, "a device");

@@ -59,6 +59,11 @@ fn text_at<R: Files<File = File> + AllocGlobal>(rt: &R, path: &str) -> io::Resul
     fs::read_to_string(rt, path)
 }
 
+// Whether a file has nothing: an editor that is at work may have emptied it.
+fn is_empty(file: &ShowFile) -> bool {
+    file.devices.is_empty() && file.cues.is_empty()
+}
+
 // The show file that a text is; else the line of its first mistake, where it has one.
 fn file_in(alloc: Global, text: &str) -> Result<Result<ShowFile, Option<usize>>, AllocError> {
     let Draft { file, findings, .. } = read(alloc, text)?;
@@ -66,7 +71,7 @@ fn file_in(alloc: Global, text: &str) -> Result<Result<ShowFile, Option<usize>>,
     let told = condensed(alloc, findings, trial.findings)?;
     Ok(match told.first() {
         Some(finding) => Err(finding.line),
-        None if trial.show.is_none() => Err(None),
+        None if trial.show.is_none() || is_empty(&file) => Err(None),
         None => Ok(file),
     })
 }

@@ -8,6 +8,7 @@
 //! Why it is so:
 //! - A file is read once two looks in a row found the same: an editor may still be writing what looked otherwise a
 //!   second ago. A file that is gone for one look is an editor that puts another one in its place.
+//! - While an attempt is live nothing is read: the largest show file takes a while, and GO and CANCEL wait for nothing.
 //! - What was read within four seconds of a change is read again at each look until then: file systems count time in
 //!   steps, and within one a file may change twice (`stamps` of `cue_desk`).
 //! - What stands open at the start stays: the port of the controller and the devices of a relay. What a new file has

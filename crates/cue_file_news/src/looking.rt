@@ -1,5 +1,5 @@
 //! When a show file is read again.
-ghost use Rattle.std.specs.Prelude.{◌≡◌, ◌↔◌, IsTrue, Some};
+ghost use Rattle.std.specs.Prelude.{◌≡◌, ◌↔◌, false, IsTrue, Some};
 ghost use Rattle.cue_desk.specs.Readings.{IsSettled};
 ghost use Rattle.cue_file_news.specs.Looks.{Holds, IsMissing, IsToRead};
 ghost use Rattle.cue_file_news.specs.declared.looking.Due.TheVariants as due;
@@ -97,16 +97,18 @@ impl Looks {
         }
     }
 
-    /// What is due after a look that found this, which is called for each look.
-    pub fn look(&mut self, found: Look) -> Due
+    /// What is due after a look that found this, which is called for each look. While an attempt is live nothing is
+    /// read: a press would have to wait for it.
+    pub fn look(&mut self, found: Look, is_live: bool) -> Due
+        ensures idle { result ≡ due.Read → is_live ≡ false }
         ensures read { result ≡ due.Read → IsToRead self.old found }
-        ensures reads { IsToRead self.old found → result ≡ due.Read }
+        ensures reads { is_live ≡ false → IsToRead self.old found → result ≡ due.Read }
         ensures missing { result ≡ due.Missing → IsMissing self.old found }
         ensures next { self.new ≡ record self.old { last = found } }
     {
         let looks = *self;
         self.last = found;
-        if looks.is_to_read(found) {
+        if !is_live && looks.is_to_read(found) {
             Due::Read
         } else if looks.is_missing(found) {
             Due::Missing

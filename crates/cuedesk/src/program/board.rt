@@ -84,7 +84,8 @@ impl<'a, R: Files<File = File> + Net + Clock + AllocGlobal> Board<'a, R> {
         let Some(renewed) = &mut self.renewed else {
             return Ok(());
         };
-        if let Some(file) = renewed.look(self.rt, now) {
+        let is_live = !self.desk.view().live.is_empty();
+        if let Some(file) = renewed.look(self.rt, now, is_live) {
             self.file = Some(file);
         }
         self.told = renewed.told(self.rt.alloc(), now)?;

@@ -146,11 +146,12 @@ impl Renewed<'_> {
     }
 
     /// Looks at the file, if a look is due: the new one, if it has changed and has no mistake. `now` is this moment in
-    /// milliseconds, by the clock of the desk.
+    /// milliseconds, by the clock of the desk. While an attempt is live the file is not read.
     pub fn look<R: Files<File = File> + Clock + AllocGlobal>(
         &mut self,
         rt: &R,
         now: u64,
+        is_live: bool,
     ) -> Option<ShowFile> {
         if !self.beats.is_due(now) {
             return None;
@@ -159,7 +160,7 @@ impl Renewed<'_> {
         if self.trouble == Some(Trouble::Missing) && found != Look::Gone {
             self.trouble = None;
         }
-        match (self.looks.look(found), found) {
+        match (self.looks.look(found, is_live), found) {
             (Due::Read, Look::There(stamp)) => return self.read(rt, stamp, now),
             (Due::Missing, _) => self.trouble = Some(Trouble::Missing),
             _ => {}

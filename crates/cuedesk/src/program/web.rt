@@ -1,7 +1,7 @@
 //! The command `web`: the board with buttons, served to a browser on this machine.
+use super::locking::lock_word;
 use super::port_of;
 use super::renewing::{Renewed, begin};
-use super::locking::lock_word;
 use cue_desk::ending::Ending;
 use cue_desk_line::{PageUse, Web};
 use cue_desk_run::{Desk, Sources};
@@ -48,7 +48,8 @@ impl<R: Files<File = File> + Net + Clock + Eprint + AllocGlobal> Server<'_, R> {
         let Some(renewed) = &mut self.renewed else {
             return Ok(());
         };
-        if let Some(file) = renewed.look(self.rt, now) {
+        let is_live = !self.desk.view().live.is_empty();
+        if let Some(file) = renewed.look(self.rt, now, is_live) {
             self.pages.put_file(file);
         }
         self.pages.tell(renewed.told(self.rt.alloc(), now)?);
@@ -60,8 +61,7 @@ impl<R: Files<File = File> + Net + Clock + Eprint + AllocGlobal> Server<'_, R> {
         let alloc = self.rt.alloc();
         let now = self.desk.now()?;
         let is_waited_for = self.hall.admit(alloc, self.desk.registry(), now);
-        self.hall
-            .serve(alloc, &mut self.desk, &mut self.pages, now);
+        self.hall.serve(alloc, &mut self.desk, &mut self.pages, now);
         self.desk.round()?;
         let _ = self.renew(now);
         self.desk.wait(if is_waited_for { 0 } else { PAUSE })

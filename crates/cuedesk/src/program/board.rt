@@ -79,16 +79,19 @@ impl<'a, R: Files<File = File> + Net + Clock + AllocGlobal> Board<'a, R> {
         }
     }
 
-    // Looks at the show file. Where memory is short, what is told stays.
-    fn renew(&mut self, now: u64) -> Result<(), AllocError> {
+    // Looks at the show file. Where memory is short, what is told of it stays.
+    fn renew(&mut self) -> io::Result<()> {
         let Some(renewed) = &mut self.renewed else {
             return Ok(());
         };
         let is_live = !self.desk.view().live.is_empty();
-        if let Some(file) = renewed.look(self.rt, now, is_live) {
+        if let Some(file) = renewed.look(self.rt, self.desk.now()?, is_live) {
             self.file = Some(file);
+            renewed.begin_to_tell(self.desk.now()?);
         }
-        self.told = renewed.told(self.rt.alloc(), now)?;
+        if let Ok(told) = renewed.told(self.rt.alloc(), self.desk.now()?) {
+            self.told = told;
+        }
         Ok(())
     }
 
@@ -196,9 +199,8 @@ fn round<R: Files<File = File> + Net + Clock + AllocGlobal>(
 ) -> io::Result<bool> {
     board.desk.wait(PAUSE)?;
     board.desk.round()?;
-    let now = board.desk.now()?;
-    let _ = board.renew(now);
-    Ok(pictures.is_due(now))
+    board.renew()?;
+    Ok(pictures.is_due(board.desk.now()?))
 }
 
 // Draws the picture that is due.

@@ -168,6 +168,13 @@ impl Renewed<'_> {
         None
     }
 
+    /// The file that was read is shown from this moment on: to read it took a while, if it is large.
+    pub fn begin_to_tell(&mut self, now: u64) {
+        if let News::Read(_, later) = self.news {
+            self.news = News::Read(now, later);
+        }
+    }
+
     /// What is told of the file now.
     pub fn told(&self, alloc: Global, now: u64) -> Result<Option<String>, AllocError> {
         told_words(alloc, self.trouble, self.news, now)

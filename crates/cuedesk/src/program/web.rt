@@ -9,7 +9,7 @@ use cue_request::door::{Door, Purpose};
 use cue_saying::{failed, print, say, say_fault};
 use cue_web::{Beside, Hall, Pages};
 use hex::encode;
-use std::alloc::{AllocError, Global};
+use std::alloc::Global;
 use std::fs::{File, Files};
 use std::io::{self, Eprint, Write};
 use std::net::Net;
@@ -43,27 +43,30 @@ fn draw_token<R: RandomSource + Eprint + AllocGlobal>(rt: &R) -> Result<String, 
 }
 
 impl<R: Files<File = File> + Net + Clock + Eprint + AllocGlobal> Server<'_, R> {
-    // Looks at the show file.
-    fn renew(&mut self, now: u64) -> Result<(), AllocError> {
+    // Looks at the show file. Where memory is short, what is told of it stays.
+    fn renew(&mut self) -> io::Result<()> {
         let Some(renewed) = &mut self.renewed else {
             return Ok(());
         };
         let is_live = !self.desk.view().live.is_empty();
-        if let Some(file) = renewed.look(self.rt, now, is_live) {
+        if let Some(file) = renewed.look(self.rt, self.desk.now()?, is_live) {
             self.pages.put_file(file);
+            renewed.begin_to_tell(self.desk.now()?);
         }
-        self.pages.tell(renewed.told(self.rt.alloc(), now)?);
+        if let Ok(told) = renewed.told(self.rt.alloc(), self.desk.now()?) {
+            self.pages.tell(told);
+        }
         Ok(())
     }
 
-    // One round: who presses is heard first. Where memory is short what is told of the show file stays.
+    // One round: who presses is heard first.
     fn round(&mut self) -> io::Result<()> {
         let alloc = self.rt.alloc();
         let now = self.desk.now()?;
         let is_waited_for = self.hall.admit(alloc, self.desk.registry(), now);
         self.hall.serve(alloc, &mut self.desk, &mut self.pages, now);
         self.desk.round()?;
-        let _ = self.renew(now);
+        self.renew()?;
         self.desk.wait(if is_waited_for { 0 } else { PAUSE })
     }
 

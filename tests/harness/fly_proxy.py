@@ -62,9 +62,10 @@ class Proxy:
         self.context = ssl.create_default_context(cafile=str(folder / "crt"))
 
     def make_certificate(self):
-        subprocess.run(["openssl", "req", "-x509", "-newkey", "rsa:2048", "-nodes", "-days", "2", "-subj", f"/CN={NAME}",
-                        "-addext", f"subjectAltName=DNS:{NAME}", "-keyout", str(self.folder / "key"),
-                        "-out", str(self.folder / "crt")], check=True, capture_output=True)
+        subprocess.run(["openssl", "req", "-x509", "-newkey", "rsa:2048", "-nodes", "-days", "2",
+                        "-subj", f"/CN={NAME}", "-addext", f"subjectAltName=DNS:{NAME}",
+                        "-keyout", str(self.folder / "key"), "-out", str(self.folder / "crt")],
+                       check=True, capture_output=True)
 
     def is_ready(self, seconds=10.0):
         end = time.monotonic() + seconds

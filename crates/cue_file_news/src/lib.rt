@@ -1,8 +1,8 @@
-//! What is new of a show file while a desk shows it: when it is read again, and what is told of it. Nothing here opens a
-//! file.
+//! What is new of a show file while a desk shows it: when it is read again, and what is told of it. Nothing here opens
+//! a file.
 //!
-//! A desk looks at its show file once a second: at what the system says of it, not at its bytes. `Looks` says after each
-//! look whether the file is to be read (`specs/Looks.antt`), and `News` what is told of what came of that
+//! A desk looks at its show file once a second: at what the system says of it, not at its bytes. `Looks` says after
+//! each look whether the file is to be read (`specs/Looks.antt`), and `told_words` what is told of what came of that
 //! (`specs/Told.antt`).
 //!
 //! Why it is so:
@@ -14,7 +14,7 @@
 //! - What stands open at the start stays: the port of the controller and the devices of a relay. What a new file has
 //!   otherwise is told, and counts from the next start.
 //!
-//! Only tested: nothing of it; the files themselves are those of `cuedesk`.
+//! Only tested: that what differs of two files is found (`later_of`).
 #![tactic(auto)]
 
 mod looking;

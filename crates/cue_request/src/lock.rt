@@ -53,8 +53,8 @@ pub fn needs_word(button: Button) -> bool
     }
 }
 
-/// Whether a text can be the word of a lock: letters, digits and signs of ASCII, which a field of a head carries as they
-/// are, at least one and 64 at most.
+/// Whether a text can be the word of a lock: letters, digits and signs of ASCII, which a field of a head carries as
+/// they are, at least one and 64 at most.
 pub fn is_word(text: &[u8]) -> bool
     ensures { IsTrue result → IsTrue (list_all is_ascii_graphic text.now) }
 {

@@ -57,13 +57,20 @@ fn is_name_byte(byte: u8) -> bool
     byte.is_ascii_lowercase() || byte.is_ascii_digit() || byte == b'-' || byte == b'.'
 }
 
+// Whether each byte of a text may stand in a name.
+fn is_of_name(text: &[u8]) -> bool
+    ensures { result ≡ list_all is_name_byte text.now }
+{
+    text.iter().all(|byte| is_name_byte(*byte))
+}
+
 // Whether a text can be the name of a host, without a port.
 fn is_plain_name(text: &[u8]) -> bool
     ensures { IsTrue result → IsTrue (list_all is_name_byte text.now) }
 {
     !text.is_empty()
         && text.len() <= MAX_NAME
-        && text.iter().all(|byte| is_name_byte(*byte))
+        && is_of_name(text)
         && !text.starts_with(b".")
         && !text.ends_with(b".")
 }

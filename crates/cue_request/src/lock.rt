@@ -53,12 +53,19 @@ pub fn needs_word(button: Button) -> bool
     }
 }
 
+// Whether a text is letters, digits and signs of ASCII.
+fn is_graphic(text: &[u8]) -> bool
+    ensures { result ≡ list_all is_ascii_graphic text.now }
+{
+    text.iter().all(|byte| byte.is_ascii_graphic())
+}
+
 /// Whether a text can be the word of a lock: letters, digits and signs of ASCII, which a field of a head carries as
 /// they are, at least one and 64 at most.
 pub fn is_word(text: &[u8]) -> bool
     ensures { IsTrue result → IsTrue (list_all is_ascii_graphic text.now) }
 {
-    !text.is_empty() && text.len() <= MAX_WORD && text.iter().all(|byte| byte.is_ascii_graphic())
+    !text.is_empty() && text.len() <= MAX_WORD && is_graphic(text)
 }
 
 // What a press says of this word, which is that of the lock.

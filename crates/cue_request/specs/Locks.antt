@@ -1,5 +1,5 @@
 -- The lock of a show.
-use Rattle.std.specs.Prelude.{ℕ, ◌-◌, nat_lt, Bool, true, false, List, Option, None, Some, option_map, if◌then◌else◌}
+use Rattle.std.specs.Prelude.{ℕ, ◌-◌, nat_lt, Bool, true, false, List, Option, None, Some, if◌then◌else◌}
 use Rattle.cue_show.specs.Number.{same_text}
 use Rattle.cue_view.specs.declared.button.Button.{Button}
 use Rattle.cue_view.specs.declared.button.Button.TheVariants as button

@@ -7,27 +7,30 @@ use Rattle.std.specs.Str.{chars}
 use Rattle.std.proofs.lemmas.List.{at_drop_all, at_drop_more}
 use Rattle.std.proofs.lemmas.List.Folds.{list_all-append}
 use Rattle.cue_words.specs.Signs.{is_shown, shown}
-use Rattle.cue_words.proofs.SignLemmas.{is_shown-shown}
 use Rattle.cue_sheet.specs.Html.{IsHtml, html_of, html_sign, is_plain_html, sign_of}
 
 -- ---- what HTML has of a text neither begins nor ends a tag or a value
+
+shown-by : (b : Bool) (c : ℕ) → is_shown c ≡ b → is_shown (if b then c else 63) ≡ true
+shown-by true c e = e
+shown-by false c e = refl
 
 plain-by : (a b d e f : Bool) (s : ℕ) → (s == 60) ≡ a → (s == 62) ≡ b → (s == 38) ≡ d → (s == 34) ≡ e → (s == 39) ≡ f
     → is_shown s ≡ true
     → list_all is_plain_html
     (if a then codes "&lt;" else if b then codes "&gt;" else if d then codes "&amp;"
     else if e then codes "&quot;" else if f then codes "&#39;" else s ∷ []) ≡ true
-plain-by true b d e f s ia ib id ie if h = refl
-plain-by false true d e f s ia ib id ie if h = refl
-plain-by false false true e f s ia ib id ie if h = refl
-plain-by false false false true f s ia ib id ie if h = refl
-plain-by false false false false true s ia ib id ie if h = refl
-plain-by false false false false false s ia ib id ie if h = rw (ia, ib, ie, if, h) refl
+plain-by true b d e f s ha hb hd he hf k = refl
+plain-by false true d e f s ha hb hd he hf k = refl
+plain-by false false true e f s ha hb hd he hf k = refl
+plain-by false false false true f s ha hb hd he hf k = refl
+plain-by false false false false true s ha hb hd he hf k = refl
+plain-by false false false false false s ha hb hd he hf k = rw (ha, hb, he, hf, k) refl
 
 plain-sign : (c : ℕ) → list_all is_plain_html (sign_of c) ≡ true
 plain-sign c =
     let s : ℕ = shown c in
-    plain-by (s == 60) (s == 62) (s == 38) (s == 34) (s == 39) s refl refl refl refl refl (is_shown-shown c)
+    plain-by (s == 60) (s == 62) (s == 38) (s == 34) (s == 39) s refl refl refl refl refl (shown-by (is_shown c) c refl)
 
 plain-signs : (cs : List ℕ) → list_all is_plain_html (flat_map sign_of cs) ≡ true
 plain-signs [] = refl

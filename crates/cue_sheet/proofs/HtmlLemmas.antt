@@ -1,13 +1,13 @@
 -- A text is put into HTML one character after the other.
 use Rattle.std.proofs.Common.{◌≡◌, ◌∙◌, ◌<◌, ◌≤◌, ◌+◌, ℕ, List, [], ◌∷◌, ◌++◌, length, get_or, drop, codes}
-use Rattle.std.proofs.Common.{Bool, true, false, ◌==◌, ◌&&◌, if◌then◌else◌, encode_utf8, encode_utf8_all}
+use Rattle.std.proofs.Common.{Bool, true, false, ◌==◌, if◌then◌else◌, encode_utf8, encode_utf8_all}
 use Rattle.std.proofs.Common.{refl, sym, ap, append_assoc, append-nil}
 use Rattle.std.specs.List.{flat_map, list_all}
 use Rattle.std.specs.Str.{chars}
 use Rattle.std.proofs.lemmas.List.{at_drop_all, at_drop_more}
 use Rattle.std.proofs.lemmas.List.Folds.{list_all-append}
 use Rattle.cue_words.specs.Signs.{is_shown, shown}
-use Rattle.cue_sheet.specs.Html.{IsHtml, html_of, html_sign, is_plain_html, sign_of}
+use Rattle.cue_sheet.specs.Html.{IsHtml, html_of, is_plain_html, sign_of}
 
 -- ---- what HTML has of a text neither begins nor ends a tag or a value
 

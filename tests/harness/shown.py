@@ -10,7 +10,7 @@ PAGES = ("README.md", "CONTRIBUTING.md", "CHANGELOG.md", "tests/README.md",
 PROGRAMS = """apt apt-get c++ cat cc chmod chown cp curl export g++ gcc git install journalctl kill ln mkdir mv
     oscdump oscsend pip python3 rm rt runuser scp sha256sum sleep ss ssh sudo sync systemctl tail tar
     useradd wg wg-quick""".split()
-DESK = "load|export|board|web|check|rehearse|relay|standby|go|cancel|goto|release|remove|status"  # words of cuedesk
+DESK = "new|check|sheet|load|export|board|web|rehearse|relay|standby|go|cancel|goto|release|remove|status"  # words of cuedesk
 LINE = re.compile(rf"\(cd |(?:{'|'.join(map(re.escape, PROGRAMS))}) |(?:\./)?(?:cuectl|cuedesk) "
                   r"|(?:\./|tools/|tests/|examples/|\.ci/|/tmp/)\S")
 BLOCK = re.compile(r"(?<=\n\n)(?:    .*\n+)+")  # what is shown after an empty line

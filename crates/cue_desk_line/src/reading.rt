@@ -9,6 +9,7 @@ mod commands;
 pub mod pressing;
 pub mod rehearsing;
 pub mod reporting;
+mod sheet;
 pub mod web;
 pub mod words;
 
@@ -23,6 +24,7 @@ use cue_show::{CueNo, DeviceNo};
 use pressing::pressed_in;
 use rehearsing::rehearsal_in;
 use reporting::{asker_in, asker_said, report_in};
+use sheet::{new_in, sheet_in};
 use std::alloc::Global;
 use web::web_in;
 use words::{Environment, Line, Manner, Watched};
@@ -171,6 +173,8 @@ fn file_line_in(
         "check" => Some(check_in(alloc, found)),
         "load" => Some(load_in(alloc, found)),
         "export" => Some(export_in(alloc, found)),
+        "new" => Some(new_in(alloc, found)),
+        "sheet" => Some(sheet_in(alloc, found)),
         "board" => Some(board_in(alloc, found)),
         "web" => Some(web_in(alloc, found).map(Line::Web)),
         "buttons" => Some(buttons_in(alloc, found).map(Line::Buttons)),

@@ -11,6 +11,8 @@ mod files;
 #[cfg(test)]
 mod loadings;
 #[cfg(test)]
+mod marks;
+#[cfg(test)]
 mod messages;
 #[cfg(test)]
 mod midi;
@@ -26,5 +28,7 @@ mod relays;
 mod replies;
 #[cfg(test)]
 mod reports;
+#[cfg(test)]
+mod sheets;
 #[cfg(test)]
 mod station;

@@ -10,10 +10,12 @@ mod buttons;
 mod files;
 mod loading;
 mod next;
+mod new;
 mod orders;
 mod rehearsing;
 mod relaying;
 mod reporting;
+mod sheet;
 mod web;
 mod wire;
 
@@ -28,10 +30,12 @@ use cue_show_file::ShowFile;
 use files::{check_file, export};
 use loading::{Loaded, load};
 use next::press_word;
+use new::write_new;
 use orders::carry_order;
 use rehearsing::rehearse;
 use relaying::relay_devices;
 use reporting::report_evening;
+use sheet::print_sheet;
 use std::fs::{File, Files};
 use std::io::{Eprint, Write};
 use std::net::Net;
@@ -100,6 +104,8 @@ fn carry_out<R: Files<File = File> + Net + Clock + RandomSource + Eprint + Alloc
             load(rt, what, *port, writer)
         }
         Line::Export { dir } => export(rt, dir.as_str(), writer),
+        Line::New { file } => write_new(rt, file.as_str(), writer),
+        Line::Sheet { file, html } => print_sheet(rt, file.as_str(), *html, writer),
         Line::Board {
             watched,
             once,

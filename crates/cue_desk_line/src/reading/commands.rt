@@ -3,12 +3,13 @@ use super::buttons::buttons_command;
 use super::pressing::{go_command, standby_command};
 use super::rehearsing::rehearse;
 use super::reporting::{asker, report};
+use super::sheet::{new, sheet};
 use super::web::web_command;
 use clap::{Arg, ArgAction, Command, value_parser};
 use std::alloc::{AllocError, Global};
 
-// A word that has to be there.
-fn word<'a>(alloc: Global, id: &'a str, help: &'a str) -> Arg<'a> {
+/// A word that has to be there.
+pub(super) fn word<'a>(alloc: Global, id: &'a str, help: &'a str) -> Arg<'a> {
     Arg::new(alloc, id)
         .help(help)
         .required(true)
@@ -36,8 +37,8 @@ pub(super) fn option<'a>(alloc: Global, name: &'a str, help: &'a str) -> Arg<'a>
         .action(ArgAction::Set)
 }
 
-// A flag, which is there or not.
-fn flag<'a>(alloc: Global, name: &'a str, help: &'a str) -> Arg<'a> {
+/// A flag, which is there or not.
+pub(super) fn flag<'a>(alloc: Global, name: &'a str, help: &'a str) -> Arg<'a> {
     Arg::new(alloc, name)
         .help(help)
         .long(name)
@@ -199,7 +200,8 @@ fn with<'a>(
 
 // The commands that read or write a show file, and end.
 fn with_files<'a>(alloc: Global, command: Command<'a>) -> Result<Command<'a>, AllocError> {
-    let command = with(with(command, check(alloc))?, load(alloc))?;
+    let command = with(with(command, new(alloc))?, check(alloc))?;
+    let command = with(with(command, sheet(alloc))?, load(alloc))?;
     with(with(command, export(alloc))?, report(alloc))
 }
 

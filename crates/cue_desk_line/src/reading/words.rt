@@ -64,6 +64,16 @@ pub enum Line {
     Export {
         dir: String,
     },
+    /// Write a show file to begin with.
+    New {
+        file: String,
+    },
+    /// Print the cue sheet of this show file.
+    Sheet {
+        file: String,
+        /// As a page for a browser.
+        html: bool,
+    },
     /// Show the board.
     Board {
         watched: Watched,
@@ -107,8 +117,12 @@ impl Line {
             Line::Web(web) => Some(&mut web.port),
             Line::Buttons(buttons) => Some(&mut buttons.port),
             Line::Press(pressed) => Some(&mut pressed.port),
-            Line::Check { .. } | Line::Export { .. } => None,
-            Line::Rehearse(_) | Line::Report(_) => None,
+            Line::Check { .. }
+            | Line::Export { .. }
+            | Line::New { .. }
+            | Line::Sheet { .. }
+            | Line::Rehearse(_)
+            | Line::Report(_) => None,
         }
     }
 
@@ -120,7 +134,8 @@ impl Line {
             Line::Buttons(buttons) => Some(&mut buttons.name),
             Line::Press(pressed) => Some(&mut pressed.name),
             Line::Check { .. } | Line::Export { .. } | Line::Load { .. } => None,
-            Line::Board { .. } | Line::Rehearse(_) | Line::Relay { .. } | Line::Report(_) => None,
+            Line::New { .. } | Line::Sheet { .. } | Line::Report(_) => None,
+            Line::Board { .. } | Line::Rehearse(_) | Line::Relay { .. } => None,
         }
     }
 }

@@ -83,13 +83,26 @@ impl<'a, R: Files<File = File> + Net + Eprint + AllocGlobal> Asker<'a, R> {
         }
     }
 
+    // The cues that are live in the store of this folder; none where that is not what the controller says.
+    fn live_cues(&mut self, dir: &str, status: Status) -> Result<Vec<CueNo>, Ending> {
+        let alloc = self.alloc();
+        match open_store(self.rt(), dir) {
+            Ok(keeper) if agrees(status, keeper.state()) => {
+                let live = keeper.state().live().as_slice().iter();
+                Ok(live.map(|attempt| attempt.cue).collect(alloc)?)
+            }
+            _ => Ok(Vec::new(alloc)),
+        }
+    }
+
     // The show of the store in this folder. It may change while it is read: then the controller says something else,
     // and both are asked again.
     fn look_again(&mut self, dir: &str, at_rest: bool) -> Result<Show, Ending> {
         for _ in 0..MAX_LOOKS {
             let status = self.status()?;
             if at_rest && status.live != 0 {
-                self.say_live();
+                let cues = self.live_cues(dir, status)?;
+                self.say_live(&cues)?;
                 return Err(Ending::Refused);
             }
             if let Some(show) = self.look(dir, status)? {

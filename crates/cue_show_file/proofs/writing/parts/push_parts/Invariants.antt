@@ -1,7 +1,7 @@
 use Rattle.std.proofs.Common.{◌≡◌, ◌++◌, drop, string_bytes}
 use Rattle.std.specs.List.{flat_map}
 use Rattle.cue_show_file.specs.Written.{part_item}
-use Rattle.cue_show_file.proofs.writing.push_parts.Given as goal
+use Rattle.cue_show_file.proofs.writing.parts.push_parts.Given as goal
 
 -- what was written, and those that are left, are all
 abbrev pub invariant-loop-part : goal.invariant-loop-part

@@ -1,0 +1,9 @@
+use Rattle.std.proofs.Common.{length, string_bytes}
+use Rattle.std.specs.Str.{chars}
+use Rattle.cue_sheet.specs.Html.{html_of}
+use Rattle.cue_sheet.proofs.HtmlLemmas.{IsWay}
+use Rattle.cue_sheet.proofs.html.escaped.Given as goal
+
+-- what was put there, and what the characters that are left will put there, is all
+abbrev pub invariant-loop-c : goal.invariant-loop-c
+invariant-loop-c l = IsWay (length l.yielded) (chars l.text) (string_bytes l.html) (html_of l.text)

@@ -5,6 +5,12 @@ import time
 
 sys.path.append("/usr/lib/python3/dist-packages")
 NEEDED = "apt-get install chromium chromium-driver python3-selenium"
+ENTER, ESCAPE = "\ue007", "\ue00c"
+# What a test makes happen: a request that is cut or refused, and a sound before a press allows it.
+EXPECTED = ("net::", "503", "423", "AudioContext was not allowed")
+
+# What an element is that was replaced or moved meanwhile, or that of a page which loads itself again.
+PASSING = ("StaleElement", "NoSuchElement", "ClickIntercepted", "Javascript")
 
 
 def is_there():
@@ -64,8 +70,8 @@ class Browser:
             try:
                 if holds():
                     return True
-            except Exception as error:  # an element that was replaced meanwhile
-                if "StaleElement" not in type(error).__name__ and "NoSuchElement" not in type(error).__name__:
+            except Exception as error:
+                if not any(word in type(error).__name__ for word in PASSING):
                     raise
             time.sleep(0.02)
         return False
@@ -87,9 +93,9 @@ class Browser:
         self.driver.save_screenshot(str(path))
 
     def complaints(self):
-        """What the browser's console says against the page, but for requests that a test made fail."""
+        """What the browser's console says against the page, but for what a test made happen."""
         return [line["message"] for line in self.driver.get_log("browser")
-                if "net::" not in line["message"] and "503" not in line["message"]]
+                if not any(part in line["message"] for part in EXPECTED)]
 
     def close(self):
         self.driver.quit()

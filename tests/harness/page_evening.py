@@ -24,8 +24,16 @@ def free_tcp():
         return wire.getsockname()[1]
 
 
+def presses(view):
+    """The text of each lit button of a view; a move to a cue is lit for each cue of the stack, or for none."""
+    return [*(lit["press"] for lit in view["lit"]), *(f"goto {cue}" for cue in view["stack"] if view["moves"])]
+
+
 class Evening:
-    """A served store with the show of a file, its devices rehearsed, and its page. `relay` is the file of a relay."""
+    """A served store with the show of a file, its devices rehearsed, and its page. `relay` is the file of a relay, and
+    `more` are words that `cuedesk web` gets beside the usual ones."""
+
+    more = ()
 
     def __init__(self, desk, cuectl, folder, text, relay=None):
         self.desk, self.cuectl, self.folder, self.file = desk, cuectl, folder / "show", folder / "evening.toml"
@@ -37,7 +45,7 @@ class Evening:
 
     def start_page(self):
         words = ["web", self.folder, self.file, "--http", self.http, "--port", self.port]
-        words += ["--relay", self.relay] if self.relay else []
+        words += [*(["--relay", self.relay] if self.relay else []), *self.more]
         self.page = subprocess.Popen([self.desk, *map(str, words)], stdout=subprocess.PIPE)
         self.children["page"] = self.page
         check("the page says where it is", f"http://127.0.0.1:{self.http}/".encode() in self.page.stdout.readline())
@@ -133,9 +141,9 @@ class Evening:
         end = time.monotonic() + seconds
         while time.monotonic() < end:
             view = self.view()
-            for lit in view["lit"]:
-                if lit["kind"] == kind and of in (lit["cue"], lit["device"], lit["attempt"]):
-                    return self.press_text(view["number"], lit["press"], end)
+            for press in presses(view):
+                if press.split(" ")[0] == kind and str(of) in press.split(" ")[1:]:
+                    return self.press_text(view["number"], press, end)
             time.sleep(0.05)
         return None
 
@@ -177,9 +185,22 @@ def is_answered(evening, within=1.2):
     return time.monotonic() - begun < within
 
 
+# How some cues of the evening are marked.
+MARKS = {"1": ("yellow", None), "5": ("blue", "fly"), "6": ("red", "danger"), "7": (None, "trap")}
+
+
+def marked(text):
+    """A show file whose cues have these colours and flags."""
+    text = re.sub(r'^(?:color|flag) = ".*"\n', "", text, flags=re.M)
+    for cue, (color, flag) in MARKS.items():
+        lines = [f'{key} = "{word}"\n' for key, word in (("color", color), ("flag", flag)) if word]
+        text = text.replace(f'[[cue]]\nnumber = "{cue}"\n', f'[[cue]]\nnumber = "{cue}"\n{"".join(lines)}')
+    return text
+
+
 def evening_text():
     """The evening of the examples at ports of this run, with names that a page could take for more than texts."""
-    text = at_own_ports(EVENING.read_text())
+    text = marked(at_own_ports(EVENING.read_text()))
     return text.replace("House to half", NASTY).replace("Winch 4, forest drop", f"Winch {NASTY}")
 
 

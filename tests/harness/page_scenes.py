@@ -1,16 +1,13 @@
 """The scenes of an evening that the page goes through in a browser, and what stands on it then."""
-import html
 import re
 import statistics
 import time
-from urllib.parse import quote
 
 import serving
-from browser import Browser
+from browser import ESCAPE
 from checking import check
 from page_evening import SHOWN, is_checked, write_status
-
-ESCAPE = "\ue00c"
+from page_look import CONTRAST, calls, has_contrast, in_windows, sounded
 
 
 def begins(page, evening):
@@ -142,11 +139,14 @@ def fails(page, evening, pictures):
     goes_to(page, "6")
     page.click("standby")
     check("GO lights", is_lit(page))
+    before = sounded(page)
     page.click("go")
     check("who failed is shown", page.waits_for(lambda: "failed" in page.text("live")))
+    check("seconds since GO are shown, large", page.waits_for(lambda: page.run(SINCE) >= 28))
     if pictures:
         page.picture(pictures / "page-failed.png")
     check("it ends failed, and by whom", ends(page, "6", "failed") and page.shows("alarms", "device 8"))
+    calls(page, before)
     evening.stop("apart")
     check("the failure stays until it was seen", page.shows("alarms", "aborted"))
     seen = page.run("return document.querySelector('#alarms button').id")
@@ -214,10 +214,12 @@ def hears(page, evening, relay, pictures):
     goes_to(page, "5")
     page.click("standby")
     check("beside what it has answered, too", page.waits_for(lambda: page.run(ROWS) > 0))
+    before = sounded(page)
     write_status(relay, {1: (2, False), 3: (12, False), 20: (3, False), 22: (7, True)})
     check("who is silent is reported in words", page.shows("heard-22", "silent, heard 7 s ago"))
     check("and is an alarm", page.shows("alarms", "device 22 Fog machine is silent"))
     check("and to a screen reader", page.waits_for(lambda: "device 22 Fog machine is silent" in page.run(SPOKEN)))
+    calls(page, before)
     check("with contrast", page.run(CONTRAST)[0] >= 7)
     if pictures:
         page.picture(pictures / "page-relay.png")
@@ -235,57 +237,35 @@ def hears(page, evening, relay, pictures):
     check("the board stays", page.shows("stack", "Finale, all in") and page.text("age").startswith("read"))
 
 
+SINCE = "const e = document.querySelector('#live .since b'); " \
+        "return e && / s$/.test(e.textContent) ? parseFloat(getComputedStyle(e).fontSize) : 0"
 ROWS = "return [...document.querySelectorAll('#live td[id^=heard-]')].filter(cell => cell.textContent !== '').length"
 SPOKEN = "return document.getElementById('spoken').textContent"
 LABELS = """return [...document.querySelectorAll('button')].map(b =>
   [b.id, b.getAttribute('aria-label') || b.textContent.trim()]);"""
-CONTRAST = """
-const lum = (c) => { const f = c.map(v => { v /= 255; return v <= .03928 ? v / 12.92 : ((v + .055) / 1.055) ** 2.4; });
-  return .2126 * f[0] + .7152 * f[1] + .0722 * f[2]; };
-const rgb = (s) => s.match(/[\\d.]+/g).map(Number);
-const ground = (e) => { for (; e; e = e.parentElement) { const c = rgb(getComputedStyle(e).backgroundColor);
-  if (c.length === 3 || c[3] > 0) return c.slice(0, 3); } return [11, 13, 16]; };
-const least = [];
-for (const e of document.querySelectorAll('body *')) {
-  if (![...e.childNodes].some(n => n.nodeType === 3 && n.textContent.trim()) || e.closest('script, .hidden')) continue;
-  const a = lum(rgb(getComputedStyle(e).color).slice(0, 3)), b = lum(ground(e));
-  least.push([(Math.max(a, b) + .05) / (Math.min(a, b) + .05), e.id || e.className || e.tagName, e.textContent.trim()]);
-}
-return least.sort((x, y) => x[0] - y[0])[0];"""
 
 
-WINDOWS = ((683, 384), (820, 1180), (1180, 820), (390, 844), (844, 390))
-HIDDEN = """
-return ['#next', '#live .attempt h3', '#live .waits', '#words', '#standby', '#cancel', '#go'].filter(name => {
-  const e = document.querySelector(name), r = e.getBoundingClientRect();
-  return [r.top + 3, r.bottom - 3].some(y => y < 0 || y > innerHeight ||
-    !e.contains(document.elementFromPoint(r.left + r.width / 2, y)));
-});"""
-AREAS = """return ['standby', 'cancel', 'go'].map(id => { const r = document.getElementById(id).getBoundingClientRect();
-  return r.width * r.height; })"""
+def gives_up(page):
+    """Cue 5, which waits for device 22, is given up, if that has not come by itself."""
+    page.key(ESCAPE)
+    check("it is given up", page.shows("live", "given up"))
+    releases(page, 22)
+    check("it ends once nobody waits for who is silent", ends(page, "5", "cancelled"))
 
 
-def in_windows(page, pictures):
-    """What is waited for is in sight in each window, as a browser's zoom of 200 % and phones make it."""
-    for width, height in WINDOWS:
-        page.sized(width, height)
-        hidden = page.run(HIDDEN)
-        check(f"in {width} by {height} what is next, live and waited for is in sight, but for {hidden}", hidden == [])
-        standby, cancel, go = page.run(AREAS)
-        check("GO is no smaller than the others", go >= standby and go >= cancel)
-        wide = page.run("return document.documentElement.scrollWidth <= innerWidth")
-        check("nothing is beside the window", wide)
-        if pictures:
-            page.picture(pictures / f"page-{width}x{height}.png")
-    page.sized()
+def waits_for_22(page):
+    """Cue 5 is stood by, and waits for device 22."""
+    if "22" in page.text("live"):
+        gives_up(page)
+    goes_to(page, "5")
+    page.click("standby")
+    check("the cue waits for device 22", page.shows("live", "waiting for 22"))
 
 
 def is_readable(page, evening, pictures):
     """Names and roles for a screen reader, and contrast, while something is stood by."""
     evening.play("--silent", "22")
-    goes_to(page, "5")
-    page.click("standby")
-    check("it is shown", page.shows("live", "waiting"))
+    waits_for_22(page)
     names = page.run(LABELS)
     check("each button has a name", all(name for _, name in names))
     check("and no two the same", len({name for _, name in names}) == len(names))
@@ -297,60 +277,6 @@ def is_readable(page, evening, pictures):
                      "document.querySelector('[role=progressbar]').getAttribute('aria-label')]")
     check("refusals, stages and seconds reach a screen reader",
           roles == ["alert", "polite", "Seconds left for cue 5"])
-    least = page.run(CONTRAST)
-    print(f"     the least contrast is {least[0]:.1f} to 1 ({least[1]})")
-    check("contrast is at least 7 to 1", least[0] >= 7)
-    in_windows(page, pictures)
-    page.key(ESCAPE)
-    check("it is given up", page.shows("live", "given up"))
-    releases(page, 22)
-    check("it ends once nobody waits for who is silent", ends(page, "5", "cancelled"))
-
-
-def sends_nothing(page, evening):
-    """Left alone, the page only reads."""
-    before = evening.folder.joinpath("a.area").read_bytes(), evening.folder.joinpath("b.area").read_bytes()
-    time.sleep(2)
-    after = evening.folder.joinpath("a.area").read_bytes(), evening.folder.joinpath("b.area").read_bytes()
-    check("left alone it sends nothing", before == after)
-    kinds = page.run("return performance.getEntriesByType('resource').map(e => new URL(e.name).pathname)")
-    check("and speaks with the desk alone", set(kinds) <= {"/board.json", "/command"})
-
-
-def grows_old(page, evening):
-    evening.stop("page")
-    check("a page without its desk says that it is old", page.shows("age", "OLD", 2.5))
-    check("and large", page.shows("alarm-0", "The desk does not answer"))
-    check("and has no GO", not page.find("go").is_enabled() and not page.find("standby").is_enabled())
-
-
-def terminal_picture(page, text, path):
-    """What the board prints, as a terminal shows it."""
-    style = "background:#0b0d10;color:#eceff2;font:16px/1.3 'DejaVu Sans Mono',monospace;padding:14px;margin:0"
-    page.driver.set_window_size(860, 560)
-    body = f"<body style='margin:0'><pre style=\"{style}\">{html.escape(text)}</pre>"
-    page.open("data:text/html;charset=utf-8," + quote(body))
-    page.picture(path)
-
-
-def in_browser(evening, pictures):
-    page = Browser()
-    try:
-        evening.play()
-        begins(page, evening)
-        gives(page, evening, "1")
-        prepares(page, evening, pictures)
-        is_refused(page, evening)
-        keys(page, evening)
-        fails(page, evening, pictures)
-        loses_power(page, evening)
-        second_tab(page, evening)
-        follows(page, evening)
-        is_readable(page, evening, pictures)
-        sends_nothing(page, evening)
-        grows_old(page, evening)
-        check("the browser has nothing against the page", page.complaints() == [])
-        if pictures:
-            terminal_picture(page, evening.printed, pictures / "board.png")
-    finally:
-        page.close()
+    has_contrast(page, pictures)
+    in_windows(page, pictures, lambda: waits_for_22(page))
+    gives_up(page)

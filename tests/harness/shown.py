@@ -10,7 +10,7 @@ PAGES = ("README.md", "CONTRIBUTING.md", "CHANGELOG.md", "tests/README.md",
 PROGRAMS = """apt apt-get c++ cat cc chmod chown cp curl export g++ gcc git install journalctl kill ln mkdir mv
     oscdump oscsend pip python3 rm rt runuser scp sha256sum sleep ss ssh sudo sync systemctl tail tar
     useradd wg wg-quick""".split()
-DESK = "load|export|board|web|check|rehearse|relay|standby|go|cancel|goto|release|remove|status"
+DESK = "new|check|sheet|load|export|board|web|rehearse|relay|report|buttons|standby|go|cancel|goto|release|remove|status"
 LINE = re.compile(rf"\(cd |(?:{'|'.join(map(re.escape, PROGRAMS))}) |(?:\./)?(?:cuectl|cuedesk) "
                   r"|(?:\./|tools/|tests/|examples/|\.ci/|/tmp/)\S")
 BLOCK = re.compile(r"(?<=\n\n)(?:    .*\n+)+")  # what is shown after an empty line
@@ -46,6 +46,13 @@ ELSEWHERE = (
     ("cp /usr/share/doc/cuectl/two-machines/*", "tests/runs/two-machines"),
     ("systemctl * show-*@first*", "tests/runs/two-machines"),
     ("journalctl -u show-here@first", "tests/runs/two-machines"),
+    ("cuedesk buttons *", "tests/runs/buttons: it wants a device"),
+    ("cuedesk web * --read-only *", "tests/runs/fly-floor"),
+    ("cuedesk new *", "tests/runs/sheet"),
+    ("cuedesk sheet *", "tests/runs/sheet"),
+    ("cuedesk report *", "tests/runs/report: it wants the log of an evening"),
+    ("cuedesk go --wait*", "tests/runs/buttons"),
+    ("export CUEDESK_*", "tests/runs/buttons and report"),
     ("wg*", "needs root and WireGuard"),
 )
 

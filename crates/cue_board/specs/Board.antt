@@ -149,7 +149,7 @@ cue_said place cue = if is_place cue place then codes " -->   " ++ cue else code
 abbrev pub stack_said : ℕ → View → List (List ℕ)
 stack_said shown v =
     next_said v.next ∷ codes "       " ∷ codes "STACK"
-    ∷ map (cue_said v.place) (around shown v.place v.stack.cues.items)
+    ∷ map (cue_said v.place) (around shown v.place v.stack.items)
 
 -- ---- the whole
 

@@ -172,6 +172,6 @@ pub(crate) fn push_stack(
     let margin = String::from_str(alloc, "       ")?;
     lines.push(BoardLine::with_rest(alloc, margin, note)?)?;
     lines.push(BoardLine::bare(alloc, String::from_str(alloc, "STACK")?))?;
-    let cues = around(shown, view.place, &view.stack.cues);
+    let cues = around(shown, view.place, &view.stack);
     push_cues(alloc, lines, view.place, cues, names)
 }

@@ -42,8 +42,8 @@ impl Stamp {
         }
     }
 
-    // Whether each change after this time gives the file another time.
-    fn is_settled(self, now: u64) -> bool
+    /// Whether each change after this time, in milliseconds since 1970, gives the file another time.
+    pub fn is_settled(self, now: u64) -> bool
         ensures { IsTrue result ↔ IsSettled self now }
     {
         u128::from(self.seconds) * 1_000 + u128::from(SETTLED) <= u128::from(now)

@@ -3,7 +3,10 @@
 
 mod reading;
 
+pub use reading::buttons::Buttons;
 pub use reading::line;
+pub use reading::pressing::Pressed;
 pub use reading::rehearsing::{Flags, Rehearsal, with_flags};
-pub use reading::web::Web;
-pub use reading::words::{Line, Manner, Watched};
+pub use reading::reporting::Report;
+pub use reading::web::{LockWord, PageUse, Web};
+pub use reading::words::{Environment, Line, Manner, Watched};

@@ -4,11 +4,16 @@ ghost use Rattle.cue_operator.specs.Methods.{cue_verb_text};
 ghost use Rattle.cue_desk.specs.Orders.{spelling_of};
 ghost use Rattle.cue_desk_line.specs.Orders.{IsAskedBy};
 
+pub mod buttons;
 mod commands;
+pub mod pressing;
 pub mod rehearsing;
+pub mod reporting;
+mod sheet;
 pub mod web;
 pub mod words;
 
+use buttons::buttons_in;
 use clap::ArgMatches;
 use commands::cuedesk;
 use cue_desk::line::{LineFault, fault_of, unfit};
@@ -16,10 +21,13 @@ use cue_desk::orders::{Order, Word, word_in};
 use cue_desk::ports::said_port;
 use cue_operator::CueVerb;
 use cue_show::{CueNo, DeviceNo};
+use pressing::pressed_in;
 use rehearsing::rehearsal_in;
+use reporting::{asker_in, asker_said, report_in};
+use sheet::{new_in, sheet_in};
 use std::alloc::Global;
 use web::web_in;
-use words::{Line, Manner, Watched};
+use words::{Environment, Line, Manner, Watched};
 
 // What has to stand there and does not. `clap` sees to it before, so nobody meets it.
 fn lacking(alloc: Global, id: &str) -> LineFault {
@@ -79,6 +87,7 @@ fn of_cue_in(alloc: Global, verb: CueVerb, found: &ArgMatches<'_>) -> Result<Lin
     Ok(Line::Ask {
         order: Order::OfCue(verb, cue_in(alloc, found)?),
         port: port_in(alloc, found)?,
+        name: asker_in(alloc, found)?,
     })
 }
 
@@ -91,6 +100,7 @@ fn remove_in(alloc: Global, found: &ArgMatches<'_>) -> Result<Line, LineFault>
         Some((_, of)) => Ok(Line::Ask {
             order: Order::RemoveDevice(device_in(alloc, of)?),
             port: port_in(alloc, of)?,
+            name: asker_in(alloc, of)?,
         }),
         None => Err(unfit(
             alloc,
@@ -163,10 +173,14 @@ fn file_line_in(
         "check" => Some(check_in(alloc, found)),
         "load" => Some(load_in(alloc, found)),
         "export" => Some(export_in(alloc, found)),
+        "new" => Some(new_in(alloc, found)),
+        "sheet" => Some(sheet_in(alloc, found)),
         "board" => Some(board_in(alloc, found)),
         "web" => Some(web_in(alloc, found).map(Line::Web)),
+        "buttons" => Some(buttons_in(alloc, found).map(Line::Buttons)),
         "rehearse" => Some(rehearsal_in(alloc, found).map(Line::Rehearse)),
         "relay" => Some(relay_in(alloc, found)),
+        "report" => Some(report_in(alloc, found).map(Line::Report)),
         _ => None,
     }
 }
@@ -217,11 +231,13 @@ fn asked_in(alloc: Global, word: Word, found: &ArgMatches<'_>) -> Result<Line, L
         Word::Release => Ok(Line::Ask {
             order: Order::Release(device_in(alloc, found)?),
             port: port_in(alloc, found)?,
+            name: asker_in(alloc, found)?,
         }),
         Word::Remove => remove_in(alloc, found),
         Word::Status => Ok(Line::Ask {
             order: Order::Status,
             port: port_in(alloc, found)?,
+            name: asker_in(alloc, found)?,
         }),
     }
 }
@@ -236,20 +252,38 @@ fn order_in(alloc: Global, name: &str, found: &ArgMatches<'_>) -> Result<Line, L
     }
 }
 
-// The command that was matched.
-fn line_in(alloc: Global, name: &str, found: &ArgMatches<'_>) -> Result<Line, LineFault> {
-    match file_line_in(alloc, name, found) {
+// A command that presses, or else one that asks by its words alone.
+fn pressed_or_asked(
+    alloc: Global,
+    name: &str,
+    found: &ArgMatches<'_>,
+    store: Option<&str>,
+) -> Result<Line, LineFault> {
+    match pressed_in(alloc, name, found, store) {
         Some(line) => line,
         None => order_in(alloc, name, found),
     }
 }
 
+// The command that was matched.
+fn line_in(
+    alloc: Global,
+    name: &str,
+    found: &ArgMatches<'_>,
+    store: Option<&str>,
+) -> Result<Line, LineFault> {
+    match file_line_in(alloc, name, found) {
+        Some(line) => line,
+        None => pressed_or_asked(alloc, name, found, store),
+    }
+}
+
 // The command that `clap` finds.
-fn matched(alloc: Global, words: &[String]) -> Result<Line, LineFault> {
+fn matched(alloc: Global, words: &[String], store: Option<&str>) -> Result<Line, LineFault> {
     let command = cuedesk(alloc)?;
     match command.try_get_matches_from(words) {
         Ok(matches) => match matches.subcommand() {
-            Some((name, found)) => line_in(alloc, name, found),
+            Some((name, found)) => line_in(alloc, name, found, store),
             None => Err(unfit(alloc, "cuedesk", "wants a command after it")),
         },
         Err(error) => Err(fault_of(alloc, &error)),
@@ -269,12 +303,22 @@ fn port_of(alloc: Global, text: &str) -> Result<u16, LineFault> {
 }
 
 /// Reads a command line, the program's name first, as `clap` matches it. Where a command speaks to the controller and
-/// its words name no port, the port is the one that CUEDESK_PORT says, where that is set.
-pub fn line(alloc: Global, words: &[String], environment: Option<&str>) -> Result<Line, LineFault> {
-    let mut line = matched(alloc, words)?;
-    if let (Some(port), Some(text)) = (line.port(), environment) {
+/// its words name no port, the port is the one that CUEDESK_PORT says, where that is set; and where they do not name who
+/// asks, that is who CUEDESK_AS says. CUEDESK_STORE says the folder of the store, for `standby` and `go` without a cue.
+pub fn line(
+    alloc: Global,
+    words: &[String],
+    environment: &Environment<'_>,
+) -> Result<Line, LineFault> {
+    let mut line = matched(alloc, words, environment.store)?;
+    if let (Some(port), Some(text)) = (line.port(), environment.port) {
         if port.is_none() {
             *port = said_port(*port, Some(port_of(alloc, text)?));
+        }
+    }
+    if let (Some(name), Some(text)) = (line.name(), environment.name) {
+        if name.is_none() {
+            *name = Some(asker_said(alloc, text)?);
         }
     }
     Ok(line)

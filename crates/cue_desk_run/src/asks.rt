@@ -4,11 +4,13 @@ ghost use Rattle.std.specs.Prelude.{◌≡◌};
 ghost use Rattle.cue_desk_run.specs.Hearing.{heard_of, unheard};
 
 use crate::addresses::local;
+use crate::naming::name_datagram;
 use cue_desk::answered::answer_in;
 use cue_desk::asking::{Asked, address, datagram};
 use cue_desk::orders::{Order, asked_by};
 use cue_desk::replying::{Replied, read_reply};
 use cue_osc::MAX_LEN;
+use cue_report::AskerName;
 use cue_station::heard::{Heard, Send};
 use mio::net::UdpSocket;
 use mio::{Interest, Registry, Token};
@@ -42,6 +44,8 @@ struct Ask {
 #[derive(Drop)]
 pub struct Asks {
     port: u16,
+    // Who presses, if that is to be said.
+    name: Option<AskerName>,
     open: Vec<Ask>,
 }
 
@@ -62,6 +66,30 @@ fn message_of(alloc: Global, asked: &Asked<'_>) -> io::Result<Vec<u8>> {
         return Err(io::Error::from(ErrorKind::OutOfMemory));
     };
     Ok(message)
+}
+
+// Says who asks from this socket, once. Nobody waits for what becomes of that.
+fn send_name(alloc: Global, socket: &UdpSocket, name: AskerName) -> io::Result<()> {
+    match name_datagram(alloc, name.text()) {
+        Ok(message) => {
+            let _ = socket.send(&message);
+            Ok(())
+        }
+        Err(_) => Err(io::Error::from(ErrorKind::OutOfMemory)),
+    }
+}
+
+// Sends a message, once. If nobody heard the name before it, the system says so here and has not sent the message: then
+// it is sent now, and its own answer is waited for.
+fn send_after_name(socket: &UdpSocket, message: &[u8]) -> io::Result<()> {
+    let Err(why) = socket.send(message) else {
+        return Ok(());
+    };
+    if why.kind() != ErrorKind::ConnectionRefused {
+        return Err(why);
+    }
+    socket.send(message)?;
+    Ok(())
 }
 
 // Whether the message is a question for the status.
@@ -104,11 +132,11 @@ fn heard_of(number: u64, came: Came) -> Option<Heard>
 }
 
 impl Ask {
-    // Sends the message, once, from a socket of its own.
+    // Sends the message, once, from a socket of its own, and before it who presses, if that is to be said.
     fn send<R: Net + AllocGlobal>(
         rt: &R,
         registry: &Registry,
-        port: u16,
+        (port, name): (u16, Option<AskerName>),
         send: Send,
     ) -> io::Result<Ask> {
         let asked = asked_by(send.order);
@@ -116,7 +144,15 @@ impl Ask {
         shown.truncate(SHOWN);
         let message = message_of(rt.alloc(), &asked)?;
         let socket = open_socket(rt, registry, port)?;
-        socket.send(&message)?;
+        match name {
+            Some(name) if !is_status(send.order) => {
+                send_name(rt.alloc(), &socket, name)?;
+                send_after_name(&socket, &message)?;
+            }
+            _ => {
+                socket.send(&message)?;
+            }
+        }
         Ok(Ask {
             number: send.ask,
             is_status: is_status(send.order),
@@ -169,10 +205,12 @@ impl Ask {
 }
 
 impl Asks {
-    /// Asks the controller at this port, of which nothing is asked yet.
-    pub fn new(alloc: Global, port: u16) -> Asks {
+    /// Asks the controller at this port, of which nothing is asked yet. Each message but a question for the status says
+    /// first who asks, if there is a name.
+    pub fn new(alloc: Global, port: u16, name: Option<AskerName>) -> Asks {
         Asks {
             port,
+            name,
             open: Vec::new(alloc),
         }
     }
@@ -204,7 +242,7 @@ impl Asks {
         send: Send,
     ) -> io::Result<()> {
         self.make_room(is_status(send.order));
-        let ask = Ask::send(rt, registry, self.port, send)?;
+        let ask = Ask::send(rt, registry, (self.port, self.name), send)?;
         Ok(self.open.push(ask)?)
     }
 

@@ -5,7 +5,9 @@ use crate::clocks::{Beat, SteadyClock, wall_time};
 use crate::reading::Store;
 use crate::relay::read_young;
 use cue_core::State;
+use cue_report::AskerName;
 use cue_station::heard::{Heard, Input, Send};
+use cue_station::memory::Choice;
 use cue_station::station::{Station, Step};
 use cue_view::button::Button;
 use cue_view::view::{Alarm, View};
@@ -30,12 +32,13 @@ const MAX_ANSWERS: u32 = 3;
 /// How many events one wait tells of. What is not told is heard all the same.
 const EVENTS: usize = 64;
 
-/// What a desk works with: the folder of a store, a controller's port, and the file of a relay.
+/// What a desk works with: the folder of a store, a controller's port, the file of a relay, and who presses.
 #[derive(Clone, Copy)]
 pub struct Sources<'a> {
     pub dir: &'a str,
     pub port: u16,
     pub relay: Option<&'a str>,
+    pub name: Option<AskerName>,
 }
 
 /// A desk.
@@ -82,7 +85,7 @@ impl<'a, R: Files<File = File> + Net + Clock + AllocGlobal> Desk<'a, R> {
             view,
             poll: Poll::new(rt)?,
             events: Events::with_capacity(alloc, EVENTS)?,
-            asks: Asks::new(alloc, sources.port),
+            asks: Asks::new(alloc, sources.port, sources.name),
             has_failed: false,
             fault: None,
             store: Store::new(String::from_str(alloc, sources.dir)?),
@@ -218,6 +221,11 @@ impl<'a, R: Files<File = File> + Net + Clock + AllocGlobal> Desk<'a, R> {
     pub fn wait(&mut self, most: u64) -> io::Result<()> {
         self.poll
             .poll(&mut self.events, Some(Duration::from_millis(most)))
+    }
+
+    /// Whether the attempt of the last STANDBY is not shown yet: it is chosen as soon as it is.
+    pub fn awaits(&self) -> bool {
+        matches!(self.station.notes.choice, Choice::Awaited(_, _))
     }
 
     /// Whether the status that was answered last is not of the store that was read last, as for a moment after each

@@ -19,6 +19,9 @@
 //! - Each ask has a socket of its own, connected to the port of `serve`: a reply belongs to its ask by the port at
 //!   which it comes, a datagram of another program is dropped by the system, and the system says at once that nobody
 //!   listens. At most three are open: the newest question for the status and two presses.
+//! - A press may carry a name: its socket sends `/as/NAME` first, once, and then the message. The controller refuses
+//!   the name, which puts it into the log; that reply has another address than the press, and so is none to it. A
+//!   question for the status carries none: it would put a line into the log each second.
 //! - A copy of the store is read whole, and taken apart only if its bytes are not those of the last copy. The store is
 //!   read again only if its files may have changed (`stamps` of `cue_desk`). The board does not ask for the lock, so it
 //!   is never in the way of a `serve`. It does not look at the generations of the areas instead: a record that is added
@@ -35,13 +38,14 @@ mod addresses;
 mod asks;
 mod clocks;
 mod desk;
+mod naming;
 mod orders;
 mod reading;
 mod relay;
 mod stamps;
 
 pub use addresses::local;
-pub use clocks::Beat;
+pub use clocks::{Beat, wall_time};
 pub use desk::{Desk, Sources};
 pub use orders::ask_once;
 pub use relay::read_status;

@@ -2,6 +2,7 @@
 use crate::asks::Asks;
 use crate::clocks::SteadyClock;
 use cue_desk::orders::Order;
+use cue_report::AskerName;
 use cue_station::heard::{Heard, Send};
 use mio::{Events, Poll};
 use std::io;
@@ -33,14 +34,15 @@ fn answer_to<R: Clock + AllocGlobal>(
 }
 
 /// Asks one thing of the controller at this port, once, from a socket of its own: its answer, or that nobody listens
-/// there; none if neither came within a second.
+/// there; none if neither came within a second. Who asks is said first, if there is a name.
 pub fn ask_once<R: Net + Clock + AllocGlobal>(
     rt: &R,
     order: Order,
     port: u16,
+    name: Option<AskerName>,
 ) -> io::Result<Option<Heard>> {
     let mut poll = Poll::new(rt)?;
-    let mut asks = Asks::new(rt.alloc(), port);
+    let mut asks = Asks::new(rt.alloc(), port, name);
     asks.send(rt, poll.registry(), Send { ask: 0, order })?;
     answer_to(rt, &mut asks, &mut poll)
 }

@@ -1,14 +1,13 @@
 //! Views that were made by hand, and what page and board draw of them.
 use cue_board::{Names, board_lines};
 use cue_exchange::{Answer, Answers, DeviceAnswer, Outcome, Reason, Stage};
-use cue_page::board::view_text;
+use cue_page::board::{Manner, view_text};
 use cue_relay::status::Ordered;
 use cue_show::{CueNo, DeviceNo};
 use cue_show_file::{ShowFile, read};
 use cue_view::button::Button;
 use cue_view::view::{
-    Alarm, Became, Contacted, Devices, LastHeard, LiveAttempt, Next, Said, Stack, Told, Unsent,
-    View,
+    Alarm, Became, Contacted, Devices, LastHeard, LiveAttempt, Next, Said, Told, Unsent, View,
 };
 use std::alloc::{AllocError, Global};
 
@@ -16,7 +15,7 @@ use std::alloc::{AllocError, Global};
 const FILE: &str = "[[device]]\nnumber = 9\nport = 9001\nname = \"Flugwerk\"\n\n\
 [[device]]\nnumber = 22\nport = 9002\nname = \"Fog\"\n\n\
 [[cue]]\nnumber = \"6\"\nname = \"Königin der Nacht\"\nparts = [\n  { device = 9 },\n]\n\n\
-[[cue]]\nnumber = \"7\"\nname = \"Arie\"\nnote = \"wait for the lamp\"\nparts = [\n  { device = 9 },\n]\n";
+[[cue]]\nnumber = \"7\"\nname = \"Arie\"\nnote = \"wait for the lamp\"\ncolor = \"blue\"\nflag = \"danger\"\nparts = [\n  { device = 9 },\n]\n";
 
 fn cue(text: &[u8]) -> Result<CueNo, AllocError> {
     CueNo::read(text).ok_or(AllocError)
@@ -78,11 +77,7 @@ fn view(alloc: Global) -> Result<View, AllocError> {
         served: Some(4_100),
         next: Next::Cue(cue(b"7")?),
         place: Some(cue(b"7")?),
-        stack: Stack {
-            cues,
-            before: 0,
-            after: 3,
-        },
+        stack: cues,
         live: attempts,
         chosen: Some(31),
         lit: Vec::new(alloc),
@@ -157,21 +152,6 @@ const BRIEF: [&str; 8] = [
     "LAST   cue 6 Königin der Nacht: failed: device 9 Flugwerk aborted",
 ];
 
-#[test]
-fn the_loudest_alarm_stands_first(rt: HostRuntime) {
-    let alloc = rt.alloc();
-    let mut view = view(alloc).expect(&rt, "memory");
-    view.alarms
-        .push(Alarm::Silent(Some(1_900)))
-        .expect(&rt, "memory");
-    view.alarms.push(Alarm::Failed(30)).expect(&rt, "memory");
-    let mut lines = lines_of(alloc, &view, Some(8)).expect(&rt, "memory");
-    let read = lines.pop();
-    assert!(rt; read.is_some_and(|line| line.as_str() == "READ   0.2 s ago"));
-    let differs = difference(&lines, &BRIEF);
-    assert!(rt; differs.is_none(), "{}", differs.unwrap_or(""));
-}
-
 /// How far an attempt has come: its stage, whether GO can be given, and what is left; and what the board says.
 const STAGES: [(Stage, bool, u64, &str); 5] = [
     (
@@ -213,19 +193,9 @@ fn live_line(
     Ok(None)
 }
 
-#[test]
-fn ready_is_what_the_view_calls_ready(rt: HostRuntime) {
-    for (stage, ready, left, wanted) in STAGES {
-        let line = live_line(rt.alloc(), stage, ready, left).expect(&rt, "memory");
-        let words = format!(in rt.alloc(); "LIVE   cue 7, attempt 31: {wanted}").expect(
-            &rt, "memory",
-        );
-        assert!(rt;
-            line.is_some_and(|line| line.as_str() == words.as_str()),
-            "{wanted}"
-        );
-    }
-}
+/// What the file says of cue 7.
+const NAMED: &str =
+    "{\"color\":\"blue\",\"cue\":\"7\",\"flag\":\"danger\",\"name\":\"Arie\",\"note\":\"wait for the lamp\"}";
 
 /// The facts of the view as JSON.
 const FACTS: &str =
@@ -234,10 +204,10 @@ is not running there\"}],\"chosen\":31,\"last\":{\"attempt\":30,\"cue\":\"6\",\"
 \"reason\":\"\"},\"lit\":[{\"attempt\":31,\"cue\":\"7\",\"device\":null,\"kind\":\"go\",\"press\":\"go 7 31\"},{\"attempt\":31,\
 \"cue\":null,\"device\":22,\"kind\":\"release\",\"press\":\"release 31 22\"}],\"live\":[{\"attempt\":31,\"cue\":\"7\",\"devices\":[\
 {\"answer\":\"ready\",\"device\":9,\"optional\":false},{\"answer\":\"waiting\",\"device\":22,\"optional\":true}],\"given\":null,\
-\"left\":8250,\"ready\":false,\"reason\":\"\",\"stage\":\"preparing\"}],\"network\":[{\"device\":9,\"heard\":\"silent, heard 7 s ago\",\
+\"left\":8250,\"ready\":false,\"reason\":\"\",\"stage\":\"preparing\"}],\"moves\":true,\"network\":[{\"device\":9,\"heard\":\"silent, heard 7 s ago\",\
 \"silent\":true}],\"next\":{\"cue\":\"7\",\"why\":\"\"},\"number\":12,\"past\":[],\"read\":200,\"said\":{\"ask\":4,\"kind\":\"open\",\
-\"press\":\"standby 7\",\"words\":\"open: nobody has replied yet; it may still be carried out\"},\"served\":900,\"stack\":{\"after\":3,\
-\"before\":0,\"cues\":[\"6\",\"7\"]},\"unsent\":\"not sent: the button was not lit\"}}";
+\"press\":\"standby 7\",\"words\":\"open: nobody has replied yet; it may still be carried out\"},\"served\":900,\"stack\":[\"6\",\
+\"7\"],\"unsent\":\"not sent: the button was not lit\"}}";
 
 // The view with something of each kind.
 fn full_view(alloc: Global) -> Result<View, AllocError> {
@@ -245,6 +215,8 @@ fn full_view(alloc: Global) -> Result<View, AllocError> {
     view.alarms.push(Alarm::NobodyListens)?;
     view.lit.push(Button::Go(cue(b"7")?, 31))?;
     view.lit.push(Button::Release(31, device(22)?))?;
+    view.lit.push(Button::MoveTo(cue(b"6")?))?;
+    view.lit.push(Button::MoveTo(cue(b"7")?))?;
     view.network.push(Contacted {
         device: device(9)?,
         heard: LastHeard::Ago(7_200),
@@ -269,12 +241,20 @@ fn page_has_the_facts_of_the_view(rt: HostRuntime) {
         port: 9100,
     };
     let view = full_view(alloc).expect(&rt, "memory");
-    let text = view_text(alloc, &view, &names, "r1").expect(&rt, "memory");
+    let manner = Manner {
+        run: "r1",
+        is_locked: true,
+        is_read_only: false,
+        told: None,
+    };
+    let text = view_text(alloc, &view, &names, &manner).expect(&rt, "memory");
     assert!(rt; text.as_str().ends_with(FACTS), "{}", text.as_str());
-    assert!(rt; text.as_str().contains("\"run\":\"r1\""));
     assert!(rt;
-        text.as_str().contains("{\"cue\":\"7\",\"name\":\"Arie\",\"note\":\"wait for the lamp\"}")
+        text.as_str()
+            .contains("\"readonly\":false,\"run\":\"r1\",\"told\":null,")
     );
+    assert!(rt; text.as_str().starts_with("{\"locked\":true,\"names\":"));
+    assert!(rt; text.as_str().contains(NAMED));
     assert!(rt; text.as_str().contains("{\"device\":22,\"name\":\"Fog\"}"));
 }
 

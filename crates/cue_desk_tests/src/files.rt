@@ -78,7 +78,7 @@ const READ: [&str; 14] = [
     "1: the 1. device: a value is of another kind: write it as `name = \"Winch 3\"`",
     "1: the 1. device: that is no port: take one of 1 to 65535",
     "10: the 1. cue: that is no cue number: write digits with single points, as \"12.5\", 16 characters at most",
-    "10: the 1. cue: `names` is no key of a cue: it has number, name, note and parts",
+    "10: the 1. cue: `names` is no key of a cue: it has number, name, note, color, flag and parts",
     "10: the 1. cue: a value is of another kind: write it as `optional = true`",
     "10: the 1. cue: hex is no pairs of hexadecimal digits: write them as \"0a0b\"",
     "10: the 1. cue: two parts are for device 3: take one of them out",
@@ -165,13 +165,11 @@ const TOLD: [(&str, &str); 12] = [
     ),
     (
         "[[cue]]\nnumber = \"1\"\nfollow = true\nparts = []\n",
-        "1: cue 1: `follow` is no key of a cue: it has number, name, note and parts. \
-         Nothing moves without a press, so there is no follow and no wait",
+        "1: cue 1: `follow`: nothing moves without a press, so a show file has no such key",
     ),
     (
-        "[[cue]]\nnumber = \"1\"\ncolor = \"red\"\nparts = []\n",
-        "1: cue 1: `color` is no key of a cue: it has number, name, note and parts. \
-         There are no colours and no flags: write it into the name or the note",
+        "[[cue]]\nnumber = \"1\"\ncolour = \"red\"\nparts = []\n",
+        "1: cue 1: `colour` is no key of a cue: it has number, name, note, color, flag and parts",
     ),
     (
         "[[device]]\nnumber = 3\nport = 9001\nip = \"10.0.7.31\"\n",

@@ -1,19 +1,22 @@
 //! Requests as browsers and strangers send them, presses, and what they are answered.
 use cue_page::page::{page_text, policy};
 use cue_request::answering::{Kind, NOTHING, Outcome, answer};
+use cue_request::door::{Door, Purpose};
 use cue_request::pressing::{press_text, read_press};
 use cue_request::replying::trouble_text;
-use cue_request::request::{Door, Refusal, Wish, judge, read_head, read_request};
+use cue_request::request::{Refusal, Wish, judge, read_head, read_request};
 
 const DOOR: Door<'static> = Door {
     port: 8123,
     token: b"0123456789abcdef",
+    purpose: Purpose::Plays(None),
 };
 
 /// A door at the port that browsers leave out.
 const USUAL: Door<'static> = Door {
     port: 80,
     token: b"0123456789abcdef",
+    purpose: Purpose::Plays(None),
 };
 
 // What a request is allowed at a door.

@@ -16,7 +16,7 @@
 //! - What the file does not have stays, and is named, until somebody says `--exact`: a cue may have been put there by
 //!   hand.
 //!
-//! Only tested: how many steps a plan has, and which differences are named.
+//! Only tested: how many steps a plan has, which differences are named, and for which cues to wait.
 #![tactic(auto)]
 
 mod comparing;
@@ -25,9 +25,11 @@ mod planning;
 mod step;
 mod steps;
 mod trial;
+mod waiting;
 mod wanted;
 
 pub use comparing::{Difference, differences};
 pub use planning::plan;
 pub use step::Step;
 pub use trial::after;
+pub use waiting::live_words;

@@ -1,4 +1,5 @@
 pub mod Alarms
+pub mod Buttons
 pub mod Ends
 pub mod Live
 pub mod Network

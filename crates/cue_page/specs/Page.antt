@@ -1,16 +1,20 @@
 -- A view as JSON (RFC 8259): what the page draws.
-use Rattle.std.specs.Prelude.{ℕ, List, ◌-◌, map, codes, Option, None, Some}
-use Rattle.serde_json.specs.Data.{Data, null, number, unsigned, string, array, object, Members, member, no_members, put}
+use Rattle.std.specs.Prelude.{ℕ, List, ◌-◌, filter, map, codes, Option, None, Some}
+use Rattle.std.specs.List.{list_any}
+use Rattle.serde_json.specs.Data.{Data, null, boolean, number, unsigned, string, array, object, Members, member}
+use Rattle.serde_json.specs.Data.{no_members, put}
 use Rattle.serde_json.specs.View.{items_of, view}
 use Rattle.cue_view.specs.declared.view.View.{View}
 use Rattle.cue_request.specs.Lit.{button_data}
 use Rattle.cue_page.specs.Alarms.{alarm_data}
+use Rattle.cue_page.specs.Buttons.{is_move, is_other}
 use Rattle.cue_page.specs.Ends.{told_data, told_or_null}
 use Rattle.cue_page.specs.Live.{attempt_data}
 use Rattle.cue_page.specs.Network.{contact_data}
 use Rattle.cue_page.specs.Said.{said_data, unsent_data}
-use Rattle.cue_page.specs.Stack.{next_data, stack_data}
+use Rattle.cue_page.specs.Stack.{next_data, number_data}
 use Rattle.cue_page.specs.declared.board.FirstHalf.{FirstHalf}
+use Rattle.cue_page.specs.declared.board.Manner.{Manner}
 use Rattle.cue_page.specs.declared.board.Parts.{Parts}
 use Rattle.cue_page.specs.declared.board.SecondHalf.{SecondHalf}
 
@@ -30,8 +34,9 @@ view_data port v =
     object (member (codes "alarms") (array (items_of (map (alarm_data port v.at) v.alarms.items)))
     (member (codes "chosen") (chosen_data v.chosen)
     (member (codes "last") (told_or_null v.last)
-    (member (codes "lit") (array (items_of (map button_data v.lit.items)))
+    (member (codes "lit") (array (items_of (map button_data (filter is_other v.lit.items))))
     (member (codes "live") (array (items_of (map (attempt_data v.at) v.live.items)))
+    (member (codes "moves") (boolean (list_any is_move v.lit.items))
     (member (codes "network") (array (items_of (map contact_data v.network.items)))
     (member (codes "next") (next_data v.next)
     (member (codes "number") (number (unsigned v.number))
@@ -39,8 +44,8 @@ view_data port v =
     (member (codes "read") (age_data v.at v.read)
     (member (codes "said") (said_data port v.said)
     (member (codes "served") (age_data v.at v.served)
-    (member (codes "stack") (stack_data v.stack)
-    (member (codes "unsent") (unsent_data v.unsent) no_members))))))))))))))
+    (member (codes "stack") (array (items_of (map number_data v.stack.items)))
+    (member (codes "unsent") (unsent_data v.unsent) no_members)))))))))))))))
 
 -- the first half of the parts, each by its name, and more members after them
 abbrev pub first_members : FirstHalf → Members → Members
@@ -50,8 +55,9 @@ first_members p more =
     (member (codes "last") (view p.last)
     (member (codes "lit") (view p.lit)
     (member (codes "live") (view p.live)
+    (member (codes "moves") (boolean p.moves)
     (member (codes "network") (view p.network)
-    (member (codes "next") (view p.next) more))))))
+    (member (codes "next") (view p.next) more)))))))
 
 -- the second half
 abbrev pub second_members : SecondHalf → Members
@@ -75,9 +81,17 @@ with_second p members =
     (put (codes "read") (view p.read) (put (codes "past") (view p.past)
     (put (codes "number") (number (unsigned p.number)) members))))))
 
--- what the page gets: the view, in which run of the desk it was made, and what its numbers are called
-abbrev pub page_data : Data → List ℕ → Data → Data
-page_data called run facts =
-    object (member (codes "names") called
-    (member (codes "run") (string run)
-    (member (codes "view") facts no_members)))
+-- the line about the show file; null where there is none
+abbrev pub file_line_data : Manner → Data
+file_line_data m = elim m.told [ None ↦ null | Some told ↦ string told.now ]
+
+-- what the page gets: the view, what its numbers are called, and in what manner it is shown: in which run of the desk
+-- it was made, whether some presses need a word, whether none is taken, and what is told of the show file
+abbrev pub page_data : Data → Manner → Data → Data
+page_data called m facts =
+    object (member (codes "locked") (boolean m.is_locked)
+    (member (codes "names") called
+    (member (codes "readonly") (boolean m.is_read_only)
+    (member (codes "run") (string m.run.now)
+    (member (codes "told") (file_line_data m)
+    (member (codes "view") facts no_members))))))

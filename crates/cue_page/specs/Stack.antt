@@ -1,10 +1,8 @@
--- The cue that is next, and the stack around the place, as JSON (RFC 8259).
-use Rattle.std.specs.Prelude.{ℕ, List, [], map, codes}
-use Rattle.serde_json.specs.Data.{Data, null, number, unsigned, string, array, object, member, no_members}
-use Rattle.serde_json.specs.View.{items_of}
+-- The cue that is next, and the numbers of the stack, as JSON (RFC 8259).
+use Rattle.std.specs.Prelude.{ℕ, List, [], codes}
+use Rattle.serde_json.specs.Data.{Data, null, string, object, member, no_members}
 use Rattle.cue_view.specs.declared.view.Next.{Next}
 use Rattle.cue_view.specs.declared.view.Next.TheVariants as next
-use Rattle.cue_view.specs.declared.view.Stack.{Stack}
 
 -- the cue that is next; null where none is
 abbrev pub cue_data : Next → Data
@@ -23,10 +21,3 @@ next_data n = object (member (codes "cue") (cue_data n) (member (codes "why") (s
 
 abbrev pub number_data : List ℕ → Data
 number_data c = string c
-
--- the cues around the place, and how many there are before and after them
-abbrev pub stack_data : Stack → Data
-stack_data s =
-    object (member (codes "after") (number (unsigned s.after))
-    (member (codes "before") (number (unsigned s.before))
-    (member (codes "cues") (array (items_of (map number_data s.cues.items))) no_members)))

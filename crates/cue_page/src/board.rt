@@ -6,6 +6,7 @@ ghost use Rattle.serde_json.specs.View.{members_view, view};
 ghost use Rattle.cue_page.specs.Page as page;
 
 mod alarms;
+mod buttons;
 mod called;
 mod ends;
 mod live;
@@ -14,9 +15,9 @@ mod said;
 mod stack;
 
 use alarms::alarms_value;
+use buttons::{has_moves, others_value};
 use called::names_value;
 use cue_board::Names;
-use cue_request::lit::lit_value;
 use cue_view::view::View;
 use ends::{past_value, told_or_null};
 use live::live_value;
@@ -54,6 +55,7 @@ struct FirstHalf {
     last: Value,
     lit: Value,
     live: Value,
+    moves: bool,
     network: Value,
     next: Value,
 }
@@ -80,6 +82,7 @@ fn first_members(alloc: Global, half: FirstHalf) -> Result<Map<String, Value>, A
         last,
         lit,
         live,
+        moves,
         network,
         next,
     } = half;
@@ -89,6 +92,7 @@ fn first_members(alloc: Global, half: FirstHalf) -> Result<Map<String, Value>, A
     put(&mut map, alloc, "last", last)?;
     put(&mut map, alloc, "lit", lit)?;
     put(&mut map, alloc, "live", live)?;
+    put(&mut map, alloc, "moves", Value::Bool(moves))?;
     put(&mut map, alloc, "network", network)?;
     put(&mut map, alloc, "next", next)?;
     Ok(map)
@@ -148,8 +152,9 @@ fn parts_of(alloc: Global, shown: &View, port: u16) -> Result<Parts, AllocError>
         alarms: alarms_value(alloc, &shown.alarms, at, port)?,
         chosen: chosen_value(shown.chosen),
         last: told_or_null(alloc, shown.last.as_ref())?,
-        lit: lit_value(alloc, &shown.lit)?,
+        lit: others_value(alloc, &shown.lit)?,
         live: live_value(alloc, &shown.live, at)?,
+        moves: has_moves(&shown.lit),
         network: network_value(alloc, &shown.network)?,
         next: next_value(alloc, shown.next)?,
     };
@@ -173,22 +178,53 @@ pub fn view_value(alloc: Global, shown: &View, port: u16) -> Result<Value, Alloc
     joined(alloc, parts)
 }
 
-// What the page gets: the facts of a view, the run in which it was made, and what its numbers are called.
-fn page_value(alloc: Global, called: &Value, run: &str, facts: &Value) -> Result<Value, AllocError>
-    ensures { IfOk result (λ v. view v ≡ page.page_data (view called.now) run.now (view facts.now)) }
-{
-    json!(in alloc; {"names": called, "run": run, "view": facts})
+/// In what manner a page shows its view: what stands beside the view and its names.
+#[derive(Clone, Copy)]
+pub struct Manner<'a> {
+    /// Names the run of the desk: a page that was loaded in another run loads itself again.
+    pub run: &'a str,
+    /// Whether Move here and Release ask for the word of the show lock.
+    pub is_locked: bool,
+    /// Whether the page only shows, and takes no press.
+    pub is_read_only: bool,
+    /// A line about the show file; none if there is nothing to tell.
+    pub told: Option<&'a str>,
 }
 
-/// A view as JSON, with the names of the show file for the numbers in it. `run` names the run of the desk: a page that
-/// was loaded in another run loads itself again.
+// The line about the show file; null where there is none.
+fn file_line_value(alloc: Global, manner: &Manner<'_>) -> Result<Value, AllocError>
+    ensures { IfOk result (λ v. view v ≡ page.file_line_data manner.now) }
+{
+    match manner.told {
+        Some(told) => Ok(Value::String(String::from_str(alloc, told)?)),
+        None => Ok(Value::Null),
+    }
+}
+
+// What the page gets: the facts of a view, in what manner they are shown, and what its numbers are called.
+fn page_value(
+    alloc: Global,
+    called: &Value,
+    manner: &Manner<'_>,
+    facts: &Value,
+) -> Result<Value, AllocError>
+    ensures { IfOk result (λ v. view v ≡ page.page_data (view called.now) manner.now (view facts.now)) }
+{
+    let told = file_line_value(alloc, manner)?;
+    json!(in alloc; {
+        "locked": manner.is_locked, "names": called, "readonly": manner.is_read_only, "run": manner.run,
+        "told": told, "view": facts
+    })
+}
+
+/// A view as JSON, with the names of the show file for the numbers in it, and in what manner it is shown.
 pub fn view_text(
     alloc: Global,
     shown: &View,
     names: &Names<'_>,
-    run: &str,
+    manner: &Manner<'_>,
 ) -> Result<String, AllocError> {
-    let called = names_value(alloc, shown, names)?;
+    let called = names_value(alloc, names)?;
     let facts = view_value(alloc, shown, names.port)?;
-    page_value(alloc, &called, run, &facts)?.to_string(alloc)
+    page_value(alloc, &called, manner, &facts)?.to_string(alloc)
 }

@@ -1,38 +1,81 @@
-//! The page itself: one text of HTML with its style and its script, and nothing from anywhere else.
+//! The page itself: one text of HTML with its styles and its scripts, and nothing from anywhere else.
+mod alarms;
+mod controls;
 mod drawing;
+mod elements;
+mod finding;
+mod great;
+mod live;
+mod locking;
 mod pressing;
+mod settings;
+mod small;
+mod sounding;
+mod stack;
 mod style;
+mod themes;
+mod times;
 
+use alarms::ALARMS;
 use base64::engine::general_purpose::STANDARD;
+use controls::CONTROLS;
 use drawing::DRAWING;
+use elements::ELEMENTS;
+use finding::FINDING;
+use great::GREAT;
+use live::LIVE;
+use locking::LOCKING;
 use pressing::PRESSING;
+use settings::SETTINGS;
 use sha2::{Digest, Sha256};
+use small::SMALL;
+use sounding::SOUNDING;
+use stack::STACK;
 use std::alloc::{AllocError, Global};
 use style::STYLE;
+use themes::THEMES;
+use times::TIMES;
 
-/// What stands before the style.
+/// The styles, in order: a later one has the last word.
+const STYLES: [&str; 4] = [THEMES, STYLE, CONTROLS, SMALL];
+
+/// The scripts, in order: what one does at once stands in those before it.
+const SCRIPTS: [&str; 12] = [
+    ELEMENTS, STACK, FINDING, LIVE, TIMES, ALARMS, GREAT, SETTINGS, SOUNDING, LOCKING, DRAWING,
+    PRESSING,
+];
+
+/// What stands before the styles.
 const HEAD: &str = r#"<!DOCTYPE html>
-<html lang="en">
+<html lang="en" data-theme="dark" data-size="normal">
 <head>
 <meta charset="utf-8">
 <meta name="viewport" content="width=device-width, initial-scale=1">
 <title>cuedesk</title>
 <link rel="icon" href="data:,">
-<style>"#;
+"#;
 
-/// What stands between the style and the token.
-const TOKEN: &str = r#"</style>
-<meta name="cuedesk-token" content=""#;
+/// What stands between the styles and the token.
+const TOKEN: &str = r#"<meta name="cuedesk-token" content=""#;
 
-/// What stands between the token and the script.
+/// What stands between the token and the scripts.
 const BODY: &str = r#"">
 </head>
 <body>
 <header>
 <h1>CUEDESK</h1>
+<div id="mode" hidden>READ ONLY</div>
 <div id="ended">Last: <span id="last">no view yet</span></div>
+<div id="tools" role="group" aria-label="The page itself">
+<span id="locked" hidden>Locked</span>
+<button id="lock-again" class="tool" type="button" hidden>Lock again</button>
+<button id="sound" class="tool" type="button">Sound</button>
+<button id="theme" class="tool" type="button">Light</button>
+<button id="size" class="tool" type="button">Type</button>
+</div>
 <div id="age" role="status" aria-label="Age of what is shown">no view yet</div>
 </header>
+<div id="told" role="status" hidden></div>
 <div id="alarms" hidden></div>
 <main>
 <section id="now" aria-labelledby="next-title">
@@ -41,16 +84,27 @@ const BODY: &str = r#"">
 <div id="live" role="group" aria-labelledby="live-title"></div>
 </section>
 <section id="rest" aria-labelledby="stack-title">
-<h2 id="stack-title">Stack</h2><p id="before" class="empty" hidden></p><ol id="stack"></ol>
-<p id="after" class="empty" hidden></p>
+<div id="stack-bar"><h2 id="stack-title">Stack</h2>
+<input id="find" type="text" placeholder="Find" autocomplete="off" spellcheck="false"
+ aria-label="Find a cue by its number or its name">
+<span id="found" role="status"></span>
+<button id="to-place" class="small stays" type="button">To the place</button></div>
+<fieldset id="moves" disabled aria-label="The cues of the stack">
+<div id="list" tabindex="0"><ol id="stack"></ol></div></fieldset>
 <div id="network" role="group" aria-labelledby="network-title" hidden>
 <h2 id="network-title">Devices on the network</h2><ul id="heard"></ul></div>
 <div id="history" role="group" aria-labelledby="past-title" hidden>
 <h2 id="past-title">Ended</h2><ol id="past"></ol></div>
 </section>
 </main>
+<form id="lock" role="dialog" aria-labelledby="lock-why" hidden>
+<label id="lock-why" for="lock-word">The show is locked.</label>
+<input id="lock-word" type="text" autocomplete="off" spellcheck="false">
+<button id="lock-open" class="small" type="submit">Unlock</button>
+<button id="lock-leave" class="small" type="button">Leave it</button>
+</form>
 <footer aria-label="Commands">
-<div id="words" role="alert">S is STANDBY, the space bar GO, Esc CANCEL.</div>
+<div id="words" role="alert">S is STANDBY, space is GO, Esc is CANCEL.</div>
 <button id="standby" type="button" disabled aria-keyshortcuts="S">
 <b>STANDBY</b> <span id="standby-cue">no cue</span></button>
 <button id="cancel" type="button" disabled aria-keyshortcuts="Escape">
@@ -59,36 +113,57 @@ const BODY: &str = r#"">
 <b>GO</b> <span id="go-cue">no cue is ready</span></button>
 </footer>
 <div id="spoken" class="hidden" aria-live="polite"></div>
-<script>"#;
+<div id="flash" aria-hidden="true"></div>
+"#;
 
-/// What stands between the two scripts.
-const SCRIPTS: &str = "</script>\n<script>";
+/// What stands after the scripts.
+const END: &str = "</body>\n</html>\n";
 
-/// What stands after the second script.
-const END: &str = "</script>\n</body>\n</html>\n";
+// Puts each text after the page, as an element of this kind.
+fn push_texts(
+    page: &mut String,
+    alloc: Global,
+    kind: &str,
+    texts: &[&str],
+) -> Result<(), AllocError> {
+    for text in texts {
+        let element = format!(in alloc; "<{kind}>{text}</{kind}>\n")?;
+        page.push_str(element.as_str())?;
+    }
+    Ok(())
+}
 
 /// The page with its token.
 pub fn page_text(alloc: Global, token: &str) -> Result<String, AllocError> {
-    format!(in alloc; "{HEAD}{STYLE}{TOKEN}{token}{BODY}{DRAWING}{SCRIPTS}{PRESSING}{END}")
+    let mut page = String::from_str(alloc, HEAD)?;
+    push_texts(&mut page, alloc, "style", &STYLES)?;
+    let body = format!(in alloc; "{TOKEN}{token}{BODY}")?;
+    page.push_str(body.as_str())?;
+    push_texts(&mut page, alloc, "script", &SCRIPTS)?;
+    page.push_str(END)?;
+    Ok(page)
 }
 
-// How a policy names a text: by its digest, so that no other text is taken in its place.
-fn named(alloc: Global, text: &str) -> Result<String, AllocError> {
-    let digest = Sha256::digest(text.as_bytes());
-    let spelled = STANDARD.encode(alloc, &digest)?;
-    format!(in alloc; "'sha256-{}'", spelled.as_str())
+// How a policy names texts: each by its digest, so that no other text is taken in its place.
+fn named(alloc: Global, texts: &[&str]) -> Result<String, AllocError> {
+    let mut names = String::new(alloc);
+    for text in texts {
+        let digest = Sha256::digest(text.as_bytes());
+        let spelled = STANDARD.encode(alloc, &digest)?;
+        let name = format!(in alloc; " 'sha256-{}'", spelled.as_str())?;
+        names.push_str(name.as_str())?;
+    }
+    Ok(names)
 }
 
 /// What the page may do in a browser: run its own scripts with its own style, and speak with where it came from. No
 /// other page may show it in a frame.
 pub fn policy(alloc: Global) -> Result<String, AllocError> {
-    let (drawing, pressing) = (named(alloc, DRAWING)?, named(alloc, PRESSING)?);
-    let style = named(alloc, STYLE)?;
+    let (scripts, styles) = (named(alloc, &SCRIPTS)?, named(alloc, &STYLES)?);
     format!(in alloc;
-        "default-src 'none'; script-src {} {}; style-src {}; img-src data:; connect-src 'self'; \
+        "default-src 'none'; script-src{}; style-src{}; img-src data:; connect-src 'self'; \
         base-uri 'none'; form-action 'none'; frame-ancestors 'none'",
-        drawing.as_str(),
-        pressing.as_str(),
-        style.as_str()
+        scripts.as_str(),
+        styles.as_str()
     )
 }

@@ -8,7 +8,7 @@ use Rattle.cue_request.specs.declared.answering.Outcome.TheVariants as outcome
 use Rattle.cue_request.specs.declared.request.Refusal.{Refusal}
 use Rattle.cue_request.specs.declared.request.Refusal.TheVariants as refusal
 
--- the status and its reason, as RFC 9110 has them
+-- the status and its reason, as RFC 9110 has them; 423 is of RFC 4918, 429 of RFC 6585
 abbrev pub status_of : Outcome → List ℕ
 status_of outcome.Done = codes "200 OK"
 status_of (outcome.Refused refusal.Unreadable) = codes "400 Bad Request"
@@ -17,6 +17,10 @@ status_of (outcome.Refused refusal.Unknown) = codes "404 Not Found"
 status_of (outcome.Refused refusal.Method) = codes "405 Method Not Allowed"
 status_of (outcome.Refused refusal.Late) = codes "408 Request Timeout"
 status_of (outcome.Refused refusal.LongBody) = codes "413 Content Too Large"
+status_of (outcome.Refused refusal.OnlyShows) = codes "403 Forbidden"
+status_of (outcome.Refused refusal.NoWord) = codes "423 Locked"
+status_of (outcome.Refused refusal.WrongWord) = codes "423 Locked"
+status_of (outcome.Refused refusal.Closed) = codes "429 Too Many Requests"
 status_of (outcome.Refused refusal.LongHead) = codes "431 Request Header Fields Too Large"
 status_of outcome.Unavailable = codes "503 Service Unavailable"
 
@@ -29,6 +33,11 @@ refusal_words refusal.Method = codes "this cannot be asked so"
 refusal_words refusal.Late = codes "the request did not come whole within a second"
 refusal_words refusal.LongBody = codes "the body is longer than 256 bytes"
 refusal_words refusal.LongHead = codes "the head is longer than 8192 bytes"
+refusal_words refusal.OnlyShows = codes "this page only shows"
+refusal_words refusal.NoWord = codes "the show is locked: a move of the place and a release need its word"
+refusal_words refusal.WrongWord = codes "the show is locked: this is not its word"
+refusal_words refusal.Closed =
+    codes "the show is locked: five wrong words came within a minute; for ten seconds no word is taken"
 
 -- the type of a body
 abbrev pub type_of : Kind → List ℕ

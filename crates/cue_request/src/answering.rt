@@ -30,18 +30,20 @@ pub enum Kind {
     Text,
 }
 
-/// The status and its reason, as RFC 9110 has them.
+/// The status and its reason, as RFC 9110 has them; 423 is of RFC 4918, 429 of RFC 6585.
 pub fn status_of(outcome: Outcome) -> &'static str
     ensures { result.now ≡ status_of outcome }
 {
     match outcome {
         Outcome::Done => "200 OK",
         Outcome::Refused(Refusal::Unreadable) => "400 Bad Request",
-        Outcome::Refused(Refusal::Foreign) => "403 Forbidden",
+        Outcome::Refused(Refusal::Foreign | Refusal::OnlyShows) => "403 Forbidden",
         Outcome::Refused(Refusal::Unknown) => "404 Not Found",
         Outcome::Refused(Refusal::Method) => "405 Method Not Allowed",
         Outcome::Refused(Refusal::Late) => "408 Request Timeout",
         Outcome::Refused(Refusal::LongBody) => "413 Content Too Large",
+        Outcome::Refused(Refusal::NoWord | Refusal::WrongWord) => "423 Locked",
+        Outcome::Refused(Refusal::Closed) => "429 Too Many Requests",
         Outcome::Refused(Refusal::LongHead) => "431 Request Header Fields Too Large",
         Outcome::Unavailable => "503 Service Unavailable",
     }
@@ -59,6 +61,12 @@ pub fn refusal_words(refusal: Refusal) -> &'static str
         Refusal::Late => "the request did not come whole within a second",
         Refusal::LongBody => "the body is longer than 256 bytes",
         Refusal::LongHead => "the head is longer than 8192 bytes",
+        Refusal::OnlyShows => "this page only shows",
+        Refusal::NoWord => "the show is locked: a move of the place and a release need its word",
+        Refusal::WrongWord => "the show is locked: this is not its word",
+        Refusal::Closed => {
+            "the show is locked: five wrong words came within a minute; for ten seconds no word is taken"
+        }
     }
 }
 

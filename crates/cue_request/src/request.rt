@@ -1,26 +1,17 @@
 //! Requests: what the head of one says, and what it is allowed.
-ghost use Rattle.std.specs.Prelude.{◌≡◌, ◌≤◌, ◌↔◌, ◌++◌, codes, drop, length, take, map, option_map};
-ghost use Rattle.std.specs.Prelude.{All, IfSome, IfOk, IsTrue, Some};
+ghost use Rattle.std.specs.Prelude.{◌≡◌, ◌≤◌, codes, drop, length, take, map, option_map};
+ghost use Rattle.std.specs.Prelude.{All, IfSome, IfOk, Some};
 ghost use Rattle.std.specs.Fmt.{decimal};
 ghost use Rattle.httparse.specs.Grammar.{ReadsRequest, RequestHead};
 ghost use Rattle.httparse.specs.Spans.{header_bytes, name_and_value, span_bytes, IsHeaderWithin, IsWithin};
-ghost use Rattle.cue_request.specs.Requests.{
-  IsCommand,
-  IsCommandHead,
-  IsFromPage,
-  IsHeadOf,
-  IsHome,
-  IsOfOthers,
-  OnCommand,
-  origin_of,
-};
+ghost use Rattle.cue_request.specs.Doors.{IsAskedHere, IsOfOthers};
+ghost use Rattle.cue_request.specs.Requests.{IsAsked, IsCommand, IsCommandHead, IsHeadOf, OnCommand};
 
+use crate::door::{Door, is_asked_here, is_from_page, is_played};
 use crate::fields::only_value;
 use crate::numbers::number_in;
-use crate::texts::after;
 use httparse::Status;
 use httparse::spans::{EMPTY_HEADER_SPAN, HeaderSpan, RequestSpans, parse_request};
-use itoa::Buffer;
 
 /// The longest head, in bytes.
 pub const MAX_HEAD: usize = 8192;
@@ -31,18 +22,6 @@ pub const MAX_BODY: usize = 256;
 /// The most fields of a head.
 const MAX_FIELDS: usize = 64;
 
-/// The port that a host without one has (RFC 9110, section 4.2.1).
-const USUAL_PORT: u16 = 80;
-
-/// Where the page is, and what its own commands carry.
-#[derive(Clone, Copy)]
-pub struct Door<'a> {
-    /// The port of 127.0.0.1 at which it is served.
-    pub port: u16,
-    /// What is drawn at the start and stands in the page alone.
-    pub token: &'a [u8],
-}
-
 /// What is looked at of a head. A field that is there twice counts as not there.
 #[derive(Clone, Copy)]
 pub struct Head<'a> {
@@ -51,6 +30,8 @@ pub struct Head<'a> {
     pub host: Option<&'a [u8]>,
     pub origin: Option<&'a [u8]>,
     pub token: Option<&'a [u8]>,
+    /// The word of the lock of the show.
+    pub word: Option<&'a [u8]>,
     /// How long its body is, in decimal.
     pub length: Option<&'a [u8]>,
     /// Whose page asked, as the browser says it (Sec-Fetch-Site).
@@ -84,6 +65,14 @@ pub enum Refusal {
     LongBody,
     /// It did not come whole in time.
     Late,
+    /// It is a press, and the page only shows.
+    OnlyShows,
+    /// The press needs the word of the lock, and does not say it.
+    NoWord,
+    /// The word that it says is not that of the lock.
+    WrongWord,
+    /// Five wrong words came within a minute: for ten seconds none is taken.
+    Closed,
 }
 
 // What the spans of a head cover.
@@ -101,6 +90,7 @@ fn head_at<'a>(buffer: &'a [u8], fields: &[HeaderSpan], spans: &RequestSpans) ->
         host: only_value(buffer, fields, b"host"),
         origin: only_value(buffer, fields, b"origin"),
         token: only_value(buffer, fields, b"cuedesk-token"),
+        word: only_value(buffer, fields, b"cuedesk-word"),
         length: only_value(buffer, fields, b"content-length"),
         site: only_value(buffer, fields, b"sec-fetch-site"),
     }
@@ -132,91 +122,6 @@ pub fn read_head(bytes: &[u8]) -> Result<Option<(Head<'_>, usize)>, Refusal>
     }
 }
 
-// Whether the text is the two parts, one after the other.
-fn is_joined(text: &[u8], front: &[u8], rest: &[u8]) -> bool
-    ensures { IsTrue result → text.now ≡ front.now ++ rest.now }
-{
-    match after(front, text) {
-        Some(found) => found == rest,
-        None => false,
-    }
-}
-
-// Whether the host is this machine, with the port.
-fn is_home_with(port: u16, host: &[u8]) -> bool
-    ensures { IsTrue result → IsHome port host.now }
-{
-    let mut buffer = Buffer::new();
-    let spelled = buffer.format(port).as_bytes();
-    is_joined(host, b"127.0.0.1:", spelled) || is_joined(host, b"localhost:", spelled)
-}
-
-// Whether the host is this machine at the port, which browsers leave out where it is the usual one.
-fn is_home(port: u16, host: &[u8]) -> bool
-    ensures { IsTrue result → IsHome port host.now }
-{
-    if port == USUAL_PORT && (host == b"127.0.0.1".as_slice() || host == b"localhost".as_slice()) {
-        return true;
-    }
-    is_home_with(port, host)
-}
-
-// Whether a page that was read at this host has this origin.
-fn is_own_origin(host: &[u8], origin: &[u8]) -> bool
-    ensures { IsTrue result → origin.now ≡ origin_of host.now }
-{
-    is_joined(origin, b"http://", host)
-}
-
-// Whether a page of another site made the browser ask.
-fn is_of_others(site: Option<&[u8]>) -> bool
-    ensures { IsTrue result ↔ IsOfOthers (option_map (λ v. v.now) site.entry) }
-{
-    match site {
-        Some(site) => site == b"cross-site".as_slice(),
-        None => false,
-    }
-}
-
-// Whether it came to this machine, and from no foreign page.
-fn is_at_home(door: &Door<'_>, head: &Head<'_>) -> bool
-    ensures own { IsTrue result → IsOfOthers (option_map (λ v. v.now) head.now.site) → ⊥ }
-{
-    if is_of_others(head.site) {
-        return false;
-    }
-    match (head.host, head.origin) {
-        (Some(host), None) => is_home(door.port, host),
-        (Some(host), Some(origin)) => is_home(door.port, host) && is_own_origin(host, origin),
-        (None, _) => false,
-    }
-}
-
-// Whether these are of our own page.
-fn is_ours(door: &Door<'_>, host: &[u8], origin: &[u8], token: &[u8]) -> bool
-    ensures home { IsTrue result → IsHome door.now.port host.now }
-    ensures own { IsTrue result → origin.now ≡ origin_of host.now }
-    ensures knows { IsTrue result → token.now ≡ door.now.token.now }
-{
-    is_home(door.port, host) && is_own_origin(host, origin) && token == door.token
-}
-
-// Whether it came from our own page.
-fn is_from_page(
-    door: &Door<'_>,
-    host: Option<&[u8]>,
-    origin: Option<&[u8]>,
-    token: Option<&[u8]>,
-) -> bool
-    ensures { IsTrue result → IsFromPage door.now (option_map (λ v. v.now) host.entry)
-        (option_map (λ v. v.now) origin.entry) (option_map (λ v. v.now) token.entry) }
-{
-    match (host, origin, token) {
-        (Some(host), Some(origin), Some(token)) => is_ours(door, host, origin, token),
-        _ => false,
-    }
-}
-
 // How long the body is: in decimal, with no sign and no zero in front.
 fn body_length(text: Option<&[u8]>) -> Result<usize, Refusal>
     ensures short { IfOk result (λ size. size ≤ 256) }
@@ -231,15 +136,17 @@ fn body_length(text: Option<&[u8]>) -> Result<usize, Refusal>
     }
 }
 
-// A command that came to this machine.
+// What is asked at the target of the commands: a page that only shows takes nothing there, whatever comes.
 fn judge_command(door: &Door<'_>, head: &Head<'_>) -> Result<Wish, Refusal>
-    requires method { head.now.method.now ≡ codes "POST" }
     requires target { head.now.target.now ≡ codes "/command" }
     ensures { IfOk result (λ wish. OnCommand wish (IsCommandHead door.now head.now)) }
 {
-    if is_from_page(door, head.host, head.origin, head.token) {
-        let size = body_length(head.length)?;
-        Ok(Wish::Command(size))
+    if !is_played(door.purpose) {
+        Err(Refusal::OnlyShows)
+    } else if head.method != b"POST".as_slice() {
+        Err(Refusal::Method)
+    } else if is_from_page(door, head.host, head.origin, head.token) {
+        Ok(Wish::Command(body_length(head.length)?))
     } else {
         Err(Refusal::Foreign)
     }
@@ -255,8 +162,6 @@ fn judge_reading(target: &[u8]) -> Result<Wish, Refusal>
         Ok(Wish::Board)
     } else if target == b"/show.toml".as_slice() {
         Ok(Wish::ShowFile)
-    } else if target == b"/command".as_slice() {
-        Err(Refusal::Method)
     } else {
         Err(Refusal::Unknown)
     }
@@ -266,14 +171,16 @@ fn judge_reading(target: &[u8]) -> Result<Wish, Refusal>
 /// page of another site asks.
 pub fn judge(door: &Door<'_>, head: &Head<'_>) -> Result<Wish, Refusal>
     ensures own { IfOk result (λ _. IsOfOthers (option_map (λ v. v.now) head.now.site) → ⊥) }
+    ensures here { IfOk result (λ _. IsAskedHere door.now (option_map (λ v. v.now) head.now.host)
+        (option_map (λ v. v.now) head.now.origin)) }
     ensures command { IfOk result (λ wish. OnCommand wish (IsCommandHead door.now head.now)) }
 {
-    if !is_at_home(door, head) {
+    if !is_asked_here(door, head.host, head.origin, head.site) {
         Err(Refusal::Foreign)
+    } else if head.target == b"/command".as_slice() {
+        judge_command(door, head)
     } else if head.method == b"GET".as_slice() {
         judge_reading(head.target)
-    } else if head.method == b"POST".as_slice() && head.target == b"/command".as_slice() {
-        judge_command(door, head)
     } else {
         Err(Refusal::Method)
     }
@@ -285,11 +192,20 @@ pub struct Request<'a> {
     pub wish: Wish,
     /// What stands in its body: of a command, so many bytes as its head says; else nothing.
     pub body: &'a [u8],
+    /// What it says of the word of the lock.
+    pub word: Option<&'a [u8]>,
 }
 
 // The request whose body begins there; none where it has not come whole.
-fn with_body<'a>(bytes: &'a [u8], start: usize, wish: Wish) -> Option<Request<'a>>
+fn with_body<'a>(
+    bytes: &'a [u8],
+    start: usize,
+    wish: Wish,
+    word: Option<&'a [u8]>,
+) -> Option<Request<'a>>
     ensures wish { IfSome result (λ request. request.wish ≡ wish) }
+    ensures word { IfSome result (λ request.
+        option_map (λ v. v.now) request.word ≡ option_map (λ v. v.now) word.entry) }
     ensures body { IfSome result (λ request. OnCommand wish (λ size. (length request.body.now ≡ size)
         × (request.body.now ≡ take size (drop start bytes.now)))) }
 {
@@ -298,19 +214,20 @@ fn with_body<'a>(bytes: &'a [u8], start: usize, wish: Wish) -> Option<Request<'a
         Wish::Page | Wish::Board | Wish::ShowFile => 0,
     };
     let body = bytes.get(start..)?.get(..size)?;
-    Some(Request { wish, body })
+    Some(Request { wish, body, word })
 }
 
 /// The request at the front of what has come from one connection; none where it has not come whole. A head that is
 /// refused is so before its body has come.
 pub fn read_request<'a>(door: &Door<'_>, bytes: &'a [u8]) -> Result<Option<Request<'a>>, Refusal>
-    ensures command { IfOk result (λ found. IfSome found (λ request.
-        OnCommand request.wish (λ _. IsCommand door.now bytes.now request.body.now))) }
+    ensures asked { IfOk result (λ found. IfSome found (λ _. IsAsked door.now bytes.now)) }
+    ensures command { IfOk result (λ found. IfSome found (λ request. OnCommand request.wish (λ _.
+        IsCommand door.now bytes.now request.body.now (option_map (λ v. v.now) request.word)))) }
 {
     match read_head(bytes)? {
         Some((head, start)) => {
             let wish = judge(door, &head)?;
-            Ok(with_body(bytes, start, wish))
+            Ok(with_body(bytes, start, wish, head.word))
         }
         None => Ok(None),
     }

@@ -26,6 +26,9 @@ use Rattle.cue_operator.proofs.NameLemmas.{stack_of, table_of}
 use Rattle.cue_show_file.specs.declared.file.CueEntry.{CueEntry}
 use Rattle.cue_show_file.specs.declared.file.DeviceEntry.{DeviceEntry}
 use Rattle.cue_show_file.specs.declared.file.ShowFile.{ShowFile}
+use Rattle.cue_show_file.specs.declared.marks.Color.{Color}
+use Rattle.cue_show_file.specs.declared.marks.Flag.{Flag}
+use Rattle.cue_show_file.specs.Marks.{color_word, flag_word}
 use Rattle.cue_show_file.specs.Written.{ExportIsRead, WrittenIsRead, bare_cue, bare_device, is_port_number, cue_members}
 use Rattle.cue_show_file.specs.Written.{cue_text, device_members, device_text, file_members, file_text, port_text, tables_of}
 use Rattle.cue_show_file.specs.Written.{with_port, with_tables}
@@ -61,10 +64,24 @@ device_nodes e = with_node (codes "name") e.name
     (node (codes "number") (value (integer (pos e.number)))
     (node (codes "port") (value (integer (pos e.port))) no_nodes))
 
+abbrev with_color_node : Option Color → Nodes → Nodes
+with_color_node None ns = ns
+with_color_node (Some c) ns = node (codes "color") (value (string (color_word c))) ns
+
+abbrev with_flag_node : Option Flag → Nodes → Nodes
+with_flag_node None ns = ns
+with_flag_node (Some f) ns = node (codes "flag") (value (string (flag_word f))) ns
+
+-- the nodes of a cue with these signs
+abbrev nodes_with : CueEntry → Option Color → Option Flag → Option (String Global) → Option (String Global) → Nodes
+nodes_with e color flag name note = with_color_node color
+    (with_flag_node flag
+    (with_node (codes "name") name
+    (with_node (codes "note") note
+    (node (codes "number") (value (string e.number)) (node (codes "parts") (value (parts_data e.parts)) no_nodes)))))
+
 abbrev cue_nodes : CueEntry → Nodes
-cue_nodes e = with_node (codes "name") e.name
-    (with_node (codes "note") e.note
-    (node (codes "number") (value (string e.number)) (node (codes "parts") (value (parts_data e.parts)) no_nodes)))
+cue_nodes e = nodes_with e e.color e.flag e.name e.note
 
 close-device : (e : DeviceEntry) → close (device_nodes e) ≡ device_members e
 close-device e = at e.name
@@ -77,17 +94,26 @@ close-device e = at e.name
     at (Some t) = refl
 
 close-cue : (e : CueEntry) → close (cue_nodes e) ≡ cue_members e
-close-cue e = at e.name e.note
+close-cue e = at e.color e.flag e.name e.note
   where
-    at : (o p : Option (String Global))
-        → close (with_node (codes "name") o
-        (with_node (codes "note") p
-        (node (codes "number") (value (string e.number)) (node (codes "parts") (value (parts_data e.parts)) no_nodes))))
-        ≡ cue_members (record e { name = o; note = p })
-    at None None = refl
-    at None (Some u) = refl
-    at (Some t) None = refl
-    at (Some t) (Some u) = refl
+    at : (c : Option Color) (f : Option Flag) (o p : Option (String Global)) → close (nodes_with e c f o p)
+        ≡ cue_members (record e { color = c; flag = f; name = o; note = p })
+    at None None None None = refl
+    at None None None (Some u) = refl
+    at None None (Some t) None = refl
+    at None None (Some t) (Some u) = refl
+    at None (Some f) None None = refl
+    at None (Some f) None (Some u) = refl
+    at None (Some f) (Some t) None = refl
+    at None (Some f) (Some t) (Some u) = refl
+    at (Some c) None None None = refl
+    at (Some c) None None (Some u) = refl
+    at (Some c) None (Some t) None = refl
+    at (Some c) None (Some t) (Some u) = refl
+    at (Some c) (Some f) None None = refl
+    at (Some c) (Some f) None (Some u) = refl
+    at (Some c) (Some f) (Some t) None = refl
+    at (Some c) (Some f) (Some t) (Some u) = refl
 
 -- ---- a list of entries: each begins with a header of the list, and goes to its end
 
@@ -190,40 +216,54 @@ device-goes-on others e done last section = at e.name
 
 cue-begins : (others : Nodes) → IsBefore (codes "cue") others → Begins (codes "cue") lines_of_cue cue_nodes others
 unfolding along_header along_dots at_key define
-cue-begins others h e section = at e.name e.note
+cue-begins others h e section = at e.color e.flag e.name e.note
   where
-    at : (o p : Option (String Global)) → run (others, section) (cue_lines e.number o p e.parts)
-        ≡ Some (
-          listed (codes "cue") no_items
-              (with_node (codes "name") o
-              (with_node (codes "note") p
-              (node (codes "number") (value (string e.number))
-              (node (codes "parts") (value (parts_data e.parts)) no_nodes)))) others,
-          codes "cue" ∷ [],
-        )
-    at None None = rw (h.0, h.1) refl
-    at None (Some u) = rw (h.0, h.1) refl
-    at (Some t) None = rw (h.0, h.1) refl
-    at (Some t) (Some u) = rw (h.0, h.1) refl
+    at : (c : Option Color) (f : Option Flag) (o p : Option (String Global))
+        → run (others, section) (cue_lines e.number o p c f e.parts)
+        ≡ Some (listed (codes "cue") no_items (nodes_with e c f o p) others, codes "cue" ∷ [])
+    at None None None None = rw (h.0, h.1) refl
+    at None None None (Some u) = rw (h.0, h.1) refl
+    at None None (Some t) None = rw (h.0, h.1) refl
+    at None None (Some t) (Some u) = rw (h.0, h.1) refl
+    at None (Some f) None None = rw (h.0, h.1) refl
+    at None (Some f) None (Some u) = rw (h.0, h.1) refl
+    at None (Some f) (Some t) None = rw (h.0, h.1) refl
+    at None (Some f) (Some t) (Some u) = rw (h.0, h.1) refl
+    at (Some c) None None None = rw (h.0, h.1) refl
+    at (Some c) None None (Some u) = rw (h.0, h.1) refl
+    at (Some c) None (Some t) None = rw (h.0, h.1) refl
+    at (Some c) None (Some t) (Some u) = rw (h.0, h.1) refl
+    at (Some c) (Some f) None None = rw (h.0, h.1) refl
+    at (Some c) (Some f) None (Some u) = rw (h.0, h.1) refl
+    at (Some c) (Some f) (Some t) None = rw (h.0, h.1) refl
+    at (Some c) (Some f) (Some t) (Some u) = rw (h.0, h.1) refl
 
 cue-goes-on : (others : Nodes) → GoesOn (codes "cue") lines_of_cue cue_nodes others
 unfolding along_header along_dots at_key define
-cue-goes-on others e done last section = at e.name e.note
+cue-goes-on others e done last section = at e.color e.flag e.name e.note
   where
-    at : (o p : Option (String Global))
-        → run (listed (codes "cue") done last others, section) (cue_lines e.number o p e.parts)
+    at : (c : Option Color) (f : Option Flag) (o p : Option (String Global))
+        → run (listed (codes "cue") done last others, section) (cue_lines e.number o p c f e.parts)
         ≡ Some (
-          listed (codes "cue") (push_item done (table (close last)))
-              (with_node (codes "name") o
-              (with_node (codes "note") p
-              (node (codes "number") (value (string e.number))
-              (node (codes "parts") (value (parts_data e.parts)) no_nodes)))) others,
+          listed (codes "cue") (push_item done (table (close last))) (nodes_with e c f o p) others,
           codes "cue" ∷ [],
         )
-    at None None = refl
-    at None (Some u) = refl
-    at (Some t) None = refl
-    at (Some t) (Some u) = refl
+    at None None None None = refl
+    at None None None (Some u) = refl
+    at None None (Some t) None = refl
+    at None None (Some t) (Some u) = refl
+    at None (Some f) None None = refl
+    at None (Some f) None (Some u) = refl
+    at None (Some f) (Some t) None = refl
+    at None (Some f) (Some t) (Some u) = refl
+    at (Some c) None None None = refl
+    at (Some c) None None (Some u) = refl
+    at (Some c) None (Some t) None = refl
+    at (Some c) None (Some t) (Some u) = refl
+    at (Some c) (Some f) None None = refl
+    at (Some c) (Some f) None (Some u) = refl
+    at (Some c) (Some f) (Some t) None = refl
+    at (Some c) (Some f) (Some t) (Some u) = refl
 
 -- ---- the whole
 

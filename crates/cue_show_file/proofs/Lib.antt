@@ -1,6 +1,8 @@
 pub mod CueTextLemmas
 pub mod DefinedLemmas
+pub mod MarkLemmas
 pub mod PartLemmas
+pub mod PlainLemmas
 pub mod ReadingLemmas
 pub mod SaidLemmas
 pub mod StepLemmas

@@ -1,5 +1,5 @@
 -- Each part of a cue is one.
-use Rattle.std.proofs.Common.{Bool, ◌&&◌, List, length, nat_le, IsTrue}
+use Rattle.std.proofs.Common.{◌&&◌, List, length, nat_le, IsTrue}
 use Rattle.std.specs.List.{list_all}
 use Rattle.std.proofs.lemmas.Bool.{and_parts}
 use Rattle.cue_show.specs.declared.part.Part.{Part}

@@ -1,5 +1,5 @@
 -- The table of a show says this very show.
-use Rattle.std.proofs.Common.{◌≡◌, ◌∙◌, ℕ, zero, suc, ◌<◌, Bool, true, false, ◌&&◌, List, [], ◌∷◌, map, codes, length}
+use Rattle.std.proofs.Common.{◌≡◌, ◌∙◌, ℕ, zero, suc, pos, ◌<◌, Bool, true, false, ◌&&◌, List, [], ◌∷◌, map, codes, length}
 use Rattle.std.proofs.Common.{IsTrue, Option, Some, None, is_some, nat_le, refl, ap, arith}
 use Rattle.std.specs.Prelude.{IfOk, Result, Ok, Err, option_and_then}
 use Rattle.std.specs.List.{list_all}
@@ -9,7 +9,7 @@ use Rattle.std.proofs.lemmas.Bool.Decides.{nat_tests}
 use Rattle.std.specs.declared.alloc.AllocError.{AllocError}
 use Rattle.hex.specs.Hex.{IsBytes, decode_of, encode_lower}
 use Rattle.hex.proofs.HexLemmas.{decode_of-encode_lower}
-use Rattle.toml.specs.Data.{Members, get_member, no_members}
+use Rattle.toml.specs.Data.{Members, get_member, integer, member, no_members}
 use Rattle.cue_show.specs.declared.limits.TheConstants.{MAX_PART_BYTES}
 use Rattle.cue_show.specs.declared.part.Part.{Part}
 use Rattle.cue_show.specs.Bytes.{are_bytes}
@@ -22,7 +22,9 @@ use Rattle.cue_show.specs.Show.{Cues, ShowLists, are_known, is_cue_of, is_entry,
 use Rattle.cue_show.proofs.TestLemmas.{both}
 use Rattle.cue_operator.proofs.NameLemmas.{stack_of, table_of}
 use Rattle.cue_show_file.specs.Reading.{ExportNamesNoPlace, names_no_place, no_place_in, no_places_in, said_of, said_without}
-use Rattle.cue_show_file.specs.Said.{ExportSaysTheShow, cue_said, device_said, each_said, file_said, is_of_file}
+use Rattle.cue_show_file.specs.Plain.{is_plain}
+use Rattle.cue_show_file.specs.Said.{ExportSaysTheShow, cue_said, device_said, each_said, file_said, is_of_cue}
+use Rattle.cue_show_file.specs.Said.{is_of_file}
 use Rattle.cue_show_file.specs.Said.{list_or_none, part_said, text_said}
 use Rattle.cue_show_file.specs.Written.{IsFileOf, bare_cue, bare_device, cue_members, device_members, file_text}
 use Rattle.cue_show_file.specs.Written.{part_members, show_members, tables_of, with_tables}
@@ -31,6 +33,7 @@ use Rattle.cue_show_file.specs.declared.mistake.Finding.{Finding}
 use Rattle.cue_show_file.specs.declared.reading.Draft.{Draft}
 use Rattle.cue_show_file.proofs.PartLemmas.{are_parts-each}
 use Rattle.cue_show_file.proofs.DefinedLemmas.{export-is_read}
+use Rattle.cue_show_file.proofs.WrittenLemmas.{rest_by}
 
 -- each table says its own entry
 each-said : {A : Type 0} (said : Members → Option A) (members : A → Members) (ok : A → Bool)
@@ -58,16 +61,19 @@ part-said : (p : Part) → IsTrue (is_part p) → part_said (part_members p) ≡
 part-said p h =
     let k = both (is_device p.device) (nat_le (length p.bytes) MAX_PART_BYTES && are_bytes p.bytes) h in
     let bytes = (both (nat_le (length p.bytes) MAX_PART_BYTES) (are_bytes p.bytes) k.1).1 in
-    at p.optional p.device p.bytes k.0 (decode_of-encode_lower p.bytes (bytes-small p.bytes bytes))
+    at (is_plain p.bytes) p.optional p.device p.bytes k.0 (decode_of-encode_lower p.bytes (bytes-small p.bytes bytes))
   where
-    at : (b : Bool) (d : ℕ) (bs : List ℕ) → is_device d ≡ true → decode_of (encode_lower bs) ≡ Ok bs
-        → part_said (part_members (record { device = d; optional = b; bytes = bs })) ≡ Some
+    at : (plain b : Bool) (d : ℕ) (bs : List ℕ) → is_device d ≡ true → decode_of (encode_lower bs) ≡ Ok bs
+        → part_said (member (codes "device") (integer (pos d)) (rest_by plain b bs)) ≡ Some
         (record { device = d; optional = b; bytes = bs })
-    at true d bs fit back = rw (back, fit) refl
-    at false d bs fit back = rw (back, fit) refl
+    at true true d bs fit back = rw fit refl
+    at true false d bs fit back = rw fit refl
+    at false true d bs fit back = rw (back, fit) refl
+    at false false d bs fit back = rw (back, fit) refl
 
 cue-said : (s : ShowLists) (c : List ℕ × List Part) → IsTrue (is_cue_of s c)
     → cue_said (cue_members (bare_cue c)) ≡ Some c
+unfolding is_of_cue
 cue-said s c h =
     let k = both (is_cue_number c.0) (are_parts c.1 && are_known s c.1) h in
     let parts = are_parts-each c.1 (both (are_parts c.1) (are_known s c.1) k.1).0 in

@@ -1,7 +1,7 @@
 -- The text of a show file is lines as TOML's own writer has them.
 use Rattle.std.proofs.Common.{◌≡◌, ℕ, ◌≤◌, max, pos, Bool, true, false, ◌&&◌, List, [], ◌∷◌, ◌++◌, length, map, codes}
 use Rattle.std.proofs.Common.{IsTrue, Option, Some, None, String, Global, string_bytes, nat_le, refl, ap, arith}
-use Rattle.std.proofs.Common.{append_assoc}
+use Rattle.std.proofs.Common.{append_assoc, if◌then◌else◌}
 use Rattle.std.specs.Prelude.{FitsSigned}
 use Rattle.std.specs.Int.{w64}
 use Rattle.std.specs.Fmt.{decimal}
@@ -9,7 +9,8 @@ use Rattle.std.specs.List.{flat_map, list_all}
 use Rattle.std.proofs.lemmas.Bool.Decides.{nat_tests}
 use Rattle.hex.specs.Hex.{encode_lower}
 use Rattle.toml_writer.specs.Text.{key_text, string_text}
-use Rattle.toml.specs.Data.{Data, integer, string, array, table, member, is_before, depth, items_depth, has_valid_dates}
+use Rattle.toml.specs.Data.{Data, integer, string, array, table, Members, member, no_members, is_before, depth}
+use Rattle.toml.specs.Data.{items_depth, has_valid_dates}
 use Rattle.toml.specs.Data.{items_have_valid_dates}
 use Rattle.toml.specs.Tables.{Expression, key_value, array_table}
 use Rattle.toml.specs.Text.{IsItemsText, IsLinesText, IsMembersText, IsValueText, array_end}
@@ -22,9 +23,14 @@ use Rattle.cue_show.proofs.TestLemmas.{both}
 use Rattle.cue_show_file.specs.declared.file.CueEntry.{CueEntry}
 use Rattle.cue_show_file.specs.declared.file.DeviceEntry.{DeviceEntry}
 use Rattle.cue_show_file.specs.declared.file.ShowFile.{ShowFile}
-use Rattle.cue_show_file.specs.Written.{cue_text, device_text, file_text, has_lines, has_numbers, is_port_number}
-use Rattle.cue_show_file.specs.Written.{optional_members, part_end, part_item, part_members, part_text, parts_line}
-use Rattle.cue_show_file.specs.Written.{parts_text, port_text, tables_of, text_line}
+use Rattle.cue_show_file.specs.declared.marks.Color.{Color}
+use Rattle.cue_show_file.specs.declared.marks.Flag.{Flag}
+use Rattle.cue_show_file.specs.Marks.{color_word, flag_word}
+use Rattle.cue_show_file.specs.Plain.{is_plain}
+use Rattle.cue_show_file.specs.Written.{color_line, cue_text, device_text, digits_rest, file_text, flag_line, has_lines}
+use Rattle.cue_show_file.specs.Written.{has_numbers, is_port_number, part_item, part_members, part_rest, part_text}
+use Rattle.cue_show_file.specs.Written.{parts_line, parts_text, plain_rest, port_text, signs_text, tables_of, text_line}
+use Rattle.cue_show_file.specs.Written.{with_optional}
 
 -- ---- the lines
 
@@ -38,6 +44,14 @@ abbrev pub text_lines : List ℕ → Option (String Global) → List Expression
 text_lines k None = []
 text_lines k (Some t) = pair k (string (string_bytes t)) ∷ []
 
+abbrev pub color_lines : Option Color → List Expression
+color_lines None = []
+color_lines (Some c) = pair (codes "color") (string (color_word c)) ∷ []
+
+abbrev pub flag_lines : Option Flag → List Expression
+flag_lines None = []
+flag_lines (Some f) = pair (codes "flag") (string (flag_word f)) ∷ []
+
 abbrev pub device_lines : ℕ → ℕ → Option (String Global) → List Expression
 device_lines number port name =
     list_header (codes "device") ∷ pair (codes "number") (integer (pos number)) ∷ pair (codes "port")
@@ -46,11 +60,16 @@ device_lines number port name =
 abbrev pub parts_data : List Part → Data
 parts_data ps = array (tables_of (map part_members ps))
 
-abbrev pub cue_lines : List ℕ → Option (String Global) → Option (String Global) → List Part → List Expression
-cue_lines number name note parts =
+-- what people see of a cue
+abbrev pub signs_lines : Option (String Global) → Option (String Global) → Option Color → Option Flag → List Expression
+signs_lines name note color flag =
+    text_lines (codes "name") name ++ (text_lines (codes "note") note ++ (color_lines color ++ flag_lines flag))
+
+abbrev pub cue_lines : List ℕ → Option (String Global) → Option (String Global) → Option Color → Option Flag → List Part
+    → List Expression
+cue_lines number name note color flag parts =
     list_header (codes "cue") ∷ pair (codes "number") (string number)
-    ∷ (text_lines (codes "name") name ++ (text_lines (codes "note") note ++ pair (codes "parts") (parts_data parts) ∷
-    []))
+    ∷ (signs_lines name note color flag ++ pair (codes "parts") (parts_data parts) ∷ [])
 
 abbrev pub port_lines : Option ℕ → List Expression
 port_lines None = []
@@ -60,7 +79,7 @@ abbrev pub lines_of_device : DeviceEntry → List Expression
 lines_of_device e = device_lines e.number e.port e.name
 
 abbrev pub lines_of_cue : CueEntry → List Expression
-lines_of_cue e = cue_lines e.number e.name e.note e.parts
+lines_of_cue e = cue_lines e.number e.name e.note e.color e.flag e.parts
 
 abbrev pub file_lines : ShowFile → List Expression
 file_lines f = port_lines f.port ++ (flat_map lines_of_device f.devices.items ++ flat_map lines_of_cue f.cues.items)
@@ -86,6 +105,14 @@ key-note : IsBareKey (codes "note")
 unfolding key_text
 key-note = refl
 
+key-color : IsBareKey (codes "color")
+unfolding key_text
+key-color = refl
+
+key-flag : IsBareKey (codes "flag")
+unfolding key_text
+key-flag = refl
+
 key-parts : IsBareKey (codes "parts")
 unfolding key_text
 key-parts = refl
@@ -101,6 +128,10 @@ key-cue = refl
 key-hex : IsBareKey (codes "hex")
 unfolding key_text
 key-hex = refl
+
+key-text : IsBareKey (codes "text")
+unfolding key_text
+key-text = refl
 
 key-optional : IsBareKey (codes "optional")
 unfolding key_text
@@ -131,6 +162,14 @@ text-lines : (k : List ℕ) (o : Option (String Global)) → IsBareKey k → Are
 text-lines k None bare = refl
 text-lines k (Some t) bare = pair-line k (string_text (string_bytes t)) (string (string_bytes t)) bare refl
 
+color-lines : (o : Option Color) → AreLines (color_lines o) (color_line o)
+color-lines None = refl
+color-lines (Some c) = pair-line (codes "color") (string_text (color_word c)) (string (color_word c)) key-color refl
+
+flag-lines : (o : Option Flag) → AreLines (flag_lines o) (flag_line o)
+flag-lines None = refl
+flag-lines (Some f) = pair-line (codes "flag") (string_text (flag_word f)) (string (flag_word f)) key-flag refl
+
 each-lines : {A : Type 0} (lines : A → List Expression) (text : A → List ℕ) (ok : A → Bool)
     → ((x : A) → IsTrue (ok x) → AreLines (lines x) (text x)) → (xs : List A) → IsTrue (list_all ok xs)
     → AreLines (flat_map lines xs) (flat_map text xs)
@@ -149,30 +188,60 @@ number-line k n bare h = pair-line k (decimal n) (integer (pos n)) bare (refl, f
 
 -- ---- parts
 
-optional-text : (b : Bool) → IsMembersText true false (optional_members b) (part_end b)
-optional-text true = (codes "true", codes " }", rw key-optional refl, refl, refl, refl)
-optional-text false = refl
+plain-rest : (b : Bool) (t : List ℕ)
+    → IsMembersText true false (with_optional b (member (codes "text") (string t) no_members)) (plain_rest b t)
+plain-rest true t = (
+  codes "true",
+  codes ", text = " ++ (string_text t ++ codes " }"),
+  rw key-optional refl,
+  refl,
+  (string_text t, codes " }", rw key-text refl, refl, refl, refl),
+  refl,
+)
+plain-rest false t = (string_text t, codes " }", rw key-text refl, refl, refl, refl)
+
+digits-rest : (b : Bool) (t : List ℕ)
+    → IsMembersText true false (member (codes "hex") (string t) (with_optional b no_members)) (digits_rest b t)
+digits-rest true t = (
+  string_text t,
+  codes ", optional = true }",
+  rw key-hex refl,
+  refl,
+  (codes "true", codes " }", rw key-optional refl, refl, refl, refl),
+  refl,
+)
+digits-rest false t = (string_text t, codes " }", rw key-hex refl, refl, refl, refl)
+
+-- the rest of a part, where it is plain text and where not
+abbrev pub rest_by : Bool → Bool → List ℕ → Members
+rest_by plain b bytes =
+    if plain then with_optional b (member (codes "text") (string bytes) no_members)
+    else member (codes "hex") (string (encode_lower bytes)) (with_optional b no_members)
+
+rest-text : (plain b : Bool) (bytes : List ℕ)
+    → IsMembersText true false (rest_by plain b bytes)
+    (if plain then plain_rest b bytes else digits_rest b (encode_lower bytes))
+rest-text true b bytes = plain-rest b bytes
+rest-text false b bytes = digits-rest b (encode_lower bytes)
+
+rest-after : (plain b : Bool) (bytes : List ℕ) → is_before (codes "device") (rest_by plain b bytes) ≡ true
+rest-after true true bytes = refl
+rest-after true false bytes = refl
+rest-after false b bytes = refl
 
 part-text : (p : Part) → p.device ≤ MAX_PORT → IsValueText true (table (part_members p)) (part_text p)
-part-text p h =
-    let hex : List ℕ = string_text (encode_lower p.bytes) ++ part_end p.optional in
-    let hex_text : IsMembersText true false
-    (member (codes "hex") (string (encode_lower p.bytes)) (optional_members p.optional)) (codes ", hex = " ++ hex) = (
-      string_text (encode_lower p.bytes),
-      part_end p.optional,
-      rw key-hex refl,
-      refl,
-      optional-text p.optional,
-      hex_before p.optional,
-    ) in (
-      codes " device = " ++ (decimal p.device ++ (codes ", hex = " ++ hex)),
-      refl,
-      (decimal p.device, codes ", hex = " ++ hex, rw key-device refl, (refl, fits p.device h), hex_text, refl),
-    )
-  where
-    hex_before : (b : Bool) → is_before (codes "hex") (optional_members b) ≡ true
-    hex_before true = refl
-    hex_before false = refl
+part-text p h = (
+  codes " device = " ++ (decimal p.device ++ part_rest p),
+  refl,
+  (
+    decimal p.device,
+    part_rest p,
+    rw key-device refl,
+    (refl, fits p.device h),
+    rest-text (is_plain p.bytes) p.optional p.bytes,
+    rest-after (is_plain p.bytes) p.optional p.bytes,
+  ),
+)
 
 abbrev parts_in_range : List Part → Bool
 parts_in_range ps = list_all (λ p. is_device p.device) ps
@@ -238,24 +307,26 @@ device-text e h =
     (then-lines (pair (codes "port") (integer (pos e.port)) ∷ []) (text_lines (codes "name") e.name) _ _ port name)) in
     rw same at all
 
+signs-text : (e : CueEntry) → AreLines (signs_lines e.name e.note e.color e.flag) (signs_text e)
+signs-text e =
+    then-lines (text_lines (codes "name") e.name) _ _ _ (text-lines (codes "name") e.name key-name)
+    (then-lines (text_lines (codes "note") e.note) _ _ _ (text-lines (codes "note") e.note key-note)
+    (then-lines (color_lines e.color) (flag_lines e.flag) _ _ (color-lines e.color) (flag-lines e.flag)))
+
 cue-text : (e : CueEntry) → IsTrue (parts_in_range e.parts) → AreLines (lines_of_cue e) (cue_text e)
 cue-text e h =
     let number = pair-line (codes "number") (string_text e.number) (string e.number) key-number refl in
     let number_text : List ℕ = codes "number = " ++ (string_text e.number ++ codes "\n") in
     let parts = pair-line (codes "parts") (parts_text e.parts) (parts_data e.parts) key-parts (parts-text e.parts h) in
-    let name = text-lines (codes "name") e.name key-name in
-    let note = text-lines (codes "note") e.note key-note in
-    let after : List Expression = text_lines (codes "note") e.note ++ pair (codes "parts") (parts_data e.parts) ∷ [] in
-    let same : codes "\n[[cue]]\n"
-    ++ (number_text ++ (text_line (codes "name") e.name ++ (text_line (codes "note") e.note ++ parts_line e.parts)))
-    ≡ cue_text e = simp append_assoc refl in
+    let signs : List Expression = signs_lines e.name e.note e.color e.flag in
+    let after : List Expression = pair (codes "parts") (parts_data e.parts) ∷ [] in
+    let same : codes "\n[[cue]]\n" ++ (number_text ++ (signs_text e ++ parts_line e.parts)) ≡ cue_text e
+    = simp append_assoc refl in
     let all = then-lines (list_header (codes "cue") ∷ [])
-    (pair (codes "number") (string e.number) ∷ (text_lines (codes "name") e.name ++ after)) _ _
+    (pair (codes "number") (string e.number) ∷ (signs ++ after)) _ _
     (header-line (codes "cue") key-cue)
-    (then-lines (pair (codes "number") (string e.number) ∷ []) (text_lines (codes "name") e.name ++ after) _ _ number
-    (then-lines (text_lines (codes "name") e.name) after _ _ name
-    (then-lines (text_lines (codes "note") e.note) (pair (codes "parts") (parts_data e.parts) ∷ []) _ _ note
-    parts))) in
+    (then-lines (pair (codes "number") (string e.number) ∷ []) (signs ++ after) _ _ number
+    (then-lines signs after _ _ (signs-text e) parts)) in
     rw same at all
 
 port-text : (o : Option ℕ) → IsTrue (is_port_number o) → AreLines (port_lines o) (port_text o)
@@ -279,26 +350,27 @@ file-text f h =
 
 parts-depth : (ps : List Part) → items_depth (tables_of (map part_members ps)) ≤ 1
 parts-depth [] = omega arith
-parts-depth (p ∷ ps) = let more = parts-depth ps in at p.optional more
+parts-depth (p ∷ ps) = let more = parts-depth ps in at (is_plain p.bytes) p.optional more
   where
-    at : (b : Bool) → items_depth (tables_of (map part_members ps)) ≤ 1
-        → max (depth (table (member (codes "device") (integer (pos p.device))
-        (member (codes "hex") (string (encode_lower p.bytes)) (optional_members b)))))
+    at : (plain b : Bool) → items_depth (tables_of (map part_members ps)) ≤ 1
+        → max (depth (table (member (codes "device") (integer (pos p.device)) (rest_by plain b p.bytes))))
         (items_depth (tables_of (map part_members ps))) ≤ 1
-    at true more = omega arith
-    at false more = omega arith
+    at true true more = omega arith
+    at true false more = omega arith
+    at false true more = omega arith
+    at false false more = omega arith
 
 parts-dates : (ps : List Part) → items_have_valid_dates (tables_of (map part_members ps)) ≡ true
 parts-dates [] = refl
-parts-dates (p ∷ ps) = at p.optional (parts-dates ps)
+parts-dates (p ∷ ps) = at (is_plain p.bytes) p.optional (parts-dates ps)
   where
-    at : (b : Bool) → items_have_valid_dates (tables_of (map part_members ps)) ≡ true
-        → (has_valid_dates (table
-        (member (codes "device") (integer (pos p.device))
-        (member (codes "hex") (string (encode_lower p.bytes)) (optional_members b)))) && items_have_valid_dates
-        (tables_of (map part_members ps))) ≡ true
-    at true more = more
-    at false more = more
+    at : (plain b : Bool) → items_have_valid_dates (tables_of (map part_members ps)) ≡ true
+        → (has_valid_dates (table (member (codes "device") (integer (pos p.device)) (rest_by plain b p.bytes)))
+        && items_have_valid_dates (tables_of (map part_members ps))) ≡ true
+    at true true more = more
+    at true false more = more
+    at false true more = more
+    at false false more = more
 
 printed-append : (es fs : List Expression) → AllPrinted es → AllPrinted fs → AllPrinted (es ++ fs)
 printed-append [] fs a b = b
@@ -312,6 +384,20 @@ printed-each lines each (x ∷ xs) = printed-append (lines x) (flat_map lines xs
 printed-text : (k : List ℕ) (o : Option (String Global)) → AllPrinted (text_lines k o)
 printed-text k None = tt
 printed-text k (Some t) = ((refl, omega arith, refl), tt)
+
+printed-color : (o : Option Color) → AllPrinted (color_lines o)
+printed-color None = tt
+printed-color (Some c) = ((refl, omega arith, refl), tt)
+
+printed-flag : (o : Option Flag) → AllPrinted (flag_lines o)
+printed-flag None = tt
+printed-flag (Some f) = ((refl, omega arith, refl), tt)
+
+printed-signs : (e : CueEntry) → AllPrinted (signs_lines e.name e.note e.color e.flag)
+printed-signs e =
+    printed-append (text_lines (codes "name") e.name) _ (printed-text (codes "name") e.name)
+    (printed-append (text_lines (codes "note") e.note) _ (printed-text (codes "note") e.note)
+    (printed-append (color_lines e.color) (flag_lines e.flag) (printed-color e.color) (printed-flag e.flag)))
 
 printed-device : (e : DeviceEntry) → AllPrinted (lines_of_device e)
 printed-device e = (
@@ -327,9 +413,7 @@ printed-cue e =
       omega arith,
       (
         (refl, omega arith, refl),
-        printed-append (text_lines (codes "name") e.name) _
-            (printed-text (codes "name") e.name)
-            (printed-append (text_lines (codes "note") e.note) _ (printed-text (codes "note") e.note) parts),
+        printed-append (signs_lines e.name e.note e.color e.flag) _ (printed-signs e) parts,
       ),
     )
 

@@ -1,4 +1,6 @@
 pub mod Accepted
+pub mod Marks
+pub mod Plain
 pub mod Reading
 pub mod Reviewed
 pub mod Routes

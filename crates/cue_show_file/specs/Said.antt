@@ -13,6 +13,9 @@ use Rattle.cue_show.specs.Number.{is_cue_number, same_text}
 use Rattle.cue_show.specs.Show.{Cues, ShowLists, is_show}
 use Rattle.cue_operator.specs.Arguments.{part_with, port_in}
 use Rattle.cue_show_file.specs.declared.file.ShowFile.{ShowFile}
+use Rattle.cue_show_file.specs.declared.marks.Color.{Color}
+use Rattle.cue_show_file.specs.declared.marks.Flag.{Flag}
+use Rattle.cue_show_file.specs.Marks.{color_of, flag_of}
 use Rattle.cue_show_file.specs.Written.{IsFileOf, file_text}
 
 -- ---- lists of tables
@@ -140,11 +143,37 @@ cue_of (Some number) (Some parts) = Some (number, parts)
 cue_of (Some number) None = None
 cue_of None parts = None
 
--- the table has what a cue may have, and texts for its name and its note
-abbrev pub is_of_cue : Members → Bool
-is_of_cue ms =
-    has_only (codes "number" ∷ codes "name" ∷ codes "note" ∷ codes "parts" ∷ []) ms
-    && (is_text_or_none (get_member (codes "name") ms) && is_text_or_none (get_member (codes "note") ms))
+-- what a word says, where it says something
+abbrev pub mark_said : {A : Type 0} → Option A → Option (Option A)
+mark_said None = None
+mark_said (Some x) = Some (Some x)
+
+-- the colour of a cue, which may have none: a word that a colour has
+abbrev pub color_by : Option Data → Option (Option Color)
+color_by None = Some None
+color_by (Some (string t)) = mark_said (color_of t)
+color_by _ = None
+
+-- the flag of a cue, which may have none: a word that a flag has
+abbrev pub flag_by : Option Data → Option (Option Flag)
+flag_by None = Some None
+flag_by (Some (string t)) = mark_said (flag_of t)
+flag_by _ = None
+
+-- what people see of a cue: texts for its name and its note, a colour and a flag that there are
+abbrev pub has_signs : Members → Bool
+has_signs ms =
+    (is_text_or_none (get_member (codes "name") ms) && is_text_or_none (get_member (codes "note") ms))
+    && (is_some (color_by (get_member (codes "color") ms)) && is_some (flag_by (get_member (codes "flag") ms)))
+
+-- the keys of a cue
+abbrev pub cue_keys : List (List ℕ)
+cue_keys =
+    codes "number" ∷ codes "name" ∷ codes "note" ∷ codes "color" ∷ codes "flag" ∷ codes "parts" ∷ []
+
+-- the table has what a cue may have
+unfoldable pub is_of_cue : Members → Bool
+is_of_cue ms = has_only cue_keys ms && has_signs ms
 
 -- a cue: its number and its parts
 abbrev pub cue_said : Members → Option (List ℕ × List Part)

@@ -1,6 +1,6 @@
 -- A show file as a text, and the table that TOML reads from that text.
 use Rattle.std.specs.Prelude.{◌≡◌, ℕ, pos, Bool, true, false, ◌&&◌, List, [], ◌∷◌, ◌++◌, map}
-use Rattle.std.specs.Prelude.{length, codes, Option, None, Some, String, string_bytes, nat_le, nat_lt, IsTrue}
+use Rattle.std.specs.Prelude.{if◌then◌else◌, length, codes, Option, None, Some, String, string_bytes, nat_le, nat_lt, IsTrue}
 use Rattle.std.specs.Fmt.{decimal}
 use Rattle.std.specs.List.{flat_map, list_all}
 use Rattle.std.specs.declared.alloc.Global.{Global}
@@ -17,13 +17,30 @@ use Rattle.cue_show.specs.Show.{ShowLists, is_show}
 use Rattle.cue_show_file.specs.declared.file.CueEntry.{CueEntry}
 use Rattle.cue_show_file.specs.declared.file.DeviceEntry.{DeviceEntry}
 use Rattle.cue_show_file.specs.declared.file.ShowFile.{ShowFile}
+use Rattle.cue_show_file.specs.declared.marks.Color.{Color}
+use Rattle.cue_show_file.specs.declared.marks.Flag.{Flag}
+use Rattle.cue_show_file.specs.Marks.{color_word, flag_word}
+use Rattle.cue_show_file.specs.Plain.{is_plain}
 
 -- ---- the text
 
--- a line with a text, where there is one
+-- a line with a text
+abbrev pub line_of : List ℕ → List ℕ → List ℕ
+line_of key t = key ++ (codes " = " ++ (string_text t ++ codes "\n"))
+
+-- the same, where there is one
 abbrev pub text_line : List ℕ → Option (String Global) → List ℕ
 text_line key None = []
-text_line key (Some t) = key ++ (codes " = " ++ (string_text (string_bytes t) ++ codes "\n"))
+text_line key (Some t) = line_of key (string_bytes t)
+
+-- the line of a colour, and of a flag, where there is one
+abbrev pub color_line : Option Color → List ℕ
+color_line None = []
+color_line (Some c) = line_of (codes "color") (color_word c)
+
+abbrev pub flag_line : Option Flag → List ℕ
+flag_line None = []
+flag_line (Some f) = line_of (codes "flag") (flag_word f)
 
 -- the header of a device, and what each has
 abbrev pub device_head : DeviceEntry → List ℕ
@@ -33,15 +50,24 @@ device_head e =
 abbrev pub device_text : DeviceEntry → List ℕ
 device_text e = device_head e ++ text_line (codes "name") e.name
 
--- how a part ends, after its bytes
-abbrev pub part_end : Bool → List ℕ
-part_end true = codes ", optional = true }"
-part_end false = codes " }"
+-- what says that a part is optional
+abbrev pub optional_text : Bool → List ℕ
+optional_text true = codes ", optional = true"
+optional_text false = []
+
+-- the rest of a part after its device: of one that is plain text, and by the digits of its bytes
+abbrev pub plain_rest : Bool → List ℕ → List ℕ
+plain_rest optional t = optional_text optional ++ (codes ", text = " ++ (string_text t ++ codes " }"))
+
+abbrev pub digits_rest : Bool → List ℕ → List ℕ
+digits_rest optional digits = codes ", hex = " ++ (string_text digits ++ (optional_text optional ++ codes " }"))
+
+-- plain text is written as such, other bytes by their digits
+abbrev pub part_rest : Part → List ℕ
+part_rest p = if is_plain p.bytes then plain_rest p.optional p.bytes else digits_rest p.optional (encode_lower p.bytes)
 
 abbrev pub part_text : Part → List ℕ
-part_text p =
-    codes "{ device = " ++ (decimal p.device
-    ++ (codes ", hex = " ++ (string_text (encode_lower p.bytes) ++ part_end p.optional)))
+part_text p = codes "{ device = " ++ (decimal p.device ++ part_rest p)
 
 -- two parts or more have a line each
 abbrev pub has_lines : List Part → Bool
@@ -61,8 +87,13 @@ cue_head e = codes "\n[[cue]]\nnumber = " ++ (string_text e.number ++ codes "\n"
 abbrev pub parts_line : List Part → List ℕ
 parts_line ps = codes "parts = " ++ (parts_text ps ++ codes "\n")
 
+-- what people see of a cue
+abbrev pub signs_text : CueEntry → List ℕ
+signs_text e =
+    text_line (codes "name") e.name ++ (text_line (codes "note") e.note ++ (color_line e.color ++ flag_line e.flag))
+
 abbrev pub cue_text : CueEntry → List ℕ
-cue_text e = cue_head e ++ (text_line (codes "name") e.name ++ (text_line (codes "note") e.note ++ parts_line e.parts))
+cue_text e = cue_head e ++ (signs_text e ++ parts_line e.parts)
 
 -- the port of the controller, where the file says it
 abbrev pub port_text : Option ℕ → List ℕ
@@ -85,14 +116,28 @@ device_members e =
     with_text (codes "name") e.name
     (member (codes "number") (integer (pos e.number)) (member (codes "port") (integer (pos e.port)) no_members))
 
-abbrev pub optional_members : Bool → Members
-optional_members true = member (codes "optional") (boolean true) no_members
-optional_members false = no_members
+-- the table with a colour more, and with a flag more, where there is one
+abbrev pub with_color : Option Color → Members → Members
+with_color None ms = ms
+with_color (Some c) ms = member (codes "color") (string (color_word c)) ms
+
+abbrev pub with_flag : Option Flag → Members → Members
+with_flag None ms = ms
+with_flag (Some f) ms = member (codes "flag") (string (flag_word f)) ms
+
+-- the table that says that a part is optional, where it is
+abbrev pub with_optional : Bool → Members → Members
+with_optional true ms = member (codes "optional") (boolean true) ms
+with_optional false ms = ms
+
+-- what a part has beside its device
+abbrev pub rest_members : Part → Members
+rest_members p =
+    if is_plain p.bytes then with_optional p.optional (member (codes "text") (string p.bytes) no_members)
+    else member (codes "hex") (string (encode_lower p.bytes)) (with_optional p.optional no_members)
 
 abbrev pub part_members : Part → Members
-part_members p =
-    member (codes "device") (integer (pos p.device))
-    (member (codes "hex") (string (encode_lower p.bytes)) (optional_members p.optional))
+part_members p = member (codes "device") (integer (pos p.device)) (rest_members p)
 
 -- a list of tables
 abbrev pub tables_of : List Members → Items
@@ -101,10 +146,12 @@ tables_of (ms ∷ more) = item (table ms) (tables_of more)
 
 abbrev pub cue_members : CueEntry → Members
 cue_members e =
-    with_text (codes "name") e.name
+    with_color e.color
+    (with_flag e.flag
+    (with_text (codes "name") e.name
     (with_text (codes "note") e.note
     (member (codes "number") (string e.number)
-    (member (codes "parts") (array (tables_of (map part_members e.parts))) no_members)))
+    (member (codes "parts") (array (tables_of (map part_members e.parts))) no_members)))))
 
 -- the table with a list of tables more, where the list has one
 abbrev pub with_tables : List ℕ → List Members → Members → Members
@@ -128,7 +175,7 @@ abbrev pub bare_device : ℕ × ℕ → DeviceEntry
 bare_device e = record { line = None; number = e.0; port = e.1; address = None; name = None }
 
 abbrev pub bare_cue : List ℕ × List Part → CueEntry
-bare_cue e = record { line = None; number = e.0; name = None; note = None; parts = e.1 }
+bare_cue e = record { line = None; number = e.0; name = None; note = None; color = None; flag = None; parts = e.1 }
 
 -- the file has all that the show has, in order, and nothing else
 pub record IsFileOf (s : ShowLists) (f : ShowFile) : Type 0 where

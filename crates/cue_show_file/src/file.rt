@@ -1,4 +1,5 @@
 //! A show file: its devices and its cues, with their names.
+use crate::marks::{Color, Flag};
 use cue_relay::Address;
 use cue_show::{CueNo, DeviceNo, Parts};
 
@@ -26,6 +27,10 @@ pub struct CueEntry {
     pub name: Option<String>,
     /// What the operator is to think of; the controller never sees it.
     pub note: Option<String>,
+    /// The colour in which people find it; the controller never sees it.
+    pub color: Option<Color>,
+    /// Why it is one to take care of; the controller never sees it.
+    pub flag: Option<Flag>,
     pub parts: Parts,
 }
 

@@ -1,5 +1,6 @@
 //! Laws of what is read and written, each the contract of a function. Only the last one does anything.
 ghost use Rattle.std.specs.Prelude.{◌≡◌, [], IfOk};
+ghost use Rattle.cue_show_file.specs.Marks.{MarksHaveTheirWords};
 ghost use Rattle.cue_show_file.specs.Reading.{CheckedIsSaid, ExportNamesNoPlace, said_of};
 ghost use Rattle.cue_show_file.specs.Said.{ExportSaysTheShow};
 ghost use Rattle.cue_show_file.specs.Written.{ExportIsRead, WrittenIsRead};
@@ -12,6 +13,11 @@ use std::alloc::{AllocError, Global};
 /// what is loaded and what the controller has are one.
 pub fn checked_is_said()
     ensures { CheckedIsSaid }
+{}
+
+/// The word that is written for a colour or a flag is read as that colour or flag, and no other word is.
+pub fn marks_have_their_words()
+    ensures { MarksHaveTheirWords }
 {}
 
 /// The text that is written of a show file is, by the grammar of TOML, the table of that file: each device and each cue

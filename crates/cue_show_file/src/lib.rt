@@ -24,11 +24,13 @@
 //! Only tested: the words and lines of mistakes, names and notes.
 #![tactic(auto)]
 
+mod beginning;
 mod checking;
 mod condensing;
 mod file;
 mod headers;
 pub mod laws;
+mod marks;
 mod mistake;
 mod network;
 mod reading;
@@ -37,12 +39,14 @@ mod routing;
 mod text;
 mod writing;
 
+pub use beginning::BEGINNING;
 pub use checking::{Checked, check};
 pub use condensing::condensed;
 pub use file::{CueEntry, DeviceEntry, ShowFile};
+pub use marks::{COLORS, Color, FLAGS, Flag};
 pub use mistake::{Finding, Mistake, Section, Slip, Subject};
 pub use reading::{Draft, read};
 pub use reviewing::{Review, review_of};
 pub use routing::{routes, shared_port};
-pub use text::cue_text;
+pub use text::{cue_text, plain_text};
 pub use writing::{of_show, written};

@@ -42,6 +42,8 @@ pub enum Key {
     CueNumber,
     Name,
     Note,
+    Color,
+    Flag,
     Parts,
     Device,
     Hex,
@@ -59,6 +61,8 @@ impl fmt::Display for Key {
             Key::CueNumber => "number = \"12.5\"",
             Key::Name => "name = \"Winch 3\"",
             Key::Note => "note = \"wait for the lamp\"",
+            Key::Color => "color = \"red\"",
+            Key::Flag => "flag = \"danger\"",
             Key::Parts => "parts = [{ device = 3, hex = \"0a0b\" }]",
             Key::Device => "device = 3",
             Key::Hex => "hex = \"0a0b\"",
@@ -112,6 +116,10 @@ pub enum Mistake {
     BadDevice,
     /// A cue number is digits with single points between them, 16 characters at most.
     BadCue,
+    /// A colour is one of those that have a word.
+    BadColor,
+    /// A flag is one of those that have a word.
+    BadFlag,
     /// The bytes of a part are no hexadecimal digits in pairs.
     BadHex,
     /// The part for this device has both `hex` and `text`; the device is none where it cannot be read.

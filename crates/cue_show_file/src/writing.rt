@@ -1,12 +1,15 @@
 //! Writing a show file.
-ghost use Rattle.std.specs.Prelude.{◌≡◌, ◌++◌, ◌∷◌, [], IfOk, OnOk, codes, map, string_bytes, true};
+ghost use Rattle.std.specs.Prelude.{◌≡◌, ◌++◌, ◌∷◌, [], IfOk, OnOk, codes, map, string_bytes};
 ghost use Rattle.std.specs.List.{flat_map};
-ghost use Rattle.toml.specs.Text.{before_item, after_item, array_end};
 ghost use Rattle.cue_show_file.specs.Written as written;
 
+mod parts;
+
 use crate::file::{CueEntry, DeviceEntry, ShowFile};
+use crate::marks::{Color, Flag};
 use crate::text::cue_text;
-use cue_show::{CueNo, DeviceNo, Part, Parts, Show};
+use cue_show::{CueNo, DeviceNo, Parts, Show};
+use parts::push_parts_line;
 use std::alloc::{AllocError, Global};
 use std::fmt::{self, Write};
 
@@ -32,6 +35,8 @@ fn cue_entry(number: CueNo, parts: &Parts) -> Result<CueEntry, AllocError>
         number,
         name: None,
         note: None,
+        color: None,
+        flag: None,
         parts: parts.clone()?,
     })
 }
@@ -85,17 +90,40 @@ impl fmt::Display for Quoted<'_> {
     }
 }
 
+// Writes a line with a key and a text.
+fn push_line(text: &mut String, key: &str, value: &str) -> Result<(), AllocError>
+    ensures { OnOk result (string_bytes text.new ≡ string_bytes text.old ++ written.line_of key.now value.now) }
+{
+    let quoted = Quoted { text: value };
+    write!(text, "{key} = {quoted}\n")
+}
+
 // Writes a line with a key and a text, where there is one.
 fn push_text(text: &mut String, key: &str, value: &Option<String>) -> Result<(), AllocError>
     ensures { OnOk result (string_bytes text.new ≡ string_bytes text.old ++ written.text_line key.now value.now) }
 {
     match value {
-        Some(value) => {
-            let quoted = Quoted {
-                text: value.as_str(),
-            };
-            write!(text, "{key} = {quoted}\n")
-        }
+        Some(value) => push_line(text, key, value.as_str()),
+        None => Ok(()),
+    }
+}
+
+// Writes the line of a colour, where there is one.
+fn push_color(text: &mut String, color: Option<Color>) -> Result<(), AllocError>
+    ensures { OnOk result (string_bytes text.new ≡ string_bytes text.old ++ written.color_line color) }
+{
+    match color {
+        Some(color) => push_line(text, "color", color.word()),
+        None => Ok(()),
+    }
+}
+
+// Writes the line of a flag, where there is one.
+fn push_flag(text: &mut String, flag: Option<Flag>) -> Result<(), AllocError>
+    ensures { OnOk result (string_bytes text.new ≡ string_bytes text.old ++ written.flag_line flag) }
+{
+    match flag {
+        Some(flag) => push_line(text, "flag", flag.word()),
         None => Ok(()),
     }
 }
@@ -108,79 +136,6 @@ fn push_device(text: &mut String, entry: &DeviceEntry) -> Result<(), AllocError>
     push_text(text, "name", &entry.name)
 }
 
-// How a part ends, after its bytes.
-fn part_end(optional: bool) -> &'static str
-    ensures { result.now ≡ written.part_end optional }
-{
-    if optional {
-        ", optional = true }"
-    } else {
-        " }"
-    }
-}
-
-fn push_part(alloc: Global, text: &mut String, part: &Part) -> Result<(), AllocError>
-    ensures { OnOk result (string_bytes text.new ≡ string_bytes text.old ++ written.part_text part.now) }
-{
-    let digits = hex::encode(alloc, part.bytes.as_slice())?;
-    let device = part.device.number();
-    let hex = Quoted {
-        text: digits.as_str(),
-    };
-    let end = part_end(part.optional);
-    write!(text, "{{ device = {device}, hex = {hex}{end}")
-}
-
-// What stands before each part, where each has a line of its own and where not.
-fn before_part(lines: bool) -> &'static str
-    ensures { result.now ≡ before_item lines true }
-{
-    if lines { "\n    " } else { "" }
-}
-
-// What stands after each part.
-fn after_part(lines: bool) -> &'static str
-    ensures { result.now ≡ after_item lines }
-{
-    if lines { "," } else { "" }
-}
-
-// What stands after the last one.
-fn parts_end(lines: bool) -> &'static str
-    ensures { result.now ≡ array_end lines }
-{
-    if lines { "\n]" } else { "]" }
-}
-
-fn push_parts(
-    alloc: Global,
-    text: &mut String,
-    parts: &[Part],
-    lines: bool,
-) -> Result<(), AllocError>
-    ensures { OnOk result (string_bytes text.new
-        ≡ string_bytes text.old ++ flat_map (written.part_item lines) parts.now) }
-{
-    for part in parts {
-        text.push_str(before_part(lines))?;
-        push_part(alloc, text, part)?;
-        text.push_str(after_part(lines))?;
-    }
-    Ok(())
-}
-
-// Writes the line with the parts. Two or more have a line each.
-fn push_parts_line(alloc: Global, text: &mut String, parts: &Parts) -> Result<(), AllocError>
-    ensures { OnOk result (string_bytes text.new ≡ string_bytes text.old ++ written.parts_line parts.now) }
-{
-    let parts = parts.as_slice();
-    let lines = parts.len() > 1;
-    text.push_str("parts = [")?;
-    push_parts(alloc, text, parts, lines)?;
-    text.push_str(parts_end(lines))?;
-    text.push_str("\n")
-}
-
 // Writes the header of a cue, and its number.
 fn push_cue_head(text: &mut String, entry: &CueEntry) -> Result<(), AllocError>
     ensures { OnOk result (string_bytes text.new ≡ string_bytes text.old ++ written.cue_head entry.now) }
@@ -191,12 +146,21 @@ fn push_cue_head(text: &mut String, entry: &CueEntry) -> Result<(), AllocError>
     write!(text, "\n[[cue]]\nnumber = {number}\n")
 }
 
+// Writes what people see of a cue.
+fn push_signs(text: &mut String, entry: &CueEntry) -> Result<(), AllocError>
+    ensures { OnOk result (string_bytes text.new ≡ string_bytes text.old ++ written.signs_text entry.now) }
+{
+    push_text(text, "name", &entry.name)?;
+    push_text(text, "note", &entry.note)?;
+    push_color(text, entry.color)?;
+    push_flag(text, entry.flag)
+}
+
 fn push_cue(alloc: Global, text: &mut String, entry: &CueEntry) -> Result<(), AllocError>
     ensures { OnOk result (string_bytes text.new ≡ string_bytes text.old ++ written.cue_text entry.now) }
 {
     push_cue_head(text, entry)?;
-    push_text(text, "name", &entry.name)?;
-    push_text(text, "note", &entry.note)?;
+    push_signs(text, entry)?;
     push_parts_line(alloc, text, &entry.parts)
 }
 

@@ -9,6 +9,7 @@ use Rattle.cue_exchange.specs.declared.attempt.Attempt.{Attempt}
 use Rattle.cue_desk.specs.declared.orders.Order.TheVariants as order
 use Rattle.cue_station.specs.declared.alarms.Facts.{Facts}
 use Rattle.cue_view.specs.declared.button.Button.{Button}
+use Rattle.cue_view.specs.declared.button.Button.TheVariants as button
 use Rattle.cue_station.specs.declared.heard.Heard.{Heard}
 use Rattle.cue_station.specs.declared.heard.Heard.TheVariants as heard
 use Rattle.cue_station.specs.declared.heard.Input.{Input}
@@ -46,7 +47,7 @@ use Rattle.cue_station.specs.Stepping.{unsent_now}
 use Rattle.cue_station.specs.Viewing.{alarms_in, facts_by, stamped_at}
 use Rattle.cue_station.proofs.AfterLemmas.{heeded-kept, may-kept, step-after}
 use Rattle.cue_station.proofs.FailureLemmas.{seen-lit}
-use Rattle.cue_station.proofs.LitLemmas.{lights-dark, lights-lit}
+use Rattle.cue_station.proofs.LitLemmas.{lights-dark, lights-lit, lights-moves, shows_stack}
 use Rattle.cue_station.proofs.PacingLemmas.{due-sent}
 use Rattle.cue_station.proofs.SentLemmas.{sending, sends_status}
 
@@ -251,11 +252,14 @@ lit-kept past s i m k makes =
     let f = footing_by m.notes r i.at i.wall in
     let v = m.step.view in
     record {
-      lit = λ b h. sym (same b) ∙ lights-lit f m.seen.items r v.stack.cues.items v.alarms.items v.lit.items
+      lit = λ b h. sym (same b) ∙ lights-lit f m.seen.items r v.stack.items v.alarms.items v.lit.items
           makes.view.lit b h;
-      dark = λ b key h. lights-dark f m.seen.items r v.stack.cues.items v.alarms.items v.lit.items makes.view.lit b key
+      dark = λ b key h. lights-dark f m.seen.items r v.stack.items v.alarms.items v.lit.items makes.view.lit b key
           (same b ∙ h);
-      seen = seen-lit f m.seen.items r v.stack.cues.items v.alarms.items v.lit.items makes.view.lit turns i.at i.wall
+      moves = λ c h. lights-moves f m.seen.items r v.stack.items v.alarms.items v.lit.items makes.view.lit
+          (shows_stack f.stands (since_in m.seen.items) (given_in m.seen.items) i.at i.wall v r makes.view.copy) c
+          (same (button.MoveTo c) ∙ h);
+      seen = seen-lit f m.seen.items r v.stack.items v.alarms.items v.lit.items makes.view.lit turns i.at i.wall
           after.reading
           (makes.view.alarms ∙ alarms-kept turns m.notes r (relayed_with i.heard i.at s.relay) m.seen.items
           (kept_with m.shown s.views.items) after i.at i.wall);

@@ -12,4 +12,5 @@ mod AfterLemmas
 mod LawLemmas
 mod TakenLemmas
 mod ViewLemmas
+mod MoveLemmas
 mod EveningLemmas

@@ -1,11 +1,14 @@
 -- Which buttons are lit: of those that there are, the ones that may be; and the great ones are among them.
 use Rattle.std.proofs.Common.{◌≡◌, refl, sym, ap, ◌∙◌, subst, ℕ, Bool, true, false, ◌&&◌, ◌||◌, cond, List, [], ◌∷◌}
-use Rattle.std.proofs.Common.{◌++◌}
+use Rattle.std.proofs.Common.{◌++◌, append-nil, map}
 use Rattle.std.proofs.Common.{Option, None, Some, filter, IsTrue, ⊎_elim}
+use Rattle.std.proofs.lemmas.Map.Made.{is_some-lookup}
+use Rattle.std.specs.List.{filter_map, flat_map, list_any}
 use Rattle.std.specs.Option.{option_map_or}
 use Rattle.cue_show.proofs.TestLemmas.{both, cases, or_left, or_right, same_number}
 use Rattle.cue_show.proofs.TextLemmas.{same_text-swapped, same_text-true}
 use Rattle.cue_show.specs.Number.{same_text}
+use Rattle.cue_show.specs.Show.{has_cue}
 use Rattle.cue_exchange.proofs.LookUpLemmas.{find-passes}
 use Rattle.cue_exchange.specs.Answers.{is_preparing}
 use Rattle.cue_exchange.specs.Live.{attempt_of, has_number}
@@ -25,9 +28,11 @@ use Rattle.cue_station.specs.Laws.{is_key}
 use Rattle.cue_station.specs.Lighting.{go_and_cancel, is_live_as, is_next, is_number, is_ready, keys_of}
 use Rattle.cue_station.specs.Lighting.{keys_of_choice, may_by, may_in, standby_of}
 use Rattle.cue_station.specs.Offering.{is_lit, same_button}
+use Rattle.cue_station.specs.Drawing.{ShowsReading}
 use Rattle.cue_station.specs.Showing.{since_in}
-use Rattle.cue_station.specs.Smaller.{smaller_of}
-use Rattle.cue_station.specs.Viewing.{LightsBy}
+use Rattle.cue_station.specs.Smaller.{failure_of, of_attempt, smaller_of}
+use Rattle.cue_station.specs.Viewing.{AreStack, LightsBy}
+use Rattle.cue_view.specs.declared.view.View.{View}
 
 -- ---- what is lit passes the test
 
@@ -169,3 +174,40 @@ lights-dark f seen (Some r) cues all lit e b k h =
     subst (λ v. IsTrue (is_lit b v)) (sym e)
     (passes-lit (may_in f (since_in seen) r.copy) b (keys_of f r.copy) (smaller_of r.copy.state.live cues all) h
     (keys-there f (since_in seen) r.copy b k h))
+
+-- ---- each move that may be lit is
+
+-- among the moves to cues there is the one to a cue among them
+moves_among : (c : List ℕ) (cues : List (List ℕ))
+    → is_lit (button.MoveTo c) (map button.MoveTo cues) ≡ list_any (same_text c) cues
+moves_among c [] = refl
+moves_among c (d ∷ cues) = ap (λ b. same_text c d || b) (moves_among c cues)
+
+-- the buttons that there are have the move to a cue of the stack
+move_there : (f : Footing) (copy : Copied) (cues : List (List ℕ)) (all : List Alarm) (c : List ℕ)
+    → IsTrue (list_any (same_text c) cues)
+    → IsTrue (is_lit (button.MoveTo c) (keys_of f copy ++ smaller_of copy.state.live cues all))
+move_there f copy cues all c h =
+    let seen = map button.Seen (filter_map failure_of all) in
+    lit_back (button.MoveTo c) (keys_of f copy) (smaller_of copy.state.live cues all)
+    (lit_back (button.MoveTo c) (flat_map of_attempt copy.state.live) (map button.MoveTo cues ++ seen)
+    (lit_front (button.MoveTo c) (map button.MoveTo cues) seen (moves_among c cues ∙ h)))
+
+pub lights-moves : (f : Footing) (seen : List Seen) (r : Option Reading) (cues : List (List ℕ)) (all : List Alarm)
+    (lit : List Button) → LightsBy f seen r cues all lit → AreStack r cues → (c : List ℕ)
+    → IsTrue (may_by f (since_in seen) r (button.MoveTo c)) → IsTrue (is_lit (button.MoveTo c) lit)
+lights-moves f seen None cues all lit e s c h = (cc)
+lights-moves f seen (Some r) cues all lit e s c h =
+    let p = may_in f (since_in seen) r.copy in
+    let there = keys_of f r.copy ++ smaller_of r.copy.state.live cues all in
+    let known = (both (f.stands && f.is_quiet) (has_cue r.copy.state.show c) h).1 in
+    let among = ap (list_any (same_text c)) s ∙ sym (is_some-lookup (same_text c) r.copy.state.show.cues) ∙ known in
+    subst (λ v. IsTrue (is_lit (button.MoveTo c) v)) (sym e)
+    (subst (λ l. IsTrue (is_lit (button.MoveTo c) (filter p l))) (append-nil there)
+    (passes-lit p (button.MoveTo c) there [] h (move_there f r.copy cues all c among)))
+
+-- what a view shows as the stack is that of the newest copy
+pub shows_stack : (stands : Bool) (since given : ℕ → Option ℕ) (now wall : ℕ) (v : View) (r : Option Reading)
+    → ShowsReading stands since given now wall v r → AreStack r v.stack.items
+shows_stack stands since given now wall v None k = tt
+shows_stack stands since given now wall v (Some r) k = k.stack

@@ -16,7 +16,7 @@ use Rattle.cue_station.specs.Alarms.{nobody_of}
 use Rattle.cue_station.specs.Alarms.{put_back_in, read_at, trouble_of}
 use Rattle.cue_station.specs.Following.{next_in}
 use Rattle.cue_station.specs.Network.{network_by, relayed_of}
-use Rattle.cue_station.specs.Showing.{ShowsStack, shown_live}
+use Rattle.cue_station.specs.Showing.{shown_live, stack_of}
 use Rattle.cue_station.specs.Telling.{last_in, past_in}
 
 -- What a view says of a copy: `stands`: the copy is young, and is what is served; since when each attempt is seen, and
@@ -24,7 +24,7 @@ use Rattle.cue_station.specs.Telling.{last_in, past_in}
 pub record ShowsCopy (stands : Bool) (since given : ℕ → Option ℕ) (now wall : ℕ) (v : View) (c : Copied) : Type 0 where
   pub next : v.next ≡ next_in c
   pub place : v.place ≡ c.state.show.place
-  pub stack : ShowsStack c.state.show v.stack
+  pub stack : v.stack.items ≡ stack_of c.state.show
   pub last : v.last ≡ last_in c
   pub past : v.past.items ≡ past_in c
   pub live : v.live.items ≡ shown_live stands since given now wall c.state.live
@@ -33,7 +33,7 @@ pub record ShowsCopy (stands : Bool) (since given : ℕ → Option ℕ) (now wal
 pub record ShowsNone (v : View) : Type 0 where
   pub next : v.next ≡ next.Unknown
   pub place : v.place ≡ None
-  pub stack : v.stack.cues.items ≡ []
+  pub stack : v.stack.items ≡ []
   pub last : v.last ≡ None
   pub past : v.past.items ≡ []
   pub live : v.live.items ≡ []

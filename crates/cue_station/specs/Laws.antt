@@ -35,13 +35,15 @@ is_key (button.MoveTo c) = false
 is_key (button.Choose q) = false
 is_key (button.Seen q) = false
 
--- LIT IS SO: what is lit may be lit; of the great buttons what may be lit is; and that a failure was seen can be said
--- exactly where its alarm is shown.
+-- LIT IS SO: what is lit may be lit; of the great buttons, and of the moves to cues, what may be lit is; and that a
+-- failure was seen can be said exactly where its alarm is shown.
 pub record LitIsSo (t : Turn) (past : List Turn) : Type 0 where
   pub lit : (b : Button) → IsTrue (is_lit b t.view.lit.items)
       → IsTrue (may (t ∷ past) t.input.at t.input.wall b)
   pub dark : (b : Button) → IsTrue (is_key b) → IsTrue (may (t ∷ past) t.input.at t.input.wall b)
       → IsTrue (is_lit b t.view.lit.items)
+  pub moves : (c : List ℕ) → IsTrue (may (t ∷ past) t.input.at t.input.wall (button.MoveTo c))
+      → IsTrue (is_lit (button.MoveTo c) t.view.lit.items)
   pub seen : (q : ℕ) → is_lit (button.Seen q) t.view.lit.items ≡ list_any (is_failure_of q) t.view.alarms.items
 
 -- A PRESS IS WHAT WAS SHOWN, AND YOUNG: nothing is sent but for a press that is heeded, or to ask for the status, each

@@ -1,6 +1,6 @@
--- What is drawn of a copy: the live attempts, the stack around the place, and what the events tell.
-use Rattle.std.specs.Prelude.{◌≡◌, ◌-◌, ◌+◌, min, ℕ, Bool, false, ◌&&◌, if◌then◌else◌, List, [], ◌∷◌, map, take, drop}
-use Rattle.std.specs.Prelude.{length, find, Option, None, Some, is_some, nat_eq, nat_lt}
+-- What is drawn of a copy: the live attempts, each with the moment since which it is seen, and the stack.
+use Rattle.std.specs.Prelude.{◌-◌, ◌+◌, min, ℕ, Bool, false, ◌&&◌, if◌then◌else◌, List, [], ◌∷◌, map}
+use Rattle.std.specs.Prelude.{find, Option, None, Some, is_some, nat_eq, nat_lt}
 use Rattle.std.specs.Map.{keys_of}
 use Rattle.std.specs.Option.{option_map, option_map_or, option_and_then}
 use Rattle.cue_show.specs.Show.{ShowLists}
@@ -9,12 +9,9 @@ use Rattle.cue_exchange.specs.Live.{attempt_of}
 use Rattle.cue_exchange.specs.Steps.{can_go_now}
 use Rattle.cue_exchange.specs.declared.attempt.Attempt.{Attempt}
 use Rattle.cue_core.specs.declared.limits.TheConstants.{STANDBY_MS}
-use Rattle.cue_desk.specs.Board.{before_place}
-use Rattle.cue_station.specs.declared.limits.TheConstants.{CUES_BEFORE, SHOWN_CUES}
 use Rattle.cue_station.specs.declared.memory.Reading.{Reading}
 use Rattle.cue_station.specs.declared.memory.Seen.{Seen}
 use Rattle.cue_view.specs.declared.view.LiveAttempt.{LiveAttempt}
-use Rattle.cue_view.specs.declared.view.Stack.{Stack}
 use Rattle.cue_station.specs.Turns.{Turn}
 use Rattle.cue_station.specs.Reading.{reading_of}
 
@@ -70,12 +67,6 @@ shown_live stands since given now wall live = map (shown_attempt stands since gi
 
 -- ---- the stack
 
--- how many cues stand before the first that is shown
-abbrev pub before_shown : ShowLists → ℕ
-before_shown s = before_place s.place (keys_of s.cues) - CUES_BEFORE
-
--- The cues from some before the place on, and how many stand before and after them.
-pub record ShowsStack (s : ShowLists) (v : Stack) : Type 0 where
-  pub cues : v.cues.items ≡ take SHOWN_CUES (drop (before_shown s) (keys_of s.cues))
-  pub before : v.before ≡ before_shown s
-  pub all : v.before + (length v.cues.items + v.after) ≡ length (keys_of s.cues)
+-- the whole stack: the numbers of its cues, in order
+abbrev pub stack_of : ShowLists → List (List ℕ)
+stack_of s = keys_of s.cues

@@ -20,7 +20,7 @@ use Rattle.cue_station.specs.Following.{next_in}
 use Rattle.cue_station.specs.Lighting.{keys_of, may_in}
 use Rattle.cue_station.specs.Network.{network_by}
 use Rattle.cue_station.specs.Smaller.{smaller_of}
-use Rattle.cue_station.specs.Showing.{ShowsStack, given_in, shown_live, since_in}
+use Rattle.cue_station.specs.Showing.{given_in, shown_live, since_in, stack_of}
 use Rattle.cue_station.specs.Telling.{last_in, past_in}
 
 -- ---- the alarms
@@ -54,7 +54,7 @@ alarms_in n r relay seen failures f =
 pub record DrawsNone (d : Drawn) : Type 0 where
   pub next : d.next ≡ next.Unknown
   pub place : d.place ≡ None
-  pub stack : d.stack.cues.items ≡ []
+  pub stack : d.stack.items ≡ []
   pub last : d.last ≡ None
   pub past : d.past.items ≡ []
   pub live : d.live.items ≡ []
@@ -62,7 +62,7 @@ pub record DrawsNone (d : Drawn) : Type 0 where
 pub record DrawsCopy (f : Footing) (seen : List Seen) (c : Copied) (d : Drawn) : Type 0 where
   pub next : d.next ≡ next_in c
   pub place : d.place ≡ c.state.show.place
-  pub stack : ShowsStack c.state.show d.stack
+  pub stack : d.stack.items ≡ stack_of c.state.show
   pub last : d.last ≡ last_in c
   pub past : d.past.items ≡ past_in c
   pub live : d.live.items ≡ shown_live f.stands (since_in seen) (given_in seen) f.at f.wall c.state.live
@@ -72,6 +72,11 @@ DrawsBy f seen None d = DrawsNone d
 DrawsBy f seen (Some r) d = DrawsCopy f seen r.copy d
 
 -- ---- the lit buttons
+
+-- the cues are the whole stack of the newest copy
+abbrev pub AreStack : Option Reading → List (List ℕ) → Type 0
+AreStack None cues = Unit {0}
+AreStack (Some r) cues = cues ≡ stack_of r.copy.state.show
 
 -- of the great buttons, and of the smaller ones, those that may be lit
 abbrev pub LightsBy : Footing → List Seen → Option Reading → List (List ℕ) → List Alarm → List Button → Type 0
@@ -91,6 +96,6 @@ pub record IsView (n : Notes) (r : Option Reading) (relay : Option Relayed) (see
   pub chosen : v.chosen ≡ f.chosen
   pub said : v.said ≡ option_map said_by n.press
   pub copy : ShowsReading f.stands (since_in seen) (given_in seen) f.at f.wall v r
-  pub lit : LightsBy f seen r v.stack.cues.items v.alarms.items v.lit.items
+  pub lit : LightsBy f seen r v.stack.items v.alarms.items v.lit.items
   pub network : v.network.items ≡ network_by relay f.at
   pub alarms : v.alarms.items ≡ alarms_in n r relay seen (failures_by r) f

@@ -43,6 +43,7 @@ pub mod hearing;
 pub mod laws;
 pub mod lighting;
 pub mod limits;
+pub mod lit;
 pub mod memory;
 pub mod network;
 pub mod noting;

@@ -1,6 +1,5 @@
-//! Which buttons are lit.
-ghost use Rattle.std.specs.Prelude.{◌≡◌, ◌&&◌, ◌++◌, IfOk, OnOk, is_none, filter, map};
-ghost use Rattle.std.specs.List.{filter_map, flat_map};
+//! When a button may be lit.
+ghost use Rattle.std.specs.Prelude.{◌≡◌, ◌&&◌, is_none};
 ghost use Rattle.cue_exchange.specs.Answers.{answer_passes, is_preparing, is_waiting};
 ghost use Rattle.cue_exchange.specs.Live.{attempt_of_cue};
 ghost use Rattle.cue_show.specs.Number.{same_text};
@@ -9,8 +8,6 @@ ghost use Rattle.cue_station.specs.Following.{next_in};
 ghost use Rattle.cue_station.specs.Alarms as alarms;
 ghost use Rattle.cue_station.specs.Lighting as lighting;
 ghost use Rattle.cue_station.specs.Showing.{since_in};
-ghost use Rattle.cue_station.specs.Smaller as smaller;
-ghost use Rattle.cue_view.specs.declared.button.Button.TheVariants as button;
 
 use crate::alarms::{is_alive, is_young};
 use crate::following::next_in;
@@ -22,8 +19,7 @@ use cue_core::State;
 use cue_exchange::Attempt;
 use cue_show::{CueNo, DeviceNo};
 use cue_view::button::Button;
-use cue_view::view::{Alarm, Next};
-use std::alloc::{AllocError, Global};
+use cue_view::view::Next;
 
 /// What a lit button rests on, beside the copy and the attempts that are seen.
 #[derive(Clone, Copy)]
@@ -170,8 +166,8 @@ fn stands_chosen(footing: Footing, presses: bool, seq: u32) -> bool
     footing.stands && (presses && is_number(seq, footing.chosen))
 }
 
-// Whether the copy stands, and no press is open.
-fn stands_quiet(footing: Footing) -> bool
+/// Whether the copy stands, and no press is open.
+pub(crate) fn stands_quiet(footing: Footing) -> bool
     ensures { result ≡ (footing.stands && footing.is_quiet) }
 {
     footing.stands && footing.is_quiet
@@ -247,162 +243,4 @@ pub(crate) fn may_by(
         Some(reading) => may_in(button, &reading.copy, seen, footing),
         None => false,
     }
-}
-
-// GO and CANCEL of an attempt.
-fn go_and_cancel(alloc: Global, attempt: &Attempt) -> Result<Vec<Button>, AllocError>
-    ensures { IfOk result (λ keys. keys.items ≡ lighting.go_and_cancel attempt.now) }
-{
-    let mut keys = Vec::with_capacity(alloc, 3)?;
-    keys.push(Button::Go(attempt.cue, attempt.seq))?;
-    keys.push(Button::Cancel(attempt.cue, attempt.seq))?;
-    Ok(keys)
-}
-
-// GO and CANCEL of the attempt that is chosen, if it is live.
-fn keys_of_choice(
-    alloc: Global,
-    state: &State,
-    chosen: Option<u32>,
-) -> Result<Vec<Button>, AllocError>
-    ensures { IfOk result (λ keys. keys.items ≡ lighting.keys_of_choice state.now.live chosen) }
-{
-    let Some(seq) = chosen else {
-        return Ok(Vec::new(alloc));
-    };
-    match state.live().of_seq(seq) {
-        Some(attempt) => go_and_cancel(alloc, attempt),
-        None => Ok(Vec::new(alloc)),
-    }
-}
-
-// Puts STANDBY of the cue that is next after the others.
-fn push_standby(keys: &mut Vec<Button>, next: Next) -> Result<(), AllocError>
-    ensures { OnOk result (keys.new.items ≡ keys.old.items ++ lighting.standby_of next) }
-{
-    match next {
-        Next::Cue(cue) => {
-            keys.push(Button::Standby(cue))?;
-            Ok(())
-        }
-        Next::Empty | Next::End | Next::Unknown => Ok(()),
-    }
-}
-
-// Puts the smaller buttons of a live attempt after the others.
-fn push_attempt(buttons: &mut Vec<Button>, attempt: &Attempt) -> Result<(), AllocError>
-    ensures { OnOk result (buttons.new.items ≡ buttons.old.items ++ smaller.of_attempt attempt.now) }
-{
-    buttons.push(Button::Choose(attempt.seq))?;
-    let answers = attempt.answers.as_slice();
-    for answer in answers {
-        buttons.push(Button::Release(attempt.seq, answer.device))?;
-    }
-    Ok(())
-}
-
-// Puts those of each live attempt after the others.
-fn push_attempts(buttons: &mut Vec<Button>, live: &[Attempt]) -> Result<(), AllocError>
-    ensures { OnOk result (buttons.new.items ≡ buttons.old.items ++ flat_map smaller.of_attempt live.now) }
-{
-    for attempt in live {
-        push_attempt(buttons, attempt)?;
-    }
-    Ok(())
-}
-
-// Puts the buttons of the cues that are shown after the others.
-fn push_moves(buttons: &mut Vec<Button>, cues: &[CueNo]) -> Result<(), AllocError>
-    ensures { OnOk result (buttons.new.items ≡ buttons.old.items ++ map button.MoveTo cues.now) }
-{
-    for cue in cues {
-        buttons.push(Button::MoveTo(*cue))?;
-    }
-    Ok(())
-}
-
-// The failure of which it is the alarm.
-fn failure_of(alarm: &Alarm) -> Option<u32>
-    ensures { result ≡ smaller.failure_of alarm.now }
-{
-    match alarm {
-        Alarm::Failed(seq) => Some(*seq),
-        Alarm::NobodyListens | Alarm::Silent(_) | Alarm::OtherStore(_) | Alarm::RelayStopped(_) =>
-            None,
-        Alarm::Unread(_) | Alarm::Old(_) | Alarm::ClockPutBack(_) | Alarm::DeviceSilent(_) => None,
-    }
-}
-
-// The failures of which there is an alarm.
-fn failures_in(alloc: Global, alarms: &[Alarm]) -> Result<Vec<u32>, AllocError>
-    ensures { IfOk result (λ numbers. numbers.items ≡ filter_map smaller.failure_of alarms.now) }
-{
-    alarms
-        .iter()
-        .filter_map(|alarm| failure_of(alarm))
-        .collect(alloc)
-}
-
-// Puts the buttons of the failures after the others.
-fn push_seen(buttons: &mut Vec<Button>, numbers: &[u32]) -> Result<(), AllocError>
-    ensures { OnOk result (buttons.new.items ≡ buttons.old.items ++ map button.Seen numbers.now) }
-{
-    for seq in numbers {
-        buttons.push(Button::Seen(*seq))?;
-    }
-    Ok(())
-}
-
-// The smaller buttons that there are: those of the live attempts, of the cues that are shown, and of the failures.
-fn smaller_of(
-    alloc: Global,
-    live: &[Attempt],
-    cues: &[CueNo],
-    alarms: &[Alarm],
-) -> Result<Vec<Button>, AllocError>
-    ensures { IfOk result (λ buttons. buttons.items ≡ smaller.smaller_of live.now cues.now alarms.now) }
-{
-    let failures = failures_in(alloc, alarms)?;
-    let mut buttons = Vec::new(alloc);
-    push_attempts(&mut buttons, live)?;
-    push_moves(&mut buttons, cues)?;
-    push_seen(&mut buttons, &failures)?;
-    Ok(buttons)
-}
-
-// Of the buttons those that may be lit.
-fn lit_among(
-    alloc: Global,
-    buttons: &[Button],
-    copy: &Copied,
-    seen: &[Seen],
-    footing: Footing,
-) -> Result<Vec<Button>, AllocError>
-    ensures { IfOk result (λ lit. lit.items
-        ≡ filter (lighting.may_in footing (since_in seen.now) copy.now) buttons.now) }
-{
-    buttons
-        .iter()
-        .copied()
-        .filter(|button| may_in(*button, copy, seen, footing))
-        .collect(alloc)
-}
-
-/// The buttons that are lit: of the three great ones and of the smaller ones, those that may be.
-pub(crate) fn lit_of(
-    alloc: Global,
-    copy: &Copied,
-    cues: &[CueNo],
-    alarms: &[Alarm],
-    seen: &[Seen],
-    footing: Footing,
-) -> Result<Vec<Button>, AllocError>
-    ensures { IfOk result (λ lit. lit.items ≡ filter (lighting.may_in footing (since_in seen.now) copy.now)
-        (lighting.keys_of footing copy.now ++ smaller.smaller_of copy.now.state.live cues.now alarms.now)) }
-{
-    let mut buttons = keys_of_choice(alloc, &copy.state, footing.chosen)?;
-    push_standby(&mut buttons, next_in(copy))?;
-    let smaller = smaller_of(alloc, copy.state.live().as_slice(), cues, alarms)?;
-    buttons.extend_from_slice(&smaller)?;
-    lit_among(alloc, &buttons, copy, seen, footing)
 }

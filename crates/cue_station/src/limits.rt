@@ -15,12 +15,6 @@ pub const MAX_TOLD: usize = 8;
 /// How many of the newest views a press may name.
 pub const KEPT_VIEWS: usize = 128;
 
-/// How many cues of the stack are shown, at most.
-pub const SHOWN_CUES: usize = 24;
-
-/// How many of them stand before the place, at most.
-pub const CUES_BEFORE: usize = 3;
-
 /// How long what is served has to disagree with the copy before it is called another store, in milliseconds: each
 /// change makes a short disagreement.
 pub const OTHER_MS: u64 = 1_000;

@@ -1,17 +1,14 @@
-//! The live attempts and the stack around the place, as they are shown.
-ghost use Rattle.std.specs.Prelude.{◌≡◌, ◌≤◌, ◌+◌, IfOk, drop, find, length, nat_eq, take};
+//! The live attempts and the stack, as they are shown.
+ghost use Rattle.std.specs.Prelude.{◌≡◌, IfOk, find, nat_eq};
 ghost use Rattle.std.specs.Map.{keys_of};
-ghost use Rattle.cue_desk.specs.Board as board;
 ghost use Rattle.cue_station.specs.Showing as showing;
-ghost use Rattle.cue_station.specs.declared.limits.TheConstants.{SHOWN_CUES};
 
 use crate::heard::Copied;
-use crate::limits::{CUES_BEFORE, SHOWN_CUES};
 use crate::memory::Seen;
 use cue_core::limits::STANDBY_MS;
 use cue_exchange::Attempt;
 use cue_show::{CueNo, Show};
-use cue_view::view::{LiveAttempt, Stack};
+use cue_view::view::LiveAttempt;
 use std::alloc::{AllocError, Global};
 
 // Since when the attempt is seen.
@@ -119,65 +116,9 @@ fn cues_of(alloc: Global, show: &Show) -> Result<Vec<CueNo>, AllocError>
     Ok(cues)
 }
 
-// How many cues stand before this one.
-fn cues_before(cue: CueNo, cues: &[CueNo]) -> usize
-    ensures value { result ≡ board.cues_before cue cues.now }
-    ensures within { result ≤ length cues.now }
+/// The whole stack of a copy: the numbers of its cues, in order.
+pub fn stack_of(alloc: Global, copy: &Copied) -> Result<Vec<CueNo>, AllocError>
+    ensures { IfOk result (λ stack. stack.items ≡ showing.stack_of copy.now.state.show) }
 {
-    let mut before = 0;
-    for other in cues {
-        if *other == cue {
-            return before;
-        }
-        before += 1;
-    }
-    before
-}
-
-// How many stand before the place.
-fn before_place(place: Option<CueNo>, cues: &[CueNo]) -> usize
-    ensures value { result ≡ board.before_place place cues.now }
-    ensures within { result ≤ length cues.now }
-{
-    match place {
-        Some(cue) => cues_before(cue, cues),
-        None => 0,
-    }
-}
-
-// So many cues at most, from this one on.
-fn cues_from(before: usize, cues: &[CueNo]) -> &[CueNo]
-    requires { before ≤ length cues.now }
-    ensures value { result.now ≡ take SHOWN_CUES (drop before cues.now) }
-    ensures within { before + length result.now ≤ length cues.now }
-{
-    let rest = &cues[before..];
-    &rest[..SHOWN_CUES.min(rest.len())]
-}
-
-// The cues from this one on, and how many stand before and after them.
-fn stack_from(alloc: Global, before: usize, cues: &[CueNo]) -> Result<Stack, AllocError>
-    requires { before ≤ length cues.now }
-    ensures shown { IfOk result (λ s. s.cues.items ≡ take SHOWN_CUES (drop before cues.now)) }
-    ensures front { IfOk result (λ s. s.before ≡ before) }
-    ensures all { IfOk result (λ s. s.before + (length s.cues.items + s.after) ≡ length cues.now) }
-{
-    let shown = cues_from(before, cues);
-    let after = cues.len() - (before + shown.len());
-    Ok(Stack {
-        cues: shown.to_vec(alloc)?,
-        before,
-        after,
-    })
-}
-
-/// The cues around the place, from some before it on.
-pub fn stack_of(alloc: Global, copy: &Copied) -> Result<Stack, AllocError>
-    ensures { IfOk result (λ stack. showing.ShowsStack copy.now.state.show stack) }
-{
-    let show = copy.state.show();
-    let cues = cues_of(alloc, show)?;
-    let before = before_place(show.place(), cues.as_slice());
-    let stack = stack_from(alloc, before.saturating_sub(CUES_BEFORE), cues.as_slice())?;
-    Ok(stack)
+    cues_of(alloc, copy.state.show())
 }

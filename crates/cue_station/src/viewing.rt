@@ -10,14 +10,15 @@ use crate::alarms::{Facts, alarms_of, put_back_in};
 use crate::asking::said_by;
 use crate::following::next_in;
 use crate::heard::Copied;
-use crate::lighting::{Footing, asked_at, lit_of, read_at};
+use crate::lighting::{Footing, asked_at, read_at};
+use crate::lit::lit_of;
 use crate::memory::{Notes, Reading, Relayed, Seen};
 use crate::network::network_in;
 use crate::showing::{live_of, stack_of};
 use crate::telling::{last_of, past_of};
 use cue_show::CueNo;
 use cue_view::button::Button;
-use cue_view::view::{Alarm, Contacted, LiveAttempt, Next, Stack, Told, View};
+use cue_view::view::{Alarm, Contacted, LiveAttempt, Next, Told, View};
 use std::alloc::{AllocError, Global};
 
 // What is shown of a copy.
@@ -25,7 +26,7 @@ use std::alloc::{AllocError, Global};
 struct Drawn {
     next: Next,
     place: Option<CueNo>,
-    stack: Stack,
+    stack: Vec<CueNo>,
     live: Vec<LiveAttempt>,
     last: Option<Told>,
     past: Vec<Told>,
@@ -110,11 +111,7 @@ fn nothing_drawn(alloc: Global) -> Drawn
     Drawn {
         next: Next::Unknown,
         place: None,
-        stack: Stack {
-            cues: Vec::new(alloc),
-            before: 0,
-            after: 0,
-        },
+        stack: Vec::new(alloc),
         live: Vec::new(alloc),
         last: None,
         past: Vec::new(alloc),
@@ -159,7 +156,7 @@ fn draw(
     }
 }
 
-// The buttons that are lit.
+// The buttons that are lit. `cues`: the whole stack of the newest copy.
 fn lit(
     alloc: Global,
     reading: &Option<Reading>,
@@ -168,6 +165,7 @@ fn lit(
     seen: &[Seen],
     footing: Footing,
 ) -> Result<Vec<Button>, AllocError>
+    requires { viewing.AreStack reading.now cues.now }
     ensures { IfOk result (λ v. viewing.LightsBy footing seen.now reading.now cues.now alarms.now v.items) }
 {
     match reading {
@@ -178,6 +176,7 @@ fn lit(
 
 /// The view of the notes, of the newest copy, of the relay and of the attempts that are seen, without a number.
 /// `failures`: those that the copy tells of.
+#[tactic(auto, using(crate::proofs::MoveLemmas::drawn_stack))]
 pub(crate) fn view_of(
     alloc: Global,
     notes: &Notes,
@@ -209,7 +208,7 @@ pub(crate) fn view_of(
         last,
         past,
     } = draw(alloc, reading, seen, footing)?;
-    let lit = lit(alloc, reading, &stack.cues, &alarms, seen, footing)?;
+    let lit = lit(alloc, reading, &stack, &alarms, seen, footing)?;
     Ok(View {
         number: 0,
         at: footing.at,

@@ -144,17 +144,6 @@ pub enum Alarm {
     DeviceSilent(DeviceNo),
 }
 
-/// The cues around the place.
-#[derive(Drop)]
-pub struct Stack {
-    /// So many at most, in order, from some before the place on.
-    pub cues: Vec<CueNo>,
-    /// How many cues stand before these.
-    pub before: usize,
-    /// How many stand after them.
-    pub after: usize,
-}
-
 /// When a device was heard.
 #[derive(Clone, Copy, PartialEq, Eq, Debug)]
 pub enum LastHeard {
@@ -189,7 +178,8 @@ pub struct View {
     pub served: Option<u64>,
     pub next: Next,
     pub place: Option<CueNo>,
-    pub stack: Stack,
+    /// All cues, in order.
+    pub stack: Vec<CueNo>,
     pub live: Vec<LiveAttempt>,
     pub chosen: Option<u32>,
     pub lit: Vec<Button>,

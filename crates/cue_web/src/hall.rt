@@ -79,7 +79,7 @@ impl Hall {
     ) {
         for visitor in self.visitors.iter_mut() {
             if let Some(asking) = visitor.hear(pages.door(), now) {
-                match pages.answer(desk, alloc, &asking) {
+                match pages.answer(desk, alloc, &asking, now) {
                     Ok(answer) => visitor.tell(answer, now),
                     Err(AllocError) => visitor.leave(),
                 }

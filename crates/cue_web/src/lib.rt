@@ -8,6 +8,7 @@
 //! - Many connections side by side, each for a second: a browser opens connections before it needs them and says
 //!   nothing on them. At most 128 are open, each with at most 9 kB. If there is no room for one more, the one that has
 //!   waited longest is closed; each is heard before that, so hundreds that say nothing keep nobody waiting.
+//! - Who closes only its own way of speaking, as `nc` does, is answered, if its request came whole.
 //! - After an answer the rest of the request is read and dropped, for a second at most: a socket that is closed with
 //!   bytes unread resets the connection, and the answer may be lost.
 //! - The text of the newest view is kept until the next view: ten who ask for it cost one drawing.
@@ -20,4 +21,4 @@ mod pages;
 mod visitor;
 
 pub use hall::Hall;
-pub use pages::Pages;
+pub use pages::{Beside, Pages};

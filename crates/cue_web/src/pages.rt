@@ -1,14 +1,15 @@
 //! What the page is answered: itself, the newest view, the show file, and the view that a press has made.
-use crate::visitor::Asking;
+use crate::visitor::{Asking, Pressed};
 use cue_board::Names;
 use cue_desk_run::Desk;
-use cue_page::board::view_text;
+use cue_page::board::{Manner, view_text};
 use cue_page::page::{page_text, policy};
 use cue_request::answering::{Kind, NOTHING, Outcome, answer, refusal_words};
+use cue_request::door::{Door, Purpose};
+use cue_request::lock::Guard;
 use cue_request::replying::trouble_text;
-use cue_request::request::{Door, Refusal};
-use cue_show_file::{of_show, written};
-use cue_view::button::Button;
+use cue_request::request::Refusal;
+use cue_show_file::{ShowFile, of_show, written};
 use std::alloc::{AllocError, Global};
 use std::fs::{File, Files};
 use std::net::Net;
@@ -23,16 +24,29 @@ const NO_STORE: &str = "the store has not been read yet";
 /// What a body is answered that is no press.
 const NO_PRESS: &str = "this is no button of the page: nothing was sent";
 
+/// What a page shows beside the views of the desk.
+#[derive(Drop)]
+pub struct Beside {
+    /// The show file, for names and notes.
+    pub file: Option<ShowFile>,
+    /// The port of 127.0.0.1 at which the controller is asked.
+    pub port: u16,
+    /// Names this run: a page that was loaded in another one loads itself again.
+    pub run: String,
+}
+
 /// A page, and what it is answered from beside the desk.
 #[derive(Drop)]
 pub struct Pages<'a> {
     door: Door<'a>,
+    // What has become of the words of the lock.
+    guard: Guard,
     // The page with its token, and what it may do in a browser.
     page: String,
     policy: String,
-    names: Names<'a>,
-    // Names this run: a page that was loaded in another one loads itself again.
-    run: String,
+    beside: Beside,
+    // What is told of the show file.
+    told: Option<String>,
     // The newest view as text, and its number; none is drawn yet.
     drawn: Option<u64>,
     text: String,
@@ -49,24 +63,43 @@ fn trouble_answer(alloc: Global, outcome: Outcome, words: &str) -> Result<String
     json_answer(alloc, outcome, text.as_str())
 }
 
+// That the request is refused, and why.
+fn refused_answer(alloc: Global, refusal: Refusal) -> Result<String, AllocError> {
+    trouble_answer(alloc, Outcome::Refused(refusal), refusal_words(refusal))
+}
+
 impl<'a> Pages<'a> {
-    /// A page at this door, whose run of the desk has this name.
+    /// A page at this door, with what stands beside the views.
     pub fn new(
         alloc: Global,
         door: Door<'a>,
         token: &str,
-        run: String,
-        names: Names<'a>,
+        beside: Beside,
     ) -> Result<Pages<'a>, AllocError> {
         Ok(Pages {
             door,
+            guard: Guard::new(),
             page: page_text(alloc, token)?,
             policy: policy(alloc)?,
-            names,
-            run,
+            beside,
+            told: None,
             drawn: None,
             text: String::new(alloc),
         })
+    }
+
+    /// From now on the names are those of this show file.
+    pub fn put_file(&mut self, file: ShowFile) {
+        self.beside.file = Some(file);
+        self.drawn = None;
+    }
+
+    /// From now on this is told of the show file.
+    pub fn tell(&mut self, told: Option<String>) {
+        if self.told != told {
+            self.told = told;
+            self.drawn = None;
+        }
     }
 
     /// Where the page is.
@@ -84,7 +117,17 @@ impl<'a> Pages<'a> {
         if self.drawn == Some(view.number) {
             return Ok(());
         }
-        self.text = view_text(alloc, view, &self.names, self.run.as_str())?;
+        let names = Names {
+            file: self.beside.file.as_ref(),
+            port: self.beside.port,
+        };
+        let manner = Manner {
+            run: self.beside.run.as_str(),
+            is_locked: matches!(self.door.purpose, Purpose::Plays(Some(_))),
+            is_read_only: matches!(self.door.purpose, Purpose::Shows(_)),
+            told: self.told.as_deref(),
+        };
+        self.text = view_text(alloc, view, &names, &manner)?;
         self.drawn = Some(view.number);
         Ok(())
     }
@@ -99,21 +142,35 @@ impl<'a> Pages<'a> {
         json_answer(alloc, Outcome::Done, self.text.as_str())
     }
 
-    // The view that follows a press.
+    // The view that follows this press, or why the lock refuses it.
+    fn pressed_answer<R: Files<File = File> + Net + Clock + AllocGlobal>(
+        &mut self,
+        desk: &mut Desk<'_, R>,
+        alloc: Global,
+        pressed: &Pressed,
+        now: u64,
+    ) -> Result<String, AllocError> {
+        if let Some(refusal) = self.guard.judge(pressed.button, now, pressed.said) {
+            return refused_answer(alloc, refusal);
+        }
+        if desk.press(pressed.view, pressed.button) {
+            self.view_answer(desk, alloc)
+        } else {
+            trouble_answer(alloc, Outcome::Unavailable, NO_MEMORY)
+        }
+    }
+
+    // What the body of a press is answered: one that is none is refused.
     fn press_answer<R: Files<File = File> + Net + Clock + AllocGlobal>(
         &mut self,
         desk: &mut Desk<'_, R>,
         alloc: Global,
-        press: Option<(u64, Button)>,
+        press: &Option<Pressed>,
+        now: u64,
     ) -> Result<String, AllocError> {
-        let Some((number, button)) = press else {
-            let refused = Outcome::Refused(Refusal::Unreadable);
-            return trouble_answer(alloc, refused, NO_PRESS);
-        };
-        if desk.press(number, button) {
-            self.view_answer(desk, alloc)
-        } else {
-            trouble_answer(alloc, Outcome::Unavailable, NO_MEMORY)
+        match press {
+            Some(pressed) => self.pressed_answer(desk, alloc, pressed, now),
+            None => trouble_answer(alloc, Outcome::Refused(Refusal::Unreadable), NO_PRESS),
         }
     }
 
@@ -123,7 +180,7 @@ impl<'a> Pages<'a> {
         desk: &Desk<'_, R>,
         alloc: Global,
     ) -> Result<String, AllocError> {
-        let text = match (self.names.file, desk.state()) {
+        let text = match (&self.beside.file, desk.state()) {
             (Some(file), _) => written(alloc, file)?,
             (None, Some(state)) => written(alloc, &of_show(alloc, state.show())?)?,
             (None, None) => return trouble_answer(alloc, Outcome::Unavailable, NO_STORE),
@@ -131,12 +188,13 @@ impl<'a> Pages<'a> {
         answer(alloc, Outcome::Done, Kind::Text, NOTHING, text.as_str())
     }
 
-    /// What a connection is answered that asks this.
+    /// What a connection is answered that asks this now.
     pub fn answer<R: Files<File = File> + Net + Clock + AllocGlobal>(
         &mut self,
         desk: &mut Desk<'_, R>,
         alloc: Global,
         asking: &Asking,
+        now: u64,
     ) -> Result<String, AllocError> {
         match asking {
             Asking::Page => {
@@ -145,11 +203,8 @@ impl<'a> Pages<'a> {
             }
             Asking::View => self.view_answer(desk, alloc),
             Asking::ShowFile => self.file_answer(desk, alloc),
-            Asking::Press(press) => self.press_answer(desk, alloc, *press),
-            Asking::Refused(refusal) => {
-                let words = refusal_words(*refusal);
-                trouble_answer(alloc, Outcome::Refused(*refusal), words)
-            }
+            Asking::Press(press) => self.press_answer(desk, alloc, press, now),
+            Asking::Refused(refusal) => refused_answer(alloc, *refusal),
         }
     }
 }

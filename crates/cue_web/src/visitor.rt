@@ -1,8 +1,10 @@
 //! One connection to the page: it asks once, is answered, and is closed.
 ghost use Rattle.std.specs.Prelude.{◌≤◌, length, IfOk, IfSome};
 
+use cue_request::door::Door;
+use cue_request::lock::{Said, said_at};
 use cue_request::pressing::read_press;
-use cue_request::request::{Door, MAX_BODY, MAX_HEAD, Refusal, Wish, read_request};
+use cue_request::request::{MAX_BODY, MAX_HEAD, Refusal, Request, Wish, read_request};
 use cue_view::button::Button;
 use mio::net::TcpStream;
 use std::alloc::Global;
@@ -30,6 +32,16 @@ enum Stage {
     Gone,
 }
 
+/// A press that came.
+#[derive(Clone, Copy)]
+pub struct Pressed {
+    /// The number of the view that was shown.
+    pub view: u64,
+    pub button: Button,
+    /// What it says of the word of the lock.
+    pub said: Said,
+}
+
 /// What a connection asks.
 #[derive(Clone, Copy)]
 pub enum Asking {
@@ -37,8 +49,8 @@ pub enum Asking {
     /// The newest view.
     View,
     ShowFile,
-    /// That a button of the view with this number was pressed; none: the body is no press.
-    Press(Option<(u64, Button)>),
+    /// That a button was pressed; none: the body is no press.
+    Press(Option<Pressed>),
     /// Nothing that is carried out.
     Refused(Refusal),
 }
@@ -48,13 +60,24 @@ pub enum Asking {
 pub struct Visitor {
     stream: TcpStream,
     stage: Stage,
-    // What has come.
+    // What has come, and whether nothing more comes: the other side has closed its way of speaking.
     input: Vec<u8>,
+    has_ended: bool,
     // What it is answered, and how much of that is sent.
     output: String,
     sent: usize,
     // When its stage ends at the latest, in milliseconds since the start.
     until: u64,
+}
+
+// The press that stands in the body of a request.
+fn pressed_in(door: &Door<'_>, request: &Request<'_>) -> Option<Pressed> {
+    let (view, button) = read_press(request.body)?;
+    Some(Pressed {
+        view,
+        button,
+        said: said_at(door.purpose, request.word),
+    })
 }
 
 // What stands for a request that has come whole.
@@ -64,7 +87,7 @@ fn asking_in(door: &Door<'_>, input: &[u8]) -> Option<Asking> {
             Wish::Page => Asking::Page,
             Wish::Board => Asking::View,
             Wish::ShowFile => Asking::ShowFile,
-            Wish::Command(_) => Asking::Press(read_press(request.body)),
+            Wish::Command(_) => Asking::Press(pressed_in(door, &request)),
         }),
         Ok(None) => None,
         Err(refusal) => Some(Asking::Refused(refusal)),
@@ -78,6 +101,7 @@ impl Visitor {
             stream,
             stage: Stage::Asking,
             input: Vec::new(alloc),
+            has_ended: false,
             output: String::new(alloc),
             sent: 0,
             until: now.saturating_add(PATIENCE),
@@ -104,14 +128,24 @@ impl Visitor {
         }
     }
 
+    // Reads a piece after what has come. Nothing follows an end.
+    fn read_more(&mut self, piece: &mut [u8]) -> io::Result<bool> {
+        match self.read_piece(piece) {
+            Ok(Some(n)) => self.input.extend_from_slice(&piece[..n])?,
+            Ok(None) => return Ok(false),
+            Err(error) if error.kind() == ErrorKind::UnexpectedEof => self.has_ended = true,
+            Err(error) => return Err(error),
+        }
+        Ok(!self.has_ended)
+    }
+
     // Reads what has come, up to the longest request, and answers whether something did.
     fn read_on(&mut self) -> io::Result<bool> {
         let before = self.input.len();
         let mut piece = [0; PIECE];
         for _ in 0..PIECES {
-            match self.read_piece(&mut piece)? {
-                Some(n) => self.input.extend_from_slice(&piece[..n])?,
-                None => break,
+            if !self.read_more(&mut piece)? {
+                break;
             }
             if self.input.len() > MAX_HEAD + MAX_BODY {
                 break;
@@ -120,16 +154,21 @@ impl Visitor {
         Ok(self.input.len() > before)
     }
 
-    // That its request did not come whole in time. One that said nothing is closed without an answer.
-    fn late(&mut self) -> Option<Asking> {
+    // That its request did not come whole, in time or at all. One that said nothing is closed without an answer.
+    fn incomplete(&mut self) -> Option<Asking> {
         if self.input.is_empty() {
             self.stage = Stage::Gone;
             return None;
         }
-        Some(Asking::Refused(Refusal::Late))
+        Some(Asking::Refused(if self.has_ended {
+            Refusal::Unreadable
+        } else {
+            Refusal::Late
+        }))
     }
 
-    /// Hears what it asks, if that has come whole, is refused, or came too late. What has not grown is not read again.
+    /// Hears what it asks, if that has come whole, is refused, came too late or has ended before. What has not grown is
+    /// not read again.
     pub fn hear(&mut self, door: &Door<'_>, now: u64) -> Option<Asking> {
         if self.stage != Stage::Asking {
             return None;
@@ -142,10 +181,10 @@ impl Visitor {
                 return None;
             }
         };
-        if asking.is_some() || now < self.until {
+        if asking.is_some() || (now < self.until && !self.has_ended) {
             return asking;
         }
-        self.late()
+        self.incomplete()
     }
 
     /// Answers it.

@@ -27,6 +27,7 @@
 
 mod program;
 
+use cue_desk_line::Environment;
 use std::env::{self, VarError};
 use std::io::{self, BufWriter, ErrorKind, IsTerminal, Write};
 use std::process::ExitCode;
@@ -36,9 +37,9 @@ fn words(rt: &HostRuntime) -> io::Result<Vec<String>> {
     Ok(env::args(rt)?.collect(rt.alloc())?)
 }
 
-// What CUEDESK_PORT says, where it is set. What is no text is no port either.
-fn said_port(rt: &HostRuntime) -> io::Result<Option<String>> {
-    match env::var(rt, "CUEDESK_PORT") {
+// What this variable of the environment says, if it is set. What is no text is no port, no folder and no name either.
+fn said(rt: &HostRuntime, variable: &str) -> io::Result<Option<String>> {
+    match env::var(rt, variable) {
         Ok(text) => Ok(Some(text)),
         Err(VarError::NotPresent) => Ok(None),
         Err(VarError::NotUnicode) => Ok(Some(String::from_str(rt.alloc(), "?")?)),
@@ -49,11 +50,17 @@ fn said_port(rt: &HostRuntime) -> io::Result<Option<String>> {
 // Carries out the words of the command line, and answers the exit status. It fails where there is no memory to begin.
 fn perform(rt: &HostRuntime) -> io::Result<u8> {
     let words = words(rt)?;
-    let port = said_port(rt)?;
-    let environment = port.as_deref();
+    let port = said(rt, "CUEDESK_PORT")?;
+    let store = said(rt, "CUEDESK_STORE")?;
+    let name = said(rt, "CUEDESK_AS")?;
+    let environment = Environment {
+        port: port.as_deref(),
+        store: store.as_deref(),
+        name: name.as_deref(),
+    };
     let is_terminal = rt.stdout().is_terminal();
     let mut writer = BufWriter::new(rt.alloc(), io::writer(rt))?;
-    Ok(program::perform(rt, &words, environment, is_terminal, &mut writer))
+    Ok(program::perform(rt, &words, &environment, is_terminal, &mut writer))
 }
 
 fn main(rt: HostRuntime) -> ExitCode {

@@ -6,26 +6,38 @@ ghost use Rattle.cue_desk.specs.declared.line.LineFault.TheVariants.{Memory};
 
 mod beside;
 mod board;
+mod buttons;
 mod files;
 mod loading;
+mod locking;
+mod new;
+mod next;
 mod orders;
 mod rehearsing;
 mod relaying;
+mod renewing;
+mod reporting;
+mod sheet;
 mod web;
 mod wire;
 
 use board::{show_board, window_of};
+use buttons::hear_buttons;
 use cue_desk::ending::Ending;
 use cue_desk::line::LineFault;
 use cue_desk::ports::{PORT, controller_port};
-use cue_desk_line::{Line, line};
+use cue_desk_line::{Environment, Line, line};
 use cue_saying::{print, say};
 use cue_show_file::ShowFile;
 use files::{check_file, export};
 use loading::{Loaded, load};
+use new::write_new;
+use next::press_word;
 use orders::carry_order;
 use rehearsing::rehearse;
 use relaying::relay_devices;
+use reporting::report_evening;
+use sheet::print_sheet;
 use std::fs::{File, Files};
 use std::io::{Eprint, Write};
 use std::net::Net;
@@ -94,6 +106,8 @@ fn carry_out<R: Files<File = File> + Net + Clock + RandomSource + Eprint + Alloc
             load(rt, what, *port, writer)
         }
         Line::Export { dir } => export(rt, dir.as_str(), writer),
+        Line::New { file } => write_new(rt, file.as_str(), writer),
+        Line::Sheet { file, html } => print_sheet(rt, file.as_str(), *html, writer),
         Line::Board {
             watched,
             once,
@@ -103,24 +117,27 @@ fn carry_out<R: Files<File = File> + Net + Clock + RandomSource + Eprint + Alloc
             show_board(rt, watched, window_of(is_once, *rows), writer)
         }
         Line::Web(web) => serve_page(rt, web, writer),
+        Line::Buttons(buttons) => hear_buttons(rt, buttons, writer),
+        Line::Press(pressed) => press_word(rt, pressed, writer),
         Line::Rehearse(rehearsal) => rehearse(rt, rehearsal, writer),
         Line::Relay { file, port, status } => {
             relay_devices(rt, file.as_str(), *port, status.as_deref(), writer)
         }
-        Line::Ask { order, port } => {
-            carry_order(rt, *order, controller_port(*port, None), writer)
+        Line::Report(report) => report_evening(rt, report, writer),
+        Line::Ask { order, port, name } => {
+            carry_order(rt, *order, controller_port(*port, None), *name, writer)
         },
     }
 }
 
 /// Carries a command line out, the program's name first, and answers the exit status: 0 where it is done, 1 where the
 /// controller refuses or a show file has mistakes, 2 where the command line is not understood, 3 where nobody
-/// replies or the machine fails. Why stands on standard error. The environment says the port of the controller where
-/// the command line does not.
+/// replies or the machine fails. Why stands on standard error. The environment says the port of the controller, the
+/// folder of the store, and who asks, where the command line does not.
 pub fn perform<R: Files<File = File> + Net + Clock + RandomSource + Eprint + AllocGlobal, W: Write>(
     rt: &R,
     words: &[String],
-    environment: Option<&str>,
+    environment: &Environment<'_>,
     is_terminal: bool,
     writer: &mut W,
 ) -> u8 {

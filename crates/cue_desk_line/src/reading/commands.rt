@@ -1,11 +1,15 @@
 //! The commands, as `clap` knows them.
+use super::buttons::buttons_command;
+use super::pressing::{go_command, standby_command};
 use super::rehearsing::rehearse;
+use super::reporting::{asker, report_command};
+use super::sheet::{new, sheet};
 use super::web::web_command;
 use clap::{Arg, ArgAction, Command, value_parser};
 use std::alloc::{AllocError, Global};
 
-// A word that has to be there.
-fn word<'a>(alloc: Global, id: &'a str, help: &'a str) -> Arg<'a> {
+/// A word that has to be there.
+pub(super) fn word<'a>(alloc: Global, id: &'a str, help: &'a str) -> Arg<'a> {
     Arg::new(alloc, id)
         .help(help)
         .required(true)
@@ -20,7 +24,7 @@ pub(super) fn port_or_file<'a>(alloc: Global) -> Arg<'a> {
 }
 
 /// The port of the controller, of a command that reads no show file.
-fn port<'a>(alloc: Global) -> Arg<'a> {
+pub(super) fn port<'a>(alloc: Global) -> Arg<'a> {
     let help = "The controller's port at 127.0.0.1; else CUEDESK_PORT says it, or it is 9100";
     option(alloc, "port", help).value_parser(value_parser!(u16))
 }
@@ -33,8 +37,8 @@ pub(super) fn option<'a>(alloc: Global, name: &'a str, help: &'a str) -> Arg<'a>
         .action(ArgAction::Set)
 }
 
-// A flag, which is there or not.
-fn flag<'a>(alloc: Global, name: &'a str, help: &'a str) -> Arg<'a> {
+/// A flag, which is there or not.
+pub(super) fn flag<'a>(alloc: Global, name: &'a str, help: &'a str) -> Arg<'a> {
     Arg::new(alloc, name)
         .help(help)
         .long(name)
@@ -65,7 +69,8 @@ fn of_cue<'a>(alloc: Global, name: &'a str, about: &'a str) -> Result<Command<'a
     Command::new(alloc, name)
         .about(about)
         .arg(word(alloc, "CUE", "The number of the cue, as 12.5"))?
-        .arg(port(alloc))
+        .arg(port(alloc))?
+        .arg(asker(alloc))
 }
 
 // A command that asks something of a device.
@@ -73,7 +78,8 @@ fn of_device<'a>(alloc: Global, name: &'a str, about: &'a str) -> Result<Command
     Command::new(alloc, name)
         .about(about)
         .arg(word(alloc, "DEVICE", "The number of the device, 0 to 111"))?
-        .arg(port(alloc))
+        .arg(port(alloc))?
+        .arg(asker(alloc))
 }
 
 /// A command over a show file.
@@ -166,7 +172,8 @@ fn release<'a>(alloc: Global) -> Result<Command<'a>, AllocError> {
 fn status<'a>(alloc: Global) -> Result<Command<'a>, AllocError> {
     Command::new(alloc, "status")
         .about("Say how the show stands:  cuedesk status")
-        .arg(port(alloc))
+        .arg(port(alloc))?
+        .arg(asker(alloc))
 }
 
 // The command `remove`, which is of a cue or of a device.
@@ -191,27 +198,22 @@ fn with<'a>(
     command.subcommand(below?)
 }
 
-// The commands that read or write a show file.
+// The commands that read or write a show file, and end.
 fn with_files<'a>(alloc: Global, command: Command<'a>) -> Result<Command<'a>, AllocError> {
-    with(
-        with(with(command, check(alloc))?, load(alloc))?,
-        export(alloc),
-    )
+    let command = with(with(command, new(alloc))?, check(alloc))?;
+    let command = with(with(command, sheet(alloc))?, load(alloc))?;
+    with(with(command, export(alloc))?, report_command(alloc))
 }
 
 // The commands that go on until Ctrl-C.
 fn with_views<'a>(alloc: Global, command: Command<'a>) -> Result<Command<'a>, AllocError> {
     let command = with(with(command, board(alloc))?, web_command(alloc))?;
+    let command = with(command, buttons_command(alloc))?;
     with(with(command, rehearse(alloc))?, relay(alloc))
 }
 
-// The commands that ask something of a cue.
-const OF_CUE: [(&str, &str); 4] = [
-    (
-        "standby",
-        "Have the devices of a cue stand by:  cuedesk standby 12.5",
-    ),
-    ("go", "Give a cue that is stood by:  cuedesk go 12.5"),
+// The commands that ask something of a cue, and have its number.
+const OF_CUE: [(&str, &str); 2] = [
     (
         "cancel",
         "Give the preparation of a cue up:  cuedesk cancel 12.5",
@@ -221,7 +223,7 @@ const OF_CUE: [(&str, &str); 4] = [
 
 // The commands of an evening that are of a cue.
 fn with_cues<'a>(alloc: Global, command: Command<'a>) -> Result<Command<'a>, AllocError> {
-    let mut command = command;
+    let mut command = with(with(command, standby_command(alloc))?, go_command(alloc))?;
     for (name, about) in OF_CUE {
         command = with(command, of_cue(alloc, name, about))?;
     }

@@ -1,7 +1,22 @@
 //! What a command line can say.
+use super::buttons::Buttons;
+use super::pressing::Pressed;
 use super::rehearsing::Rehearsal;
+use super::reporting::Report;
 use super::web::Web;
 use cue_desk::orders::Order;
+use cue_report::AskerName;
+
+/// What the environment says, where a command line does not.
+#[derive(Clone, Copy)]
+pub struct Environment<'a> {
+    /// CUEDESK_PORT: the port of the controller.
+    pub port: Option<&'a str>,
+    /// CUEDESK_STORE: the folder of the store.
+    pub store: Option<&'a str>,
+    /// CUEDESK_AS: who asks.
+    pub name: Option<&'a str>,
+}
 
 /// What a board is made of: the paths of what it reads.
 #[derive(Drop)]
@@ -49,6 +64,16 @@ pub enum Line {
     Export {
         dir: String,
     },
+    /// Write a show file to begin with.
+    New {
+        file: String,
+    },
+    /// Print the cue sheet of this show file.
+    Sheet {
+        file: String,
+        /// As a page for a browser.
+        html: bool,
+    },
     /// Show the board.
     Board {
         watched: Watched,
@@ -58,6 +83,10 @@ pub enum Line {
     },
     /// Show the board of a folder with buttons in a browser.
     Web(Web),
+    /// Hear a real desk.
+    Buttons(Buttons),
+    /// Press a button at a desk without a browser.
+    Press(Pressed),
     /// Play every device of a show file.
     Rehearse(Rehearsal),
     /// Stand between the controller and the devices of this show file that are on the stage's network.
@@ -66,10 +95,14 @@ pub enum Line {
         port: Option<u16>,
         status: Option<String>,
     },
+    /// Tell an evening by its log.
+    Report(Report),
     /// Ask one thing.
     Ask {
         order: Order,
         port: Option<u16>,
+        /// Who asks, where the command line or the environment says it.
+        name: Option<AskerName>,
     },
 }
 
@@ -82,7 +115,27 @@ impl Line {
             }
             Line::Board { watched, .. } => Some(&mut watched.port),
             Line::Web(web) => Some(&mut web.port),
-            Line::Check { .. } | Line::Export { .. } | Line::Rehearse(_) => None,
+            Line::Buttons(buttons) => Some(&mut buttons.port),
+            Line::Press(pressed) => Some(&mut pressed.port),
+            Line::Check { .. }
+            | Line::Export { .. }
+            | Line::New { .. }
+            | Line::Sheet { .. }
+            | Line::Rehearse(_)
+            | Line::Report(_) => None,
+        }
+    }
+
+    /// Who asks, of a command that asks the controller for something.
+    pub fn name(&mut self) -> Option<&mut Option<AskerName>> {
+        match self {
+            Line::Ask { name, .. } => Some(name),
+            Line::Web(web) => Some(&mut web.name),
+            Line::Buttons(buttons) => Some(&mut buttons.name),
+            Line::Press(pressed) => Some(&mut pressed.name),
+            Line::Check { .. } | Line::Export { .. } | Line::Load { .. } => None,
+            Line::New { .. } | Line::Sheet { .. } | Line::Report(_) => None,
+            Line::Board { .. } | Line::Rehearse(_) | Line::Relay { .. } => None,
         }
     }
 }

@@ -1,114 +1,71 @@
-//! What the show file calls the cues and devices that a view names.
+//! What the show file calls the cues and devices, and how a cue is marked there.
+//!
+//! The whole file is told, entry by entry: the stack is shown whole, and to look each of its cues up would take as many
+//! steps as it has pairs of cues.
 use cue_board::Names;
-use cue_show::{CueNo, DeviceNo};
-use cue_show_file::cue_text;
-use cue_view::view::{Alarm, Next, Told, View};
+use cue_show_file::{CueEntry, DeviceEntry, cue_text};
 use cue_words::shown_text;
 use serde_json::{Value, json};
 use std::alloc::{AllocError, Global};
 
-// The cues that a view names; one may be there twice.
-fn cues_of(alloc: Global, view: &View) -> Result<Vec<CueNo>, AllocError> {
-    let mut cues = Vec::new(alloc);
-    if let Next::Cue(cue) = view.next {
-        cues.push(cue)?;
+// A text of the file, as a screen may get it; empty where there is none.
+fn text_of(alloc: Global, text: &Option<String>) -> Result<String, AllocError> {
+    match text {
+        Some(text) => shown_text(alloc, text.as_str()),
+        None => Ok(String::new(alloc)),
     }
-    for cue in &view.stack.cues {
-        cues.push(*cue)?;
-    }
-    for attempt in &view.live {
-        cues.push(attempt.cue)?;
-    }
-    for told in &view.past {
-        push_cue(&mut cues, told)?;
-    }
-    if let Some(told) = &view.last {
-        push_cue(&mut cues, told)?;
-    }
-    Ok(cues)
 }
 
-// Puts the cue of an attempt after the others, where it is known.
-fn push_cue(cues: &mut Vec<CueNo>, told: &Told) -> Result<(), AllocError> {
-    if let Some(cue) = told.cue {
-        cues.push(cue)?;
+// A word that may be missing; null where it is.
+fn word_value(alloc: Global, word: Option<&str>) -> Result<Value, AllocError> {
+    match word {
+        Some(word) => Ok(Value::String(String::from_str(alloc, word)?)),
+        None => Ok(Value::Null),
     }
-    Ok(())
 }
 
-// Puts the devices after the others.
-fn push_devices(devices: &mut Vec<DeviceNo>, more: &[DeviceNo]) -> Result<(), AllocError> {
-    for device in more {
-        devices.push(*device)?;
-    }
-    Ok(())
+// A cue: its number, name and note, its colour and its flag.
+fn cue_value(alloc: Global, cue: &CueEntry) -> Result<Value, AllocError> {
+    let (name, note) = (text_of(alloc, &cue.name)?, text_of(alloc, &cue.note)?);
+    let color = word_value(alloc, cue.color.map(|color| color.word()))?;
+    let flag = word_value(alloc, cue.flag.map(|flag| flag.word()))?;
+    let (number, name, note) = (cue_text(&cue.number), name.as_str(), note.as_str());
+    json!(in alloc; {"color": color, "cue": number, "flag": flag, "name": name, "note": note})
 }
 
-// Puts the devices of an attempt that has ended after the others.
-fn push_told(devices: &mut Vec<DeviceNo>, told: &Told) -> Result<(), AllocError> {
-    push_devices(devices, told.failed.as_slice())?;
-    push_devices(devices, told.excused.as_slice())
+// A device: its number and its name.
+fn device_value(alloc: Global, device: &DeviceEntry) -> Result<Value, AllocError> {
+    let name = text_of(alloc, &device.name)?;
+    let number = u64::from(device.number.number());
+    json!(in alloc; {"device": number, "name": name.as_str()})
 }
 
-// The devices that a view names; one may be there twice.
-fn devices_of(alloc: Global, view: &View) -> Result<Vec<DeviceNo>, AllocError> {
-    let mut devices = Vec::new(alloc);
-    for attempt in &view.live {
-        for answer in attempt.devices.as_slice() {
-            devices.push(answer.device)?;
-        }
-    }
-    for told in &view.past {
-        push_told(&mut devices, told)?;
-    }
-    if let Some(told) = &view.last {
-        push_told(&mut devices, told)?;
-    }
-    for contact in &view.network {
-        devices.push(contact.device)?;
-    }
-    for alarm in &view.alarms {
-        if let Alarm::DeviceSilent(device) = alarm {
-            devices.push(*device)?;
-        }
-    }
-    Ok(devices)
-}
-
-// The cues with their names and notes, as a screen may get them.
-fn cue_names(alloc: Global, cues: &[CueNo], names: &Names<'_>) -> Result<Value, AllocError> {
+// The cues of the file.
+fn cues_value(alloc: Global, cues: &[CueEntry]) -> Result<Value, AllocError> {
     let mut values = Vec::with_capacity(alloc, cues.len())?;
     for cue in cues {
-        let name = shown_text(alloc, names.cue_name(*cue))?;
-        let note = shown_text(alloc, names.cue_note(*cue))?;
-        let (number, name, note) = (cue_text(cue), name.as_str(), note.as_str());
-        values.push(json!(in alloc; {"cue": number, "name": name, "note": note})?)?;
+        values.push(cue_value(alloc, cue)?)?;
     }
     Ok(Value::Array(values))
 }
 
-// The devices with their names, as a screen may get them.
-fn device_names(
-    alloc: Global,
-    devices: &[DeviceNo],
-    names: &Names<'_>,
-) -> Result<Value, AllocError> {
+// The devices of the file.
+fn devices_value(alloc: Global, devices: &[DeviceEntry]) -> Result<Value, AllocError> {
     let mut values = Vec::with_capacity(alloc, devices.len())?;
     for device in devices {
-        let number = u64::from(device.number());
-        let name = shown_text(alloc, names.device_name(*device))?;
-        values.push(json!(in alloc; {"device": number, "name": name.as_str()})?)?;
+        values.push(device_value(alloc, device)?)?;
     }
     Ok(Value::Array(values))
 }
 
-/// What the show file calls the cues and devices that the view names.
-pub(super) fn names_value(
-    alloc: Global,
-    view: &View,
-    names: &Names<'_>,
-) -> Result<Value, AllocError> {
-    let cues = cue_names(alloc, &cues_of(alloc, view)?, names)?;
-    let devices = device_names(alloc, &devices_of(alloc, view)?, names)?;
+/// What the show file calls its cues and devices, and how its cues are marked; nothing where there is no file.
+pub(super) fn names_value(alloc: Global, names: &Names<'_>) -> Result<Value, AllocError> {
+    let (cues, devices) = match names.file {
+        Some(file) => (
+            cues_value(alloc, &file.cues)?,
+            devices_value(alloc, &file.devices)?,
+        ),
+        None => (Value::Array(Vec::new(alloc)), Value::Array(Vec::new(alloc))),
+    };
     json!(in alloc; {"cues": cues, "devices": devices})
 }

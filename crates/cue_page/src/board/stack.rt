@@ -1,4 +1,4 @@
-//! The cue that is next, and the stack around the place.
+//! The cue that is next, and the stack.
 ghost use Rattle.std.specs.Prelude.{◌≡◌, IfOk, map};
 ghost use Rattle.serde_json.specs.Data.{array};
 ghost use Rattle.serde_json.specs.View.{items_of, view};
@@ -6,7 +6,7 @@ ghost use Rattle.cue_page.specs.Stack as stack;
 
 use cue_show::CueNo;
 use cue_show_file::cue_text;
-use cue_view::view::{Next, Stack};
+use cue_view::view::Next;
 use serde_json::{Value, json};
 use std::alloc::{AllocError, Global};
 
@@ -40,8 +40,8 @@ pub fn next_value(alloc: Global, next: Next) -> Result<Value, AllocError>
     json!(in alloc; {"cue": cue, "why": why})
 }
 
-// The numbers of cues.
-fn cues_value(alloc: Global, cues: &[CueNo]) -> Result<Value, AllocError>
+/// The stack: the numbers of its cues, in order.
+pub(super) fn stack_value(alloc: Global, cues: &[CueNo]) -> Result<Value, AllocError>
     ensures { IfOk result (λ v. view v ≡ array (items_of (map stack.number_data cues.now))) }
 {
     let mut numbers = Vec::with_capacity(alloc, cues.len())?;
@@ -49,12 +49,4 @@ fn cues_value(alloc: Global, cues: &[CueNo]) -> Result<Value, AllocError>
         numbers.push(Value::String(String::from_str(alloc, cue_text(cue))?))?;
     }
     Ok(Value::Array(numbers))
-}
-
-/// The cues around the place, and how many there are before and after them.
-pub(super) fn stack_value(alloc: Global, around: &Stack) -> Result<Value, AllocError>
-    ensures { IfOk result (λ v. view v ≡ stack.stack_data around.now) }
-{
-    let cues = cues_value(alloc, &around.cues)?;
-    json!(in alloc; {"after": around.after, "before": around.before, "cues": cues})
 }

@@ -1,11 +1,22 @@
 //! What the page does: it asks for the newest view four times in a second, and reports which button was pressed in
 //! which view, letter by letter as the view has it.
 
-/// The text between the tags of the second `script`.
+/// The text of the last `script`.
 pub(super) const PRESSING: &str = r#"
 "use strict";
-const POLL = 250, NOTED = 6000;
+const POLL = 250, NOTED = 6000, LOCKED = 423, CLOSED = 429;
 const token = document.querySelector("meta[name=cuedesk-token]").content;
+let namesText = "";
+
+// The names of a view; where they are those of before, nothing that shows them is made anew.
+function takeNames(told) {
+  const text = JSON.stringify(told);
+  if (text === namesText) return;
+  namesText = text;
+  renamed += 1;
+  names = { cues: new Map(told.cues.map((one) => [one.cue, one])),
+    devices: new Map(told.devices.map((one) => [one.device, one.name])) };
+}
 
 // A view that came: an older one than that which is drawn is never drawn, and one of another run loads the page again.
 function take(told) {
@@ -14,8 +25,8 @@ function take(told) {
   if (view && told.view.number <= view.number) return;
   view = told.view;
   heard = now();
-  names = { cues: new Map(told.names.cues.map((one) => [one.cue, one])),
-    devices: new Map(told.names.devices.map((one) => [one.device, one.name])) };
+  manner = { locked: told.locked, readonly: told.readonly, told: told.told };
+  takeNames(told.names);
   if (now() > sure.until) sure = { press: "", until: 0 };
   draw();
 }
@@ -25,16 +36,26 @@ function say(words, kind, millis) {
   showWords();
 }
 
+// What an answer says that carries nothing out.
+async function refused(press, reply) {
+  if (reply.status === 403) { location.reload(); return; }
+  const told = await reply.json();
+  say(press + ": " + told.words, "refused", NOTED);
+  if (reply.status === LOCKED) askWord(press, told.words + ". " + press + " wants it:");
+  if (reply.status === CLOSED) forget();
+}
+
 // Reports a press of the view that is drawn. What became of it stands in the views that follow.
 async function send(press) {
   if (isDark()) { say(press + ": not sent: the desk does not answer", "refused", NOTED); return; }
+  const text = wordFor(press);
+  if (wantsWord(press) && text === undefined) { askWord(press); return; }
   say(press + " \u2026", "open", NOTED);
   try {
-    const reply = await fetch("/command", { method: "POST", headers: { "Cuedesk-Token": token },
-      body: view.number + " " + press });
-    if (reply.status === 403) { location.reload(); return; }
+    const headers = { "Cuedesk-Token": token, ...(text === undefined ? {} : { "Cuedesk-Word": text }) };
+    const reply = await fetch("/command", { method: "POST", headers, body: view.number + " " + press });
+    if (!reply.ok) { await refused(press, reply); return; }
     const told = await reply.json();
-    if (!reply.ok) { say(press + ": " + told.words, "refused", NOTED); return; }
     take(told);
     if (told.view.unsent) say(press + ": " + told.view.unsent, "refused", NOTED);
     else say("", "", 0);
@@ -51,17 +72,27 @@ function press(id) {
     "refused", NOTED);
 }
 
+// The key R: the one device that keeps GO waiting is released by a second press within three seconds.
+function pressRelease() {
+  const { lit, words, why } = lastWaiter();
+  if (!lit) { say("R releases no device: " + why, "refused", NOTED); return; }
+  if (!(sure.press === lit.press && now() < sure.until)) say("Press R again to release " + words, "open", SURE);
+  pressTwice(lit.press);
+}
+
 for (const id of ["standby", "go", "cancel"]) {
   at(id).addEventListener("click", (event) => { if (event.detail > 0) event.currentTarget.blur(); press(id); });
 }
 
-// Keys: S, space and Esc. On a control that has the focus, the space bar is that control's.
+// Keys: S, space, Esc and R. On a control that has the focus, the space bar is that control's; a field keeps its keys.
 document.addEventListener("keydown", (event) => {
-  if (event.repeat || event.ctrlKey || event.altKey || event.metaKey) return;
-  const id = { s: "standby", S: "standby", " ": "go", Escape: "cancel" }[event.key];
+  if (event.repeat || event.ctrlKey || event.altKey || event.metaKey || manner.readonly) return;
+  if (event.target instanceof HTMLInputElement) return;
+  const id = { s: "standby", S: "standby", " ": "go", Escape: "cancel", r: "release", R: "release" }[event.key];
   if (!id || (event.key === " " && document.activeElement instanceof HTMLButtonElement)) return;
   event.preventDefault();
-  press(id);
+  if (id === "release") pressRelease();
+  else press(id);
 });
 
 async function read() {
@@ -85,6 +116,7 @@ setInterval(() => {
     if (now() > sure.until) sure = { press: "", until: 0 };
     draw();
   } else showLit();
+  if (word.text !== "" && !hasWord()) showManner();
 }, 100);
 poll();
 "#;

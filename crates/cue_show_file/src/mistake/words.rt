@@ -51,29 +51,45 @@ fn keys_of(section: Section) -> &'static str {
     match section {
         Section::File => "of a show file: it has port, listen, [[device]], [[cue]] and [rehearse]",
         Section::Device => "of a device: it has number, port, address and name",
-        Section::Cue => "of a cue: it has number, name, note and parts",
+        Section::Cue => "of a cue: it has number, name, note, color, flag and parts",
         Section::Part => "of a part: it has device, hex or text, and optional",
     }
 }
 
-// Keys by which other controllers go on by themselves.
-const GOING_ON: [&str; 12] = [
+// Keys by which other controllers go on by themselves, in small letters and without signs between their words.
+const GOING_ON: [&str; 21] = [
     "follow",
-    "follow_on",
-    "auto_follow",
+    "followon",
     "autofollow",
     "continue",
-    "auto_continue",
+    "autocontinue",
     "wait",
-    "pre_wait",
-    "post_wait",
+    "prewait",
+    "postwait",
+    "hang",
     "delay",
     "time",
+    "timecode",
+    "trigger",
     "duration",
+    "fade",
+    "fadein",
+    "fadeout",
+    "fadetime",
+    "crossfade",
+    "loop",
+    "repeat",
 ];
 
-// Keys by which other controllers mark a cue.
-const MARKS: [&str; 4] = ["color", "colour", "flag", "flagged"];
+// Whether a key is one of them, as `pre_wait` and `preWait` are `prewait`.
+fn goes_on(key: &str) -> bool {
+    GOING_ON.iter().any(|name| {
+        key.chars()
+            .filter(|c| !matches!(*c, '_' | '-'))
+            .map(|c| c.to_ascii_lowercase())
+            .eq(name.chars())
+    })
+}
 
 // Writes that a table has no such key, and which it has.
 fn write_unknown_key<W: fmt::Write>(
@@ -81,17 +97,25 @@ fn write_unknown_key<W: fmt::Write>(
     section: Section,
     key: &str,
 ) -> fmt::Result {
-    let keys = keys_of(section);
-    write!(f, "`{key}` is no key {keys}")?;
-    if GOING_ON.iter().any(|name| *name == key) {
-        return f.write_str(". Nothing moves without a press, so there is no follow and no wait");
-    }
-    if MARKS.iter().any(|name| *name == key) {
-        return f.write_str(
-            ". There are no colours and no flags: write it into the name or the note",
+    if goes_on(key) {
+        return write!(
+            f,
+            "`{key}`: nothing moves without a press, so a show file has no such key"
         );
     }
-    Ok(())
+    let keys = keys_of(section);
+    write!(f, "`{key}` is no key {keys}")
+}
+
+// Writes a mistake by which a mark of a cue is none.
+fn write_of_mark<W: fmt::Write>(f: &mut fmt::Formatter<W>, mistake: &Mistake) -> fmt::Result {
+    match mistake {
+        Mistake::BadColor => f.write_str(
+            "that is no colour: take red, orange, yellow, green, blue, purple or white",
+        ),
+        Mistake::BadFlag => f.write_str("that is no flag: take danger, fly or trap"),
+        _ => Ok(()),
+    }
 }
 
 // Writes what the controller would take, and the evening would not.
@@ -186,6 +210,7 @@ impl fmt::Display for Mistake {
             | Mistake::UsualPort
             | Mistake::NoListen
             | Mistake::SharedPort(_) => write_of_evening(f, self),
+            Mistake::BadColor | Mistake::BadFlag => write_of_mark(f, self),
             Mistake::DeviceTwice => {
                 f.write_str(
                     "the file has this device twice: take one of them out, or give it another number",

@@ -7,11 +7,13 @@ ghost use Rattle.cue_show_file.specs.Said.{cue_at, cue_said, each_said, is_of_cu
 ghost use Rattle.cue_show_file.specs.Said.{part_said, table_said};
 
 use super::keys::{cue_in, note_unknown, text_in, value_at};
+use super::marks::{read_color, read_flag};
 use super::parts::read_parts;
 use super::tables::{Place, place_of, tables_in};
 use crate::checking::note_torn;
 use crate::file::{CueEntry, DeviceEntry};
 use crate::headers::{Headers, lines_for};
+use crate::marks::{Color, Flag};
 use crate::mistake::{Findings, Key, Mistake, Section, Subject};
 use cue_show::{CueNo, Parts};
 use std::alloc::{AllocError, Global};
@@ -22,6 +24,8 @@ use toml::{Table, Value};
 struct Rest {
     name: Option<String>,
     note: Option<String>,
+    color: Option<Color>,
+    flag: Option<Flag>,
     parts: Parts,
 }
 
@@ -49,6 +53,7 @@ fn read_number(
 }
 
 // Reads what a cue has beside its number.
+#[tactic(auto, unfolding(crate::specs::Said::is_of_cue))]
 fn read_rest(alloc: Global, findings: &mut Findings, table: &Table) -> Result<Rest, AllocError>
     ensures { IfOk result (λ rest. if_clean findings.new (Some rest.parts) ≡ if_clean findings.old
         (only_if (is_of_cue (table_view table.now))
@@ -59,12 +64,20 @@ fn read_rest(alloc: Global, findings: &mut Findings, table: &Table) -> Result<Re
         findings,
         table,
         Section::Cue,
-        &["number", "name", "note", "parts"],
+        &["number", "name", "note", "color", "flag", "parts"],
     )?;
     let name = text_in(findings, table, "name", Key::Name)?;
     let note = text_in(findings, table, "note", Key::Note)?;
+    let color = read_color(findings, table)?;
+    let flag = read_flag(findings, table)?;
     let parts = read_parts(alloc, findings, table)?;
-    Ok(Rest { name, note, parts })
+    Ok(Rest {
+        name,
+        note,
+        color,
+        flag,
+        parts,
+    })
 }
 
 // Whether these are all parts that the table has.
@@ -90,7 +103,13 @@ fn read_cue(
 {
     let number = read_number(findings, at, table)?;
     let before = findings.len();
-    let Rest { name, note, parts } = read_rest(alloc, findings, table)?;
+    let Rest {
+        name,
+        note,
+        color,
+        flag,
+        parts,
+    } = read_rest(alloc, findings, table)?;
     let is_torn = findings.len() > before && !has_all(table, &parts);
     match number {
         Some(number) if !is_torn => {
@@ -99,6 +118,8 @@ fn read_cue(
                 number,
                 name,
                 note,
+                color,
+                flag,
                 parts,
             })?;
             Ok(())

@@ -1,4 +1,4 @@
-//! The files that the board reads beside the store: the log of the evening, and the status of a relay.
+//! What the board has beside the store: the log of the evening, the status of a relay, what is told of the show file.
 use crate::program::files::words;
 use cue_board::log_lines;
 use cue_desk_run::read_status;
@@ -27,6 +27,17 @@ fn only(alloc: Global, line: String) -> Result<Vec<String>, AllocError> {
     let mut lines = Vec::new(alloc);
     lines.push(line)?;
     Ok(lines)
+}
+
+/// What is told of the show file, as one line; no line if nothing is told.
+pub fn file_line(alloc: Global, told: Option<&str>) -> Result<Vec<String>, AllocError> {
+    match told {
+        Some(told) => {
+            let line = format!(in alloc; "FILE   {told}")?;
+            only(alloc, line)
+        }
+        None => Ok(Vec::new(alloc)),
+    }
 }
 
 // One line that says why a file is not shown.

@@ -4,9 +4,10 @@ ghost use Rattle.cuedesk.specs.Windows.{window_of};
 
 mod screen;
 
-use super::beside::{read_log, relay_line};
-use super::files::{open_store, read_file};
+use super::beside::{file_line, read_log, relay_line};
+use super::files::open_store;
 use super::port_of;
+use super::renewing::{Renewed, begin};
 use cue_board::{Names, board_lines};
 use cue_desk::ending::Ending;
 use cue_desk_line::Watched;
@@ -59,6 +60,9 @@ struct Board<'a, R> {
     desk: Desk<'a, R>,
     dir: &'a str,
     file: Option<ShowFile>,
+    renewed: Option<Renewed<'a>>,
+    // what is told of the show file
+    told: Option<String>,
     port: u16,
     log: Option<&'a str>,
     relay: Option<&'a str>,
@@ -75,13 +79,38 @@ impl<'a, R: Files<File = File> + Net + Clock + AllocGlobal> Board<'a, R> {
         }
     }
 
-    // The lines of the newest view, and after them those of the log.
+    // Looks at the show file. Where memory is short, what is told of it stays.
+    fn renew(&mut self) -> io::Result<()> {
+        let Some(renewed) = &mut self.renewed else {
+            return Ok(());
+        };
+        let is_live = !self.desk.view().live.is_empty();
+        if let Some(file) = renewed.look(self.rt, self.desk.now()?, is_live) {
+            self.file = Some(file);
+            renewed.begin_to_tell(self.desk.now()?);
+        }
+        if let Ok(told) = renewed.told(self.rt.alloc(), self.desk.now()?) {
+            self.told = told;
+        }
+        Ok(())
+    }
+
+    // The lines after those of the view: what is told of the show file, and the log.
+    fn other_lines(&self) -> Result<Vec<String>, AllocError> {
+        let mut lines = file_line(self.rt.alloc(), self.told.as_deref())?;
+        for line in self.log_lines()? {
+            lines.push(line)?;
+        }
+        Ok(lines)
+    }
+
+    // The lines of the newest view, and after them the others.
     fn lines(&self) -> Result<Vec<String>, AllocError> {
         let names = Names {
             file: self.file.as_ref(),
             port: self.port,
         };
-        let others = self.log_lines()?;
+        let others = self.other_lines()?;
         let room = self.rows.map(|rows| room_in(rows, others.len()));
         let mut lines = board_lines(self.rt.alloc(), self.desk.view(), &names, room)?;
         for line in others {
@@ -165,12 +194,13 @@ fn print_once<R: Files<File = File> + Net + Clock + Eprint + AllocGlobal, W: Wri
 
 // Hears what is there; answers whether a picture is due.
 fn round<R: Files<File = File> + Net + Clock + AllocGlobal>(
-    desk: &mut Desk<'_, R>,
+    board: &mut Board<'_, R>,
     pictures: &mut Beat,
 ) -> io::Result<bool> {
-    desk.wait(PAUSE)?;
-    desk.round()?;
-    Ok(pictures.is_due(desk.now()?))
+    board.desk.wait(PAUSE)?;
+    board.desk.round()?;
+    board.renew()?;
+    Ok(pictures.is_due(board.desk.now()?))
 }
 
 // Draws the picture that is due.
@@ -210,7 +240,7 @@ fn show_on<R: Files<File = File> + Net + Clock + Eprint + AllocGlobal, W: Write>
     let mut is_due = hear_all(&mut board.desk, FIRST).map(|()| true);
     for _ in 0..u64::MAX {
         show_round(board, &mut screen, is_due, writer)?;
-        is_due = round(&mut board.desk, &mut pictures);
+        is_due = round(board, &mut pictures);
     }
     Ok(())
 }
@@ -222,11 +252,12 @@ pub fn show_board<R: Files<File = File> + Net + Clock + Eprint + AllocGlobal, W:
     rows: Option<u16>,
     writer: &mut W,
 ) -> Result<(), Ending> {
-    let file = match &watched.file {
-        Some(path) => Some(read_file(rt, path.as_str())?),
-        None => None,
+    let (file, renewed) = match begin(rt, watched.file.as_deref(), watched.port)? {
+        Some((file, renewed)) => (Some(file), Some(renewed)),
+        None => (None, None),
     };
     let sources = Sources {
+        name: None,
         dir: watched.dir.as_str(),
         port: port_of(watched.port, file.as_ref()),
         relay: watched.relay.as_deref(),
@@ -240,6 +271,8 @@ pub fn show_board<R: Files<File = File> + Net + Clock + Eprint + AllocGlobal, W:
         desk,
         dir: sources.dir,
         file,
+        renewed,
+        told: None,
         port: sources.port,
         log: watched.log.as_deref(),
         relay: sources.relay,

@@ -5,6 +5,7 @@ use cue_desk::orders::Order;
 use cue_desk::replying::{Replied, Status};
 use cue_desk_run::ask_once;
 use cue_exchange::Outcome;
+use cue_report::AskerName;
 use cue_saying::{print, say};
 use cue_station::heard::Heard;
 use cue_words::{code_words, outcome_words};
@@ -100,15 +101,17 @@ fn tell<R: Eprint + AllocGlobal, W: Write>(
     }
 }
 
-/// Asks one thing of the controller, once, and says in words what it replied, within a second.
+/// Asks one thing of the controller, once, and says in words what it replied, within a second. Who asks is said first,
+/// if there is a name.
 pub fn carry_order<R: Net + Clock + Eprint + AllocGlobal, W: Write>(
     rt: &R,
     order: Order,
     port: u16,
+    name: Option<AskerName>,
     writer: &mut W,
 ) -> Result<(), Ending> {
     let words = open_words(&order);
-    let heard = match ask_once(rt, order, port) {
+    let heard = match ask_once(rt, order, port, name) {
         Ok(heard) => heard,
         Err(why) => {
             say(rt, format_args!("no socket: {why}"));

@@ -1,13 +1,13 @@
 //! The command `web`: the board with buttons, served to a browser on this machine.
-use super::files::read_file;
+use super::locking::lock_word;
 use super::port_of;
-use cue_board::Names;
+use super::renewing::{Renewed, begin};
 use cue_desk::ending::Ending;
-use cue_desk_line::Web;
+use cue_desk_line::{PageUse, Web};
 use cue_desk_run::{Desk, Sources};
-use cue_request::request::Door;
+use cue_request::door::{Door, Purpose};
 use cue_saying::{failed, print, say, say_fault};
-use cue_web::{Hall, Pages};
+use cue_web::{Beside, Hall, Pages};
 use hex::encode;
 use std::alloc::Global;
 use std::fs::{File, Files};
@@ -22,6 +22,16 @@ const PAUSE: u64 = 20;
 /// How many bytes are drawn for the token.
 const TOKEN_BYTES: usize = 16;
 
+/// What serves a page.
+#[derive(Drop)]
+struct Server<'a, R> {
+    rt: &'a R,
+    hall: Hall,
+    desk: Desk<'a, R>,
+    pages: Pages<'a>,
+    renewed: Option<Renewed<'a>>,
+}
+
 // The token of this run, or its name.
 fn draw_token<R: RandomSource + Eprint + AllocGlobal>(rt: &R) -> Result<String, Ending> {
     let mut bytes = [0; TOKEN_BYTES];
@@ -32,34 +42,44 @@ fn draw_token<R: RandomSource + Eprint + AllocGlobal>(rt: &R) -> Result<String, 
     Ok(encode(rt.alloc(), &bytes)?)
 }
 
-// One round: who presses is heard first.
-fn round<R: Files<File = File> + Net + Clock + AllocGlobal>(
-    alloc: Global,
-    hall: &mut Hall,
-    desk: &mut Desk<'_, R>,
-    pages: &mut Pages<'_>,
-) -> io::Result<()> {
-    let now = desk.now()?;
-    let is_waited_for = hall.admit(alloc, desk.registry(), now);
-    hall.serve(alloc, desk, pages, now);
-    desk.round()?;
-    desk.wait(if is_waited_for { 0 } else { PAUSE })
-}
-
-// Serves until a signal ends it.
-fn serve_on<R: Files<File = File> + Net + Clock + Eprint + AllocGlobal>(
-    rt: &R,
-    hall: &mut Hall,
-    desk: &mut Desk<'_, R>,
-    pages: &mut Pages<'_>,
-) -> Result<(), Ending> {
-    for _ in 0..u64::MAX {
-        if let Err(why) = round(rt.alloc(), hall, desk, pages) {
-            return Err(failed(rt, &why));
+impl<R: Files<File = File> + Net + Clock + Eprint + AllocGlobal> Server<'_, R> {
+    // Looks at the show file. Where memory is short, what is told of it stays.
+    fn renew(&mut self) -> io::Result<()> {
+        let Some(renewed) = &mut self.renewed else {
+            return Ok(());
+        };
+        let is_live = !self.desk.view().live.is_empty();
+        if let Some(file) = renewed.look(self.rt, self.desk.now()?, is_live) {
+            self.pages.put_file(file);
+            renewed.begin_to_tell(self.desk.now()?);
         }
-        say_fault(rt, desk.take_fault());
+        if let Ok(told) = renewed.told(self.rt.alloc(), self.desk.now()?) {
+            self.pages.tell(told);
+        }
+        Ok(())
     }
-    Ok(())
+
+    // One round: who presses is heard first.
+    fn round(&mut self) -> io::Result<()> {
+        let alloc = self.rt.alloc();
+        let now = self.desk.now()?;
+        let is_waited_for = self.hall.admit(alloc, self.desk.registry(), now);
+        self.hall.serve(alloc, &mut self.desk, &mut self.pages, now);
+        self.desk.round()?;
+        self.renew()?;
+        self.desk.wait(if is_waited_for { 0 } else { PAUSE })
+    }
+
+    // Serves until a signal ends it.
+    fn serve(&mut self) -> Result<(), Ending> {
+        for _ in 0..u64::MAX {
+            if let Err(why) = self.round() {
+                return Err(failed(self.rt, &why));
+            }
+            say_fault(self.rt, self.desk.take_fault());
+        }
+        Ok(())
+    }
 }
 
 // Listens at this port; else why it cannot is said.
@@ -83,36 +103,64 @@ fn say_where<W: Write>(alloc: Global, port: u16, writer: &mut W) -> Result<(), E
     print(writer, text.as_str())
 }
 
+// What the page is for; the word of its lock, where it has one, is this.
+fn purpose_of<'a>(page_use: &'a PageUse, word: Option<&'a str>) -> Purpose<'a> {
+    match page_use {
+        PageUse::Plays(_) => Purpose::Plays(word.map(|word| word.as_bytes())),
+        PageUse::Shows(name) => Purpose::Shows(name.as_deref().map(|name| name.as_bytes())),
+    }
+}
+
+// The desk of these sources; else why there is none is said.
+fn open_desk<'a, R: Files<File = File> + Net + Clock + Eprint + AllocGlobal>(
+    rt: &'a R,
+    sources: &Sources<'a>,
+) -> Result<Desk<'a, R>, Ending> {
+    match Desk::new(rt, sources) {
+        Ok(desk) => Ok(desk),
+        Err(why) => Err(failed(rt, &why)),
+    }
+}
+
 /// The command `web`: until a signal ends it. It listens at 127.0.0.1 alone, and sends one message for each press of a
-/// button; by itself it asks for the status alone.
+/// button; by itself it asks for the status alone. A page that only shows sends nothing else.
 pub fn serve_page<
+    'a,
     R: Files<File = File> + Net + Clock + RandomSource + Eprint + AllocGlobal,
     W: Write,
->(rt: &R, web: &Web, writer: &mut W) -> Result<(), Ending> {
+>(rt: &'a R, web: &'a Web, writer: &mut W) -> Result<(), Ending> {
     let (token, run) = (draw_token(rt)?, draw_token(rt)?);
-    let file = match &web.file {
-        Some(path) => Some(read_file(rt, path.as_str())?),
-        None => None,
+    let word = lock_word(rt, &web.page_use)?;
+    let (file, renewed) = match begin(rt, web.file.as_deref(), web.port)? {
+        Some((file, renewed)) => (Some(file), Some(renewed)),
+        None => (None, None),
     };
     let sources = Sources {
         dir: web.dir.as_str(),
         port: port_of(web.port, file.as_ref()),
         relay: web.relay.as_deref(),
+        name: web.name,
     };
     let door = Door {
         port: web.http,
         token: token.as_bytes(),
+        purpose: purpose_of(&web.page_use, word.as_deref()),
     };
-    let mut desk = match Desk::new(rt, &sources) {
-        Ok(desk) => desk,
-        Err(why) => return Err(failed(rt, &why)),
-    };
-    let names = Names {
-        file: file.as_ref(),
+    let desk = open_desk(rt, &sources)?;
+    let beside = Beside {
+        file,
         port: sources.port,
+        run,
     };
-    let mut pages = Pages::new(rt.alloc(), door, token.as_str(), run, names)?;
-    let mut hall = open_hall(rt, &desk, web.http)?;
+    let pages = Pages::new(rt.alloc(), door, token.as_str(), beside)?;
+    let hall = open_hall(rt, &desk, web.http)?;
     say_where(rt.alloc(), web.http, writer)?;
-    serve_on(rt, &mut hall, &mut desk, &mut pages)
+    let mut server = Server {
+        rt,
+        hall,
+        desk,
+        pages,
+        renewed,
+    };
+    server.serve()
 }

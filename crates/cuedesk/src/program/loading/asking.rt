@@ -7,6 +7,7 @@ use cue_desk::asking::{Asked, bundle_of_cues, bundle_of_devices};
 use cue_desk::ending::Ending;
 use cue_desk::hearing::reply_in;
 use cue_desk::replying::{Replied, Status};
+use cue_loading::live_words;
 use cue_saying::say;
 use cue_show::CueNo;
 use cue_show_file::{CueEntry, DeviceEntry, Subject};
@@ -161,12 +162,11 @@ impl<'a, R: Net + Eprint + AllocGlobal> Asker<'a, R> {
         }
     }
 
-    /// Says that nothing can be replaced now.
-    pub fn say_live(&self) {
-        say(
-            self.rt,
-            "a cue is live: nothing is replaced. Wait until it has ended, or load without --replace and --exact",
-        );
+    /// Says that nothing can be replaced while these cues are live.
+    pub fn say_live(&self, cues: &[CueNo]) -> Result<(), Ending> {
+        let words = live_words(self.rt.alloc(), cues)?;
+        say(self.rt, words.as_str());
+        Ok(())
     }
 
     /// Says that something was refused.

@@ -8,6 +8,7 @@ use cue_loading::{Difference, differences};
 use cue_saying::say;
 use cue_show::{CueNo, Show};
 use cue_show_file::cue_text;
+use std::alloc::{AllocError, Global};
 use std::fs::{File, Files};
 use std::io::Eprint;
 use std::net::Net;
@@ -68,6 +69,15 @@ fn agrees(status: Status, state: &State) -> bool {
         && is_number(status.outcome, u32::from(outcome))
 }
 
+// The cues that are live in this state.
+fn cues_of(alloc: Global, state: &State) -> Result<Vec<CueNo>, AllocError> {
+    let mut cues = Vec::new(alloc);
+    for attempt in state.live().as_slice() {
+        cues.push(attempt.cue)?;
+    }
+    Ok(cues)
+}
+
 impl<'a, R: Files<File = File> + Net + Eprint + AllocGlobal> Asker<'a, R> {
     // The show of the store in this folder, where its state is the one of which the controller says this.
     fn look(&mut self, dir: &str, status: Status) -> Result<Option<Show>, Ending> {
@@ -83,13 +93,28 @@ impl<'a, R: Files<File = File> + Net + Eprint + AllocGlobal> Asker<'a, R> {
         }
     }
 
+    // The cues that are live in the store of this folder; none where that is not what the controller says.
+    fn live_cues(&mut self, dir: &str, status: Status) -> Result<Vec<CueNo>, Ending> {
+        match open_store(self.rt(), dir) {
+            Ok(keeper) if agrees(status, keeper.state()) => {
+                Ok(cues_of(self.alloc(), keeper.state())?)
+            }
+            Ok(_) => Ok(Vec::new(self.alloc())),
+            Err(why) => {
+                say(self.rt(), why.as_str());
+                Err(Ending::Failed)
+            }
+        }
+    }
+
     // The show of the store in this folder. It may change while it is read: then the controller says something else,
     // and both are asked again.
     fn look_again(&mut self, dir: &str, at_rest: bool) -> Result<Show, Ending> {
         for _ in 0..MAX_LOOKS {
             let status = self.status()?;
             if at_rest && status.live != 0 {
-                self.say_live();
+                let cues = self.live_cues(dir, status)?;
+                self.say_live(&cues)?;
                 return Err(Ending::Refused);
             }
             if let Some(show) = self.look(dir, status)? {

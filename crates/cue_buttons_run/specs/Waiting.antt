@@ -1,0 +1,10 @@
+-- What it means that a device gave no bytes.
+use Rattle.std.specs.Prelude.{Bool, true, false}
+use Rattle.std.specs.declared.io.ErrorKind.{ErrorKind}
+use Rattle.std.specs.declared.io.ErrorKind.TheVariants as kind
+
+-- a call that failed so only found nothing at this moment
+abbrev pub found_nothing : ErrorKind → Bool
+found_nothing kind.WouldBlock = true
+found_nothing kind.Interrupted = true
+found_nothing _ = false

@@ -1,0 +1,235 @@
+//! One press by a word, at a desk without a browser: what is wished is pressed once it is lit.
+use crate::pressing::{Outcome, press_at};
+use cue_board::{became_words, unsent_words};
+use cue_desk::ending::Ending;
+use cue_desk_run::Desk;
+use cue_press_words::{button_words, ending_by, trouble_words, why_words, wish_words};
+use cue_presses::{Press, Why, Wish, is_hopeless, is_lit, meaning};
+use cue_saying::{failed, print, say};
+use cue_view::view::{Became, Unsent};
+use std::alloc::AllocError;
+use std::fs::{File, Files};
+use std::io::{Eprint, Write};
+use std::net::Net;
+use std::time::Clock;
+
+/// How long a round waits at most, in milliseconds.
+const PAUSE: u64 = 20;
+
+/// How long a desk has to light a button, and how long its press to be settled, in milliseconds.
+const PATIENCE: u64 = 3_000;
+
+/// What stands in the way of a press.
+#[derive(Clone, Copy)]
+enum Hindrance {
+    /// The desk does not know enough yet, or something is wrong.
+    Dark,
+    /// The view says why.
+    Why(Why),
+    /// The press was not sent.
+    Unsent(Unsent),
+}
+
+/// How far a press has come after a round.
+#[derive(Clone, Copy)]
+enum Progress {
+    /// It is tried again.
+    Hindered(Hindrance),
+    /// It is tried no more.
+    Refused(Why),
+    /// It is sent, with this ask.
+    Sent(u64),
+}
+
+/// A desk that presses once.
+#[derive(Drop)]
+pub struct Hand<'a, R> {
+    rt: &'a R,
+    desk: Desk<'a, R>,
+    wish: Wish,
+    // How long it is waited for until it can be pressed, in milliseconds, if it is.
+    wait: Option<u64>,
+    // The port of the controller.
+    port: u16,
+}
+
+impl<'a, R: Files<File = File> + Net + Clock + Eprint + AllocGlobal> Hand<'a, R> {
+    /// A hand at this desk, over the controller at this port: it waits so many milliseconds until what it wishes can be
+    /// pressed, or not at all.
+    pub fn new(
+        rt: &'a R,
+        desk: Desk<'a, R>,
+        wish: Wish,
+        wait: Option<u64>,
+        port: u16,
+    ) -> Hand<'a, R> {
+        Hand {
+            rt,
+            desk,
+            wish,
+            wait,
+            port,
+        }
+    }
+
+    // Whether what the view says is all that can be known.
+    fn is_settled(&self) -> Result<bool, AllocError> {
+        let trouble = trouble_words(self.rt.alloc(), self.desk.view(), self.port)?;
+        Ok(trouble.is_none() && self.desk.is_complete() && !self.desk.differs())
+    }
+
+    // Presses what is lit.
+    fn press(&mut self, press: &Press) -> Progress {
+        if !is_lit(self.desk.view(), press) {
+            return Progress::Hindered(Hindrance::Dark);
+        }
+        match press_at(&mut self.desk, press) {
+            Outcome::Sent(ask) => Progress::Sent(ask),
+            Outcome::Unsent(unsent) => Progress::Hindered(Hindrance::Unsent(unsent)),
+            Outcome::Unheard => Progress::Hindered(Hindrance::Dark),
+        }
+    }
+
+    // What the view says to a wish that presses nothing.
+    fn hindered(&self, why: Why) -> Result<Progress, AllocError> {
+        if !self.is_settled()? {
+            return Ok(Progress::Hindered(Hindrance::Dark));
+        }
+        let is_waited_for = self.wait.is_some();
+        if is_waited_for && !is_hopeless(self.desk.view(), &self.wish, &why) {
+            return Ok(Progress::Hindered(Hindrance::Why(why)));
+        }
+        Ok(Progress::Refused(why))
+    }
+
+    // Tries once.
+    fn attempt(&mut self) -> Result<Progress, AllocError> {
+        match meaning(self.desk.view(), self.desk.awaits(), &self.wish) {
+            Ok(press) => Ok(self.press(&press)),
+            Err(why) => self.hindered(why),
+        }
+    }
+
+    // Hears what is there. Answers the moment.
+    fn round(&mut self) -> Result<u64, Ending> {
+        if let Err(why) = self.desk.round() {
+            return Err(failed(self.rt, &why));
+        }
+        match self.desk.now() {
+            Ok(now) => Ok(now),
+            Err(why) => Err(failed(self.rt, &why)),
+        }
+    }
+
+    // Waits until something comes.
+    fn rest(&mut self) -> Result<(), Ending> {
+        match self.desk.wait(PAUSE) {
+            Ok(()) => Ok(()),
+            Err(why) => Err(failed(self.rt, &why)),
+        }
+    }
+
+    // Says why nothing was pressed.
+    fn refuse(&self, why: Why) -> Result<Ending, AllocError> {
+        let alloc = self.rt.alloc();
+        let wish = wish_words(alloc, &self.wish)?;
+        let words = why_words(alloc, self.desk.view(), &self.wish, why)?;
+        let (wish, words) = (wish.as_str(), words.as_str());
+        say(self.rt, format_args!("{wish}: {words}: nothing was sent"));
+        Ok(Ending::Refused)
+    }
+
+    // Says what is wrong: so no button was lit.
+    fn say_dark(&self) -> Result<Ending, AllocError> {
+        let alloc = self.rt.alloc();
+        let wish = wish_words(alloc, &self.wish)?;
+        let trouble = trouble_words(alloc, self.desk.view(), self.port)?;
+        let words = match &trouble {
+            Some(words) => words.as_str(),
+            None =>
+                "serve says otherwise than the store: a change is under way, or it has other files",
+        };
+        let wish = wish.as_str();
+        say(self.rt, format_args!("{wish}: {words}: nothing was sent"));
+        Ok(Ending::Silent)
+    }
+
+    // Says what stood in the way when its time was over.
+    fn give_up(&self, hindrance: Hindrance) -> Result<Ending, AllocError> {
+        match hindrance {
+            Hindrance::Dark => self.say_dark(),
+            Hindrance::Why(why) => self.refuse(why),
+            Hindrance::Unsent(unsent) => {
+                say(self.rt, unsent_words(unsent));
+                Ok(Ending::Refused)
+            }
+        }
+    }
+
+    // Tries until it is sent, and at most so many milliseconds.
+    fn send(&mut self, most: u64) -> Result<u64, Ending> {
+        for _ in 0..u64::MAX {
+            let now = self.round()?;
+            match self.attempt()? {
+                Progress::Sent(ask) => return Ok(ask),
+                Progress::Refused(why) => return Err(self.refuse(why)?),
+                Progress::Hindered(hindrance) if now > most => {
+                    return Err(self.give_up(hindrance)?);
+                }
+                Progress::Hindered(_) => {}
+            }
+            self.rest()?;
+        }
+        Err(Ending::Silent)
+    }
+
+    // What became of the press with this ask.
+    fn became(&self, ask: u64) -> Became {
+        match self.desk.view().said {
+            Some(said) if said.ask == ask => said.became,
+            _ => Became::Open,
+        }
+    }
+
+    // Waits until the press is settled, and at most three seconds.
+    fn settle(&mut self, ask: u64) -> Result<Became, Ending> {
+        let begun = self.round()?;
+        for _ in 0..u64::MAX {
+            let became = self.became(ask);
+            let now = self.round()?;
+            if became != Became::Open || now > begun.saturating_add(PATIENCE) {
+                return Ok(became);
+            }
+            self.rest()?;
+        }
+        Ok(Became::Open)
+    }
+
+    // Says what became of it.
+    fn tell<W: Write>(&self, became: Became, writer: &mut W) -> Result<(), Ending> {
+        let alloc = self.rt.alloc();
+        let button = match self.desk.view().said {
+            Some(said) => button_words(alloc, said.button)?,
+            None => wish_words(alloc, &self.wish)?,
+        };
+        let words = became_words(alloc, became, self.port)?;
+        let (button, words) = (button.as_str(), words.as_str());
+        match ending_by(became) {
+            None => {
+                let text = format!(in alloc; "{button}: {words}\n")?;
+                print(writer, text.as_str())
+            }
+            Some(ending) => {
+                say(self.rt, format_args!("{button}: {words}"));
+                Err(ending)
+            }
+        }
+    }
+
+    /// Presses what is wished, and says what became of it. Nothing is sent unless the button is lit.
+    pub fn press_once<W: Write>(&mut self, writer: &mut W) -> Result<(), Ending> {
+        let ask = self.send(self.wait.unwrap_or(PATIENCE))?;
+        let became = self.settle(ask)?;
+        self.tell(became, writer)
+    }
+}

@@ -1,0 +1,232 @@
+//! The device that is heard, and the rounds of a real desk.
+use crate::device::{Came, Device};
+use crate::panel::Panel;
+use cue_desk::ending::Ending;
+use cue_desk_run::Beat;
+use cue_saying::{failed, print, say_fault};
+use std::alloc::{AllocError, Global};
+use std::fs::{File, Files};
+use std::io::{self, Eprint, Write};
+use std::net::Net;
+use std::time::Clock;
+
+/// How long a round waits at most, in milliseconds.
+const PAUSE: u64 = 20;
+
+/// How many bytes are read at once, and how many times in a round.
+const PIECE: usize = 1_024;
+
+const PIECES: usize = 2;
+
+/// How many milliseconds lie between two openings, and between two looks at the path.
+const AGAIN: u64 = 1_000;
+
+/// The device that is heard.
+#[derive(Drop)]
+struct Ear<'a> {
+    path: &'a str,
+    device: Option<Device>,
+    tries: Beat,
+    looks: Beat,
+    // Whether it was said that it is opened, and that it cannot be.
+    is_said: bool,
+    is_told: bool,
+}
+
+/// Why a device is heard no more.
+#[derive(Drop)]
+enum Silence {
+    /// The file is at its end.
+    Ended,
+    /// It was taken out, or the path names something else.
+    Gone(Option<io::Error>),
+}
+
+impl<'a> Ear<'a> {
+    // Opens the device, if it is due.
+    fn open<R: Files<File = File> + Net + Clock + AllocGlobal>(
+        &mut self,
+        rt: &R,
+        panel: &mut Panel<'_, R>,
+        now: u64,
+    ) -> Result<(), AllocError> {
+        let path = self.path;
+        match Device::open(rt, panel.registry(), path) {
+            Ok(device) => {
+                self.device = Some(device);
+                panel.opened(now);
+                panel.line(format_args!("hearing {path}"))?;
+            }
+            Err(why) => {
+                if !self.is_told {
+                    panel.line(format_args!("{path}: {why}: it is tried again each second"))?;
+                }
+                self.is_told = true;
+            }
+        }
+        Ok(())
+    }
+
+    // Reads a piece of what is there, and lets the panel hear it. Answers whether there may be more.
+    fn hear_piece<R: Files<File = File> + Net + Clock + AllocGlobal>(
+        &mut self,
+        panel: &mut Panel<'_, R>,
+    ) -> Result<Result<bool, Silence>, AllocError> {
+        let Some(device) = &mut self.device else {
+            return Ok(Ok(false));
+        };
+        let mut piece = [0; PIECE];
+        match device.read(&mut piece) {
+            Came::Bytes(n) => {
+                panel.hear(piece.get(..n).unwrap_or(&[]))?;
+                Ok(Ok(true))
+            }
+            Came::Nothing => Ok(Ok(false)),
+            Came::Ended => Ok(Err(Silence::Ended)),
+            Came::Gone(why) => Ok(Err(Silence::Gone(Some(why)))),
+        }
+    }
+
+    // Hears what is there, up to so much.
+    fn hear<R: Files<File = File> + Net + Clock + AllocGlobal>(
+        &mut self,
+        panel: &mut Panel<'_, R>,
+    ) -> Result<Option<Silence>, AllocError> {
+        for _ in 0..PIECES {
+            match self.hear_piece(panel)? {
+                Ok(true) => {}
+                Ok(false) => return Ok(None),
+                Err(silence) => return Ok(Some(silence)),
+            }
+        }
+        Ok(None)
+    }
+
+    // Whether the path names something else by now.
+    fn is_elsewhere<R: Files<File = File>>(&mut self, rt: &R, now: u64) -> bool {
+        match &self.device {
+            Some(device) => self.looks.is_due(now) && !device.is_at(rt, self.path),
+            None => false,
+        }
+    }
+
+    // Says that the device is heard no more. Answers whether that is the end.
+    fn close<R: Files<File = File> + Net + Clock + AllocGlobal>(
+        &mut self,
+        panel: &mut Panel<'_, R>,
+        silence: &Silence,
+    ) -> Result<bool, AllocError> {
+        let path = self.path;
+        self.device = None;
+        self.is_told = false;
+        self.is_said = false;
+        match silence {
+            Silence::Ended => panel.line(format_args!("{path} has ended"))?,
+            Silence::Gone(Some(why)) => {
+                panel.line(format_args!("{path}: {why}: it is opened again each second"))?;
+            }
+            Silence::Gone(None) => {
+                panel.line(format_args!("{path} is gone: it is opened again each second"))?;
+            }
+        }
+        panel.say_tally()?;
+        Ok(matches!(silence, Silence::Ended))
+    }
+}
+
+// Says that the device is opened: if it is held by another program, nothing follows.
+fn say_opening<W: Write>(alloc: Global, ear: &mut Ear<'_>, writer: &mut W) -> Result<(), Ending> {
+    if ear.is_said {
+        return Ok(());
+    }
+    ear.is_said = true;
+    let path = ear.path;
+    let text = format!(in alloc; "opening {path}\n")?;
+    print(writer, text.as_str())
+}
+
+// Opens the device where it is not open, and hears what is there. Answers whether it has ended.
+fn listen<R: Files<File = File> + Net + Clock + AllocGlobal, W: Write>(
+    rt: &R,
+    ear: &mut Ear<'_>,
+    panel: &mut Panel<'_, R>,
+    now: u64,
+    writer: &mut W,
+) -> Result<bool, Ending> {
+    if ear.device.is_none() && ear.tries.is_due(now) {
+        say_opening(rt.alloc(), ear, writer)?;
+        ear.open(rt, panel, now)?;
+    }
+    panel.begin(now);
+    let heard = ear.hear(panel)?;
+    let silence = if heard.is_none() && ear.is_elsewhere(rt, now) {
+        Some(Silence::Gone(None))
+    } else {
+        heard
+    };
+    match &silence {
+        Some(silence) => Ok(ear.close(panel, silence)?),
+        None => Ok(false),
+    }
+}
+
+// One round: who presses is heard first. Answers whether the device has ended.
+fn round<R: Files<File = File> + Net + Clock + Eprint + AllocGlobal, W: Write>(
+    rt: &R,
+    ear: &mut Ear<'_>,
+    panel: &mut Panel<'_, R>,
+    writer: &mut W,
+) -> Result<bool, Ending> {
+    let now = match panel.now() {
+        Ok(now) => now,
+        Err(why) => return Err(failed(rt, &why)),
+    };
+    let has_ended = listen(rt, ear, panel, now, writer)?;
+    if let Err(why) = panel.round() {
+        return Err(failed(rt, &why));
+    }
+    let text = panel.take_text()?;
+    if !text.is_empty() {
+        print(writer, text.as_str())?;
+    }
+    say_fault(rt, panel.take_fault());
+    Ok(has_ended)
+}
+
+// Hears until the device ends, or a signal ends it.
+fn hear_on<R: Files<File = File> + Net + Clock + Eprint + AllocGlobal, W: Write>(
+    rt: &R,
+    ear: &mut Ear<'_>,
+    panel: &mut Panel<'_, R>,
+    writer: &mut W,
+) -> Result<(), Ending> {
+    for _ in 0..u64::MAX {
+        if round(rt, ear, panel, writer)? {
+            return Ok(());
+        }
+        if let Err(why) = panel.wait(PAUSE) {
+            return Err(failed(rt, &why));
+        }
+    }
+    Ok(())
+}
+
+/// Hears a panel's device at this path until the device ends, or a signal ends it. It sends one message for each press
+/// that a view has lit, and by itself asks for the status alone.
+pub fn hear_all<R: Files<File = File> + Net + Clock + Eprint + AllocGlobal, W: Write>(
+    rt: &R,
+    path: &str,
+    panel: &mut Panel<'_, R>,
+    writer: &mut W,
+) -> Result<(), Ending> {
+    panel.say_keys()?;
+    let mut ear = Ear {
+        path,
+        device: None,
+        tries: Beat::of(AGAIN),
+        looks: Beat::of(AGAIN),
+        is_said: false,
+        is_told: false,
+    };
+    hear_on(rt, &mut ear, panel, writer)
+}

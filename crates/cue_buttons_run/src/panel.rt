@@ -1,0 +1,394 @@
+//! What is heard of a real desk, what it presses, and what becomes of that, as lines of text.
+use crate::pressing::{Outcome, press_at};
+use cue_board::{became_words, unsent_words};
+use cue_desk_run::{Beat, Desk};
+use cue_midi::{Heard, Parser, Show};
+use cue_press_words::{
+    button_words, key_words, spoken_words, trouble_words, why_words, wish_words,
+};
+use cue_presses::{
+    Address, Held, Keys, Passed, Press, Settling, Spoken, Tally, Why, Wish, held_after, is_of_keys,
+    is_second_tap, meaning, spoken_to, wish_of,
+};
+use cue_view::button::Button;
+use cue_view::view::{Became, Unsent};
+use mio::Registry;
+use std::alloc::AllocError;
+use std::fmt::{Display, Write as _};
+use std::fs::{File, Files};
+use std::net::Net;
+use std::time::Clock;
+use std::{io, mem};
+
+/// How many presses are heard in a round: nobody has more fingers.
+const MAX_PRESSES: u32 = 8;
+
+/// How long a press may be open before that is said, in milliseconds.
+const OPEN: u64 = 500;
+
+/// How many milliseconds lie between two lines about presses that were too many.
+const FLOOD: u64 = 1_000;
+
+/// A press whose end is not told yet.
+#[derive(Drop)]
+struct Pending {
+    ask: u64,
+    since: u64,
+    // What pressed what, in words.
+    what: String,
+    // Whether it was said that it is open.
+    is_told: bool,
+}
+
+/// What a panel is told before it hears anything.
+#[derive(Clone, Copy)]
+pub struct Setting {
+    pub keys: Keys,
+    /// Who it is to show control.
+    pub address: Address,
+    /// The port of the controller.
+    pub port: u16,
+}
+
+/// A desk with keys.
+#[derive(Drop)]
+pub struct Panel<'a, R> {
+    rt: &'a R,
+    desk: Desk<'a, R>,
+    setting: Setting,
+    parser: Parser,
+    held: Held,
+    settling: Settling,
+    tally: Tally,
+    // This moment.
+    now: u64,
+    // How many presses were heard in this round.
+    count: u32,
+    // How many waited in the device, and how many were too many at once.
+    waited: u64,
+    flooded: u64,
+    floods: Beat,
+    last_go: Option<u64>,
+    pending: Option<Pending>,
+    text: String,
+}
+
+/// No key is held.
+const NOTHING: Held = Held {
+    standby: false,
+    go: false,
+    cancel: false,
+};
+
+// The words of what is no key.
+fn passed_of(heard: &Heard) -> Option<Passed> {
+    match heard {
+        Heard::NoteOn { note, .. } => Some(Passed::Note(*note)),
+        Heard::Controller { number, .. } => Some(Passed::Controller(*number)),
+        Heard::Ignored(kind) => Some(Passed::Other(*kind)),
+        Heard::Show(_) => None,
+    }
+}
+
+impl<'a, R: Files<File = File> + Net + Clock + AllocGlobal> Panel<'a, R> {
+    /// A panel over this desk, which has heard nothing.
+    pub fn new(rt: &'a R, desk: Desk<'a, R>, setting: Setting) -> Panel<'a, R> {
+        let alloc = rt.alloc();
+        Panel {
+            rt,
+            desk,
+            setting,
+            parser: Parser::new(),
+            held: NOTHING,
+            settling: Settling::new(0),
+            tally: Tally::new(alloc),
+            now: 0,
+            count: 0,
+            waited: 0,
+            flooded: 0,
+            floods: Beat::of(FLOOD),
+            last_go: None,
+            pending: None,
+            text: String::new(alloc),
+        }
+    }
+
+    /// What is waited at.
+    pub fn registry(&self) -> &Registry {
+        self.desk.registry()
+    }
+
+    /// Milliseconds since the desk began.
+    pub fn now(&self) -> io::Result<u64> {
+        self.desk.now()
+    }
+
+    /// Waits until something comes, and at most so many milliseconds.
+    pub fn wait(&mut self, most: u64) -> io::Result<()> {
+        self.desk.wait(most)
+    }
+
+    /// Why a message could not be sent, once.
+    pub fn take_fault(&mut self) -> Option<io::Error> {
+        self.desk.take_fault()
+    }
+
+    /// Puts a line after the others.
+    pub fn line<D: Display + Drop>(&mut self, what: D) -> Result<(), AllocError> {
+        write!(self.text, "{what}\n")
+    }
+
+    /// Takes the lines.
+    pub fn take_text(&mut self) -> Result<String, AllocError> {
+        let empty = String::new(self.rt.alloc());
+        Ok(mem::replace(&mut self.text, empty))
+    }
+
+    /// Says which key is which.
+    pub fn say_keys(&mut self) -> Result<(), AllocError> {
+        let (alloc, keys) = (self.rt.alloc(), &self.setting.keys);
+        let standby = key_words(alloc, keys.standby)?;
+        let go = key_words(alloc, keys.go)?;
+        let cancel = key_words(alloc, keys.cancel)?;
+        let (standby, go, cancel) = (standby.as_str(), go.as_str(), cancel.as_str());
+        self.line(format_args!(
+            "{standby} is STANDBY, {go} is GO, {cancel} is CANCEL; Ctrl-C ends it"
+        ))
+    }
+
+    /// Says what was heard and is no key.
+    pub fn say_tally(&mut self) -> Result<(), AllocError> {
+        let text = self.tally.text(self.rt.alloc())?;
+        if text.is_empty() {
+            return Ok(());
+        }
+        let text = text.as_str();
+        self.line(format_args!("heard and not taken: {text}"))
+    }
+
+    /// A device is opened at this moment.
+    pub fn opened(&mut self, now: u64) {
+        self.parser = Parser::new();
+        self.held = NOTHING;
+        self.settling = Settling::new(now);
+    }
+
+    /// A round begins at this moment.
+    pub fn begin(&mut self, now: u64) {
+        self.now = now;
+        self.count = 0;
+        self.settling = self.settling.read(now);
+    }
+
+    /// Hears bytes.
+    pub fn hear(&mut self, bytes: &[u8]) -> Result<(), AllocError> {
+        for byte in bytes {
+            if let Some(heard) = self.parser.hear(*byte) {
+                self.take(&heard)?;
+            }
+        }
+        Ok(())
+    }
+
+    // Takes what is heard.
+    fn take(&mut self, heard: &Heard) -> Result<(), AllocError> {
+        if let Heard::Show(show) = heard {
+            return self.take_show(show);
+        }
+        let wish = wish_of(&self.setting.keys, &self.held, heard);
+        self.held = held_after(&self.setting.keys, &self.held, heard);
+        match (wish, passed_of(heard)) {
+            (Some(wish), Some(passed)) => {
+                let source = passed.words(self.rt.alloc())?;
+                self.wish(source.as_str(), &wish)
+            }
+            (None, Some(passed)) if !is_of_keys(&self.setting.keys, heard) => self.pass(passed),
+            _ => Ok(()),
+        }
+    }
+
+    // Counts what is no key.
+    fn pass(&mut self, passed: Passed) -> Result<(), AllocError> {
+        if self.tally.count(passed)? {
+            let words = passed.words(self.rt.alloc())?;
+            let words = words.as_str();
+            self.line(format_args!("{words}: not taken, and only counted from now on"))?;
+        }
+        Ok(())
+    }
+
+    // Takes a command of show control.
+    fn take_show(&mut self, show: &Show) -> Result<(), AllocError> {
+        match spoken_to(&self.setting.address, show) {
+            Spoken::Wish(wish) => self.wish("show control", &wish),
+            Spoken::Elsewhere => self.pass(Passed::Elsewhere),
+            other => {
+                if !self.has_room() {
+                    return Ok(());
+                }
+                let words = spoken_words(self.rt.alloc(), &other)?;
+                let words = words.as_str();
+                self.line(format_args!("show control: {words}"))
+            }
+        }
+    }
+
+    // Whether one press more is heard in this round.
+    fn has_room(&mut self) -> bool {
+        if self.count >= MAX_PRESSES {
+            self.flooded = self.flooded.saturating_add(1);
+            return false;
+        }
+        self.count += 1;
+        true
+    }
+
+    // Somebody wishes something, by this key.
+    fn wish(&mut self, source: &str, wish: &Wish) -> Result<(), AllocError> {
+        if !self.settling.is_over() {
+            self.waited = self.waited.saturating_add(1);
+            return Ok(());
+        }
+        if !self.has_room() {
+            return Ok(());
+        }
+        if is_second_tap(wish, self.last_go, self.now) {
+            return self.line(format_args!(
+                "{source}: GO: a second tap within a second: nothing is sent"
+            ));
+        }
+        self.press_meant(source, wish)
+    }
+
+    // What a wish presses at this moment, or why it presses nothing.
+    fn meant(&self, wish: &Wish) -> Result<Press, Why> {
+        meaning(self.desk.view(), self.desk.awaits(), wish)
+    }
+
+    // Presses what a wish means, or says why that is nothing.
+    fn press_meant(&mut self, source: &str, wish: &Wish) -> Result<(), AllocError> {
+        match self.meant(wish) {
+            Ok(press) => self.press(source, &press),
+            Err(why) => self.refuse(source, wish, why),
+        }
+    }
+
+    // Says why a wish presses nothing.
+    fn refuse(&mut self, source: &str, wish: &Wish, why: Why) -> Result<(), AllocError> {
+        let alloc = self.rt.alloc();
+        let words = match trouble_words(alloc, self.desk.view(), self.setting.port)? {
+            Some(words) => words,
+            None => why_words(alloc, self.desk.view(), wish, why)?,
+        };
+        let wish = wish_words(alloc, wish)?;
+        let (wish, words) = (wish.as_str(), words.as_str());
+        self.line(format_args!("{source}: {wish}: {words}: nothing is sent"))
+    }
+
+    // Presses.
+    fn press(&mut self, source: &str, press: &Press) -> Result<(), AllocError> {
+        let alloc = self.rt.alloc();
+        let button = button_words(alloc, press.button)?;
+        let button = button.as_str();
+        let what = format!(in alloc; "{source}: {button}")?;
+        match press_at(&mut self.desk, press) {
+            Outcome::Sent(ask) => {
+                self.note(press.button, ask, what);
+                Ok(())
+            }
+            Outcome::Unsent(unsent) => self.say_unsent(what.as_str(), unsent),
+            Outcome::Unheard => self.line(format_args!("{button}: out of memory: nothing is sent")),
+        }
+    }
+
+    // Notes a press that is sent.
+    fn note(&mut self, button: Button, ask: u64, what: String) {
+        if matches!(button, Button::Go(_, _)) {
+            self.last_go = Some(self.now);
+        }
+        self.pending = Some(Pending {
+            ask,
+            since: self.now,
+            what,
+            is_told: false,
+        });
+    }
+
+    // Says why a press was not sent.
+    fn say_unsent(&mut self, what: &str, unsent: Unsent) -> Result<(), AllocError> {
+        match trouble_words(self.rt.alloc(), self.desk.view(), self.setting.port)? {
+            Some(words) => {
+                let words = words.as_str();
+                self.line(format_args!("{what}: not sent: {words}"))
+            }
+            None => {
+                let words = unsent_words(unsent);
+                self.line(format_args!("{what}: {words}"))
+            }
+        }
+    }
+
+    /// Hears the controller and the store, and says what became of a press.
+    pub fn round(&mut self) -> io::Result<()> {
+        self.desk.round()?;
+        self.say_pending()?;
+        self.say_dropped()?;
+        Ok(())
+    }
+
+    // What became of the press that is not told yet.
+    fn became(&self) -> Option<Became> {
+        match (&self.pending, self.desk.view().said) {
+            (Some(pending), Some(said)) if said.ask == pending.ask => Some(said.became),
+            _ => None,
+        }
+    }
+
+    // Says what became of a press, once it is settled; and that it is open, if that lasts.
+    fn say_pending(&mut self) -> Result<(), AllocError> {
+        let Some(became) = self.became() else {
+            return Ok(());
+        };
+        let Some(pending) = self.pending.take() else {
+            return Ok(());
+        };
+        let is_open = became == Became::Open;
+        let is_said = !is_open
+            || (!pending.is_told && self.now.saturating_sub(pending.since) > OPEN);
+        if is_said {
+            let words = became_words(self.rt.alloc(), became, self.setting.port)?;
+            let (what, words) = (pending.what.as_str(), words.as_str());
+            self.line(format_args!("{what}: {words}"))?;
+        }
+        if is_open {
+            let Pending {
+                ask,
+                since,
+                what,
+                is_told,
+            } = pending;
+            self.pending = Some(Pending {
+                ask,
+                since,
+                what,
+                is_told: is_said || is_told,
+            });
+        }
+        Ok(())
+    }
+
+    // Says what was dropped.
+    fn say_dropped(&mut self) -> Result<(), AllocError> {
+        if self.waited > 0 && self.settling.is_over() {
+            let waited = mem::replace(&mut self.waited, 0);
+            self.line(format_args!(
+                "{waited} presses waited in the device, nobody knows how long: dropped"
+            ))?;
+        }
+        if self.flooded > 0 && self.floods.is_due(self.now) {
+            let flooded = mem::replace(&mut self.flooded, 0);
+            self.line(format_args!("{flooded} presses more at once than fingers: dropped"))?;
+        }
+        Ok(())
+    }
+}

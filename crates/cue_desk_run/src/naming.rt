@@ -1,0 +1,27 @@
+//! The message by which a socket says who asks from it.
+ghost use Rattle.std.specs.Prelude.{◌≡◌, ◌++◌, [], Ok, IfOk, codes};
+ghost use Rattle.cue_osc.specs.Content.{message};
+ghost use Rattle.cue_osc.specs.Reading.{datagram_at};
+
+use cue_desk::asking::AskFault;
+use cue_osc::{Args, Message, Packet};
+use std::alloc::Global;
+
+/// The datagram of the message `/as/NAME`, without an argument, by which a socket says who asks from it. The controller
+/// refuses it, since it knows no such method, and so its log has the name beside the port. Where it is called, the name
+/// is one that `AskerName` reads: no sign in it means anything to OSC.
+pub fn name_datagram(alloc: Global, name: &[u8]) -> Result<Vec<u8>, AskFault>
+    ensures { let said = message (codes "/as/" ++ name.now) [] in
+        IfOk result (λ bytes. datagram_at bytes.items ≡ Ok said) }
+{
+    let mut address = Vec::from_slice(alloc, b"/as/")?;
+    address.extend_from_slice(name)?;
+    let packet = Packet::Message(Message {
+        address: &address,
+        args: Args::from_vec(Vec::new(alloc)),
+    });
+    if !packet.plain() {
+        return Err(AskFault::Unwritable);
+    }
+    Ok(cue_osc::write(alloc, &packet)?)
+}

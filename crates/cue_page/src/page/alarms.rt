@@ -1,0 +1,62 @@
+//! How the page draws what is wrong, and how attempts ended; and what a screen reader is told.
+
+/// The text of a `script`.
+pub(super) const ALARMS: &str = r#"
+"use strict";
+let spoken = "";
+
+function endWords(told) {
+  const failed = told.failed.length ? ": device " + devicesWords(told.failed) + " aborted" : "";
+  const without = told.excused.length ? " without device " + devicesWords(told.excused) : "";
+  return cueWords(told) + ": " + told.outcome + (told.reason ? ": " + told.reason : "") + failed + without;
+}
+
+function alarmWords(alarm) {
+  const told = alarm.kind === "failed" && [view.last, ...view.past].find((one) => one && one.attempt === alarm.of);
+  if (told) return endWords(told);
+  return alarm.kind === "device" ? "device " + called(alarm.of, deviceName(alarm.of)) + " is silent" : alarm.words;
+}
+
+function alarmLine(alarm, index) {
+  const line = make("div", index ? "alarm" : "alarm loudest"), words = make("span", "", alarmWords(alarm));
+  words.id = "alarm-" + index;
+  line.append(words);
+  const lit = alarm.kind === "failed" && litOf("seen", (one) => one.attempt === alarm.of);
+  if (lit) line.append(button("seen-" + alarm.of, "Seen", "The failure of attempt " + alarm.of + " was seen", lit));
+  return line;
+}
+
+const DESK = { kind: "desk", of: 0, words: "The desk does not answer: nothing here is of now." };
+const alarmsNow = () => isDark() ? [DESK] : view.alarms;
+
+function showAlarms() {
+  const all = alarmsNow();
+  at("alarms").hidden = !all.length;
+  place("alarms", () => all.map(alarmLine), JSON.stringify([all.map((one) => [one.kind, one.of]), view && view.last,
+    isHeld() || view.lit.filter((one) => one.kind === "seen")]));
+  all.forEach((alarm, index) => write("alarm-" + index, alarmWords(alarm)));
+}
+
+// How the last attempt ended; in short where an alarm says it whole.
+function lastWords(last) {
+  if (!last) return "no attempt has ended yet";
+  const isAlarm = view.alarms.some((alarm) => alarm.kind === "failed" && alarm.of === last.attempt);
+  return isAlarm ? cueWords(last) + ": " + last.outcome : endWords(last);
+}
+
+function showEnds() {
+  write("last", lastWords(view.last));
+  at("last").className = view.last && view.last.outcome === "failed" ? "failed" : "";
+  at("history").hidden = !view.past.length;
+  place("past", () => view.past.map((told) => make("li", told.outcome === "failed" ? "bad" : "", endWords(told))),
+    JSON.stringify([view.past, renamed]));
+}
+
+// What a screen reader is told where it changes: what is wrong, and how far each cue is.
+function showSpoken() {
+  const cues = view.live.map((attempt) => "Cue " + attempt.cue + " " + stageWords(attempt));
+  const wrong = view.alarms.map((alarm) => alarmWords(alarm).replace(/:? [^:]*\d\.\d s.*$/, ""));
+  const words = [...wrong, ...cues].join(". ") || "Nothing is stood by";
+  if (words !== spoken) { spoken = words; at("spoken").textContent = words; }
+}
+"#;

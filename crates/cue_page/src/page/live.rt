@@ -1,0 +1,108 @@
+//! How the page draws the live attempts, each a card with its devices.
+
+/// The text of a `script`.
+pub(super) const LIVE: &str = r#"
+"use strict";
+const CLASSES = { waiting: "waiting", ready: "is-ready", done: "done", failed: "failed-device", excused: "excused" };
+const SIGNS = { waiting: "\u2026", ready: "\u2713", done: "\u25a0", failed: "\u2715", excused: "\u2013" };
+const STAGES = { ready: "ready: GO can be given", held: "held: GO cannot be given now", preparing: "preparing",
+  over: "its ten seconds are over", given: "given", "given up": "given up" };
+const stageWords = (attempt) => STAGES[attempt.stage] + (attempt.reason ? ": " + attempt.reason : "");
+const isOpen = (attempt) => ["ready", "held", "preparing", "over"].includes(attempt.stage);
+const waitedFor = (attempt) => attempt.devices.filter((one) => one.answer === "waiting").map((one) => one.device);
+const contactOf = (device) => view.network.find((one) => one.device === device);
+
+function deviceRow(attempt, device) {
+  const row = make("tr", device.answer === "waiting" ? "is-waiting" : ""), id = attempt.attempt + "-" + device.device;
+  const answer = make("td", "answer " + (CLASSES[device.answer] || "let-go"));
+  answer.textContent = (SIGNS[device.answer] || "\u00b7") + " " + device.answer;
+  const name = called(device.device, deviceName(device.device)), last = make("td", "whole");
+  const lit = litOf("release", (one) => one.attempt === attempt.attempt && one.device === device.device);
+  if (device.answer === "waiting") last.append(button("release-" + id, "Release", "Release device " + name, lit, true));
+  const named = make("td", "", deviceName(device.device)), needed = device.optional ? "optional" : "required";
+  if (device.optional) named.append(make("span", "beside", " optional"));
+  row.append(make("td", "number whole", device.device), named, answer, make("td", "whole needed", needed));
+  if (view.network.length) {
+    const cell = make("td");
+    cell.id = "heard-" + id;
+    row.append(cell);
+  }
+  row.append(last);
+  return row;
+}
+
+function deviceTable(attempt) {
+  const table = make("table"), head = make("tr");
+  for (const title of ["Device", "Name", "Answer", "Needed", ...(view.network.length ? ["Heard"] : []), ""]) {
+    const cell = make("th", title.toLowerCase(), title);
+    cell.scope = "col";
+    head.append(cell);
+  }
+  table.setAttribute("aria-label", "Devices of cue " + attempt.cue);
+  const first = attempt.devices.filter((one) => one.answer === "waiting" || one.answer === "failed");
+  const others = attempt.devices.filter((one) => !first.includes(one));
+  table.append(head, ...[...first, ...others].map((device) => deviceRow(attempt, device)));
+  return table;
+}
+
+function secondsBar(attempt) {
+  const left = make("div", "left"), bar = make("div", "progress"), words = make("span", "");
+  bar.id = "bar-" + attempt.attempt;
+  words.id = "left-" + attempt.attempt;
+  bar.setAttribute("role", "progressbar");
+  bar.setAttribute("aria-label", "Seconds left for cue " + attempt.cue);
+  bar.setAttribute("aria-valuemin", 0);
+  bar.setAttribute("aria-valuemax", 10);
+  bar.append(make("i"));
+  left.append(bar, words);
+  return left;
+}
+
+// How long ago the cue was given: it is seen since then, and may be given a little longer.
+function sinceLine(attempt) {
+  const line = make("p", "since"), words = make("b");
+  words.id = "since-" + attempt.attempt;
+  line.append(words, " since GO, at least");
+  return line;
+}
+
+// Which attempt GO and CANCEL are for stands in words.
+function choice(attempt) {
+  if (view.chosen === attempt.attempt) return make("p", "is-chosen", "\u25c6 CHOSEN for GO and CANCEL");
+  const lit = litOf("choose", (one) => one.attempt === attempt.attempt);
+  return button("choose-" + attempt.attempt, "Choose for GO", "Choose cue " + attempt.cue + " for GO and CANCEL", lit);
+}
+
+function titleOf(attempt) {
+  const title = make("h3"), named = make("span"), stage = make("span", "stage", stageWords(attempt));
+  named.append(make("span", "number", attempt.cue), " " + cueName(attempt.cue));
+  title.append(named, ...marks(attempt.cue), stage);
+  return title;
+}
+
+function attemptCard(attempt) {
+  const fails = attempt.devices.some((device) => device.answer === "failed");
+  const card = make("article", "attempt " + (attempt.stage === "ready" ? "ready" : fails ? "failed" : ""));
+  if (view.chosen === attempt.attempt) card.classList.add("chosen");
+  card.setAttribute("aria-label", "Cue " + attempt.cue + ", " + stageWords(attempt));
+  const waits = waitedFor(attempt);
+  card.append(titleOf(attempt));
+  if (attempt.given !== null) card.append(sinceLine(attempt));
+  if (waits.length) card.append(make("p", "waits", "\u2026 waiting for " + devicesWords(waits)));
+  if (isOpen(attempt)) card.append(secondsBar(attempt), choice(attempt));
+  card.append(deviceTable(attempt));
+  return card;
+}
+
+function liveCards() {
+  if (!view.live.length) return [make("p", "empty", "Nothing is stood by.")];
+  const first = view.live.filter((attempt) => attempt.attempt === view.chosen);
+  return [...first, ...view.live.filter((attempt) => attempt.attempt !== view.chosen)].map(attemptCard);
+}
+
+function showLive() {
+  const live = view.live.map((attempt) => ({ ...attempt, left: 0, given: attempt.given !== null }));
+  const lit = [isHeld(), view.lit, sure.press, renamed];
+  place("live", liveCards, JSON.stringify([live, view.chosen, view.network.length > 0, lit]));
+}
+"#;

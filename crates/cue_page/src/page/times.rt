@@ -1,0 +1,50 @@
+//! What changes with each view: seconds, and when devices were heard. It stands where it stands, and no button is made
+//! anew for it.
+
+/// The text of a `script`.
+pub(super) const TIMES: &str = r#"
+"use strict";
+function showSeconds(attempt) {
+  const bar = at("bar-" + attempt.attempt);
+  if (bar) {
+    bar.setAttribute("aria-valuenow", seconds(attempt.left));
+    bar.firstChild.style.width = Math.min(100, attempt.left / 100) + "%";
+    write("left-" + attempt.attempt, attempt.left ? seconds(attempt.left) + " s left" : "over");
+  }
+  if (attempt.given !== null) write("since-" + attempt.attempt, seconds(attempt.given) + " s");
+}
+
+function showHeard(cell, contact) {
+  if (!cell) return;
+  cell.className = contact && contact.silent ? "silent" : "heard";
+  const words = !contact ? "" : contact.silent ? "\u2715 " + contact.heard : contact.heard;
+  if (cell.textContent !== words) cell.textContent = words;
+}
+
+function heardLine(contact) {
+  const line = make("li"), words = make("span");
+  words.id = "heard-" + contact.device;
+  line.append(make("span", "number", contact.device), make("span", "", deviceName(contact.device)), words);
+  return line;
+}
+
+function showNetwork() {
+  at("network").hidden = !view.network.length;
+  place("heard", () => view.network.map(heardLine), JSON.stringify([view.network.map((one) => one.device), renamed]));
+  for (const contact of view.network) showHeard(at("heard-" + contact.device), contact);
+  for (const attempt of view.live) for (const one of attempt.devices)
+    showHeard(at("heard-" + attempt.attempt + "-" + one.device), contactOf(one.device));
+}
+
+function showAge() {
+  const dark = isDark(), age = view && view.read !== null ? view.read + now() - heard : null;
+  at("age").className = dark ? "old" : "";
+  write("age", !view ? "no view yet" : dark ? "OLD: the desk does not answer"
+    : age === null ? "nothing was read yet" : "read " + seconds(age) + " s ago");
+}
+
+function showTimes() {
+  view.live.forEach(showSeconds);
+  showNetwork();
+}
+"#;

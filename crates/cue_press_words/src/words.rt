@@ -1,0 +1,252 @@
+//! Wishes, keys and presses in words, and why nothing is pressed.
+use cue_board::alarm_words;
+use cue_exchange::{Answer, Answers, Stage};
+use cue_presses::{Key, Spoken, Why, Wish};
+use cue_show::CueNo;
+use cue_view::button::Button;
+use cue_view::view::{Alarm, LiveAttempt, Next, View};
+use std::alloc::{AllocError, Global};
+use std::fmt::Write as _;
+
+/// A key in words, as `note 62`.
+pub fn key_words(alloc: Global, key: Key) -> Result<String, AllocError> {
+    match key {
+        Key::Note(note) => format!(in alloc; "note {note}"),
+        Key::Controller(number) => format!(in alloc; "controller {number}"),
+    }
+}
+
+// A word, and the cue that stands after it, if one does.
+fn named_words(alloc: Global, word: &str, cue: Option<CueNo>) -> Result<String, AllocError> {
+    match cue {
+        Some(cue) => {
+            let cue = cue.text().escape_ascii();
+            format!(in alloc; "{word} of cue {cue}")
+        }
+        None => String::from_str(alloc, word),
+    }
+}
+
+/// A wish in words, as `GO of cue 12`.
+pub fn wish_words(alloc: Global, wish: &Wish) -> Result<String, AllocError> {
+    match wish {
+        Wish::Standby(cue) => named_words(alloc, "STANDBY", *cue),
+        Wish::Go(cue) => named_words(alloc, "GO", *cue),
+        Wish::Cancel => String::from_str(alloc, "CANCEL"),
+    }
+}
+
+/// A button in words, as `GO of cue 12`.
+pub fn button_words(alloc: Global, button: Button) -> Result<String, AllocError> {
+    match button {
+        Button::Standby(cue) => named_words(alloc, "STANDBY", Some(cue)),
+        Button::Go(cue, _) => named_words(alloc, "GO", Some(cue)),
+        Button::Cancel(cue, _) => named_words(alloc, "CANCEL", Some(cue)),
+        Button::MoveTo(cue) => named_words(alloc, "move", Some(cue)),
+        Button::Release(_, device) => {
+            let device = device.number();
+            format!(in alloc; "release of device {device}")
+        }
+        Button::Choose(attempt) => format!(in alloc; "choice of attempt {attempt}"),
+        Button::Seen(attempt) => format!(in alloc; "attempt {attempt} was seen"),
+    }
+}
+
+// Whether the alarm says that nothing is lit.
+fn is_dark(alarm: &Alarm) -> bool {
+    match alarm {
+        Alarm::NobodyListens | Alarm::Silent(_) | Alarm::OtherStore(_) => true,
+        Alarm::Unread(_) | Alarm::Old(_) => true,
+        Alarm::RelayStopped(_) | Alarm::ClockPutBack(_) => false,
+        Alarm::Failed(_) | Alarm::DeviceSilent(_) => false,
+    }
+}
+
+/// Why no button of the view is lit, if that is so. `port` is that of the controller.
+pub fn trouble_words(alloc: Global, view: &View, port: u16) -> Result<Option<String>, AllocError> {
+    for alarm in &view.alarms {
+        if is_dark(alarm) {
+            return Ok(Some(alarm_words(alloc, *alarm, view.at, port)?));
+        }
+    }
+    Ok(None)
+}
+
+// The numbers of the devices that are waited for, with commas.
+fn waited_for(alloc: Global, answers: &Answers) -> Result<String, AllocError> {
+    let mut text = String::new(alloc);
+    for answer in answers.as_slice() {
+        if answer.answer == Answer::Waiting {
+            let (comma, device) = (
+                if text.is_empty() { "" } else { ", " },
+                answer.device.number(),
+            );
+            write!(text, "{comma}{device}")?;
+        }
+    }
+    Ok(text)
+}
+
+// How an attempt that prepares keeps GO waiting.
+fn preparing_words(alloc: Global, attempt: &LiveAttempt) -> Result<String, AllocError> {
+    let cue = attempt.cue.text().escape_ascii();
+    let devices = waited_for(alloc, &attempt.devices)?;
+    if attempt.left == 0 {
+        return format!(in alloc; "the ten seconds of cue {cue} are over");
+    }
+    if attempt.ready {
+        return format!(in alloc; "cue {cue} is ready");
+    }
+    if devices.is_empty() {
+        return format!(in alloc; "cue {cue} is held");
+    }
+    let (word, devices) = (
+        if devices.contains(",") {
+            "devices"
+        } else {
+            "device"
+        },
+        devices.as_str(),
+    );
+    format!(in alloc; "cue {cue} waits for {word} {devices}")
+}
+
+// How far an attempt has come.
+fn attempt_words(alloc: Global, attempt: &LiveAttempt) -> Result<String, AllocError> {
+    let cue = attempt.cue.text().escape_ascii();
+    match attempt.stage {
+        Stage::Preparing => preparing_words(alloc, attempt),
+        Stage::Decided => format!(in alloc; "cue {cue} is given"),
+        Stage::Cancelling(_) => format!(in alloc; "cue {cue} is given up"),
+    }
+}
+
+// How far each attempt has come that may be meant, joined by semicolons; empty if there is none.
+fn each_attempt(alloc: Global, view: &View, cue: Option<CueNo>) -> Result<String, AllocError> {
+    let mut text = String::new(alloc);
+    for attempt in &view.live {
+        if cue.is_none() || cue == Some(attempt.cue) {
+            let (semicolon, words) = (
+                if text.is_empty() { "" } else { "; " },
+                attempt_words(alloc, attempt)?,
+            );
+            let words = words.as_str();
+            write!(text, "{semicolon}{words}")?;
+        }
+    }
+    Ok(text)
+}
+
+// What is said if nothing is live that is meant.
+fn none_words(view: &View, wish: &Wish) -> &'static str {
+    match wish {
+        Wish::Go(None) | Wish::Cancel if view.chosen.is_some() => {
+            "the cue that was stood by last is not live any more"
+        }
+        _ => "this cue does not stand by",
+    }
+}
+
+// What is said of the attempts, or these words if there is none.
+fn attempts_or(
+    alloc: Global,
+    view: &View,
+    cue: Option<CueNo>,
+    none: &str,
+) -> Result<String, AllocError> {
+    let text = each_attempt(alloc, view, cue)?;
+    if text.is_empty() {
+        return String::from_str(alloc, none);
+    }
+    Ok(text)
+}
+
+// That no cue is next.
+fn no_next_words(next: Next) -> &'static str {
+    match next {
+        Next::Cue(_) => "another cue is next",
+        Next::Empty => "the stack has no cue",
+        Next::End => "no cue is next: the stack is at its end",
+        Next::Unknown => "which cue is next is not known: move to a cue",
+    }
+}
+
+// That another cue is next.
+fn other_next_words(alloc: Global, next: Next) -> Result<String, AllocError> {
+    match next {
+        Next::Cue(cue) => {
+            let cue = cue.text().escape_ascii();
+            format!(in alloc; "cue {cue} is next: nothing moves the place but `goto` and GO")
+        }
+        _ => String::from_str(alloc, no_next_words(next)),
+    }
+}
+
+// The cue that the chosen attempt is at.
+fn chosen_cue(view: &View) -> Option<CueNo> {
+    let chosen = view
+        .live
+        .iter()
+        .find(|attempt| view.chosen == Some(attempt.seq));
+    chosen.map(|attempt| attempt.cue)
+}
+
+// The cue that a wish is of.
+fn cue_of(view: &View, wish: &Wish) -> Option<CueNo> {
+    match wish {
+        Wish::Standby(Some(cue)) | Wish::Go(Some(cue)) => Some(*cue),
+        Wish::Standby(None) => match view.next {
+            Next::Cue(cue) => Some(cue),
+            _ => None,
+        },
+        Wish::Go(None) | Wish::Cancel => chosen_cue(view),
+    }
+}
+
+// How far the attempt has come that is meant.
+fn this_words(alloc: Global, view: &View, wish: &Wish) -> Result<String, AllocError> {
+    let none = none_words(view, wish);
+    match cue_of(view, wish) {
+        Some(cue) => attempts_or(alloc, view, Some(cue), none),
+        None => String::from_str(alloc, none),
+    }
+}
+
+/// Why a wish presses nothing, in words. The view is the one that it was looked up in.
+pub fn why_words(alloc: Global, view: &View, wish: &Wish, why: Why) -> Result<String, AllocError> {
+    match why {
+        Why::NoNext => String::from_str(alloc, no_next_words(view.next)),
+        Why::OtherNext => other_next_words(alloc, view.next),
+        Why::Nobody => attempts_or(alloc, view, None, "no cue stands by"),
+        Why::IsLive | Why::NotThis => this_words(alloc, view, wish),
+        Why::Many => {
+            let each = each_attempt(alloc, view, None)?;
+            let each = each.as_str();
+            format!(in alloc; "more than one: {each}: name one, as `cuedesk go 12`")
+        }
+        Why::Awaited => String::from_str(
+            alloc,
+            "the cue that was stood by last is not shown yet: press again",
+        ),
+    }
+}
+
+/// What a command of show control is that wishes nothing, in words.
+pub fn spoken_words(alloc: Global, spoken: &Spoken) -> Result<String, AllocError> {
+    match spoken {
+        Spoken::Wish(wish) => wish_words(alloc, wish),
+        Spoken::Elsewhere => String::from_str(alloc, "it is for another device or format"),
+        Spoken::OtherCommand(command) => {
+            format!(in alloc; "command {command:02x} is none of GO and LOAD: nothing is pressed")
+        }
+        Spoken::NoCue => String::from_str(alloc, "LOAD names no cue: nothing is pressed"),
+        Spoken::OtherList => String::from_str(
+            alloc,
+            "it names a cue of another list: nothing is pressed; --list takes one list",
+        ),
+        Spoken::Unfit => String::from_str(
+            alloc,
+            "it names no cue that a show can have, or a path: nothing is pressed",
+        ),
+    }
+}

@@ -1,0 +1,5 @@
+pub mod Address
+pub mod Keys
+pub mod Meaning
+pub mod Settling
+pub mod Taps

@@ -1,0 +1,35 @@
+//! What a word or a key of a real desk means: which buttons of a view it presses, or why none. Nothing here opens a
+//! device, reads a clock or sends anything.
+//!
+//! Words and keys wish for STANDBY, GO or CANCEL. STANDBY is of the cue that is next. GO and CANCEL are of the attempt
+//! that is chosen; if none is chosen, of the only one that is ready, or that prepares. A wish that names a cue is of
+//! that cue, and of no other (`specs/Meaning.antt`: `meaning`). What is pressed is pressed at a desk (`cue_desk_run`),
+//! under the law of `cue_station`: a button that is not lit sends nothing.
+//!
+//! Why it is so:
+//! - While a STANDBY of this desk awaits its attempt, a GO that names no cue means nothing: else it would be for a cue
+//!   that somebody else stands by.
+//! - A GO that names no cue, and comes less than a second after one that was pressed, is the second tap of one finger:
+//!   it is dropped, and never gives the next cue.
+//! - A controller is a press when it rises to 64 or more. Whoever holds a pedal presses once.
+//! - Nobody can say how long a byte has waited in a device. So what is there in the first tenth of a second after it
+//!   was opened, or after a second in which nobody read, is heard and not pressed.
+//!
+//! Only tested: what is counted.
+#![tactic(auto)]
+
+pub mod address;
+pub mod keys;
+pub mod pressing;
+pub mod settling;
+pub mod tally;
+pub mod taps;
+pub mod wish;
+
+pub use address::{Address, Spoken, spoken_to};
+pub use keys::{Held, Key, Keys, held_after, is_of_keys, wish_of};
+pub use pressing::{Press, Why, is_hopeless, is_lit, meaning};
+pub use settling::Settling;
+pub use tally::{Passed, Tally};
+pub use taps::is_second_tap;
+pub use wish::Wish;

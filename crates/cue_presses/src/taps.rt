@@ -1,0 +1,28 @@
+//! Two taps of one finger.
+ghost use Rattle.std.specs.Prelude.{◌≡◌};
+ghost use Rattle.cue_presses.specs.Taps as rule;
+
+use crate::wish::Wish;
+
+/// How long after a GO the next one that names no cue is a second tap, in milliseconds.
+pub const TAP_MS: u64 = 1_000;
+
+// Whether the moment is known, and not so long ago.
+fn is_just(last: Option<u64>, now: u64) -> bool
+    ensures { result ≡ rule.is_just last now }
+{
+    match last {
+        Some(last) => now.saturating_sub(last) < TAP_MS,
+        None => false,
+    }
+}
+
+/// Whether the wish is the second tap of a GO that was pressed at this moment.
+pub fn is_second_tap(wish: &Wish, last: Option<u64>, now: u64) -> bool
+    ensures { result ≡ rule.is_second_tap wish.now last now }
+{
+    match wish {
+        Wish::Go(None) => is_just(last, now),
+        Wish::Go(Some(_)) | Wish::Standby(_) | Wish::Cancel => false,
+    }
+}

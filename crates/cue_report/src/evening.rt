@@ -1,0 +1,160 @@
+//! The evening: what the lines of a log say together.
+mod asking;
+mod counting;
+mod ends;
+mod following;
+mod hearing;
+mod repeating;
+mod replies;
+
+use crate::attempt::{Attempt, Who};
+use crate::cutting::Cutter;
+use asking::Asking;
+pub use counting::{Totals, totals_of};
+use cue_show::DeviceNo;
+use cue_show::limits::MAX_DEVICES;
+use repeating::Repeats;
+use std::alloc::{AllocError, Global};
+use std::collections::BTreeMap;
+
+/// The most starts, stops and refusals that are kept, each; others are counted.
+const MOST: usize = 1_000;
+
+/// What `serve` did.
+#[derive(Drop)]
+pub enum Deed {
+    /// It began to serve a folder at a port. `silent` is the second of the line before, if `serve` ended without a
+    /// word.
+    Began {
+        dir: String,
+        port: u16,
+        silent: Option<u64>,
+    },
+    /// The service was stopped.
+    Stopped,
+    /// It ended by itself, and printed this.
+    Ended(String),
+    /// It says this of itself, or of what was live when it began.
+    Said(String),
+}
+
+/// What `serve` did, and when, in seconds since 1970.
+#[derive(Drop)]
+pub struct Done {
+    pub at: u64,
+    pub deed: Deed,
+}
+
+/// A command that was refused.
+#[derive(Drop)]
+pub struct Refusal {
+    pub at: u64,
+    pub by: Who,
+    /// The address, `-` if a datagram was refused whole.
+    pub address: String,
+    pub code: u32,
+    pub why: String,
+}
+
+/// How many lines there were of each kind.
+#[derive(Clone, Copy, Debug)]
+pub struct Counts {
+    /// Lines of the log.
+    pub told: u64,
+    /// Lines that are none of the log.
+    pub others: u64,
+    /// Lines of the log that stood there twice.
+    pub repeated: u64,
+}
+
+/// Things of which the first are kept, and the others counted.
+#[derive(Drop)]
+pub struct Kept<T> {
+    pub items: Vec<T>,
+    pub more: u64,
+}
+
+impl<T: Drop> Kept<T> {
+    fn new(alloc: Global) -> Kept<T> {
+        Kept {
+            items: Vec::new(alloc),
+            more: 0,
+        }
+    }
+
+    fn push(&mut self, item: T) -> Result<(), AllocError> {
+        if self.items.len() < MOST {
+            self.items.push(item)?;
+        } else {
+            self.more = self.more.saturating_add(1);
+        }
+        Ok(())
+    }
+}
+
+/// For each device the place of the attempt that it is in, or was in last.
+#[derive(Drop)]
+struct Holders([Option<usize>; MAX_DEVICES]);
+
+impl Holders {
+    // A device is in the attempt at this place.
+    fn hold(&mut self, device: DeviceNo, place: usize) {
+        if let Some(holder) = self.0.get_mut(usize::from(device.number())) {
+            *holder = Some(place);
+        }
+    }
+
+    // The place of the attempt that a device is in.
+    fn holder(&self, device: DeviceNo) -> Option<usize> {
+        self.0.get(usize::from(device.number())).copied().flatten()
+    }
+}
+
+/// An evening, as far as its log was heard.
+#[derive(Drop)]
+pub struct Evening {
+    alloc: Global,
+    cutter: Cutter,
+    repeats: Repeats,
+    asking: Asking,
+    /// The newest attempt with each number, by its place.
+    latest: BTreeMap<u32, usize>,
+    holders: Holders,
+    /// Whether `serve` runs, as far as the log says.
+    is_running: bool,
+    /// Whether the last line was one that stood there before.
+    is_repeating: bool,
+    pub counts: Counts,
+    /// The seconds of the first and of the last line.
+    pub first: Option<u64>,
+    pub last: Option<u64>,
+    pub deeds: Kept<Done>,
+    pub attempts: Vec<Attempt>,
+    pub refusals: Kept<Refusal>,
+}
+
+impl Evening {
+    /// An evening of which nothing was heard.
+    pub fn new(alloc: Global) -> Evening {
+        Evening {
+            alloc,
+            cutter: Cutter::new(alloc),
+            repeats: Repeats::new(alloc),
+            asking: Asking::new(alloc),
+            latest: BTreeMap::new(alloc),
+            holders: Holders([None; MAX_DEVICES]),
+            is_running: false,
+            is_repeating: false,
+            counts: Counts {
+                told: 0,
+                others: 0,
+                repeated: 0,
+            },
+            first: None,
+            last: None,
+            deeds: Kept::new(alloc),
+            attempts: Vec::new(alloc),
+            refusals: Kept::new(alloc),
+        }
+    }
+}

@@ -1,0 +1,220 @@
+//! Who asks, and for what.
+use crate::attempt::Who;
+use crate::entry::{Ordered, Reply};
+use crate::naming::AskerName;
+use cue_show::limits::MAX_DEVICES;
+use cue_show::{CueNo, DeviceNo};
+use std::alloc::{AllocError, Global};
+use std::collections::{HashMap, VecDeque};
+
+/// How many commands of one second are known: a datagram carries fewer.
+const MOST: usize = 256;
+
+/// For how many seconds a port has the name that was sent from it.
+const NAMED: u64 = 10;
+
+/// What is asked of a cue and may change an attempt.
+#[derive(Clone, Copy, PartialEq, Eq, Debug)]
+pub enum Verb {
+    Standby,
+    Go,
+    Cancel,
+}
+
+/// What a device says, or what is asked of it.
+#[derive(Clone, Copy, PartialEq, Eq, Debug)]
+pub enum Word {
+    StandingBy,
+    Complete,
+    Abort,
+    Release,
+}
+
+/// What an address asks.
+#[derive(Clone, Copy, Debug)]
+pub enum Asked {
+    /// This of one cue.
+    OfCue(Verb, CueNo),
+    /// This of more cues than one.
+    OfCues(Verb),
+    /// This of a device.
+    OfDevice(Word, DeviceNo),
+    /// Nothing that changes an attempt.
+    Other,
+}
+
+// The two parts after the front of an address.
+fn parts_after<'a>(address: &'a [u8], front: &[u8]) -> Option<(&'a [u8], &'a [u8])> {
+    let named = address.strip_prefix(front)?;
+    let end = named.iter().position(|x| *x == b'/')?;
+    let (name, verb) = named.split_at_checked(end)?;
+    Some((name, verb.strip_prefix(b"/".as_slice())?))
+}
+
+fn verb_in(text: &[u8]) -> Option<Verb> {
+    match text {
+        b"standby" => Some(Verb::Standby),
+        b"go" => Some(Verb::Go),
+        b"cancel" => Some(Verb::Cancel),
+        _ => None,
+    }
+}
+
+fn word_in(text: &[u8]) -> Option<Word> {
+    match text {
+        b"standing_by" => Some(Word::StandingBy),
+        b"complete" => Some(Word::Complete),
+        b"abort" => Some(Word::Abort),
+        b"release" => Some(Word::Release),
+        _ => None,
+    }
+}
+
+// The device with the number that a text is.
+fn device_in(text: &[u8]) -> Option<DeviceNo> {
+    let number = str::from_utf8(text).ok()?.parse::<i32>().ok()?;
+    DeviceNo::of(number)
+}
+
+// What is asked of a device.
+fn of_device(address: &[u8]) -> Option<Asked> {
+    let (name, word) = parts_after(address, b"/device/")?;
+    let word = word_in(word)?;
+    Some(Asked::OfDevice(word, device_in(name)?))
+}
+
+// What is asked of cues.
+fn of_cue(address: &[u8]) -> Option<Asked> {
+    let (name, verb) = parts_after(address, b"/cue/")?;
+    let verb = verb_in(verb)?;
+    match CueNo::read(name) {
+        Some(cue) => Some(Asked::OfCue(verb, cue)),
+        None => Some(Asked::OfCues(verb)),
+    }
+}
+
+/// What an address asks.
+pub fn asked_at(address: &[u8]) -> Asked {
+    match of_cue(address) {
+        Some(asked) => asked,
+        None => of_device(address).unwrap_or(Asked::Other),
+    }
+}
+
+/// The name that an address gives its asker.
+pub fn name_at(address: &[u8]) -> Option<AskerName> {
+    AskerName::read(address.strip_prefix(b"/as/".as_slice())?)
+}
+
+/// A command that was made: when, by whom, and at which cue; none for more than one.
+#[derive(Clone, Copy)]
+struct Made {
+    at: u64,
+    by: Who,
+    cue: Option<CueNo>,
+}
+
+/// The commands of the last moment that were made, each with who asked.
+#[derive(Drop)]
+pub struct Asking {
+    names: HashMap<u16, (u64, AskerName)>,
+    devices: HashMap<u16, DeviceNo>,
+    ports: [u16; MAX_DEVICES],
+    // The last ones of the newest second.
+    made: VecDeque<(Verb, Made)>,
+}
+
+impl Asking {
+    /// Nobody asked.
+    pub fn new(alloc: Global) -> Asking {
+        Asking {
+            names: HashMap::new(alloc),
+            devices: HashMap::new(alloc),
+            ports: [0; MAX_DEVICES],
+            made: VecDeque::new(alloc),
+        }
+    }
+
+    /// A port has this name from this second on.
+    pub fn name(&mut self, port: u16, at: u64, name: AskerName) -> Result<(), AllocError> {
+        let _ = self.names.insert(port, (at, name))?;
+        Ok(())
+    }
+
+    /// A device listens at the port of an order.
+    pub fn order(&mut self, ordered: &Ordered) -> Result<(), AllocError> {
+        if let Some(port) = self.ports.get_mut(usize::from(ordered.device.number())) {
+            *port = ordered.port;
+        }
+        let _ = self.devices.insert(ordered.port, ordered.device)?;
+        Ok(())
+    }
+
+    // Whether the device has this port.
+    fn has_port(&self, device: DeviceNo, port: u16) -> bool {
+        self.ports.get(usize::from(device.number())) == Some(&port)
+    }
+
+    // The name of a port at a second.
+    fn name_of(&self, port: u16, at: u64) -> Option<AskerName> {
+        match self.names.get(&port) {
+            Some((since, name)) if at.saturating_sub(*since) <= NAMED => Some(*name),
+            _ => None,
+        }
+    }
+
+    /// Who asked at a second.
+    pub fn who(&self, reply: &Reply<'_>, at: u64) -> Who {
+        if let Asked::OfDevice(_, device) = asked_at(reply.address) {
+            if self.has_port(device, reply.port) {
+                return Who::Device(device);
+            }
+        }
+        if let Some(name) = self.name_of(reply.port, at) {
+            return Who::Named(name);
+        }
+        match self.devices.get(&reply.port) {
+            Some(device) => Who::Device(*device),
+            None => Who::Port(reply.port),
+        }
+    }
+
+    // Keeps a command of this second.
+    fn keep(&mut self, verb: Verb, made: Made) -> Result<(), AllocError> {
+        let is_old = match self.made.back() {
+            Some((_, last)) => last.at != made.at,
+            None => false,
+        };
+        if is_old {
+            self.made.clear();
+        }
+        if self.made.len() >= MOST {
+            let _ = self.made.pop_front();
+        }
+        self.made.push_back((verb, made))?;
+        Ok(())
+    }
+
+    /// A command of a cue, or of more cues, was made.
+    pub fn made(
+        &mut self,
+        verb: Verb,
+        cue: Option<CueNo>,
+        at: u64,
+        by: &Who,
+    ) -> Result<(), AllocError> {
+        let made = Made { at, by: *by, cue };
+        self.keep(verb, made)
+    }
+
+    /// Who asked for this of a cue at this second: the last one, in this very second, else nobody who is seen.
+    pub fn asker(&self, verb: Verb, cue: &Option<CueNo>, at: u64) -> Who {
+        let found = self.made.iter().rev().find(|(other, made)| {
+            *other == verb && made.at == at && (made.cue.is_none() || made.cue == *cue)
+        });
+        match found {
+            Some((_, made)) => made.by,
+            None => Who::Unseen,
+        }
+    }
+}

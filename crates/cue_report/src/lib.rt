@@ -1,0 +1,46 @@
+//! The report of an evening, made of the log of `serve` and of a show file; and the names by which askers say who they
+//! are. Nothing here opens a file.
+//!
+//! `read` takes one line of the log and gives what it says, as an `Entry`; a line that is none of the log gives none.
+//! An `Evening` takes the bytes of a log as they come and follows what the entries say: each attempt from its standby
+//! to its end, with each of its devices. It goes over the log once, and keeps its attempts and no lines; of refusals,
+//! starts and stops it keeps the first thousand, and counts the rest. `text` and `html` draw it, piece by piece: as
+//! text of 80 columns, and as one page that stands alone and has no script.
+//!
+//! Why it is so:
+//! - The log is what was said at the time, and the store has only what is left. So the report is made of the log alone;
+//!   the show file gives names, and which cues were never given.
+//! - A line that cannot be read is counted and never an error: a journal has lines of others, and a power cut may leave
+//!   half a line.
+//! - An attempt is found by its number, and the numbers of a store rise. A line that names an attempt that the log did
+//!   not see begin makes one that began before the log.
+//! - The log has whole seconds: a time between two of its lines is right to a second, and never below 0.
+//! - After a power cut the journal may give some lines twice. A line that goes back in time and is one of the last 256
+//!   is passed over.
+//! - Who asks has a port and no name. One that sends `/as/NAME` first, which `serve` refuses and so writes into its
+//!   log, has that name for ten seconds: the system gives its port to others later.
+//! - Texts of the log and of the show file go through `shown_text` in both drawings, and through `cue_html` in the
+//!   page.
+//!
+//! Only tested: how the lines are laid out, and which text stands where.
+#![tactic(auto)]
+
+mod attempt;
+mod cutting;
+mod dates;
+pub mod entry;
+mod evening;
+pub mod html;
+mod names;
+mod naming;
+mod reading;
+mod sentences;
+pub mod text;
+mod ungiven;
+mod wrapping;
+
+pub use attempt::{Attempt, Course, Fate, Moment, Who, seconds_between};
+pub use evening::Evening;
+pub use names::Names;
+pub use naming::{AskerName, MAX_NAME};
+pub use reading::{Line, read};

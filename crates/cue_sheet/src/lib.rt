@@ -1,0 +1,22 @@
+//! The cue sheet of a show file: what people print before an evening. As lines of 80 columns, and as one page of HTML
+//! that stands alone. Nothing here opens a file.
+//!
+//! Why it is so:
+//! - A part that is plain text stands between quotes, all other bytes as `hex` and digits: so nobody takes one for the
+//!   other. A text between quotes has no quote in it (`cue_show_file::plain_text`).
+//! - Nothing is cut off: a name that is longer than its column goes on in the next line of this column.
+//! - The page has no script, and takes nothing from anywhere. What people wrote is put into it by `cue_html`
+//!   alone. A colour is a border, since browsers print no background, with its word beside it for a page in grey.
+//!
+//! Only tested: which words stand where, and the page in a browser.
+#![tactic(auto)]
+
+mod cells;
+mod page;
+mod sent;
+mod text;
+mod wrapping;
+
+pub use page::sheet_page;
+pub use sent::sent_text;
+pub use text::{sheet_lines, sheet_text};

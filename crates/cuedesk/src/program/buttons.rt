@@ -1,0 +1,42 @@
+//! The command `buttons`: a real desk presses over MIDI what the page would press.
+use super::files::read_file;
+use super::port_of;
+use cue_buttons_run::{Panel, Setting, hear_all};
+use cue_desk::ending::Ending;
+use cue_desk_line::Buttons;
+use cue_desk_run::{Desk, Sources};
+use cue_saying::failed;
+use std::fs::{File, Files};
+use std::io::{Eprint, Write};
+use std::net::Net;
+use std::time::Clock;
+
+/// The command `buttons`: until the device ends or a signal ends it.
+pub fn hear_buttons<R: Files<File = File> + Net + Clock + Eprint + AllocGlobal, W: Write>(
+    rt: &R,
+    buttons: &Buttons,
+    writer: &mut W,
+) -> Result<(), Ending> {
+    let file = match &buttons.file {
+        Some(path) => Some(read_file(rt, path.as_str())?),
+        None => None,
+    };
+    let port = port_of(buttons.port, file.as_ref());
+    let sources = Sources {
+        dir: buttons.dir.as_str(),
+        port,
+        relay: None,
+        name: buttons.name,
+    };
+    let desk = match Desk::new(rt, &sources) {
+        Ok(desk) => desk,
+        Err(why) => return Err(failed(rt, &why)),
+    };
+    let setting = Setting {
+        keys: buttons.keys,
+        address: buttons.address,
+        port,
+    };
+    let mut panel = Panel::new(rt, desk, setting);
+    hear_all(rt, buttons.midi.as_str(), &mut panel, writer)
+}

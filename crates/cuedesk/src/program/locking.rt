@@ -1,0 +1,57 @@
+//! The word of the lock of a page, as the command line has it or a file.
+use cue_desk::ending::Ending;
+use cue_desk_line::{LockWord, PageUse};
+use cue_request::lock::is_word;
+use cue_saying::say;
+use std::alloc::Global;
+use std::fs::{File, Files};
+use std::io::{self, Eprint, Read};
+
+/// The most bytes that are read of the file with the word.
+const MAX_BYTES: u64 = 4_096;
+
+// The front of a file.
+fn front_of<R: Files<File = File> + AllocGlobal>(rt: &R, path: &str) -> io::Result<String> {
+    let file = File::open(rt, path)?;
+    let mut bytes = Vec::new(rt.alloc());
+    file.take(MAX_BYTES).read_to_end(&mut bytes)?;
+    Ok(String::from_utf8_lossy(rt.alloc(), &bytes)?)
+}
+
+// The word in the first line of this file; else why there is none is said.
+fn word_in<R: Files<File = File> + Eprint + AllocGlobal>(
+    rt: &R,
+    path: &str,
+) -> Result<String, Ending> {
+    let text = match front_of(rt, path) {
+        Ok(text) => text,
+        Err(why) => {
+            say(rt, format_args!("{path}: {why}"));
+            return Err(Ending::Failed);
+        }
+    };
+    let word = text.as_str().lines().next().unwrap_or("");
+    if is_word(word.as_bytes()) {
+        return Ok(String::from_str(rt.alloc(), word)?);
+    }
+    say(
+        rt,
+        format_args!(
+            "{path}: its first line is to be the word of the lock: 1 to 64 letters, digits and signs of \
+            ASCII, without spaces"
+        ),
+    );
+    Err(Ending::Refused)
+}
+
+/// The word of the lock of a page, where it has one; else why it cannot be had is said.
+pub fn lock_word<R: Files<File = File> + Eprint + AllocGlobal>(
+    rt: &R,
+    page_use: &PageUse,
+) -> Result<Option<String>, Ending> {
+    match page_use {
+        PageUse::Plays(Some(LockWord::Said(word))) => Ok(Some(word.clone()?)),
+        PageUse::Plays(Some(LockWord::InFile(path))) => Ok(Some(word_in(rt, path.as_str())?)),
+        PageUse::Plays(None) | PageUse::Shows(_) => Ok(None),
+    }
+}

@@ -1,0 +1,182 @@
+//! A show file that is looked at while a desk shows it, and read again once it has changed.
+use super::files::read_file;
+use super::port_of;
+use cue_desk::ending::Ending;
+use cue_desk::stamps::Stamp;
+use cue_desk_run::{Beat, wall_time};
+use cue_file_news::{Due, Kept, Look, Looks, News, Reading, Trouble, later_of, told_words};
+use cue_show_file::{Draft, ShowFile, check, condensed, read, routes};
+use std::alloc::{AllocError, Global};
+use std::fs::{self, File, Files};
+use std::io::{self, Eprint, ErrorKind};
+use std::time::Clock;
+
+/// How many milliseconds lie between two looks.
+const LOOK: u64 = 1_000;
+
+/// The longest file that is read, in bytes: a show file of 1,024 cues with all their parts has less than half of it.
+const MAX_LEN: u64 = 4_000_000;
+
+/// The show file of a desk, and what is known of it since the start.
+#[derive(Drop)]
+pub struct Renewed<'a> {
+    path: &'a str,
+    // The port of the controller that the command line or the environment says.
+    said: Option<u16>,
+    looks: Looks,
+    beats: Beat,
+    // What was read last, and what became of it.
+    text: String,
+    news: News,
+    // Why nothing can be read, if that is so.
+    trouble: Option<Trouble>,
+    kept: Kept,
+}
+
+// What a desk keeps of a file.
+fn kept_of(alloc: Global, file: &ShowFile, said: Option<u16>) -> Result<Kept, AllocError> {
+    Ok(Kept {
+        port: port_of(said, Some(file)),
+        listen: file.listen,
+        routes: routes(alloc, &file.devices)?,
+    })
+}
+
+// What the system says of the file.
+fn found_at<R: Files<File = File>>(rt: &R, path: &str) -> Look {
+    match fs::metadata(rt, path) {
+        Ok(metadata) => Look::There(Stamp::of(&metadata)),
+        Err(_) => Look::Gone,
+    }
+}
+
+// The text of the file. What is no file, as a pipe that nobody writes, is not opened.
+fn text_at<R: Files<File = File> + AllocGlobal>(rt: &R, path: &str) -> io::Result<String> {
+    let metadata = fs::metadata(rt, path)?;
+    if !metadata.is_file() || metadata.len() > MAX_LEN {
+        return Err(io::Error::from(ErrorKind::InvalidInput));
+    }
+    fs::read_to_string(rt, path)
+}
+
+// Whether a file has nothing: an editor that is at work may have emptied it.
+fn is_empty(file: &ShowFile) -> bool {
+    file.devices.is_empty() && file.cues.is_empty()
+}
+
+// The show file that a text is; else the line of its first mistake, where it has one.
+fn file_in(alloc: Global, text: &str) -> Result<Result<ShowFile, Option<usize>>, AllocError> {
+    let Draft { file, findings, .. } = read(alloc, text)?;
+    let trial = check(alloc, &file)?;
+    let told = condensed(alloc, findings, trial.findings)?;
+    Ok(match told.first() {
+        Some(finding) => Err(finding.line),
+        None if trial.show.is_none() || is_empty(&file) => Err(None),
+        None => Ok(file),
+    })
+}
+
+/// Reads the show file of a desk that begins, if it has one; else each mistake is on standard error. `said` is the port
+/// of the controller that the command line or the environment says.
+pub fn begin<'a, R: Files<File = File> + Eprint + AllocGlobal>(
+    rt: &R,
+    path: Option<&'a str>,
+    said: Option<u16>,
+) -> Result<Option<(ShowFile, Renewed<'a>)>, Ending> {
+    let Some(path) = path else {
+        return Ok(None);
+    };
+    // The text first: what is written between the two readings is found to be new then.
+    let text = text_at(rt, path).unwrap_or(String::new(rt.alloc()));
+    let file = read_file(rt, path)?;
+    let kept = kept_of(rt.alloc(), &file, said)?;
+    let renewed = Renewed {
+        path,
+        said,
+        looks: Looks::new(),
+        beats: Beat::of(LOOK),
+        text,
+        news: News::Old,
+        trouble: None,
+        kept,
+    };
+    Ok(Some((file, renewed)))
+}
+
+impl Renewed<'_> {
+    // Takes a text that was read at this moment: the file that it is, if that is new and has no mistake.
+    fn take(
+        &mut self,
+        alloc: Global,
+        text: String,
+        now: u64,
+    ) -> Result<Option<ShowFile>, AllocError> {
+        if text == self.text {
+            return Ok(None);
+        }
+        let found = file_in(alloc, text.as_str())?;
+        self.news = match &found {
+            Ok(file) => News::Read(now, later_of(&self.kept, &kept_of(alloc, file, self.said)?)),
+            Err(line) => News::Wrong(*line),
+        };
+        self.text = text;
+        Ok(found.ok())
+    }
+
+    // Reads the file, of which the system said this. Where memory ran out it is read again after the next look.
+    fn read<R: Files<File = File> + Clock + AllocGlobal>(
+        &mut self,
+        rt: &R,
+        stamp: Stamp,
+        now: u64,
+    ) -> Option<ShowFile> {
+        let reading = Reading::of(stamp, wall_time(rt));
+        let Ok(text) = text_at(rt, self.path) else {
+            self.trouble = Some(Trouble::Unreadable);
+            return None;
+        };
+        self.trouble = None;
+        match self.take(rt.alloc(), text, now) {
+            Ok(file) => {
+                self.looks.note(reading);
+                file
+            }
+            Err(AllocError) => None,
+        }
+    }
+
+    /// Looks at the file, if a look is due: the new one, if it has changed and has no mistake. `now` is this moment in
+    /// milliseconds, by the clock of the desk. While an attempt is live the file is not read.
+    pub fn look<R: Files<File = File> + Clock + AllocGlobal>(
+        &mut self,
+        rt: &R,
+        now: u64,
+        is_live: bool,
+    ) -> Option<ShowFile> {
+        if !self.beats.is_due(now) {
+            return None;
+        }
+        let found = found_at(rt, self.path);
+        if self.trouble == Some(Trouble::Missing) && found != Look::Gone {
+            self.trouble = None;
+        }
+        match (self.looks.look(found, is_live), found) {
+            (Due::Read, Look::There(stamp)) => return self.read(rt, stamp, now),
+            (Due::Missing, _) => self.trouble = Some(Trouble::Missing),
+            _ => {}
+        }
+        None
+    }
+
+    /// The file that was read is shown from this moment on: to read it took a while, if it is large.
+    pub fn begin_to_tell(&mut self, now: u64) {
+        if let News::Read(_, later) = self.news {
+            self.news = News::Read(now, later);
+        }
+    }
+
+    /// What is told of the file now.
+    pub fn told(&self, alloc: Global, now: u64) -> Result<Option<String>, AllocError> {
+        told_words(alloc, self.trouble, self.news, now)
+    }
+}

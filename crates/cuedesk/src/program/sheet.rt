@@ -1,0 +1,29 @@
+//! The command `sheet`.
+use super::files::read_file;
+use cue_desk::ending::Ending;
+use cue_saying::print;
+use cue_sheet::{sheet_page, sheet_text};
+use std::fs::{File, Files};
+use std::io::{Eprint, Write};
+use std::path::Path;
+
+// The name of a file, without its folders: the title of its sheet.
+fn title_of(path: &str) -> &str {
+    Path::new(path).file_name().unwrap_or(path)
+}
+
+/// Prints the cue sheet of a show file that has no mistake, as text or as a page for a browser.
+pub fn print_sheet<R: Files<File = File> + Eprint + AllocGlobal, W: Write>(
+    rt: &R,
+    path: &str,
+    html: bool,
+    writer: &mut W,
+) -> Result<(), Ending> {
+    let file = read_file(rt, path)?;
+    let text = if html {
+        sheet_page(rt.alloc(), title_of(path), &file)?
+    } else {
+        sheet_text(rt.alloc(), title_of(path), &file)?
+    };
+    print(writer, text.as_str())
+}

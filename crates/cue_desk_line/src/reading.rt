@@ -303,8 +303,9 @@ fn port_of(alloc: Global, text: &str) -> Result<u16, LineFault> {
 }
 
 /// Reads a command line, the program's name first, as `clap` matches it. Where a command speaks to the controller and
-/// its words name no port, the port is the one that CUEDESK_PORT says, where that is set; and where they do not name who
-/// asks, that is who CUEDESK_AS says. CUEDESK_STORE says the folder of the store, for `standby` and `go` without a cue.
+/// its words name no port, the port is the one that CUEDESK_PORT says, where that is set; and where they do not name
+/// who asks, that is who CUEDESK_AS says. CUEDESK_STORE says the folder of the store, for `standby` and `go` without a
+/// cue.
 pub fn line(
     alloc: Global,
     words: &[String],

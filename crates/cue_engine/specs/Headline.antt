@@ -92,8 +92,8 @@ HasState (unformed one other) x y s = (s ≡ empty_state) × (NeitherHas x y ⊎
 -- ---- the promise
 
 -- What a store came to from a state on: batches are kept, in order and each whole, every acknowledged one among them;
--- they make the state that it has; and each datagram that was handed to the network rests on them, down to its bytes:
--- a GO_2PC on the Go of its attempt, a CANCEL on its Cancel, a STANDBY or CANCEL on its Start. Each order was pending in
+-- they make the state that it has; and each datagram that was handed to the network rests on them, down to its bytes: a
+-- GO_2PC on the Go of its attempt, a CANCEL on its Cancel, a STANDBY or CANCEL on its Start. Each order was pending in
 -- a state that the first of their events make.
 pub record CameTo (s : ShowState) (store : Store) (is : List Incident) (x y : List ℕ) : Type 0 where
   pub kept : List (List Event)

@@ -26,7 +26,8 @@ html_of text = encode_utf8_all (flat_map sign_of (chars text))
 abbrev pub is_plain_html : ℕ → Bool
 is_plain_html c = is_shown c && (not (c == 60) && (not (c == 62) && (not (c == 34) && not (c == 39))))
 
--- The text has no tag, and ends no value of an attribute: it has no < > " or ', and only characters that a screen shows.
+-- The text has no tag, and ends no value of an attribute: it has no < > " or ', and only characters that a screen
+-- shows.
 pub record IsHtml (text : List ℕ) : Type 0 where
   pub signs : List ℕ
   pub spelled : text ≡ encode_utf8_all signs

@@ -45,8 +45,8 @@ fn push_sign(page: &mut String, c: char) -> Result<(), AllocError>
     push_html(page, shown(c))
 }
 
-/// Puts a text after a page, as HTML has it, between tags or as the value of an attribute in quotes: what means something
-/// there is written by its entity, and a character that a screen does not show is a question mark.
+/// Puts a text after a page, as HTML has it, between tags or as the value of an attribute in quotes: what means
+/// something there is written by its entity, and a character that a screen does not show is a question mark.
 pub fn push_escaped(page: &mut String, text: &str) -> Result<(), AllocError>
     ensures { OnOk result (string_bytes page.new ≡ string_bytes page.old ++ html_of text.now) }
 {

@@ -173,8 +173,8 @@ fn lit_among(
         .collect(alloc)
 }
 
-/// The buttons that are lit: of the three great ones and of the smaller ones, those that may be. `cues`: the whole stack
-/// of the copy.
+/// The buttons that are lit: of the three great ones and of the smaller ones, those that may be. `cues`: the whole
+/// stack of the copy.
 pub(crate) fn lit_of(
     alloc: Global,
     copy: &Copied,

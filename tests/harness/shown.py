@@ -24,7 +24,6 @@ ELSEWHERE = (
     ("tests/tools/*", "tests/all"),
     ("tools/promises --write", "tests/all, with --check"),
     ("./cuectl --unproved *", "tests/quick builds so; tests/runs/launcher"),
-    ("rt try --test", "tests/quick"),
     ("(cd crates/cue_device_c && rt lib)", "tests/runs/winch"),
     ("rt *", "an hour or more: they are the gate, or a part of it"),
     (".ci/run", "an hour or more: it is the gate"),

@@ -3,8 +3,8 @@ use crate::pressing::{Outcome, press_at};
 use cue_board::{became_words, unsent_words};
 use cue_desk::ending::Ending;
 use cue_desk_run::Desk;
-use cue_press_words::{button_words, ending_by, trouble_words, why_words, wish_words};
-use cue_presses::{Press, Why, Wish, is_hopeless, is_lit, meaning};
+use cue_press_words::{button_words, ending_by, intent_words, trouble_words, why_words};
+use cue_presses::{Intent, Press, Why, is_hopeless, is_lit, meaning};
 use cue_saying::{failed, print, say};
 use cue_view::view::{Became, Unsent};
 use std::alloc::AllocError;
@@ -46,7 +46,7 @@ enum Progress {
 pub struct Hand<'a, R> {
     rt: &'a R,
     desk: Desk<'a, R>,
-    wish: Wish,
+    intent: Intent,
     // How long it is waited for until it can be pressed, in milliseconds, if it is.
     wait: Option<u64>,
     // The port of the controller.
@@ -54,19 +54,19 @@ pub struct Hand<'a, R> {
 }
 
 impl<'a, R: Files<File = File> + Net + Clock + Eprint + AllocGlobal> Hand<'a, R> {
-    /// A hand at this desk, over the controller at this port: it waits so many milliseconds until what it wishes can be
-    /// pressed, or not at all.
+    /// A hand at this desk, over the controller at this port: it waits so many milliseconds until what it intends can
+    /// be pressed, or not at all.
     pub fn new(
         rt: &'a R,
         desk: Desk<'a, R>,
-        wish: Wish,
+        intent: Intent,
         wait: Option<u64>,
         port: u16,
     ) -> Hand<'a, R> {
         Hand {
             rt,
             desk,
-            wish,
+            intent,
             wait,
             port,
         }
@@ -90,13 +90,13 @@ impl<'a, R: Files<File = File> + Net + Clock + Eprint + AllocGlobal> Hand<'a, R>
         }
     }
 
-    // What the view says to a wish that presses nothing.
+    // What the view says to an intent that presses nothing.
     fn hindered(&self, why: Why) -> Result<Progress, AllocError> {
         if !self.is_settled()? {
             return Ok(Progress::Hindered(Hindrance::Dark));
         }
         let is_waited_for = self.wait.is_some();
-        if is_waited_for && !is_hopeless(self.desk.view(), &self.wish, &why) {
+        if is_waited_for && !is_hopeless(self.desk.view(), &self.intent, &why) {
             return Ok(Progress::Hindered(Hindrance::Why(why)));
         }
         Ok(Progress::Refused(why))
@@ -104,7 +104,7 @@ impl<'a, R: Files<File = File> + Net + Clock + Eprint + AllocGlobal> Hand<'a, R>
 
     // Tries once.
     fn attempt(&mut self) -> Result<Progress, AllocError> {
-        match meaning(self.desk.view(), self.desk.awaits(), &self.wish) {
+        match meaning(self.desk.view(), self.desk.awaits(), &self.intent) {
             Ok(press) => Ok(self.press(&press)),
             Err(why) => self.hindered(why),
         }
@@ -132,25 +132,25 @@ impl<'a, R: Files<File = File> + Net + Clock + Eprint + AllocGlobal> Hand<'a, R>
     // Says why nothing was pressed.
     fn refuse(&self, why: Why) -> Result<Ending, AllocError> {
         let alloc = self.rt.alloc();
-        let wish = wish_words(alloc, &self.wish)?;
-        let words = why_words(alloc, self.desk.view(), &self.wish, why)?;
-        let (wish, words) = (wish.as_str(), words.as_str());
-        say(self.rt, format_args!("{wish}: {words}: nothing was sent"));
+        let intent = intent_words(alloc, &self.intent)?;
+        let words = why_words(alloc, self.desk.view(), &self.intent, why)?;
+        let (intent, words) = (intent.as_str(), words.as_str());
+        say(self.rt, format_args!("{intent}: {words}: nothing was sent"));
         Ok(Ending::Refused)
     }
 
     // Says what is wrong: so no button was lit.
     fn say_dark(&self) -> Result<Ending, AllocError> {
         let alloc = self.rt.alloc();
-        let wish = wish_words(alloc, &self.wish)?;
+        let intent = intent_words(alloc, &self.intent)?;
         let trouble = trouble_words(alloc, self.desk.view(), self.port)?;
         let words = match &trouble {
             Some(words) => words.as_str(),
             None =>
                 "serve says otherwise than the store: a change is under way, or it has other files",
         };
-        let wish = wish.as_str();
-        say(self.rt, format_args!("{wish}: {words}: nothing was sent"));
+        let intent = intent.as_str();
+        say(self.rt, format_args!("{intent}: {words}: nothing was sent"));
         Ok(Ending::Silent)
     }
 
@@ -210,7 +210,7 @@ impl<'a, R: Files<File = File> + Net + Clock + Eprint + AllocGlobal> Hand<'a, R>
         let alloc = self.rt.alloc();
         let button = match self.desk.view().said {
             Some(said) => button_words(alloc, said.button)?,
-            None => wish_words(alloc, &self.wish)?,
+            None => intent_words(alloc, &self.intent)?,
         };
         let words = became_words(alloc, became, self.port)?;
         let (button, words) = (button.as_str(), words.as_str());

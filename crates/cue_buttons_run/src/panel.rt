@@ -4,11 +4,11 @@ use cue_board::{became_words, unsent_words};
 use cue_desk_run::{Beat, Desk};
 use cue_midi::{Heard, Parser, Show};
 use cue_press_words::{
-    button_words, key_words, spoken_words, trouble_words, why_words, wish_words,
+    button_words, intent_words, key_words, spoken_words, trouble_words, why_words,
 };
 use cue_presses::{
-    Address, Held, Keys, Passed, Press, Settling, Spoken, Tally, Why, Wish, held_after, is_of_keys,
-    is_second_tap, meaning, spoken_to, wish_of,
+    Address, Held, Intent, Keys, Passed, Press, Settling, Spoken, Tally, Why, held_after,
+    intent_of, is_of_keys, is_second_tap, meaning, spoken_to,
 };
 use cue_view::button::Button;
 use cue_view::view::{Became, Unsent};
@@ -195,12 +195,12 @@ impl<'a, R: Files<File = File> + Net + Clock + AllocGlobal> Panel<'a, R> {
         if let Heard::Show(show) = heard {
             return self.take_show(show);
         }
-        let wish = wish_of(&self.setting.keys, &self.held, heard);
+        let intent = intent_of(&self.setting.keys, &self.held, heard);
         self.held = held_after(&self.setting.keys, &self.held, heard);
-        match (wish, passed_of(heard)) {
-            (Some(wish), Some(passed)) => {
+        match (intent, passed_of(heard)) {
+            (Some(intent), Some(passed)) => {
                 let source = passed.words(self.rt.alloc())?;
-                self.wish(source.as_str(), &wish)
+                self.intent(source.as_str(), &intent)
             }
             (None, Some(passed)) if !is_of_keys(&self.setting.keys, heard) => self.pass(passed),
             _ => Ok(()),
@@ -220,7 +220,7 @@ impl<'a, R: Files<File = File> + Net + Clock + AllocGlobal> Panel<'a, R> {
     // Takes a command of show control.
     fn take_show(&mut self, show: &Show) -> Result<(), AllocError> {
         match spoken_to(&self.setting.address, show) {
-            Spoken::Wish(wish) => self.wish("show control", &wish),
+            Spoken::Intent(intent) => self.intent("show control", &intent),
             Spoken::Elsewhere => self.pass(Passed::Elsewhere),
             other => {
                 if !self.has_room() {
@@ -243,8 +243,8 @@ impl<'a, R: Files<File = File> + Net + Clock + AllocGlobal> Panel<'a, R> {
         true
     }
 
-    // Somebody wishes something, by this key.
-    fn wish(&mut self, source: &str, wish: &Wish) -> Result<(), AllocError> {
+    // Somebody intends something, by this key.
+    fn intent(&mut self, source: &str, intent: &Intent) -> Result<(), AllocError> {
         if !self.settling.is_over() {
             self.waited = self.waited.saturating_add(1);
             return Ok(());
@@ -252,37 +252,37 @@ impl<'a, R: Files<File = File> + Net + Clock + AllocGlobal> Panel<'a, R> {
         if !self.has_room() {
             return Ok(());
         }
-        if is_second_tap(wish, self.last_go, self.now) {
+        if is_second_tap(intent, self.last_go, self.now) {
             return self.line(format_args!(
                 "{source}: GO: a second tap within a second: nothing is sent"
             ));
         }
-        self.press_meant(source, wish)
+        self.press_meant(source, intent)
     }
 
-    // What a wish presses at this moment, or why it presses nothing.
-    fn meant(&self, wish: &Wish) -> Result<Press, Why> {
-        meaning(self.desk.view(), self.desk.awaits(), wish)
+    // What an intent presses at this moment, or why it presses nothing.
+    fn meant(&self, intent: &Intent) -> Result<Press, Why> {
+        meaning(self.desk.view(), self.desk.awaits(), intent)
     }
 
-    // Presses what a wish means, or says why that is nothing.
-    fn press_meant(&mut self, source: &str, wish: &Wish) -> Result<(), AllocError> {
-        match self.meant(wish) {
+    // Presses what an intent means, or says why that is nothing.
+    fn press_meant(&mut self, source: &str, intent: &Intent) -> Result<(), AllocError> {
+        match self.meant(intent) {
             Ok(press) => self.press(source, &press),
-            Err(why) => self.refuse(source, wish, why),
+            Err(why) => self.refuse(source, intent, why),
         }
     }
 
-    // Says why a wish presses nothing.
-    fn refuse(&mut self, source: &str, wish: &Wish, why: Why) -> Result<(), AllocError> {
+    // Says why an intent presses nothing.
+    fn refuse(&mut self, source: &str, intent: &Intent, why: Why) -> Result<(), AllocError> {
         let alloc = self.rt.alloc();
         let words = match trouble_words(alloc, self.desk.view(), self.setting.port)? {
             Some(words) => words,
-            None => why_words(alloc, self.desk.view(), wish, why)?,
+            None => why_words(alloc, self.desk.view(), intent, why)?,
         };
-        let wish = wish_words(alloc, wish)?;
-        let (wish, words) = (wish.as_str(), words.as_str());
-        self.line(format_args!("{source}: {wish}: {words}: nothing is sent"))
+        let intent = intent_words(alloc, intent)?;
+        let (intent, words) = (intent.as_str(), words.as_str());
+        self.line(format_args!("{source}: {intent}: {words}: nothing is sent"))
     }
 
     // Presses.

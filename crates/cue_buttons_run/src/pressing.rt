@@ -37,8 +37,8 @@ fn outcome_of<R: Files<File = File> + Net + Clock + AllocGlobal>(desk: &Desk<'_,
     }
 }
 
-/// Presses what a wish means: the attempt is chosen first, if it has to be. It is a press of the newest view, under the
-/// law of the desk.
+/// Presses what an intent means: the attempt is chosen first, if it has to be. It is a press of the newest view, under
+/// the law of the desk.
 pub fn press_at<R: Files<File = File> + Net + Clock + AllocGlobal>(
     desk: &mut Desk<'_, R>,
     press: &Press,

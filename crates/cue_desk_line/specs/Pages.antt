@@ -1,6 +1,6 @@
 -- Which options of a page go together, and what they give.
 use Rattle.std.specs.Prelude.{Bool, ◌&&◌, ◌||◌, not, if◌then◌else◌, ⊤, string_bytes, IfSome}
-use Rattle.cue_request.specs.Doors.{IsName}
+use Rattle.cue_request.specs.Identity.{IsName}
 use Rattle.cue_request.specs.Locks.{IsWord}
 use Rattle.cue_desk_line.specs.declared.reading.web.Fit.{Fit}
 use Rattle.cue_desk_line.specs.declared.reading.web.Fit.TheVariants as fit

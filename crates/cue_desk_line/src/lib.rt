@@ -9,4 +9,4 @@ pub use reading::pressing::Pressed;
 pub use reading::rehearsing::{Flags, Rehearsal, with_flags};
 pub use reading::reporting::Report;
 pub use reading::web::{LockWord, PageUse, Web};
-pub use reading::words::{Environment, Line, Manner, Watched};
+pub use reading::words::{Environment, Line, Watched};

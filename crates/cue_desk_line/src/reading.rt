@@ -19,6 +19,7 @@ use commands::cuedesk;
 use cue_desk::line::{LineFault, fault_of, unfit};
 use cue_desk::orders::{Order, Word, word_in};
 use cue_desk::ports::said_port;
+use cue_loading::Manner;
 use cue_operator::CueVerb;
 use cue_show::{CueNo, DeviceNo};
 use pressing::pressed_in;
@@ -27,7 +28,7 @@ use reporting::{asker_in, asker_said, report_in};
 use sheet::{new_in, sheet_in};
 use std::alloc::Global;
 use web::web_in;
-use words::{Environment, Line, Manner, Watched};
+use words::{Environment, Line, Watched};
 
 // What has to stand there and does not. `clap` sees to it before, so nobody meets it.
 fn lacking(alloc: Global, id: &str) -> LineFault {

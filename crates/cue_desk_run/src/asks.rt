@@ -5,12 +5,12 @@ ghost use Rattle.cue_desk_run.specs.Hearing.{heard_of, unheard};
 
 use crate::addresses::local;
 use crate::naming::name_datagram;
+use cue_asker::AskerName;
 use cue_desk::answered::answer_in;
 use cue_desk::asking::{Asked, address, datagram};
 use cue_desk::orders::{Order, asked_by};
 use cue_desk::replying::{Replied, read_reply};
 use cue_osc::MAX_LEN;
-use cue_report::AskerName;
 use cue_station::heard::{Heard, Send};
 use mio::net::UdpSocket;
 use mio::{Interest, Registry, Token};

@@ -1,8 +1,8 @@
 //! One message as it was typed, without a view: it is sent once, and its answer waited for.
 use crate::asks::Asks;
 use crate::clocks::SteadyClock;
+use cue_asker::AskerName;
 use cue_desk::orders::Order;
-use cue_report::AskerName;
 use cue_station::heard::{Heard, Send};
 use mio::{Events, Poll};
 use std::io;

@@ -6,8 +6,8 @@ use Rattle.std.proofs.lemmas.Bool.{or_right, and_from, and_left, and_right, le-l
 use Rattle.cue_disk.specs.Disk.{Contents, IsImage, IsStable, Writes, AllTouched}
 use Rattle.cue_disk.specs.Effect.{after_write, written_as, synced_as, settled_contents}
 use Rattle.cue_disk.specs.Plan.{goes_through}
-use Rattle.cue_disk.specs.declared.plan.Fate.{Fate}
-use Rattle.cue_disk.specs.declared.plan.Fate.TheVariants.{Succeeds, Fails, Stopped}
+use Rattle.cue_disk.specs.declared.plan.CallOutcome.{CallOutcome}
+use Rattle.cue_disk.specs.declared.plan.CallOutcome.TheVariants.{Succeeds, Fails, Stopped}
 use Rattle.cue_disk.proofs.CrashLemmas.{overwritten_torn}
 
 or_false : (b : Bool) → (b || false) ≡ b
@@ -37,8 +37,9 @@ no_write now at n = record {
   elsewhere = λ i outside. refl;
 }
 
-pub written_as_writes : (fate : Fate) (lacked : Bool) (at : ℕ) (bytes : List ℕ) (now : Contents) → at ≤ length now.bytes
-    → Writes at (length bytes) now (written_as fate lacked at bytes now)
+pub written_as_writes : (outcome : CallOutcome) (lacked : Bool) (at : ℕ) (bytes : List ℕ) (now : Contents)
+    → at ≤ length now.bytes
+    → Writes at (length bytes) now (written_as outcome lacked at bytes now)
 written_as_writes Stopped lacked at bytes now room = no_write now at (length bytes)
 written_as_writes Succeeds true at bytes now room = no_write now at (length bytes)
 written_as_writes Fails true at bytes now room = no_write now at (length bytes)
@@ -48,10 +49,10 @@ written_as_writes Fails false at bytes now room =
     (omega (arith, length-take (length bytes / 2) bytes))
 
 -- A write that went through has touched its range.
-pub written_as_touched : {T E : Type 0} (result : Result T E) (fate : Fate) (lacked : Bool) (at : ℕ) (bytes : List ℕ)
-    (now : Contents) → is_ok result ≡ (goes_through fate && not lacked)
-    → OnOk result (AllTouched at (length bytes) (written_as fate lacked at bytes now))
-written_as_touched (Err e) fate lacked at bytes now goes = tt
+pub written_as_touched : {T E : Type 0} (result : Result T E) (outcome : CallOutcome) (lacked : Bool) (at : ℕ)
+    (bytes : List ℕ) (now : Contents) → is_ok result ≡ (goes_through outcome && not lacked)
+    → OnOk result (AllTouched at (length bytes) (written_as outcome lacked at bytes now))
+written_as_touched (Err e) outcome lacked at bytes now goes = tt
 written_as_touched (Ok x) Succeeds false at bytes now goes =
     λ i from to. or_right (now.touched i) (nat_le at i && nat_lt i (at + length bytes))
     (and_from (nat_le at i) (nat_lt i (at + length bytes)) (le-leb at i from) (lt-ltb i (at + length bytes) to))
@@ -64,9 +65,9 @@ settled_stable : (bytes : List ℕ) → IsStable (settled_contents bytes)
 settled_stable bytes = record { length = refl; none_touched = λ i within. lt-leb (length bytes) i within }
 
 -- A sync that went through has made all stable.
-pub synced_as_stable : {T E : Type 0} (result : Result T E) (fate : Fate) (lacked : Bool) (now : Contents)
-    → is_ok result ≡ (goes_through fate && not lacked) → OnOk result (IsStable (synced_as fate lacked now))
-synced_as_stable (Err e) fate lacked now goes = tt
+pub synced_as_stable : {T E : Type 0} (result : Result T E) (outcome : CallOutcome) (lacked : Bool) (now : Contents)
+    → is_ok result ≡ (goes_through outcome && not lacked) → OnOk result (IsStable (synced_as outcome lacked now))
+synced_as_stable (Err e) outcome lacked now goes = tt
 synced_as_stable (Ok x) Succeeds false now goes = settled_stable now.bytes
 synced_as_stable (Ok x) Succeeds true now goes = absurd (cc)
 synced_as_stable (Ok x) Fails lacked now goes = absurd (cc)
@@ -82,8 +83,9 @@ settled_images now within image left = record {
   untouched = λ i low clean. left.untouched i (omega arith) (lt-leb (length now.bytes) i (omega arith));
 }
 
-pub synced_as_images : (fate : Fate) (lacked : Bool) (now : Contents) → now.synced ≤ length now.bytes → (image : List ℕ)
-    → IsImage (synced_as fate lacked now) image → IsImage now image
+pub synced_as_images : (outcome : CallOutcome) (lacked : Bool) (now : Contents) → now.synced ≤ length now.bytes
+    → (image : List ℕ)
+    → IsImage (synced_as outcome lacked now) image → IsImage now image
 synced_as_images Succeeds false now within image left = settled_images now within image left
 synced_as_images Succeeds true now within image left = left
 synced_as_images Fails lacked now within image left = left

@@ -1,8 +1,8 @@
 -- What a write and a sync leave of what a memory disk holds, as they were planned to end.
 use Rattle.std.specs.Prelude.{◌+◌, ◌/◌, ℕ, nat_le, nat_lt, Bool, true, false, ◌&&◌, ◌||◌, List, [], length, take}
 use Rattle.cue_disk.specs.Disk.{Contents, overwritten_bytes}
-use Rattle.cue_disk.specs.declared.plan.Fate.{Fate}
-use Rattle.cue_disk.specs.declared.plan.Fate.TheVariants.{Succeeds, Fails, Stopped}
+use Rattle.cue_disk.specs.declared.plan.CallOutcome.{CallOutcome}
+use Rattle.cue_disk.specs.declared.plan.CallOutcome.TheVariants.{Succeeds, Fails, Stopped}
 
 -- These bytes, all of them stable: what lies past them counts as touched.
 abbrev pub settled_contents : List ℕ → Contents
@@ -17,18 +17,18 @@ after_write now at asked stored = record {
 }
 
 -- the bytes that a write gets to: all, the first half rounded down where it is to fail, none where the disk has stopped
-abbrev pub part_stored : Fate → List ℕ → List ℕ
+abbrev pub part_stored : CallOutcome → List ℕ → List ℕ
 part_stored Succeeds bytes = bytes
 part_stored Fails bytes = take (length bytes / 2) bytes
 part_stored Stopped bytes = []
 
 -- What a write leaves: a stopped disk, and one that found no memory, is as it was.
-abbrev pub written_as : Fate → Bool → ℕ → List ℕ → Contents → Contents
+abbrev pub written_as : CallOutcome → Bool → ℕ → List ℕ → Contents → Contents
 written_as Stopped lacked at bytes now = now
-written_as fate true at bytes now = now
-written_as fate false at bytes now = after_write now at (length bytes) (part_stored fate bytes)
+written_as outcome true at bytes now = now
+written_as outcome false at bytes now = after_write now at (length bytes) (part_stored outcome bytes)
 
 -- What a sync leaves: one that fails makes nothing stable.
-abbrev pub synced_as : Fate → Bool → Contents → Contents
+abbrev pub synced_as : CallOutcome → Bool → Contents → Contents
 synced_as Succeeds false now = settled_contents now.bytes
-synced_as fate lacked now = now
+synced_as outcome lacked now = now

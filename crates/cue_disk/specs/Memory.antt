@@ -3,7 +3,7 @@ use Rattle.std.specs.Prelude.{◌≡◌, ◌&&◌, ℕ, Bool, not, List, Result,
 use Rattle.cue_disk.specs.Disk.{Contents, one_more}
 use Rattle.cue_disk.specs.Effect.{settled_contents}
 use Rattle.cue_disk.specs.Medium.{medium_held, medium_moment, medium_held_at}
-use Rattle.cue_disk.specs.Plan.{no_plan, fate_of, goes_through, after_one}
+use Rattle.cue_disk.specs.Plan.{no_plan, outcome_of, goes_through, after_one}
 use Rattle.cue_disk.specs.declared.plan.Plan.{Plan}
 use Rattle.cue_disk.specs.declared.memory.MemDisk.{MemDisk}
 
@@ -63,11 +63,12 @@ pub record IsCounted (old new : MemDisk) : Type 0 where
 
 -- A call that takes no memory goes through exactly where no failure was planned for it.
 abbrev pub GoesAsPlanned : {T E : Type 0} → Result T E → MemDisk → Type 0
-GoesAsPlanned result old = is_ok result ≡ goes_through (fate_of (memory_plan old) 1)
+GoesAsPlanned result old = is_ok result ≡ goes_through (outcome_of (memory_plan old) 1)
 
 -- A call that takes memory goes through exactly where no failure was planned for it and the memory was there.
 abbrev pub GoesWithMemory : {T E : Type 0} → Result T E → MemDisk → MemDisk → Type 0
-GoesWithMemory result old new = is_ok result ≡ (goes_through (fate_of (memory_plan old) 1) && not (lacked_memory new))
+GoesWithMemory result old new =
+    is_ok result ≡ (goes_through (outcome_of (memory_plan old) 1) && not (lacked_memory new))
 
 -- A call has begun: it was counted, and nothing else is new.
 pub record IsBegun (old new : MemDisk) : Type 0 where

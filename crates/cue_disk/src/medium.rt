@@ -5,7 +5,7 @@ ghost use Rattle.cue_disk.specs.Disk.{overwritten_bytes};
 
 mod crash;
 
-use crate::plan::Fate;
+use crate::plan::CallOutcome;
 use std::alloc::{AllocError, Global};
 
 /// What a write or a sync replaced.
@@ -142,28 +142,33 @@ impl Medium {
     }
 
     /// What a write that is planned to end so stores: all of its bytes, the first half of them, or nothing.
-    pub(crate) fn write_as(&mut self, fate: Fate, at: usize, bytes: &[u8]) -> Result<(), AllocError>
+    pub(crate) fn write_as(
+        &mut self,
+        outcome: CallOutcome,
+        at: usize,
+        bytes: &[u8],
+    ) -> Result<(), AllocError>
         requires { at ≤ length (medium_held self.old).bytes }
-        ensures held { medium_held self.new ≡ written_as fate (is_err result) at bytes.now (medium_held self.old) }
+        ensures held { medium_held self.new ≡ written_as outcome (is_err result) at bytes.now (medium_held self.old) }
         ensures time { Elapses (medium_moment self.old) (medium_moment self.new)
             (medium_held_at self.old) (medium_held_at self.new) (medium_held self.new) }
     {
-        match fate {
-            Fate::Succeeds => self.write(at, bytes.len(), bytes),
-            Fate::Fails => self.write(at, bytes.len(), &bytes[..bytes.len() / 2]),
-            Fate::Stopped => Ok(()),
+        match outcome {
+            CallOutcome::Succeeds => self.write(at, bytes.len(), bytes),
+            CallOutcome::Fails => self.write(at, bytes.len(), &bytes[..bytes.len() / 2]),
+            CallOutcome::Stopped => Ok(()),
         }
     }
 
     /// What a sync that is planned to end so makes stable: all, or nothing.
-    pub(crate) fn sync_as(&mut self, fate: Fate) -> Result<(), AllocError>
-        ensures held { medium_held self.new ≡ synced_as fate (is_err result) (medium_held self.old) }
+    pub(crate) fn sync_as(&mut self, outcome: CallOutcome) -> Result<(), AllocError>
+        ensures held { medium_held self.new ≡ synced_as outcome (is_err result) (medium_held self.old) }
         ensures time { Elapses (medium_moment self.old) (medium_moment self.new)
             (medium_held_at self.old) (medium_held_at self.new) (medium_held self.new) }
     {
-        match fate {
-            Fate::Succeeds => self.sync(),
-            Fate::Fails | Fate::Stopped => Ok(()),
+        match outcome {
+            CallOutcome::Succeeds => self.sync(),
+            CallOutcome::Fails | CallOutcome::Stopped => Ok(()),
         }
     }
 }

@@ -3,7 +3,7 @@ ghost use Rattle.std.specs.Prelude.{◌≡◌};
 
 /// What is planned for a call.
 #[derive(Clone, Copy, Debug, PartialEq, Eq)]
-pub enum Fate {
+pub enum CallOutcome {
     /// It is done as asked.
     Succeeds,
     /// It fails, and a write stores the first half of its bytes.
@@ -22,7 +22,7 @@ pub struct Plan {
 }
 
 impl Plan {
-    ghost use Rattle.cue_disk.specs.Plan.{no_plan, fate_of, after_one};
+    ghost use Rattle.cue_disk.specs.Plan.{no_plan, outcome_of, after_one};
 
     /// No call is to fail.
     pub(crate) fn none() -> Plan
@@ -35,17 +35,17 @@ impl Plan {
     }
 
     /// What is planned for the next call.
-    pub(crate) fn next(&self) -> Fate
-        ensures { result ≡ fate_of self.now 1 }
+    pub(crate) fn next(&self) -> CallOutcome
+        ensures { result ≡ outcome_of self.now 1 }
     {
         match self.stop_in {
-            Some(0) => Fate::Stopped,
-            Some(1) => Fate::Fails,
+            Some(0) => CallOutcome::Stopped,
+            Some(1) => CallOutcome::Fails,
             _ => {
                 if self.fail_in == 1 {
-                    Fate::Fails
+                    CallOutcome::Fails
                 } else {
-                    Fate::Succeeds
+                    CallOutcome::Succeeds
                 }
             }
         }

@@ -1,13 +1,15 @@
 -- What became of batches, put together from what the calls on the pair say.
 use Rattle.std.specs.Prelude.{IsErrAnd, IsErrOf}
 use Rattle.std.specs.Result.{result_err}
-use Rattle.std.proofs.Common.{◌≡◌, ◌⊎◌, inl, inr, ℕ, ◌+◌, ◌≤◌, if◌then◌else◌, Bool, true, false, List, [], ◌∷◌, length, map}
+use Rattle.std.proofs.Common.{◌≡◌, ◌⊎◌, inl, inr, ℕ, ◌+◌, ◌≤◌, if◌then◌else◌, Bool, true, false, List, [], ◌∷◌, length}
+use Rattle.std.proofs.Common.{map}
 use Rattle.std.proofs.Common.{Some, None, Result, Ok, Err, refl, sym, ◌∙◌, ap, subst, arith, true≢false, append-nil}
 use Rattle.cue_disk.specs.declared.disk.Disk.{Ghosts}
 use Rattle.cue_log.specs.Area.{Area, fresh, with_payloads}
 use Rattle.cue_snap.specs.Pair.{PairLeaves}
 use Rattle.cue_snap.specs.declared.snap.Snap.{Snap}
-use Rattle.cue_snap.specs.Observed.{first_of, second_of, live_of, spare_of, is_first_live, is_broken, generation_of, count_of}
+use Rattle.cue_snap.specs.Observed.{first_of, second_of, live_of, spare_of, is_first_live, is_broken, generation_of}
+use Rattle.cue_snap.specs.Observed.{count_of}
 use Rattle.cue_snap.specs.Observed.{end_of, live_area_of}
 use Rattle.cue_core.specs.declared.event.Event.{Event}
 use Rattle.cue_core.specs.State.{ShowState}

@@ -21,6 +21,7 @@
 
 mod comparing;
 mod entries;
+mod manner;
 mod planning;
 mod step;
 mod steps;
@@ -29,6 +30,7 @@ mod waiting;
 mod wanted;
 
 pub use comparing::{Difference, differences};
+pub use manner::Manner;
 pub use planning::plan;
 pub use step::Step;
 pub use trial::after;

@@ -1,7 +1,7 @@
 //! Wishes, keys and presses in words, and why nothing is pressed.
 use cue_board::alarm_words;
 use cue_exchange::{Answer, Answers, Stage};
-use cue_presses::{Key, Spoken, Why, Wish};
+use cue_presses::{Intent, Key, Spoken, Why};
 use cue_show::CueNo;
 use cue_view::button::Button;
 use cue_view::view::{Alarm, LiveAttempt, Next, View};
@@ -27,12 +27,12 @@ fn named_words(alloc: Global, word: &str, cue: Option<CueNo>) -> Result<String, 
     }
 }
 
-/// A wish in words, as `GO of cue 12`.
-pub fn wish_words(alloc: Global, wish: &Wish) -> Result<String, AllocError> {
-    match wish {
-        Wish::Standby(cue) => named_words(alloc, "STANDBY", *cue),
-        Wish::Go(cue) => named_words(alloc, "GO", *cue),
-        Wish::Cancel => String::from_str(alloc, "CANCEL"),
+/// An intent in words, as `GO of cue 12`.
+pub fn intent_words(alloc: Global, intent: &Intent) -> Result<String, AllocError> {
+    match intent {
+        Intent::Standby(cue) => named_words(alloc, "STANDBY", *cue),
+        Intent::Go(cue) => named_words(alloc, "GO", *cue),
+        Intent::Cancel => String::from_str(alloc, "CANCEL"),
     }
 }
 
@@ -138,9 +138,9 @@ fn each_attempt(alloc: Global, view: &View, cue: Option<CueNo>) -> Result<String
 }
 
 // What is said if nothing is live that is meant.
-fn none_words(view: &View, wish: &Wish) -> &'static str {
-    match wish {
-        Wish::Go(None) | Wish::Cancel if view.chosen.is_some() => {
+fn none_words(view: &View, intent: &Intent) -> &'static str {
+    match intent {
+        Intent::Go(None) | Intent::Cancel if view.chosen.is_some() => {
             "the cue that was stood by last is not live any more"
         }
         _ => "this cue does not stand by",
@@ -191,34 +191,39 @@ fn chosen_cue(view: &View) -> Option<CueNo> {
     chosen.map(|attempt| attempt.cue)
 }
 
-// The cue that a wish is of.
-fn cue_of(view: &View, wish: &Wish) -> Option<CueNo> {
-    match wish {
-        Wish::Standby(Some(cue)) | Wish::Go(Some(cue)) => Some(*cue),
-        Wish::Standby(None) => match view.next {
+// The cue that an intent is of.
+fn cue_of(view: &View, intent: &Intent) -> Option<CueNo> {
+    match intent {
+        Intent::Standby(Some(cue)) | Intent::Go(Some(cue)) => Some(*cue),
+        Intent::Standby(None) => match view.next {
             Next::Cue(cue) => Some(cue),
             _ => None,
         },
-        Wish::Go(None) | Wish::Cancel => chosen_cue(view),
+        Intent::Go(None) | Intent::Cancel => chosen_cue(view),
     }
 }
 
 // How far the attempt has come that is meant.
-fn this_words(alloc: Global, view: &View, wish: &Wish) -> Result<String, AllocError> {
-    let none = none_words(view, wish);
-    match cue_of(view, wish) {
+fn this_words(alloc: Global, view: &View, intent: &Intent) -> Result<String, AllocError> {
+    let none = none_words(view, intent);
+    match cue_of(view, intent) {
         Some(cue) => attempts_or(alloc, view, Some(cue), none),
         None => String::from_str(alloc, none),
     }
 }
 
-/// Why a wish presses nothing, in words. The view is the one that it was looked up in.
-pub fn why_words(alloc: Global, view: &View, wish: &Wish, why: Why) -> Result<String, AllocError> {
+/// Why an intent presses nothing, in words. The view is the one that it was looked up in.
+pub fn why_words(
+    alloc: Global,
+    view: &View,
+    intent: &Intent,
+    why: Why,
+) -> Result<String, AllocError> {
     match why {
         Why::NoNext => String::from_str(alloc, no_next_words(view.next)),
         Why::OtherNext => other_next_words(alloc, view.next),
         Why::Nobody => attempts_or(alloc, view, None, "no cue stands by"),
-        Why::IsLive | Why::NotThis => this_words(alloc, view, wish),
+        Why::IsLive | Why::NotThis => this_words(alloc, view, intent),
         Why::Many => {
             let each = each_attempt(alloc, view, None)?;
             let each = each.as_str();
@@ -231,10 +236,10 @@ pub fn why_words(alloc: Global, view: &View, wish: &Wish, why: Why) -> Result<St
     }
 }
 
-/// What a command of show control is that wishes nothing, in words.
+/// What a command of show control is that intends nothing, in words.
 pub fn spoken_words(alloc: Global, spoken: &Spoken) -> Result<String, AllocError> {
     match spoken {
-        Spoken::Wish(wish) => wish_words(alloc, wish),
+        Spoken::Intent(intent) => intent_words(alloc, intent),
         Spoken::Elsewhere => String::from_str(alloc, "it is for another device or format"),
         Spoken::OtherCommand(command) => {
             format!(in alloc; "command {command:02x} is none of GO and LOAD: nothing is pressed")

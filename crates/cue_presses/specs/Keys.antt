@@ -7,8 +7,8 @@ use Rattle.cue_presses.specs.declared.keys.Key.{Key}
 use Rattle.cue_presses.specs.declared.keys.Key.TheVariants as key
 use Rattle.cue_presses.specs.declared.keys.Keys.{Keys}
 use Rattle.cue_presses.specs.declared.keys.TheConstants.{PRESSED}
-use Rattle.cue_presses.specs.declared.wish.Wish.{Wish}
-use Rattle.cue_presses.specs.declared.wish.Wish.TheVariants as wish
+use Rattle.cue_presses.specs.declared.intent.Intent.{Intent}
+use Rattle.cue_presses.specs.declared.intent.Intent.TheVariants as intent
 
 -- a note is pressed when it is struck
 abbrev pub is_note : ℕ → Heard → Bool
@@ -34,11 +34,11 @@ is_held_after (key.Note n) is_held h = is_held
 is_held_after (key.Controller n) is_held h = stays n is_held h
 
 -- what is wished by what is heard: the first of the three keys that is pressed
-abbrev pub wish_of : Keys → Held → Heard → Option Wish
-wish_of k held h =
-    if is_pressed k.standby held.standby h then Some (wish.Standby None)
-    else if is_pressed k.go held.go h then Some (wish.Go None)
-    else if is_pressed k.cancel held.cancel h then Some wish.Cancel else None
+abbrev pub intent_of : Keys → Held → Heard → Option Intent
+intent_of k held h =
+    if is_pressed k.standby held.standby h then Some (intent.Standby None)
+    else if is_pressed k.go held.go h then Some (intent.Go None)
+    else if is_pressed k.cancel held.cancel h then Some intent.Cancel else None
 
 -- which keys are held then
 abbrev pub held_after : Keys → Held → Heard → Held

@@ -1,4 +1,4 @@
--- Which buttons of a view a wish presses.
+-- Which buttons of a view an intent presses.
 use Rattle.std.specs.Prelude.{ℕ, Bool, true, false, not, ◌&&◌, if◌then◌else◌, List, [], ◌∷◌, Option, None, Some, nat_eq}
 use Rattle.std.specs.Prelude.{Result, Ok, Err}
 use Rattle.std.specs.List.{list_any}
@@ -16,8 +16,8 @@ use Rattle.cue_presses.specs.declared.pressing.Wanted.{Wanted}
 use Rattle.cue_presses.specs.declared.pressing.Wanted.TheVariants as wanted
 use Rattle.cue_presses.specs.declared.pressing.Why.{Why}
 use Rattle.cue_presses.specs.declared.pressing.Why.TheVariants as why
-use Rattle.cue_presses.specs.declared.wish.Wish.{Wish}
-use Rattle.cue_presses.specs.declared.wish.Wish.TheVariants as wish
+use Rattle.cue_presses.specs.declared.intent.Intent.{Intent}
+use Rattle.cue_presses.specs.declared.intent.Intent.TheVariants as intent
 
 -- ---- attempts
 
@@ -106,12 +106,12 @@ standby_by next.Unknown live named = Err why.NoNext
 
 -- ---- all of them
 
--- what a wish presses; GO that names a cue is of the only attempt at that cue that is ready
-abbrev pub meaning : View → Bool → Wish → Result Press Why
-meaning v is_awaited (wish.Standby named) = standby_by v.next v.live.items named
-meaning v is_awaited (wish.Go None) = go_alone v.chosen is_awaited v.live.items
-meaning v is_awaited (wish.Go (Some cue)) = go_of v.chosen (sole_of (wanted.ReadyAt cue) v.live.items) why.NotThis
-meaning v is_awaited wish.Cancel = cancel_alone v.chosen is_awaited v.live.items
+-- what an intent presses; GO that names a cue is of the only attempt at that cue that is ready
+abbrev pub meaning : View → Bool → Intent → Result Press Why
+meaning v is_awaited (intent.Standby named) = standby_by v.next v.live.items named
+meaning v is_awaited (intent.Go None) = go_alone v.chosen is_awaited v.live.items
+meaning v is_awaited (intent.Go (Some cue)) = go_of v.chosen (sole_of (wanted.ReadyAt cue) v.live.items) why.NotThis
+meaning v is_awaited intent.Cancel = cancel_alone v.chosen is_awaited v.live.items
 
 -- ---- waiting
 
@@ -125,6 +125,6 @@ is_hopeless_go named live why.Nobody = not (may_come named live)
 is_hopeless_go named live why.NotThis = not (may_come named live)
 is_hopeless_go named live _ = true
 
-abbrev pub is_hopeless : View → Wish → Why → Bool
-is_hopeless v (wish.Go named) w = is_hopeless_go named v.live.items w
+abbrev pub is_hopeless : View → Intent → Why → Bool
+is_hopeless v (intent.Go named) w = is_hopeless_go named v.live.items w
 is_hopeless v _ w = true

@@ -1,8 +1,8 @@
-//! Which commands of show control are for this desk, and what they wish.
+//! Which commands of show control are for this desk, and what they ask.
 ghost use Rattle.std.specs.Prelude.{◌≡◌};
 ghost use Rattle.cue_presses.specs.Address as rule;
 
-use crate::wish::Wish;
+use crate::intent::Intent;
 use cue_midi::{Named, Said, Show};
 use cue_show::CueNo;
 
@@ -23,7 +23,7 @@ pub const ALL: u8 = 0x7f;
 /// What a command of show control is to this desk.
 #[derive(Clone, Copy, PartialEq, Eq, Debug)]
 pub enum Spoken {
-    Wish(Wish),
+    Intent(Intent),
     /// It is for another device, or for another format.
     Elsewhere,
     /// It is none of GO and LOAD.
@@ -53,16 +53,16 @@ fn is_list(list: &Option<CueNo>, named: &CueNo) -> bool
     }
 }
 
-// What a GO wishes.
+// What a GO intends.
 fn go_by(list: &Option<CueNo>, named: &Named) -> Spoken
     ensures { result ≡ rule.go_by list.now named.now }
 {
     match named {
-        Named::Nothing => Spoken::Wish(Wish::Go(None)),
-        Named::Cue(cue) => Spoken::Wish(Wish::Go(Some(*cue))),
+        Named::Nothing => Spoken::Intent(Intent::Go(None)),
+        Named::Cue(cue) => Spoken::Intent(Intent::Go(Some(*cue))),
         Named::OfList(cue, of) => {
             if is_list(list, of) {
-                Spoken::Wish(Wish::Go(Some(*cue)))
+                Spoken::Intent(Intent::Go(Some(*cue)))
             } else {
                 Spoken::OtherList
             }
@@ -71,16 +71,16 @@ fn go_by(list: &Option<CueNo>, named: &Named) -> Spoken
     }
 }
 
-// What a LOAD wishes.
+// What a LOAD intends.
 fn load_by(list: &Option<CueNo>, named: &Named) -> Spoken
     ensures { result ≡ rule.load_by list.now named.now }
 {
     match named {
         Named::Nothing => Spoken::NoCue,
-        Named::Cue(cue) => Spoken::Wish(Wish::Standby(Some(*cue))),
+        Named::Cue(cue) => Spoken::Intent(Intent::Standby(Some(*cue))),
         Named::OfList(cue, of) => {
             if is_list(list, of) {
-                Spoken::Wish(Wish::Standby(Some(*cue)))
+                Spoken::Intent(Intent::Standby(Some(*cue)))
             } else {
                 Spoken::OtherList
             }

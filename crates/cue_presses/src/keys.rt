@@ -2,7 +2,7 @@
 ghost use Rattle.std.specs.Prelude.{◌≡◌};
 ghost use Rattle.cue_presses.specs.Keys as rule;
 
-use crate::wish::Wish;
+use crate::intent::Intent;
 use cue_midi::Heard;
 
 /// A key of a MIDI device, on any channel.
@@ -92,15 +92,15 @@ fn is_held_after(key: Key, is_held: bool, heard: &Heard) -> bool
 }
 
 /// What is wished by what is heard; none where no key is pressed.
-pub fn wish_of(keys: &Keys, held: &Held, heard: &Heard) -> Option<Wish>
-    ensures { result ≡ rule.wish_of keys.now held.now heard.now }
+pub fn intent_of(keys: &Keys, held: &Held, heard: &Heard) -> Option<Intent>
+    ensures { result ≡ rule.intent_of keys.now held.now heard.now }
 {
     if is_pressed(keys.standby, held.standby, heard) {
-        Some(Wish::Standby(None))
+        Some(Intent::Standby(None))
     } else if is_pressed(keys.go, held.go, heard) {
-        Some(Wish::Go(None))
+        Some(Intent::Go(None))
     } else if is_pressed(keys.cancel, held.cancel, heard) {
-        Some(Wish::Cancel)
+        Some(Intent::Cancel)
     } else {
         None
     }

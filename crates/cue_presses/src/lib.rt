@@ -1,8 +1,8 @@
 //! What a word or a key of a real desk means: which buttons of a view it presses, or why none. Nothing here opens a
 //! device, reads a clock or sends anything.
 //!
-//! Words and keys wish for STANDBY, GO or CANCEL. STANDBY is of the cue that is next. GO and CANCEL are of the attempt
-//! that is chosen; if none is chosen, of the only one that is ready, or that prepares. A wish that names a cue is of
+//! Words and keys ask for STANDBY, GO or CANCEL. STANDBY is of the cue that is next. GO and CANCEL are of the attempt
+//! that is chosen; if none is chosen, of the only one that is ready, or that prepares. An intent that names a cue is of
 //! that cue, and of no other (`specs/Meaning.antt`: `meaning`). What is pressed is pressed at a desk (`cue_desk_run`),
 //! under the law of `cue_station`: a button that is not lit sends nothing.
 //!
@@ -19,17 +19,17 @@
 #![tactic(auto)]
 
 pub mod address;
+pub mod intent;
 pub mod keys;
 pub mod pressing;
 pub mod settling;
 pub mod tally;
 pub mod taps;
-pub mod wish;
 
 pub use address::{Address, Spoken, spoken_to};
-pub use keys::{Held, Key, Keys, held_after, is_of_keys, wish_of};
+pub use intent::Intent;
+pub use keys::{Held, Key, Keys, held_after, intent_of, is_of_keys};
 pub use pressing::{Press, Why, is_hopeless, is_lit, meaning};
 pub use settling::Settling;
 pub use tally::{Passed, Tally};
 pub use taps::is_second_tap;
-pub use wish::Wish;

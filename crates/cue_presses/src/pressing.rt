@@ -1,8 +1,8 @@
-//! Which buttons of a view a wish presses.
+//! Which buttons of a view an intent presses.
 ghost use Rattle.std.specs.Prelude.{◌≡◌};
 ghost use Rattle.cue_presses.specs.Meaning as rule;
 
-use crate::wish::Wish;
+use crate::intent::Intent;
 use cue_show::CueNo;
 use cue_view::button::Button;
 use cue_view::view::{LiveAttempt, Next, View};
@@ -227,18 +227,18 @@ fn standby_by(view: &View, named: &Option<CueNo>) -> Result<Press, Why>
     }
 }
 
-/// What a wish presses, by this view; else why nothing. `is_awaited`: a STANDBY of this desk awaits its attempt.
-pub fn meaning(view: &View, is_awaited: bool, wish: &Wish) -> Result<Press, Why>
-    ensures { result ≡ rule.meaning view.now is_awaited wish.now }
+/// What an intent presses, by this view; else why nothing. `is_awaited`: a STANDBY of this desk awaits its attempt.
+pub fn meaning(view: &View, is_awaited: bool, intent: &Intent) -> Result<Press, Why>
+    ensures { result ≡ rule.meaning view.now is_awaited intent.now }
 {
-    match wish {
-        Wish::Standby(named) => standby_by(view, named),
-        Wish::Go(Some(cue)) => {
+    match intent {
+        Intent::Standby(named) => standby_by(view, named),
+        Intent::Go(Some(cue)) => {
             let sole = sole_of(&Wanted::ReadyAt(*cue), &view.live);
             go_of(view.chosen, sole, Why::NotThis)
         }
-        Wish::Go(None) => go_alone(view, is_awaited),
-        Wish::Cancel => cancel_alone(view, is_awaited),
+        Intent::Go(None) => go_alone(view, is_awaited),
+        Intent::Cancel => cancel_alone(view, is_awaited),
     }
 }
 
@@ -267,12 +267,12 @@ fn is_hopeless_go(named: &Option<CueNo>, live: &[LiveAttempt], why: &Why) -> boo
     }
 }
 
-/// Whether it is no use to wait: no attempt prepares that the wish could be of.
-pub fn is_hopeless(view: &View, wish: &Wish, why: &Why) -> bool
-    ensures { result ≡ rule.is_hopeless view.now wish.now why.now }
+/// Whether it is no use to wait: no attempt prepares that the intent could be of.
+pub fn is_hopeless(view: &View, intent: &Intent, why: &Why) -> bool
+    ensures { result ≡ rule.is_hopeless view.now intent.now why.now }
 {
-    match wish {
-        Wish::Go(named) => is_hopeless_go(named, &view.live, why),
-        Wish::Standby(_) | Wish::Cancel => true,
+    match intent {
+        Intent::Go(named) => is_hopeless_go(named, &view.live, why),
+        Intent::Standby(_) | Intent::Cancel => true,
     }
 }

@@ -2,7 +2,7 @@
 ghost use Rattle.std.specs.Prelude.{◌≡◌};
 ghost use Rattle.cue_presses.specs.Taps as rule;
 
-use crate::wish::Wish;
+use crate::intent::Intent;
 
 /// How long after a GO the next one that names no cue is a second tap, in milliseconds.
 pub const TAP_MS: u64 = 1_000;
@@ -17,12 +17,12 @@ fn is_just(last: Option<u64>, now: u64) -> bool
     }
 }
 
-/// Whether the wish is the second tap of a GO that was pressed at this moment.
-pub fn is_second_tap(wish: &Wish, last: Option<u64>, now: u64) -> bool
-    ensures { result ≡ rule.is_second_tap wish.now last now }
+/// Whether the intent is the second tap of a GO that was pressed at this moment.
+pub fn is_second_tap(intent: &Intent, last: Option<u64>, now: u64) -> bool
+    ensures { result ≡ rule.is_second_tap intent.now last now }
 {
-    match wish {
-        Wish::Go(None) => is_just(last, now),
-        Wish::Go(Some(_)) | Wish::Standby(_) | Wish::Cancel => false,
+    match intent {
+        Intent::Go(None) => is_just(last, now),
+        Intent::Go(Some(_)) | Intent::Standby(_) | Intent::Cancel => false,
     }
 }

@@ -9,24 +9,24 @@ use Rattle.cue_device.specs.declared.words.Order.{Order}
 use Rattle.cue_device.specs.declared.words.Order.TheVariants.{Prepare, Move, GiveUp}
 use Rattle.cue_device.specs.declared.hearing.ReportFault.{ReportFault}
 use Rattle.cue_device.specs.Hearing.{after_call, answer_call, reported_for}
-use Rattle.cue_rehearsal.specs.declared.manner.Fate.{Fate}
-use Rattle.cue_rehearsal.specs.declared.manner.Fate.TheVariants.{Plays, Silent, Refuses, Fails}
+use Rattle.cue_rehearsal.specs.declared.manner.Behaviour.{Behaviour}
+use Rattle.cue_rehearsal.specs.declared.manner.Behaviour.TheVariants.{Plays, Silent, Refuses, Fails}
 use Rattle.cue_rehearsal.specs.declared.manner.Manner.{Manner}
 use Rattle.cue_rehearsal.specs.declared.player.Player.{Player}
 use Rattle.cue_rehearsal.specs.declared.player.Work.{Work}
 
 -- the device hears nothing
-abbrev pub is_silent : Fate → Bool
+abbrev pub is_silent : Behaviour → Bool
 is_silent Plays = false
 is_silent Silent = true
 is_silent Refuses = false
 is_silent Fails = false
 
 -- the machine cannot carry this order out
-abbrev pub breaks_at : Fate → Order → Bool
+abbrev pub breaks_at : Behaviour → Order → Bool
 breaks_at Refuses (Prepare q) = true
 breaks_at Fails (Move q) = true
-breaks_at fate order = false
+breaks_at behaviour order = false
 
 -- how long the machine always takes for an order
 abbrev pub least_for : Manner → Order → ℕ
@@ -59,8 +59,8 @@ report_of (Move q) n = Moved n
 report_of (GiveUp q) n = GaveUp n
 
 -- and at the end of any order
-abbrev pub told_at_end : Fate → Order → ℕ → Told
-told_at_end fate order n = if breaks_at fate order then Cannot n else report_of order n
+abbrev pub told_at_end : Behaviour → Order → ℕ → Told
+told_at_end behaviour order n = if breaks_at behaviour order then Cannot n else report_of order n
 
 -- a device whose machine is at rest
 abbrev pub player_of : Device → Manner → Player
@@ -68,7 +68,7 @@ player_of d m = record { device = d; manner = m; work = None }
 
 -- what it reports then, for the order that the device is doing
 abbrev pub told_by : Order → Player → Told
-told_by order p = told_at_end p.manner.fate order (reported_for p.device)
+told_by order p = told_at_end p.manner.behaviour order (reported_for p.device)
 
 -- after the end of an order the machine is at rest, and the device knows what became of it
 abbrev pub after_end : Order → Player → Player

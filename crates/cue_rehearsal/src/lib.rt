@@ -2,7 +2,7 @@
 //!
 //! A `Player` is a device of `cue_device`, the library that a maker gets, and not a third reading of the protocol. Its
 //! machine does one order at a time, from a time on and for so long (`Work`). When that time is over it reports that it
-//! prepared, moved or gave up; or that it cannot, if its `Fate` says so (`specs/Playing.antt`). A silent one hears
+//! prepared, moved or gave up; or that it cannot, if its `Behaviour` says so (`specs/Playing.antt`). A silent one hears
 //! nothing and stays as it is. `Plan` is what the table `[rehearse]` of a show file says. `Chance` draws from a seed,
 //! and says which datagrams are lost. Nothing here opens a socket or looks at a clock.
 //!
@@ -16,7 +16,7 @@ mod player;
 mod telling;
 
 pub use chance::Chance;
-pub use manner::{Fate, Manner};
+pub use manner::{Behaviour, Manner};
 pub use plan::{MAX_TIME, Plan, PlanFault, read_devices, read_plan};
 pub use player::{Player, Work};
 pub use telling::{Deed, Line};

@@ -6,7 +6,7 @@ use cue_device::Order;
 
 /// What a rehearsed device makes of an evening.
 #[derive(Clone, Copy, PartialEq, Eq, Debug)]
-pub enum Fate {
+pub enum Behaviour {
     /// It does what it is ordered to.
     Plays,
     /// It hears nothing and answers nothing.
@@ -17,14 +17,14 @@ pub enum Fate {
     Fails,
 }
 
-impl Fate {
+impl Behaviour {
     /// Whether the device hears nothing.
     pub fn is_silent(self) -> bool
         ensures { result ≡ is_silent self }
     {
         match self {
-            Fate::Silent => true,
-            Fate::Plays | Fate::Refuses | Fate::Fails => false,
+            Behaviour::Silent => true,
+            Behaviour::Plays | Behaviour::Refuses | Behaviour::Fails => false,
         }
     }
 
@@ -33,10 +33,10 @@ impl Fate {
         ensures { result ≡ breaks_at self order }
     {
         match (self, order) {
-            (Fate::Refuses, Order::Prepare(_)) | (Fate::Fails, Order::Move(_)) => true,
-            (Fate::Refuses, Order::Move(_) | Order::GiveUp(_)) => false,
-            (Fate::Fails, Order::Prepare(_) | Order::GiveUp(_)) => false,
-            (Fate::Plays | Fate::Silent, _) => false,
+            (Behaviour::Refuses, Order::Prepare(_)) | (Behaviour::Fails, Order::Move(_)) => true,
+            (Behaviour::Refuses, Order::Move(_) | Order::GiveUp(_)) => false,
+            (Behaviour::Fails, Order::Prepare(_) | Order::GiveUp(_)) => false,
+            (Behaviour::Plays | Behaviour::Silent, _) => false,
         }
     }
 }
@@ -49,7 +49,7 @@ pub struct Manner {
     /// For moving.
     pub moving: u32,
     /// What becomes of the device.
-    pub fate: Fate,
+    pub behaviour: Behaviour,
 }
 
 impl Manner {

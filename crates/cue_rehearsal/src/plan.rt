@@ -1,6 +1,6 @@
 //! What a show file says of a rehearsal, in its table `[rehearse]`.
 
-use crate::manner::{Fate, Manner};
+use crate::manner::{Behaviour, Manner};
 use cue_show::DeviceNo;
 use std::alloc::{AllocError, Global};
 use std::fmt;
@@ -102,15 +102,15 @@ impl Plan {
     }
 
     /// What becomes of a device. One that is in several lists is silent first, and else refuses.
-    pub fn fate_of(&self, device: DeviceNo) -> Fate {
+    pub fn behaviour_of(&self, device: DeviceNo) -> Behaviour {
         if has(&self.silent, device) {
-            Fate::Silent
+            Behaviour::Silent
         } else if has(&self.refuses, device) {
-            Fate::Refuses
+            Behaviour::Refuses
         } else if has(&self.fails, device) {
-            Fate::Fails
+            Behaviour::Fails
         } else {
-            Fate::Plays
+            Behaviour::Plays
         }
     }
 
@@ -119,7 +119,7 @@ impl Plan {
         Manner {
             prepare: self.prepare,
             moving: self.moving,
-            fate: self.fate_of(device),
+            behaviour: self.behaviour_of(device),
         }
     }
 }

@@ -63,14 +63,14 @@ impl Player {
         longer: u32,
         out: &mut [u8; MAX_ANSWER],
     ) -> (Option<Order>, usize)
-        ensures silent { IsTrue (is_silent self.old.manner.fate) → (self.new ≡ self.old) × (result ≡ (None, 0)) }
-        ensures heard { is_silent self.old.manner.fate ≡ false
+        ensures silent { IsTrue (is_silent self.old.manner.behaviour) → (self.new ≡ self.old) × (result ≡ (None, 0)) }
+        ensures heard { is_silent self.old.manner.behaviour ≡ false
             → HearsDatagram datagram.now self.old.device self.new.device result.0 (take result.1 out.new) }
         ensures work { self.new.work ≡ work_after (begun self.old.manner now longer) result.0 self.old.work }
         ensures manner { self.new.manner ≡ self.old.manner }
         ensures short { result.1 ≤ 32 }
     {
-        if self.manner.fate.is_silent() {
+        if self.manner.behaviour.is_silent() {
             return (None, 0);
         }
         let (order, len) = self.device.hear_datagram(datagram, out);
@@ -101,7 +101,7 @@ impl Player {
         ensures said { result ≡ answer_at_end order self.old }
     {
         self.work = None;
-        let reported = if self.manner.fate.breaks_at(order) {
+        let reported = if self.manner.behaviour.breaks_at(order) {
             self.device.cannot()
         } else {
             match order {

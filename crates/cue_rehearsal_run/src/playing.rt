@@ -1,5 +1,5 @@
 //! The loop over the sockets of all devices.
-use crate::seat::{Hall, Seat, seat_of};
+use crate::seat::{Seat, Shared, seat_of};
 use cue_desk::counting::Count;
 use cue_desk::ending::Ending;
 use cue_rehearsal::{Chance, Plan};
@@ -36,20 +36,20 @@ fn seats_of<R: Net + Eprint + AllocGlobal>(
 fn play_round<R: AllocGlobal, W: Write>(
     rt: &R,
     seats: &mut [Seat],
-    hall: &mut Hall,
+    shared: &mut Shared,
     writer: &mut W,
 ) -> Result<(), Ending> {
     for seat in seats {
-        seat.hear_all(rt, hall, writer)?;
-        seat.work(rt, hall, writer)?;
+        seat.hear_all(rt, shared, writer)?;
+        seat.work(rt, shared, writer)?;
     }
     Ok(())
 }
 
 // Each device repeats the abort that nobody asked for.
-fn tick(seats: &[Seat], hall: &mut Hall) {
+fn tick(seats: &[Seat], shared: &mut Shared) {
     for seat in seats {
-        seat.send_answer(hall, seat.player.tick());
+        seat.send_answer(shared, seat.player.tick());
     }
 }
 
@@ -65,17 +65,17 @@ fn since<C: Clock>(clock: &C, start: Instant) -> Result<u64, Ending> {
 fn play_on<R: Clock + AllocGlobal, W: Write>(
     rt: &R,
     seats: &mut [Seat],
-    hall: &mut Hall,
+    shared: &mut Shared,
     writer: &mut W,
 ) -> Result<(), Ending> {
     let Ok(start) = Instant::now(rt) else {
         return Err(Ending::Failed);
     };
     for round in 0..u64::MAX {
-        hall.now = since(rt, start)?;
-        play_round(rt, seats, hall, writer)?;
+        shared.now = since(rt, start)?;
+        play_round(rt, seats, shared, writer)?;
         if round % ROUNDS == 0 {
-            tick(seats, hall);
+            tick(seats, shared);
         }
         thread::sleep(rt, Duration::from_millis(PAUSE));
     }
@@ -112,10 +112,10 @@ pub fn play<R: Net + Clock + Eprint + AllocGlobal, W: Write>(
 ) -> Result<(), Ending> {
     let mut seats = seats_of(rt, file, &plan)?;
     say_who_plays(rt, seats.len(), writer)?;
-    let mut hall = Hall {
+    let mut shared = Shared {
         plan,
         chance: Chance::new(seed),
         now: 0,
     };
-    play_on(rt, &mut seats, &mut hall, writer)
+    play_on(rt, &mut seats, &mut shared, writer)
 }

@@ -24,7 +24,7 @@ pub(crate) struct Seat {
 
 /// What all seats share.
 #[derive(Drop)]
-pub(crate) struct Hall {
+pub(crate) struct Shared {
     pub(crate) plan: Plan,
     pub(crate) chance: Chance,
     /// Milliseconds since the rehearsal began.
@@ -46,18 +46,18 @@ impl Seat {
     }
 
     // Sends an answer to where the last datagram came from, unless it is lost.
-    fn send(&self, hall: &mut Hall, answer: &[u8]) {
-        if answer.is_empty() || hall.chance.is_lost(hall.plan.loss) {
+    fn send(&self, shared: &mut Shared, answer: &[u8]) {
+        if answer.is_empty() || shared.chance.is_lost(shared.plan.loss) {
             return;
         }
         let _ = self.socket.send_to(answer, self.controller);
     }
 
     /// Sends the answer of the device, where it has one.
-    pub(crate) fn send_answer(&self, hall: &mut Hall, answer: Option<Answer>) {
+    pub(crate) fn send_answer(&self, shared: &mut Shared, answer: Option<Answer>) {
         let mut out = [0; MAX_ANSWER];
         let len = self.player.device().write_answer(answer, &mut out);
-        self.send(hall, &out[..len]);
+        self.send(shared, &out[..len]);
     }
 
     // Tells a deed of the device on a line of its own.
@@ -78,14 +78,14 @@ impl Seat {
     }
 
     // Hears one datagram: the order that came of it.
-    fn hear(&mut self, hall: &mut Hall, datagram: &[u8]) -> Option<Order> {
-        if hall.chance.is_lost(hall.plan.loss) {
+    fn hear(&mut self, shared: &mut Shared, datagram: &[u8]) -> Option<Order> {
+        if shared.chance.is_lost(shared.plan.loss) {
             return None;
         }
-        let longer = hall.chance.up_to(hall.plan.spread);
+        let longer = shared.chance.up_to(shared.plan.spread);
         let mut out = [0; MAX_ANSWER];
-        let (order, len) = self.player.hear(datagram, hall.now, longer, &mut out);
-        self.send(hall, &out[..len]);
+        let (order, len) = self.player.hear(datagram, shared.now, longer, &mut out);
+        self.send(shared, &out[..len]);
         order
     }
 
@@ -93,7 +93,7 @@ impl Seat {
     pub(crate) fn hear_all<R: AllocGlobal, W: Write>(
         &mut self,
         rt: &R,
-        hall: &mut Hall,
+        shared: &mut Shared,
         writer: &mut W,
     ) -> Result<(), Ending> {
         let mut buffer = [0; MAX_LEN];
@@ -101,7 +101,7 @@ impl Seat {
             let Some(n) = self.next(&mut buffer) else {
                 return Ok(());
             };
-            if let Some(order) = self.hear(hall, &buffer[..n]) {
+            if let Some(order) = self.hear(shared, &buffer[..n]) {
                 self.tell(rt, Deed::of_order(order), writer)?;
             }
         }
@@ -112,14 +112,14 @@ impl Seat {
     pub(crate) fn work<R: AllocGlobal, W: Write>(
         &mut self,
         rt: &R,
-        hall: &mut Hall,
+        shared: &mut Shared,
         writer: &mut W,
     ) -> Result<(), Ending> {
-        let Some(order) = self.player.due(hall.now) else {
+        let Some(order) = self.player.due(shared.now) else {
             return Ok(());
         };
         let answer = self.player.end(order);
-        self.send_answer(hall, answer);
+        self.send_answer(shared, answer);
         match answer.and_then(Deed::of_answer) {
             Some(deed) => self.tell(rt, deed, writer),
             None => Ok(()),

@@ -1,3 +1,2 @@
 pub mod Following
 pub mod Fronts
-pub mod Naming

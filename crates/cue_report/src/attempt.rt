@@ -3,7 +3,7 @@ ghost use Rattle.std.specs.Prelude.{◌≡◌, ◌-◌, Some};
 ghost use Rattle.cue_report.specs.Following as spec;
 
 use crate::entry::{OrderKind, Try};
-use crate::naming::AskerName;
+use cue_asker::AskerName;
 use cue_exchange::Outcome;
 use cue_show::{CueNo, DeviceNo};
 use std::alloc::{AllocError, Global};

@@ -9,8 +9,8 @@ use Rattle.cue_view.specs.declared.button.Button.TheVariants as button
 use Rattle.cue_request.specs.Laws.{FiveClose, NoSixthWord, TakenSaysTheWord}
 use Rattle.cue_request.specs.Locks.{after, after_wrong, counted, is_closed, is_fifth, is_within, lock_of, needs_word}
 use Rattle.cue_request.specs.Locks.{open_verdict, said_at, said_of, untouched, verdict, verdict_on}
-use Rattle.cue_request.specs.declared.door.Purpose.{Purpose}
-use Rattle.cue_request.specs.declared.door.Purpose.TheVariants as purpose
+use Rattle.cue_request.specs.declared.identity.Purpose.{Purpose}
+use Rattle.cue_request.specs.declared.identity.Purpose.TheVariants as purpose
 use Rattle.cue_request.specs.declared.lock.Guard.{Guard}
 use Rattle.cue_request.specs.declared.lock.Said.{Said}
 use Rattle.cue_request.specs.declared.lock.Said.TheVariants as said

@@ -2,7 +2,7 @@
 use Rattle.std.specs.Prelude.{◌≡◌, ℕ, ◌+◌, ◌<◌, ◌≤◌, false, true, List, [], ◌∷◌, ⊤, Option, None, Some, IsTrue}
 use Rattle.cue_view.specs.declared.button.Button.{Button}
 use Rattle.cue_request.specs.Locks.{after, is_closed, lock_of, needs_word, said_at, untouched, verdict_on}
-use Rattle.cue_request.specs.declared.door.Purpose.{Purpose}
+use Rattle.cue_request.specs.declared.identity.Purpose.{Purpose}
 use Rattle.cue_request.specs.declared.lock.Guard.{Guard}
 use Rattle.cue_request.specs.declared.lock.Said.TheVariants as said
 

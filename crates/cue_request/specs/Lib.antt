@@ -1,5 +1,5 @@
 pub mod Answers
-pub mod Doors
+pub mod Identity
 pub mod Fields
 pub mod Laws
 pub mod Lit

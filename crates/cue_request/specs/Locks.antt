@@ -6,8 +6,8 @@ use Rattle.std.specs.List.{list_all}
 use Rattle.cue_show.specs.Number.{same_text}
 use Rattle.cue_view.specs.declared.button.Button.{Button}
 use Rattle.cue_view.specs.declared.button.Button.TheVariants as button
-use Rattle.cue_request.specs.declared.door.Purpose.{Purpose}
-use Rattle.cue_request.specs.declared.door.Purpose.TheVariants as purpose
+use Rattle.cue_request.specs.declared.identity.Purpose.{Purpose}
+use Rattle.cue_request.specs.declared.identity.Purpose.TheVariants as purpose
 use Rattle.cue_request.specs.declared.lock.Guard.{Guard}
 use Rattle.cue_request.specs.declared.lock.Said.{Said}
 use Rattle.cue_request.specs.declared.lock.Said.TheVariants as said

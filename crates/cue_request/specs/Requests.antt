@@ -3,12 +3,12 @@ use Rattle.std.specs.Prelude.{◌≡◌, ℕ, ◌≤◌, List, length, take, map
 use Rattle.std.specs.Fmt.{decimal}
 use Rattle.httparse.specs.Grammar.{ReadsRequest, RequestHead}
 use Rattle.httparse.specs.Spans.{name_and_value}
-use Rattle.cue_request.specs.Doors.{IsAskedHere, IsFromPage, IsOfOthers, IsPlayed}
+use Rattle.cue_request.specs.Identity.{IsAskedHere, IsFromPage, IsOfOthers, IsPlayed}
 use Rattle.cue_request.specs.Fields.{only_value}
-use Rattle.cue_request.specs.declared.door.Door.{Door}
+use Rattle.cue_request.specs.declared.identity.PageIdentity.{PageIdentity}
 use Rattle.cue_request.specs.declared.request.Head.{Head}
-use Rattle.cue_request.specs.declared.request.Wish.{Wish}
-use Rattle.cue_request.specs.declared.request.Wish.TheVariants as wish
+use Rattle.cue_request.specs.declared.request.Asked.{Asked}
+use Rattle.cue_request.specs.declared.request.Asked.TheVariants as asked
 
 -- the value of the field of this name, where exactly one has it
 abbrev pub field : RequestHead → List ℕ → Option (List ℕ)
@@ -27,34 +27,34 @@ pub record IsHeadOf (head : Head) (read : RequestHead) : Type 0 where
 
 -- Bytes begin with a head by the grammar of RFC 9112 that came to a host of the page, and from no page of another
 -- origin or site.
-pub record IsAsked (door : Door) (bytes : List ℕ) : Type 0 where
+pub record IsAsked (identity : PageIdentity) (bytes : List ℕ) : Type 0 where
   pub read : RequestHead
   pub rest : List ℕ
   pub reads : ReadsRequest bytes read rest
-  pub here : IsAskedHere door (field read (codes "host")) (field read (codes "origin"))
+  pub here : IsAskedHere identity (field read (codes "host")) (field read (codes "origin"))
   pub own : IsOfOthers (field read (codes "sec-fetch-site")) → ⊥
 
 -- A head is that of a command: our own page asks it, whose buttons are pressed, and says that its body has so many
 -- bytes.
-pub record IsCommandHead (door : Door) (head : Head) (size : ℕ) : Type 0 where
-  pub played : IsPlayed door.purpose
+pub record IsCommandHead (identity : PageIdentity) (head : Head) (size : ℕ) : Type 0 where
+  pub played : IsPlayed identity.purpose
   pub method : head.method.now ≡ codes "POST"
   pub target : head.target.now ≡ codes "/command"
-  pub sent : IsFromPage door (option_map (λ v. v.now) head.host) (option_map (λ v. v.now) head.origin)
+  pub sent : IsFromPage identity (option_map (λ v. v.now) head.host) (option_map (λ v. v.now) head.origin)
       (option_map (λ v. v.now) head.token)
   pub short : size ≤ 256
   pub length : option_map (λ v. v.now) head.length ≡ Some (decimal size)
 
 -- Bytes begin with a command: a head by the grammar of RFC 9112 that our own page sent, whose buttons are pressed, this
 -- short body, which is as long as the head says, and what the head has of the word of the lock.
-pub record IsCommand (door : Door) (bytes body : List ℕ) (word : Option (List ℕ)) : Type 0 where
-  pub played : IsPlayed door.purpose
+pub record IsCommand (identity : PageIdentity) (bytes body : List ℕ) (word : Option (List ℕ)) : Type 0 where
+  pub played : IsPlayed identity.purpose
   pub read : RequestHead
   pub rest : List ℕ
   pub reads : ReadsRequest bytes read rest
   pub method : read.method ≡ codes "POST"
   pub target : read.target ≡ codes "/command"
-  pub sent : IsFromPage door (field read (codes "host")) (field read (codes "origin"))
+  pub sent : IsFromPage identity (field read (codes "host")) (field read (codes "origin"))
       (field read (codes "cuedesk-token"))
   pub short : length body ≤ 256
   pub whole : field read (codes "content-length") ≡ Some (decimal (length body))
@@ -62,8 +62,8 @@ pub record IsCommand (door : Door) (bytes body : List ℕ) (word : Option (List 
   pub says : word ≡ field read (codes "cuedesk-word")
 
 -- where a command is wished, this holds of the length of its body
-abbrev pub OnCommand : Wish → (ℕ → Type 0) → Type 0
-OnCommand (wish.Command size) holds = holds size
-OnCommand wish.Page holds = ⊤
-OnCommand wish.Board holds = ⊤
-OnCommand wish.ShowFile holds = ⊤
+abbrev pub OnCommand : Asked → (ℕ → Type 0) → Type 0
+OnCommand (asked.Command size) holds = holds size
+OnCommand asked.Page holds = ⊤
+OnCommand asked.Board holds = ⊤
+OnCommand asked.ShowFile holds = ⊤

@@ -4,7 +4,7 @@ ghost use Rattle.std.specs.Char.{is_ascii_graphic};
 ghost use Rattle.std.specs.List.{list_all};
 ghost use Rattle.cue_request.specs.Locks as locks;
 
-use crate::door::Purpose;
+use crate::identity::Purpose;
 use crate::request::Refusal;
 use cue_view::button::Button;
 

@@ -4,11 +4,11 @@ ghost use Rattle.std.specs.Prelude.{All, IfSome, IfOk, Some};
 ghost use Rattle.std.specs.Fmt.{decimal};
 ghost use Rattle.httparse.specs.Grammar.{ReadsRequest, RequestHead};
 ghost use Rattle.httparse.specs.Spans.{header_bytes, name_and_value, span_bytes, IsHeaderWithin, IsWithin};
-ghost use Rattle.cue_request.specs.Doors.{IsAskedHere, IsOfOthers};
+ghost use Rattle.cue_request.specs.Identity.{IsAskedHere, IsOfOthers};
 ghost use Rattle.cue_request.specs.Requests.{IsAsked, IsCommand, IsCommandHead, IsHeadOf, OnCommand};
 
-use crate::door::{Door, is_asked_here, is_from_page, is_played};
 use crate::fields::only_value;
+use crate::identity::{PageIdentity, is_asked_here, is_from_page, is_played};
 use crate::numbers::number_in;
 use httparse::Status;
 use httparse::spans::{EMPTY_HEADER_SPAN, HeaderSpan, RequestSpans, parse_request};
@@ -40,7 +40,7 @@ pub struct Head<'a> {
 
 /// What a request asks of the page.
 #[derive(Clone, Copy, Debug, PartialEq, Eq)]
-pub enum Wish {
+pub enum Asked {
     Page,
     Board,
     ShowFile,
@@ -137,31 +137,31 @@ fn body_length(text: Option<&[u8]>) -> Result<usize, Refusal>
 }
 
 // What is asked at the target of the commands: a page that only shows takes nothing there, whatever comes.
-fn judge_command(door: &Door<'_>, head: &Head<'_>) -> Result<Wish, Refusal>
+fn judge_command(identity: &PageIdentity<'_>, head: &Head<'_>) -> Result<Asked, Refusal>
     requires target { head.now.target.now ≡ codes "/command" }
-    ensures { IfOk result (λ wish. OnCommand wish (IsCommandHead door.now head.now)) }
+    ensures { IfOk result (λ asked. OnCommand asked (IsCommandHead identity.now head.now)) }
 {
-    if !is_played(door.purpose) {
+    if !is_played(identity.purpose) {
         Err(Refusal::OnlyShows)
     } else if head.method != b"POST".as_slice() {
         Err(Refusal::Method)
-    } else if is_from_page(door, head.host, head.origin, head.token) {
-        Ok(Wish::Command(body_length(head.length)?))
+    } else if is_from_page(identity, head.host, head.origin, head.token) {
+        Ok(Asked::Command(body_length(head.length)?))
     } else {
         Err(Refusal::Foreign)
     }
 }
 
 // What is read at a target.
-fn judge_reading(target: &[u8]) -> Result<Wish, Refusal>
-    ensures { IfOk result (λ wish. OnCommand wish (λ _. ⊥)) }
+fn judge_reading(target: &[u8]) -> Result<Asked, Refusal>
+    ensures { IfOk result (λ asked. OnCommand asked (λ _. ⊥)) }
 {
     if target == b"/".as_slice() {
-        Ok(Wish::Page)
+        Ok(Asked::Page)
     } else if target == b"/board.json".as_slice() {
-        Ok(Wish::Board)
+        Ok(Asked::Board)
     } else if target == b"/show.toml".as_slice() {
-        Ok(Wish::ShowFile)
+        Ok(Asked::ShowFile)
     } else {
         Err(Refusal::Unknown)
     }
@@ -169,16 +169,16 @@ fn judge_reading(target: &[u8]) -> Result<Wish, Refusal>
 
 /// What a request with this head is allowed. Host, origin and token are looked at before anything else, and whether a
 /// page of another site asks.
-pub fn judge(door: &Door<'_>, head: &Head<'_>) -> Result<Wish, Refusal>
+pub fn judge(identity: &PageIdentity<'_>, head: &Head<'_>) -> Result<Asked, Refusal>
     ensures own { IfOk result (λ _. IsOfOthers (option_map (λ v. v.now) head.now.site) → ⊥) }
-    ensures here { IfOk result (λ _. IsAskedHere door.now (option_map (λ v. v.now) head.now.host)
+    ensures here { IfOk result (λ _. IsAskedHere identity.now (option_map (λ v. v.now) head.now.host)
         (option_map (λ v. v.now) head.now.origin)) }
-    ensures command { IfOk result (λ wish. OnCommand wish (IsCommandHead door.now head.now)) }
+    ensures command { IfOk result (λ asked. OnCommand asked (IsCommandHead identity.now head.now)) }
 {
-    if !is_asked_here(door, head.host, head.origin, head.site) {
+    if !is_asked_here(identity, head.host, head.origin, head.site) {
         Err(Refusal::Foreign)
     } else if head.target == b"/command".as_slice() {
-        judge_command(door, head)
+        judge_command(identity, head)
     } else if head.method == b"GET".as_slice() {
         judge_reading(head.target)
     } else {
@@ -189,7 +189,7 @@ pub fn judge(door: &Door<'_>, head: &Head<'_>) -> Result<Wish, Refusal>
 /// A request that has come whole.
 #[derive(Clone, Copy)]
 pub struct Request<'a> {
-    pub wish: Wish,
+    pub asked: Asked,
     /// What stands in its body: of a command, so many bytes as its head says; else nothing.
     pub body: &'a [u8],
     /// What it says of the word of the lock.
@@ -200,34 +200,37 @@ pub struct Request<'a> {
 fn with_body<'a>(
     bytes: &'a [u8],
     start: usize,
-    wish: Wish,
+    asked: Asked,
     word: Option<&'a [u8]>,
 ) -> Option<Request<'a>>
-    ensures wish { IfSome result (λ request. request.wish ≡ wish) }
+    ensures asked { IfSome result (λ request. request.asked ≡ asked) }
     ensures word { IfSome result (λ request.
         option_map (λ v. v.now) request.word ≡ option_map (λ v. v.now) word.entry) }
-    ensures body { IfSome result (λ request. OnCommand wish (λ size. (length request.body.now ≡ size)
+    ensures body { IfSome result (λ request. OnCommand asked (λ size. (length request.body.now ≡ size)
         × (request.body.now ≡ take size (drop start bytes.now)))) }
 {
-    let size = match wish {
-        Wish::Command(size) => size,
-        Wish::Page | Wish::Board | Wish::ShowFile => 0,
+    let size = match asked {
+        Asked::Command(size) => size,
+        Asked::Page | Asked::Board | Asked::ShowFile => 0,
     };
     let body = bytes.get(start..)?.get(..size)?;
-    Some(Request { wish, body, word })
+    Some(Request { asked, body, word })
 }
 
 /// The request at the front of what has come from one connection; none where it has not come whole. A head that is
 /// refused is so before its body has come.
-pub fn read_request<'a>(door: &Door<'_>, bytes: &'a [u8]) -> Result<Option<Request<'a>>, Refusal>
-    ensures asked { IfOk result (λ found. IfSome found (λ _. IsAsked door.now bytes.now)) }
-    ensures command { IfOk result (λ found. IfSome found (λ request. OnCommand request.wish (λ _.
-        IsCommand door.now bytes.now request.body.now (option_map (λ v. v.now) request.word)))) }
+pub fn read_request<'a>(
+    identity: &PageIdentity<'_>,
+    bytes: &'a [u8],
+) -> Result<Option<Request<'a>>, Refusal>
+    ensures asked { IfOk result (λ found. IfSome found (λ _. IsAsked identity.now bytes.now)) }
+    ensures command { IfOk result (λ found. IfSome found (λ request. OnCommand request.asked (λ _.
+        IsCommand identity.now bytes.now request.body.now (option_map (λ v. v.now) request.word)))) }
 {
     match read_head(bytes)? {
         Some((head, start)) => {
-            let wish = judge(door, &head)?;
-            Ok(with_body(bytes, start, wish, head.word))
+            let asked = judge(identity, &head)?;
+            Ok(with_body(bytes, start, asked, head.word))
         }
         None => Ok(None),
     }

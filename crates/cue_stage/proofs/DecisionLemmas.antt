@@ -101,7 +101,8 @@ cancel_rests from past es d q rest told =
 abbrev WerePending : Beginning → List Happening → List Event → Type 0
 WerePending from past es = AllByRecursion (λ m. BytesPending empty_state es m.1) (handed_by from past)
 
-go_of_attempt : (from : Beginning) (past : List Happening) (es : List Event) (d q : ℕ) → IsTrue (is_history (onto es []))
+go_of_attempt : (from : Beginning) (past : List Happening) (es : List Event) (d q : ℕ)
+    → IsTrue (is_history (onto es []))
     → WerePending from past es → WasTold from past d (Go q) → IsOfAttempt es q d
 go_of_attempt from past es d q h pending told =
     let m = told.delivered in

@@ -69,7 +69,8 @@ none_started q (e ∷ es) h = let w = neither (is_about q e) (list_any (is_about
     rw (quiet q e w.0).start (none_started q es w.1)
 
 -- an attempt that has started does not start again
-pub no_start : (q : ℕ) (es past : List Event) → IsTrue (is_history (onto es past)) → list_any (is_start_of q) past ≡ true
+pub no_start : (q : ℕ) (es past : List Event) → IsTrue (is_history (onto es past))
+    → list_any (is_start_of q) past ≡ true
     → list_any (is_start_of q) es ≡ false
 no_start q [] past h started = refl
 no_start q (e ∷ es) past h started =

@@ -1,8 +1,9 @@
 //! The page, served to the browsers of this machine: connections that keep nobody waiting, and what each is answered.
 //!
 //! A request is read by `cue_request`; a press is one step of the desk (`cue_desk_run`), and its answer is the view
-//! that follows. A round never waits: `Hall::admit` takes the connections that wait, at most 64, and `Hall::serve`
-//! hears and answers each. If memory runs out while an answer is made, that connection is closed, and the others go on.
+//! that follows. A round never waits: `Connections::admit` takes the connections that wait, at most 64, and
+//! `Connections::serve` hears and answers each. If memory runs out while an answer is made, that connection is closed,
+//! and the others go on.
 //!
 //! Why it is so:
 //! - Many connections side by side, each for a second: a browser opens connections before it needs them and says
@@ -16,9 +17,9 @@
 //! Only tested: the connections.
 #![tactic(auto)]
 
-mod hall;
+mod connection;
+mod connections;
 mod pages;
-mod visitor;
 
-pub use hall::Hall;
+pub use connections::Connections;
 pub use pages::{Beside, Pages};

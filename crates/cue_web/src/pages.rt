@@ -1,11 +1,11 @@
 //! What the page is answered: itself, the newest view, the show file, and the view that a press has made.
-use crate::visitor::{Asking, Pressed};
+use crate::connection::{Asking, Pressed};
 use cue_board::Names;
 use cue_desk_run::Desk;
 use cue_page::board::{Manner, view_text};
 use cue_page::page::{page_text, policy};
 use cue_request::answering::{Kind, NOTHING, Outcome, answer, refusal_words};
-use cue_request::door::{Door, Purpose};
+use cue_request::identity::{PageIdentity, Purpose};
 use cue_request::lock::Guard;
 use cue_request::replying::trouble_text;
 use cue_request::request::Refusal;
@@ -38,7 +38,7 @@ pub struct Beside {
 /// A page, and what it is answered from beside the desk.
 #[derive(Drop)]
 pub struct Pages<'a> {
-    door: Door<'a>,
+    identity: PageIdentity<'a>,
     // What has become of the words of the lock.
     guard: Guard,
     // The page with its token, and what it may do in a browser.
@@ -69,15 +69,15 @@ fn refused_answer(alloc: Global, refusal: Refusal) -> Result<String, AllocError>
 }
 
 impl<'a> Pages<'a> {
-    /// A page at this door, with what stands beside the views.
+    /// a page of this identity, with what stands beside the views.
     pub fn new(
         alloc: Global,
-        door: Door<'a>,
+        identity: PageIdentity<'a>,
         token: &str,
         beside: Beside,
     ) -> Result<Pages<'a>, AllocError> {
         Ok(Pages {
-            door,
+            identity,
             guard: Guard::new(),
             page: page_text(alloc, token)?,
             policy: policy(alloc)?,
@@ -103,8 +103,8 @@ impl<'a> Pages<'a> {
     }
 
     /// Where the page is.
-    pub fn door(&self) -> &Door<'a> {
-        &self.door
+    pub fn identity(&self) -> &PageIdentity<'a> {
+        &self.identity
     }
 
     // Draws the newest view, if it is not drawn yet.
@@ -123,8 +123,8 @@ impl<'a> Pages<'a> {
         };
         let manner = Manner {
             run: self.beside.run.as_str(),
-            is_locked: matches!(self.door.purpose, Purpose::Plays(Some(_))),
-            is_read_only: matches!(self.door.purpose, Purpose::Shows(_)),
+            is_locked: matches!(self.identity.purpose, Purpose::Plays(Some(_))),
+            is_read_only: matches!(self.identity.purpose, Purpose::Shows(_)),
             told: self.told.as_deref(),
         };
         self.text = view_text(alloc, view, &names, &manner)?;

@@ -3,9 +3,9 @@ use super::commands::{names_file, option, over_dir, port_or_file};
 use super::reporting::{asker, asker_in};
 use super::{option_in, port_in, text_in};
 use clap::{Arg, ArgAction, ArgMatches, Command, value_parser};
+use cue_asker::AskerName;
 use cue_desk::line::{LineFault, unfit};
 use cue_presses::{Address, Key, Keys};
-use cue_report::AskerName;
 use cue_show::CueNo;
 use std::alloc::{AllocError, Global};
 

@@ -8,9 +8,9 @@ use super::reporting::{asker, asker_in};
 use super::words::Line;
 use super::{cue_in, port_in};
 use clap::{Arg, ArgAction, ArgMatches, Command};
+use cue_asker::AskerName;
 use cue_desk::line::{LineFault, unfit};
-use cue_presses::Wish;
-use cue_report::AskerName;
+use cue_presses::Intent;
 use cue_show::CueNo;
 use std::alloc::{AllocError, Global};
 
@@ -25,7 +25,7 @@ const NO_STORE: &str =
 /// What is pressed by a word, at a desk without a browser.
 #[derive(Drop)]
 pub struct Pressed {
-    pub wish: Wish,
+    pub intent: Intent,
     /// The folder of the store.
     pub dir: String,
     /// How long it is waited for until it can be pressed, in seconds, if it is.
@@ -132,7 +132,7 @@ fn standby_in(
     ensures { IfOk result (IsPressedBy (codes "standby")) }
 {
     Ok(Line::Press(Pressed {
-        wish: Wish::Standby(None),
+        intent: Intent::Standby(None),
         dir: dir_in(alloc, found, "standby", environment)?,
         wait: None,
         port: port_in(alloc, found)?,
@@ -149,7 +149,7 @@ fn go_in(
     ensures { IfOk result (IsPressedBy (codes "go")) }
 {
     Ok(Line::Press(Pressed {
-        wish: Wish::Go(some_cue_in(alloc, found)?),
+        intent: Intent::Go(some_cue_in(alloc, found)?),
         dir: dir_in(alloc, found, "go", environment)?,
         wait: wait_in(alloc, found.get_str("wait"))?,
         port: port_in(alloc, found)?,

@@ -2,8 +2,8 @@
 use super::commands::option;
 use super::text_in;
 use clap::{Arg, ArgAction, ArgMatches, Command};
+use cue_asker::AskerName;
 use cue_desk::line::{LineFault, unfit};
-use cue_report::AskerName;
 use std::alloc::{AllocError, Global};
 
 /// Which evening is told, and how.

@@ -1,15 +1,15 @@
 //! The command `web`, and what stands after it.
 ghost use Rattle.std.specs.Prelude.{◌≡◌, ◌↔◌, string_bytes, IfOk, IfSome, IsTrue};
-ghost use Rattle.cue_request.specs.Doors.{IsName};
+ghost use Rattle.cue_request.specs.Identity.{IsName};
 ghost use Rattle.cue_desk_line.specs.Pages.{fit_of, IsLock, IsShown, IsUse};
 
 use super::commands::{flag, names_file, option, over_dir, port_or_file, relay_status};
 use super::reporting::{asker, asker_in};
 use super::{no_port, option_in, port_in, text_in};
 use clap::{Arg, ArgAction, ArgMatches, Command, value_parser};
+use cue_asker::AskerName;
 use cue_desk::line::{LineFault, unfit};
-use cue_report::AskerName;
-use cue_request::door::is_name;
+use cue_request::identity::is_name;
 use cue_request::lock::is_word;
 use std::alloc::{AllocError, Global};
 

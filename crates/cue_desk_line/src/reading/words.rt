@@ -4,8 +4,9 @@ use super::pressing::Pressed;
 use super::rehearsing::Rehearsal;
 use super::reporting::Report;
 use super::web::Web;
+use cue_asker::AskerName;
 use cue_desk::orders::Order;
-use cue_report::AskerName;
+use cue_loading::Manner;
 
 /// What the environment says, where a command line does not.
 #[derive(Clone, Copy)]
@@ -31,17 +32,6 @@ pub struct Watched {
     pub relay: Option<String>,
     /// The port of the controller, where the command line or the environment says it.
     pub port: Option<u16>,
-}
-
-/// What becomes of what is in the store already.
-#[derive(Clone, Copy, Debug, PartialEq, Eq)]
-pub enum Manner {
-    /// All of it stays as it is: what the file has and the store has not is added.
-    Adds,
-    /// What differs is replaced, and the stack gets the order of the file. What the file does not have stays.
-    Replaces,
-    /// The same, and what the file does not have is removed.
-    IsExact,
 }
 
 /// A command, as the words of a command line give it. A port in it is that of the controller, where the command line or

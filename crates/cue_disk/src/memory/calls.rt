@@ -16,34 +16,34 @@ ghost use Rattle.cue_disk.specs.Memory.{
   IsEnded,
 };
 ghost use Rattle.cue_disk.specs.Effect.{written_as, synced_as};
-ghost use Rattle.cue_disk.specs.Plan.{fate_of, goes_through};
+ghost use Rattle.cue_disk.specs.Plan.{outcome_of, goes_through};
 
 use crate::disk::{Disk, DiskFault};
 use crate::memory::MemDisk;
-use crate::plan::Fate;
+use crate::plan::CallOutcome;
 use std::alloc::AllocError;
 
 impl MemDisk {
     // Counts a call, and says what is planned for it.
-    fn begin(&mut self) -> Fate
-        ensures fate { result ≡ fate_of (memory_plan self.old) 1 }
+    fn begin(&mut self) -> CallOutcome
+        ensures outcome { result ≡ outcome_of (memory_plan self.old) 1 }
         ensures begun { IsBegun self.old self.new }
     {
-        let fate = self.plan.next();
+        let outcome = self.plan.next();
         self.plan.count();
         self.calls = self.calls.saturating_add(1);
-        fate
+        outcome
     }
 
     // What a call answers that was planned to end so and that did its work, or found no memory for it.
-    fn end(&mut self, fate: Fate, done: Result<(), AllocError>) -> Result<(), DiskFault>
+    fn end(&mut self, outcome: CallOutcome, done: Result<(), AllocError>) -> Result<(), DiskFault>
         ensures ended { IsEnded self.old self.new }
         ensures lacked { lacked_memory self.new ≡ is_err done }
-        ensures succeeds { is_ok result ≡ (goes_through fate && not (is_err done)) }
+        ensures succeeds { is_ok result ≡ (goes_through outcome && not (is_err done)) }
         ensures count { CountsFailure result (memory_failures self.old) (memory_failures self.new) }
     {
         self.lacked_memory = done.is_err();
-        if fate == Fate::Succeeds && done.is_ok() {
+        if outcome == CallOutcome::Succeeds && done.is_ok() {
             return Ok(());
         }
         self.failures = self.failures.saturating_add(1);
@@ -57,8 +57,8 @@ impl MemDisk {
         ensures succeeds { GoesAsPlanned result self.old }
         ensures count { CountsFailure result (memory_failures self.old) (memory_failures self.new) }
     {
-        let fate = self.begin();
-        self.end(fate, Ok(()))
+        let outcome = self.begin();
+        self.end(outcome, Ok(()))
     }
 }
 
@@ -115,12 +115,12 @@ impl Disk for MemDisk {
         ensures count { CountsFailure result (memory_failures self.old) (memory_failures self.new) }
         ensures counted { IsCounted self.old self.new }
         ensures succeeds { GoesWithMemory result self.old self.new }
-        ensures stored { memory_held self.new ≡ written_as (fate_of (memory_plan self.old) 1)
+        ensures stored { memory_held self.new ≡ written_as (outcome_of (memory_plan self.old) 1)
             (lacked_memory self.new) at bytes.now (memory_held self.old) }
     {
-        let fate = self.begin();
-        let done = self.medium.write_as(fate, at as usize, bytes);
-        self.end(fate, done)
+        let outcome = self.begin();
+        let done = self.medium.write_as(outcome, at as usize, bytes);
+        self.end(outcome, done)
     }
 
     fn sync(&mut self) -> Result<(), DiskFault>
@@ -132,12 +132,12 @@ impl Disk for MemDisk {
         ensures count { CountsFailure result (memory_failures self.old) (memory_failures self.new) }
         ensures counted { IsCounted self.old self.new }
         ensures succeeds { GoesWithMemory result self.old self.new }
-        ensures stored { memory_held self.new ≡ synced_as (fate_of (memory_plan self.old) 1) (lacked_memory self.new)
+        ensures stored { memory_held self.new ≡ synced_as (outcome_of (memory_plan self.old) 1) (lacked_memory self.new)
             (memory_held self.old) }
     {
-        let fate = self.begin();
-        let done = self.medium.sync_as(fate);
-        self.end(fate, done)
+        let outcome = self.begin();
+        let done = self.medium.sync_as(outcome);
+        self.end(outcome, done)
     }
 
     ghost held_now = { λ disk _. held_now disk.medium };

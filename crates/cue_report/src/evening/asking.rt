@@ -1,7 +1,7 @@
 //! Who asks, and for what.
 use crate::attempt::Who;
 use crate::entry::{Ordered, Reply};
-use crate::naming::AskerName;
+use cue_asker::AskerName;
 use cue_show::limits::MAX_DEVICES;
 use cue_show::{CueNo, DeviceNo};
 use std::alloc::{AllocError, Global};

@@ -1,7 +1,7 @@
 //! What the board has beside the store: the log of the evening, the status of a relay, what is told of the show file.
-use crate::program::files::words;
 use cue_board::log_lines;
 use cue_desk_run::read_status;
+use cue_files_run::words;
 use std::alloc::{AllocError, Global};
 use std::fs::{self, File, Files};
 use std::io::{self, Read, Seek, SeekFrom};

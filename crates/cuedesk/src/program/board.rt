@@ -5,13 +5,13 @@ ghost use Rattle.cuedesk.specs.Windows.{window_of};
 mod screen;
 
 use super::beside::{file_line, read_log, relay_line};
-use super::files::open_store;
 use super::port_of;
 use super::renewing::{Renewed, begin};
 use cue_board::{Names, board_lines};
 use cue_desk::ending::Ending;
 use cue_desk_line::Watched;
 use cue_desk_run::{Beat, Desk, Sources};
+use cue_files_run::open_store;
 use cue_saying::{failed, print, say, say_fault};
 use cue_show_file::ShowFile;
 use screen::Screen;

@@ -1,10 +1,10 @@
 //! The command `buttons`: a real desk presses over MIDI what the page would press.
-use super::files::read_file;
 use super::port_of;
 use cue_buttons_run::{Panel, Setting, hear_all};
 use cue_desk::ending::Ending;
 use cue_desk_line::Buttons;
 use cue_desk_run::{Desk, Sources};
+use cue_files_run::read_file;
 use cue_saying::failed;
 use std::fs::{File, Files};
 use std::io::{Eprint, Write};

@@ -32,5 +32,5 @@ pub fn press_word<R: Files<File = File> + Net + Clock + Eprint + AllocGlobal, W:
         Err(why) => return Err(failed(rt, &why)),
     };
     let wait = pressed.wait.map(|seconds| seconds.saturating_mul(SECOND));
-    Hand::new(rt, desk, pressed.wish, wait, port).press_once(writer)
+    Hand::new(rt, desk, pressed.intent, wait, port).press_once(writer)
 }

@@ -1,11 +1,11 @@
 //! The commands of an evening: one message each, as it was typed.
+use cue_asker::AskerName;
 use cue_desk::answered::{Answered, answer_in, ending_of};
 use cue_desk::ending::Ending;
 use cue_desk::orders::Order;
 use cue_desk::replying::{Replied, Status};
 use cue_desk_run::ask_once;
 use cue_exchange::Outcome;
-use cue_report::AskerName;
 use cue_saying::{print, say};
 use cue_station::heard::Heard;
 use cue_words::{code_words, outcome_words};

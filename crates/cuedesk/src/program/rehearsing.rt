@@ -1,7 +1,7 @@
 //! The command `rehearse`: every device of a show file at its own port.
-use super::files::read_sound;
 use cue_desk::ending::Ending;
 use cue_desk_line::{Rehearsal, with_flags};
+use cue_files_run::read_sound;
 use cue_rehearsal_run::{PlanPlace, knows_plan, plan_of, play};
 use std::fs::{File, Files};
 use std::io::{Eprint, Write};

@@ -1,8 +1,8 @@
 //! The command `relay`: it stands between the controller and devices that are on the stage's network.
 use super::PORT;
-use super::files::read_file;
 use cue_desk::counting::Count;
 use cue_desk::ending::Ending;
+use cue_files_run::read_file;
 use cue_relay::{Address, Relay, RelayFault, Route, run};
 use cue_relay_run::{NetSource, NetWire, Reporter, Sides, bind};
 use cue_saying::{print, say};

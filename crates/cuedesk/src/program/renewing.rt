@@ -1,10 +1,10 @@
 //! A show file that is looked at while a desk shows it, and read again once it has changed.
-use super::files::read_file;
 use super::port_of;
 use cue_desk::ending::Ending;
 use cue_desk::stamps::Stamp;
 use cue_desk_run::{Beat, wall_time};
 use cue_file_news::{Due, Kept, Look, Looks, News, Reading, Trouble, later_of, told_words};
+use cue_files_run::read_file;
 use cue_show_file::{Draft, ShowFile, check, condensed, read, routes};
 use std::alloc::{AllocError, Global};
 use std::fs::{self, File, Files};

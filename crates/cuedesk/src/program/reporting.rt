@@ -1,7 +1,7 @@
 //! The command `report`: an evening, by the log of `serve`.
-use super::files::read_file;
 use cue_desk::ending::Ending;
 use cue_desk_line::Report;
+use cue_files_run::read_file;
 use cue_report::{Evening, Names, html, text};
 use cue_saying::say;
 use cue_show_file::ShowFile;

@@ -1,6 +1,6 @@
 //! The command `sheet`.
-use super::files::read_file;
 use cue_desk::ending::Ending;
+use cue_files_run::read_file;
 use cue_saying::print;
 use cue_sheet::{sheet_page, sheet_text};
 use std::fs::{File, Files};

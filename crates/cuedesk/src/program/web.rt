@@ -5,9 +5,9 @@ use super::renewing::{Renewed, begin};
 use cue_desk::ending::Ending;
 use cue_desk_line::{PageUse, Web};
 use cue_desk_run::{Desk, Sources};
-use cue_request::door::{Door, Purpose};
+use cue_request::identity::{PageIdentity, Purpose};
 use cue_saying::{failed, print, say, say_fault};
-use cue_web::{Beside, Hall, Pages};
+use cue_web::{Beside, Connections, Pages};
 use hex::encode;
 use std::alloc::Global;
 use std::fs::{File, Files};
@@ -26,7 +26,7 @@ const TOKEN_BYTES: usize = 16;
 #[derive(Drop)]
 struct Server<'a, R> {
     rt: &'a R,
-    hall: Hall,
+    connections: Connections,
     desk: Desk<'a, R>,
     pages: Pages<'a>,
     renewed: Option<Renewed<'a>>,
@@ -63,8 +63,9 @@ impl<R: Files<File = File> + Net + Clock + Eprint + AllocGlobal> Server<'_, R> {
     fn round(&mut self) -> io::Result<()> {
         let alloc = self.rt.alloc();
         let now = self.desk.now()?;
-        let is_waited_for = self.hall.admit(alloc, self.desk.registry(), now);
-        self.hall.serve(alloc, &mut self.desk, &mut self.pages, now);
+        let is_waited_for = self.connections.admit(alloc, self.desk.registry(), now);
+        self.connections
+            .serve(alloc, &mut self.desk, &mut self.pages, now);
         self.desk.round()?;
         self.renew()?;
         self.desk.wait(if is_waited_for { 0 } else { PAUSE })
@@ -83,13 +84,13 @@ impl<R: Files<File = File> + Net + Clock + Eprint + AllocGlobal> Server<'_, R> {
 }
 
 // Listens at this port; else why it cannot is said.
-fn open_hall<R: Files<File = File> + Net + Clock + Eprint + AllocGlobal>(
+fn listen<R: Files<File = File> + Net + Clock + Eprint + AllocGlobal>(
     rt: &R,
     desk: &Desk<'_, R>,
     port: u16,
-) -> Result<Hall, Ending> {
-    match Hall::new(rt, desk.registry(), port) {
-        Ok(hall) => Ok(hall),
+) -> Result<Connections, Ending> {
+    match Connections::new(rt, desk.registry(), port) {
+        Ok(connections) => Ok(connections),
         Err(why) => {
             say(rt, format_args!("no page at port {port}: {why}"));
             Err(Ending::Failed)
@@ -141,7 +142,7 @@ pub fn serve_page<
         relay: web.relay.as_deref(),
         name: web.name,
     };
-    let door = Door {
+    let identity = PageIdentity {
         port: web.http,
         token: token.as_bytes(),
         purpose: purpose_of(&web.page_use, word.as_deref()),
@@ -152,12 +153,12 @@ pub fn serve_page<
         port: sources.port,
         run,
     };
-    let pages = Pages::new(rt.alloc(), door, token.as_str(), beside)?;
-    let hall = open_hall(rt, &desk, web.http)?;
+    let pages = Pages::new(rt.alloc(), identity, token.as_str(), beside)?;
+    let connections = listen(rt, &desk, web.http)?;
     say_where(rt.alloc(), web.http, writer)?;
     let mut server = Server {
         rt,
-        hall,
+        connections,
         desk,
         pages,
         renewed,

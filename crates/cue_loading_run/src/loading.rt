@@ -1,0 +1,174 @@
+//! Loading a show file: what the store has not is added, or a plan puts the file in the place of what differs; and then
+//! the store is compared with the file.
+mod adding;
+mod asking;
+mod comparing;
+mod counts;
+mod order;
+mod progress;
+mod replacing;
+
+use crate::wire::Wire;
+use asking::Asker;
+use comparing::{Compared, say_differences};
+use counts::{Became, Counts};
+use cue_desk::ending::Ending;
+use cue_desk::ports::controller_port;
+use cue_files_run::{Sound, read_sound};
+use cue_loading::Manner;
+use cue_show_file::{ShowFile, Subject};
+use progress::Progress;
+use std::fs::{File, Files};
+use std::io::{Eprint, Write};
+use std::net::Net;
+
+/// What is loaded, and how.
+#[derive(Clone, Copy)]
+pub struct Loaded<'a> {
+    /// The show file.
+    pub path: &'a str,
+    /// The folder of the store, where it is known.
+    pub dir: Option<&'a str>,
+    pub manner: Manner,
+    /// Whether it says on the way how far it has come.
+    pub tells: bool,
+}
+
+/// A loading.
+#[derive(Drop)]
+struct Loading<'a, R, W: Write> {
+    asker: Asker<'a, R>,
+    progress: Progress<'a, W>,
+    // Whether something was removed, which may not be back yet.
+    is_open: bool,
+}
+
+impl<'a, R: Net + Eprint + AllocGlobal, W: Write> Loading<'a, R, W> {
+    // Counts what became of one more, and says so where it was refused.
+    fn count(&mut self, counts: &mut Counts, subject: Subject, became: Became) {
+        if let Became::Refused(code) = became {
+            self.progress.clear();
+            self.asker.say_refused(subject, code);
+        }
+        counts.count(became);
+    }
+
+    // Adds what the file has, devices first, and says what became of all.
+    fn add(&mut self, file: &ShowFile) -> Result<Added, Ending> {
+        let devices = self.load_devices(&file.devices)?;
+        let (cues, comes_late) = self.load_cues(&file.cues)?;
+        self.progress.clear();
+        let alloc = self.asker.alloc();
+        self.progress
+            .print(devices.text(alloc, "devices")?.as_str())?;
+        self.progress.print(cues.text(alloc, "cues")?.as_str())?;
+        Ok(Added {
+            is_refused: devices.refused > 0 || cues.refused > 0,
+            comes_late,
+        })
+    }
+
+    // The same, where it may end early.
+    fn run(&mut self, file: &ShowFile) -> Result<Added, Ending> {
+        match self.add(file) {
+            Ok(added) => Ok(added),
+            Err(ending) => {
+                self.progress.clear();
+                self.asker.say_unanswered();
+                Err(ending)
+            }
+        }
+    }
+
+    // Says that the store was not compared with the file, and how it is.
+    fn tell_uncompared(&mut self, path: &str) -> Result<(), Ending> {
+        let text = format!(in self.asker.alloc();
+            "not compared with what else the store has, nor with its order: \
+             cuedesk load {path} FOLDER does, with its folder\n"
+        )?;
+        self.progress.print(text.as_str())
+    }
+}
+
+/// What the replies say of an adding.
+#[derive(Clone, Copy)]
+struct Added {
+    is_refused: bool,
+    // Whether a cue that is new may stand after one that was there, and that the file has after it.
+    comes_late: bool,
+}
+
+// Adds what the file has, and compares the store with it where its folder is known.
+fn add_all<R: Files<File = File> + Net + Eprint + AllocGlobal, W: Write>(
+    rt: &R,
+    sound: &Sound,
+    what: Loaded<'_>,
+    mut loading: Loading<'_, R, W>,
+) -> Result<(), Ending> {
+    let added = loading.run(&sound.file)?;
+    let differs = match what.dir {
+        Some(dir) => {
+            let stored = loading.asker.stored(dir)?;
+            say_differences(rt, Compared::added(what.path, dir), &sound.show, &stored)?
+        }
+        None => {
+            loading.tell_uncompared(what.path)?;
+            if added.comes_late {
+                loading.asker.say_other_order();
+            }
+            added.comes_late
+        }
+    };
+    if added.is_refused || differs {
+        Err(Ending::Refused)
+    } else {
+        Ok(())
+    }
+}
+
+// Puts the file in the place of what differs, and compares the store with it.
+fn replace_all<R: Files<File = File> + Net + Eprint + AllocGlobal, W: Write>(
+    rt: &R,
+    sound: &Sound,
+    what: Loaded<'_>,
+    dir: &str,
+    mut loading: Loading<'_, R, W>,
+) -> Result<(), Ending> {
+    let is_exact = what.manner == Manner::IsExact;
+    loading.replace(&sound.show, dir, is_exact)?;
+    let stored = loading.asker.stored(dir)?;
+    let compared = Compared::replaced(what.path, dir);
+    if say_differences(rt, compared, &sound.show, &stored)? {
+        Err(Ending::Refused)
+    } else {
+        Ok(())
+    }
+}
+
+/// The command `load`. It may be called again: what is there already is known. A message without a reply is sent again,
+/// four times at most. It ends with status 1 where something is refused, or where the store is not what the file says.
+pub fn load<R: Files<File = File> + Net + Eprint + AllocGlobal, W: Write>(
+    rt: &R,
+    what: Loaded<'_>,
+    port: Option<u16>,
+    writer: &mut W,
+) -> Result<(), Ending> {
+    let sound = read_sound(rt, what.path)?;
+    let port = controller_port(port, sound.file.port);
+    let all = sound
+        .file
+        .devices
+        .len()
+        .saturating_add(sound.file.cues.len());
+    let loading = Loading {
+        asker: Asker::new(rt, port, Wire::new(rt, port)?),
+        progress: Progress::new(rt.alloc(), what.tells, all, writer),
+        is_open: false,
+    };
+    match (what.manner, what.dir) {
+        (Manner::Replaces | Manner::IsExact, Some(dir)) => {
+            replace_all(rt, &sound, what, dir, loading)
+        }
+        _ => add_all(rt, &sound, what, loading),
+    }
+}

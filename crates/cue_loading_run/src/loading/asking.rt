@@ -1,0 +1,231 @@
+//! What is asked while a show file is loaded: again where no reply came, with words where it is refused.
+ghost use Rattle.std.specs.Prelude.{◌≡◌, IfOk, IfSome, length};
+
+use crate::wire::{Sendings, Wire};
+use cue_desk::answered::{Answered, push};
+use cue_desk::asking::{Asked, bundle_of_cues, bundle_of_devices};
+use cue_desk::ending::Ending;
+use cue_desk::hearing::reply_in;
+use cue_desk::replying::{Replied, Status};
+use cue_loading::live_words;
+use cue_saying::say;
+use cue_show::CueNo;
+use cue_show_file::{CueEntry, DeviceEntry, Subject};
+use cue_words::code_words;
+use std::alloc::Global;
+use std::io::Eprint;
+use std::net::Net;
+
+/// The most times that a message is sent.
+const MAX_SENDINGS: u32 = 4;
+
+/// Asks one thing after the other.
+#[derive(Drop)]
+pub struct Asker<'a, R> {
+    rt: &'a R,
+    port: u16,
+    wire: Wire,
+    // What nobody replied to.
+    unanswered: Option<Subject>,
+}
+
+impl<'a, R: Net + Eprint + AllocGlobal> Asker<'a, R> {
+    /// Asks the controller at this port, for which this is the first socket.
+    pub fn new(rt: &'a R, port: u16, wire: Wire) -> Asker<'a, R> {
+        Asker {
+            rt,
+            port,
+            wire,
+            unanswered: None,
+        }
+    }
+
+    /// What the machine offers.
+    pub fn rt(&self) -> &'a R {
+        self.rt
+    }
+
+    /// Where memory is taken from.
+    pub fn alloc(&self) -> Global {
+        self.rt.alloc()
+    }
+
+    // Sends the message, and again where no reply came. Each sending after the first has a socket of its own, so that a
+    // late reply to an earlier one is not taken for the reply to another message.
+    fn hear(&mut self, asked: &Asked<'_>) -> Result<Option<Replied>, Ending> {
+        for _ in 0..MAX_SENDINGS {
+            let heard = self.wire.ask(self.rt.alloc(), asked, Sendings::OfSome)?;
+            if let Some(replied) = reply_in(heard) {
+                return Ok(Some(replied));
+            }
+            self.wire = Wire::new(self.rt, self.port)?;
+        }
+        Ok(None)
+    }
+
+    /// Asks it. Where nobody replies the loading ends, and `say_unanswered` says of what.
+    pub fn ask(&mut self, subject: Subject, asked: &Asked<'_>) -> Result<Answered, Ending> {
+        match self.hear(asked)? {
+            Some(replied) => Ok(Answered::of(replied)),
+            None => {
+                self.unanswered = Some(subject);
+                Err(Ending::Silent)
+            }
+        }
+    }
+
+    // Asks by one datagram; none where one of so many replies did not come.
+    fn ask_together(
+        &mut self,
+        datagram: &[u8],
+        address: &[u8],
+        count: usize,
+    ) -> Result<Option<Vec<Answered>>, Ending>
+        ensures { IfOk result (λ some. IfSome some (λ answers. length answers.items ≡ count)) }
+    {
+        let alloc = self.rt.alloc();
+        let answers = self.wire.ask_together(alloc, datagram, address, count)?;
+        if answers.is_none() {
+            self.wire = Wire::new(self.rt, self.port)?;
+        }
+        Ok(answers)
+    }
+
+    // Adds each of these devices by itself.
+    fn add_each_device(&mut self, entries: &[DeviceEntry]) -> Result<Vec<Answered>, Ending>
+        ensures { IfOk result (λ answers. length answers.items ≡ length entries.now) }
+    {
+        let mut answers = Vec::new(self.rt.alloc());
+        for entry in entries {
+            let asked = Asked::AddDevice(entry.number, entry.port);
+            push(
+                &mut answers,
+                self.ask(Subject::Device(entry.number), &asked)?,
+            )?;
+        }
+        Ok(answers)
+    }
+
+    // Adds each of these cues by itself.
+    fn add_each_cue(&mut self, entries: &[CueEntry]) -> Result<Vec<Answered>, Ending>
+        ensures { IfOk result (λ answers. length answers.items ≡ length entries.now) }
+    {
+        let mut answers = Vec::new(self.rt.alloc());
+        for entry in entries {
+            let asked = Asked::AddCue(entry.number, &entry.parts);
+            push(&mut answers, self.ask(Subject::Cue(entry.number), &asked)?)?;
+        }
+        Ok(answers)
+    }
+
+    /// Adds these devices by one datagram, and each by itself where a reply to that did not come: what became of each.
+    pub fn add_devices(&mut self, entries: &[DeviceEntry]) -> Result<Vec<Answered>, Ending>
+        ensures { IfOk result (λ answers. length answers.items ≡ length entries.now) }
+    {
+        let Ok(datagram) = bundle_of_devices(self.rt.alloc(), entries) else {
+            return self.add_each_device(entries);
+        };
+        match self.ask_together(&datagram, b"/show/device", entries.len())? {
+            Some(answers) => Ok(answers),
+            None => self.add_each_device(entries),
+        }
+    }
+
+    /// Adds these cues likewise.
+    pub fn add_cues(&mut self, entries: &[CueEntry]) -> Result<Vec<Answered>, Ending>
+        ensures { IfOk result (λ answers. length answers.items ≡ length entries.now) }
+    {
+        let Ok(datagram) = bundle_of_cues(self.rt.alloc(), entries) else {
+            return self.add_each_cue(entries);
+        };
+        match self.ask_together(&datagram, b"/show/mixed", entries.len())? {
+            Some(answers) => Ok(answers),
+            None => self.add_each_cue(entries),
+        }
+    }
+
+    /// Asks how the show stands.
+    pub fn status(&mut self) -> Result<Status, Ending> {
+        match self.hear(&Asked::Status)? {
+            Some(Replied::Status(status)) => Ok(status),
+            _ => {
+                let port = self.port;
+                say(
+                    self.rt,
+                    format_args!(
+                        "the status: no reply from the controller at 127.0.0.1:{port}: \
+                         look whether serve runs there, and load again"
+                    ),
+                );
+                Err(Ending::Silent)
+            }
+        }
+    }
+
+    /// Says that nothing can be replaced while these cues are live.
+    pub fn say_live(&self, cues: &[CueNo]) -> Result<(), Ending> {
+        let words = live_words(self.rt.alloc(), cues)?;
+        say(self.rt, words.as_str());
+        Ok(())
+    }
+
+    /// Says that something was refused.
+    pub fn say_refused(&mut self, subject: Subject, code: i32) {
+        let words = code_words(code);
+        say(
+            self.rt,
+            format_args!("{subject}: refused, code {code}: {words}"),
+        );
+    }
+
+    /// Says to what nobody replied, where that is why the loading ends.
+    pub fn say_unanswered(&self) {
+        if let Some(subject) = self.unanswered {
+            let port = self.port;
+            say(
+                self.rt,
+                format_args!(
+                    "{subject}: not acknowledged by the controller at 127.0.0.1:{port}: \
+                     it was carried out whole, or not at all; look whether serve runs there, and load again"
+                ),
+            );
+        }
+    }
+
+    /// Says that something was removed and is not back, and where the place was.
+    pub fn say_open(&self, place: Option<CueNo>) {
+        say(self.rt, "the stack is not whole: load again with --replace");
+        if let Some(cue) = place {
+            let number = cue.text().escape_ascii();
+            say(self.rt, format_args!("the place was cue {number}"));
+        }
+    }
+
+    /// Says that what is new may stand elsewhere than in the file.
+    pub fn say_other_order(&self) {
+        say(
+            self.rt,
+            "the stack may have another order than the file: load with the folder of the store to see it",
+        );
+    }
+
+    /// Says that the stack has no room for the file beside what it does not have.
+    pub fn say_full(&self) {
+        say(
+            self.rt,
+            "the stack has no room for all cues of the file beside those that it does not have: \
+             nothing is replaced. Load with --exact",
+        );
+    }
+
+    /// Says that the controller serves another store than that of this folder.
+    pub fn say_other_store(&self, dir: &str) {
+        let port = self.port;
+        say(
+            self.rt,
+            format_args!(
+                "{dir} is not the store that is served at port {port}: give the folder of that one, or its port"
+            ),
+        );
+    }
+}

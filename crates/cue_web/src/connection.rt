@@ -1,0 +1,252 @@
+//! One connection to the page: it asks once, is answered, and is closed.
+ghost use Rattle.std.specs.Prelude.{◌≤◌, length, IfOk, IfSome};
+
+use cue_request::identity::PageIdentity;
+use cue_request::lock::{Said, said_at};
+use cue_request::pressing::read_press;
+use cue_request::request::{Asked, MAX_BODY, MAX_HEAD, Refusal, Request, read_request};
+use cue_view::button::Button;
+use mio::net::TcpStream;
+use std::alloc::Global;
+use std::io::{self, ErrorKind, Read, Write};
+use std::net::Shutdown;
+
+/// How long a connection has for its request, and again for its answer, in milliseconds.
+const PATIENCE: u64 = 1_000;
+
+/// How many bytes are read at once.
+const PIECE: usize = 1024;
+
+/// How many pieces are read of one connection before the others have their turn.
+const PIECES: usize = 16;
+
+/// How far a connection has come.
+#[derive(Clone, Copy, Debug, PartialEq, Eq)]
+enum Stage {
+    /// Its request is awaited.
+    Asking,
+    /// Its answer is sent.
+    Hearing,
+    /// Its answer is sent; what it still says is read and dropped, so that the answer arrives.
+    Leaving,
+    Gone,
+}
+
+/// A press that came.
+#[derive(Clone, Copy)]
+pub struct Pressed {
+    /// The number of the view that was shown.
+    pub view: u64,
+    pub button: Button,
+    /// What it says of the word of the lock.
+    pub said: Said,
+}
+
+/// What a connection asks.
+#[derive(Clone, Copy)]
+pub enum Asking {
+    Page,
+    /// The newest view.
+    View,
+    ShowFile,
+    /// That a button was pressed; none: the body is no press.
+    Press(Option<Pressed>),
+    /// Nothing that is carried out.
+    Refused(Refusal),
+}
+
+/// A connection.
+#[derive(Drop)]
+pub struct Connection {
+    stream: TcpStream,
+    stage: Stage,
+    // What has come, and whether nothing more comes: the other side has closed its way of speaking.
+    input: Vec<u8>,
+    has_ended: bool,
+    // What it is answered, and how much of that is sent.
+    output: String,
+    sent: usize,
+    // When its stage ends at the latest, in milliseconds since the start.
+    until: u64,
+}
+
+// The press that stands in the body of a request.
+fn pressed_in(identity: &PageIdentity<'_>, request: &Request<'_>) -> Option<Pressed> {
+    let (view, button) = read_press(request.body)?;
+    Some(Pressed {
+        view,
+        button,
+        said: said_at(identity.purpose, request.word),
+    })
+}
+
+// What stands for a request that has come whole.
+fn asking_in(identity: &PageIdentity<'_>, input: &[u8]) -> Option<Asking> {
+    match read_request(identity, input) {
+        Ok(Some(request)) => Some(match request.asked {
+            Asked::Page => Asking::Page,
+            Asked::Board => Asking::View,
+            Asked::ShowFile => Asking::ShowFile,
+            Asked::Command(_) => Asking::Press(pressed_in(identity, &request)),
+        }),
+        Ok(None) => None,
+        Err(refusal) => Some(Asking::Refused(refusal)),
+    }
+}
+
+impl Connection {
+    /// A connection that begins now.
+    pub fn new(alloc: Global, stream: TcpStream, now: u64) -> Connection {
+        Connection {
+            stream,
+            stage: Stage::Asking,
+            input: Vec::new(alloc),
+            has_ended: false,
+            output: String::new(alloc),
+            sent: 0,
+            until: now.saturating_add(PATIENCE),
+        }
+    }
+
+    /// Whether it is still there.
+    pub fn is_here(&self) -> bool {
+        self.stage != Stage::Gone
+    }
+
+    // Reads a piece into this room: how many bytes came; none where it has to be waited for. The end is an error.
+    fn read_piece(&mut self, piece: &mut [u8]) -> io::Result<Option<usize>>
+        ensures { IfOk result (λ came. IfSome came (λ n. n ≤ length piece.old)) }
+    {
+        match self.stream.read(piece) {
+            Ok(0) => Err(io::Error::from(ErrorKind::UnexpectedEof)),
+            Ok(n) => Ok(Some(n)),
+            Err(error) => match error.kind() {
+                ErrorKind::WouldBlock => Ok(None),
+                ErrorKind::Interrupted => Ok(Some(0)),
+                _ => Err(error),
+            },
+        }
+    }
+
+    // Reads a piece after what has come. Nothing follows an end.
+    fn read_more(&mut self, piece: &mut [u8]) -> io::Result<bool> {
+        match self.read_piece(piece) {
+            Ok(Some(n)) => self.input.extend_from_slice(&piece[..n])?,
+            Ok(None) => return Ok(false),
+            Err(error) if error.kind() == ErrorKind::UnexpectedEof => self.has_ended = true,
+            Err(error) => return Err(error),
+        }
+        Ok(!self.has_ended)
+    }
+
+    // Reads what has come, up to the longest request, and answers whether something did.
+    fn read_on(&mut self) -> io::Result<bool> {
+        let before = self.input.len();
+        let mut piece = [0; PIECE];
+        for _ in 0..PIECES {
+            if !self.read_more(&mut piece)? {
+                break;
+            }
+            if self.input.len() > MAX_HEAD + MAX_BODY {
+                break;
+            }
+        }
+        Ok(self.input.len() > before)
+    }
+
+    // That its request did not come whole, in time or at all. One that said nothing is closed without an answer.
+    fn incomplete(&mut self) -> Option<Asking> {
+        if self.input.is_empty() {
+            self.stage = Stage::Gone;
+            return None;
+        }
+        Some(Asking::Refused(if self.has_ended {
+            Refusal::Unreadable
+        } else {
+            Refusal::Late
+        }))
+    }
+
+    /// Hears what it asks, if that has come whole, is refused, came too late or has ended before. What has not grown is
+    /// not read again.
+    pub fn hear(&mut self, identity: &PageIdentity<'_>, now: u64) -> Option<Asking> {
+        if self.stage != Stage::Asking {
+            return None;
+        }
+        let asking = match self.read_on() {
+            Ok(true) => asking_in(identity, &self.input),
+            Ok(false) => None,
+            Err(_) => {
+                self.stage = Stage::Gone;
+                return None;
+            }
+        };
+        if asking.is_some() || (now < self.until && !self.has_ended) {
+            return asking;
+        }
+        self.incomplete()
+    }
+
+    /// Answers it.
+    pub fn tell(&mut self, answer: String, now: u64) {
+        self.output = answer;
+        self.stage = Stage::Hearing;
+        self.until = now.saturating_add(PATIENCE);
+    }
+
+    /// It is closed without an answer.
+    pub fn leave(&mut self) {
+        self.stage = Stage::Gone;
+    }
+
+    // Sends as much as there is room for, and answers whether all is sent.
+    fn send_on(&mut self) -> io::Result<bool> {
+        for _ in 0..PIECES {
+            let rest = self.output.as_bytes().get(self.sent..).unwrap_or(&[]);
+            if rest.is_empty() {
+                return Ok(true);
+            }
+            match self.stream.write(rest) {
+                Ok(n) => self.sent = self.sent.saturating_add(n),
+                Err(error) => match error.kind() {
+                    ErrorKind::WouldBlock => return Ok(false),
+                    ErrorKind::Interrupted => {}
+                    _ => return Err(error),
+                },
+            }
+        }
+        Ok(false)
+    }
+
+    // Sends on; where all is sent, says that nothing follows.
+    fn finish(&mut self) -> io::Result<()> {
+        if self.send_on()? {
+            self.stream.shutdown(Shutdown::Write)?;
+            self.stage = Stage::Leaving;
+        }
+        Ok(())
+    }
+
+    // Reads what it still says, and drops it.
+    fn drain(&mut self) -> io::Result<()> {
+        let mut piece = [0; PIECE];
+        for _ in 0..PIECES {
+            if self.read_piece(&mut piece)?.is_none() {
+                return Ok(());
+            }
+        }
+        Ok(())
+    }
+
+    /// Goes on with its answer.
+    pub fn go_on(&mut self, now: u64) {
+        let went = match self.stage {
+            Stage::Hearing => self.finish(),
+            Stage::Leaving => self.drain(),
+            Stage::Asking | Stage::Gone => Ok(()),
+        };
+        if went.is_err() || (self.stage != Stage::Asking && now >= self.until) {
+            self.stage = Stage::Gone;
+        }
+    }
+}

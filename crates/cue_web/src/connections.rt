@@ -1,0 +1,95 @@
+//! The connections to the page. None of them can keep the others waiting: each has a second, and where there are many
+//! the one that has waited longest gives way.
+use crate::connection::Connection;
+use crate::pages::Pages;
+use cue_desk_run::Desk;
+use mio::net::{TcpListener, TcpStream};
+use mio::{Interest, Registry, Token};
+use std::alloc::{AllocError, Global};
+use std::fs::{File, Files};
+use std::io;
+use std::net::{IpAddr, Ipv4Addr, Net, SocketAddr};
+use std::time::Clock;
+
+/// The most connections that are open at once.
+const MAX_CONNECTIONS: usize = 128;
+
+/// The most that are taken in one round: each of them is heard before it may have to give way.
+const MAX_ADMITTED: usize = 64;
+
+/// The token of the listener in a poll, and that of each connection.
+const LISTENER: Token = Token(0);
+
+const CONNECTION: Token = Token(1);
+
+/// The connections, and where they come from.
+#[derive(Drop)]
+pub struct Connections {
+    listener: TcpListener,
+    open: Vec<Connection>,
+}
+
+// The next connection that waits; none if there is none.
+fn next_stream(listener: &TcpListener, registry: &Registry) -> Option<TcpStream> {
+    let (mut stream, _) = listener.accept().ok()?;
+    let both = Interest::READABLE | Interest::WRITABLE;
+    registry.register(&mut stream, CONNECTION, both).ok()?;
+    Some(stream)
+}
+
+impl Connections {
+    /// Listens at this port of 127.0.0.1 alone.
+    pub fn new<R: Net + AllocGlobal>(
+        rt: &R,
+        registry: &Registry,
+        port: u16,
+    ) -> io::Result<Connections> {
+        let address = SocketAddr::new(IpAddr::V4(Ipv4Addr::LOCALHOST), port);
+        let mut listener = TcpListener::bind(rt, address)?;
+        registry.register(&mut listener, LISTENER, Interest::READABLE)?;
+        Ok(Connections {
+            listener,
+            open: Vec::with_capacity(rt.alloc(), MAX_CONNECTIONS)?,
+        })
+    }
+
+    // Sends away the one that has waited longest, if there is no room for one more. They stand in the order in which
+    // they came.
+    fn make_room(&mut self) {
+        if self.open.len() >= MAX_CONNECTIONS {
+            let _ = self.open.remove(0);
+        }
+    }
+
+    /// Takes the connections that wait. Answers whether more of them may: then the next round must not be waited for.
+    pub fn admit(&mut self, alloc: Global, registry: &Registry, now: u64) -> bool {
+        for _ in 0..MAX_ADMITTED {
+            let Some(stream) = next_stream(&self.listener, registry) else {
+                return false;
+            };
+            self.make_room();
+            let _ = self.open.push(Connection::new(alloc, stream, now));
+        }
+        true
+    }
+
+    /// One round over all connections. One for whose answer there is no memory is closed without one.
+    pub fn serve<R: Files<File = File> + Net + Clock + AllocGlobal>(
+        &mut self,
+        alloc: Global,
+        desk: &mut Desk<'_, R>,
+        pages: &mut Pages<'_>,
+        now: u64,
+    ) {
+        for connection in self.open.iter_mut() {
+            if let Some(asking) = connection.hear(pages.identity(), now) {
+                match pages.answer(desk, alloc, &asking, now) {
+                    Ok(answer) => connection.tell(answer, now),
+                    Err(AllocError) => connection.leave(),
+                }
+            }
+            connection.go_on(now);
+        }
+        self.open.retain(|connection| connection.is_here());
+    }
+}

@@ -48,7 +48,7 @@ at_stop moment held_at a b new_a new_b P then_one then_other now_a now_b entry b
     barrier.each i j since.0.0 since.0.1 since.1.0 since.1.1 x y left_x left_y
 
 -- the disks hold this of either store
-on_disks : (i : Incident) (store : Store) (one other : Contents) → PermitsAtRest one other i
+pub on_disks : (i : Incident) (store : Store) (one other : Contents) → PermitsAtRest one other i
     → PermitsUnformed one other i → IsOnDisks store one other → Permits store i
 on_disks i store one other rest first (inl same) = let P : Store → Type 0 = λ u. Permits u i in subst P (sym same) rest
 on_disks i store one other rest first (inr same) = let P : Store → Type 0 = λ u. Permits u i in subst P (sym same) first

@@ -2,7 +2,7 @@
 //!
 //! Each function makes the one call that it is named for, and nothing else. Nobody calls them: their contracts join the
 //! clauses of the calls to the promise.
-ghost use Rattle.std.specs.Prelude.{◌≡◌, ℕ, List, [], ◌∷◌, ◌++◌, false, IfOk, OnOk, OnErr};
+ghost use Rattle.std.specs.Prelude.{◌≡◌, ℕ, [], ◌∷◌, ◌++◌, false, IfOk, OnOk, OnErr};
 ghost use Rattle.cue_disk.specs.Disk.{Contents};
 ghost use Rattle.cue_snap.specs.Observed.{first_after, second_after, RefusedAs};
 ghost use Rattle.cue_keeper.specs.Observed.{is_broken};
@@ -17,27 +17,33 @@ ghost use Rattle.cue_engine.specs.Recovery.{IsLeftOrStands, RefusedBut};
 ghost use Rattle.cue_engine.specs.Incidents.{
   formed,
   stopped_in_form,
+  stopped_in_commit,
   committed,
   handed_out,
   stopped,
   recovered,
   stopped_in_recovery,
   refused,
-  left_by_all,
 };
 ghost use Rattle.cue_engine.specs.Headline.{handed_in};
 ghost use Rattle.cue_engine.specs.Permitted.{IsWithin};
 ghost use Rattle.cue_engine.specs.Lives.{
+  with_next,
+  store_now,
+  view_of_disks,
+  view_of,
+  IsSound,
   RunsWith,
   RestsWith,
   RestsUnformed,
   InEachLifeWith,
   InEachLifeAt,
   InEachLifeBefore,
+  InEachLifeOn,
   IsPromisedWithin,
   RestsWithin,
   LeavesAtEachStop,
-  StopsAfterSome,
+  StopsAs,
   IsGivenBack,
 };
 
@@ -53,12 +59,12 @@ use std::alloc::Global;
 /// wherever a stop finds the disks in it, the life goes on with a store that is not formed.
 pub fn form<D: Disk>(alloc: Global, first: D, second: D) -> Result<Engine<D>, (StoreFault, D, D)>
     ensures formed { InEachLifeBefore (D.held first) (D.held second)
-        (λ s store is. IfOk result (λ engine. RunsWith s store (is ++ formed ∷ []) (state_of engine)
-        (queue_of engine))) }
+        (λ life. IfOk result (λ engine. RunsWith (with_next life formed) (state_of engine) (queue_of engine))) }
     ensures stopped { D.is_honest first → D.is_honest second → InEachLifeBefore (D.held first) (D.held second)
-        (λ s store is. LeavesAtEachStop D.moment D.held_at first second (first_after first_of result)
-        (second_after second_of result) (IsUnformedOr first_area (D.held first) (D.held second))
-        (λ one other. RestsUnformed s store (is ++ stopped_in_form one other ∷ []) one other)) }
+        (λ life. LeavesAtEachStop (view_of_disks D.Disk first second)
+        (view_of_disks D.Disk (first_after first_of result) (second_after second_of result))
+        (IsUnformedOr first_area (D.held first) (D.held second))
+        (λ one other. RestsUnformed (with_next life (stopped_in_form one other)) one other)) }
 {
     Engine::form(alloc, first, second)
 }
@@ -68,20 +74,15 @@ pub fn form<D: Disk>(alloc: Global, first: D, second: D) -> Result<Engine<D>, (S
 /// rest.
 pub fn take<D: Disk>(engine: &mut Engine<D>, now: u64, input: Input<'_>) -> Result<Taken, Fault>
     ensures taken { InEachLifeWith (state_of engine.old) (queue_of engine.old)
-        (λ s store is. OnOk result (RunsWith s store (is ++ committed ((now, input_view input.entry) ∷ []) ∷ [])
+        (λ life. OnOk result (RunsWith (with_next life (committed ((now, input_view input.entry) ∷ [])))
         (state_of engine.new) (queue_of engine.new))) }
     ensures not_taken { InEachLifeWith (state_of engine.old) (queue_of engine.old)
-        (λ s store is. OnErr result (RunsWith s store is (state_of engine.new) (queue_of engine.new))) }
-    ensures promised { D.is_honest (first_of engine.old) → D.is_honest (second_of engine.old)
-        → is_broken (keeper_of engine.old) ≡ false
-        → InEachLifeWith (state_of engine.old) (queue_of engine.old)
-        (λ s store is. IsPromisedWithin D.moment D.held_at (first_of engine.old) (second_of engine.old)
-        (first_of engine.new) (second_of engine.new) s store is ((now, input_view input.entry) ∷ [])) }
-    ensures stopped { D.is_honest (first_of engine.old) → D.is_honest (second_of engine.old)
-        → is_broken (keeper_of engine.old) ≡ false
-        → InEachLifeWith (state_of engine.old) (queue_of engine.old)
-        (λ s store is. RestsWithin D.moment D.held_at (first_of engine.old) (second_of engine.old)
-        (first_of engine.new) (second_of engine.new) s store is ((now, input_view input.entry) ∷ [])) }
+        (λ life. OnErr result (RunsWith life (state_of engine.new) (queue_of engine.new))) }
+    ensures promised { InEachLifeWith (state_of engine.old) (queue_of engine.old)
+        (λ life. IsPromisedWithin (view_of engine.old) (view_of engine.new) life
+        ((now, input_view input.entry) ∷ [])) }
+    ensures stopped { InEachLifeWith (state_of engine.old) (queue_of engine.old)
+        (λ life. RestsWithin (view_of engine.old) (view_of engine.new) life ((now, input_view input.entry) ∷ [])) }
 {
     engine.take(now, input)
 }
@@ -92,7 +93,7 @@ pub fn offer<D: Disk>(engine: &mut Engine<D>, now: u64, input: Input<'_>) -> Res
     ensures next { WhateverWasOffered engine.old (λ inputs. OnOk result
         (IsOffered (inputs ++ (now, input_view input.entry) ∷ []) engine.new)) }
     ensures lives { InEachLifeWith (state_of engine.old) (queue_of engine.old)
-        (λ s store is. RunsWith s store is (state_of engine.new) (queue_of engine.new)) }
+        (λ life. RunsWith life (state_of engine.new) (queue_of engine.new)) }
 {
     engine.offer(now, input)
 }
@@ -102,20 +103,16 @@ pub fn offer<D: Disk>(engine: &mut Engine<D>, now: u64, input: Input<'_>) -> Res
 /// rest.
 pub fn commit<D: Disk>(engine: &mut Engine<D>) -> Result<(), Fault>
     ensures taken { WhateverWasOffered engine.old (λ inputs. InEachLifeWith (state_of engine.old) (queue_of engine.old)
-        (λ s store is. OnOk result (RunsWith s store (is ++ committed inputs ∷ []) (state_of engine.new)
+        (λ life. OnOk result (RunsWith (with_next life (committed inputs)) (state_of engine.new)
         (queue_of engine.new)))) }
     ensures not_taken { InEachLifeWith (state_of engine.old) (queue_of engine.old)
-        (λ s store is. OnErr result (RunsWith s store is (state_of engine.new) (queue_of engine.new))) }
-    ensures promised { D.is_honest (first_of engine.old) → D.is_honest (second_of engine.old)
-        → is_broken (keeper_of engine.old) ≡ false
-        → WhateverWasOffered engine.old (λ inputs. InEachLifeWith (state_of engine.old) (queue_of engine.old)
-        (λ s store is. IsPromisedWithin D.moment D.held_at (first_of engine.old) (second_of engine.old)
-        (first_of engine.new) (second_of engine.new) s store is inputs)) }
-    ensures stopped { D.is_honest (first_of engine.old) → D.is_honest (second_of engine.old)
-        → is_broken (keeper_of engine.old) ≡ false
-        → WhateverWasOffered engine.old (λ inputs. InEachLifeWith (state_of engine.old) (queue_of engine.old)
-        (λ s store is. RestsWithin D.moment D.held_at (first_of engine.old) (second_of engine.old)
-        (first_of engine.new) (second_of engine.new) s store is inputs)) }
+        (λ life. OnErr result (RunsWith life (state_of engine.new) (queue_of engine.new))) }
+    ensures promised { WhateverWasOffered engine.old
+        (λ inputs. InEachLifeWith (state_of engine.old) (queue_of engine.old)
+        (λ life. IsPromisedWithin (view_of engine.old) (view_of engine.new) life inputs)) }
+    ensures stopped { WhateverWasOffered engine.old
+        (λ inputs. InEachLifeWith (state_of engine.old) (queue_of engine.old)
+        (λ life. RestsWithin (view_of engine.old) (view_of engine.new) life inputs)) }
 {
     engine.commit()
 }
@@ -124,9 +121,9 @@ pub fn commit<D: Disk>(engine: &mut Engine<D>) -> Result<(), Fault>
 /// has as handed over in it.
 pub fn hand_out<D: Disk, W: Wire>(engine: &mut Engine<D>, wire: &mut W) -> u64
     ensures handed_out { InEachLifeWith (state_of engine.old) (queue_of engine.old)
-        (λ s store is. RunsWith s store (is ++ handed_out ∷ []) (state_of engine.new) (queue_of engine.new)) }
+        (λ life. RunsWith (with_next life handed_out) (state_of engine.new) (queue_of engine.new)) }
     ensures handed { InEachLifeWith (state_of engine.old) (queue_of engine.old)
-        (λ s store is. AllHanded (W.told wire.old) (datagrams (handed_in (left_by_all store is) handed_out)) result
+        (λ life. AllHanded (W.told wire.old) (datagrams (handed_in (store_now life) handed_out)) result
         (W.told wire.new)) }
 {
     engine.hand_out(wire)
@@ -136,9 +133,9 @@ pub fn hand_out<D: Disk, W: Wire>(engine: &mut Engine<D>, wire: &mut W) -> u64
 /// together they are the one incident that `hand_out` alone is, and what the wire reports grew by the same.
 pub fn hand_out_in_parts<D: Disk, W: Wire>(engine: &mut Engine<D>, wire: &mut W, parts: &[usize])
     ensures handed_out { InEachLifeWith (state_of engine.old) (queue_of engine.old)
-        (λ s store is. RunsWith s store (is ++ handed_out ∷ []) (state_of engine.new) (queue_of engine.new)) }
+        (λ life. RunsWith (with_next life handed_out) (state_of engine.new) (queue_of engine.new)) }
     ensures handed { InEachLifeWith (state_of engine.old) (queue_of engine.old)
-        (λ s store is. AreHanded (W.told wire.old) (datagrams (handed_in (left_by_all store is) handed_out))
+        (λ life. AreHanded (W.told wire.old) (datagrams (handed_in (store_now life) handed_out))
         (W.told wire.new)) }
 {
     for most in parts {
@@ -157,7 +154,7 @@ pub fn stop_in_hand_out<D: Disk, W: Wire>(
     ensures stopped { D.is_honest (first_of engine) → D.is_honest (second_of engine)
         → is_broken (keeper_of engine) ≡ false
         → InEachLifeWith (state_of engine) (queue_of engine)
-        (λ s store is. StopsAfterSome s store is (D.held result.0) (D.held result.1) (W.told wire.old)
+        (λ life. StopsAs stopped life (D.held result.0) (D.held result.1) (W.told wire.old)
         (W.told wire.new)) }
 {
     for most in parts {
@@ -166,27 +163,41 @@ pub fn stop_in_hand_out<D: Disk, W: Wire>(
     engine.close()
 }
 
-/// `Engine::recover` in the life of a store: where it answers Ok it gives what is promised, and is the next incident.
-/// It never calls the store unformed, damaged, of another version or malformed. After any other refusal but that of a
-/// device, and wherever a stop finds the disks in it, it may be called again.
+/// `Engine::recover` in the life of a store, also of one whose `form` was cut off: where it answers Ok it gives what is
+/// promised, and is the next incident. It never calls a store that was formed unformed, damaged, of another version or
+/// malformed. After any other refusal but that of a device, and wherever a stop finds the disks in it, it may be called
+/// again.
 pub fn recover<D: Disk>(alloc: Global, first: D, second: D) -> Result<Engine<D>, (StoreFault, D, D)>
-    ensures promised { D.is_honest first → D.is_honest second → InEachLifeAt (D.held first) (D.held second)
-        (λ s store is. IfOk result (λ engine. IsGivenBack s store is (state_of engine) (queue_of engine))) }
-    ensures recovered { D.is_honest first → D.is_honest second → InEachLifeAt (D.held first) (D.held second)
-        (λ s store is. IfOk result (λ engine. RunsWith s store (is ++ recovered (state_of engine) ∷ [])
+    ensures promised { D.is_honest first → D.is_honest second → InEachLifeOn (D.held first) (D.held second)
+        (λ life. IfOk result (λ engine. IsGivenBack life (state_of engine) (queue_of engine))) }
+    ensures recovered { D.is_honest first → D.is_honest second → InEachLifeOn (D.held first) (D.held second)
+        (λ life. IfOk result (λ engine. RunsWith (with_next life (recovered (state_of engine)))
         (state_of engine) (queue_of engine))) }
     ensures readable { D.is_honest first → D.is_honest second → InEachLifeAt (D.held first) (D.held second)
-        (λ s store is. RefusedAs StoreFault.Unformed ⊥ result × RefusedAs StoreFault.Damaged ⊥ result
+        (λ _. RefusedAs StoreFault.Unformed ⊥ result × RefusedAs StoreFault.Damaged ⊥ result
         × RefusedAs StoreFault.Version ⊥ result × RefusedAs StoreFault.Malformed ⊥ result) }
     ensures refused { D.is_honest first → D.is_honest second → InEachLifeAt (D.held first) (D.held second)
-        (λ s store is. RefusedBut StoreFault.Disk
-        (RestsWith s store (is ++ refused (D.held (first_after first_of result))
-        (D.held (second_after second_of result)) ∷ []) (D.held (first_after first_of result))
+        (λ life. RefusedBut StoreFault.Disk
+        (RestsWith (with_next life (refused (D.held (first_after first_of result))
+        (D.held (second_after second_of result)))) (D.held (first_after first_of result))
         (D.held (second_after second_of result))) result) }
     ensures stopped { D.is_honest first → D.is_honest second → InEachLifeAt (D.held first) (D.held second)
-        (λ s store is. LeavesAtEachStop D.moment D.held_at first second (first_after first_of result)
-        (second_after second_of result) (IsLeftOrStands (D.held first) (D.held second))
-        (λ one other. RestsWith s store (is ++ stopped_in_recovery one other ∷ []) one other)) }
+        (λ life. LeavesAtEachStop (view_of_disks D.Disk first second)
+        (view_of_disks D.Disk (first_after first_of result) (second_after second_of result))
+        (IsLeftOrStands (D.held first) (D.held second))
+        (λ one other. RestsWith (with_next life (stopped_in_recovery one other)) one other)) }
+    // A store whose `form` was cut off stays one that is not formed.
+    ensures refused_unformed { D.is_honest first → D.is_honest second
+        → InEachLifeBefore (D.held first) (D.held second) (λ life. RefusedBut StoreFault.Disk
+        (RestsUnformed (with_next life (refused (D.held (first_after first_of result))
+        (D.held (second_after second_of result)))) (D.held (first_after first_of result))
+        (D.held (second_after second_of result))) result) }
+    ensures stopped_unformed { D.is_honest first → D.is_honest second
+        → InEachLifeBefore (D.held first) (D.held second)
+        (λ life. LeavesAtEachStop (view_of_disks D.Disk first second)
+        (view_of_disks D.Disk (first_after first_of result) (second_after second_of result))
+        (IsLeftOrStands (D.held first) (D.held second))
+        (λ one other. RestsUnformed (with_next life (stopped_in_recovery one other)) one other)) }
 {
     Engine::recover(alloc, first, second)
 }
@@ -197,8 +208,26 @@ pub fn close<D: Disk>(engine: Engine<D>) -> (D, D)
     ensures stopped { D.is_honest (first_of engine) → D.is_honest (second_of engine)
         → is_broken (keeper_of engine) ≡ false
         → InEachLifeWith (state_of engine) (queue_of engine)
-        (λ s store is. (n : ℕ) (one other : Contents) → IsWithin (D.held result.0) one
-        → IsWithin (D.held result.1) other → RestsWith s store (is ++ stopped n one other ∷ []) one other) }
+        (λ life. (n : ℕ) (one other : Contents) → IsWithin (D.held result.0) one
+        → IsWithin (D.held result.1) other → RestsWith (with_next life (stopped n one other)) one other) }
 {
     engine.close()
+}
+
+/// What follows a commit that was refused, as after a disk failed, in the life of a store: `Engine::hand_out` of what
+/// was owed before it, and `Engine::close`. The life goes on at rest, as after a stop within the commit, and has as
+/// handed over what the wire reports; then the store may be recovered.
+pub fn close_after_commit<D: Disk, W: Wire>(
+    mut engine: Engine<D>,
+    wire: &mut W,
+) -> (Result<(), Fault>, D, D)
+    ensures stopped { IsSound (view_of engine) → WhateverWasOffered engine
+        (λ inputs. InEachLifeWith (state_of engine) (queue_of engine)
+        (λ life. OnErr result.0 (StopsAs (stopped_in_commit inputs) life (D.held result.1) (D.held result.2)
+        (W.told wire.old) (W.told wire.new)))) }
+{
+    let kept = engine.commit();
+    let _refused = engine.hand_out(wire);
+    let (first, second) = engine.close();
+    (kept, first, second)
 }

@@ -5,8 +5,8 @@ use Rattle.cue_engine.proofs.LifeLemmas.{lives_handed}
 use Rattle.cue_engine.proofs.laws.lives.hand_out.Goals as goal
 
 pub returns-clause-handed_out : goal.returns-clause-handed_out
-returns-clause-handed_out g c = λ s store is.
+returns-clause-handed_out g c = λ life.
     let old = c.args.engine.now in
     let new = c.hand_out.new.self in
-    lives_handed s store is (state_of old) (state_of new) (queue_of old) (queue_of new)
+    lives_handed life (state_of old) (state_of new) (queue_of old) (queue_of new)
     (ap keeper.state_of c.hand_out.ensures.keeper) c.hand_out.ensures.emptied

@@ -29,21 +29,21 @@ loop-most-preserved g c =
     }
 
 pub returns-clause-handed_out : goal.returns-clause-handed_out
-returns-clause-handed_out g c = λ s store is.
+returns-clause-handed_out g c = λ life.
     let old = c.args.engine.now in
     let last = c.hand_out-refused in
-    lives_handed s store is (state_of old) (state_of last.new.self) (queue_of old) (queue_of last.new.self)
+    lives_handed life (state_of old) (state_of last.new.self) (queue_of old) (queue_of last.new.self)
     (ap keeper.state_of (last.ensures.keeper ∙ c.loop-most.invariant.keeper)) last.ensures.emptied
 
 pub returns-clause-handed : goal.returns-clause-handed
-returns-clause-handed g c = λ s store is runs.
+returns-clause-handed g c = λ life runs.
     let told = g.W.Wire.told in
     let old = c.args.engine.now in
     let l = c.loop-most in
     let last = c.hand_out-refused in
     let before = l.invariant.so_far in
     subst (λ (os : List (ℕ × List ℕ)). AreHanded (told c.args.wire.now) os (told last.new.wire))
-    (handed_what_is_owed s store is (state_of old) (queue_of old) runs) (
+    (handed_what_is_owed life (state_of old) (queue_of old) runs) (
       before.0 + last.result,
       parts_all (told c.args.wire.now) (told l.wire) (told last.new.wire) (queue_of old)
           (queue_of l.engine) before.0 last.result before.1 last.ensures.handed,

@@ -15,8 +15,8 @@ returns-clause-next g c = λ inputs offered.
     (ap kept.state_of c.offer.ensures.keeper) offered offers)
 
 pub returns-clause-lives : goal.returns-clause-lives
-returns-clause-lives g c = λ s store is.
+returns-clause-lives g c = λ life.
     let old = c.args.engine.now in
     let new = c.offer.new.self in
-    lives_as_before s store is (state_of old) (state_of new) (queue_of old) (queue_of new)
+    lives_as_before life (state_of old) (state_of new) (queue_of old) (queue_of new)
     (ap kept.state_of c.offer.ensures.keeper) c.offer.ensures.queue

@@ -1,45 +1,56 @@
 use Rattle.cue_snap.specs.Observed.{first_after, second_after}
 use Rattle.cue_engine.specs.Observed.{state_of, queue_of, first_of, second_of}
-use Rattle.cue_engine.proofs.LifeLemmas.{given_back, lives_recovered, lives_refused, rests_stand, rests_in_recovery}
+use Rattle.cue_engine.proofs.OnDisksLemmas.{given_back, lives_recovered, rests_stand, lives_refused, unformed_refused}
+use Rattle.cue_engine.proofs.OnDisksLemmas.{rests_in_recovery, unformed_in_recovery}
 use Rattle.cue_engine.proofs.laws.lives.recover.Goals as goal
 use Rattle.cue_keeper.specs.declared.fault.StoreFault.TheVariants.{Disk}
 
 pub returns-clause-promised : goal.returns-clause-promised
-returns-clause-promised g c = λ first second s store is.
+returns-clause-promised g c = λ first second life.
     let d = g.D.Disk in
     let a = c.args.first in
     let b = c.args.second in
-    given_back state_of queue_of s store is (d.held a) (d.held b) c.recover.result (g.met.D.Disk.reads_as_image a first)
+    given_back state_of queue_of life (d.held a) (d.held b) c.recover.result (g.met.D.Disk.reads_as_image a first)
     (g.met.D.Disk.reads_as_image b second) (c.recover.ensures.stood first second) c.recover.ensures.queue
 
 pub returns-clause-recovered : goal.returns-clause-recovered
-returns-clause-recovered g c = λ first second s store is.
+returns-clause-recovered g c = λ first second life.
     let d = g.D.Disk in
     let a = c.args.first in
     let b = c.args.second in
-    lives_recovered state_of queue_of s store is (d.held a) (d.held b) c.recover.result
+    lives_recovered state_of queue_of life (d.held a) (d.held b) c.recover.result
     (g.met.D.Disk.reads_as_image a first) (g.met.D.Disk.reads_as_image b second)
     (c.recover.ensures.stood first second) c.recover.ensures.queue
 
 pub returns-clause-readable : goal.returns-clause-readable
-returns-clause-readable g c = λ first second s store is at.
+returns-clause-readable g c = λ first second life at.
     let d = g.D.Disk in
     let a = c.args.first in
     let b = c.args.second in
-    let stands = rests_stand s store is (d.held a) (d.held b) (g.met.D.Disk.reads_as_image a first)
+    let stands = rests_stand life (d.held a) (d.held b) (g.met.D.Disk.reads_as_image a first)
     (g.met.D.Disk.reads_as_image b second) at in
     c.recover.ensures.readable first second stands.0 stands.1
 
 pub returns-clause-refused : goal.returns-clause-refused
-returns-clause-refused g c = λ first second s store is.
-    let d = g.D.Disk in
-    lives_refused d.moment d.held d.held_at d.is_honest g.met.D.Disk.held_now Disk first_of second_of c.args.first
-    c.args.second s store is c.recover.result (c.recover.ensures.first_honest.1 first)
-    (c.recover.ensures.second_honest.1 second) (c.recover.ensures.unwritten first second)
+returns-clause-refused g c = λ first second life.
+    lives_refused g.D.Disk g.met.D.Disk.held_now Disk first_of second_of c.args.first c.args.second life
+    c.recover.result (c.recover.ensures.first_honest.1 first) (c.recover.ensures.second_honest.1 second)
+    (c.recover.ensures.unwritten first second)
 
 pub returns-clause-stopped : goal.returns-clause-stopped
-returns-clause-stopped g c = λ first second s store is.
-    let d = g.D.Disk in
-    rests_in_recovery d.moment d.held d.held_at d.is_honest g.met.D.Disk.held_now c.args.first c.args.second
-    (first_after first_of c.recover.result) (second_after second_of c.recover.result) s store is first second
+returns-clause-stopped g c = λ first second life.
+    rests_in_recovery g.D.Disk g.met.D.Disk.held_now c.args.first c.args.second
+    (first_after first_of c.recover.result) (second_after second_of c.recover.result) life first second
+    (c.recover.ensures.any_moment first second)
+
+pub returns-clause-refused_unformed : goal.returns-clause-refused_unformed
+returns-clause-refused_unformed g c = λ first second life.
+    unformed_refused g.D.Disk g.met.D.Disk.held_now Disk first_of second_of c.args.first c.args.second life
+    c.recover.result (c.recover.ensures.first_honest.1 first) (c.recover.ensures.second_honest.1 second)
+    (c.recover.ensures.unwritten first second)
+
+pub returns-clause-stopped_unformed : goal.returns-clause-stopped_unformed
+returns-clause-stopped_unformed g c = λ first second life.
+    unformed_in_recovery g.D.Disk g.met.D.Disk.held_now c.args.first c.args.second
+    (first_after first_of c.recover.result) (second_after second_of c.recover.result) life first second
     (c.recover.ensures.any_moment first second)

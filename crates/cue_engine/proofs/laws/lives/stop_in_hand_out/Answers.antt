@@ -28,14 +28,14 @@ loop-most-preserved g c =
 
 pub returns : goal.returns
 returns g c = record {
-  stopped = λ first second works s store is runs.
+  stopped = λ first second works life runs.
       let told = g.W.Wire.told in
       let d = g.D.Disk in
       let old = c.args.engine in
       let l = c.loop-most in
       let same = l.invariant.keeper in
       let so_far = l.invariant.so_far in
-      stops_after_some d.held c.close.result.0 c.close.result.1 s store is (state_of old) (queue_of old)
+      stops_after_some d.held c.close.result.0 c.close.result.1 life (state_of old) (queue_of old)
       (queue_of l.engine) so_far.0 (told c.args.wire.now) (told l.wire)
       (stays_so d.is_honest d.held c.close.result.0 c.close.result.1 (keeper_of old) (keeper_of l.engine) same
       c.close.ensures.stands first second works) so_far.1 runs;

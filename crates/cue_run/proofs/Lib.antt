@@ -1,4 +1,5 @@
 mod GroupLemmas
+mod LivesLemmas
 mod OfferLemmas
 mod RoundLemmas
 mod RunLemmas

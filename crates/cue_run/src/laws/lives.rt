@@ -1,0 +1,53 @@
+//! A run in the life of a store: what the engine's law of lives is about is what the loop makes.
+//!
+//! Each function makes the one call that it is named for, and nothing else. Nobody calls them: their contracts join the
+//! clauses of a run to the promise.
+ghost use Rattle.std.specs.Prelude.{[]};
+ghost use Rattle.cue_engine.specs.Observed.{state_of, queue_of, first_of, second_of};
+ghost use Rattle.cue_engine.specs.Lives.{InEachLifeWith, IsSound, view_of};
+ghost use Rattle.cue_run.specs.declared.turns.TheConstants.{MAX_RECEIVED};
+ghost use Rattle.cue_run.specs.Lives.{GoesThrough, EndsAtRest};
+
+use crate::turns::Ended;
+use crate::watch::Watch;
+use cue_disk::Disk;
+use cue_engine::{Engine, Source, Wire};
+use std::alloc::Global;
+
+/// `run_grouped` in the life of a store: it goes on with a commit and a hand-out of each input that the run took, and
+/// has as handed over what the wire reports. However the run ended, by a fault of a device too, the engine may be
+/// closed then, and the store recovered: the life goes on at rest.
+pub fn run_grouped<D: Disk, S: Source, W: Wire, V: Watch<W>>(
+    alloc: Global,
+    engine: &mut Engine<D>,
+    source: &mut S,
+    wire: &mut W,
+    turns: u64,
+    most: u64,
+    watch: &mut V,
+) -> Ended
+    ensures goes_on { InEachLifeWith (state_of engine.old) (queue_of engine.old)
+        (λ life. GoesThrough MAX_RECEIVED result.turns (S.left source.old) (W.told wire.old) (W.told wire.new) life
+        (state_of engine.new)) }
+    ensures rests { IsSound (view_of engine.old) → InEachLifeWith (state_of engine.new) []
+        (λ life. EndsAtRest life (D.held (first_of engine.new)) (D.held (second_of engine.new))) }
+{
+    crate::groups::run_grouped(alloc, engine, source, wire, turns, most, watch)
+}
+
+/// `run` in the life of a store: the same.
+pub fn run<D: Disk, S: Source, W: Wire>(
+    alloc: Global,
+    engine: &mut Engine<D>,
+    source: &mut S,
+    wire: &mut W,
+    turns: u64,
+) -> Ended
+    ensures goes_on { InEachLifeWith (state_of engine.old) (queue_of engine.old)
+        (λ life. GoesThrough MAX_RECEIVED result.turns (S.left source.old) (W.told wire.old) (W.told wire.new) life
+        (state_of engine.new)) }
+    ensures rests { IsSound (view_of engine.old) → InEachLifeWith (state_of engine.new) []
+        (λ life. EndsAtRest life (D.held (first_of engine.new)) (D.held (second_of engine.new))) }
+{
+    crate::groups::run(alloc, engine, source, wire, turns)
+}

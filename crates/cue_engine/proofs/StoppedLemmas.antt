@@ -1,11 +1,12 @@
 -- A stop after some of what was owed was handed over.
 use Rattle.std.specs.Prelude.{OnErr}
 use Rattle.std.specs.Result.{result_err}
-use Rattle.std.proofs.Common.{◌≡◌, ◌≤◌, ℕ, List, [], ◌++◌, length, take, Option, Some, Result, Ok, Err, false, refl, sym}
-use Rattle.std.proofs.Common.{ap, ◌∙◌, subst, append-nil, arith}
+use Rattle.std.proofs.Common.{◌≡◌, ◌≤◌, ℕ, List, [], ◌++◌, length, take, Option, Some, Result, Ok, Err, false, refl}
+use Rattle.std.proofs.Common.{sym, ap, ◌∙◌, subst, append-nil, arith}
 use Rattle.std.proofs.Math.Seq.{take-append_seam}
 use Rattle.std.proofs.lemmas.List.{take-map}
 use Rattle.cue_disk.specs.Disk.{Contents}
+use Rattle.cue_core.specs.declared.event.Event.{Event}
 use Rattle.cue_core.specs.State.{ShowState}
 use Rattle.cue_disk.specs.declared.disk.Disk.{Ghosts}
 use Rattle.cue_keeper.specs.declared.fault.Fault.{Fault}
@@ -16,8 +17,8 @@ use Rattle.cue_keeper.specs.Observed as kept
 use Rattle.cue_outbox.specs.Sending.{Send, datagram, datagrams}
 use Rattle.cue_engine.specs.declared.engine.Engine.{Engine}
 use Rattle.cue_engine.specs.Given.{Input}
-use Rattle.cue_engine.specs.Observed.{keeper_of, state_of, queue_of, first_of, second_of, offered_of}
-use Rattle.cue_engine.specs.Taking.{IsOffered}
+use Rattle.cue_engine.specs.Observed.{keeper_of, state_of, queue_of, first_of, second_of}
+use Rattle.cue_engine.specs.Groups.{batches_given}
 use Rattle.cue_engine.specs.Incidents.{Incident, Store, stopped, stopped_in_commit}
 use Rattle.cue_engine.specs.Headline.{owed_by, handed_in}
 use Rattle.cue_engine.specs.Permitted.{IsWithin}
@@ -79,17 +80,18 @@ stops_after_some held a b life state queue left refused told told_then stands so
 module _ {D : Type 0} {disk : Ghosts D}
     (held_now : (one : D) → disk.is_honest one → disk.held_at one (disk.moment one) ≡ disk.held one) where
   -- what the disks hold after the call is what they hold at its last moments
-  rests_refused : (old new : Engine D disk) (life : Life) (inputs : List (ℕ × Input)) (refused : Option Fault)
-      → IsOffered inputs old → Accepts (offered_of old) refused (keeper_of old) (keeper_of new) → IsSound (view_of old)
+  rests_refused : (old new : Engine D disk) (life : Life) (inputs : List (ℕ × Input)) (batches : List (List Event))
+      (refused : Option Fault) → batches ≡ batches_given (state_of old) inputs
+      → Accepts batches refused (keeper_of old) (keeper_of new) → IsSound (view_of old)
       → RunsWith life (state_of old) (queue_of old) → (n : ℕ) (one other : Contents)
       → IsWithin (disk.held (first_of new)) one → IsWithin (disk.held (second_of new)) other
       → RestsWith (with_next life (stopped_in_commit inputs n one other)) one other
-  rests_refused old new life inputs refused offered accepts sound runs n one other in_one in_other =
+  rests_refused old new life inputs batches refused given accepts sound runs n one other in_one in_other =
       let leaves = accepts.pair.any_moment sound.0.0 sound.0.1 sound.1 in
       let later_a : disk.moment (first_of old) ≤ disk.moment (first_of new) = leaves.later_a in
       let later_b : disk.moment (second_of old) ≤ disk.moment (second_of new) = leaves.later_b in
       rests_in_commit (view_of old) (view_of new) life inputs (state_of old) (queue_of old)
-      (seen_commit old new inputs (offered_of old) refused offered.batches accepts) runs sound n
+      (seen_commit old new inputs batches refused given accepts) runs sound n
       (disk.moment (first_of new)) (disk.moment (second_of new)) one other (later_a, omega arith)
       (later_b, omega arith)
       (subst (λ (c : Contents). IsWithin c one)
@@ -99,16 +101,17 @@ module _ {D : Type 0} {disk : Ghosts D}
 
   -- what was owed before it was handed over, and the engine was closed
   pub stops_in_commit : {T : Type 0} (old mid last : Engine D disk) (first second : D) (life : Life)
-      (inputs : List (ℕ × Input)) (r : Result T Fault) (refused : ℕ) (told told_then : Option (List Handed))
-      → IsOffered inputs old → Accepts (offered_of old) (result_err r) (keeper_of old) (keeper_of mid)
+      (inputs : List (ℕ × Input)) (batches : List (List Event)) (r : Result T Fault) (refused : ℕ)
+      (told told_then : Option (List Handed))
+      → batches ≡ batches_given (state_of old) inputs → Accepts batches (result_err r) (keeper_of old) (keeper_of mid)
       → OnErr r ((state_of mid ≡ state_of old) × (queue_of mid ≡ queue_of old)) → keeper_of last ≡ keeper_of mid
       → AllHanded told (queue_of mid) refused told_then → first ≡ first_of last → second ≡ second_of last
       → IsSound (view_of old) → RunsWith life (state_of old) (queue_of old)
       → OnErr r (StopsAs (stopped_in_commit inputs) life (disk.held first) (disk.held second) told told_then)
-  stops_in_commit old mid last first second life inputs (Ok t) refused told told_then offered accepts same kept_so
+  stops_in_commit old mid last first second life inputs batches (Ok t) refused told told_then given accepts same kept_so
       handed is_first is_second sound runs =
       tt
-  stops_in_commit old mid last first second life inputs (Err e) refused told told_then offered accepts same kept_so
+  stops_in_commit old mid last first second life inputs batches (Err e) refused told told_then given accepts same kept_so
       handed is_first is_second sound runs =
       let queue : List (ℕ × List ℕ) = queue_of old in
       let all : AllHanded told queue refused told_then =
@@ -122,7 +125,7 @@ module _ {D : Type 0} {disk : Ghosts D}
         handed = handed_first (stopped_in_commit inputs) (λ store n x y. refl) life (state_of old) queue [] refused
             told told_then so_far runs;
         rests = λ x y in_one in_other.
-            rests_refused old mid life inputs (Some e) offered accepts sound runs (length queue) x y
+            rests_refused old mid life inputs batches (Some e) given accepts sound runs (length queue) x y
             (subst (λ (d : D). IsWithin (disk.held d) x) (sym one_is) in_one)
             (subst (λ (d : D). IsWithin (disk.held d) y) (sym other_is) in_other);
       }

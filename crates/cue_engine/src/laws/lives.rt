@@ -231,3 +231,20 @@ pub fn close_after_commit<D: Disk, W: Wire>(
     let (first, second) = engine.close();
     (kept, first, second)
 }
+
+/// The same after `Engine::take`: a commit of the one input.
+pub fn close_after_take<D: Disk, W: Wire>(
+    mut engine: Engine<D>,
+    wire: &mut W,
+    now: u64,
+    input: Input<'_>,
+) -> (Result<Taken, Fault>, D, D)
+    ensures stopped { IsSound (view_of engine) → InEachLifeWith (state_of engine) (queue_of engine)
+        (λ life. OnErr result.0 (StopsAs (stopped_in_commit ((now, input_view input.entry) ∷ [])) life
+        (D.held result.1) (D.held result.2) (W.told wire.old) (W.told wire.new))) }
+{
+    let taken = engine.take(now, input);
+    let _refused = engine.hand_out(wire);
+    let (first, second) = engine.close();
+    (taken, first, second)
+}

@@ -4,7 +4,6 @@ use Rattle.std.proofs.Common.{◌≡◌, ℕ, [], ◌∷◌, ◌++◌, false, Li
 use Rattle.std.proofs.Common.{IsTrue, true≢false}
 use Rattle.std.proofs.lemmas.List.{map-append}
 use Rattle.cue_disk.specs.declared.disk.Disk.{Ghosts}
-use Rattle.cue_disk.specs.Disk.{Contents}
 use Rattle.cue_core.specs.declared.event.Event.{Event}
 use Rattle.cue_core.specs.State.{ShowState}
 use Rattle.cue_keeper.specs.declared.fault.Fault.TheVariants as fault
@@ -13,8 +12,7 @@ use Rattle.cue_keeper.specs.Due.{lacks_room}
 use Rattle.cue_keeper.specs.Groups.{records_of}
 use Rattle.cue_keeper.specs.Observed as kept
 use Rattle.cue_keeper.proofs.FittingLemmas.{room_beside}
-use Rattle.cue_keeper.specs.Pairs.{LeavesPairsAtEachMoment}
-use Rattle.cue_keeper.specs.Stands.{StandsEither, folded_all}
+use Rattle.cue_keeper.specs.Stands.{folded_all}
 use Rattle.cue_outbox.specs.Sending.{datagram, datagrams}
 use Rattle.cue_engine.specs.declared.engine.Engine.{Engine}
 use Rattle.cue_engine.specs.declared.taken.Taken.{Taken}
@@ -55,18 +53,6 @@ module _ {D : Type 0} {disk : Ghosts D} where
   queue_taken inputs old new (Ok t) offered takes = takes.queue
       ∙ ap (λ (sends : List (ℕ × List ℕ)). queue_of old ++ sends) offered.sends
   queue_taken inputs old new (Err e) offered takes = tt
-
-  pub leaves_taken : (moment : D → ℕ) (held_at : D → ℕ → Contents) (a b new_a new_b : D) (inputs : List (ℕ × Input))
-      (old : Engine D disk) → IsOffered inputs old
-      → LeavesPairsAtEachMoment moment held_at a b new_a new_b
-      (StandsEither (state_of old) (folded_all (state_of old) (offered_of old)))
-      → LeavesPairsAtEachMoment moment held_at a b new_a new_b
-      (StandsEither (state_of old) (folded_all (state_of old) (batches_given (state_of old) inputs)))
-  leaves_taken moment held_at a b new_a new_b inputs old offered leaves =
-      let P : List (List Event)
-      → Type 0 = λ bs. LeavesPairsAtEachMoment moment held_at a b new_a new_b
-      (StandsEither (state_of old) (folded_all (state_of old) bs)) in
-      subst P offered.batches leaves
 
   -- an input that is offered is the next of them
   pub offered_next : (inputs : List (ℕ × Input)) (now : ℕ) (input : Input) (counts : Taken) (old new : Engine D disk)

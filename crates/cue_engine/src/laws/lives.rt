@@ -1,16 +1,15 @@
 //! The calls of an engine, each in the life of a store: what the promise is about is what they make.
 //!
-//! Each function makes the one call that it is named for, and nothing else. Nobody calls them: their contracts join the
-//! clauses of the calls to the promise.
-ghost use Rattle.std.specs.Prelude.{◌≡◌, ℕ, [], ◌∷◌, ◌++◌, false, IfOk, OnOk, OnErr};
+//! Each function makes the call or the calls that it is named for, and nothing else. Nobody calls them: their contracts
+//! join the clauses of the calls to the promise.
+ghost use Rattle.std.specs.Prelude.{ℕ, [], ◌∷◌, ◌++◌, IfOk, OnOk, OnErr};
 ghost use Rattle.cue_disk.specs.Disk.{Contents};
 ghost use Rattle.cue_snap.specs.Observed.{first_after, second_after, RefusedAs};
-ghost use Rattle.cue_keeper.specs.Observed.{is_broken};
 ghost use Rattle.cue_outbox.specs.Sending.{datagrams};
 ghost use Rattle.cue_snap.specs.Pair.{IsUnformedOr};
 ghost use Rattle.cue_keeper.specs.Stands.{first_area};
 ghost use Rattle.cue_engine.specs.Taking.{IsOffered, WhateverWasOffered};
-ghost use Rattle.cue_engine.specs.Observed.{keeper_of, state_of, queue_of, first_of, second_of};
+ghost use Rattle.cue_engine.specs.Observed.{state_of, queue_of, first_of, second_of};
 ghost use Rattle.cue_engine.specs.Inputs.{input_view};
 ghost use Rattle.cue_engine.specs.Wires.{AllHanded, AreHanded};
 ghost use Rattle.cue_engine.specs.Recovery.{IsLeftOrStands, RefusedBut};
@@ -151,9 +150,7 @@ pub fn stop_in_hand_out<D: Disk, W: Wire>(
     wire: &mut W,
     parts: &[usize],
 ) -> (D, D)
-    ensures stopped { D.is_honest (first_of engine) → D.is_honest (second_of engine)
-        → is_broken (keeper_of engine) ≡ false
-        → InEachLifeWith (state_of engine) (queue_of engine)
+    ensures stopped { IsSound (view_of engine) → InEachLifeWith (state_of engine) (queue_of engine)
         (λ life. StopsAs stopped life (D.held result.0) (D.held result.1) (W.told wire.old)
         (W.told wire.new)) }
 {
@@ -205,9 +202,7 @@ pub fn recover<D: Disk>(alloc: Global, first: D, second: D) -> Result<Engine<D>,
 /// `Engine::close` in the life of a store: the engine stops between two calls, and n of the datagrams that it owed may
 /// have been handed over. A stop that finds no call at work leaves the disks so, too.
 pub fn close<D: Disk>(engine: Engine<D>) -> (D, D)
-    ensures stopped { D.is_honest (first_of engine) → D.is_honest (second_of engine)
-        → is_broken (keeper_of engine) ≡ false
-        → InEachLifeWith (state_of engine) (queue_of engine)
+    ensures stopped { IsSound (view_of engine) → InEachLifeWith (state_of engine) (queue_of engine)
         (λ life. (n : ℕ) (one other : Contents) → IsWithin (D.held result.0) one
         → IsWithin (D.held result.1) other → RestsWith (with_next life (stopped n one other)) one other) }
 {

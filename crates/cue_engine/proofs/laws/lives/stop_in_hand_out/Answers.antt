@@ -28,7 +28,7 @@ loop-most-preserved g c =
 
 pub returns : goal.returns
 returns g c = record {
-  stopped = λ first second works life runs.
+  stopped = λ sound life runs.
       let told = g.W.Wire.told in
       let d = g.D.Disk in
       let old = c.args.engine in
@@ -38,5 +38,5 @@ returns g c = record {
       stops_after_some d.held c.close.result.0 c.close.result.1 life (state_of old) (queue_of old)
       (queue_of l.engine) so_far.0 (told c.args.wire.now) (told l.wire)
       (stays_so d.is_honest d.held c.close.result.0 c.close.result.1 (keeper_of old) (keeper_of l.engine) same
-      c.close.ensures.stands first second works) so_far.1 runs;
+      c.close.ensures.stands sound.0.0 sound.0.1 sound.1) so_far.1 runs;
 }

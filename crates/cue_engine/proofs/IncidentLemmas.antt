@@ -2,8 +2,8 @@
 --
 -- What the disks are read as is chosen from the last incident back to the first: what a stop leaves is then one pair of
 -- byte lists, and the batch of a call that was cut off is there or not.
-use Rattle.std.proofs.Common.{◌≡◌, ◌⊎◌, inl, inr, ℕ, zero, suc, Bool, true, List, [], ◌∷◌, ◌++◌, take, refl, sym, ap}
-use Rattle.std.proofs.Common.{◌∙◌, subst, append-nil, IsTrue}
+use Rattle.std.proofs.Common.{◌≡◌, ◌⊎◌, inl, inr, ℕ, zero, suc, Bool, true, List, [], ◌∷◌, ◌++◌, take, drop, refl}
+use Rattle.std.proofs.Common.{sym, ap, ◌∙◌, subst, append-nil, IsTrue}
 use Rattle.std.specs.List.{AllByRecursion, list_all}
 use Rattle.cue_disk.specs.Disk.{Contents}
 use Rattle.cue_snap.specs.Pair.{NeitherHas, IsUnformedOr}
@@ -23,8 +23,9 @@ use Rattle.cue_core.specs.Batches.{closed_state}
 use Rattle.cue_engine.specs.Recovery.{ClosedFrom, IsLeftOrStands}
 use Rattle.cue_engine.specs.Runs.{took, joined_list, rests}
 use Rattle.cue_engine.specs.Runs as runs
-use Rattle.cue_engine.specs.Incidents.{Incident, formed, stopped_in_form, committed, handed_out, stopped}
-use Rattle.cue_engine.specs.Incidents.{stopped_in_commit, recovered, stopped_in_recovery, refused, Store, running}
+use Rattle.cue_engine.specs.Incidents.{Incident, formed, stopped_in_form, committed, handed_out, handed_some}
+use Rattle.cue_engine.specs.Incidents.{stopped, stopped_in_commit, recovered, stopped_in_recovery, refused}
+use Rattle.cue_engine.specs.Incidents.{Store, running}
 use Rattle.cue_engine.specs.Incidents.{at_rest, unformed, begun, LeavesOnly, AreLeft, PermitsRunning, PermitsAtRest}
 use Rattle.cue_engine.specs.Incidents.{PermitsUnformed, Permits, left_by}
 use Rattle.cue_engine.specs.Headline.{owed_by, handed_in, batches_of, is_cut_off}
@@ -73,6 +74,12 @@ all_taken p (suc n) [] h = refl
 all_taken p (suc n) (x ∷ xs) h = let w = both (p x) (list_all p xs) h in
     join (p x) (list_all p (take n xs)) w.0 (all_taken p n xs w.1)
 
+all_dropped : (p : ℕ × Send → Bool) (n : ℕ) (xs : List (ℕ × Send)) → list_all p xs ≡ true
+    → list_all p (drop n xs) ≡ true
+all_dropped p zero xs h = h
+all_dropped p (suc n) [] h = refl
+all_dropped p (suc n) (x ∷ xs) h = all_dropped p n xs (both (p x) (list_all p xs) h).1
+
 -- what is handed over was owed
 pub handed_rests : (s : ShowState) (es : List Event) (store : Store) (i : Incident)
     → list_all (rests s es) (owed_by store) ≡ true → list_all (rests s es) (handed_in store i) ≡ true
@@ -80,6 +87,7 @@ handed_rests s es store formed h = refl
 handed_rests s es store (stopped_in_form one other) h = refl
 handed_rests s es store (committed inputs) h = refl
 handed_rests s es store handed_out h = h
+handed_rests s es store (handed_some n) h = all_taken (rests s es) n (owed_by store) h
 handed_rests s es store (stopped n one other) h = all_taken (rests s es) n (owed_by store) h
 handed_rests s es store (stopped_in_commit inputs n one other) h = all_taken (rests s es) n (owed_by store) h
 handed_rests s es store (recovered t) h = refl
@@ -91,12 +99,18 @@ each_taken P zero xs h = tt
 each_taken P (suc n) [] h = tt
 each_taken P (suc n) (x ∷ xs) h = (h.0, each_taken P n xs h.1)
 
+each_dropped : {A : Type 0} (P : A → Type 0) (n : ℕ) (xs : List A) → AllByRecursion P xs → AllByRecursion P (drop n xs)
+each_dropped P zero xs h = h
+each_dropped P (suc n) [] h = tt
+each_dropped P (suc n) (x ∷ xs) h = each_dropped P n xs h.1
+
 pub handed_each : (R : Send → Type 0) (store : Store) (i : Incident) → Each R (owed_by store)
     → Each R (handed_in store i)
 handed_each R store formed h = tt
 handed_each R store (stopped_in_form one other) h = tt
 handed_each R store (committed inputs) h = tt
 handed_each R store handed_out h = h
+handed_each R store (handed_some n) h = each_taken (λ (m : ℕ × Send). R m.1) n (owed_by store) h
 handed_each R store (stopped n one other) h = each_taken (λ (m : ℕ × Send). R m.1) n (owed_by store) h
 handed_each R store (stopped_in_commit inputs n one other) h =
     each_taken (λ (m : ℕ × Send). R m.1) n (owed_by store) h
@@ -125,6 +139,7 @@ joined_batches s formed = refl
 joined_batches s (stopped_in_form one other) = refl
 joined_batches s (committed inputs) = joined_some (batches_given s inputs)
 joined_batches s handed_out = refl
+joined_batches s (handed_some n) = refl
 joined_batches s (stopped n one other) = refl
 joined_batches s (stopped_in_commit inputs n one other) = joined_some (batches_given s inputs)
 joined_batches s (recovered t) = joined_one (given_recovery s).batch
@@ -232,6 +247,15 @@ goes_running s es owed (committed inputs) x y on ok may = goes_committed s es ow
 goes_running s es owed handed_out x y on ok may =
     inl (as_before s es (running (after_events s es) []) x y
     (record { has = refl; owed = refl; asked = tt; readable = tt; rules = on.rules }))
+goes_running s es owed (handed_some n) x y on ok may =
+    inl (as_before s es (running (after_events s es) (drop n owed)) x y
+    (record {
+      has = refl;
+      owed = all_dropped (rests s es) n owed on.owed;
+      asked = each_dropped (λ (m : ℕ × Send). WasAsked s es m.1) n owed on.asked;
+      readable = each_dropped (λ (m : ℕ × Send). IsReadable m.1) n owed on.readable;
+      rules = on.rules;
+    }))
 goes_running s es owed (stopped n one other) x y on ok may =
     inl (as_before s es (at_rest one other) x y (resting_at s es one other x y on.rules (ok x y may.0 may.1)))
 goes_running s es owed (stopped_in_commit inputs n one other) x y on ok may =
@@ -325,6 +349,7 @@ chosen_at_rest then_one then_other formed x y ok may = absurd ok
 chosen_at_rest then_one then_other (stopped_in_form one other) x y ok may = absurd ok
 chosen_at_rest then_one then_other (committed inputs) x y ok may = absurd ok
 chosen_at_rest then_one then_other handed_out x y ok may = absurd ok
+chosen_at_rest then_one then_other (handed_some n) x y ok may = absurd ok
 chosen_at_rest then_one then_other (stopped n one other) x y ok may = absurd ok
 chosen_at_rest then_one then_other (stopped_in_commit inputs n one other) x y ok may = absurd ok
 chosen_at_rest then_one then_other (recovered t) x y ok may = record {
@@ -409,6 +434,7 @@ goes_unformed s es then_one then_other (stopped_in_form one other) x y rules sam
     (λ u v left_u left_v. still_first then_one then_other first u v (ok u v left_u left_v))))
 goes_unformed s es then_one then_other (committed inputs) x y rules same first ok = absurd ok
 goes_unformed s es then_one then_other handed_out x y rules same first ok = absurd ok
+goes_unformed s es then_one then_other (handed_some n) x y rules same first ok = absurd ok
 goes_unformed s es then_one then_other (stopped n one other) x y rules same first ok = absurd ok
 goes_unformed s es then_one then_other (stopped_in_commit inputs n one other) x y rules same first ok = absurd ok
 goes_unformed s es then_one then_other (recovered t) x y rules same first ok =

@@ -19,7 +19,7 @@ use Rattle.cue_engine.specs.Attempts.{IsDecidedInOrder, is_order_with}
 use Rattle.cue_engine.specs.Given.{given_recovery}
 use Rattle.cue_engine.specs.Groups.{all_took, batches_given}
 use Rattle.cue_engine.specs.Headline.{AreKept, CameTo, all_handed, batches_of}
-use Rattle.cue_engine.specs.Incidents.{Incident, formed, stopped_in_form, committed, handed_out, stopped}
+use Rattle.cue_engine.specs.Incidents.{Incident, formed, stopped_in_form, committed, handed_out, handed_some, stopped}
 use Rattle.cue_engine.specs.Incidents.{stopped_in_commit, recovered, stopped_in_recovery, refused}
 use Rattle.cue_engine.specs.Kept.{IsOfRun, KeptInOrder, KeptIsAHistory, KeptIsARun, KeptNumberNamesOne}
 use Rattle.cue_engine.specs.Kept.{NeverHandedBoth, was_handed}
@@ -69,6 +69,7 @@ incident_runs s (committed inputs) = record {
       ∙ sym (folded_batches s (committed inputs));
 }
 incident_runs s handed_out = record { batches = refl; state = refl }
+incident_runs s (handed_some n) = record { batches = refl; state = refl }
 incident_runs s (stopped n one other) = record { batches = refl; state = refl }
 incident_runs s (stopped_in_commit inputs n one other) = record {
   batches = (is_a_run s inputs).1;

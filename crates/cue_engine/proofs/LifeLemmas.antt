@@ -1,7 +1,8 @@
 -- Each call goes on with the life of a store.
-use Rattle.std.proofs.Common.{◌≡◌, ℕ, List, [], ◌∷◌, ◌++◌, Option, Result, Ok, Err, refl, sym, ap, ◌∙◌, subst}
+use Rattle.std.proofs.Common.{◌≡◌, ℕ, zero, suc, List, [], ◌∷◌, ◌++◌, take, drop, Option, Result, Ok, Err, refl, sym, ap}
+use Rattle.std.proofs.Common.{◌∙◌, subst}
 use Rattle.std.specs.Prelude.{IfOk, OnOk, OnErr}
-use Rattle.std.proofs.lemmas.List.{map-append}
+use Rattle.std.proofs.lemmas.List.{map-append, take-map}
 use Rattle.cue_disk.specs.declared.disk.Disk.{Ghosts}
 use Rattle.cue_disk.specs.Disk.{Contents}
 use Rattle.cue_core.specs.declared.event.Event.{Event}
@@ -15,8 +16,8 @@ use Rattle.cue_engine.specs.declared.engine.Engine.{Engine}
 use Rattle.cue_engine.specs.Observed.{keeper_of, state_of, first_of, second_of}
 use Rattle.cue_engine.specs.Given.{Input}
 use Rattle.cue_engine.specs.Groups.{batches_given, sends_given}
-use Rattle.cue_engine.specs.Incidents.{Incident, committed, handed_out, stopped, stopped_in_commit, Store, running}
-use Rattle.cue_engine.specs.Incidents.{at_rest, Permits, left_by, Happens, left_by_all}
+use Rattle.cue_engine.specs.Incidents.{Incident, committed, handed_out, handed_some, stopped, stopped_in_commit}
+use Rattle.cue_engine.specs.Incidents.{Store, running, at_rest, Permits, left_by, Happens, left_by_all}
 use Rattle.cue_engine.specs.Headline.{owed_by, handed_in}
 use Rattle.cue_engine.specs.Permitted.{IsWithin}
 use Rattle.cue_engine.specs.Lives.{Life, with_all, with_next, store_now, IsLife, RunsWith, RestsWith, IsPromisedWithin}
@@ -168,6 +169,29 @@ pub handed_what_is_owed : (life : Life) (old : ShowState) (old_queue : List (ℕ
     → old_queue ≡ datagrams (handed_in (store_now life) handed_out)
 handed_what_is_owed life old old_queue runs = runs.owes
     ∙ ap (λ (u : Store). datagrams (owed_by u)) (sym runs.runs)
+
+datagrams_dropped : (n : ℕ) (owed : List (ℕ × Send)) → drop n (datagrams owed) ≡ datagrams (drop n owed)
+datagrams_dropped zero owed = refl
+datagrams_dropped (suc n) [] = refl
+datagrams_dropped (suc n) (m ∷ owed) = datagrams_dropped n owed
+
+pub lives_handed_some : (life : Life) (n : ℕ) (old new : ShowState) (old_queue new_queue : List (ℕ × List ℕ))
+    → new ≡ old → new_queue ≡ drop n old_queue → RunsWith life old old_queue
+    → RunsWith (with_next life (handed_some n)) new new_queue
+lives_handed_some life n old new old_queue new_queue state queue runs =
+    let some : Incident = handed_some n in
+    let P : ShowState → Type 0 = λ u. store_now (with_next life some) ≡ running u (drop n runs.owed) in
+    record {
+      lived = life_more life some (running old runs.owed) runs.lived runs.runs tt;
+      owed = drop n runs.owed;
+      runs = subst P (sym state) (left_more life some ∙ ap (λ (u : Store). left_by u some) runs.runs);
+      owes = queue ∙ ap (λ (os : List (ℕ × List ℕ)). drop n os) runs.owes ∙ datagrams_dropped n runs.owed;
+    }
+
+pub handed_some_of_it : (life : Life) (n : ℕ) (old : ShowState) (old_queue : List (ℕ × List ℕ))
+    → RunsWith life old old_queue → take n old_queue ≡ datagrams (handed_in (store_now life) (handed_some n))
+handed_some_of_it life n old old_queue runs = ap (λ (os : List (ℕ × List ℕ)). take n os) runs.owes
+    ∙ take-map datagram n runs.owed ∙ ap (λ (u : Store). datagrams (take n (owed_by u))) (sym runs.runs)
 
 -- ---- stops
 

@@ -18,7 +18,7 @@ use Rattle.cue_engine.specs.Groups.{batches_given}
 use Rattle.cue_engine.specs.Recovery.{ClosedFrom}
 use Rattle.cue_engine.specs.Runs.{joined_list, rests}
 use Rattle.cue_engine.specs.InBytes.{BytesRest, BytesPending}
-use Rattle.cue_engine.specs.Incidents.{Incident, committed, handed_out, stopped, stopped_in_commit}
+use Rattle.cue_engine.specs.Incidents.{Incident, committed, handed_out, handed_some, stopped, stopped_in_commit}
 use Rattle.cue_engine.specs.Incidents.{recovered, stopped_in_recovery, Store, running, at_rest, unformed, LeavesOnly}
 use Rattle.cue_engine.specs.Incidents.{AreLeft}
 use Rattle.cue_engine.specs.Incidents.{left_by, Happens, left_by_all}
@@ -32,6 +32,7 @@ owed_by (unformed one other) = []
 
 abbrev pub handed_in : Store → Incident → List (ℕ × Send)
 handed_in store handed_out = owed_by store
+handed_in store (handed_some n) = take n (owed_by store)
 handed_in store (stopped n one other) = take n (owed_by store)
 handed_in store (stopped_in_commit inputs n one other) = take n (owed_by store)
 handed_in store _ = []

@@ -3,7 +3,7 @@
 -- A store's life is a list of incidents: it is formed, inputs are committed, datagrams are handed over, and there are
 -- stops, recoveries and refusals. `Permits` says of each incident what the contract of its call says of what the two
 -- disks are left with, and nothing else. The laws of `Permitted` say that it does so.
-use Rattle.std.specs.Prelude.{ℕ, List, [], ◌∷◌, ◌++◌}
+use Rattle.std.specs.Prelude.{ℕ, List, [], ◌∷◌, ◌++◌, drop}
 use Rattle.cue_disk.specs.Disk.{Contents, IsImage}
 use Rattle.cue_core.specs.State.{ShowState, empty_state}
 use Rattle.cue_keeper.specs.Stands.{StandsEither, StandsAs, first_area, folded_all}
@@ -23,6 +23,8 @@ pub data Incident : Type 0 where
   committed : (inputs : List (ℕ × Input)) → Incident
   -- `hand_out`: all that was owed was handed to the network.
   handed_out : Incident
+  -- `hand_out_first`: the first n of what was owed were handed to the network, and the others are still owed.
+  handed_some : (n : ℕ) → Incident
   -- A stop came while no call wrote to the disks, or the engine was closed. Of what was owed the first n datagrams had
   -- been handed to the network by then.
   stopped : (n : ℕ) (one other : Contents) → Incident
@@ -71,6 +73,7 @@ pub record RecoversAs (one other : Contents) (s : ShowState) : Type 0 where
 abbrev pub PermitsRunning : ShowState → Incident → Type 0
 PermitsRunning s (committed inputs) = Unit {0}
 PermitsRunning s handed_out = Unit {0}
+PermitsRunning s (handed_some n) = Unit {0}
 PermitsRunning s (stopped n one other) = StandsAs one other s
 PermitsRunning s (stopped_in_commit inputs n one other) =
     LeavesOnly one other (StandsEither s (folded_all s (batches_given s inputs)))
@@ -118,6 +121,11 @@ having_handed_out (running s owed) = running s []
 having_handed_out (at_rest one other) = at_rest one other
 having_handed_out (unformed one other) = unformed one other
 
+abbrev pub having_handed_some : Store → ℕ → Store
+having_handed_some (running s owed) n = running s (drop n owed)
+having_handed_some (at_rest one other) n = at_rest one other
+having_handed_some (unformed one other) n = unformed one other
+
 -- A call gave no engine, and now the disks hold these: a store that was not formed still is not.
 abbrev pub still_at_rest : Store → Contents → Contents → Store
 still_at_rest (running s owed) one other = at_rest one other
@@ -130,6 +138,7 @@ left_by store formed = begun empty_state
 left_by store (stopped_in_form one other) = still_at_rest store one other
 left_by store (committed inputs) = having_committed store inputs
 left_by store handed_out = having_handed_out store
+left_by store (handed_some n) = having_handed_some store n
 left_by store (stopped n one other) = at_rest one other
 left_by store (stopped_in_commit inputs n one other) = at_rest one other
 left_by store (recovered s) = begun s

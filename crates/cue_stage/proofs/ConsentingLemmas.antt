@@ -13,7 +13,7 @@ use Rattle.cue_core.proofs.lists.AnyLemmas.{any-append, or_left}
 use Rattle.cue_core.proofs.lists.ConditionLemmas.{both}
 use Rattle.cue_core.proofs.rules.BatchLemmas.{onto-append}
 use Rattle.cue_engine.specs.Attempts.{IsDecidedInOrder, may_go_after}
-use Rattle.cue_engine.specs.Incidents.{Incident, formed, stopped_in_form, committed, handed_out, stopped}
+use Rattle.cue_engine.specs.Incidents.{Incident, formed, stopped_in_form, committed, handed_out, handed_some, stopped}
 use Rattle.cue_engine.specs.Incidents.{stopped_in_commit, recovered, stopped_in_recovery, refused}
 use Rattle.cue_engine.specs.Runs.{joined_list}
 use Rattle.cue_engine.proofs.AttemptLemmas.{any_in}
@@ -58,6 +58,7 @@ true_now from past d q formed only says = absurd says
 true_now from past d q (stopped_in_form one other) only says = absurd says
 true_now from past d q (committed inputs) only says = only.0 says.input says.there d q says.says
 true_now from past d q handed_out only says = absurd says
+true_now from past d q (handed_some n) only says = absurd says
 true_now from past d q (stopped n one other) only says = absurd says
 true_now from past d q (stopped_in_commit inputs n one other) only says = only.0 says.input says.there d q says.says
 true_now from past d q (recovered t) only says = absurd says

@@ -29,7 +29,7 @@ use Rattle.cue_engine.specs.Headline.{AreKept}
 use Rattle.cue_engine.proofs.IncidentLemmas.{events_of, folded_batches}
 use Rattle.cue_engine.proofs.AskedLemmas.{further}
 use Rattle.cue_engine.proofs.KeptLemmas.{joined_kept}
-use Rattle.cue_engine.specs.Incidents.{Incident, formed, stopped_in_form, committed, handed_out, stopped}
+use Rattle.cue_engine.specs.Incidents.{Incident, formed, stopped_in_form, committed, handed_out, handed_some, stopped}
 use Rattle.cue_engine.specs.Incidents.{stopped_in_commit, recovered, stopped_in_recovery, refused}
 use Rattle.cue_engine.specs.Runs.{joined_list}
 use Rattle.cue_engine.proofs.GivenLemmas.{given_by_test, in_full}
@@ -160,6 +160,7 @@ incident_says q e s formed h = true≢false (sym h)
 incident_says q e s (stopped_in_form one other) h = true≢false (sym h)
 incident_says q e s (committed inputs) h = inputs_say q e s inputs h
 incident_says q e s handed_out h = true≢false (sym h)
+incident_says q e s (handed_some n) h = true≢false (sym h)
 incident_says q e s (stopped n one other) h = true≢false (sym h)
 incident_says q e s (stopped_in_commit inputs n one other) h = inputs_say q e s inputs h
 incident_says q e s (recovered t) h = none_cancelled q e Power (filter is_undecided s.live) h

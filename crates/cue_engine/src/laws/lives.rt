@@ -19,6 +19,7 @@ ghost use Rattle.cue_engine.specs.Incidents.{
   stopped_in_commit,
   committed,
   handed_out,
+  handed_some,
   stopped,
   recovered,
   stopped_in_recovery,
@@ -126,6 +127,18 @@ pub fn hand_out<D: Disk, W: Wire>(engine: &mut Engine<D>, wire: &mut W) -> u64
         (W.told wire.new)) }
 {
     engine.hand_out(wire)
+}
+
+/// `Engine::hand_out_first` in the life of a store: it is the next incident, and what the wire reports grew by what the
+/// life has as handed over in it.
+pub fn hand_out_first<D: Disk, W: Wire>(engine: &mut Engine<D>, wire: &mut W, most: usize) -> u64
+    ensures handed_some { InEachLifeWith (state_of engine.old) (queue_of engine.old)
+        (λ life. RunsWith (with_next life (handed_some most)) (state_of engine.new) (queue_of engine.new)) }
+    ensures handed { InEachLifeWith (state_of engine.old) (queue_of engine.old)
+        (λ life. AllHanded (W.told wire.old) (datagrams (handed_in (store_now life) (handed_some most))) result
+        (W.told wire.new)) }
+{
+    engine.hand_out_first(wire, most)
 }
 
 /// `Engine::hand_out_first` with each of these numbers in turn, and then `Engine::hand_out`, in the life of a store:

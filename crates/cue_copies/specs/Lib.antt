@@ -1,3 +1,4 @@
 pub mod Copies
 pub mod Looking
+pub mod OnlyReads
 pub mod Telling

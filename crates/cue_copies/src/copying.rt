@@ -3,10 +3,8 @@ ghost use Rattle.std.specs.Prelude.{
   ◌≡◌,
   ◌≢◌,
   ◌≤◌,
-  ◌⊎◌,
   ◌-◌,
   ◌++◌,
-  ◌↔◌,
   length,
   take,
   drop,
@@ -20,7 +18,6 @@ ghost use Rattle.std.specs.Prelude.{
   IsErrOf,
 };
 ghost use Rattle.cue_log.specs.declared.area.TheConstants.{MAX_AREA};
-ghost use Rattle.cue_disk.specs.Disk.{MoreFailures};
 ghost use Rattle.cue_disk.specs.Memory.{IsNew, memory_bytes};
 ghost use Rattle.cue_keeper.specs.Stands.{Stands};
 ghost use Rattle.cue_keeper.specs.Observed.{state_of};
@@ -34,6 +31,7 @@ ghost use Rattle.cue_copies.specs.Copies.{
   head_of,
   is_read_again,
 };
+ghost use Rattle.cue_copies.specs.OnlyReads.{OnlyReads, OnlyReadsBoth};
 
 use cue_disk::{Disk, MemDisk};
 use cue_engine::Engine;
@@ -98,10 +96,7 @@ fn fault_in_memory(fault: StoreFault) -> StoreFault
 fn head<D: Disk>(disk: &mut D) -> Result<[u8; HEAD], StoreFault>
     ensures head { D.is_honest disk.old → IfOk result (λ head. head ≡ head_of (D.held disk.old)) }
     ensures fault { IfErr result IsOfMachine }
-    ensures disk { IsErrOf result StoreFault.Disk → MoreFailures (D.failures disk.old) (D.failures disk.new) }
-    ensures through { (IsErrOf result StoreFault.Disk → ⊥) → D.failures disk.new ≡ D.failures disk.old }
-    ensures kept { D.is_honest disk.old → D.held disk.new ≡ D.held disk.old }
-    ensures honest { D.is_honest disk.new ↔ D.is_honest disk.old }
+    ensures reads { OnlyReads D.Disk (IsErrOf result StoreFault.Disk) disk.old disk.new }
 {
     let Ok(present) = disk.len() else {
         return Err(StoreFault::Disk);
@@ -119,14 +114,7 @@ fn heads_of<D: Disk>(first: &mut D, second: &mut D) -> Result<Heads, StoreFault>
     ensures first { D.is_honest first.old → IfOk result (λ heads. heads.first ≡ head_of (D.held first.old)) }
     ensures second { D.is_honest second.old → IfOk result (λ heads. heads.second ≡ head_of (D.held second.old)) }
     ensures fault { IfErr result IsOfMachine }
-    ensures disk { IsErrOf result StoreFault.Disk → MoreFailures (D.failures first.old) (D.failures first.new)
-        ⊎ MoreFailures (D.failures second.old) (D.failures second.new) }
-    ensures through { (IsErrOf result StoreFault.Disk → ⊥)
-        → (D.failures first.new ≡ D.failures first.old) × (D.failures second.new ≡ D.failures second.old) }
-    ensures first_kept { D.is_honest first.old → D.held first.new ≡ D.held first.old }
-    ensures second_kept { D.is_honest second.old → D.held second.new ≡ D.held second.old }
-    ensures first_honest { D.is_honest first.new ↔ D.is_honest first.old }
-    ensures second_honest { D.is_honest second.new ↔ D.is_honest second.old }
+    ensures reads { OnlyReadsBoth D.Disk (IsErrOf result StoreFault.Disk) first.old second.old first.new second.new }
 {
     Ok(Heads {
         first: head(first)?,
@@ -140,12 +128,9 @@ fn read_on<D: Disk>(disk: &mut D, bytes: &mut Vec<u8>, len: usize) -> Result<(),
     requires within { D.is_honest disk.old → len ≤ length (D.held disk.old).bytes }
     ensures len { OnOk result (length bytes.new.items ≡ len) }
     ensures fault { IfErr result IsOfMachine }
-    ensures disk { IsErrOf result StoreFault.Disk → MoreFailures (D.failures disk.old) (D.failures disk.new) }
-    ensures through { (IsErrOf result StoreFault.Disk → ⊥) → D.failures disk.new ≡ D.failures disk.old }
     ensures read { D.is_honest disk.old → OnOk result (bytes.new.items ≡ bytes.old.items
         ++ take (len - length bytes.old.items) (drop (length bytes.old.items) (D.held disk.old).bytes)) }
-    ensures kept { D.is_honest disk.old → D.held disk.new ≡ D.held disk.old }
-    ensures honest { D.is_honest disk.new ↔ D.is_honest disk.old }
+    ensures reads { OnlyReads D.Disk (IsErrOf result StoreFault.Disk) disk.old disk.new }
 {
     let have = bytes.len();
     bytes.resize(len, 0).map_err(|_| StoreFault::Memory)?;
@@ -159,11 +144,8 @@ fn read_grown<D: Disk>(disk: &mut D, bytes: &mut Vec<u8>) -> Result<bool, StoreF
     requires front { D.is_honest disk.old → IsFront bytes.old.items (D.held disk.old).bytes }
     ensures short { OnOk result (length bytes.new.items ≤ MAX_AREA) }
     ensures fault { IfErr result IsOfMachine }
-    ensures disk { IsErrOf result StoreFault.Disk → MoreFailures (D.failures disk.old) (D.failures disk.new) }
-    ensures through { (IsErrOf result StoreFault.Disk → ⊥) → D.failures disk.new ≡ D.failures disk.old }
     ensures copy { D.is_honest disk.old → OnOk result (bytes.new.items ≡ copy_of (D.held disk.old)) }
-    ensures kept { D.is_honest disk.old → D.held disk.new ≡ D.held disk.old }
-    ensures honest { D.is_honest disk.new ↔ D.is_honest disk.old }
+    ensures reads { OnlyReads D.Disk (IsErrOf result StoreFault.Disk) disk.old disk.new }
 {
     let Ok(present) = disk.len() else {
         return Err(StoreFault::Disk);
@@ -181,10 +163,7 @@ fn read_grown<D: Disk>(disk: &mut D, bytes: &mut Vec<u8>) -> Result<bool, StoreF
 fn bytes_of<D: Disk>(alloc: Global, disk: &mut D) -> Result<Vec<u8>, StoreFault>
     ensures copy { D.is_honest disk.old → IfOk result (λ bytes. bytes.items ≡ copy_of (D.held disk.old)) }
     ensures fault { IfErr result IsOfMachine }
-    ensures disk { IsErrOf result StoreFault.Disk → MoreFailures (D.failures disk.old) (D.failures disk.new) }
-    ensures through { (IsErrOf result StoreFault.Disk → ⊥) → D.failures disk.new ≡ D.failures disk.old }
-    ensures kept { D.is_honest disk.old → D.held disk.new ≡ D.held disk.old }
-    ensures honest { D.is_honest disk.new ↔ D.is_honest disk.old }
+    ensures reads { OnlyReads D.Disk (IsErrOf result StoreFault.Disk) disk.old disk.new }
 {
     let mut bytes = Vec::new(alloc);
     read_grown(disk, &mut bytes)?;
@@ -207,14 +186,7 @@ pub fn copy_both<D: Disk>(
     ensures second { D.is_honest second.old → IfOk result
         (λ copies. copies.second.items ≡ copy_of (D.held second.old)) }
     ensures fault { IfErr result IsOfMachine }
-    ensures disk { IsErrOf result StoreFault.Disk → MoreFailures (D.failures first.old) (D.failures first.new)
-        ⊎ MoreFailures (D.failures second.old) (D.failures second.new) }
-    ensures through { (IsErrOf result StoreFault.Disk → ⊥)
-        → (D.failures first.new ≡ D.failures first.old) × (D.failures second.new ≡ D.failures second.old) }
-    ensures first_kept { D.is_honest first.old → D.held first.new ≡ D.held first.old }
-    ensures second_kept { D.is_honest second.old → D.held second.new ≡ D.held second.old }
-    ensures first_honest { D.is_honest first.new ↔ D.is_honest first.old }
-    ensures second_honest { D.is_honest second.new ↔ D.is_honest second.old }
+    ensures reads { OnlyReadsBoth D.Disk (IsErrOf result StoreFault.Disk) first.old second.old first.new second.new }
 {
     Ok(Copies {
         first: bytes_of(alloc, first)?,
@@ -245,14 +217,7 @@ pub fn copy_at_once<D: Disk>(
     // Of disks that nobody else writes, the heads stay.
     ensures some { D.is_honest first.old → D.is_honest second.old → IfOk result (λ found. IsSome found) }
     ensures fault { IfErr result IsOfMachine }
-    ensures disk { IsErrOf result StoreFault.Disk → MoreFailures (D.failures first.old) (D.failures first.new)
-        ⊎ MoreFailures (D.failures second.old) (D.failures second.new) }
-    ensures through { (IsErrOf result StoreFault.Disk → ⊥)
-        → (D.failures first.new ≡ D.failures first.old) × (D.failures second.new ≡ D.failures second.old) }
-    ensures first_kept { D.is_honest first.old → D.held first.new ≡ D.held first.old }
-    ensures second_kept { D.is_honest second.old → D.held second.new ≡ D.held second.old }
-    ensures first_honest { D.is_honest first.new ↔ D.is_honest first.old }
-    ensures second_honest { D.is_honest second.new ↔ D.is_honest second.old }
+    ensures reads { OnlyReadsBoth D.Disk (IsErrOf result StoreFault.Disk) first.old second.old first.new second.new }
 {
     let before = heads_of(first, second)?;
     let copies = copy_both(alloc, first, second)?;
@@ -329,13 +294,7 @@ impl Copies {
 pub fn refusal_of<D: Disk>(alloc: Global, first: &mut D, second: &mut D) -> Option<StoreFault>
     ensures answered { D.is_honest first.old → D.is_honest second.old
         → IsRefusalOf result (copy_of (D.held first.old)) (copy_of (D.held second.old)) }
-    // A device is named only where one of its calls failed.
-    ensures disk { result ≡ Some StoreFault.Disk → MoreFailures (D.failures first.old) (D.failures first.new)
-        ⊎ MoreFailures (D.failures second.old) (D.failures second.new) }
-    ensures through { result ≢ Some StoreFault.Disk
-        → (D.failures first.new ≡ D.failures first.old) × (D.failures second.new ≡ D.failures second.old) }
-    ensures first_kept { D.is_honest first.old → D.held first.new ≡ D.held first.old }
-    ensures second_kept { D.is_honest second.old → D.held second.new ≡ D.held second.old }
+    ensures reads { OnlyReadsBoth D.Disk (result ≡ Some StoreFault.Disk) first.old second.old first.new second.new }
 {
     match copy_both(alloc, first, second) {
         Ok(copies) => copies.refusal(alloc),

@@ -1,6 +1,8 @@
 //! Reading a store again and again, together with what its records tell: for whoever shows how attempts have ended.
-ghost use Rattle.std.specs.Prelude.{◌≡◌, ◌↔◌, IsTrue};
+ghost use Rattle.std.specs.Prelude.{◌≡◌, ◌≢◌, IsTrue};
+ghost use Rattle.cue_copies.specs.OnlyReads.{OnlyReadsBoth};
 ghost use Rattle.cue_copies.specs.Telling.{AreOf, IsFoundIn, StandsAsFound};
+ghost use Rattle.cue_copies.specs.declared.reading.Found.TheVariants.{Refused};
 
 use crate::copying::{Copies, copy_at_once, is_read_again};
 use crate::looking::MAX_READINGS;
@@ -38,7 +40,8 @@ fn is_same(last: &Option<Copies>, copies: &Copies) -> bool
 
 // What these copies stand for, and what they tell, unless they are those that were made last.
 fn found_in(alloc: Global, copies: Copies, last: &Option<Copies>) -> Found
-    ensures { IsFoundIn last.now copies.first.items copies.second.items result }
+    ensures found { IsFoundIn last.now copies.first.items copies.second.items result }
+    ensures memory { result ≢ Refused StoreFault.Disk }
 {
     if is_same(last, &copies) {
         return Found::Same;
@@ -58,10 +61,7 @@ fn found_in(alloc: Global, copies: Copies, last: &Option<Copies>) -> Found
 
 /// Reads both files once, as `look` does; `last` are the copies that were made last. It makes no write and no sync.
 pub fn read<D: Disk>(alloc: Global, first: &mut D, second: &mut D, last: &Option<Copies>) -> Found
-    ensures first_kept { D.is_honest first.old → D.held first.new ≡ D.held first.old }
-    ensures second_kept { D.is_honest second.old → D.held second.new ≡ D.held second.old }
-    ensures first_honest { D.is_honest first.new ↔ D.is_honest first.old }
-    ensures second_honest { D.is_honest second.new ↔ D.is_honest second.old }
+    ensures reads { OnlyReadsBoth D.Disk (result ≡ Refused StoreFault.Disk) first.old second.old first.new second.new }
     ensures stood { D.is_honest first.old → D.is_honest second.old
         → StandsAsFound last.now (D.held first.old) (D.held second.old) result }
 {
@@ -80,10 +80,7 @@ pub fn read_again<D: Disk>(
     second: &mut D,
     last: &Option<Copies>,
 ) -> Found
-    ensures first_kept { D.is_honest first.old → D.held first.new ≡ D.held first.old }
-    ensures second_kept { D.is_honest second.old → D.held second.new ≡ D.held second.old }
-    ensures first_honest { D.is_honest first.new ↔ D.is_honest first.old }
-    ensures second_honest { D.is_honest second.new ↔ D.is_honest second.old }
+    ensures reads { OnlyReadsBoth D.Disk (result ≡ Refused StoreFault.Disk) first.old second.old first.new second.new }
     ensures stood { D.is_honest first.old → D.is_honest second.old
         → StandsAsFound last.now (D.held first.old) (D.held second.old) result }
 {

@@ -17,5 +17,5 @@ mod reading;
 mod telling;
 
 pub use copying::{Copies, copy_at_once, copy_both, is_read_again, refusal_of};
-pub use looking::{MAX_READINGS, Seen, look, look_again};
+pub use looking::{MAX_READINGS, Seen, look, look_again, look_while};
 pub use reading::{Found, read, read_again};

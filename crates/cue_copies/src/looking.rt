@@ -39,8 +39,14 @@ pub fn look<D: Disk>(alloc: Global, first: &mut D, second: &mut D) -> Seen
 }
 
 /// Reads both files until they give a store or a fault that another reading would not mend, `MAX_READINGS` times at
-/// most. For whoever does not ask whether the store is served.
-pub fn look_again<D: Disk>(alloc: Global, first: &mut D, second: &mut D) -> Seen
+/// most. Such a fault is read again only if the store is served meanwhile, which the closure says.
+pub fn look_while<D: Disk, S: Fn() -> bool>(
+    alloc: Global,
+    first: &mut D,
+    second: &mut D,
+    is_served: S,
+) -> Seen
+    requires { S.IsAlwaysCallable is_served }
     ensures reads { OnlyReadsBoth D.Disk (result ≡ Refused StoreFault.Disk) first.old second.old first.new second.new }
     ensures stood { D.is_honest first.old → D.is_honest second.old
         → StandsAsSeen (D.held first.old) (D.held second.old) result }
@@ -48,9 +54,18 @@ pub fn look_again<D: Disk>(alloc: Global, first: &mut D, second: &mut D) -> Seen
     for _ in 1..MAX_READINGS {
         match look(alloc, first, second) {
             Seen::Changing => {}
-            Seen::Refused(fault) if is_read_again(fault) => {}
+            Seen::Refused(fault) if is_read_again(fault) && is_served() => {}
             seen => return seen,
         }
     }
     look(alloc, first, second)
+}
+
+/// The same, for whoever does not ask whether the store is served.
+pub fn look_again<D: Disk>(alloc: Global, first: &mut D, second: &mut D) -> Seen
+    ensures reads { OnlyReadsBoth D.Disk (result ≡ Refused StoreFault.Disk) first.old second.old first.new second.new }
+    ensures stood { D.is_honest first.old → D.is_honest second.old
+        → StandsAsSeen (D.held first.old) (D.held second.old) result }
+{
+    look_while(alloc, first, second, || true)
 }

@@ -1,12 +1,12 @@
 //! The command `show`: it reads a store that another process may serve meanwhile, and reads it again where what it read
 //! may be of two moments.
-ghost use Rattle.std.specs.Prelude.{◌≡◌, ◌≢◌, ◌⊎◌, ◌↔◌, IfErr, IfOk, IsErrOf, OnOk};
+ghost use Rattle.std.specs.Prelude.{◌≡◌, IfErr, IfOk, IsErrOf, OnOk};
 ghost use Rattle.std.specs.Io.KnownBytes.{Appends};
-ghost use Rattle.cue_disk.specs.Disk.{MoreFailures};
 ghost use Rattle.cue_keeper.specs.Observed.{state_of};
 ghost use Rattle.cue_keeper.specs.Stands.{Stands};
 ghost use Rattle.cue_copies.specs.Copies.{copy_of};
 ghost use Rattle.cue_copies.specs.Looking.{StandsAsSeen};
+ghost use Rattle.cue_copies.specs.OnlyReads.{OnlyReadsBoth};
 ghost use Rattle.cue_copies.specs.declared.looking.Seen.TheVariants.{Refused};
 ghost use Rattle.cue_script.specs.declared.ending.Failure.TheVariants.{Store};
 ghost use Rattle.cue_program.specs.Performing.{IsStateShown, IsStateTold};
@@ -18,7 +18,7 @@ use super::fault::ProgramFault;
 use super::files::{open_both_to_read, say, say_failures};
 use super::lock::is_served;
 use super::print;
-use cue_copies::{MAX_READINGS, Seen, is_read_again, look};
+use cue_copies::{Seen, look_while};
 use cue_core::State;
 use cue_disk::{Disk, MemDisk};
 use cue_keeper::{Keeper, StoreFault};
@@ -37,25 +37,11 @@ pub fn look_again<R: Files<File = File>, D: Disk>(
     first: &mut D,
     second: &mut D,
 ) -> Seen
-    ensures first_kept { D.is_honest first.old → D.held first.new ≡ D.held first.old }
-    ensures second_kept { D.is_honest second.old → D.held second.new ≡ D.held second.old }
-    ensures first_honest { D.is_honest first.new ↔ D.is_honest first.old }
-    ensures second_honest { D.is_honest second.new ↔ D.is_honest second.old }
-    ensures disk { result ≡ Refused StoreFault.Disk → MoreFailures (D.failures first.old) (D.failures first.new)
-        ⊎ MoreFailures (D.failures second.old) (D.failures second.new) }
-    ensures through { result ≢ Refused StoreFault.Disk
-        → (D.failures first.new ≡ D.failures first.old) × (D.failures second.new ≡ D.failures second.old) }
+    ensures reads { OnlyReadsBoth D.Disk (result ≡ Refused StoreFault.Disk) first.old second.old first.new second.new }
     ensures stood { D.is_honest first.old → D.is_honest second.old
         → StandsAsSeen (D.held first.old) (D.held second.old) result }
 {
-    for _ in 1..MAX_READINGS {
-        match look(alloc, first, second) {
-            Seen::Changing => {}
-            Seen::Refused(fault) if is_read_again(fault) && is_served(rt, alloc, dir) => {}
-            seen => return seen,
-        }
-    }
-    look(alloc, first, second)
+    look_while(alloc, first, second, || is_served(rt, alloc, dir))
 }
 
 // Says that the files did not stand still; this is the fault.
@@ -83,14 +69,12 @@ fn open_copies<R: Files<File = File> + Eprint, D: Disk>(
     first: &mut D,
     second: &mut D,
 ) -> Result<Keeper<MemDisk>, ProgramFault>
-    ensures first_kept { D.is_honest first.old → D.held first.new ≡ D.held first.old }
-    ensures second_kept { D.is_honest second.old → D.held second.new ≡ D.held second.old }
+    ensures reads { OnlyReadsBoth D.Disk (IsErrOf result (Failed (Store StoreFault.Disk))) first.old second.old
+        first.new second.new }
     ensures stood { D.is_honest first.old → D.is_honest second.old → IfOk result (λ keeper.
         Stands (copy_of (D.held first.old)) (copy_of (D.held second.old)) (state_of keeper)) }
     ensures refused { D.is_honest first.old → D.is_honest second.old → IfErr result
         (λ fault. IsRefusedFor (copy_of (D.held first.old)) (copy_of (D.held second.old)) fault) }
-    ensures disk { IsErrOf result (Failed (Store StoreFault.Disk)) → MoreFailures (D.failures first.old)
-        (D.failures first.new) ⊎ MoreFailures (D.failures second.old) (D.failures second.new) }
 {
     match look_again(rt, alloc, dir, first, second) {
         Seen::Whole(keeper) => Ok(keeper),

@@ -1,5 +1,5 @@
 use Rattle.std.proofs.Common.{◌≡◌, ◌↔◌}
-use Rattle.cue_program.proofs.program.looking.look_again.Given as goal
+use Rattle.cue_copies.proofs.looking.look_while.Given as goal
 
 abbrev pub invariant-loop : goal.invariant-loop
 invariant-loop g l = record {

@@ -2,6 +2,9 @@ pub mod Pair
 pub mod Reading
 pub mod Invariant
 pub mod Observed
+pub mod Disks
+pub mod Formed
+pub mod Turning
 pub mod Appending
 pub mod Opened
 pub mod Found

@@ -1,5 +1,5 @@
 -- What callers see of a pair.
-use Rattle.std.specs.Prelude.{◌≡◌, ◌≢◌, ℕ, Bool, if◌then◌else◌, Result, Ok, Err}
+use Rattle.std.specs.Prelude.{◌≡◌, ◌≢◌, ℕ, Bool, if◌then◌else◌, Result, Ok, Err, Option, None, Some}
 use Rattle.cue_disk.specs.Disk.{Contents}
 use Rattle.cue_log.specs.Area.{Area}
 use Rattle.cue_log.specs.Observed as log
@@ -57,15 +57,15 @@ abbrev pub second_after : {T E D : Type 0} → (T → D) → Result T (E × D ×
 second_after disk_in (Ok made) = disk_in made
 second_after disk_in (Err refused) = refused.2
 
+-- the fault, if the disks come back with one
+abbrev pub fault_of : {T E D : Type 0} → Result T (E × D × D) → Option E
+fault_of (Ok made) = None
+fault_of (Err refused) = Some refused.0
+
 -- this fault is answered only where it is so
 abbrev pub RefusedAs : {T E D : Type 0} → E → Type 0 → Result T (E × D × D) → Type 0
 RefusedAs fault reason (Ok made) = Unit {0}
 RefusedAs fault reason (Err refused) = refused.0 ≡ fault → reason
-
--- this is so, unless this fault is answered
-abbrev pub UnlessRefusedAs : {T E D : Type 0} → E → Type 0 → Result T (E × D × D) → Type 0
-UnlessRefusedAs fault fact (Ok made) = fact
-UnlessRefusedAs fault fact (Err refused) = refused.0 ≢ fault → fact
 
 -- a fault of a call on one disk, which comes back with it, is answered only where it is so
 abbrev pub FailsAs : {T E D : Type 0} → E → Type 0 → Result T (E × D) → Type 0

@@ -1,12 +1,11 @@
 // How a pair comes to be: both disks are looked at and synced, and then the first one gets an area.
-ghost use Rattle.std.specs.Prelude.{◌≡◌, ◌⊎◌, ◌<◌, ◌≤◌, ◌+◌, ◌↔◌};
-ghost use Rattle.std.specs.Prelude.{false, length, IfOk, OnOk, IsErrOf};
-ghost use Rattle.cue_disk.specs.Disk.{LeavesAtEachMoment, IsImage, IsStable, CountsFailure, MoreFailures};
-ghost use Rattle.cue_disk.specs.Disk.{overwritten_bytes};
+ghost use Rattle.std.specs.Prelude.{◌≡◌, ◌<◌, ◌+◌, ◌↔◌, false, length, IfOk, OnOk, IsErrOf};
+ghost use Rattle.cue_disk.specs.Disk.{LeavesAtEachMoment, IsStable, CountsFailure, overwritten_bytes};
 ghost use Rattle.cue_log.specs.Area.{fresh, formed_text};
 ghost use Rattle.cue_log.specs.Log.{IsNoneOr, LeavesAbsent, ReadsAs};
 ghost use Rattle.cue_log.specs.Observed.{disk_of, disk_after, generation_of, end_of, count_of, is_broken, area_of};
 ghost use Rattle.cue_log.specs.declared.area.TheConstants.{MAX_AREA, HEAD_LEN};
+ghost use Rattle.cue_snap.specs.Disks.{OnlySyncs, SomeFailed};
 ghost use Rattle.cue_snap.specs.Pair.{NeitherHas, SomeIsThere};
 
 use cue_disk::{Disk, DiskFault};
@@ -44,23 +43,14 @@ pub(crate) fn look<D: Disk>(first: &mut D, second: &mut D) -> Result<(), FormFau
         → OnOk result (NeitherHas (D.held first.old).bytes (D.held second.old).bytes) }
     ensures not_empty { D.is_honest first.old → D.is_honest second.old → IsErrOf result FormFault.NotEmpty
         → SomeIsThere (D.held first.old).bytes (D.held second.old).bytes }
-    ensures disk { IsErrOf result FormFault.Disk → MoreFailures (D.failures first.old) (D.failures first.new)
-        ⊎ MoreFailures (D.failures second.old) (D.failures second.new) }
+    ensures failed { IsErrOf result FormFault.Disk → SomeFailed D.Disk first.old second.old first.new second.new }
     ensures first_synced { D.is_honest first.old → IsErrOf result FormFault.NotEmpty → IsStable (D.held first.new) }
     ensures second_synced { D.is_honest second.old → IsErrOf result FormFault.NotEmpty
         → IsStable (D.held second.new) }
     ensures first_stays { D.is_honest first.old → OnOk result (LeavesAbsent (D.held first.new)) }
     ensures second_stays { D.is_honest second.old → OnOk result (LeavesAbsent (D.held second.new)) }
-    ensures first_moments { D.is_honest first.old → LeavesAtEachMoment D.moment D.held_at first.old first.new
-        (IsImage (D.held first.old)) }
-    ensures second_moments { D.is_honest second.old → LeavesAtEachMoment D.moment D.held_at second.old second.new
-        (IsImage (D.held second.old)) }
-    ensures first_bytes { D.is_honest first.old → (D.held first.new).bytes ≡ (D.held first.old).bytes }
-    ensures second_bytes { D.is_honest second.old → (D.held second.new).bytes ≡ (D.held second.old).bytes }
-    ensures first_failures { D.failures first.old ≤ D.failures first.new }
-    ensures second_failures { D.failures second.old ≤ D.failures second.new }
-    ensures first_honest { D.is_honest first.new ↔ D.is_honest first.old }
-    ensures second_honest { D.is_honest second.new ↔ D.is_honest second.old }
+    ensures first { OnlySyncs D.Disk first.old first.new }
+    ensures second { OnlySyncs D.Disk second.old second.new }
 {
     let first_is_absent = is_absent(first)?;
     let second_is_absent = is_absent(second)?;

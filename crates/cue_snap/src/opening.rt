@@ -1,7 +1,8 @@
 // How a pair is read: each disk for itself, and then the one that counts.
-ghost use Rattle.std.specs.Prelude.{◌≡◌, ◌⊎◌, ◌≤◌, ◌↔◌, IfOk};
-ghost use Rattle.cue_disk.specs.Disk.{LeavesAtEachMoment, IsImage, MoreFailures};
+ghost use Rattle.std.specs.Prelude.{◌≡◌, ◌⊎◌, IfOk};
+ghost use Rattle.cue_disk.specs.Disk.{MoreFailures};
 ghost use Rattle.cue_log.specs.Observed.{disk_after};
+ghost use Rattle.cue_snap.specs.Disks.{OnlySyncs};
 ghost use Rattle.cue_snap.specs.Found.{disk_in, IsFound, FoundWorks};
 ghost use Rattle.cue_snap.specs.Observed.{FailsAs, CountsOnlyAs};
 ghost use Rattle.cue_snap.specs.Refusals.{found_by, open_fault};
@@ -48,11 +49,7 @@ fn find<D: Disk>(alloc: Global, disk: D) -> Result<Found<D>, (OpenFault, D)>
         (D.failures (disk_after disk_in result)) result }
     ensures damaged { FailsAs OpenFault.Damaged ⊥ result }
     ensures unformed { FailsAs OpenFault.Unformed ⊥ result }
-    ensures any_moment { D.is_honest disk → LeavesAtEachMoment D.moment D.held_at disk (disk_after disk_in result)
-        (IsImage (D.held disk)) }
-    ensures bytes { D.is_honest disk → (D.held (disk_after disk_in result)).bytes ≡ (D.held disk).bytes }
-    ensures failures { D.failures disk ≤ D.failures (disk_after disk_in result) }
-    ensures honest { D.is_honest (disk_after disk_in result) ↔ D.is_honest disk }
+    ensures kept { OnlySyncs D.Disk disk (disk_after disk_in result) }
 {
     match Log::open(alloc, disk) {
         Ok(opened) => Ok(Found::Area(opened)),
@@ -90,12 +87,12 @@ fn open_fault(unfit: Unfit) -> OpenFault
 }
 
 impl<D: Disk> Snap<D> {
-    ghost use Rattle.std.specs.Prelude.{◌≡◌, ◌⊎◌, ◌≤◌, ◌↔◌, IfOk, length, false};
-    ghost use Rattle.cue_disk.specs.Disk.{LeavesAtEachMoment, IsImage, MoreFailures};
+    ghost use Rattle.std.specs.Prelude.{◌≡◌, IfOk};
+    ghost use Rattle.cue_snap.specs.Disks.{Opens};
+    ghost use Rattle.cue_snap.specs.Found.{PairWorks};
+    ghost use Rattle.cue_snap.specs.Observed.{live_area_of, first_after, second_after, fault_of};
     ghost use Rattle.cue_snap.specs.Opened.{live_area_read, first_opened, second_opened};
-    ghost use Rattle.cue_snap.specs.Pair.{PairReads, PairLeaves, NeitherHas, IsSpoiled};
-    ghost use Rattle.cue_snap.specs.Observed.{count_of, is_broken, live_area_of, first_after, second_after};
-    ghost use Rattle.cue_snap.specs.Observed.{RefusedAs, UnlessRefusedAs};
+    ghost use Rattle.cue_snap.specs.Pair.{PairReads, PairLeaves};
 
     /// Opens a pair, pending writes included: from Ok on whatever a stop leaves reads as what is answered. It writes
     /// nothing, and takes memory in proportion to the areas. A refusal hands both disks back.
@@ -108,35 +105,10 @@ impl<D: Disk> Snap<D> {
             (live_area_read opened)) }
         ensures area { D.is_honest first → D.is_honest second
             → IfOk result (λ opened. live_area_of D.held opened.snap ≡ live_area_read opened) }
-        ensures works { IfOk result (λ opened. is_broken opened.snap ≡ false) }
-        ensures counted { IfOk result (λ opened. count_of opened.snap ≡ length opened.tail) }
-
-        // Each refusal has its reason.
-        ensures damaged { D.is_honest first → D.is_honest second
-            → RefusedAs OpenFault.Damaged (IsSpoiled (D.held first).bytes (D.held second).bytes) result }
-        ensures unformed { D.is_honest first → D.is_honest second
-            → RefusedAs OpenFault.Unformed (NeitherHas (D.held first).bytes (D.held second).bytes) result }
-        ensures disk { RefusedAs OpenFault.Disk (MoreFailures (D.failures first)
-            (D.failures (first_after first_opened result))
-            ⊎ MoreFailures (D.failures second) (D.failures (second_after second_opened result))) result }
-        // No other answer hides a fault of a device: each call went through.
-        ensures went_through { UnlessRefusedAs OpenFault.Disk
-            ((D.failures (first_after first_opened result) ≡ D.failures first)
-            × (D.failures (second_after second_opened result) ≡ D.failures second)) result }
-
-        // A stop at any moment leaves of each disk what one at entry might have left.
-        ensures first_moments { D.is_honest first → LeavesAtEachMoment D.moment D.held_at first
-            (first_after first_opened result) (IsImage (D.held first)) }
-        ensures second_moments { D.is_honest second → LeavesAtEachMoment D.moment D.held_at second
-            (second_after second_opened result) (IsImage (D.held second)) }
-        ensures first_bytes { D.is_honest first → (D.held (first_after first_opened result)).bytes
-            ≡ (D.held first).bytes }
-        ensures second_bytes { D.is_honest second → (D.held (second_after second_opened result)).bytes
-            ≡ (D.held second).bytes }
-        ensures first_failures { D.failures first ≤ D.failures (first_after first_opened result) }
-        ensures second_failures { D.failures second ≤ D.failures (second_after second_opened result) }
-        ensures first_honest { D.is_honest (first_after first_opened result) ↔ D.is_honest first }
-        ensures second_honest { D.is_honest (second_after second_opened result) ↔ D.is_honest second }
+        ensures works { IfOk result PairWorks }
+        // Each refusal has its reason, and leaves the disks as they were.
+        ensures opens { Opens D.Disk OpenFault.Damaged OpenFault.Unformed OpenFault.Disk first second
+            (first_after first_opened result) (second_after second_opened result) (fault_of result) }
     {
         let first = match find(alloc, first) {
             Ok(found) => found,

@@ -42,19 +42,16 @@ pub struct Snap<D: Disk> {
 }
 
 impl<D: Disk> Snap<D> {
-    ghost use Rattle.std.specs.Prelude.{◌≡◌, ◌≤◌, ◌<◌, ◌+◌, ◌-◌, ◌^◌, ◌⊎◌, ◌↔◌};
-    ghost use Rattle.std.specs.Prelude.{ℕ, List, [], ◌∷◌, false, true, not};
-    ghost use Rattle.std.specs.Prelude.{length, IfOk, OnOk, OnErr, IsErrOf};
-    ghost use Rattle.cue_disk.specs.Disk.{LeavesAtEachMoment, IsImage, IsStable, MoreFailures, overwritten_bytes};
-    ghost use Rattle.cue_log.specs.Area.{fresh, formed_text};
+    ghost use Rattle.std.specs.Prelude.{◌≡◌, ◌<◌, ◌+◌, [], ◌∷◌, length, IfOk};
+    ghost use Rattle.cue_disk.specs.Disk.{IsStable};
+    ghost use Rattle.cue_log.specs.Area.{fresh};
     ghost use Rattle.cue_log.specs.declared.area.TheConstants.{MAX_AREA, HEAD_LEN};
-    ghost use Rattle.cue_snap.specs.Pair.{PairIsEither, PairLeaves, NeitherHas, SomeIsThere, IsUnformedOr};
-    ghost use Rattle.cue_snap.specs.Pair.{AfterBarrier};
     ghost use Rattle.cue_snap.specs.Appending.{Appends};
+    ghost use Rattle.cue_snap.specs.Disks.{Forms};
+    ghost use Rattle.cue_snap.specs.Formed.{IsFirst};
     ghost use Rattle.cue_snap.specs.Found.{IsPairOf};
-    ghost use Rattle.cue_snap.specs.Observed.{live_of, spare_of, is_first_live, generation_of, end_of, count_of};
-    ghost use Rattle.cue_snap.specs.Observed.{is_broken, live_area_of, turned_disk, first_of, second_of, first_after};
-    ghost use Rattle.cue_snap.specs.Observed.{second_after, RefusedAs};
+    ghost use Rattle.cue_snap.specs.Observed.{first_of, second_of, first_after, second_after, fault_of, RefusedAs};
+    ghost use Rattle.cue_snap.specs.Turning.{TurnsOver};
 
     /// A pair of a log that works and a disk whose area is older.
     pub(crate) fn over(log: Log<D>, spare: D, first_is_live: bool) -> Snap<D>
@@ -77,52 +74,14 @@ impl<D: Disk> Snap<D> {
     pub fn form(first: D, second: D, snapshot: &[u8]) -> Result<Snap<D>, (FormFault, D, D)>
         requires { HEAD_LEN + length snapshot.now < MAX_AREA }
 
-        ensures formed { D.is_honest first → D.is_honest second
-            → IfOk result (λ snap. PairLeaves (D.held (first_of snap)) (D.held (second_of snap))
-            (fresh 1 snapshot.now)) }
-        ensures area { D.is_honest first → IfOk result (λ snap. live_area_of D.held snap ≡ fresh 1 snapshot.now) }
-        ensures bytes { D.is_honest first → IfOk result
-            (λ snap. (D.held (first_of snap)).bytes
-            ≡ overwritten_bytes (D.held first).bytes 0 (formed_text 1 snapshot.now)) }
-        ensures numbers { IfOk result (λ snap. (generation_of snap ≡ 1) × (count_of snap ≡ 0)
-            × (end_of snap ≡ HEAD_LEN + length snapshot.now)) }
-        ensures works { IfOk result (λ snap. is_broken snap ≡ false) }
-        ensures sides { IfOk result (λ snap. is_first_live snap ≡ true) }
-
-        // It goes on only where neither disk has an area; NotEmpty leaves all as it was, but for the sync.
-        ensures empty { D.is_honest first → D.is_honest second
-            → OnOk result (NeitherHas (D.held first).bytes (D.held second).bytes) }
-        ensures not_empty { D.is_honest first → D.is_honest second
-            → RefusedAs FormFault.NotEmpty (SomeIsThere (D.held first).bytes (D.held second).bytes) result }
-        ensures first_kept { D.is_honest first → RefusedAs FormFault.NotEmpty
-            (LeavesAtEachMoment D.moment D.held_at first (first_after first_of result)
-            (IsImage (D.held first))) result }
-        ensures first_bytes { D.is_honest first → RefusedAs FormFault.NotEmpty
-            ((D.held (first_after first_of result)).bytes ≡ (D.held first).bytes) result }
+        ensures forms { Forms D.Disk FormFault.NotEmpty FormFault.Disk (fresh 1 snapshot.now) first second
+            (first_after first_of result) (second_after second_of result) (fault_of result) }
+        ensures first { IfOk result (IsFirst first snapshot.now) }
         // NotEmpty is answered once both disks are synced, so what was found stays.
         ensures first_synced { D.is_honest first → RefusedAs FormFault.NotEmpty
             (IsStable (D.held (first_after first_of result))) result }
         ensures second_synced { D.is_honest second → RefusedAs FormFault.NotEmpty
             (IsStable (D.held (second_after second_of result))) result }
-        ensures disk { RefusedAs FormFault.Disk (MoreFailures (D.failures first)
-            (D.failures (first_after first_of result))
-            ⊎ MoreFailures (D.failures second) (D.failures (second_after second_of result))) result }
-
-        // Up to the barrier a stop leaves what one at entry might have left; from then on that, no area, or this one.
-        ensures any_moment { D.is_honest first → D.is_honest second
-            → AfterBarrier D.moment D.held_at first second
-            (first_after first_of result) (second_after second_of result)
-            (IsUnformedOr (fresh 1 snapshot.now) (D.held first) (D.held second)) }
-        // The second disk is synced, and no more.
-        ensures second_kept { D.is_honest second → LeavesAtEachMoment D.moment D.held_at second
-            (second_after second_of result) (IsImage (D.held second)) }
-        ensures second_bytes { D.is_honest second → (D.held (second_after second_of result)).bytes
-            ≡ (D.held second).bytes }
-
-        ensures first_failures { D.failures first ≤ D.failures (first_after first_of result) }
-        ensures second_failures { D.failures second ≤ D.failures (second_after second_of result) }
-        ensures first_honest { D.is_honest (first_after first_of result) ↔ D.is_honest first }
-        ensures second_honest { D.is_honest (second_after second_of result) ↔ D.is_honest second }
     {
         let mut first = first;
         let mut second = second;
@@ -179,49 +138,7 @@ impl<D: Disk> Snap<D> {
     /// disk becomes the spare one, as it is. It takes no memory.
     pub fn turn_over(&mut self, snapshot: &[u8]) -> Result<(), TurnOverFault>
         requires { HEAD_LEN + length snapshot.now < MAX_AREA }
-
-        // Broken comes first, then Exhausted; both leave all as it was.
-        ensures broken { IsErrOf result TurnOverFault.Broken ↔ (is_broken self.old ≡ true) }
-        ensures exhausted { IsErrOf result TurnOverFault.Exhausted
-            ↔ ((is_broken self.old ≡ false) × (generation_of self.old ≡ 2 ^ 64 - 1)) }
-        ensures unchanged { IsErrOf result TurnOverFault.Broken ⊎ IsErrOf result TurnOverFault.Exhausted
-            → self.new ≡ self.old }
-
-        // Disk is the device's own failure, and breaks the pair.
-        ensures disk { IsErrOf result TurnOverFault.Disk
-            → MoreFailures (D.failures (spare_of self.old)) (D.failures (turned_disk result self.new)) }
-        ensures breaks { IsErrOf result TurnOverFault.Disk → is_broken self.new ≡ true }
-        ensures failures { D.failures (spare_of self.old) ≤ D.failures (turned_disk result self.new) }
-
-        // What is there after Ok, whatever a stop leaves.
-        ensures formed { D.is_honest (live_of self.old) → D.is_honest (spare_of self.old)
-            → OnOk result (PairLeaves (D.held (live_of self.new)) (D.held (spare_of self.new))
-            (fresh (generation_of self.old + 1) snapshot.now)) }
-        ensures area { D.is_honest (spare_of self.old)
-            → OnOk result (live_area_of D.held self.new ≡ fresh (generation_of self.old + 1) snapshot.now) }
-        ensures bytes { D.is_honest (spare_of self.old)
-            → OnOk result ((D.held (live_of self.new)).bytes
-            ≡ overwritten_bytes (D.held (spare_of self.old)).bytes 0
-            (formed_text (generation_of self.old + 1) snapshot.now)) }
-        ensures works { OnOk result (is_broken self.new ≡ false) }
-        ensures numbers { OnOk result ((generation_of self.new ≡ generation_of self.old + 1)
-            × (count_of self.new ≡ 0) × (end_of self.new ≡ HEAD_LEN + length snapshot.now)) }
-
-        // The live disk is not touched: after Ok it is the spare one.
-        ensures swapped { OnOk result (spare_of self.new ≡ live_of self.old) }
-        ensures sides { OnOk result (is_first_live self.new ≡ not (is_first_live self.old)) }
-        ensures kept { OnErr result ((live_of self.new ≡ live_of self.old)
-            × (is_first_live self.new ≡ is_first_live self.old)) }
-        ensures numbers_kept { OnErr result ((generation_of self.new ≡ generation_of self.old)
-            × (count_of self.new ≡ count_of self.old) × (end_of self.new ≡ end_of self.old)) }
-
-        // A stop at any moment leaves the area as it was, or the new one.
-        ensures any_moment { D.is_honest (live_of self.old) → D.is_honest (spare_of self.old)
-            → is_broken self.old ≡ false
-            → (x : List ℕ) → IsImage (D.held (live_of self.old)) x
-            → LeavesAtEachMoment D.moment D.held_at (spare_of self.old) (turned_disk result self.new)
-            (PairIsEither (live_area_of D.held self.old) (fresh (generation_of self.old + 1) snapshot.now) x) }
-        ensures honest { D.is_honest (turned_disk result self.new) ↔ D.is_honest (spare_of self.old) }
+        ensures turns_over { TurnsOver snapshot.now result self.old self.new }
     {
         if self.broken {
             return Err(TurnOverFault::Broken);

@@ -1,10 +1,16 @@
-use Rattle.std.proofs.Common.{inl}
-use Rattle.cue_disk.specs.Disk.{IsImage, LeavesAtEachMoment}
+use Rattle.std.proofs.Common.{◌≡◌, ◌⊎◌, inl, ℕ, Some, Ok, ap, subst}
+use Rattle.cue_disk.specs.Disk.{IsImage, LeavesAtEachMoment, MoreFailures}
+use Rattle.cue_snap.specs.Disks.{SomeFailed}
 use Rattle.cue_snap.specs.Observed.{first_after, second_after}
 use Rattle.cue_snap.proofs.BarrierLemmas.{entry_pairs}
+use Rattle.cue_snap.proofs.ChosenLemmas.{refused_as}
+use Rattle.cue_snap.proofs.DisksLemmas.{the_fault, no_fault, keeps_then}
+use Rattle.cue_snap.proofs.RenewalLemmas.{at_made}
+use Rattle.cue_keeper.specs.declared.fault.StoreFault.{StoreFault}
 use Rattle.cue_keeper.specs.declared.fault.StoreFault.TheVariants as store
 use Rattle.cue_keeper.specs.Stands.{StandsEither}
 use Rattle.cue_keeper.specs.Observed as kept
+use Rattle.cue_keeper.specs.Opening.{IsOfOpening}
 use Rattle.cue_keeper.proofs.MovingLemmas.{opened_then, leaves_weaker}
 use Rattle.cue_keeper.proofs.RefusedLemmas.{is_opened}
 use Rattle.cue_core.specs.Batches.{closed_state}
@@ -20,38 +26,20 @@ returns-in-Ok-clause-any_moment g c = λ first second.
     let a = c.args.first in
     let b = c.args.second in
     let keeper = c.in-Ok.keeper in
+    let opens = c.in-Ok.ensures.opens.pair in
     let s = kept.state_of keeper in
     let new_a = first_after first_of c.close_opened.result in
     let new_b = second_after second_of c.close_opened.result in
     opened_then d.moment d.held d.held_at d.failures d.is_honest a b (kept.first_of keeper) (kept.second_of keeper)
     new_a new_b (IsLeftOrStands (d.held a) (d.held b)) (g.met.D.Disk.held_now a first)
     (g.met.D.Disk.held_now b second)
-    (c.in-Ok.ensures.first_moments first) (c.in-Ok.ensures.second_moments second)
+    (opens.first_kept.moments first) (opens.second_kept.moments second)
     (leaves_weaker d.moment d.held d.held_at d.failures d.is_honest (kept.first_of keeper) (kept.second_of keeper) new_a
     new_b (StandsEither s (closed_state s)) (IsLeftOrStands (d.held a) (d.held b))
     (left_or_stands (d.held a) (d.held b) (d.held a).bytes (d.held b).bytes s (g.met.D.Disk.reads_as_image a first)
     (g.met.D.Disk.reads_as_image b second) (c.in-Ok.ensures.stood first second))
-    (c.close_opened.ensures.any_moment (c.in-Ok.ensures.first_honest.1 first) (c.in-Ok.ensures.second_honest.1 second)))
-
-pub returns-in-Ok-clause-unwritten : goal.returns-in-Ok-clause-unwritten
-returns-in-Ok-clause-unwritten g c = λ first second.
-    let d = g.D.Disk in
-    let a = c.args.first in
-    let b = c.args.second in
-    unwritten store.Disk first_of second_of (λ new. LeavesAtEachMoment d.moment d.held_at a new (IsImage (d.held a)))
-    (λ new. LeavesAtEachMoment d.moment d.held_at b new (IsImage (d.held b)))
-    (kept.first_of c.in-Ok.keeper) (kept.second_of c.in-Ok.keeper) c.close_opened.result
-    c.close_opened.ensures.unwritten (c.in-Ok.ensures.first_moments first) (c.in-Ok.ensures.second_moments second)
-
-pub returns-in-Err-clause-readable : goal.returns-in-Err-clause-readable
-returns-in-Err-clause-readable g c = λ first second s stands.
-    let never = is_opened (g.D.Disk.held c.args.first).bytes (g.D.Disk.held c.args.second).bytes s stands in
-    let told = c.in-Err.ensures in (
-      λ refused. never.0 (told.unformed first second refused),
-      λ refused. never.1 (told.damaged first second refused),
-      λ refused. never.2 (told.version first second refused),
-      λ refused. never.3 (told.malformed first second refused),
-    )
+    (c.close_opened.ensures.any_moment (opens.first_kept.keeps.honest.1 first)
+    (opens.second_kept.keeps.honest.1 second)))
 
 pub returns-in-Err-clause-any_moment : goal.returns-in-Err-clause-any_moment
 returns-in-Err-clause-any_moment g c = λ first second.
@@ -59,58 +47,116 @@ returns-in-Err-clause-any_moment g c = λ first second.
     let a = c.args.first in
     let b = c.args.second in
     entry_pairs d.moment d.held d.held_at a b c.in-Err.refused.1 c.in-Err.refused.2
-    (IsLeftOrStands (d.held a) (d.held b)) (c.in-Err.ensures.first_moments first)
-    (c.in-Err.ensures.second_moments second)
+    (IsLeftOrStands (d.held a) (d.held b)) (c.in-Err.ensures.opens.pair.first_kept.moments first)
+    (c.in-Err.ensures.opens.pair.second_kept.moments second)
     (λ x y left_x left_y. inl (left_x, left_y))
 
 pub returns-in-Ok-clause-stood : goal.returns-in-Ok-clause-stood
 returns-in-Ok-clause-stood g c = λ first second.
     let d = g.D.Disk in
     closed_from state_of (d.held c.args.first).bytes (d.held c.args.second).bytes (kept.state_of c.in-Ok.keeper)
-    c.close_opened.result (c.in-Ok.ensures.stood first second) c.close_opened.ensures.state
+    c.close_opened.result (c.in-Ok.ensures.stood first second)
+    (at_made c.close_opened.result (λ _ closed. closed.state) c.close_opened.ensures.closed)
 
 pub returns-in-Ok-clause-stands : goal.returns-in-Ok-clause-stands
-returns-in-Ok-clause-stands g c = λ first second. c.close_opened.ensures.stands (c.in-Ok.ensures.first_honest.1 first)
-    (c.in-Ok.ensures.second_honest.1 second)
+returns-in-Ok-clause-stands g c = λ first second.
+    let opens = c.in-Ok.ensures.opens.pair in
+    c.close_opened.ensures.stands (opens.first_kept.keeps.honest.1 first) (opens.second_kept.keeps.honest.1 second)
+
+pub returns-in-Ok-clause-recovered : goal.returns-in-Ok-clause-recovered
+returns-in-Ok-clause-recovered g c =
+    let d = g.D.Disk in
+    at_made c.close_opened.result
+    (λ engine closed. record {
+      owes = closed.owes;
+      last = λ first second s stands. cancels_of {E = StoreFault} last_batches_of (d.held c.args.first).bytes
+          (d.held c.args.second).bytes (kept.state_of c.in-Ok.keeper) s (Ok engine)
+          (c.in-Ok.ensures.stood first second) stands closed.last;
+    }) c.close_opened.ensures.closed
 
 pub returns-in-Ok-clause-refused : goal.returns-in-Ok-clause-refused
-returns-in-Ok-clause-refused g c = λ first second.
-    rw (← c.in-Ok.ensures.first_bytes first, ← c.in-Ok.ensures.second_bytes second)
-    (cancels_refused c.close_opened.result _ _ c.close_opened.ensures.no_other
-    (c.close_opened.ensures.exhausted (c.in-Ok.ensures.first_honest.1 first)
-    (c.in-Ok.ensures.second_honest.1 second)))
-
-pub returns-in-Err-clause-refused : goal.returns-in-Err-clause-refused
-returns-in-Err-clause-refused g c = λ first second.
-    let told = c.in-Err.ensures in
-    has_reason c.in-Err.refused.0 (g.D.Disk.held c.args.first).bytes (g.D.Disk.held c.args.second).bytes
-    told.no_other.0 (told.unformed first second) (told.damaged first second) (told.version first second)
-    (told.malformed first second) told.no_other.1 (λ is. absurd (told.no_other.2 is))
-
-pub returns-in-Ok-clause-went_through : goal.returns-in-Ok-clause-went_through
-returns-in-Ok-clause-went_through g c =
-    went_through g.D.Disk.failures first_of second_of (kept.first_of c.in-Ok.keeper) (kept.second_of c.in-Ok.keeper)
-    (g.D.Disk.failures c.args.first) (g.D.Disk.failures c.args.second) c.close_opened.result
-    c.close_opened.ensures.unwritten c.in-Ok.ensures.went_through.0 c.in-Ok.ensures.went_through.1
-
-pub returns-in-Ok-clause-due_at_the_last : goal.returns-in-Ok-clause-due_at_the_last
-returns-in-Ok-clause-due_at_the_last g c = λ first second.
-    rw (← c.in-Ok.ensures.first_bytes first, ← c.in-Ok.ensures.second_bytes second)
-    (c.close_opened.ensures.due_at_the_last (c.in-Ok.ensures.first_honest.1 first)
-    (c.in-Ok.ensures.second_honest.1 second))
-
-pub returns-in-Err-clause-due_at_the_last : goal.returns-in-Err-clause-due_at_the_last
-returns-in-Err-clause-due_at_the_last g c = λ first second none.
-    let needs = none.needs in
-    let never = is_opened (g.D.Disk.held c.args.first).bytes (g.D.Disk.held c.args.second).bytes none.state
-    (record { area = none.area; reads = needs.reads; stands = needs.stands }) in
-    let told = c.in-Err.ensures in
-    left_over c.in-Err.refused.0 store.Exhausted told.no_other.0 (λ is. never.0 (told.unformed first second is))
-    (λ is. never.1 (told.damaged first second is)) (λ is. never.2 (told.version first second is))
-    (λ is. never.3 (told.malformed first second is)) told.no_other.1 told.no_other.2
-
-pub returns-in-Ok-clause-last : goal.returns-in-Ok-clause-last
-returns-in-Ok-clause-last g c = λ first second s stands.
+returns-in-Ok-clause-refused g c =
     let d = g.D.Disk in
-    cancels_of last_batches_of (d.held c.args.first).bytes (d.held c.args.second).bytes (kept.state_of c.in-Ok.keeper) s
-    c.close_opened.result (c.in-Ok.ensures.stood first second) stands c.close_opened.ensures.last
+    let a = c.args.first in
+    let b = c.args.second in
+    let mid_a = kept.first_of c.in-Ok.keeper in
+    let mid_b = kept.second_of c.in-Ok.keeper in
+    let result = c.close_opened.result in
+    let opens = c.in-Ok.ensures.opens.pair in
+    let closes = c.close_opened.ensures.refused in
+    let went = opens.went_through (λ is. no_fault _ is) in
+    let new_a = first_after first_of result in
+    let new_b = second_after second_of result in
+    record {
+      cause = λ first second.
+          rw (← opens.first_kept.bytes first, ← opens.second_kept.bytes second)
+          (cancels_refused result _ _ closes.no_other
+          (closes.exhausted (opens.first_kept.keeps.honest.1 first) (opens.second_kept.keeps.honest.1 second)));
+      failed = refused_as store.Disk (SomeFailed d mid_a mid_b new_a new_b) (SomeFailed d a b new_a new_b) result
+          (λ failed. subst (λ (n : ℕ). MoreFailures n (d.failures new_a)
+          ⊎ MoreFailures (d.failures b) (d.failures new_b)) went.0
+          (subst (λ (n : ℕ). MoreFailures (d.failures mid_a) (d.failures new_a)
+          ⊎ MoreFailures n (d.failures new_b)) went.1 failed)) closes.failed;
+      went_through = went_through d.failures first_of second_of mid_a mid_b (d.failures a) (d.failures b) result
+          closes.unwritten went.0 went.1;
+      no_other = (closes.no_other.0, closes.no_other.5);
+      due_at_the_last = λ first second.
+          rw (← opens.first_kept.bytes first, ← opens.second_kept.bytes second)
+          (closes.due_at_the_last (opens.first_kept.keeps.honest.1 first) (opens.second_kept.keeps.honest.1 second));
+      readable = λ _ _ _ _. (closes.no_other.1, closes.no_other.2, closes.no_other.3, closes.no_other.4);
+      unwritten = λ first second.
+          unwritten store.Disk first_of second_of
+          (λ new. LeavesAtEachMoment d.moment d.held_at a new (IsImage (d.held a)))
+          (λ new. LeavesAtEachMoment d.moment d.held_at b new (IsImage (d.held b)))
+          mid_a mid_b result closes.unwritten (opens.first_kept.moments first) (opens.second_kept.moments second);
+    }
+
+pub returns-in-Ok-clause-keeps : goal.returns-in-Ok-clause-keeps
+returns-in-Ok-clause-keeps g c =
+    let d = g.D.Disk in
+    let opens = c.in-Ok.ensures.opens.pair in
+    let closes = c.close_opened.ensures.keeps in (
+      keeps_then d c.args.first (kept.first_of c.in-Ok.keeper) (first_after first_of c.close_opened.result)
+          opens.first_kept.keeps closes.0,
+      keeps_then d c.args.second (kept.second_of c.in-Ok.keeper) (second_after second_of c.close_opened.result)
+          opens.second_kept.keeps closes.1,
+    )
+
+-- the store is not opened
+pub returns-in-Err-clause-refused : goal.returns-in-Err-clause-refused
+returns-in-Err-clause-refused g c =
+    let x = (g.D.Disk.held c.args.first).bytes in
+    let y = (g.D.Disk.held c.args.second).bytes in
+    let fault = c.in-Err.refused.0 in
+    let opens = c.in-Err.ensures.opens in
+    let never = λ (f : StoreFault) (is : fault ≡ f). subst IsOfOpening is opens.no_other in
+    record {
+      cause = λ first second. has_reason fault x y (never store.NotEmpty)
+          (λ is. opens.pair.empty first second (ap Some is)) (λ is. opens.pair.spoiled first second (ap Some is))
+          (λ is. opens.version first second (ap Some is)) (λ is. opens.malformed first second (ap Some is))
+          (never store.Full) (λ is. absurd (never store.Exhausted is));
+      failed = λ is. opens.pair.failed (ap Some is);
+      went_through = λ other. opens.pair.went_through (λ is. other (the_fault _ _ is));
+      no_other = (never store.NotEmpty, never store.Full);
+      due_at_the_last = λ first second none.
+          let needs = none.needs in
+          let good = is_opened x y none.state
+          (record { area = none.area; reads = needs.reads; stands = needs.stands }) in
+          left_over fault store.Exhausted (never store.NotEmpty)
+          (λ is. good.0 (opens.pair.empty first second (ap Some is)))
+          (λ is. good.1 (opens.pair.spoiled first second (ap Some is)))
+          (λ is. good.2 (opens.version first second (ap Some is)))
+          (λ is. good.3 (opens.malformed first second (ap Some is))) (never store.Full) (never store.Exhausted);
+      readable = λ first second s stands.
+          let good = is_opened x y s stands in (
+            λ is. good.0 (opens.pair.empty first second (ap Some is)),
+            λ is. good.1 (opens.pair.spoiled first second (ap Some is)),
+            λ is. good.2 (opens.version first second (ap Some is)),
+            λ is. good.3 (opens.malformed first second (ap Some is)),
+          );
+      unwritten = λ first second _. (opens.pair.first_kept.moments first, opens.pair.second_kept.moments second);
+    }
+
+pub returns-in-Err-clause-keeps : goal.returns-in-Err-clause-keeps
+returns-in-Err-clause-keeps g c =
+    (c.in-Err.ensures.opens.pair.first_kept.keeps, c.in-Err.ensures.opens.pair.second_kept.keeps)

@@ -1,4 +1,4 @@
-use Rattle.std.proofs.Common.{◌≡◌, [], ◌∷◌, ap, sym, ◌∙◌, subst, true≢false}
+use Rattle.std.proofs.Common.{◌≡◌, ◌⊎◌, inl, inr, [], ◌∷◌, refl, ap, sym, ◌∙◌, subst, true≢false}
 use Rattle.cue_core.specs.Happenings.{events_at, recovered}
 use Rattle.cue_core.specs.State.{ShowState}
 use Rattle.cue_keeper.specs.declared.fault.Fault.{Fault}
@@ -8,8 +8,10 @@ use Rattle.cue_keeper.specs.Stands.{StandsEither, StandsAs}
 use Rattle.cue_keeper.specs.Observed.{state_of, pair_of, first_of, second_of, generation_of, count_of, end_of}
 use Rattle.cue_keeper.proofs.CommittedLemmas.{unless_disk, one_is_free}
 use Rattle.cue_keeper.proofs.GroupLemmas.{one_has, has_one}
+use Rattle.cue_snap.specs.Disks.{Keeps}
 use Rattle.cue_snap.specs.Observed as snap
 use Rattle.cue_keeper.specs.declared.fault.Fault.TheVariants as fault
+use Rattle.cue_keeper.specs.declared.fault.StoreFault.{StoreFault}
 use Rattle.cue_keeper.specs.declared.fault.StoreFault.TheVariants as store
 use Rattle.cue_engine.proofs.ReopenedLemmas.{no_generation, needs_new_area, generation_is}
 use Rattle.cue_engine.proofs.ReopenedLemmas.{told_one, none_told, closed_so}
@@ -29,32 +31,56 @@ store_fault-requires-clause-room g c = λ full.
     (subst (λ (f : Fault). HasCause (events_at (state_of keeper) recovered ∷ []) (pair_of keeper)
     (pair_of c.close_undecided.new.keeper) f) full c.in-Err.ensures.accepts.pair.cause)
 
-pub returns-in-Err-clause-exhausted : goal.returns-in-Err-clause-exhausted
-returns-in-Err-clause-exhausted g c = λ first second refused.
-    let d = g.D.Disk in
-    let keeper = c.args.keeper in
-    let told = subst (λ (f : Fault). HasCause (events_at (state_of keeper) recovered ∷ []) (pair_of keeper)
-    (pair_of c.close_undecided.new.keeper) f) (c.store_fault.ensures.exhausted.0 refused)
-    c.in-Err.ensures.accepts.pair.cause in
-    no_generation (d.held (first_of keeper)) (d.held (second_of keeper)) (state_of keeper) (generation_of keeper)
-    (count_of keeper) (end_of keeper)
-    (c.is_broken-broken.ensures.kept first second c.requires.works)
-    (g.met.D.Disk.reads_as_image (first_of keeper) first) (g.met.D.Disk.reads_as_image (second_of keeper) second)
-    (one_has (events_at (state_of keeper) recovered) told.1) told.0 told.2
+-- what the cancels are refused as is none of these
+of_cancels : (f : StoreFault) → (f ≡ store.Memory) ⊎ (f ≡ store.Exhausted) ⊎ (f ≡ store.Disk)
+    → (f ≡ store.NotEmpty → ⊥) × (f ≡ store.Unformed → ⊥) × (f ≡ store.Damaged → ⊥) × (f ≡ store.Version → ⊥)
+    × (f ≡ store.Malformed → ⊥) × (f ≡ store.Full → ⊥)
+of_cancels f (inl is) = (λ w. cc, λ w. cc, λ w. cc, λ w. cc, λ w. cc, λ w. cc)
+of_cancels f (inr (inl is)) = (λ w. cc, λ w. cc, λ w. cc, λ w. cc, λ w. cc, λ w. cc)
+of_cancels f (inr (inr is)) = (λ w. cc, λ w. cc, λ w. cc, λ w. cc, λ w. cc, λ w. cc)
 
-pub returns-in-Err-clause-disk : goal.returns-in-Err-clause-disk
-returns-in-Err-clause-disk g c = λ refused.
-    let keeper = c.args.keeper in
-    rw (c.close-first.ensures.first, c.close-first.ensures.second)
-    (subst (λ (f : Fault). HasCause (events_at (state_of keeper) recovered ∷ []) (pair_of keeper)
-    (pair_of c.close_undecided.new.keeper) f) (c.store_fault.ensures.disk.0 refused)
-    c.in-Err.ensures.accepts.pair.cause)
-
-pub returns-in-Err-clause-unwritten : goal.returns-in-Err-clause-unwritten
-returns-in-Err-clause-unwritten g c = λ other.
-    let same = unless_disk (pair_of c.args.keeper) (pair_of c.close_undecided.new.keeper) c.in-Err.fault
-    c.in-Err.ensures.accepts.pair.after (λ is. other (c.store_fault.ensures.disk.1 is)) in
-    (c.close-first.ensures.first ∙ ap snap.first_of same, c.close-first.ensures.second ∙ ap snap.second_of same)
+pub returns-in-Err-clause-refused : goal.returns-in-Err-clause-refused
+returns-in-Err-clause-refused g c =
+    record {
+      exhausted = λ first second refused.
+          let d = g.D.Disk in
+          let keeper = c.args.keeper in
+          let told = subst (λ (f : Fault). HasCause (events_at (state_of keeper) recovered ∷ []) (pair_of keeper)
+          (pair_of c.close_undecided.new.keeper) f) (c.store_fault.ensures.exhausted.0 refused)
+          c.in-Err.ensures.accepts.pair.cause in
+          no_generation (d.held (first_of keeper)) (d.held (second_of keeper)) (state_of keeper) (generation_of keeper)
+          (count_of keeper) (end_of keeper)
+          (c.is_broken-broken.ensures.kept first second c.requires.works)
+          (g.met.D.Disk.reads_as_image (first_of keeper) first) (g.met.D.Disk.reads_as_image (second_of keeper) second)
+          (one_has (events_at (state_of keeper) recovered) told.1) told.0 told.2;
+      failed = λ refused.
+          let keeper = c.args.keeper in
+          rw (c.close-first.ensures.first, c.close-first.ensures.second)
+          (subst (λ (f : Fault). HasCause (events_at (state_of keeper) recovered ∷ []) (pair_of keeper)
+          (pair_of c.close_undecided.new.keeper) f) (c.store_fault.ensures.disk.0 refused)
+          c.in-Err.ensures.accepts.pair.cause);
+      no_other = of_cancels c.store_fault.result c.store_fault.ensures.no_other;
+      due_at_the_last = λ first second none.
+          let d = g.D.Disk in
+          let keeper = c.args.keeper in
+          let one = d.held (first_of keeper) in
+          let other = d.held (second_of keeper) in
+          let kept = c.is_broken-broken.ensures.kept first second c.requires.works in
+          let image_one = g.met.D.Disk.reads_as_image (first_of keeper) first in
+          let image_other = g.met.D.Disk.reads_as_image (second_of keeper) second in
+          let needs = needs_new_area one other (state_of keeper) (generation_of keeper) (count_of keeper)
+          (end_of keeper) kept image_one image_other none.area none.state none.needs in
+          let last = generation_is one other (state_of keeper) (generation_of keeper) (count_of keeper)
+          (end_of keeper) kept image_one image_other none.area none.state none.needs ∙ none.last in
+          told_one c.in-Err.fault fault.Memory fault.Exhausted c.store_fault.result store.Memory store.Exhausted
+          (c.in-Err.ensures.accepts.pair.in_the_way c.requires.works fault.Exhausted
+          (needs.1, has_one (events_at (state_of keeper) recovered) needs.0, last)) c.store_fault.ensures.memory.1
+          c.store_fault.ensures.exhausted.1;
+      unwritten = λ other.
+          let same = unless_disk (pair_of c.args.keeper) (pair_of c.close_undecided.new.keeper) c.in-Err.fault
+          c.in-Err.ensures.accepts.pair.after (λ is. other (c.store_fault.ensures.disk.1 is)) in
+          (c.close-first.ensures.first ∙ ap snap.first_of same, c.close-first.ensures.second ∙ ap snap.second_of same);
+    }
 
 pub returns-in-Err-clause-any_moment : goal.returns-in-Err-clause-any_moment
 returns-in-Err-clause-any_moment g c = λ first second.
@@ -66,34 +92,52 @@ returns-in-Err-clause-any_moment g c = λ first second.
     (StandsEither (state_of keeper) t))
     (c.close_undecided.ensures.accepts.pair.any_moment first second c.requires.works))
 
-pub returns-in-Err-clause-first_failures : goal.returns-in-Err-clause-first_failures
-returns-in-Err-clause-first_failures g c =
-    rw c.close-first.ensures.first c.close_undecided.ensures.accepts.pair.first_failures
+pub returns-in-Err-clause-keeps : goal.returns-in-Err-clause-keeps
+returns-in-Err-clause-keeps g c =
+    let d = g.D.Disk in
+    let accepts = c.close_undecided.ensures.accepts.pair in (
+      subst (λ (disk : _). Keeps d (first_of c.args.keeper) disk) (sym c.close-first.ensures.first)
+          (record { honest = accepts.first_honest; failures = accepts.first_failures }),
+      subst (λ (disk : _). Keeps d (second_of c.args.keeper) disk) (sym c.close-first.ensures.second)
+          (record { honest = accepts.second_honest; failures = accepts.second_failures }),
+    )
 
-pub returns-in-Err-clause-second_failures : goal.returns-in-Err-clause-second_failures
-returns-in-Err-clause-second_failures g c =
-    rw c.close-first.ensures.second c.close_undecided.ensures.accepts.pair.second_failures
-
-pub returns-in-Err-clause-first_honest : goal.returns-in-Err-clause-first_honest
-returns-in-Err-clause-first_honest g c =
-    rw c.close-first.ensures.first c.close_undecided.ensures.accepts.pair.first_honest
-
-pub returns-in-Err-clause-second_honest : goal.returns-in-Err-clause-second_honest
-returns-in-Err-clause-second_honest g c =
-    rw c.close-first.ensures.second c.close_undecided.ensures.accepts.pair.second_honest
-
-pub returns-in-Ok-clause-state : goal.returns-in-Ok-clause-state
-returns-in-Ok-clause-state g c = closed_so (state_of c.args.keeper) (λ t. state_of c.close_undecided.new.keeper ≡ t)
-    c.in-Ok.ensures.accepts.state
-
-pub returns-in-Ok-clause-queue : goal.returns-in-Ok-clause-queue
-returns-in-Ok-clause-queue g c =
+pub returns-in-Ok-clause-closed : goal.returns-in-Ok-clause-closed
+returns-in-Ok-clause-closed g c =
     let now = closed_so (state_of c.args.keeper) (λ t. state_of c.close_undecided.new.keeper ≡ t)
     c.in-Ok.ensures.accepts.state in
-    rw now c.in-Ok.ensures.queue
+    record {
+      owes = record {
+        queue = rw now c.in-Ok.ensures.queue;
+        offered = record { batches = refl; sends = refl };
+        works = c.in-Ok.ensures.accepts.pair.works;
+      };
+      state = now;
+      last = c.in-Ok.ensures.last;
+    }
 
-pub returns-in-Ok-clause-works : goal.returns-in-Ok-clause-works
-returns-in-Ok-clause-works g c = c.in-Ok.ensures.accepts.pair.works
+pub returns-in-Ok-clause-refused : goal.returns-in-Ok-clause-refused
+returns-in-Ok-clause-refused g c =
+    record {
+      exhausted = λ _ _. tt;
+      failed = tt;
+      no_other = (tt, tt, tt, tt, tt, tt);
+      due_at_the_last = λ first second none.
+          let d = g.D.Disk in
+          let keeper = c.args.keeper in
+          let one = d.held (first_of keeper) in
+          let other = d.held (second_of keeper) in
+          let kept = c.is_broken-broken.ensures.kept first second c.requires.works in
+          let image_one = g.met.D.Disk.reads_as_image (first_of keeper) first in
+          let image_other = g.met.D.Disk.reads_as_image (second_of keeper) second in
+          let needs = needs_new_area one other (state_of keeper) (generation_of keeper) (count_of keeper)
+          (end_of keeper) kept image_one image_other none.area none.state none.needs in
+          let last = generation_is one other (state_of keeper) (generation_of keeper) (count_of keeper)
+          (end_of keeper) kept image_one image_other none.area none.state none.needs ∙ none.last in
+          none_told fault.Memory fault.Exhausted (c.in-Ok.ensures.accepts.pair.in_the_way c.requires.works fault.Exhausted
+          (needs.1, has_one (events_at (state_of keeper) recovered) needs.0, last));
+      unwritten = tt;
+    }
 
 pub returns-in-Ok-clause-any_moment : goal.returns-in-Ok-clause-any_moment
 returns-in-Ok-clause-any_moment g c = λ first second.
@@ -111,48 +155,9 @@ returns-in-Ok-clause-stands g c = λ first second.
     subst (λ (t : ShowState). StandsAs (d.held (first_of new)) (d.held (second_of new)) t)
     (sym c.in-Ok.ensures.accepts.state) (c.in-Ok.ensures.accepts.stands first second)
 
-pub returns-in-Ok-clause-first_failures : goal.returns-in-Ok-clause-first_failures
-returns-in-Ok-clause-first_failures g c = c.close_undecided.ensures.accepts.pair.first_failures
-
-pub returns-in-Ok-clause-second_failures : goal.returns-in-Ok-clause-second_failures
-returns-in-Ok-clause-second_failures g c = c.close_undecided.ensures.accepts.pair.second_failures
-
-pub returns-in-Ok-clause-first_honest : goal.returns-in-Ok-clause-first_honest
-returns-in-Ok-clause-first_honest g c = c.close_undecided.ensures.accepts.pair.first_honest
-
-pub returns-in-Ok-clause-second_honest : goal.returns-in-Ok-clause-second_honest
-returns-in-Ok-clause-second_honest g c = c.close_undecided.ensures.accepts.pair.second_honest
-
-pub returns-in-Err-clause-due_at_the_last : goal.returns-in-Err-clause-due_at_the_last
-returns-in-Err-clause-due_at_the_last g c = λ first second none.
-    let d = g.D.Disk in
-    let keeper = c.args.keeper in
-    let one = d.held (first_of keeper) in
-    let other = d.held (second_of keeper) in
-    let kept = c.is_broken-broken.ensures.kept first second c.requires.works in
-    let image_one = g.met.D.Disk.reads_as_image (first_of keeper) first in
-    let image_other = g.met.D.Disk.reads_as_image (second_of keeper) second in
-    let needs = needs_new_area one other (state_of keeper) (generation_of keeper) (count_of keeper) (end_of keeper) kept
-    image_one image_other none.area none.state none.needs in
-    let last = generation_is one other (state_of keeper) (generation_of keeper) (count_of keeper) (end_of keeper) kept
-    image_one image_other none.area none.state none.needs ∙ none.last in
-    told_one c.in-Err.fault fault.Memory fault.Exhausted c.store_fault.result store.Memory store.Exhausted
-    (c.in-Err.ensures.accepts.pair.in_the_way c.requires.works fault.Exhausted
-    (needs.1, has_one (events_at (state_of keeper) recovered) needs.0, last)) c.store_fault.ensures.memory.1
-    c.store_fault.ensures.exhausted.1
-
-pub returns-in-Ok-clause-due_at_the_last : goal.returns-in-Ok-clause-due_at_the_last
-returns-in-Ok-clause-due_at_the_last g c = λ first second none.
-    let d = g.D.Disk in
-    let keeper = c.args.keeper in
-    let one = d.held (first_of keeper) in
-    let other = d.held (second_of keeper) in
-    let kept = c.is_broken-broken.ensures.kept first second c.requires.works in
-    let image_one = g.met.D.Disk.reads_as_image (first_of keeper) first in
-    let image_other = g.met.D.Disk.reads_as_image (second_of keeper) second in
-    let needs = needs_new_area one other (state_of keeper) (generation_of keeper) (count_of keeper) (end_of keeper) kept
-    image_one image_other none.area none.state none.needs in
-    let last = generation_is one other (state_of keeper) (generation_of keeper) (count_of keeper) (end_of keeper) kept
-    image_one image_other none.area none.state none.needs ∙ none.last in
-    none_told fault.Memory fault.Exhausted (c.in-Ok.ensures.accepts.pair.in_the_way c.requires.works fault.Exhausted
-    (needs.1, has_one (events_at (state_of keeper) recovered) needs.0, last))
+pub returns-in-Ok-clause-keeps : goal.returns-in-Ok-clause-keeps
+returns-in-Ok-clause-keeps g c =
+    let accepts = c.close_undecided.ensures.accepts.pair in (
+      record { honest = accepts.first_honest; failures = accepts.first_failures },
+      record { honest = accepts.second_honest; failures = accepts.second_failures },
+    )

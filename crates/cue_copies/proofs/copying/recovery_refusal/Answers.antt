@@ -15,4 +15,4 @@ returns-clause-refusal c =
     let x = memory_bytes c.args.first in
     let y = memory_bytes c.args.second in
     subst (λ (fault : StoreFault). CannotBeRecovered fault x y) (sym c.fault_in_memory.ensures)
-    (refused_in_memory c.in-Err.fault x y (c.in-Err.ensures.refused tt tt))
+    (refused_in_memory c.in-Err.fault x y (c.in-Err.ensures.refused.cause tt tt))

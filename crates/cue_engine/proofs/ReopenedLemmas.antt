@@ -1,11 +1,12 @@
 -- What a store that is opened and then closed comes to.
-use Rattle.std.proofs.Common.{◌≡◌, ◌⊎◌, inl, inr, ℕ, ◌-◌, ◌^◌, ◌≤◌, List, length, Some, None, Result, Ok, Err}
+use Rattle.std.proofs.Common.{◌≡◌, ◌⊎◌, inl, inr, ℕ, ◌+◌, ◌-◌, ◌^◌, ◌≤◌, List, length, Some, None, Result, Ok, Err}
+use Rattle.std.proofs.Common.{Bool, true, false, if◌then◌else◌, arith}
 use Rattle.std.proofs.Common.{[], ◌∷◌, refl, ◌∙◌, ap, sym, subst, IsTrue}
 use Rattle.std.specs.Prelude.{IfOk, IfErr}
 use Rattle.cue_disk.specs.Disk.{Contents, IsImage}
 use Rattle.cue_log.specs.Area.{Area, area_text}
 use Rattle.cue_snap.specs.Observed.{first_after, second_after, RefusedAs}
-use Rattle.cue_snap.specs.Pair.{IsSpoiled, NeitherHas}
+use Rattle.cue_snap.specs.Pair.{IsSpoiled, NeitherHas, PairReads}
 use Rattle.cue_snap.proofs.ReaderLemmas.{one_of_a_pair}
 use Rattle.cue_core.specs.declared.event.Event.{Event}
 use Rattle.cue_core.specs.State.{ShowState}
@@ -98,6 +99,19 @@ pub generation_is : (one other : Contents) (s : ShowState) (generation count end
 generation_is one other s generation count end kept first second area t needs =
     kept.same_generation ∙ ap (λ (a : Area). a.generation)
     (sym (the_area one other s generation count end kept first second area t needs).0)
+
+-- what the two read as has the generation of the kept state
+pub generation_read : (one other : Contents) (s : ShowState) (generation count end : ℕ)
+    → IsKept one other s generation count end → IsImage one one.bytes → IsImage other other.bytes
+    → (area : Area) → PairReads area one.bytes other.bytes → generation ≡ area.generation
+generation_read one other s generation count end kept first second area reads =
+    kept.same_generation ∙ ap (λ (a : Area). a.generation)
+    (sym (one_of_a_pair area kept.area one.bytes other.bytes reads (kept.leaves one.bytes other.bytes first second)))
+
+-- if a new area is needed, the generation is the next one, and else the same
+pub one_more : (due : Bool) (before after : ℕ) → after ≡ (if due then before + 1 else before) → after ≤ before + 1
+one_more true before after is = omega (arith, is)
+one_more false before after is = omega (arith, is)
 
 -- one fault or the other was reported, and is one of the store
 pub told_one : (f x y : Fault) (g gx gy : StoreFault) → (Some f ≡ Some x) ⊎ (Some f ≡ Some y) → (f ≡ x → g ≡ gx)

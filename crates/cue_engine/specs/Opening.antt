@@ -1,9 +1,11 @@
 -- What an engine has that was just formed or recovered, and why a recovery is refused.
-use Rattle.std.specs.Prelude.{◌≡◌, [], ◌∷◌, false, Result, IfErr}
+use Rattle.std.specs.Prelude.{◌≡◌, ◌≤◌, ◌+◌, [], ◌∷◌, false, Result, IfErr}
 use Rattle.cue_disk.specs.declared.disk.Disk.{Ghosts}
 use Rattle.cue_disk.specs.Disk.{IsImage, LeavesAtEachMoment}
+use Rattle.cue_log.specs.Area.{Area}
 use Rattle.cue_snap.specs.Disks.{SomeFailed}
 use Rattle.cue_snap.specs.Observed.{first_after, second_after, RefusedAs}
+use Rattle.cue_snap.specs.Pair.{PairReads}
 use Rattle.cue_core.specs.Batches.{closed_state}
 use Rattle.cue_core.specs.Happenings.{events_at, recovered}
 use Rattle.cue_core.specs.State.{ShowState}
@@ -32,12 +34,19 @@ pub record Owes {D : Type 0} {disk : Ghosts D} (engine : Engine D disk) : Type 0
   pub offered : IsOffered [] engine
   pub works : kept.is_broken (keeper_of engine) ≡ false
 
+-- over two disks that read as an area, there was one new area at most
+abbrev pub TurnedOnceFrom : {D : Type 0} → (disk : Ghosts D) → (first second : D) → Engine D disk → Type 0
+TurnedOnceFrom disk first second engine = disk.is_honest first → disk.is_honest second → (area : Area)
+    → PairReads area (disk.held first).bytes (disk.held second).bytes
+    → kept.generation_of (keeper_of engine) ≤ area.generation + 1
+
 -- It owes what is pending in the state of this keeper, closed, and the batch that was accepted last is the cancels.
 pub record IsClosedFrom {D : Type 0} {disk : Ghosts D} (keeper : Keeper D disk) (engine : Engine D disk)
     : Type 0 where
   pub owes : Owes engine
   pub state : state_of engine ≡ closed_state (kept.state_of keeper)
   pub last : last_batches_of engine ≡ events_at (kept.state_of keeper) recovered ∷ []
+  pub turned : TurnedOnceFrom disk (kept.first_of keeper) (kept.second_of keeper) engine
 
 -- It owes what is pending, and the batch that was accepted last is the cancels of what stood on the disks.
 pub record IsRecovered {D : Type 0} {disk : Ghosts D} (first second : D) (engine : Engine D disk) : Type 0 where
@@ -48,6 +57,7 @@ pub record IsRecovered {D : Type 0} {disk : Ghosts D} (first second : D) (engine
       → (s : ShowState)
       → Stands (disk.held first).bytes (disk.held second).bytes s
       → last_batches_of engine ≡ events_at s recovered ∷ []
+  pub turned : TurnedOnceFrom disk first second engine
 
 -- The cancels are refused over these two disks: each fault has its reason.
 pub record RefusesCancels {T D : Type 0} (disk : Ghosts D) (first_in second_in : T → D) (first second : D)

@@ -1,17 +1,15 @@
--- How a script ends: its statuses, one that stopped, and which fault it failed by.
-use Rattle.std.specs.Prelude.{◌≡◌, ◌≢◌, ℕ, ◌≤◌, List, Option, Some, None, IfSome}
-use Rattle.std.proofs.Common.{refl, sym, subst, lit≤}
+-- How a script ends: its statuses, and one that stopped. How far one line brings the generation.
+use Rattle.std.specs.Prelude.{◌≡◌, ◌≢◌, ℕ, ◌+◌, ◌≤◌, Bool, true, false, if◌then◌else◌, List, Option, Some, None}
+use Rattle.std.specs.Prelude.{IfSome}
+use Rattle.std.proofs.Common.{sym, subst, lit≤, arith}
 use Rattle.cue_core.specs.State.{ShowState}
-use Rattle.cue_keeper.specs.declared.fault.Fault.{Fault}
-use Rattle.cue_keeper.specs.declared.fault.Fault.TheVariants as engine
 use Rattle.cue_keeper.specs.declared.fault.StoreFault.{StoreFault}
 use Rattle.cue_keeper.specs.declared.fault.StoreFault.TheVariants as store
 use Rattle.cue_script.specs.declared.ending.Ending.{Ending}
 use Rattle.cue_script.specs.declared.ending.Ending.TheVariants.{Done, BadLine, BadInput, Failed, Stopped}
-use Rattle.cue_script.specs.declared.ending.Failure.{Failure}
 use Rattle.cue_script.specs.declared.ending.Failure.TheVariants.{Broken, Store}
 use Rattle.cue_script.specs.declared.ending.StreamFailure.{StreamFailure}
-use Rattle.cue_script.specs.Endings.{failure_by, status_of, store_status}
+use Rattle.cue_script.specs.Endings.{status_of, store_status}
 use Rattle.cue_script.specs.Script.{HasRun}
 
 -- a script that ends so was run, whatever its text is
@@ -46,14 +44,7 @@ small_status ending status is =
     let P : ℕ → Type 0 = λ n. (n ≤ 3) × (n ≢ 2) in
     subst P (sym is) (small ending)
 
-pub same_store : (f g : StoreFault) → Store f ≡ Store g → f ≡ g
-same_store f g same = cc
-
--- only an engine without a generation makes a script fail so
-pub exhausted_by : (fault : Fault) (failure : Failure) → failure ≡ failure_by fault → failure ≡ Store store.Exhausted
-    → fault ≡ engine.Exhausted
-exhausted_by engine.Broken failure by is = cc
-exhausted_by engine.Memory failure by is = cc
-exhausted_by engine.Exhausted failure by is = refl
-exhausted_by engine.Full failure by is = cc
-exhausted_by engine.Disk failure by is = cc
+-- if a new area is needed, the generation is the next one, and else the same
+pub turned_once : (due : Bool) (before after : ℕ) → after ≡ (if due then before + 1 else before) → after ≤ before + 1
+turned_once true before after is = omega (arith, is)
+turned_once false before after is = omega (arith, is)

@@ -1,5 +1,6 @@
 -- What a script has written, line by line.
-use Rattle.std.specs.Prelude.{◌≡◌, ℕ, ◌+◌, ◌<◌, ◌≤◌, ◌++◌, Bool, true, List, [], ◌∷◌, length, map, take, Option}
+use Rattle.std.specs.Prelude.{◌≡◌, ℕ, ◌+◌, ◌-◌, ◌^◌, ◌<◌, ◌≤◌, ◌++◌, Bool, true, List, [], ◌∷◌, length}
+use Rattle.std.specs.Prelude.{map, take, Option}
 use Rattle.std.specs.Prelude.{Some, None, slice_index_or, IfSome, IfOk, IfErr, OnOk, Result, Ok, Err}
 use Rattle.std.specs.Option.{option_map}
 use Rattle.std.specs.Io.KnownBytes.{Appends}
@@ -12,26 +13,30 @@ use Rattle.cue_keeper.specs.Stands.{Stands}
 use Rattle.cue_keeper.proofs.StandingLemmas.{one_state}
 use Rattle.cue_outbox.specs.Sending.{Send, datagram, datagrams, all_pending}
 use Rattle.cue_core.specs.Batches.{closed_state}
-use Rattle.cue_engine.specs.Recovery.{ClosedFrom}
+use Rattle.cue_engine.specs.Recovery.{ClosedFrom, NoGenerationLeft}
 use Rattle.cue_engine.specs.declared.mem_wire.Sent.{Sent}
 use Rattle.cue_engine.specs.Runs.{Happening, recovered, given_at, run}
 use Rattle.cue_engine.specs.Told.{sents_view}
 use Rattle.cue_engine.specs.Wires.{Handed, handed_as, AllHanded}
 use Rattle.cue_disk.specs.Disk.{Contents}
 use Rattle.cue_disk.specs.Effect.{settled_contents}
-use Rattle.cue_log.specs.Area.{IsAbsent}
+use Rattle.cue_log.specs.Area.{Area, IsAbsent}
 use Rattle.cue_snap.specs.Pair.{SomeIsThere}
+use Rattle.cue_snap.proofs.ReaderLemmas.{one_of_a_pair}
 use Rattle.cue_script.specs.declared.entry.TheConstants.{MAX_SCRIPT}
 use Rattle.cue_script.specs.declared.ending.Ending.{Ending}
 use Rattle.cue_script.specs.declared.ending.Ending.TheVariants.{Done, BadLine, BadInput, Failed, Stopped}
+use Rattle.cue_keeper.specs.declared.fault.Fault.{Fault}
+use Rattle.cue_keeper.specs.declared.fault.Fault.TheVariants as engine
 use Rattle.cue_keeper.specs.declared.fault.StoreFault.{StoreFault}
 use Rattle.cue_keeper.specs.declared.fault.StoreFault.TheVariants as store
+use Rattle.cue_script.specs.declared.ending.Failure.{Failure}
 use Rattle.cue_script.specs.declared.ending.Failure.TheVariants.{Store}
 use Rattle.cue_script.specs.declared.ending.StreamFailure.{StreamFailure}
-use Rattle.cue_script.specs.Endings.{can_come, ending_line, status_of}
+use Rattle.cue_script.specs.Endings.{can_come, ending_line, failure_by, status_of}
 use Rattle.cue_script.specs.ScriptLines.{lines_of, happening_in}
 use Rattle.cue_script.specs.ScriptViews.{sent_view}
-use Rattle.cue_script.specs.Playing.{Goes, EndsAt, EndsUnheard}
+use Rattle.cue_script.specs.Playing.{Goes, EndsAt, EndsUnheard, ReadsAt}
 use Rattle.cue_script.specs.Script.{line_of, printed_lines, output, Ran, Wrote, HasRun}
 
 pub appends_none : (old : Option (List ℕ)) → Appends old old []
@@ -353,16 +358,38 @@ pub no_area : (one two : Contents) → one ≡ settled_contents [] → two ≡ s
 no_area one two first second (inl there) = there (absent one first)
 no_area one two first second (inr there) = there (absent two second)
 
--- a recovery of what stands for a state is refused for want of a generation or of memory, or by a disk
+-- a recovery of what stands for a state, with a generation left, is refused for want of memory or by a disk
 pub comes_of_recovery : (fault : StoreFault) → (fault ≡ store.NotEmpty → ⊥) → (fault ≡ store.Unformed → ⊥)
     → (fault ≡ store.Damaged → ⊥) → (fault ≡ store.Version → ⊥) → (fault ≡ store.Malformed → ⊥)
-    → (fault ≡ store.Full → ⊥) → can_come (Store fault) ≡ true
-comes_of_recovery store.NotEmpty empty unformed damaged version malformed full = absurd (empty refl)
-comes_of_recovery store.Unformed empty unformed damaged version malformed full = absurd (unformed refl)
-comes_of_recovery store.Damaged empty unformed damaged version malformed full = absurd (damaged refl)
-comes_of_recovery store.Version empty unformed damaged version malformed full = absurd (version refl)
-comes_of_recovery store.Malformed empty unformed damaged version malformed full = absurd (malformed refl)
-comes_of_recovery store.Full empty unformed damaged version malformed full = absurd (full refl)
-comes_of_recovery store.Exhausted empty unformed damaged version malformed full = refl
-comes_of_recovery store.Memory empty unformed damaged version malformed full = refl
-comes_of_recovery store.Disk empty unformed damaged version malformed full = refl
+    → (fault ≡ store.Full → ⊥) → (fault ≡ store.Exhausted → ⊥) → can_come (Store fault) ≡ true
+comes_of_recovery store.NotEmpty empty unformed damaged version malformed full none = absurd (empty refl)
+comes_of_recovery store.Unformed empty unformed damaged version malformed full none = absurd (unformed refl)
+comes_of_recovery store.Damaged empty unformed damaged version malformed full none = absurd (damaged refl)
+comes_of_recovery store.Version empty unformed damaged version malformed full none = absurd (version refl)
+comes_of_recovery store.Malformed empty unformed damaged version malformed full none = absurd (malformed refl)
+comes_of_recovery store.Full empty unformed damaged version malformed full none = absurd (full refl)
+comes_of_recovery store.Exhausted empty unformed damaged version malformed full none = absurd (none refl)
+comes_of_recovery store.Memory empty unformed damaged version malformed full none = refl
+comes_of_recovery store.Disk empty unformed damaged version malformed full none = refl
+
+-- an engine that works takes an input, with a generation left, or is refused for want of memory or by a disk
+pub comes_of_taking : (fault : Fault) (failure : Failure) → failure ≡ failure_by fault → (fault ≡ engine.Broken → ⊥)
+    → (fault ≡ engine.Full → ⊥) → (fault ≡ engine.Exhausted → ⊥) → can_come failure ≡ true
+comes_of_taking engine.Broken failure by broken full none = absurd (broken refl)
+comes_of_taking engine.Full failure by broken full none = absurd (full refl)
+comes_of_taking engine.Exhausted failure by broken full none = absurd (none refl)
+comes_of_taking engine.Memory failure by broken full none = ap can_come by
+comes_of_taking engine.Disk failure by broken full none = ap can_come by
+
+-- what reads as an area that is not of the last generation has one left
+pub has_generation : (n : ℕ) (x y : List ℕ) → ReadsAt n x y → n + 1 < 2 ^ 64 → NoGenerationLeft x y → ⊥
+has_generation n x y read left none =
+    let same : none.area ≡ read.area = one_of_a_pair none.area read.area x y none.needs.reads read.reads in
+    let last : n ≡ 2 ^ 64 - 1 = sym read.same ∙ ap (λ (a : Area). a.generation) (sym same) ∙ none.last in
+    omega (arith, last, left)
+
+-- what was turned over once is kept as it is
+pub still_once : {T E : Type 0} (r : Result T E) (generation : T → ℕ) (before after : ℕ)
+    → IfOk r (λ next. generation next ≡ after) → after ≤ before + 1 → IfOk r (λ next. generation next ≤ before + 1)
+still_once (Ok next) generation before after same once = omega (arith, same, once)
+still_once (Err ending) generation before after same once = tt

@@ -88,8 +88,8 @@ failure_by engine.Exhausted = Store store.Exhausted
 failure_by engine.Full = Store store.Full
 failure_by engine.Disk = Store store.Disk
 
--- A script forms its store itself and reads it back whole, and a new area has room for any state and batch. So it
--- fails only where the store has no generation left, or where its disks or memory fail.
+-- A script forms its store itself and reads it back whole, a new area has room for any state and batch, and a text has
+-- too few lines for the generations to run out. So it fails only if its disks or memory fail.
 abbrev pub can_come : Failure → Bool
 can_come Broken = false
 can_come (Store store.NotEmpty) = false
@@ -98,7 +98,7 @@ can_come (Store store.Damaged) = false
 can_come (Store store.Version) = false
 can_come (Store store.Malformed) = false
 can_come (Store store.Full) = false
-can_come (Store store.Exhausted) = true
+can_come (Store store.Exhausted) = false
 can_come (Store store.Memory) = true
 can_come (Store store.Disk) = true
 

@@ -1,13 +1,13 @@
 -- Helper: a script that is being run, step by step.
-use Rattle.std.specs.Prelude.{◌≡◌, ℕ, false, true, List, [], Option, Some, None}
+use Rattle.std.specs.Prelude.{◌≡◌, ◌<◌, ◌≤◌, ◌+◌, ◌^◌, ℕ, false, true, List, [], Option, Some, None}
 use Rattle.std.specs.Io.KnownBytes.{Appends}
-use Rattle.cue_disk.specs.Disk.{Contents, IsImage}
+use Rattle.cue_log.specs.Area.{Area}
+use Rattle.cue_snap.specs.Pair.{PairReads}
 use Rattle.cue_core.specs.State.{ShowState}
 use Rattle.cue_core.specs.Steps.{after_events}
-use Rattle.cue_keeper.specs.Observed.{is_broken}
+use Rattle.cue_keeper.specs.Observed.{is_broken, generation_of}
 use Rattle.cue_outbox.specs.Sending.{datagrams}
 use Rattle.cue_engine.specs.declared.engine.Engine.{Engine}
-use Rattle.cue_engine.specs.Recovery.{NoGenerationLeft}
 use Rattle.cue_engine.specs.Runs.{Happening, given_at}
 use Rattle.cue_engine.specs.Observed.{keeper_of, queue_of, state_of}
 use Rattle.cue_script.specs.declared.ending.Ending.{Ending}
@@ -27,13 +27,19 @@ pub record IsAfter {D : Type 0} {disk : _} (s : ShowState) (h : Happening) (engi
   pub is : state_of engine ≡ after_events s (given_at s h).batch
   pub owes : queue_of engine ≡ datagrams (given_at s h).sends
 
--- A power loss may leave bytes of two disks that have no generation left for the area that a recovery of them needs.
-pub record MayLeaveNoGeneration (first second : Contents) : Type 0 where
-  pub left : List ℕ
-  pub other : List ℕ
-  pub first_image : IsImage first left
-  pub second_image : IsImage second other
-  pub none : NoGenerationLeft left other
+-- a generation is left for a new area
+abbrev pub CanTurnOver : {D : Type 0} {disk : _} → Engine D disk → Type 0
+CanTurnOver engine = generation_of (keeper_of engine) + 1 < 2 ^ 64
+
+-- there was one new area at most
+abbrev pub TurnedOnce : {D : Type 0} {disk : _} → (old new : Engine D disk) → Type 0
+TurnedOnce old new = generation_of (keeper_of new) ≤ generation_of (keeper_of old) + 1
+
+-- The two read as an area of this generation.
+pub record ReadsAt (generation : ℕ) (x y : List ℕ) : Type 0 where
+  pub area : Area
+  pub reads : PairReads area x y
+  pub same : area.generation ≡ generation
 
 -- A line stands for what happened, the state is the one after it, and what is sent then was written.
 pub record Goes (line : List ℕ) (s t : ShowState) (old new : Option (List ℕ)) : Type 0 where

@@ -17,6 +17,7 @@
 //!   when such a call fails. So by the public contract a script may end with `! Io` or `! Memory` at any time; that a
 //!   call failed then is proved inside the crate. Of such an ending nothing is said of what was written.
 //! - A line's text is made whole before any of it is written: if memory runs out, nothing of it is printed.
+//! - A line turns over at most once, and a text has fewer lines than there are generations: no `! Exhausted` comes.
 //! - An engine is passed by value from line to line: a power loss takes its two disks out, crashes them and recovers.
 #![tactic(auto)]
 

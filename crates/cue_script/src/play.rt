@@ -1,19 +1,18 @@
 //! Running a script line by line.
-ghost use Rattle.std.specs.Prelude.{◌≡◌, ◌≤◌, ◌^◌, ◌-◌, [], length, false, true, IfOk, IfErr, OnOk};
+ghost use Rattle.std.specs.Prelude.{◌≡◌, ◌≤◌, ◌<◌, ◌+◌, ◌^◌, [], length, false, true, IfOk, IfErr, OnOk};
 ghost use Rattle.std.specs.Io.KnownBytes.{Appends};
 ghost use Rattle.cue_core.specs.Steps.{after_events};
 ghost use Rattle.cue_outbox.specs.Sending.{datagrams};
 ghost use Rattle.cue_engine.specs.Inputs.{input_view};
 ghost use Rattle.cue_engine.specs.Runs.{took, recovered, given_at};
-ghost use Rattle.cue_engine.specs.Observed.{state_of, queue_of, keeper_of, first_of, second_of};
-ghost use Rattle.cue_disk.specs.Disk.{IsImage};
-ghost use Rattle.cue_disk.specs.Memory.{memory_bytes, memory_held};
+ghost use Rattle.cue_engine.specs.Observed.{state_of, queue_of, keeper_of};
+ghost use Rattle.cue_disk.specs.Memory.{memory_bytes};
 ghost use Rattle.cue_keeper.specs.Stands.{Stands};
 ghost use Rattle.cue_keeper.specs.Observed.{is_broken, generation_of};
 ghost use Rattle.cue_script.specs.Endings.{can_come};
 ghost use Rattle.cue_script.specs.ScriptViews.{line_view};
-ghost use Rattle.cue_script.specs.Playing.{IsReady, IsAfter, MayLeaveNoGeneration, Goes, EndsAt, EndsUnheard};
-ghost use Rattle.cue_script.specs.declared.ending.Failure.TheVariants.{Store};
+ghost use Rattle.cue_script.specs.Playing.{IsReady, IsAfter, CanTurnOver, TurnedOnce, ReadsAt};
+ghost use Rattle.cue_script.specs.Playing.{Goes, EndsAt, EndsUnheard};
 ghost use Rattle.cue_script.specs.Script.{printed_lines, Wrote};
 ghost use Rattle.cue_script.specs.Streams.{HasCause};
 
@@ -50,11 +49,11 @@ fn take_input(
     now: u64,
     input: Input<'_>,
 ) -> Result<Engine<MemDisk>, Failure>
-    requires { IsReady engine }
+    requires ready { IsReady engine }
+    requires generation { CanTurnOver engine }
     ensures after { IfOk result (λ next. IsAfter (state_of engine) (took now (input_view input.entry)) next) }
+    ensures turned { IfOk result (λ next. TurnedOnce engine next) }
     ensures failure { IfErr result (λ failure. can_come failure ≡ true) }
-    ensures exhausted { IfErr result (λ failure. failure ≡ Store StoreFault.Exhausted
-        → generation_of (keeper_of engine) ≡ 2 ^ 64 - 1) }
 {
     match engine.take(now, input) {
         Ok(_) => Ok(engine),
@@ -66,8 +65,8 @@ fn take_input(
 fn lose_power(engine: Engine<MemDisk>) -> Result<(MemDisk, MemDisk), AllocError>
     requires { IsReady engine }
     ensures stand { IfOk result (λ left. Stands (memory_bytes left.0) (memory_bytes left.1) (state_of engine)) }
-    ensures images { IfOk result (λ left. IsImage (memory_held (first_of engine)) (memory_bytes left.0)
-        × IsImage (memory_held (second_of engine)) (memory_bytes left.1)) }
+    ensures reads { IfOk result
+        (λ left. ReadsAt (generation_of (keeper_of engine)) (memory_bytes left.0) (memory_bytes left.1)) }
 {
     let (first, second) = engine.close();
     let left = first.crash(0, &[])?;
@@ -77,11 +76,11 @@ fn lose_power(engine: Engine<MemDisk>) -> Result<(MemDisk, MemDisk), AllocError>
 
 // Loses power, and recovers from what that leaves.
 fn recover_from_loss(alloc: Global, engine: Engine<MemDisk>) -> Result<Engine<MemDisk>, Failure>
-    requires { IsReady engine }
+    requires ready { IsReady engine }
+    requires generation { CanTurnOver engine }
     ensures after { IfOk result (λ next. IsAfter (state_of engine) recovered next) }
+    ensures turned { IfOk result (λ next. TurnedOnce engine next) }
     ensures failure { IfErr result (λ failure. can_come failure ≡ true) }
-    ensures exhausted { IfErr result (λ failure. failure ≡ Store StoreFault.Exhausted
-        → MayLeaveNoGeneration (memory_held (first_of engine)) (memory_held (second_of engine))) }
 {
     match lose_power(engine) {
         Ok((first, second)) => match Engine::recover(alloc, first, second) {
@@ -98,8 +97,10 @@ fn carry_out(
     engine: Engine<MemDisk>,
     line: &ScriptLine,
 ) -> Result<Engine<MemDisk>, Failure>
-    requires { IsReady engine }
+    requires ready { IsReady engine }
+    requires generation { CanTurnOver engine }
     ensures after { IfOk result (λ next. IsAfter (state_of engine) (line_view line.now) next) }
+    ensures turned { IfOk result (λ next. TurnedOnce engine next) }
     ensures failure { IfErr result (λ failure. can_come failure ≡ true) }
 {
     match line {
@@ -139,6 +140,8 @@ fn print_owed<W: Write>(
     requires works { is_broken (keeper_of engine) ≡ false }
     ensures ready { IfOk result (λ next. IsReady next) }
     ensures state { IfOk result (λ next. state_of next ≡ state_of engine) }
+    ensures generation { IfOk result
+        (λ next. generation_of (keeper_of next) ≡ generation_of (keeper_of engine)) }
     ensures wrote { OnOk result
         (Appends (W.contents writer.old) (W.contents writer.new) (printed_lines (queue_of engine))) }
     ensures ends { IfErr result (λ ending. EndsUnheard ending (W.contents writer.old) (W.contents writer.new)) }
@@ -162,8 +165,10 @@ fn run_line<W: Write>(
     streams: &mut Streams,
     writer: &mut W,
 ) -> Result<Engine<MemDisk>, Ending>
-    requires { IsReady engine }
+    requires ready { IsReady engine }
+    requires generation { CanTurnOver engine }
     ensures ready { IfOk result (λ next. IsReady next) }
+    ensures turned { IfOk result (λ next. TurnedOnce engine next) }
     ensures state { IfOk result
         (λ next. state_of next ≡ after_events (state_of engine)
         (given_at (state_of engine) (line_view line.now)).batch) }
@@ -187,8 +192,10 @@ fn play_line<W: Write>(
     streams: &mut Streams,
     writer: &mut W,
 ) -> Result<Engine<MemDisk>, Ending>
-    requires { IsReady engine }
+    requires ready { IsReady engine }
+    requires generation { CanTurnOver engine }
     ensures ready { IfOk result (λ next. IsReady next) }
+    ensures turned { IfOk result (λ next. TurnedOnce engine next) }
     ensures goes { IfOk result
         (λ next. Goes line.now (state_of engine) (state_of next) (W.contents writer.old) (W.contents writer.new)) }
     ensures ends { IfErr result (λ ending. EndsAt ending line.now (W.contents writer.old) (W.contents writer.new)) }
@@ -212,6 +219,8 @@ pub fn play_lines<W: Write>(
 ) -> Ending
     requires ready { IsReady engine }
     requires short { length text.now ≤ MAX_SCRIPT }
+    // Each line has a byte at least, and turns over at most once.
+    requires generations { generation_of (keeper_of engine) + length text.now < 2 ^ 64 }
     ensures wrote { Wrote result (state_of engine) text.now [] (W.contents writer.old) (W.contents writer.new) }
     ensures cause { HasCause result streams.old streams.new }
 {

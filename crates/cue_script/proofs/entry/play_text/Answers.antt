@@ -23,4 +23,4 @@ returns-clause-wrote g c =
     → ⊥ = λ is. no_area _ _ c.new.ensures.held c.new-2.ensures.held (forms.pair.not_empty tt tt (ap Some is)) in
     not_formed c.in-Err.fault empty_state c.args.text.now (g.W.Write.contents c.args.writer.now) c.requires
     (comes_of_recovery c.in-Err.fault empty (never StoreFault.Unformed) (never StoreFault.Damaged)
-    (never StoreFault.Version) (never StoreFault.Malformed) (never StoreFault.Full))
+    (never StoreFault.Version) (never StoreFault.Malformed) (never StoreFault.Full) (never StoreFault.Exhausted))

@@ -1,5 +1,5 @@
 use Rattle.std.specs.Prelude.{[]}
-use Rattle.std.proofs.Common.{refl, ◌∙◌, subst}
+use Rattle.std.proofs.Common.{refl, ◌∙◌, subst, arith}
 use Rattle.cue_engine.specs.Observed.{state_of}
 use Rattle.cue_script.specs.Streams.{HasCause}
 use Rattle.cue_script.specs.declared.stream.Streams.{Streams}
@@ -12,10 +12,14 @@ loop-rest-init g c = (
   running_first (state_of c.args.engine) c.args.text.now (g.W.Write.contents c.args.writer.now),
   c.requires.ready,
   refl,
+  omega arith,
 )
 
 pub play_line-requires : goal.play_line-requires
-play_line-requires g c = c.loop-rest.invariant.1
+play_line-requires g c = record {
+  ready = c.loop-rest.invariant.1;
+  generation = omega (arith, c.loop-rest.invariant.3, c.first_line.ensures.shorter, c.requires.generations);
+}
 
 pub loop-rest-preserved : goal.loop-rest-preserved
 loop-rest-preserved g c = (
@@ -26,6 +30,7 @@ loop-rest-preserved g c = (
       c.loop-rest.invariant.0 c.first_line.ensures.line c.in-Ok.ensures.goes,
   c.in-Ok.ensures.ready,
   c.in-Ok.ensures.no_failure ∙ c.loop-rest.invariant.2,
+  omega (arith, c.loop-rest.invariant.3, c.first_line.ensures.shorter, c.in-Ok.ensures.turned),
 )
 
 pub returns-in-Err-clause-wrote : goal.returns-in-Err-clause-wrote

@@ -66,12 +66,16 @@ returns-in-Ok-clause-stands g c = λ first second.
 pub returns-in-Ok-clause-recovered : goal.returns-in-Ok-clause-recovered
 returns-in-Ok-clause-recovered g c =
     let d = g.D.Disk in
+    let opens = c.in-Ok.ensures.opens.pair in
     at_made c.close_opened.result
     (λ engine closed. record {
       owes = closed.owes;
       last = λ first second s stands. cancels_of {E = StoreFault} last_batches_of (d.held c.args.first).bytes
           (d.held c.args.second).bytes (kept.state_of c.in-Ok.keeper) s (Ok engine)
           (c.in-Ok.ensures.stood first second) stands closed.last;
+      turned = λ first second.
+          rw (← opens.first_kept.bytes first, ← opens.second_kept.bytes second)
+          (closed.turned (opens.first_kept.keeps.honest.1 first) (opens.second_kept.keeps.honest.1 second));
     }) c.close_opened.ensures.closed
 
 pub returns-in-Ok-clause-refused : goal.returns-in-Ok-clause-refused

@@ -1,4 +1,4 @@
-use Rattle.std.proofs.Common.{◌≡◌, ◌⊎◌, inl, inr, [], ◌∷◌, refl, ap, sym, ◌∙◌, subst, true≢false}
+use Rattle.std.proofs.Common.{◌≡◌, ◌≤◌, ◌+◌, ℕ, ◌⊎◌, inl, inr, [], ◌∷◌, refl, ap, sym, ◌∙◌, subst, true≢false}
 use Rattle.cue_core.specs.Happenings.{events_at, recovered}
 use Rattle.cue_core.specs.State.{ShowState}
 use Rattle.cue_keeper.specs.declared.fault.Fault.{Fault}
@@ -6,6 +6,7 @@ use Rattle.cue_keeper.specs.Accepting.{HasCause}
 use Rattle.cue_keeper.specs.Pairs.{LeavesPairsAtEachMoment}
 use Rattle.cue_keeper.specs.Stands.{StandsEither, StandsAs}
 use Rattle.cue_keeper.specs.Observed.{state_of, pair_of, first_of, second_of, generation_of, count_of, end_of}
+use Rattle.cue_keeper.specs.Turning.{lack_room}
 use Rattle.cue_keeper.proofs.CommittedLemmas.{unless_disk, one_is_free}
 use Rattle.cue_keeper.proofs.GroupLemmas.{one_has, has_one}
 use Rattle.cue_snap.specs.Disks.{Keeps}
@@ -13,7 +14,7 @@ use Rattle.cue_snap.specs.Observed as snap
 use Rattle.cue_keeper.specs.declared.fault.Fault.TheVariants as fault
 use Rattle.cue_keeper.specs.declared.fault.StoreFault.{StoreFault}
 use Rattle.cue_keeper.specs.declared.fault.StoreFault.TheVariants as store
-use Rattle.cue_engine.proofs.ReopenedLemmas.{no_generation, needs_new_area, generation_is}
+use Rattle.cue_engine.proofs.ReopenedLemmas.{no_generation, needs_new_area, generation_is, generation_read, one_more}
 use Rattle.cue_engine.proofs.ReopenedLemmas.{told_one, none_told, closed_so}
 use Rattle.cue_engine.proofs.engine.opening.close_opened.Goals as goal
 
@@ -114,6 +115,17 @@ returns-in-Ok-clause-closed g c =
       };
       state = now;
       last = c.in-Ok.ensures.last;
+      turned = λ first second area reads.
+          let d = g.D.Disk in
+          let keeper = c.args.keeper in
+          let read = generation_read (d.held (first_of keeper)) (d.held (second_of keeper)) (state_of keeper)
+          (generation_of keeper) (count_of keeper) (end_of keeper)
+          (c.is_broken-broken.ensures.kept first second c.requires.works)
+          (g.met.D.Disk.reads_as_image (first_of keeper) first) (g.met.D.Disk.reads_as_image (second_of keeper) second)
+          area reads in
+          subst (λ (n : ℕ). generation_of c.close_undecided.new.keeper ≤ n + 1) read
+          (one_more (lack_room (pair_of keeper) (events_at (state_of keeper) recovered ∷ [])) (generation_of keeper)
+          (generation_of c.close_undecided.new.keeper) c.in-Ok.ensures.accepts.pair.generation);
     }
 
 pub returns-in-Ok-clause-refused : goal.returns-in-Ok-clause-refused

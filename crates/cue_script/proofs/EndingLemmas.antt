@@ -1,7 +1,6 @@
--- How a script ends: its statuses, and one that stopped. How far one line brings the generation.
-use Rattle.std.specs.Prelude.{◌≡◌, ◌≢◌, ℕ, ◌+◌, ◌≤◌, Bool, true, false, if◌then◌else◌, List, Option, Some, None}
-use Rattle.std.specs.Prelude.{IfSome}
-use Rattle.std.proofs.Common.{sym, subst, lit≤, arith}
+-- How a script ends: its statuses, and one that stopped.
+use Rattle.std.specs.Prelude.{◌≡◌, ◌≢◌, ℕ, ◌≤◌, List, Option, Some, None, IfSome}
+use Rattle.std.proofs.Common.{sym, subst, lit≤}
 use Rattle.cue_core.specs.State.{ShowState}
 use Rattle.cue_keeper.specs.declared.fault.StoreFault.{StoreFault}
 use Rattle.cue_keeper.specs.declared.fault.StoreFault.TheVariants as store
@@ -43,8 +42,3 @@ pub small_status : (ending : Ending) (status : ℕ) → status ≡ status_of end
 small_status ending status is =
     let P : ℕ → Type 0 = λ n. (n ≤ 3) × (n ≢ 2) in
     subst P (sym is) (small ending)
-
--- if a new area is needed, the generation is the next one, and else the same
-pub turned_once : (due : Bool) (before after : ℕ) → after ≡ (if due then before + 1 else before) → after ≤ before + 1
-turned_once true before after is = omega (arith, is)
-turned_once false before after is = omega (arith, is)

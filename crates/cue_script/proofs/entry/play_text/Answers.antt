@@ -1,6 +1,5 @@
 use Rattle.std.specs.Prelude.{◌≡◌, []}
 use Rattle.cue_keeper.specs.declared.fault.StoreFault.{StoreFault}
-use Rattle.cue_keeper.specs.declared.fault.StoreFault.TheVariants as StoreFault
 use Rattle.cue_keeper.specs.Opening.{IsOfForming}
 use Rattle.std.proofs.Common.{Some, ap, subst}
 use Rattle.cue_core.specs.State.{ShowState, empty_state}

@@ -8,7 +8,7 @@ use Rattle.cue_engine.specs.Given.{given_of}
 use Rattle.cue_engine.specs.Groups.{batches_given}
 use Rattle.cue_engine.specs.Inputs.{input_view}
 use Rattle.cue_engine.specs.Observed.{keeper_of, state_of}
-use Rattle.cue_script.proofs.EndingLemmas.{turned_once}
+use Rattle.cue_engine.proofs.ReopenedLemmas.{one_more}
 use Rattle.cue_script.proofs.ScriptLemmas.{comes_of_taking}
 use Rattle.cue_script.proofs.play.take_input.Goals as goal
 
@@ -26,7 +26,7 @@ returns-in-Ok-clause-after c =
 pub returns-in-Ok-clause-turned : goal.returns-in-Ok-clause-turned
 returns-in-Ok-clause-turned c =
     let old = keeper_of c.args.engine in
-    turned_once (lack_room (pair_of old) (batches_given (state_of c.args.engine)
+    one_more (lack_room (pair_of old) (batches_given (state_of c.args.engine)
     ((c.args.now, input_view c.args.input) ∷ []))) (generation_of old) (generation_of (keeper_of c.take.new.self))
     c.in-Ok.ensures.accepts.pair.generation
 

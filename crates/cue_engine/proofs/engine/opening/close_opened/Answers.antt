@@ -121,8 +121,8 @@ returns-in-Ok-clause-closed g c =
           let read = generation_read (d.held (first_of keeper)) (d.held (second_of keeper)) (state_of keeper)
           (generation_of keeper) (count_of keeper) (end_of keeper)
           (c.is_broken-broken.ensures.kept first second c.requires.works)
-          (g.met.D.Disk.reads_as_image (first_of keeper) first) (g.met.D.Disk.reads_as_image (second_of keeper) second)
-          area reads in
+          (g.met.D.Disk.reads_as_image (first_of keeper) first)
+          (g.met.D.Disk.reads_as_image (second_of keeper) second) area reads in
           subst (λ (n : ℕ). generation_of c.close_undecided.new.keeper ≤ n + 1) read
           (one_more (lack_room (pair_of keeper) (events_at (state_of keeper) recovered ∷ [])) (generation_of keeper)
           (generation_of c.close_undecided.new.keeper) c.in-Ok.ensures.accepts.pair.generation);

@@ -145,7 +145,7 @@ fn say_opening<W: Write>(alloc: Global, ear: &mut Ear<'_>, writer: &mut W) -> Re
     print(writer, text.as_str())
 }
 
-// Opens the device where it is not open, and hears what is there. Answers whether it has ended.
+// Opens the device if it is not open, and hears what is there. Answers whether it has ended.
 fn listen<R: Files<File = File> + Net + Clock + AllocGlobal, W: Write>(
     rt: &R,
     ear: &mut Ear<'_>,

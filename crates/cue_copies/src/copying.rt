@@ -46,7 +46,7 @@ const HEAD: usize = HEAD_LEN as usize;
 /// The most times that a file is read on, because it has grown meanwhile.
 const MAX_GROWTHS: u32 = 100;
 
-/// The heads of both files at one moment. Where a file is shorter, zeros stand for what is missing.
+/// The heads of both files at one moment. If a file is shorter, zeros stand for what is missing.
 #[derive(Clone, Copy, PartialEq, Eq)]
 struct Heads {
     first: [u8; HEAD],
@@ -76,7 +76,7 @@ pub fn is_read_again(fault: StoreFault) -> bool
     }
 }
 
-// What a fault over disks in memory is: these fail only where memory runs out.
+// What a fault over disks in memory is: these fail only if memory runs out.
 fn fault_in_memory(fault: StoreFault) -> StoreFault
     ensures { result ≡ fault_in_memory fault }
 {
@@ -194,7 +194,7 @@ pub fn copy_both<D: Disk>(
     })
 }
 
-// The copies, where no head changed while they were made.
+// The copies, if no head changed while they were made.
 fn at_once(before: Heads, copies: Copies, after: Heads) -> Option<Copies>
     ensures same { before ≡ after → result ≡ Some copies }
     ensures changed { (before ≡ after → ⊥) → result ≡ None }
@@ -254,7 +254,7 @@ fn open_bytes(alloc: Global, first: &[u8], second: &[u8]) -> Result<Keeper<MemDi
     }
 }
 
-// Why the store of two disks in memory cannot be recovered; `None` where it can.
+// Why the store of two disks in memory cannot be recovered; `None` if it can.
 fn recovery_refusal(alloc: Global, first: MemDisk, second: MemDisk) -> Option<StoreFault>
     ensures refusal { IsRefusalOf result (memory_bytes first) (memory_bytes second) }
     ensures memory { result ≢ Some StoreFault.Disk }
@@ -278,7 +278,7 @@ impl Copies {
         open_bytes(alloc, &self.first, &self.second)
     }
 
-    // Why a store of them cannot be recovered; `None` where it can.
+    // Why a store of them cannot be recovered; `None` if it can.
     fn refusal(&self, alloc: Global) -> Option<StoreFault>
         ensures refusal { IsRefusalOf result self.now.first.items self.now.second.items }
         ensures memory { result ≢ Some StoreFault.Disk }
@@ -290,7 +290,7 @@ impl Copies {
     }
 }
 
-/// Why a store of two files cannot be recovered; `None` where it can. It makes no write and no sync of them.
+/// Why a store of two files cannot be recovered; `None` if it can. It makes no write and no sync of them.
 pub fn refusal_of<D: Disk>(alloc: Global, first: &mut D, second: &mut D) -> Option<StoreFault>
     ensures answered { D.is_honest first.old → D.is_honest second.old
         → IsRefusalOf result (copy_of (D.held first.old)) (copy_of (D.held second.old)) }

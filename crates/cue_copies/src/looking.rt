@@ -1,4 +1,4 @@
-//! Looking at a store: once, or again where what was read may be of two moments.
+//! Looking at a store: once, or again if what was read may be of two moments.
 ghost use Rattle.std.specs.Prelude.{◌≡◌};
 ghost use Rattle.cue_copies.specs.declared.looking.Seen.TheVariants.{Refused};
 ghost use Rattle.cue_copies.specs.Looking.{StandsAsSeen};

@@ -44,7 +44,7 @@ fn first_required(answers: &Answers) -> Option<DeviceNo>
     }
 }
 
-// The device that alone is required, where others are optional.
+// The device that alone is required, if others are optional.
 fn alone_required(answers: &Answers) -> Option<DeviceNo>
     ensures { result ≡ alone_required answers.now }
 {
@@ -55,7 +55,7 @@ fn alone_required(answers: &Answers) -> Option<DeviceNo>
     }
 }
 
-/// The device that alone is required of an attempt that is Preparing and began after the one with this number, where
+/// The device that alone is required of an attempt that is Preparing and began after the one with this number, if
 /// other devices of it are optional.
 pub fn named_device(last: u32, attempt: &Attempt) -> Option<DeviceNo>
     ensures { result ≡ named_device last attempt.now }

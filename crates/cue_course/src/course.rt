@@ -111,7 +111,7 @@ impl Course {
         }
     }
 
-    /// Follows the live attempts of a state. Where there is no memory for one it is not followed.
+    /// Follows the live attempts of a state. If there is no memory for one it is not followed.
     pub fn follow(&mut self, state: &State) {
         for attempt in state.live().as_slice() {
             let _ = self.add(attempt);
@@ -123,7 +123,7 @@ impl Course {
         Ok(())
     }
 
-    /// Takes an event; where a device fails by it, for this cause. Where there is no memory for it, it is passed over.
+    /// Takes an event; if a device fails by it, for this cause. If there is no memory for it, it is passed over.
     pub fn take(&mut self, event: &Event, cause: Cause) {
         match event {
             Event::Start(seq, cue, deadline) => {

@@ -51,7 +51,7 @@ pub struct Order {
 }
 
 impl Order {
-    /// The order as its line says it, with the cue of its attempt where that is known.
+    /// The order as its line says it, with the cue of its attempt if that is known.
     pub fn text(
         &self,
         alloc: Global,
@@ -76,7 +76,7 @@ impl Order {
 #[derive(Drop)]
 pub struct Reply {
     pub port: u16,
-    /// At most 64 bytes; none where a datagram was refused whole.
+    /// At most 64 bytes; none if a datagram was refused whole.
     pub address: Vec<u8>,
     pub made: i32,
     pub known: i32,
@@ -156,7 +156,7 @@ fn is_out_of_memory(fault: Fault) -> bool
     }
 }
 
-/// What the log may say of a datagram that is sent to a port. None where it says nothing: a status. It fails only where
+/// What the log may say of a datagram that is sent to a port. None if it says nothing: a status. It fails only if
 /// memory ran out.
 pub fn entry_of(alloc: Global, port: u16, datagram: &[u8]) -> Result<Option<Entry>, AllocError> {
     match read(alloc, datagram) {

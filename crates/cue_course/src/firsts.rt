@@ -3,7 +3,7 @@ use crate::entry::{Order, OrderKind};
 use cue_show::DeviceNo;
 use cue_show::limits::MAX_DEVICES;
 
-/// For each device the latest attempt of which an order was sent; 0 where none was.
+/// For each device the latest attempt of which an order was sent; 0 if none was.
 #[derive(Drop)]
 struct Latest([u32; MAX_DEVICES]);
 
@@ -24,7 +24,7 @@ impl Latest {
 }
 
 /// The latest attempt of each device, for each order. The numbers of attempts rise, and a device is in one attempt at a
-/// time: so an order was sent before where its attempt is not later than that.
+/// time: so an order was sent before if its attempt is not later than that.
 #[derive(Drop)]
 pub struct Firsts {
     standby: Latest,

@@ -17,7 +17,7 @@ pub struct Note {
 #[derive(Drop)]
 pub struct Notes {
     pub items: Vec<Note>,
-    /// Whether all that the log may say something of has a note. It is not so where there was no memory for one.
+    /// Whether all that the log may say something of has a note. It is not so if there was no memory for one.
     pub are_whole: bool,
 }
 
@@ -59,7 +59,7 @@ impl Notebook {
         }
     }
 
-    /// Takes a note of a datagram that was sent to a port, and whether it left. Where there is no memory for the note
+    /// Takes a note of a datagram that was sent to a port, and whether it left. If there is no memory for the note
     /// there is none.
     pub fn note(&mut self, port: u16, datagram: &[u8], is_sent: bool) {
         if self.keep(port, datagram, is_sent).is_err() {

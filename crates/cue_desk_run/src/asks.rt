@@ -169,7 +169,7 @@ impl Ask {
         }
     }
 
-    // What the datagram says. Where memory runs out nothing is heard, as of a datagram that is lost.
+    // What the datagram says. If memory runs out nothing is heard, as of a datagram that is lost.
     fn read(&self, alloc: Global, datagram: &[u8]) -> Came {
         let Ok(Some(replied)) = read_reply(alloc, &self.shown, datagram) else {
             return Came::Noise;

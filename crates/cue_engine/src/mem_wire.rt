@@ -59,7 +59,7 @@ impl MemWire {
         if self.tells { Some(&self.sent) } else { None }
     }
 
-    /// Forgets what was handed over so far: it reports what comes from then on, where it reports at all. Which send is
+    /// Forgets what was handed over so far: it reports what comes from then on, if it reports at all. Which send is
     /// refused stays.
     pub fn clear(&mut self)
         ensures told { IsSome (told_by self.old) → told_by self.new ≡ Some [] }
@@ -69,7 +69,7 @@ impl MemWire {
         self.sent.clear();
     }
 
-    // Keeps what was handed over, where the wire reports and there is memory for it.
+    // Keeps what was handed over, if the wire reports and there is memory for it.
     fn keep(&mut self, to: u16, bytes: &[u8], refused: bool) -> Result<(), AllocError>
         ensures kept { OnOk result (Grew (told_by self.old) (handed_as ((to, bytes.now) ∷ []) (refused ∷ []))
             (told_by self.new)) }
@@ -93,7 +93,7 @@ impl Wire for MemWire {
             (told_by self.new) }
         ensures refused { IsAsPlanned (refuse_in_of self.old) (is_err result) (told_by self.new) }
         ensures counted { refuse_in_of self.new ≡ refuse_in_of self.old - 1 }
-        // Where there is no memory for the datagram the send is refused.
+        // If there is no memory for the datagram the send is refused.
         ensures lost { IsSome (told_by self.old) → told_by self.new ≡ None → is_err result ≡ true }
     {
         let refused = self.refuse_in == 1;

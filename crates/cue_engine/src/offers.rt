@@ -57,7 +57,7 @@ impl Offered {
         Ok(Offered { group, sends })
     }
 
-    // Adds what an input gives after all that was offered before. Where memory runs out nothing changes.
+    // Adds what an input gives after all that was offered before. If memory runs out nothing changes.
     fn add(&mut self, heard: Heard) -> Result<Taken, AllocError>
         requires batch { 1 ≤ length heard.batch.items → IsTrue (is_batch heard.batch.items) }
         requires fits { FitsRecord heard.batch.items }
@@ -114,7 +114,7 @@ pub(crate) fn offer_first(
     Ok((first, counts))
 }
 
-/// Judges one input more on the spare draft, after all that was offered; then the two drafts change places. Where
+/// Judges one input more on the spare draft, after all that was offered; then the two drafts change places. If
 /// memory runs out, what was offered stays as it was.
 pub(crate) fn offer_next(
     alloc: Global,

@@ -54,7 +54,7 @@ fn close_on(alloc: Global, kept: &State, draft: &mut Draft) -> Result<Offered, A
     Offered::of_one(alloc, batch, sends)
 }
 
-/// Cancels what is undecided, and answers what is owed then. All memory is taken before the first device call; where
+/// Cancels what is undecided, and answers what is owed then. All memory is taken before the first device call; if
 /// nothing is undecided none is made.
 #[tactic(auto, unfolding(cue_core::specs::Batches::closed_state))]
 pub(crate) fn close_undecided<D: Disk>(

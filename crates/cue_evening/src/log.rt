@@ -25,7 +25,7 @@ pub fn say_ready<R: Clock + Eprint>(rt: &R, dir: &str, port: u16) {
     };
 }
 
-/// Writes the log of the evening. It takes the notes of a logged wire at each look, and follows the attempts. Where
+/// Writes the log of the evening. It takes the notes of a logged wire at each look, and follows the attempts. If
 /// inputs are committed together it writes what it writes of inputs that come one by one: it has a state of its own, to
 /// which it lets the events of each input happen.
 #[derive(Drop)]
@@ -33,7 +33,7 @@ pub struct EveningLog<'a, R: Clock + Eprint> {
     rt: &'a R,
     alloc: Global,
     course: Course,
-    /// The state after the input that was seen last; None before the first look, or where there was no memory for it.
+    /// The state after the input that was seen last; None before the first look, or if there was no memory for it.
     followed: Option<State>,
     /// The number of the last attempt that was seen; None before the first look.
     last: Option<u32>,
@@ -147,7 +147,7 @@ impl<'a, R: Clock + Eprint> EveningLog<'a, R> {
     }
 }
 
-// How many commands of a reply made events, where each reply that made some has a note.
+// How many commands of a reply made events, if each reply that made some has a note.
 fn made_count(notes: &Notes, reply: &Reply) -> usize {
     if notes.are_whole {
         usize::try_from(reply.made).unwrap_or(0)

@@ -20,7 +20,7 @@ impl<'a, R: Clock + Eprint> Page<'a, R> {
         }
     }
 
-    /// The time in milliseconds since 1970; 0 where the clock has none.
+    /// The time in milliseconds since 1970; 0 if the clock has none.
     pub fn millis(&self) -> u64 {
         match self.time {
             Some(time) => time.millis,
@@ -28,7 +28,7 @@ impl<'a, R: Clock + Eprint> Page<'a, R> {
         }
     }
 
-    /// Writes a line with date and time. Where that fails, where the clock has no time, or where there was no memory
+    /// Writes a line with date and time. If that fails, if the clock has no time, or if there was no memory
     /// for the line, there is none.
     pub fn write(&self, line: Result<String, AllocError>) {
         if let (Some(time), Ok(line)) = (self.time, line) {

@@ -25,7 +25,7 @@ pub fn recovered_line(alloc: Global, live: &[Attempt]) -> Result<String, AllocEr
 }
 
 /// The line of an attempt that began after the last one that was seen, which has this number, and hangs on one device.
-/// None where it has no line, or there is no memory for it.
+/// None if it has no line, or there is no memory for it.
 pub fn standby_line(alloc: Global, last: u32, attempt: &Attempt) -> Option<String> {
     let device = named_device(last, attempt)?.number();
     let cue = attempt.cue.text().escape_ascii();
@@ -36,7 +36,7 @@ pub fn standby_line(alloc: Global, last: u32, attempt: &Attempt) -> Option<Strin
     text.ok()
 }
 
-/// The device by which a preparation was given up, where the event at this place gives it up.
+/// The device by which a preparation was given up, if the event at this place gives it up.
 pub fn device_of_cancel(events: &[Event], place: usize) -> Option<DeviceNo> {
     match events.split_at_checked(place) {
         Some((_, [_, Event::Failed(_, device) | Event::LetGo(_, device), ..])) => Some(*device),
@@ -51,7 +51,7 @@ fn push_cue(text: &mut String, cue: Option<CueNo>) -> Result<(), AllocError> {
     Ok(())
 }
 
-/// The line of an attempt that is given up for a reason, by a device where it has one.
+/// The line of an attempt that is given up for a reason, by a device if it has one.
 pub fn cancel_line(
     alloc: Global,
     seq: u32,

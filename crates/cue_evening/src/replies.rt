@@ -42,7 +42,7 @@ pub struct Answer<'a> {
     pub is_sent: bool,
     /// The events that its commands made.
     pub made: &'a [Event],
-    /// The state on which its commands were judged, where that is known.
+    /// The state on which its commands were judged, if that is known.
     pub state: Option<&'a State>,
 }
 
@@ -103,7 +103,7 @@ impl Answer<'_> {
         Ok(())
     }
 
-    // What was made of the show, or who keeps the command from being made; empty where neither is known.
+    // What was made of the show, or who keeps the command from being made; empty if neither is known.
     fn more(&self, alloc: Global) -> Result<String, AllocError> {
         let mut more = String::new(alloc);
         self.push_why(alloc, &mut more)?;

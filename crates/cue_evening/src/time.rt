@@ -12,7 +12,7 @@ pub struct Time {
 }
 
 impl Time {
-    /// The time now. None where the clock has none, or one after the year 9999.
+    /// The time now. None if the clock has none, or one after the year 9999.
     pub fn now<R: Clock>(clock: &R) -> Option<Time> {
         let since = clock.since_1970().ok()?;
         let date = Timestamp::from_second(i64::try_from(since.as_secs()).ok()?).ok()?;

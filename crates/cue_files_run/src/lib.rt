@@ -79,7 +79,7 @@ fn look_at<R: Files<File = File> + Eprint + AllocGlobal>(
 pub struct Sound {
     pub file: ShowFile,
     pub table: Table,
-    /// The line of the table `[rehearse]`, where it can be seen.
+    /// The line of the table `[rehearse]`, if it can be seen.
     pub rehearse: Option<usize>,
     pub show: Show,
 }
@@ -193,13 +193,13 @@ fn open_one<R: Files<File = File> + AllocGlobal>(
     FileDisk::open_to_read(rt, path.as_str()).map_err(|why| words(alloc, path.as_str(), why))
 }
 
-/// What failed, and why, as one text; empty where there is no memory for it.
+/// What failed, and why, as one text; empty if there is no memory for it.
 pub fn words<D: std::fmt::Display + Drop>(alloc: Global, what: &str, why: D) -> String {
     format!(in alloc; "{what}: {why}").unwrap_or(String::new(alloc))
 }
 
 /// Opens the store of a folder in memory. Nothing is written to its files, and no sync or lock is asked of them. The
-/// error is in words; empty where memory ran out.
+/// error is in words; empty if memory ran out.
 pub fn open_store<R: Files<File = File> + AllocGlobal>(
     rt: &R,
     dir: &str,

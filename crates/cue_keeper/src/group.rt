@@ -48,7 +48,7 @@ impl BatchGroup {
         })
     }
 
-    /// Adds a batch after the others, and frames it where it has an event. Where memory runs out the group stays as it
+    /// Adds a batch after the others, and frames it if it has an event. If memory runs out the group stays as it
     /// was.
     pub fn push(&mut self, batch: Vec<Event>) -> Result<(), AllocError>
         requires batch { 1 ≤ length batch.items → IsTrue (is_batch batch.items) }

@@ -27,7 +27,7 @@ use std::net::Net;
 pub struct Loaded<'a> {
     /// The show file.
     pub path: &'a str,
-    /// The folder of the store, where it is known.
+    /// The folder of the store, if it is known.
     pub dir: Option<&'a str>,
     pub manner: Manner,
     /// Whether it says on the way how far it has come.
@@ -44,7 +44,7 @@ struct Loading<'a, R, W: Write> {
 }
 
 impl<'a, R: Net + Eprint + AllocGlobal, W: Write> Loading<'a, R, W> {
-    // Counts what became of one more, and says so where it was refused.
+    // Counts what became of one more, and says so if it was refused.
     fn count(&mut self, counts: &mut Counts, subject: Subject, became: Became) {
         if let Became::Refused(code) = became {
             self.progress.clear();
@@ -68,7 +68,7 @@ impl<'a, R: Net + Eprint + AllocGlobal, W: Write> Loading<'a, R, W> {
         })
     }
 
-    // The same, where it may end early.
+    // The same, if it may end early.
     fn run(&mut self, file: &ShowFile) -> Result<Added, Ending> {
         match self.add(file) {
             Ok(added) => Ok(added),
@@ -98,7 +98,7 @@ struct Added {
     comes_late: bool,
 }
 
-// Adds what the file has, and compares the store with it where its folder is known.
+// Adds what the file has, and compares the store with it if its folder is known.
 fn add_all<R: Files<File = File> + Net + Eprint + AllocGlobal, W: Write>(
     rt: &R,
     sound: &Sound,
@@ -146,7 +146,7 @@ fn replace_all<R: Files<File = File> + Net + Eprint + AllocGlobal, W: Write>(
 }
 
 /// The command `load`. It may be called again: what is there already is known. A message without a reply is sent again,
-/// four times at most. It ends with status 1 where something is refused, or where the store is not what the file says.
+/// four times at most. It ends with status 1 if something is refused, or if the store is not what the file says.
 pub fn load<R: Files<File = File> + Net + Eprint + AllocGlobal, W: Write>(
     rt: &R,
     what: Loaded<'_>,

@@ -81,12 +81,12 @@ impl Wire {
         }
     }
 
-    // Sends a datagram. Where nobody listens, the next call hears silence.
+    // Sends a datagram. If nobody listens, the next call hears silence.
     fn send(&self, datagram: &[u8]) {
         let _ = self.socket.send(datagram);
     }
 
-    /// Sends what is asked, once, and waits for what the controller replies: for the status, where that is asked, and
+    /// Sends what is asked, once, and waits for what the controller replies: for the status, if that is asked, and
     /// else for the reply.
     pub fn ask(
         &self,
@@ -107,7 +107,7 @@ impl Wire {
         self.wait(alloc, shown, wants_status, sendings.silences())
     }
 
-    // What became of the next command that was asked at this address; none where no reply came.
+    // What became of the next command that was asked at this address; none if no reply came.
     fn next_answer(
         &self,
         alloc: Global,
@@ -121,7 +121,7 @@ impl Wire {
         }
     }
 
-    /// Sends a datagram that asks so many commands at one address, once: what became of each, in order; none where one
+    /// Sends a datagram that asks so many commands at one address, once: what became of each, in order; none if one
     /// of the replies did not come. The first one is waited for as long as that of a single command, since the datagram
     /// is carried out whole before it.
     pub fn ask_together(

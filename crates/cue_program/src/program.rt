@@ -111,7 +111,7 @@ fn form<R: Files<File = File> + Eprint, W: Write>(
 }
 
 /// Runs the show over a socket that is bound to this port, for so many turns at most, and keeps the log of the evening
-/// on standard error. It fails where the socket cannot be read, or there is no memory to begin.
+/// on standard error. It fails if the socket cannot be read, or there is no memory to begin.
 pub fn serve_on<'a, R: Clock + Eprint, D: Disk>(
     rt: &'a R,
     alloc: Global,
@@ -162,7 +162,7 @@ fn print_turns<W: Write>(alloc: Global, ended: &Ended, writer: &mut W) -> Result
     print(writer, text.as_bytes())
 }
 
-// Says why a run was not carried on; where a disk failed, which file, and how.
+// Says why a run was not carried on; if a disk failed, which file, and how.
 fn say_fault<R: Eprint>(rt: &R, dir: &str, engine: Engine<FileDisk>, fault: Fault) {
     let (first, second) = engine.close();
     say(rt, dir, fault);
@@ -233,7 +233,7 @@ pub fn serve_engine<R: Clock + Eprint, W: Write>(
     }
 }
 
-// Why a folder is not served whose port cannot be had: for the fault of its store, where it has one.
+// Why a folder is not served whose port cannot be had: for the fault of its store, if it has one.
 fn refused_as<R: Eprint>(
     rt: &R,
     dir: &str,
@@ -250,7 +250,7 @@ fn refused_as<R: Eprint>(
     }
 }
 
-// The same, where it is still to be seen what the store has. Nothing is written.
+// The same, if it is still to be seen what the store has. Nothing is written.
 fn refused_unbound<R: Eprint>(
     rt: &R,
     alloc: Global,
@@ -306,7 +306,7 @@ fn serve<R: Files<File = File> + Net + Clock + Eprint, W: Write>(
     told
 }
 
-// The exit status where there is no command, or where help was asked for.
+// The exit status if there is no command, or if help was asked for.
 fn refused_line<R: Eprint, W: Write>(rt: &R, fault: LineFault, writer: &mut W) -> u8
     ensures help { result ≡ 0 → IsHelp fault }
     ensures usage { result ≡ 2 → fault ≡ Usage }
@@ -352,8 +352,8 @@ fn carry_out<R: Files<File = File> + Net + Clock + Eprint, I: Read, W: Write>(
     }
 }
 
-/// Carries a command line out, the program's name first, and answers the exit status: 0 where it is done, 1 where the
-/// show or the script refuses, 2 where the words are no command, 3 where the machine does. A refusal is printed as
+/// Carries a command line out, the program's name first, and answers the exit status: 0 if it is done, 1 if the
+/// show or the script refuses, 2 if the words are no command, 3 if the machine does. A refusal is printed as
 /// `! NAME`; why, and of which file or port, stands on standard error. It takes no allocator: `rt` has one.
 pub fn perform<R: Files<File = File> + Net + Clock + Eprint + AllocGlobal, I: Read, W: Write>(
     rt: &R,
@@ -362,14 +362,14 @@ pub fn perform<R: Files<File = File> + Net + Clock + Eprint + AllocGlobal, I: Re
     writer: &mut W,
 ) -> u8
     ensures statuses { result ≤ 3 }
-    // 0 comes where a text was asked for, or where a command was carried out; then it is known what was printed.
+    // 0 comes if a text was asked for, or if a command was carried out; then it is known what was printed.
     ensures done { result ≡ 0 → AsksForText (fault_of cuectl_app (map string_bytes words.now))
         ⊎ HasEnded (map string_bytes words.now) result (I.remaining reader.old) (W.contents writer.old)
         (W.contents writer.new) }
-    // 1 comes only of words that clap takes, and 2 only where they are no command.
+    // 1 comes only of words that clap takes, and 2 only if they are no command.
     ensures refused { result ≡ 1 → fault_of cuectl_app (map string_bytes words.now) ≡ [] }
     ensures usage { result ≡ 2 → IsNoCommand (map string_bytes words.now) }
-    // Where they name a script, what is written is what its lines make, by its status.
+    // If they name a script, what is written is what its lines make, by its status.
     ensures script { fault_of cuectl_app (map string_bytes words.now) ≡ []
         → NamesScript (subcommand_of cuectl_app (map string_bytes words.now))
         → IfSome (I.remaining reader.old)

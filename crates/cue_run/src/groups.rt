@@ -22,7 +22,7 @@ use std::alloc::{AllocError, Global};
 /// The most inputs that a served show commits together.
 pub const MAX_TOGETHER: u64 = 128;
 
-// Why a run ends after its last round: None where the source ended.
+// Why a run ends after its last round: None if the source ended.
 fn fault_of(stop: Stop) -> Option<RunFault>
     ensures { result ≡ fault_of stop }
 {
@@ -84,7 +84,7 @@ fn run_rounds<D: Disk, S: Source, W: Wire, V: Watch<W>>(
 /// Withdraws what was offered and not committed, and hands out what is owed. Then it takes at most so many inputs, in
 /// groups: an input, and the datagrams that are there already, up to `most` of them and the room of the live area. A
 /// group is committed with the writes and syncs of one input; then what each owes is handed out in order, and after
-/// each `watch` looks. A tick is a group of its own. The run ends at its turns, where the source ends, or at the first
+/// each `watch` looks. A tick is a group of its own. The run ends at its turns, if the source ends, or at the first
 /// fault; what was offered before the fault is committed and handed out first. Of a group whose commit is refused
 /// nothing is handed out.
 pub fn run_grouped<D: Disk, S: Source, W: Wire, V: Watch<W>>(
@@ -122,7 +122,7 @@ pub fn run_grouped<D: Disk, S: Source, W: Wire, V: Watch<W>>(
 }
 
 /// The run of `run_grouped` with each input alone: hands out what is owed, and then takes at most so many inputs,
-/// handing out after each what it owes. It ends at its turns, where the source ends, or at the first fault; nothing is
+/// handing out after each what it owes. It ends at its turns, if the source ends, or at the first fault; nothing is
 /// handed out for an input that was not taken. After each input that was taken `watch` looks at the state.
 pub fn run_watched<D: Disk, S: Source, W: Wire, V: Watch<W>>(
     alloc: Global,

@@ -21,6 +21,6 @@ pub struct Ended {
     pub turns: u64,
     /// How many sends were refused; it stops at `u64::MAX`.
     pub unsent: u64,
-    /// None where it had its turns or the source ended.
+    /// None if it had its turns or the source ended.
     pub fault: Option<RunFault>,
 }

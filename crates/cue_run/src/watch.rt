@@ -8,7 +8,7 @@ use cue_engine::Wire;
 /// change the show, nor what is sent over a wire that reports.
 pub trait Watch<W: Wire> {
     /// Looks at the state, at the events of the input that was taken (none at the first look), and at the wire, which
-    /// may have kept notes of what was sent. Where inputs are committed together, the state is the one after all of
+    /// may have kept notes of what was sent. If inputs are committed together, the state is the one after all of
     /// them, also at the look for the first. Whoever needs the state after each input lets its events happen to a copy.
     fn look(&mut self, state: &State, batch: &[Event], wire: &mut W)
         ensures told { W.told wire.new ≡ W.told wire.old };

@@ -18,7 +18,7 @@ use std::io::{self, Read, Write};
 /// The longest script, in bytes.
 pub const MAX_SCRIPT: u64 = 1_048_576;
 
-// All that a reader has, or `None` where it is longer than the limit. No more than a byte beyond the limit is read.
+// All that a reader has, or `None` if it is longer than the limit. No more than a byte beyond the limit is read.
 fn read_at_most<R: Read>(
     alloc: Global,
     streams: &mut Streams,
@@ -81,7 +81,7 @@ fn write_last<W: Write>(streams: &mut Streams, writer: &mut W, line: &[u8]) -> i
 }
 
 /// Runs a script on two disks in memory that it has formed, and answers its exit status. What it writes is known for a
-/// reader and a writer whose bytes are. Status 3 comes where memory, a disk, the reader or the writer failed.
+/// reader and a writer whose bytes are. Status 3 comes if memory, a disk, the reader or the writer failed.
 pub fn script<R: Read, W: Write>(alloc: Global, reader: &mut R, writer: &mut W) -> u8
     ensures ran { IfSome (R.remaining reader.old)
         (λ text. HasRun empty_state text result (W.contents writer.old) (W.contents writer.new)) }

@@ -133,7 +133,7 @@ fn read_tick(line: &[u8]) -> Option<u64>
 }
 
 /// Reads a line of a script: `d NOW FROM HEX` is a datagram `HEX`, in hexadecimal digits of either case, that came at
-/// the time `NOW` from the port `FROM`, `t NOW` a tick, and `x` power loss. `None` where the line has another form.
+/// the time `NOW` from the port `FROM`, `t NOW` a tick, and `x` power loss. `None` if the line has another form.
 #[tactic(auto, unfolding(crate::specs::ScriptLines::happening_in))]
 pub fn read_line(alloc: Global, line: &[u8]) -> Result<Option<ScriptLine>, AllocError>
     ensures { IfOk result (λ found. option_map line_view found ≡ happening_in line.now) }

@@ -184,7 +184,7 @@ fn run_line<W: Write>(
     }
 }
 
-// Reads a line and runs it. Where it ends the script, nothing is printed.
+// Reads a line and runs it. If it ends the script, nothing is printed.
 fn play_line<W: Write>(
     alloc: Global,
     engine: Engine<MemDisk>,

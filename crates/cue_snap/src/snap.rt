@@ -115,7 +115,7 @@ impl<D: Disk> Snap<D> {
     }
 
     /// Adds records to the live area, with the two writes and two syncs of one: after a stop none of them is there, or
-    /// all are. It takes no memory, and makes no device call where there is no record. Where the area lacks room for
+    /// all are. It takes no memory, and makes no device call if there is no record. If the area lacks room for
     /// all of them, none is added: `has_room_for` says so before they are made.
     pub fn append_all(&mut self, added: &RecordGroup) -> Result<(), AppendFault>
         ensures appends { Appends added.now result self.old self.new }

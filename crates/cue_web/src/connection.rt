@@ -113,7 +113,7 @@ impl Connection {
         self.stage != Stage::Gone
     }
 
-    // Reads a piece into this room: how many bytes came; none where it has to be waited for. The end is an error.
+    // Reads a piece into this room: how many bytes came; none if it has to be waited for. The end is an error.
     fn read_piece(&mut self, piece: &mut [u8]) -> io::Result<Option<usize>>
         ensures { IfOk result (λ came. IfSome came (λ n. n ≤ length piece.old)) }
     {
@@ -218,7 +218,7 @@ impl Connection {
         Ok(false)
     }
 
-    // Sends on; where all is sent, says that nothing follows.
+    // Sends on; if all is sent, says that nothing follows.
     fn finish(&mut self) -> io::Result<()> {
         if self.send_on()? {
             self.stream.shutdown(Shutdown::Write)?;

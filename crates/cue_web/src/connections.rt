@@ -1,4 +1,4 @@
-//! The connections to the page. None of them can keep the others waiting: each has a second, and where there are many
+//! The connections to the page. None of them can keep the others waiting: each has a second, and if there are many
 //! the one that has waited longest gives way.
 use crate::connection::Connection;
 use crate::pages::Pages;

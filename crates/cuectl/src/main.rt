@@ -28,7 +28,7 @@ fn words(rt: &HostRuntime) -> io::Result<Vec<String>> {
     Ok(env::args(rt)?.collect(rt.alloc())?)
 }
 
-// Carries out the words of the command line, and answers the exit status. It fails where there is no memory to begin.
+// Carries out the words of the command line, and answers the exit status. It fails if there is no memory to begin.
 fn perform_words(rt: &HostRuntime) -> io::Result<u8> {
     let alloc = rt.alloc();
     let words = words(rt)?;
@@ -37,7 +37,7 @@ fn perform_words(rt: &HostRuntime) -> io::Result<u8> {
     Ok(perform(rt, &words, &mut reader, &mut writer))
 }
 
-// How the program ends where it did not begin.
+// How the program ends if it did not begin.
 fn not_begun(error: &io::Error) -> Ending
     ensures { result ≡ Stopped (failure_of error.now) }
 {

@@ -47,7 +47,7 @@ fn said(rt: &HostRuntime, variable: &str) -> io::Result<Option<String>> {
     }
 }
 
-// Carries out the words of the command line, and answers the exit status. It fails where there is no memory to begin.
+// Carries out the words of the command line, and answers the exit status. It fails if there is no memory to begin.
 fn perform(rt: &HostRuntime) -> io::Result<u8> {
     let words = words(rt)?;
     let port = said(rt, "CUEDESK_PORT")?;

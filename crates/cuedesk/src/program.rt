@@ -47,7 +47,7 @@ pub fn port_of(said: Option<u16>, file: Option<&ShowFile>) -> u16 {
     controller_port(said, file.and_then(|file| file.port))
 }
 
-// The exit status of a command that is not done. Where its output failed, that is said.
+// The exit status of a command that is not done. If its output failed, that is said.
 fn end<R: Eprint>(rt: &R, ending: Ending) -> u8
     ensures { result ≡ ending_status ending }
 {
@@ -57,7 +57,7 @@ fn end<R: Eprint>(rt: &R, ending: Ending) -> u8
     ending.status()
 }
 
-// The exit status where there is no command, or where help was asked for.
+// The exit status if there is no command, or if help was asked for.
 fn refused_line<R: Eprint, W: Write>(rt: &R, fault: LineFault, writer: &mut W) -> u8
     ensures help { result ≡ 0 → IsHelp fault }
     ensures usage { (result ≡ 2) ↔ IsUsage fault }
@@ -127,10 +127,10 @@ fn carry_out<R: Files<File = File> + Net + Clock + RandomSource + Eprint + Alloc
     }
 }
 
-/// Carries a command line out, the program's name first, and answers the exit status: 0 where it is done, 1 where the
-/// controller refuses or a show file has mistakes, 2 where the command line is not understood, 3 where nobody
+/// Carries a command line out, the program's name first, and answers the exit status: 0 if it is done, 1 if the
+/// controller refuses or a show file has mistakes, 2 if the command line is not understood, 3 if nobody
 /// replies or the machine fails. Why stands on standard error. The environment says the port of the controller, the
-/// folder of the store, and who asks, where the command line does not.
+/// folder of the store, and who asks, if the command line does not.
 pub fn perform<R: Files<File = File> + Net + Clock + RandomSource + Eprint + AllocGlobal, W: Write>(
     rt: &R,
     words: &[String],

@@ -23,7 +23,7 @@ impl<D: Disk> Engine<D> {
     ghost use Rattle.cue_engine.specs.Observed.{offered_of, offered_sends_of, HasRoomForAll};
 
     /// Judges what came after all that was offered before, and keeps what it gives until `commit`; it answers how many
-    /// commands are made, known and refused then. It makes no device call, and state and queue stay as they are. Where
+    /// commands are made, known and refused then. It makes no device call, and state and queue stay as they are. If
     /// it answers Broken or Memory, what was offered before stays as it was.
     pub fn offer(&mut self, now: u64, input: Input<'_>) -> Result<Taken, Fault>
         ensures offers { IfOk result
@@ -34,7 +34,7 @@ impl<D: Disk> Engine<D> {
             × (offered_sends_of self.new ≡ offered_sends_of self.old)) }
         ensures broken { IsErrOf result Fault.Broken ↔ (kept.is_broken (keeper_of self.old) ≡ true) }
         ensures memory { IfErr result (λ fault. (fault ≡ Fault.Broken) ⊎ (fault ≡ Fault.Memory)) }
-        // Where `has_room` was asked before, `commit` has room for all of them.
+        // If `has_room` was asked before, `commit` has room for all of them.
         ensures room { IsTrue (has_room self.old) → OnOk result (HasRoomForAll self.new) }
     {
         if self.keeper.is_broken() {
@@ -64,7 +64,7 @@ impl<D: Disk> Engine<D> {
         }
     }
 
-    /// Whether one input more can be offered, whatever it is, and all be committed together. Where it cannot, a caller
+    /// Whether one input more can be offered, whatever it is, and all be committed together. If it cannot, a caller
     /// commits what was offered first: `commit` may answer Full otherwise.
     pub fn has_room(&self) -> bool
         ensures { result ≡ has_room self.now }
@@ -97,8 +97,8 @@ impl<D: Disk> Engine<D> {
 
     /// Takes all that was offered together: the batch of each input is on both disks, each its own record, and what
     /// they owe at the end of the queue, in order; or nothing has changed, and what was offered is dropped. A stop
-    /// within it leaves the state before all of them, or after all. Where several change something it makes two writes
-    /// and two syncs; where none was offered it makes no device call.
+    /// within it leaves the state before all of them, or after all. If several change something it makes two writes
+    /// and two syncs; if none was offered it makes no device call.
     pub fn commit(&mut self) -> Result<(), Fault>
         // State and queue are what the inputs give, one after the other.
         ensures gives { OnOk result
@@ -109,7 +109,7 @@ impl<D: Disk> Engine<D> {
         // Their batches are on both disks, each whole, or the fault says why not.
         ensures accepts { Accepts (offered_of self.old) (result_err result)
             (keeper_of self.old) (keeper_of self.new) }
-        // It answers Full only where several inputs change something and the live area lacks room for them.
+        // It answers Full only if several inputs change something and the live area lacks room for them.
         ensures no_full { HasRoomForAll self.old → IsErrOf result Fault.Full → ⊥ }
         ensures dropped { IsOffered [] self.new }
     {
@@ -132,7 +132,7 @@ impl<D: Disk> Engine<D> {
     }
 
     /// The batches that were accepted last, one for each input of the last `commit`, in order, for whoever writes a
-    /// log. One is empty where its input changed nothing. After `take` and `recover` it is the one batch of that call.
+    /// log. One is empty if its input changed nothing. After `take` and `recover` it is the one batch of that call.
     pub fn last_batches(&self) -> &[Vec<Event>]
         ensures { batches_view result.now ≡ last_batches_of self.now }
     {

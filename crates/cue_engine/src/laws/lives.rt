@@ -55,7 +55,7 @@ use cue_disk::Disk;
 use cue_keeper::{Fault, StoreFault};
 use std::alloc::Global;
 
-/// `Engine::form` in the life of a store that is not formed yet: where it answers Ok it is the next incident, and
+/// `Engine::form` in the life of a store that is not formed yet: if it answers Ok it is the next incident, and
 /// wherever a stop finds the disks in it, the life goes on with a store that is not formed.
 pub fn form<D: Disk>(alloc: Global, first: D, second: D) -> Result<Engine<D>, (StoreFault, D, D)>
     ensures formed { InEachLifeBefore (D.held first) (D.held second)
@@ -98,7 +98,7 @@ pub fn offer<D: Disk>(engine: &mut Engine<D>, now: u64, input: Input<'_>) -> Res
     engine.offer(now, input)
 }
 
-/// `Engine::commit` in the life of a store: the inputs that were offered are the next incident together, and none where
+/// `Engine::commit` in the life of a store: the inputs that were offered are the next incident together, and none if
 /// they were refused. At any moment of the call the promise holds of whatever a crash leaves, and the life goes on at
 /// rest.
 pub fn commit<D: Disk>(engine: &mut Engine<D>) -> Result<(), Fault>
@@ -173,7 +173,7 @@ pub fn stop_in_hand_out<D: Disk, W: Wire>(
     engine.close()
 }
 
-/// `Engine::recover` in the life of a store, also of one whose `form` was cut off: where it answers Ok it gives what is
+/// `Engine::recover` in the life of a store, also of one whose `form` was cut off: if it answers Ok it gives what is
 /// promised, and is the next incident. It never calls a store that was formed unformed, damaged, of another version or
 /// malformed. After any other refusal but that of a device, and wherever a stop finds the disks in it, it may be called
 /// again.

@@ -46,7 +46,7 @@ pub trait Source {
         ensures within { IsWithin result (length buffer.old) }
         ensures gave { GaveAll (length buffer.old) (left self.old) (gave result buffer.new ∷ []) (left self.new) };
 
-    /// A datagram that is there already, cut to the length of the buffer; None where none is. It does not wait, and it
+    /// A datagram that is there already, cut to the length of the buffer; None if none is. It does not wait, and it
     /// is never a tick. A source that cannot tell has none: then each input is a group of its own.
     fn waiting(&mut self, buffer: &mut [u8]) -> Result<Option<Waiting>, SourceFault>
         ensures within { WaitsWithin result (length buffer.old) }

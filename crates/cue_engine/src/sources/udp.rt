@@ -35,8 +35,8 @@ fn now_of<C: Clock>(clock: &C) -> io::Result<u64> {
     }
 }
 
-/// The datagrams of a receiver, and ticks between them: one where the clock shows 250 ms since the last tick or was put
-/// back, or where the receiver waited and no datagram came. It reports nothing. Of the 65,536 datagrams that a call
+/// The datagrams of a receiver, and ticks between them: one if the clock shows 250 ms since the last tick or was put
+/// back, or if the receiver waited and no datagram came. It reports nothing. Of the 65,536 datagrams that a call
 /// drops at most no contract speaks; a test counts them.
 #[derive(Drop)]
 pub struct UdpSource<'a, C: Clock, R: Receive + Drop> {

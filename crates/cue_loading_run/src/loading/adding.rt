@@ -28,7 +28,7 @@ impl<'a, R: Net + Eprint + AllocGlobal, W: Write> Loading<'a, R, W> {
     }
 
     // Adds all cues: what became of each. A datagram is carried out whole or not at all, so cues that are new come in
-    // the order of the file, also where one was lost and each is asked again.
+    // the order of the file, also if one was lost and each is asked again.
     pub(super) fn add_cues(&mut self, entries: &[CueEntry]) -> Result<Vec<Answered>, Ending>
         ensures { IfOk result (λ answers. length answers.items ≡ length entries.now) }
     {

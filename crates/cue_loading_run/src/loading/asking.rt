@@ -1,4 +1,4 @@
-//! What is asked while a show file is loaded: again where no reply came, with words where it is refused.
+//! What is asked while a show file is loaded: again if no reply came, with words if it is refused.
 ghost use Rattle.std.specs.Prelude.{◌≡◌, IfOk, IfSome, length};
 
 use crate::wire::{Sendings, Wire};
@@ -50,7 +50,7 @@ impl<'a, R: Net + Eprint + AllocGlobal> Asker<'a, R> {
         self.rt.alloc()
     }
 
-    // Sends the message, and again where no reply came. Each sending after the first has a socket of its own, so that a
+    // Sends the message, and again if no reply came. Each sending after the first has a socket of its own, so that a
     // late reply to an earlier one is not taken for the reply to another message.
     fn hear(&mut self, asked: &Asked<'_>) -> Result<Option<Replied>, Ending> {
         for _ in 0..MAX_SENDINGS {
@@ -63,7 +63,7 @@ impl<'a, R: Net + Eprint + AllocGlobal> Asker<'a, R> {
         Ok(None)
     }
 
-    /// Asks it. Where nobody replies the loading ends, and `say_unanswered` says of what.
+    /// Asks it. If nobody replies the loading ends, and `say_unanswered` says of what.
     pub fn ask(&mut self, subject: Subject, asked: &Asked<'_>) -> Result<Answered, Ending> {
         match self.hear(asked)? {
             Some(replied) => Ok(Answered::of(replied)),
@@ -74,7 +74,7 @@ impl<'a, R: Net + Eprint + AllocGlobal> Asker<'a, R> {
         }
     }
 
-    // Asks by one datagram; none where one of so many replies did not come.
+    // Asks by one datagram; none if one of so many replies did not come.
     fn ask_together(
         &mut self,
         datagram: &[u8],
@@ -118,7 +118,7 @@ impl<'a, R: Net + Eprint + AllocGlobal> Asker<'a, R> {
         Ok(answers)
     }
 
-    /// Adds these devices by one datagram, and each by itself where a reply to that did not come: what became of each.
+    /// Adds these devices by one datagram, and each by itself if a reply to that did not come: what became of each.
     pub fn add_devices(&mut self, entries: &[DeviceEntry]) -> Result<Vec<Answered>, Ending>
         ensures { IfOk result (λ answers. length answers.items ≡ length entries.now) }
     {
@@ -178,7 +178,7 @@ impl<'a, R: Net + Eprint + AllocGlobal> Asker<'a, R> {
         );
     }
 
-    /// Says to what nobody replied, where that is why the loading ends.
+    /// Says to what nobody replied, if that is why the loading ends.
     pub fn say_unanswered(&self) {
         if let Some(subject) = self.unanswered {
             let port = self.port;

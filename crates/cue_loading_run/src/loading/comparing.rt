@@ -79,7 +79,7 @@ fn cues_of(alloc: Global, state: &State) -> Result<Vec<CueNo>, AllocError> {
 }
 
 impl<'a, R: Files<File = File> + Net + Eprint + AllocGlobal> Asker<'a, R> {
-    // The show of the store in this folder, where its state is the one of which the controller says this.
+    // The show of the store in this folder, if its state is the one of which the controller says this.
     fn look(&mut self, dir: &str, status: Status) -> Result<Option<Show>, Ending> {
         match open_store(self.rt(), dir) {
             Ok(keeper) if agrees(status, keeper.state()) => {
@@ -93,7 +93,7 @@ impl<'a, R: Files<File = File> + Net + Eprint + AllocGlobal> Asker<'a, R> {
         }
     }
 
-    // The cues that are live in the store of this folder; none where that is not what the controller says.
+    // The cues that are live in the store of this folder; none if that is not what the controller says.
     fn live_cues(&mut self, dir: &str, status: Status) -> Result<Vec<CueNo>, Ending> {
         match open_store(self.rt(), dir) {
             Ok(keeper) if agrees(status, keeper.state()) => {

@@ -69,7 +69,7 @@ impl Counts {
         }
     }
 
-    /// The line of what was added, where what was there stays.
+    /// The line of what was added, if what was there stays.
     pub fn text(self, alloc: Global, what: &str) -> Result<String, AllocError> {
         let (added, known, refused) = (self.added, self.known, self.refused);
         Ok(format!(in alloc; "{what}: {added} new, {known} known, {refused} refused\n")?)

@@ -18,7 +18,7 @@ pub struct Progress<'a, W: Write> {
 }
 
 impl<'a, W: Write> Progress<'a, W> {
-    /// None of so many; it says nothing where it is not to.
+    /// None of so many; it says nothing if it is not to.
     pub fn new(alloc: Global, tells: bool, all: usize, writer: &'a mut W) -> Progress<'a, W> {
         Progress {
             alloc,
@@ -51,7 +51,7 @@ impl<'a, W: Write> Progress<'a, W> {
         Ok(())
     }
 
-    /// Empties the line, so that another one can stand there. Where that cannot be written, nothing else can.
+    /// Empties the line, so that another one can stand there. If that cannot be written, nothing else can.
     pub fn clear(&mut self) {
         if self.tells {
             let _ = print(self.writer, "\r\x1b[K");

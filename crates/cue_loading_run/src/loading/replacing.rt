@@ -104,7 +104,7 @@ impl<'a, R: Files<File = File> + Net + Eprint + AllocGlobal, W: Write> Loading<'
         self.progress.advance(1)
     }
 
-    // Asks all of a plan; where it ends early, what that leaves is said.
+    // Asks all of a plan; if it ends early, what that leaves is said.
     fn carry_all_out(&mut self, steps: &[Step], place: Option<CueNo>) -> Result<(), Ending> {
         for step in steps {
             if let Err(ending) = self.carry_out(step) {

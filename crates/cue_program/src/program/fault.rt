@@ -103,13 +103,13 @@ pub fn run_fault(fault: RunFault) -> ProgramFault
     }
 }
 
-/// Prints a line of a refusal. Where that cannot be written, the status alone reports it.
+/// Prints a line of a refusal. If that cannot be written, the status alone reports it.
 pub fn print_fault<W: Write>(writer: &mut W, line: &[u8]) {
     let _ = writer.write_all(line);
     let _ = writer.flush();
 }
 
-/// The exit status of a command, where a refusal is printed by its name.
+/// The exit status of a command, if a refusal is printed by its name.
 pub fn status_of<T: Drop, W: Write>(done: Result<T, ProgramFault>, writer: &mut W) -> u8
     ensures status { result ≡ done_status done }
     ensures kept { OnOk done (W.contents writer.new ≡ W.contents writer.old) }

@@ -1,4 +1,4 @@
-//! The two files of a folder: opened and made, and what is said where that fails.
+//! The two files of a folder: opened and made, and what is said if that fails.
 ghost use Rattle.std.specs.Prelude.{◌≡◌, string_bytes, IfOk, Ok};
 ghost use Rattle.std.specs.Fn.{FnReturnsAt};
 ghost use Rattle.cue_script.specs.declared.ending.Failure.TheVariants.{Store};
@@ -14,7 +14,7 @@ use std::fmt::Display;
 use std::fs::{File, Files};
 use std::io::Eprint;
 
-/// Says on standard error what was refused, and why. Where that cannot be written, the answer is the same.
+/// Says on standard error what was refused, and why. If that cannot be written, the answer is the same.
 pub fn say<R: Eprint, D: Display + Drop>(rt: &R, what: &str, why: D) {
     let _ = rt.eprintln(format_args!("cuectl: {what}: {why}"));
 }
@@ -101,7 +101,7 @@ pub fn create_both<R: Files<File = File> + Eprint>(
     both(alloc, dir, |path| create_one(rt, path))
 }
 
-/// Why the store of a folder was refused; where a disk failed, which file, and how.
+/// Why the store of a folder was refused; if a disk failed, which file, and how.
 pub fn refused_store<R: Eprint>(
     rt: &R,
     dir: &str,
@@ -115,7 +115,7 @@ pub fn refused_store<R: Eprint>(
     ProgramFault::from(fault)
 }
 
-/// How the files failed, where they did.
+/// How the files failed, if they did.
 pub fn say_failures<R: Eprint>(rt: &R, first: &FileDisk, second: &FileDisk) {
     if let Some(why) = first.last_failure() {
         say(rt, "a.area", why);

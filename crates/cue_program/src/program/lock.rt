@@ -23,7 +23,7 @@ pub struct StoreLock {
     _file: Option<File>,
 }
 
-// Asks for the lock, some times where another holds it.
+// Asks for the lock, some times if another holds it.
 fn ask(file: &File) -> Result<(), TryLockError> {
     for _ in 1..MAX_LOCK_TRIES {
         match file.try_lock() {
@@ -79,7 +79,7 @@ fn lock_of<R: Eprint>(
     }
 }
 
-/// Takes the lock of a store, before anything of it is read or written. `Io` where another `serve` holds it. Where the
+/// Takes the lock of a store, before anything of it is read or written. `Io` if another `serve` holds it. If the
 /// file system knows no locks, standard error says so, and the store is served without one.
 pub fn lock_store<R: Files<File = File> + Eprint>(
     rt: &R,
@@ -118,7 +118,7 @@ fn is_locked(answer: Option<Result<(), TryLockError>>) -> bool
     }
 }
 
-/// Whether a `serve` holds the lock of a store now. Where that cannot be known, none does.
+/// Whether a `serve` holds the lock of a store now. If that cannot be known, none does.
 pub fn is_served<R: Files<File = File>>(rt: &R, alloc: Global, dir: &str) -> bool {
     is_locked(shared_answer(rt, alloc, dir))
 }

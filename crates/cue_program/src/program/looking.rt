@@ -1,4 +1,4 @@
-//! The command `show`: it reads a store that another process may serve meanwhile, and reads it again where what it read
+//! The command `show`: it reads a store that another process may serve meanwhile, and reads it again if what it read
 //! may be of two moments.
 ghost use Rattle.std.specs.Prelude.{◌≡◌, IfErr, IfOk, IsErrOf, OnOk};
 ghost use Rattle.std.specs.Io.KnownBytes.{Appends};
@@ -60,7 +60,7 @@ fn say_refused<R: Eprint>(rt: &R, dir: &str, fault: StoreFault) -> ProgramFault
     ProgramFault::from(fault)
 }
 
-// Opens the store of a folder, whose files these disks are, in memory. No write and no sync of them is made. `Io` where
+// Opens the store of a folder, whose files these disks are, in memory. No write and no sync of them is made. `Io` if
 // they were turned over at each reading.
 fn open_copies<R: Files<File = File> + Eprint, D: Disk>(
     rt: &R,
@@ -111,7 +111,7 @@ fn show_disks<R: Files<File = File> + Eprint, D: Disk, W: Write>(
     print_state(alloc, keeper.state(), writer)
 }
 
-/// Prints the show of a folder. Where a file failed, it is said which, and how.
+/// Prints the show of a folder. If a file failed, it is said which, and how.
 pub fn show<R: Files<File = File> + Eprint, W: Write>(
     rt: &R,
     alloc: Global,

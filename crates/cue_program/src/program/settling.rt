@@ -40,7 +40,7 @@ fn sync_around<R: Files + Eprint>(rt: &R, path: &str) -> Result<(), ProgramFault
 
 /// Syncs the folder of a store, for the names of its files, and the folder around it, for its own. Without that a power
 /// cut may bring back what had these names before they were moved there, in place of what was acknowledged since.
-/// `Io` where that fails. A folder around it that may not be read is passed over, and standard error says so.
+/// `Io` if that fails. A folder around it that may not be read is passed over, and standard error says so.
 pub fn settle<R: Files + Eprint>(rt: &R, alloc: Global, dir: &str) -> Result<(), ProgramFault>
     ensures { IfErr result (λ fault. (fault ≡ Io) ⊎ (fault ≡ Failed (Store Memory))) }
 {

@@ -45,7 +45,7 @@ fn hand_out_each<D: Disk, W: Wire, V: Watch<W>>(
     unsent.saturating_add(engine.hand_out(wire))
 }
 
-/// Commits what was offered and hands it out, input by input; answers how many sends were refused. Where the commit is
+/// Commits what was offered and hands it out, input by input; answers how many sends were refused. If the commit is
 /// refused nothing is handed out.
 pub(crate) fn take_group<D: Disk, W: Wire, V: Watch<W>>(
     engine: &mut Engine<D>,

@@ -158,7 +158,7 @@ fn gather<D: Disk, S: Source>(
 }
 
 /// Offers one group: the first input that comes, and what waits after it, so many at most. Answers the fault that ended
-/// the group, if one did; where no input was offered, why not.
+/// the group, if one did; if no input was offered, why not.
 pub(crate) fn offer_group<D: Disk, S: Source>(
     engine: &mut Engine<D>,
     source: &mut S,

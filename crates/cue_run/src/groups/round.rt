@@ -18,7 +18,7 @@ pub(crate) struct Round {
     pub(crate) turns: u64,
     /// How many sends were refused; it stops at `u64::MAX`.
     pub(crate) unsent: u64,
-    /// None where another round may follow.
+    /// None if another round may follow.
     pub(crate) stop: Option<Stop>,
 }
 

@@ -79,7 +79,7 @@ impl<'a, R: Files<File = File> + Net + Clock + AllocGlobal> Board<'a, R> {
         }
     }
 
-    // Looks at the show file. Where memory is short, what is told of it stays.
+    // Looks at the show file. If memory is short, what is told of it stays.
     fn renew(&mut self) -> io::Result<()> {
         let Some(renewed) = &mut self.renewed else {
             return Ok(());

@@ -44,7 +44,7 @@ fn word_in<R: Files<File = File> + Eprint + AllocGlobal>(
     Err(Ending::Refused)
 }
 
-/// The word of the lock of a page, where it has one; else why it cannot be had is said.
+/// The word of the lock of a page, if it has one; else why it cannot be had is said.
 pub fn lock_word<R: Files<File = File> + Eprint + AllocGlobal>(
     rt: &R,
     page_use: &PageUse,

@@ -64,7 +64,7 @@ fn is_empty(file: &ShowFile) -> bool {
     file.devices.is_empty() && file.cues.is_empty()
 }
 
-// The show file that a text is; else the line of its first mistake, where it has one.
+// The show file that a text is; else the line of its first mistake, if it has one.
 fn file_in(alloc: Global, text: &str) -> Result<Result<ShowFile, Option<usize>>, AllocError> {
     let Draft { file, findings, .. } = read(alloc, text)?;
     let trial = check(alloc, &file)?;
@@ -123,7 +123,7 @@ impl Renewed<'_> {
         Ok(found.ok())
     }
 
-    // Reads the file, of which the system said this. Where memory ran out it is read again after the next look.
+    // Reads the file, of which the system said this. If memory ran out it is read again after the next look.
     fn read<R: Files<File = File> + Clock + AllocGlobal>(
         &mut self,
         rt: &R,

@@ -43,7 +43,7 @@ fn draw_token<R: RandomSource + Eprint + AllocGlobal>(rt: &R) -> Result<String, 
 }
 
 impl<R: Files<File = File> + Net + Clock + Eprint + AllocGlobal> Server<'_, R> {
-    // Looks at the show file. Where memory is short, what is told of it stays.
+    // Looks at the show file. If memory is short, what is told of it stays.
     fn renew(&mut self) -> io::Result<()> {
         let Some(renewed) = &mut self.renewed else {
             return Ok(());
@@ -104,7 +104,7 @@ fn say_where<W: Write>(alloc: Global, port: u16, writer: &mut W) -> Result<(), E
     print(writer, text.as_str())
 }
 
-// What the page is for; the word of its lock, where it has one, is this.
+// What the page is for; the word of its lock, if it has one, is this.
 fn purpose_of<'a>(page_use: &'a PageUse, word: Option<&'a str>) -> Purpose<'a> {
     match page_use {
         PageUse::Plays(_) => Purpose::Plays(word.map(|word| word.as_bytes())),

@@ -14,7 +14,7 @@ pub enum Came {
     Datagram { from: u16, n: usize },
 }
 
-// What a wait means that ended so; None where the socket failed.
+// What a wait means that ended so; None if the socket failed.
 fn meaning_of(kind: ErrorKind) -> Option<Came>
     ensures { result ≡ meaning_of kind }
 {
@@ -41,7 +41,7 @@ pub fn what_came(own: u16, received: io::Result<(usize, u16)>) -> io::Result<Cam
     }
 }
 
-/// The datagram that a look found at this time; None where nothing came, or noise.
+/// The datagram that a look found at this time; None if nothing came, or noise.
 pub fn waiting_of(came: Came, now: u64) -> Option<Waiting>
     ensures { result ≡ waiting_of came now }
 {

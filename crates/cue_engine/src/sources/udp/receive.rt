@@ -13,13 +13,13 @@ pub trait Receive {
     fn receive(&mut self, buffer: &mut [u8]) -> io::Result<(usize, u16)>
         ensures within { IfOk result (λ received. received.0 ≤ length buffer.old) };
 
-    /// The same of a datagram that is there already: it does not wait, and where none is there it is an error of the
+    /// The same of a datagram that is there already: it does not wait, and if none is there it is an error of the
     /// kind `WouldBlock`.
     fn receive_waiting(&mut self, buffer: &mut [u8]) -> io::Result<(usize, u16)>
         ensures within { IfOk result (λ received. received.0 ≤ length buffer.old) };
 }
 
-/// A socket that is waited at, or only looked at. It is set from one to the other where the calls change: of datagrams
+/// A socket that is waited at, or only looked at. It is set from one to the other if the calls change: of datagrams
 /// that wait together each but the first costs one system call.
 #[derive(Drop)]
 pub struct UdpReceiver<'a> {

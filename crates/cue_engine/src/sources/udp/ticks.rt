@@ -8,7 +8,7 @@ use crate::sources::source::Turn;
 /// The time between two ticks, in milliseconds.
 pub const TICK: u64 = 250;
 
-// Whether a tick is due: 250 ms after the last one, or where the clock was put back.
+// Whether a tick is due: 250 ms after the last one, or if the clock was put back.
 fn is_tick_due(last: u64, now: u64) -> bool
     ensures { result ≡ is_tick_due last now }
 {
@@ -29,7 +29,7 @@ impl Ticks {
         Ticks { last: now }
     }
 
-    /// The tick at this time, where one is due; then it is the last one.
+    /// The tick at this time, if one is due; then it is the last one.
     pub fn due(&mut self, now: u64) -> Option<Turn>
         ensures due { result ≡ tick_if_due self.old.last now }
         ensures last { self.new.last ≡ last_after self.old.last result }

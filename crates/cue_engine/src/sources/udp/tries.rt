@@ -16,13 +16,13 @@ pub trait Tries {
     /// What the tries to come bring; None for one that does not say.
     ghost left: { Self → Option (List Try) };
 
-    /// What comes next, or None where that is passed over.
+    /// What comes next, or None if that is passed over.
     fn try_next(&mut self, buffer: &mut [u8]) -> io::Result<Option<Turn>>
         ensures within { IfOk result (λ next. NextWithin next (length buffer.old)) }
         ensures tried { Tried (left self.old) (try_of result) (left self.new) };
 }
 
-/// The first turn of so many tries. It is a fault where all of them are passed over, or one fails before that turn.
+/// The first turn of so many tries. It is a fault if all of them are passed over, or one fails before that turn.
 pub fn first_turn<T: Tries>(
     tries: &mut T,
     most: u32,

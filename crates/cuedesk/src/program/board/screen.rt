@@ -49,7 +49,7 @@ impl Screen {
             .is_some_and(|shown| shown.as_str() == line)
     }
 
-    // Draws the lines that are not there yet; all of them where the picture is whole.
+    // Draws the lines that are not there yet; all of them if the picture is whole.
     fn push_lines(
         &self,
         text: &mut String,

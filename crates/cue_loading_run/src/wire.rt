@@ -6,11 +6,12 @@ use cue_desk::asking::{Asked, address, datagram};
 use cue_desk::ending::Ending;
 use cue_desk::hearing::{Heard, is_wanted, unheard};
 use cue_desk::replying::{Replied, read_reply};
+use cue_desk_run::local;
 use cue_osc::MAX_LEN;
 use cue_saying::say;
 use std::alloc::{AllocError, Global};
 use std::io::{Eprint, ErrorKind};
-use std::net::{IpAddr, Ipv4Addr, Net, SocketAddr, UdpSocket};
+use std::net::{Net, UdpSocket};
 use std::time::Duration;
 
 /// How long one silent wait is, in milliseconds.
@@ -26,11 +27,6 @@ const MAX_HEARD: u32 = 1_000;
 #[derive(Drop)]
 pub struct Wire {
     socket: UdpSocket,
-}
-
-// A port of this machine, which no other machine reaches.
-fn local(port: u16) -> SocketAddr {
-    SocketAddr::new(IpAddr::V4(Ipv4Addr::LOCALHOST), port)
 }
 
 // What a datagram of the controller says to who asked at this address.

@@ -1,5 +1,6 @@
 -- What the devices of an attempt have answered, and what each stage makes of it.
-use Rattle.std.specs.Prelude.{ℕ, Bool, true, false, not, ◌&&◌, ◌||◌, if◌then◌else◌, List, map, find, Option, nat_eq}
+use Rattle.std.specs.Prelude.{ℕ, Bool, true, false, not, ◌&&◌, ◌||◌, if◌then◌else◌, List, map, find, Option, None, Some, is_some}
+use Rattle.std.specs.Prelude.{nat_eq}
 use Rattle.std.specs.List.{list_any, list_all}
 use Rattle.std.specs.Option.{option_map}
 use Rattle.cue_show.specs.declared.part.Part.{Part}
@@ -8,113 +9,78 @@ use Rattle.cue_exchange.specs.declared.attempt.Answer.TheVariants.{Waiting, Read
 use Rattle.cue_exchange.specs.declared.attempt.Stage.{Stage}
 use Rattle.cue_exchange.specs.declared.attempt.Stage.TheVariants.{Preparing, Decided, Cancelling}
 use Rattle.cue_exchange.specs.declared.attempt.DeviceAnswer.{DeviceAnswer}
+use Rattle.cue_exchange.specs.declared.situation.Situation.{Situation}
+use Rattle.cue_exchange.specs.declared.situation.Situation.TheVariants as situation
 
 -- ---- one answer
 
 -- the device is still to answer
 abbrev pub is_waiting : Answer → Bool
 is_waiting Waiting = true
-is_waiting Ready = false
-is_waiting Done = false
-is_waiting LetGo = false
-is_waiting Failed = false
-is_waiting Excused = false
+is_waiting _ = false
 
 -- the device stands by
 abbrev pub is_ready : Answer → Bool
-is_ready Waiting = false
 is_ready Ready = true
-is_ready Done = false
-is_ready LetGo = false
-is_ready Failed = false
-is_ready Excused = false
+is_ready _ = false
 
 -- the device has carried the cue out
 abbrev pub is_done : Answer → Bool
-is_done Waiting = false
-is_done Ready = false
 is_done Done = true
-is_done LetGo = false
-is_done Failed = false
-is_done Excused = false
+is_done _ = false
 
 -- the cue may go without the device
 abbrev pub is_excused : Answer → Bool
-is_excused Waiting = false
-is_excused Ready = false
-is_excused Done = false
-is_excused LetGo = false
-is_excused Failed = false
 is_excused Excused = true
+is_excused _ = false
 
 -- ---- one stage
 
 -- the devices are asked to stand by
 abbrev pub is_preparing : Stage → Bool
 is_preparing Preparing = true
-is_preparing Decided = false
-is_preparing (Cancelling r) = false
+is_preparing _ = false
 
 -- the cue is carried out
 abbrev pub is_decided : Stage → Bool
-is_decided Preparing = false
 is_decided Decided = true
-is_decided (Cancelling r) = false
+is_decided _ = false
 
 -- the preparation is given up
 abbrev pub is_cancelling : Stage → Bool
-is_cancelling Preparing = false
-is_cancelling Decided = false
 is_cancelling (Cancelling r) = true
+is_cancelling _ = false
 
 -- the cue is carried out or given up
 abbrev pub is_concluding : Stage → Bool
 is_concluding Preparing = false
-is_concluding Decided = true
-is_concluding (Cancelling r) = true
+is_concluding _ = true
+
+-- where a device of a live attempt stands, by the stage and its answer; none where the stage has no such answer
+abbrev pub situation_of : Stage → Answer → Option Situation
+situation_of Preparing Waiting = Some situation.AskedToStandBy
+situation_of Preparing Ready = Some situation.StandsBy
+situation_of Preparing Excused = Some situation.Excused
+situation_of Decided Waiting = Some situation.AskedToGo
+situation_of Decided Done = Some situation.Done
+situation_of Decided Failed = Some situation.FailedAfterGo
+situation_of Decided Excused = Some situation.LeftOut
+situation_of (Cancelling r) Waiting = Some situation.AskedToLetGo
+situation_of (Cancelling r) LetGo = Some situation.LetGo
+situation_of (Cancelling r) Failed = Some situation.FailedAfterCancel
+situation_of _ _ = None
 
 -- the answers that a stage knows
 abbrev pub is_known_in : Stage → Answer → Bool
-is_known_in Preparing Waiting = true
-is_known_in Preparing Ready = true
-is_known_in Preparing Done = false
-is_known_in Preparing LetGo = false
-is_known_in Preparing Failed = false
-is_known_in Preparing Excused = true
-is_known_in Decided Waiting = true
-is_known_in Decided Ready = false
-is_known_in Decided Done = true
-is_known_in Decided LetGo = false
-is_known_in Decided Failed = true
-is_known_in Decided Excused = true
-is_known_in (Cancelling r) Waiting = true
-is_known_in (Cancelling r) Ready = false
-is_known_in (Cancelling r) Done = false
-is_known_in (Cancelling r) LetGo = true
-is_known_in (Cancelling r) Failed = true
-is_known_in (Cancelling r) Excused = false
+is_known_in stage answer = is_some (situation_of stage answer)
 
 -- what an answer becomes when its attempt enters the stage: each device is asked again, but for one that was excused,
 -- which is asked nothing more
 abbrev pub entering : Stage → Answer → Answer
-entering Preparing Waiting = Waiting
-entering Preparing Ready = Waiting
-entering Preparing Done = Waiting
-entering Preparing LetGo = Waiting
-entering Preparing Failed = Waiting
 entering Preparing Excused = Excused
-entering Decided Waiting = Waiting
-entering Decided Ready = Waiting
-entering Decided Done = Waiting
-entering Decided LetGo = Waiting
-entering Decided Failed = Waiting
 entering Decided Excused = Excused
-entering (Cancelling r) Waiting = Waiting
-entering (Cancelling r) Ready = Waiting
-entering (Cancelling r) Done = Waiting
-entering (Cancelling r) LetGo = Waiting
-entering (Cancelling r) Failed = Waiting
 entering (Cancelling r) Excused = LetGo
+entering _ _ = Waiting
 
 -- ---- a device with its answer
 

@@ -9,6 +9,7 @@ ghost use Rattle.cue_exchange.specs.Answers.{is_concluding, is_known_in, enterin
 
 use crate::answers::Answers;
 use crate::limits::MAX_NUMBER;
+use crate::situation::Situation;
 use cue_show::{CueNo, DeviceNo};
 use std::alloc::AllocError;
 
@@ -160,15 +161,7 @@ impl Stage {
     pub(crate) fn knows(self, answer: Answer) -> bool
         ensures { result ≡ is_known_in self answer }
     {
-        match (self, answer) {
-            (Stage::Preparing, Answer::Waiting | Answer::Ready | Answer::Excused) => true,
-            (Stage::Preparing, Answer::Done | Answer::LetGo | Answer::Failed) => false,
-            (Stage::Decided, Answer::Waiting | Answer::Done) => true,
-            (Stage::Decided, Answer::Failed | Answer::Excused) => true,
-            (Stage::Decided, Answer::Ready | Answer::LetGo) => false,
-            (Stage::Cancelling(_), Answer::Waiting | Answer::LetGo | Answer::Failed) => true,
-            (Stage::Cancelling(_), Answer::Ready | Answer::Done | Answer::Excused) => false,
-        }
+        Situation::of(self, answer).is_some()
     }
 }
 

@@ -26,8 +26,10 @@ mod holders;
 pub mod laws;
 pub mod limits;
 pub mod live;
+pub mod situation;
 mod steps;
 
 pub use answers::Answers;
 pub use attempt::{Answer, Attempt, DeviceAnswer, Outcome, Reason, Stage};
 pub use live::Live;
+pub use situation::Situation;

@@ -1,18 +1,31 @@
--- Answers of devices to one attempt.
-use Rattle.std.specs.Prelude.{◌≡◌, ◌≢◌, ℕ, Bool, true, false, IsTrue}
+-- The situations of the devices of an attempt, and their answers to it.
+use Rattle.std.specs.Prelude.{◌≡◌, ◌≢◌, ℕ, Bool, true, false, is_some, IsTrue}
+use Rattle.std.specs.List.{list_all}
+use Rattle.cue_exchange.specs.declared.attempt.DeviceAnswer.{DeviceAnswer}
+use Rattle.cue_exchange.specs.declared.attempt.Stage.{Stage}
+use Rattle.cue_exchange.specs.Answers.{situation_of}
 use Rattle.cue_exchange.specs.Live.{attempt_of}
 use Rattle.cue_core.specs.declared.command.AnswerKind.{AnswerKind}
 use Rattle.cue_core.specs.declared.command.Verdict.{Verdict}
-use Rattle.cue_core.specs.declared.command.Verdict.TheVariants.{Made, Known, No}
+use Rattle.cue_core.specs.declared.command.Verdict.TheVariants.{Made}
 use Rattle.cue_core.specs.State.{ShowState, is_state}
 use Rattle.cue_core.specs.Steps.{after_events}
 use Rattle.cue_core.specs.Judge.{on_answer}
 
+-- the device of an attempt of this stage is in one of the ten situations
+abbrev pub has_situation : Stage → DeviceAnswer → Bool
+has_situation stage x = is_some (situation_of stage x.answer)
+
+-- Each device of each live attempt is in one of the ten situations, so the tables of answers and of release leave none
+-- out.
+abbrev pub EachHasASituation : Type 0
+EachHasASituation =
+    (s : ShowState) → IsTrue (is_state s) → IsTrue (list_all (λ a. list_all (has_situation a.stage) a.answers) s.live)
+
 -- the command was carried out
 abbrev pub is_made : Verdict → Bool
 is_made Made = true
-is_made Known = false
-is_made (No c) = false
+is_made _ = false
 
 -- what an answer says, of which device to which attempt, and the port that it came from
 pub record Said : Type 0 where

@@ -7,8 +7,7 @@ use Rattle.cue_exchange.specs.declared.attempt.Attempt.{Attempt}
 use Rattle.cue_exchange.specs.Answers.{devices_of, is_preparing, is_decided, is_ready, answer_passes}
 use Rattle.cue_exchange.specs.Live.{attempt_of, devices_in, is_among}
 use Rattle.cue_core.specs.declared.event.Event.{Event}
-use Rattle.cue_core.specs.declared.event.Event.TheVariants.{Device, NoDevice, Cue, NoCue, Place, Start, Ready, Go, Done}
-use Rattle.cue_core.specs.declared.event.Event.TheVariants.{Cancel, LetGo, Failed, Excuse}
+use Rattle.cue_core.specs.declared.event.Event.TheVariants.{Start}
 use Rattle.cue_core.specs.State.{ShowState, empty_state, cue_parts, are_of_parts}
 use Rattle.cue_core.specs.Steps.{acceptable, after}
 use Rattle.cue_core.specs.Events.{is_start, is_start_of, is_ready_of, is_go_of, is_end_of, is_excuse_of}
@@ -25,19 +24,8 @@ is_history (e ∷ past) = acceptable (state_of past) e && is_history past
 
 -- the parts of the cue at which an attempt starts
 abbrev pub parts_started : ShowState → Event → List Part
-parts_started s (Device d port) = []
-parts_started s (NoDevice d) = []
-parts_started s (Cue c parts) = []
-parts_started s (NoCue c) = []
-parts_started s (Place c) = []
 parts_started s (Start q c t) = cue_parts s.show c
-parts_started s (Ready q d) = []
-parts_started s (Go q) = []
-parts_started s (Done q d) = []
-parts_started s (Cancel q r) = []
-parts_started s (LetGo q d) = []
-parts_started s (Failed q d) = []
-parts_started s (Excuse q d) = []
+parts_started s _ = []
 
 -- the parts of q are those of its cue at its Start
 abbrev pub parts_by : List Event → ℕ → List Part

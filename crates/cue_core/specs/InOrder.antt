@@ -3,8 +3,7 @@ use Rattle.std.specs.Prelude.{ℕ, Bool, true, not, ◌&&◌, ◌||◌, List, []
 use Rattle.std.specs.List.{list_any, list_all}
 use Rattle.cue_show.specs.declared.part.Part.{Part}
 use Rattle.cue_core.specs.declared.event.Event.{Event}
-use Rattle.cue_core.specs.declared.event.Event.TheVariants.{Device, NoDevice, Cue, NoCue, Place, Start, Ready, Go, Done}
-use Rattle.cue_core.specs.declared.event.Event.TheVariants.{Cancel, LetGo, Failed, Excuse}
+use Rattle.cue_core.specs.declared.event.Event.TheVariants.{Go, Cancel}
 use Rattle.cue_core.specs.Events.{is_start_of, is_go_of, is_cancel_of}
 use Rattle.cue_core.specs.History.{is_history, parts_by, stood_by, was_excused}
 
@@ -15,21 +14,11 @@ may_go_by past q p = stood_by past q p.device || (p.optional && was_excused past
 -- what must have been accepted before the event: before Go, the Start, Ready of each required device, Ready or Excuse
 -- of each optional one, and no Cancel; before Cancel, no Go
 abbrev pub keeps_order : List Event → Event → Bool
-keeps_order past (Device d port) = true
-keeps_order past (NoDevice d) = true
-keeps_order past (Cue c parts) = true
-keeps_order past (NoCue c) = true
-keeps_order past (Place c) = true
-keeps_order past (Start q c t) = true
-keeps_order past (Ready q d) = true
 keeps_order past (Go q) =
     list_any (is_start_of q) past && (list_all (may_go_by past q) (parts_by past q)
     && not (list_any (is_cancel_of q) past))
-keeps_order past (Done q d) = true
 keeps_order past (Cancel q r) = not (list_any (is_go_of q) past)
-keeps_order past (LetGo q d) = true
-keeps_order past (Failed q d) = true
-keeps_order past (Excuse q d) = true
+keeps_order past _ = true
 
 -- each event of the history keeps the order
 abbrev pub is_in_order : List Event → Bool

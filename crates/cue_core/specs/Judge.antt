@@ -9,13 +9,13 @@ use Rattle.cue_show.specs.Parts.{are_parts, same_parts}
 use Rattle.cue_show.specs.Show.{port_of, parts_of, has_cue, is_used, is_place, has_device, are_known, is_full}
 use Rattle.cue_exchange.specs.declared.limits.TheConstants.{MAX_NUMBER}
 use Rattle.cue_exchange.specs.declared.attempt.Answer.{Answer}
-use Rattle.cue_exchange.specs.declared.attempt.Answer.TheVariants as answer
 use Rattle.cue_exchange.specs.declared.attempt.Reason.TheVariants.{Operator, Abort, Release}
 use Rattle.cue_exchange.specs.declared.attempt.Stage.{Stage}
-use Rattle.cue_exchange.specs.declared.attempt.Stage.TheVariants.{Preparing, Decided, Cancelling}
 use Rattle.cue_exchange.specs.declared.attempt.DeviceAnswer.{DeviceAnswer}
 use Rattle.cue_exchange.specs.declared.attempt.Attempt.{Attempt}
-use Rattle.cue_exchange.specs.Answers.{is_preparing, is_decided, is_cancelling, device_answer}
+use Rattle.cue_exchange.specs.declared.situation.Situation.{Situation}
+use Rattle.cue_exchange.specs.declared.situation.Situation.TheVariants as situation
+use Rattle.cue_exchange.specs.Answers.{is_preparing, is_decided, is_cancelling, situation_of, device_answer}
 use Rattle.cue_exchange.specs.Live.{devices_in, attempt_of, attempt_of_cue, attempt_of_device, is_time, is_number}
 use Rattle.cue_exchange.specs.Steps.{are_free, has_room, can_go_now}
 use Rattle.cue_core.specs.declared.limits.TheConstants.{STANDBY_MS}
@@ -73,11 +73,13 @@ first_line (l ∷ ls) last = if l.0 then l.1 else first_line ls last
 
 -- ---- the device table and the cue stack
 
+-- a device enters the table with its port
 abbrev pub on_add_device : ShowState → ℕ → ℕ → Judgement
 on_add_device s d port =
     option_map_or (λ p. if nat_eq p port then known_already else refused_with code.Duplicate)
     (port_of s.show d) (made_by (event.Device d port ∷ []))
 
+-- a device leaves the table, where no cue has a part for it
 abbrev pub on_remove_device : ShowState → ℕ → Judgement
 on_remove_device s d =
     first_line (
@@ -93,9 +95,11 @@ on_new_cue s c parts =
     (parts_of s.show c)
     (if is_full s.show then refused_with code.Full else made_by (event.Cue c parts ∷ []))
 
+-- a cue comes to the end of the stack, where its devices are in the table
 abbrev pub on_add_cue : ShowState → List ℕ → List Part → Judgement
 on_add_cue s c parts = if not (are_known s.show parts) then refused_with code.UnknownDevice else on_new_cue s c parts
 
+-- the operator goes to a cue
 abbrev pub on_goto : ShowState → List ℕ → Judgement
 on_goto s c =
     first_line (
@@ -104,6 +108,7 @@ on_goto s c =
     ∷ [])
     (made_by (event.Place c ∷ []))
 
+-- a cue leaves the stack, where no attempt at it is live
 abbrev pub on_remove_cue : ShowState → List ℕ → Judgement
 on_remove_cue s c =
     first_line (
@@ -130,9 +135,11 @@ on_standby_of s now c parts =
     ∷ [])
     (made_by (event.Start (s.last_seq + 1) c (now + STANDBY_MS) ∷ []))
 
+-- a cue is to be prepared
 abbrev pub on_standby : ShowState → ℕ → List ℕ → Judgement
 on_standby s now c = option_map_or (on_standby_of s now c) (parts_of s.show c) (refused_with code.NoMethod)
 
+-- the attempt is to be carried out, once each of its devices may go
 abbrev pub on_go_of : Attempt → Judgement
 on_go_of a =
     first_line (
@@ -141,11 +148,13 @@ on_go_of a =
     ∷ [])
     (refused_with code.NotReady)
 
+-- a cue is to be carried out
 abbrev pub on_go : ShowState → List ℕ → Judgement
 on_go s c =
     if not (has_cue s.show c) then refused_with code.NoMethod
     else option_map_or on_go_of (attempt_of_cue s.live c) (refused_with code.NotLive)
 
+-- the attempt is to be given up, where it was not decided
 abbrev pub on_cancel_of : Attempt → Judgement
 on_cancel_of a =
     first_line (
@@ -154,6 +163,7 @@ on_cancel_of a =
     ∷ [])
     (made_by (event.Cancel a.seq Operator ∷ []))
 
+-- a cue is to be given up
 abbrev pub on_cancel : ShowState → List ℕ → Judgement
 on_cancel s c =
     if not (has_cue s.show c) then refused_with code.NoMethod
@@ -166,99 +176,75 @@ release_early q x =
     if x.optional then made_by (event.Excuse q x.device ∷ [])
     else made_by (event.Cancel q Release ∷ event.LetGo q x.device ∷ [])
 
--- the operator waits no longer for the device: the attempt, the device as it is recorded, the stage, and the answer
--- of the record
-abbrev pub on_release_in : ℕ → DeviceAnswer → Stage → Answer → Judgement
-on_release_in q x Preparing answer.Waiting = release_early q x
-on_release_in q x Preparing answer.Ready = release_early q x
-on_release_in q x Preparing answer.Done = release_early q x
-on_release_in q x Preparing answer.LetGo = release_early q x
-on_release_in q x Preparing answer.Failed = release_early q x
-on_release_in q x Preparing answer.Excused = known_already
-on_release_in q x Decided answer.Waiting = made_by (event.Failed q x.device ∷ [])
-on_release_in q x Decided answer.Ready = known_already
-on_release_in q x Decided answer.Done = known_already
-on_release_in q x Decided answer.LetGo = known_already
-on_release_in q x Decided answer.Failed = known_already
-on_release_in q x Decided answer.Excused = known_already
-on_release_in q x (Cancelling r) answer.Waiting = made_by (event.LetGo q x.device ∷ [])
-on_release_in q x (Cancelling r) answer.Ready = known_already
-on_release_in q x (Cancelling r) answer.Done = known_already
-on_release_in q x (Cancelling r) answer.LetGo = known_already
-on_release_in q x (Cancelling r) answer.Failed = known_already
-on_release_in q x (Cancelling r) answer.Excused = known_already
+-- the operator waits no longer for the device: the attempt, the device as it is recorded, and its situation
+abbrev pub on_release_at : ℕ → DeviceAnswer → Situation → Judgement
+on_release_at q x situation.AskedToStandBy = release_early q x
+on_release_at q x situation.StandsBy = release_early q x
+on_release_at q x situation.Excused = known_already
+on_release_at q x situation.AskedToGo = made_by (event.Failed q x.device ∷ [])
+on_release_at q x situation.Done = known_already
+on_release_at q x situation.FailedAfterGo = known_already
+on_release_at q x situation.LeftOut = known_already
+on_release_at q x situation.AskedToLetGo = made_by (event.LetGo q x.device ∷ [])
+on_release_at q x situation.LetGo = known_already
+on_release_at q x situation.FailedAfterCancel = known_already
 
--- a device of a live attempt is let go of
+-- the same by the stage of the attempt and what the device has answered so far, which tell its situation: each device
+-- of a live attempt has one (`EachHasASituation`)
+abbrev pub on_release_in : ℕ → DeviceAnswer → Stage → Answer → Judgement
+on_release_in q x stage given = option_map_or (on_release_at q x) (situation_of stage given) known_already
+
+-- the operator waits no longer for a device of the attempt
 abbrev pub on_release_of : ℕ → Attempt → Judgement
 on_release_of d a =
     option_map_or (λ x. on_release_in a.seq x a.stage x.answer) (device_answer a.answers d) (refused_with code.NotLive)
 
+-- the operator waits no longer for a device
 abbrev pub on_release : ShowState → ℕ → Judgement
 on_release s d =
     if not (has_device s.show d) then refused_with code.NoMethod
     else option_map_or (on_release_of d) (attempt_of_device s.live d) (refused_with code.NotLive)
 
--- ---- the table of answers: the attempt, the device as it is recorded, the stage, and the answer of the record
+-- ---- the table of answers: the attempt, the device as it is recorded, and its situation
 
-abbrev pub on_standing_by : ℕ → DeviceAnswer → Stage → Answer → Judgement
-on_standing_by q x Preparing answer.Waiting = made_by (event.Ready q x.device ∷ [])
-on_standing_by q x Preparing answer.Ready = known_already
-on_standing_by q x Preparing answer.Done = known_already
-on_standing_by q x Preparing answer.LetGo = known_already
-on_standing_by q x Preparing answer.Failed = known_already
-on_standing_by q x Preparing answer.Excused = refused_with code.Stale
-on_standing_by q x Decided answer.Waiting = known_already
-on_standing_by q x Decided answer.Ready = known_already
-on_standing_by q x Decided answer.Done = known_already
-on_standing_by q x Decided answer.LetGo = known_already
-on_standing_by q x Decided answer.Failed = refused_with code.Stale
-on_standing_by q x Decided answer.Excused = refused_with code.Stale
-on_standing_by q x (Cancelling r) answer.Waiting = refused_with code.Stale
-on_standing_by q x (Cancelling r) answer.Ready = refused_with code.Stale
-on_standing_by q x (Cancelling r) answer.Done = refused_with code.Stale
-on_standing_by q x (Cancelling r) answer.LetGo = refused_with code.Stale
-on_standing_by q x (Cancelling r) answer.Failed = refused_with code.Stale
-on_standing_by q x (Cancelling r) answer.Excused = refused_with code.Stale
+-- the device says that it stands by
+abbrev pub on_standing_by : ℕ → DeviceAnswer → Situation → Judgement
+on_standing_by q x situation.AskedToStandBy = made_by (event.Ready q x.device ∷ [])
+on_standing_by q x situation.StandsBy = known_already
+on_standing_by q x situation.Excused = refused_with code.Stale
+on_standing_by q x situation.AskedToGo = known_already
+on_standing_by q x situation.Done = known_already
+on_standing_by q x situation.FailedAfterGo = refused_with code.Stale
+on_standing_by q x situation.LeftOut = refused_with code.Stale
+on_standing_by q x situation.AskedToLetGo = refused_with code.Stale
+on_standing_by q x situation.LetGo = refused_with code.Stale
+on_standing_by q x situation.FailedAfterCancel = refused_with code.Stale
 
-abbrev pub on_complete : ℕ → DeviceAnswer → Stage → Answer → Judgement
-on_complete q x Preparing answer.Waiting = refused_with code.Early
-on_complete q x Preparing answer.Ready = refused_with code.Early
-on_complete q x Preparing answer.Done = refused_with code.Early
-on_complete q x Preparing answer.LetGo = refused_with code.Early
-on_complete q x Preparing answer.Failed = refused_with code.Early
-on_complete q x Preparing answer.Excused = refused_with code.Early
-on_complete q x Decided answer.Waiting = made_by (event.Done q x.device ∷ [])
-on_complete q x Decided answer.Ready = refused_with code.Stale
-on_complete q x Decided answer.Done = known_already
-on_complete q x Decided answer.LetGo = refused_with code.Stale
-on_complete q x Decided answer.Failed = refused_with code.Stale
-on_complete q x Decided answer.Excused = refused_with code.Stale
-on_complete q x (Cancelling r) answer.Waiting = refused_with code.Stale
-on_complete q x (Cancelling r) answer.Ready = refused_with code.Stale
-on_complete q x (Cancelling r) answer.Done = refused_with code.Stale
-on_complete q x (Cancelling r) answer.LetGo = refused_with code.Stale
-on_complete q x (Cancelling r) answer.Failed = refused_with code.Stale
-on_complete q x (Cancelling r) answer.Excused = refused_with code.Stale
+-- the device says that it has carried the cue out
+abbrev pub on_complete : ℕ → DeviceAnswer → Situation → Judgement
+on_complete q x situation.AskedToStandBy = refused_with code.Early
+on_complete q x situation.StandsBy = refused_with code.Early
+on_complete q x situation.Excused = refused_with code.Early
+on_complete q x situation.AskedToGo = made_by (event.Done q x.device ∷ [])
+on_complete q x situation.Done = known_already
+on_complete q x situation.FailedAfterGo = refused_with code.Stale
+on_complete q x situation.LeftOut = refused_with code.Stale
+on_complete q x situation.AskedToLetGo = refused_with code.Stale
+on_complete q x situation.LetGo = refused_with code.Stale
+on_complete q x situation.FailedAfterCancel = refused_with code.Stale
 
-abbrev pub on_cancelled : ℕ → DeviceAnswer → Stage → Answer → Judgement
-on_cancelled q x Preparing answer.Waiting = refused_with code.Early
-on_cancelled q x Preparing answer.Ready = refused_with code.Early
-on_cancelled q x Preparing answer.Done = refused_with code.Early
-on_cancelled q x Preparing answer.LetGo = refused_with code.Early
-on_cancelled q x Preparing answer.Failed = refused_with code.Early
-on_cancelled q x Preparing answer.Excused = refused_with code.Early
-on_cancelled q x Decided answer.Waiting = refused_with code.Decided
-on_cancelled q x Decided answer.Ready = refused_with code.Decided
-on_cancelled q x Decided answer.Done = refused_with code.Decided
-on_cancelled q x Decided answer.LetGo = refused_with code.Decided
-on_cancelled q x Decided answer.Failed = refused_with code.Decided
-on_cancelled q x Decided answer.Excused = refused_with code.Decided
-on_cancelled q x (Cancelling r) answer.Waiting = made_by (event.LetGo q x.device ∷ [])
-on_cancelled q x (Cancelling r) answer.Ready = refused_with code.Stale
-on_cancelled q x (Cancelling r) answer.Done = refused_with code.Stale
-on_cancelled q x (Cancelling r) answer.LetGo = known_already
-on_cancelled q x (Cancelling r) answer.Failed = refused_with code.Stale
-on_cancelled q x (Cancelling r) answer.Excused = refused_with code.Stale
+-- the device says that it has given the preparation up
+abbrev pub on_cancelled : ℕ → DeviceAnswer → Situation → Judgement
+on_cancelled q x situation.AskedToStandBy = refused_with code.Early
+on_cancelled q x situation.StandsBy = refused_with code.Early
+on_cancelled q x situation.Excused = refused_with code.Early
+on_cancelled q x situation.AskedToGo = refused_with code.Decided
+on_cancelled q x situation.Done = refused_with code.Decided
+on_cancelled q x situation.FailedAfterGo = refused_with code.Decided
+on_cancelled q x situation.LeftOut = refused_with code.Decided
+on_cancelled q x situation.AskedToLetGo = made_by (event.LetGo q x.device ∷ [])
+on_cancelled q x situation.LetGo = known_already
+on_cancelled q x situation.FailedAfterCancel = refused_with code.Stale
 
 -- a device of a Preparing attempt cannot go on: an optional one is excused, and for a required one the preparation is
 -- given up
@@ -272,33 +258,32 @@ abort_early q x =
 abbrev pub abort_late : ℕ → DeviceAnswer → Judgement
 abort_late q x = if x.optional then made_by (event.LetGo q x.device ∷ []) else made_by (event.Failed q x.device ∷ [])
 
-abbrev pub on_abort : ℕ → DeviceAnswer → Stage → Answer → Judgement
-on_abort q x Preparing answer.Waiting = abort_early q x
-on_abort q x Preparing answer.Ready = abort_early q x
-on_abort q x Preparing answer.Done = abort_early q x
-on_abort q x Preparing answer.LetGo = abort_early q x
-on_abort q x Preparing answer.Failed = abort_early q x
-on_abort q x Preparing answer.Excused = known_already
-on_abort q x Decided answer.Waiting = made_by (event.Failed q x.device ∷ [])
-on_abort q x Decided answer.Ready = refused_with code.Stale
-on_abort q x Decided answer.Done = refused_with code.Stale
-on_abort q x Decided answer.LetGo = refused_with code.Stale
-on_abort q x Decided answer.Failed = known_already
-on_abort q x Decided answer.Excused = known_already
-on_abort q x (Cancelling r) answer.Waiting = abort_late q x
-on_abort q x (Cancelling r) answer.Ready = refused_with code.Stale
-on_abort q x (Cancelling r) answer.Done = refused_with code.Stale
-on_abort q x (Cancelling r) answer.LetGo = refused_with code.Stale
-on_abort q x (Cancelling r) answer.Failed = known_already
-on_abort q x (Cancelling r) answer.Excused = refused_with code.Stale
+-- the device says that it cannot go on
+abbrev pub on_abort : ℕ → DeviceAnswer → Situation → Judgement
+on_abort q x situation.AskedToStandBy = abort_early q x
+on_abort q x situation.StandsBy = abort_early q x
+on_abort q x situation.Excused = known_already
+on_abort q x situation.AskedToGo = made_by (event.Failed q x.device ∷ [])
+on_abort q x situation.Done = refused_with code.Stale
+on_abort q x situation.FailedAfterGo = known_already
+on_abort q x situation.LeftOut = known_already
+on_abort q x situation.AskedToLetGo = abort_late q x
+on_abort q x situation.LetGo = refused_with code.Stale
+on_abort q x situation.FailedAfterCancel = known_already
 
+-- each kind of answer has its column
+abbrev pub on_answer_at : AnswerKind → ℕ → DeviceAnswer → Situation → Judgement
+on_answer_at answer_kind.StandingBy = on_standing_by
+on_answer_at answer_kind.Complete = on_complete
+on_answer_at answer_kind.Cancelled = on_cancelled
+on_answer_at answer_kind.Abort = on_abort
+
+-- the same by the stage of the attempt and what the device has answered so far
 abbrev pub on_answer_in : AnswerKind → ℕ → DeviceAnswer → Stage → Answer → Judgement
-on_answer_in answer_kind.StandingBy = on_standing_by
-on_answer_in answer_kind.Complete = on_complete
-on_answer_in answer_kind.Cancelled = on_cancelled
-on_answer_in answer_kind.Abort = on_abort
+on_answer_in kind q x stage given =
+    option_map_or (on_answer_at kind q x) (situation_of stage given) (refused_with code.Stale)
 
--- an answer to a live attempt
+-- an answer of the device d to a live attempt
 abbrev pub on_answer_to : AnswerKind → ℕ → Attempt → Judgement
 on_answer_to kind d a =
     option_map_or (λ x. on_answer_in kind a.seq x a.stage x.answer) (device_answer a.answers d)
@@ -308,6 +293,8 @@ on_answer_to kind d a =
 abbrev pub is_from_another : ShowState → ℕ → ℕ → Bool
 is_from_another s d from = option_map_or (λ port. not (nat_eq port from)) (port_of s.show d) true
 
+-- an answer of the device d to the attempt q counts from the port of that device alone, and for a number that was
+-- drawn
 abbrev pub on_answer : ShowState → ℕ → AnswerKind → ℕ → ℕ → Judgement
 on_answer s from kind d q =
     first_line (

@@ -12,15 +12,13 @@ use Rattle.cue_core.specs.Pending.{Order, standby, go_2pc, cancel, pending}
 
 -- the device d is ordered to carry the cue out in q
 abbrev pub is_go_to : ℕ → ℕ → Order → Bool
-is_go_to q d (standby p e c b) = false
 is_go_to q d (go_2pc p e) = nat_eq p q && nat_eq e d
-is_go_to q d (cancel p e) = false
+is_go_to q d _ = false
 
 -- the device d is ordered to give the preparation up in q
 abbrev pub is_cancel_to : ℕ → ℕ → Order → Bool
-is_cancel_to q d (standby p e c b) = false
-is_cancel_to q d (go_2pc p e) = false
 is_cancel_to q d (cancel p e) = nat_eq p q && nat_eq e d
+is_cancel_to q d _ = false
 
 -- the device d is ordered anything in q
 abbrev pub is_order_to : ℕ → ℕ → Order → Bool
@@ -32,10 +30,11 @@ is_order_to q d (cancel p e) = nat_eq p q && nat_eq e d
 abbrev pub asks : ℕ → ℕ → ShowState → Bool
 asks q d s = list_any (λ (o : ℕ × Order). is_order_to q d o.1) (pending s)
 
--- the state asks the device to go, or to cancel
+-- the state asks the device to go in q
 abbrev pub asks_to_go : ℕ → ℕ → ShowState → Bool
 asks_to_go q d s = list_any (λ (o : ℕ × Order). is_go_to q d o.1) (pending s)
 
+-- the state asks the device to cancel in q
 abbrev pub asks_to_cancel : ℕ → ℕ → ShowState → Bool
 asks_to_cancel q d s = list_any (λ (o : ℕ × Order). is_cancel_to q d o.1) (pending s)
 

@@ -8,7 +8,7 @@ ghost use Rattle.cue_core.specs.History.{FactsByHistory};
 ghost use Rattle.cue_core.specs.Happenings.{CommandsInOrder, CommandsMakeHistories};
 ghost use Rattle.cue_core.specs.InOrder.{GoAfterReady};
 ghost use Rattle.cue_core.specs.InTurn.{StepsAreAcceptable, StepsGoOn, StepsMakeHistories};
-ghost use Rattle.cue_core.specs.Answers.{AnswersCommute, AnswersLeaveOthers};
+ghost use Rattle.cue_core.specs.Answers.{AnswersCommute, AnswersLeaveOthers, EachHasASituation};
 ghost use Rattle.cue_core.specs.Safety.{DecidedStays, NeverAskedBoth, NothingMoreIsAsked, OneHolder};
 
 /// Every state that acceptable events lead to from the empty one is what its history says: the last number is the
@@ -58,6 +58,12 @@ pub fn one_holder()
 /// A decided attempt never becomes another: it is Decided for as long as it is live.
 pub fn decided_stays()
     ensures { DecidedStays }
+{}
+
+/// Each device of each live attempt is in one of the ten situations that the tables of answers and of release go
+/// through: they leave none out.
+pub fn each_has_a_situation()
+    ensures { EachHasASituation }
 {}
 
 /// A device's answer leaves every other attempt, the show, the place and the last number as they were.

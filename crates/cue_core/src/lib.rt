@@ -8,9 +8,9 @@
 //! command.
 //!
 //! Why it is so:
-//! - The tables of answers and of release get the device's whole answer record, and write out each stage with each
-//!   answer, in `specs/` and in code. So a further kind of answer is a line that somebody has to write, and never falls
-//!   into another line.
+//! - The tables of answers and of release get the device's whole answer record, and write out each situation that a
+//!   device of a live attempt can be in, in `specs/` and in code. So a further situation is a line that somebody has to
+//!   write, and never falls into another line.
 //! - Release and abort of an optional device are one event, Excuse, while its attempt prepares: two events would leave
 //!   the same state. In an attempt that is given up, `abort` of an optional device counts it as let go, and of a
 //!   required one as failed; the outcome is the same.

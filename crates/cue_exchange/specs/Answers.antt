@@ -56,7 +56,7 @@ abbrev pub is_concluding : Stage → Bool
 is_concluding Preparing = false
 is_concluding _ = true
 
--- where a device of a live attempt stands, by the stage and its answer; none where the stage has no such answer
+-- the situation of a device of a live attempt, by the stage and its answer; none where the stage has no such answer
 abbrev pub situation_of : Stage → Answer → Option Situation
 situation_of Preparing Waiting = Some situation.AskedToStandBy
 situation_of Preparing Ready = Some situation.StandsBy

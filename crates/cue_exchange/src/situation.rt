@@ -1,10 +1,10 @@
-//! Where a device of a live attempt stands.
+//! The situations that a device of a live attempt can be in.
 ghost use Rattle.std.specs.Prelude.{◌≡◌};
 ghost use Rattle.cue_exchange.specs.Answers.{situation_of};
 
 use crate::attempt::{Answer, Stage};
 
-/// Where a device of a live attempt stands: what it was ordered last, and what it has answered to that.
+/// The situation of a device of a live attempt: what it was ordered last, and what it has answered to that.
 #[derive(Clone, Copy, PartialEq, Eq, Debug)]
 pub enum Situation {
     /// While the attempt prepares: it is still to stand by.

@@ -5,13 +5,13 @@ use Rattle.std.specs.List.{list_any}
 use Rattle.std.specs.Option.{option_map_or}
 use Rattle.cue_show.specs.Show.{has_device}
 use Rattle.cue_exchange.specs.declared.attempt.Answer.{Answer}
-use Rattle.cue_exchange.specs.declared.attempt.Answer.TheVariants as answer
 use Rattle.cue_exchange.specs.declared.attempt.Reason.TheVariants.{Abort, Release}
 use Rattle.cue_exchange.specs.declared.attempt.Stage.{Stage}
-use Rattle.cue_exchange.specs.declared.attempt.Stage.TheVariants.{Preparing, Decided, Cancelling}
 use Rattle.cue_exchange.specs.declared.attempt.DeviceAnswer.{DeviceAnswer}
 use Rattle.cue_exchange.specs.declared.attempt.Attempt.{Attempt}
-use Rattle.cue_exchange.specs.Answers.{device_answer}
+use Rattle.cue_exchange.specs.declared.situation.Situation.{Situation}
+use Rattle.cue_exchange.specs.declared.situation.Situation.TheVariants as situation
+use Rattle.cue_exchange.specs.Answers.{situation_of, device_answer}
 use Rattle.cue_exchange.specs.Live.{attempt_of, has_number}
 use Rattle.cue_core.specs.declared.event.Event.{Event}
 use Rattle.cue_core.specs.declared.event.Event.TheVariants as event
@@ -27,7 +27,9 @@ use Rattle.cue_core.specs.State.{ShowState}
 use Rattle.cue_core.specs.InTurn.{steps, events_of}
 use Rattle.cue_core.specs.Steps.{after_events}
 use Rattle.cue_core.specs.Judge.{Judgement, judgement_of, made_by, refused_with, abort_early, abort_late, release_early}
-use Rattle.cue_core.specs.Judge.{on_answer, on_answer_in, on_answer_to, on_release_in, on_release_of, is_from_another}
+use Rattle.cue_core.specs.Judge.{on_standing_by, on_complete, on_cancelled, on_abort, on_answer, on_answer_at}
+use Rattle.cue_core.specs.Judge.{on_answer_in, on_answer_to, on_release_at, on_release_in, on_release_of}
+use Rattle.cue_core.specs.Judge.{is_from_another}
 use Rattle.cue_core.proofs.lists.AnyLemmas.{any-append}
 use Rattle.cue_core.proofs.live.FindingLemmas.{found_passes}
 use Rattle.cue_core.proofs.verdicts.CellLemmas.{device_found}
@@ -56,47 +58,13 @@ refused-lacks = record { none = refl }
 
 -- ---- the tables
 
-complete-lacks : (q e n : ℕ) (x : DeviceAnswer) (g : Stage) (w : Answer)
-    → LacksReady q e (on_answer_in answer_kind.Complete n x g w)
-complete-lacks q e n x Preparing answer.Waiting = record { none = refl }
-complete-lacks q e n x Preparing answer.Ready = record { none = refl }
-complete-lacks q e n x Preparing answer.Done = record { none = refl }
-complete-lacks q e n x Preparing answer.LetGo = record { none = refl }
-complete-lacks q e n x Preparing answer.Failed = record { none = refl }
-complete-lacks q e n x Preparing answer.Excused = record { none = refl }
-complete-lacks q e n x Decided answer.Waiting = record { none = refl }
-complete-lacks q e n x Decided answer.Ready = record { none = refl }
-complete-lacks q e n x Decided answer.Done = record { none = refl }
-complete-lacks q e n x Decided answer.LetGo = record { none = refl }
-complete-lacks q e n x Decided answer.Failed = record { none = refl }
-complete-lacks q e n x Decided answer.Excused = record { none = refl }
-complete-lacks q e n x (Cancelling r) answer.Waiting = record { none = refl }
-complete-lacks q e n x (Cancelling r) answer.Ready = record { none = refl }
-complete-lacks q e n x (Cancelling r) answer.Done = record { none = refl }
-complete-lacks q e n x (Cancelling r) answer.LetGo = record { none = refl }
-complete-lacks q e n x (Cancelling r) answer.Failed = record { none = refl }
-complete-lacks q e n x (Cancelling r) answer.Excused = record { none = refl }
+complete-lacks : (q e n : ℕ) (x : DeviceAnswer) (z : Situation) → LacksReady q e (on_complete n x z)
+complete-lacks q e n x situation.AskedToGo = record { none = refl }
+complete-lacks q e n x _ = record { none = refl }
 
-cancelled-lacks : (q e n : ℕ) (x : DeviceAnswer) (g : Stage) (w : Answer)
-    → LacksReady q e (on_answer_in answer_kind.Cancelled n x g w)
-cancelled-lacks q e n x Preparing answer.Waiting = record { none = refl }
-cancelled-lacks q e n x Preparing answer.Ready = record { none = refl }
-cancelled-lacks q e n x Preparing answer.Done = record { none = refl }
-cancelled-lacks q e n x Preparing answer.LetGo = record { none = refl }
-cancelled-lacks q e n x Preparing answer.Failed = record { none = refl }
-cancelled-lacks q e n x Preparing answer.Excused = record { none = refl }
-cancelled-lacks q e n x Decided answer.Waiting = record { none = refl }
-cancelled-lacks q e n x Decided answer.Ready = record { none = refl }
-cancelled-lacks q e n x Decided answer.Done = record { none = refl }
-cancelled-lacks q e n x Decided answer.LetGo = record { none = refl }
-cancelled-lacks q e n x Decided answer.Failed = record { none = refl }
-cancelled-lacks q e n x Decided answer.Excused = record { none = refl }
-cancelled-lacks q e n x (Cancelling r) answer.Waiting = record { none = refl }
-cancelled-lacks q e n x (Cancelling r) answer.Ready = record { none = refl }
-cancelled-lacks q e n x (Cancelling r) answer.Done = record { none = refl }
-cancelled-lacks q e n x (Cancelling r) answer.LetGo = record { none = refl }
-cancelled-lacks q e n x (Cancelling r) answer.Failed = record { none = refl }
-cancelled-lacks q e n x (Cancelling r) answer.Excused = record { none = refl }
+cancelled-lacks : (q e n : ℕ) (x : DeviceAnswer) (z : Situation) → LacksReady q e (on_cancelled n x z)
+cancelled-lacks q e n x situation.AskedToLetGo = record { none = refl }
+cancelled-lacks q e n x _ = record { none = refl }
 
 abort_early-lacks : (q e n : ℕ) (x : DeviceAnswer) → LacksReady q e (abort_early n x)
 abort_early-lacks q e n x = if-lacks q e x.optional (made_by (event.Excuse n x.device ∷ []))
@@ -106,73 +74,31 @@ abort_late-lacks : (q e n : ℕ) (x : DeviceAnswer) → LacksReady q e (abort_la
 abort_late-lacks q e n x = if-lacks q e x.optional (made_by (event.LetGo n x.device ∷ []))
     (made_by (event.Failed n x.device ∷ [])) (record { none = refl }) (record { none = refl })
 
-abort-lacks : (q e n : ℕ) (x : DeviceAnswer) (g : Stage) (w : Answer)
-    → LacksReady q e (on_answer_in answer_kind.Abort n x g w)
-abort-lacks q e n x Preparing answer.Waiting = abort_early-lacks q e n x
-abort-lacks q e n x Preparing answer.Ready = abort_early-lacks q e n x
-abort-lacks q e n x Preparing answer.Done = abort_early-lacks q e n x
-abort-lacks q e n x Preparing answer.LetGo = abort_early-lacks q e n x
-abort-lacks q e n x Preparing answer.Failed = abort_early-lacks q e n x
-abort-lacks q e n x Preparing answer.Excused = record { none = refl }
-abort-lacks q e n x Decided answer.Waiting = record { none = refl }
-abort-lacks q e n x Decided answer.Ready = record { none = refl }
-abort-lacks q e n x Decided answer.Done = record { none = refl }
-abort-lacks q e n x Decided answer.LetGo = record { none = refl }
-abort-lacks q e n x Decided answer.Failed = record { none = refl }
-abort-lacks q e n x Decided answer.Excused = record { none = refl }
-abort-lacks q e n x (Cancelling r) answer.Waiting = abort_late-lacks q e n x
-abort-lacks q e n x (Cancelling r) answer.Ready = record { none = refl }
-abort-lacks q e n x (Cancelling r) answer.Done = record { none = refl }
-abort-lacks q e n x (Cancelling r) answer.LetGo = record { none = refl }
-abort-lacks q e n x (Cancelling r) answer.Failed = record { none = refl }
-abort-lacks q e n x (Cancelling r) answer.Excused = record { none = refl }
+abort-lacks : (q e n : ℕ) (x : DeviceAnswer) (z : Situation) → LacksReady q e (on_abort n x z)
+abort-lacks q e n x situation.AskedToStandBy = abort_early-lacks q e n x
+abort-lacks q e n x situation.StandsBy = abort_early-lacks q e n x
+abort-lacks q e n x situation.AskedToLetGo = abort_late-lacks q e n x
+abort-lacks q e n x _ = record { none = refl }
 
 release_early-lacks : (q e n : ℕ) (x : DeviceAnswer) → LacksReady q e (release_early n x)
 release_early-lacks q e n x = if-lacks q e x.optional (made_by (event.Excuse n x.device ∷ []))
     (made_by (event.Cancel n Release ∷ event.LetGo n x.device ∷ [])) (record { none = refl }) (record { none = refl })
 
-release_in-lacks : (q e n : ℕ) (x : DeviceAnswer) (g : Stage) (w : Answer) → LacksReady q e (on_release_in n x g w)
-release_in-lacks q e n x Preparing answer.Waiting = release_early-lacks q e n x
-release_in-lacks q e n x Preparing answer.Ready = release_early-lacks q e n x
-release_in-lacks q e n x Preparing answer.Done = release_early-lacks q e n x
-release_in-lacks q e n x Preparing answer.LetGo = release_early-lacks q e n x
-release_in-lacks q e n x Preparing answer.Failed = release_early-lacks q e n x
-release_in-lacks q e n x Preparing answer.Excused = record { none = refl }
-release_in-lacks q e n x Decided answer.Waiting = record { none = refl }
-release_in-lacks q e n x Decided answer.Ready = record { none = refl }
-release_in-lacks q e n x Decided answer.Done = record { none = refl }
-release_in-lacks q e n x Decided answer.LetGo = record { none = refl }
-release_in-lacks q e n x Decided answer.Failed = record { none = refl }
-release_in-lacks q e n x Decided answer.Excused = record { none = refl }
-release_in-lacks q e n x (Cancelling r) answer.Waiting = record { none = refl }
-release_in-lacks q e n x (Cancelling r) answer.Ready = record { none = refl }
-release_in-lacks q e n x (Cancelling r) answer.Done = record { none = refl }
-release_in-lacks q e n x (Cancelling r) answer.LetGo = record { none = refl }
-release_in-lacks q e n x (Cancelling r) answer.Failed = record { none = refl }
-release_in-lacks q e n x (Cancelling r) answer.Excused = record { none = refl }
+release_at-lacks : (q e n : ℕ) (x : DeviceAnswer) (z : Situation) → LacksReady q e (on_release_at n x z)
+release_at-lacks q e n x situation.AskedToStandBy = release_early-lacks q e n x
+release_at-lacks q e n x situation.StandsBy = release_early-lacks q e n x
+release_at-lacks q e n x _ = record { none = refl }
 
-standing_by-ready : (q e n : ℕ) (x : DeviceAnswer) (g : Stage) (w : Answer)
-    → list_any (is_ready_of q e) (on_answer_in answer_kind.StandingBy n x g w).1 ≡ true → (n ≡ q) × (x.device ≡ e)
-standing_by-ready q e n x Preparing answer.Waiting h = let k =
+release_in-lacks : (q e n : ℕ) (x : DeviceAnswer) (g : Stage) (w : Answer) → LacksReady q e (on_release_in n x g w)
+release_in-lacks q e n x g w = or-lacks q e (on_release_at n x) (situation_of g w) _ (release_at-lacks q e n x)
+    known-lacks
+
+standing_by-ready : (q e n : ℕ) (x : DeviceAnswer) (z : Situation)
+    → list_any (is_ready_of q e) (on_standing_by n x z).1 ≡ true → (n ≡ q) × (x.device ≡ e)
+standing_by-ready q e n x situation.AskedToStandBy h = let k =
     both (nat_eq n q) (nat_eq x.device e) (any_left (nat_eq n q && nat_eq x.device e) h) in
     (same_number n q k.0, same_number x.device e k.1)
-standing_by-ready q e n x Preparing answer.Ready h = absurd (true≢false (sym h))
-standing_by-ready q e n x Preparing answer.Done h = absurd (true≢false (sym h))
-standing_by-ready q e n x Preparing answer.LetGo h = absurd (true≢false (sym h))
-standing_by-ready q e n x Preparing answer.Failed h = absurd (true≢false (sym h))
-standing_by-ready q e n x Preparing answer.Excused h = absurd (true≢false (sym h))
-standing_by-ready q e n x Decided answer.Waiting h = absurd (true≢false (sym h))
-standing_by-ready q e n x Decided answer.Ready h = absurd (true≢false (sym h))
-standing_by-ready q e n x Decided answer.Done h = absurd (true≢false (sym h))
-standing_by-ready q e n x Decided answer.LetGo h = absurd (true≢false (sym h))
-standing_by-ready q e n x Decided answer.Failed h = absurd (true≢false (sym h))
-standing_by-ready q e n x Decided answer.Excused h = absurd (true≢false (sym h))
-standing_by-ready q e n x (Cancelling r) answer.Waiting h = absurd (true≢false (sym h))
-standing_by-ready q e n x (Cancelling r) answer.Ready h = absurd (true≢false (sym h))
-standing_by-ready q e n x (Cancelling r) answer.Done h = absurd (true≢false (sym h))
-standing_by-ready q e n x (Cancelling r) answer.LetGo h = absurd (true≢false (sym h))
-standing_by-ready q e n x (Cancelling r) answer.Failed h = absurd (true≢false (sym h))
-standing_by-ready q e n x (Cancelling r) answer.Excused h = absurd (true≢false (sym h))
+standing_by-ready q e n x _ h = absurd (true≢false (sym h))
 
 -- ---- one command
 
@@ -212,17 +138,23 @@ none_is q e j l h = absurd (true≢false (sym h ∙ l.none))
 abbrev IsIt : ℕ → ℕ → AnswerKind → ℕ → ℕ → Type 0
 IsIt q e kind d p = command.Reply kind d p ≡ command.Reply answer_kind.StandingBy e q
 
+cell_at : (q e : ℕ) (kind : AnswerKind) (n : ℕ) (x : DeviceAnswer) (z : Situation)
+    → list_any (is_ready_of q e) (on_answer_at kind n x z).1 ≡ true → IsIt q e kind x.device n
+cell_at q e answer_kind.StandingBy n x z h = let k = standing_by-ready q e n x z h in
+    ap (λ (m : ℕ). command.Reply answer_kind.StandingBy m n) k.1 ∙ ap (command.Reply answer_kind.StandingBy e) k.0
+cell_at q e answer_kind.Complete n x z h = none_is q e (on_complete n x z) (complete-lacks q e n x z) h
+cell_at q e answer_kind.Cancelled n x z h = none_is q e (on_cancelled n x z) (cancelled-lacks q e n x z) h
+cell_at q e answer_kind.Abort n x z h = none_is q e (on_abort n x z) (abort-lacks q e n x z) h
+
 cell_is : (q e : ℕ) (kind : AnswerKind) (n : ℕ) (x : DeviceAnswer) (g : Stage) (w : Answer)
     → list_any (is_ready_of q e) (on_answer_in kind n x g w).1 ≡ true → IsIt q e kind x.device n
-cell_is q e answer_kind.StandingBy n x g w h = let k = standing_by-ready q e n x g w h in
-    ap (λ (m : ℕ). command.Reply answer_kind.StandingBy m n) k.1 ∙ ap (command.Reply answer_kind.StandingBy e) k.0
-cell_is q e answer_kind.Complete n x g w h = none_is q e
-    (on_answer_in answer_kind.Complete n x g w) (complete-lacks q e n x g w) h
-cell_is q e answer_kind.Cancelled n x g w h = none_is q e
-    (on_answer_in answer_kind.Cancelled n x g w) (cancelled-lacks q e n x g w)
-    h
-cell_is q e answer_kind.Abort n x g w h = none_is q e
-    (on_answer_in answer_kind.Abort n x g w) (abort-lacks q e n x g w) h
+cell_is q e kind n x g w h = at (situation_of g w) h
+  where
+    at : (o : Option Situation)
+        → list_any (is_ready_of q e) (option_map_or (on_answer_at kind n x) o (refused_with code.Stale)).1 ≡ true
+        → IsIt q e kind x.device n
+    at None k = absurd (true≢false (sym k))
+    at (Some z) k = cell_at q e kind n x z k
 
 to_attempt : (q e : ℕ) (kind : AnswerKind) (d : ℕ) (a : Attempt)
     → list_any (is_ready_of q e) (on_answer_to kind d a).1 ≡ true → IsIt q e kind d a.seq

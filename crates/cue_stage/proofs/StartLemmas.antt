@@ -5,7 +5,8 @@ use Rattle.std.specs.List.{list_any}
 use Rattle.std.proofs.lemmas.Bool.Decides.{nat_tests}
 use Rattle.cue_core.specs.declared.event.Event.{Event}
 use Rattle.cue_core.specs.declared.event.Event.TheVariants as event
-use Rattle.cue_core.specs.Events.{is_about, is_start_of}
+use Rattle.cue_core.specs.Events.{is_start_of}
+use Rattle.cue_core.proofs.history.TellsLemmas.{is_about}
 use Rattle.cue_core.specs.Happenings.{onto}
 use Rattle.cue_core.specs.History.{is_history, parts_by, state_of}
 use Rattle.cue_core.specs.State.{ShowState}

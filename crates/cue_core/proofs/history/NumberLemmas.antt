@@ -25,14 +25,14 @@ use Rattle.cue_core.specs.declared.event.Event.{Event}
 use Rattle.cue_core.specs.declared.event.Event.TheVariants as event
 use Rattle.cue_core.specs.State.{ShowState, cue_parts}
 use Rattle.cue_core.specs.Steps.{acceptable, after, can_begin}
-use Rattle.cue_core.specs.Events.{is_ready_of, is_excuse_of, is_go_of, is_cancel_of, is_end_of, is_about}
+use Rattle.cue_core.specs.Events.{is_ready_of, is_excuse_of, is_go_of, is_cancel_of, is_end_of}
 use Rattle.cue_core.specs.History.{devices_by, state_of}
 use Rattle.cue_core.proofs.lists.ConditionLemmas.{both, cases, all_from, all_mapped, same_number, same_self, neither}
 use Rattle.cue_core.proofs.live.FindingLemmas.{rising, lacks-below, attempt_of-lacks, attempt_of-without_ended}
 use Rattle.cue_core.proofs.live.FindingLemmas.{attempt_of-without_ended_other, if_open, rising-changed, found}
 use Rattle.cue_core.proofs.live.FindingLemmas.{found-changed, found-others, found_has, found_passes}
 use Rattle.cue_core.proofs.history.AttemptLemmas.{tells-start}
-use Rattle.cue_core.proofs.history.TellsLemmas.{Tells, IsQuiet, quiet, tells-on, devices_by-on}
+use Rattle.cue_core.proofs.history.TellsLemmas.{Tells, IsQuiet, quiet, is_about, tells-on, devices_by-on}
 use Rattle.cue_core.proofs.history.AttemptLemmas.{tells-ready, tells-excuse, tells-go, tells-cancel, IsLastAnswer}
 use Rattle.cue_core.proofs.history.AttemptLemmas.{tells-end, of_device, gone_by}
 use Rattle.cue_core.proofs.history.TellsLemmas.{is_last}

@@ -13,7 +13,7 @@ use Rattle.cue_exchange.specs.Answers.{devices_of}
 use Rattle.cue_exchange.specs.Live.{devices_in}
 use Rattle.cue_core.specs.declared.event.Event.{Event}
 use Rattle.cue_core.specs.declared.event.Event.TheVariants as event
-use Rattle.cue_core.specs.Events.{is_start_of, is_ready_of, is_excuse_of, is_go_of, is_cancel_of, is_end_of, is_about}
+use Rattle.cue_core.specs.Events.{is_start_of, is_ready_of, is_excuse_of, is_go_of, is_cancel_of, is_end_of}
 use Rattle.cue_core.specs.State.{is_of_part, are_of_parts}
 use Rattle.cue_core.specs.History.{parts_by, devices_by, stood_by, was_excused}
 use Rattle.cue_core.proofs.lists.ConditionLemmas.{both, all_from, agrees}
@@ -72,6 +72,18 @@ devices_told h q a t = devices-parts (parts_by h q) a.answers t.parts
 pub or_skip : (b c : Bool) → b ≡ false → (b || c) ≡ c
 or_skip false c e = refl
 or_skip true c e = cc
+
+-- the event is one of the attempt q
+abbrev pub is_about : ℕ → Event → Bool
+is_about q (event.Start p c t) = nat_eq p q
+is_about q (event.Ready p d) = nat_eq p q
+is_about q (event.Go p) = nat_eq p q
+is_about q (event.Done p d) = nat_eq p q
+is_about q (event.Cancel p r) = nat_eq p q
+is_about q (event.LetGo p d) = nat_eq p q
+is_about q (event.Failed p d) = nat_eq p q
+is_about q (event.Excuse p d) = nat_eq p q
+is_about q _ = false
 
 -- none of the tests on q passes the event
 pub record IsQuiet (q : ℕ) (e : Event) : Type 0 where

@@ -1,10 +1,8 @@
 -- Tests joined, and tests of each element of a list.
-use Rattle.std.proofs.Common.{◌≡◌, ℕ, List, [], ◌∷◌, refl, ap, Bool, true, false, not, ◌&&◌, ◌||◌, ◌⊎◌, inl, inr}
-use Rattle.std.proofs.Common.{nat_eq, arith}
+use Rattle.std.proofs.Common.{◌≡◌, List, [], ◌∷◌, refl, ap, Bool, true, false, not, ◌&&◌, ◌||◌}
 use Rattle.std.specs.Prelude.{IsTrue, map}
 use Rattle.std.specs.List.{list_all, list_any}
 use Rattle.cue_exchange.specs.Live.{pairwise}
-use Rattle.std.proofs.lemmas.Bool.Decides.{nat_tests}
 pub use Rattle.cue_show.proofs.TestLemmas.{both, join, cases, neither, same_number, same_self, number_sym}
 
 pub all_from : {A : Type 0} (P Q : A → Bool) (xs : List A) → ((x : A) → IsTrue (P x) → IsTrue (Q x))

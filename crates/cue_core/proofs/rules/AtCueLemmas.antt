@@ -1,5 +1,5 @@
 -- What keeps each live attempt at its cue.
-use Rattle.std.proofs.Common.{◌≡◌, ℕ, ◌+◌, ◌≤◌, List, [], ◌∷◌, ◌++◌, refl, sym, ◌∙◌, ap, Bool, true, false, not}
+use Rattle.std.proofs.Common.{◌≡◌, ℕ, ◌≤◌, List, [], ◌∷◌, ◌++◌, refl, sym, ◌∙◌, ap, Bool, true, false, not}
 use Rattle.std.proofs.Common.{cond, ◌&&◌, nat_eq, nat_le, nat_lt, arith, Option, None, Some}
 use Rattle.std.specs.Prelude.{IsTrue, is_some, map, if◌then◌else◌}
 use Rattle.std.specs.List.{list_all}

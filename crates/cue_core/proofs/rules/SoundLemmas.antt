@@ -8,14 +8,13 @@ use Rattle.cue_exchange.specs.declared.attempt.Stage.{Stage}
 use Rattle.cue_exchange.specs.declared.attempt.Stage.TheVariants.{Preparing, Decided, Cancelling}
 use Rattle.cue_exchange.specs.declared.attempt.DeviceAnswer.{DeviceAnswer}
 use Rattle.cue_exchange.specs.declared.attempt.Attempt.{Attempt}
-use Rattle.cue_exchange.specs.declared.limits.TheConstants.{MAX_NUMBER, MAX_LIVE}
+use Rattle.cue_exchange.specs.declared.limits.TheConstants.{MAX_LIVE}
 use Rattle.cue_exchange.specs.Answers.{is_waiting, is_excused, is_preparing, is_known_in, is_required, has_required}
 use Rattle.cue_exchange.specs.Answers.{may_be_in, waits, some_waits, devices_of}
-use Rattle.cue_exchange.specs.Live.{are_live, is_attempt, is_sound, is_open, is_number, is_time, have_sound_devices}
+use Rattle.cue_exchange.specs.Live.{is_attempt, is_sound, is_open, is_number, is_time, have_sound_devices}
 use Rattle.cue_exchange.specs.Live.{pairwise, goes_before, disjoint, distinct}
-use Rattle.cue_show.specs.Show.{is_show}
 use Rattle.cue_core.specs.declared.event.Event.{Event}
-use Rattle.cue_core.specs.State.{ShowState, is_state, are_tied, is_at_cue, is_ended}
+use Rattle.cue_core.specs.State.{ShowState, is_state}
 use Rattle.cue_core.specs.Steps.{acceptable}
 use Rattle.cue_core.specs.History.{state_of, is_history}
 use Rattle.cue_core.proofs.lists.ConditionLemmas.{both, all_from, pairwise_from}

@@ -6,13 +6,13 @@ use Rattle.std.specs.List.{list_all}
 use Rattle.std.specs.Option.{option_map_or}
 use Rattle.cue_show.specs.Show.{has_device}
 use Rattle.cue_exchange.specs.declared.attempt.Answer.{Answer}
-use Rattle.cue_exchange.specs.declared.attempt.Answer.TheVariants as answer
 use Rattle.cue_exchange.specs.declared.attempt.Reason.TheVariants.{Abort}
 use Rattle.cue_exchange.specs.declared.attempt.Stage.{Stage}
-use Rattle.cue_exchange.specs.declared.attempt.Stage.TheVariants.{Preparing, Decided, Cancelling}
 use Rattle.cue_exchange.specs.declared.attempt.DeviceAnswer.{DeviceAnswer}
 use Rattle.cue_exchange.specs.declared.attempt.Attempt.{Attempt}
-use Rattle.cue_exchange.specs.Answers.{device_answer}
+use Rattle.cue_exchange.specs.declared.situation.Situation.{Situation}
+use Rattle.cue_exchange.specs.declared.situation.Situation.TheVariants as situation
+use Rattle.cue_exchange.specs.Answers.{situation_of, device_answer}
 use Rattle.cue_exchange.specs.Live.{attempt_of, has_number}
 use Rattle.cue_core.specs.declared.event.Event.{Event}
 use Rattle.cue_core.specs.declared.event.Event.TheVariants as event
@@ -21,7 +21,8 @@ use Rattle.cue_core.specs.declared.command.AnswerKind.{AnswerKind}
 use Rattle.cue_core.specs.declared.command.AnswerKind.TheVariants as answer_kind
 use Rattle.cue_core.specs.State.{ShowState}
 use Rattle.cue_core.specs.Steps.{after, after_events}
-use Rattle.cue_core.specs.Judge.{made_by, refused_with, on_answer, on_answer_to, on_answer_in, is_from_another}
+use Rattle.cue_core.specs.Judge.{made_by, refused_with, on_answer, on_answer_to, on_answer_in, on_answer_at}
+use Rattle.cue_core.specs.Judge.{is_from_another}
 use Rattle.cue_core.specs.Answers.{Said, LeavesOthers, AnswersLeaveOthers}
 use Rattle.cue_core.proofs.lists.ConditionLemmas.{both, join, same_number, same_self}
 use Rattle.cue_core.proofs.live.FindingLemmas.{found_passes}
@@ -29,19 +30,13 @@ use Rattle.cue_core.proofs.history.NumberLemmas.{attempt_of-after_other}
 
 -- the event is one that an answer to q makes
 abbrev of_reply : ℕ → Event → Bool
-of_reply q (event.Device d port) = false
-of_reply q (event.NoDevice d) = false
-of_reply q (event.Cue c parts) = false
-of_reply q (event.NoCue c) = false
-of_reply q (event.Place c) = false
-of_reply q (event.Start p c t) = false
 of_reply q (event.Ready p d) = nat_eq p q
-of_reply q (event.Go p) = false
 of_reply q (event.Done p d) = nat_eq p q
 of_reply q (event.Cancel p r) = nat_eq p q
 of_reply q (event.LetGo p d) = nat_eq p q
 of_reply q (event.Failed p d) = nat_eq p q
 of_reply q (event.Excuse p d) = nat_eq p q
+of_reply q _ = false
 
 other_number : (n q p : ℕ) → IsTrue (nat_eq n q) → p ≢ q → nat_eq n p ≡ false
 other_number n q p e other = at (nat_eq n p) refl
@@ -135,80 +130,28 @@ late_of q d true = itself q
 late_of q d false = itself q
 
 -- each cell of the table makes events of the attempt alone
+cell_at : (kind : AnswerKind) (q : ℕ) (d : DeviceAnswer) (z : Situation)
+    → IsTrue (list_all (of_reply q) (on_answer_at kind q d z).1)
+cell_at answer_kind.StandingBy q d situation.AskedToStandBy = itself q
+cell_at answer_kind.StandingBy q d _ = refl
+cell_at answer_kind.Complete q d situation.AskedToGo = itself q
+cell_at answer_kind.Complete q d _ = refl
+cell_at answer_kind.Cancelled q d situation.AskedToLetGo = itself q
+cell_at answer_kind.Cancelled q d _ = refl
+cell_at answer_kind.Abort q d situation.AskedToStandBy = early_of q d d.optional
+cell_at answer_kind.Abort q d situation.StandsBy = early_of q d d.optional
+cell_at answer_kind.Abort q d situation.AskedToGo = itself q
+cell_at answer_kind.Abort q d situation.AskedToLetGo = late_of q d d.optional
+cell_at answer_kind.Abort q d _ = refl
+
 cell_of : (kind : AnswerKind) (q : ℕ) (d : DeviceAnswer) (stage : Stage) (x : Answer)
     → IsTrue (list_all (of_reply q) (on_answer_in kind q d stage x).1)
-cell_of answer_kind.StandingBy q d Preparing answer.Waiting = itself q
-cell_of answer_kind.StandingBy q d Preparing answer.Ready = refl
-cell_of answer_kind.StandingBy q d Preparing answer.Done = refl
-cell_of answer_kind.StandingBy q d Preparing answer.LetGo = refl
-cell_of answer_kind.StandingBy q d Preparing answer.Failed = refl
-cell_of answer_kind.StandingBy q d Preparing answer.Excused = refl
-cell_of answer_kind.StandingBy q d Decided answer.Waiting = refl
-cell_of answer_kind.StandingBy q d Decided answer.Ready = refl
-cell_of answer_kind.StandingBy q d Decided answer.Done = refl
-cell_of answer_kind.StandingBy q d Decided answer.LetGo = refl
-cell_of answer_kind.StandingBy q d Decided answer.Failed = refl
-cell_of answer_kind.StandingBy q d Decided answer.Excused = refl
-cell_of answer_kind.StandingBy q d (Cancelling r) answer.Waiting = refl
-cell_of answer_kind.StandingBy q d (Cancelling r) answer.Ready = refl
-cell_of answer_kind.StandingBy q d (Cancelling r) answer.Done = refl
-cell_of answer_kind.StandingBy q d (Cancelling r) answer.LetGo = refl
-cell_of answer_kind.StandingBy q d (Cancelling r) answer.Failed = refl
-cell_of answer_kind.StandingBy q d (Cancelling r) answer.Excused = refl
-cell_of answer_kind.Complete q d Preparing answer.Waiting = refl
-cell_of answer_kind.Complete q d Preparing answer.Ready = refl
-cell_of answer_kind.Complete q d Preparing answer.Done = refl
-cell_of answer_kind.Complete q d Preparing answer.LetGo = refl
-cell_of answer_kind.Complete q d Preparing answer.Failed = refl
-cell_of answer_kind.Complete q d Preparing answer.Excused = refl
-cell_of answer_kind.Complete q d Decided answer.Waiting = itself q
-cell_of answer_kind.Complete q d Decided answer.Ready = refl
-cell_of answer_kind.Complete q d Decided answer.Done = refl
-cell_of answer_kind.Complete q d Decided answer.LetGo = refl
-cell_of answer_kind.Complete q d Decided answer.Failed = refl
-cell_of answer_kind.Complete q d Decided answer.Excused = refl
-cell_of answer_kind.Complete q d (Cancelling r) answer.Waiting = refl
-cell_of answer_kind.Complete q d (Cancelling r) answer.Ready = refl
-cell_of answer_kind.Complete q d (Cancelling r) answer.Done = refl
-cell_of answer_kind.Complete q d (Cancelling r) answer.LetGo = refl
-cell_of answer_kind.Complete q d (Cancelling r) answer.Failed = refl
-cell_of answer_kind.Complete q d (Cancelling r) answer.Excused = refl
-cell_of answer_kind.Cancelled q d Preparing answer.Waiting = refl
-cell_of answer_kind.Cancelled q d Preparing answer.Ready = refl
-cell_of answer_kind.Cancelled q d Preparing answer.Done = refl
-cell_of answer_kind.Cancelled q d Preparing answer.LetGo = refl
-cell_of answer_kind.Cancelled q d Preparing answer.Failed = refl
-cell_of answer_kind.Cancelled q d Preparing answer.Excused = refl
-cell_of answer_kind.Cancelled q d Decided answer.Waiting = refl
-cell_of answer_kind.Cancelled q d Decided answer.Ready = refl
-cell_of answer_kind.Cancelled q d Decided answer.Done = refl
-cell_of answer_kind.Cancelled q d Decided answer.LetGo = refl
-cell_of answer_kind.Cancelled q d Decided answer.Failed = refl
-cell_of answer_kind.Cancelled q d Decided answer.Excused = refl
-cell_of answer_kind.Cancelled q d (Cancelling r) answer.Waiting = itself q
-cell_of answer_kind.Cancelled q d (Cancelling r) answer.Ready = refl
-cell_of answer_kind.Cancelled q d (Cancelling r) answer.Done = refl
-cell_of answer_kind.Cancelled q d (Cancelling r) answer.LetGo = refl
-cell_of answer_kind.Cancelled q d (Cancelling r) answer.Failed = refl
-cell_of answer_kind.Cancelled q d (Cancelling r) answer.Excused = refl
-cell_of answer_kind.Abort q d Preparing answer.Waiting = early_of q d d.optional
-cell_of answer_kind.Abort q d Preparing answer.Ready = early_of q d d.optional
-cell_of answer_kind.Abort q d Preparing answer.Done = early_of q d d.optional
-cell_of answer_kind.Abort q d Preparing answer.LetGo = early_of q d d.optional
-cell_of answer_kind.Abort q d Preparing answer.Failed = early_of q d d.optional
-cell_of answer_kind.Abort q d Preparing answer.Excused = refl
-cell_of answer_kind.Abort q d Decided answer.Waiting = itself q
-cell_of answer_kind.Abort q d Decided answer.Ready = refl
-cell_of answer_kind.Abort q d Decided answer.Done = refl
-cell_of answer_kind.Abort q d Decided answer.LetGo = refl
-cell_of answer_kind.Abort q d Decided answer.Failed = refl
-cell_of answer_kind.Abort q d Decided answer.Excused = refl
-cell_of answer_kind.Abort q d (Cancelling r) answer.Waiting = late_of q d d.optional
-cell_of answer_kind.Abort q d (Cancelling r) answer.Ready = refl
-cell_of answer_kind.Abort q d (Cancelling r) answer.Done = refl
-cell_of answer_kind.Abort q d (Cancelling r) answer.LetGo = refl
-cell_of answer_kind.Abort q d (Cancelling r) answer.Failed = refl
-cell_of answer_kind.Abort q d (Cancelling r) answer.Excused = refl
+cell_of kind q d stage x = at (situation_of stage x)
+  where
+    at : (o : Option Situation)
+        → IsTrue (list_all (of_reply q) (option_map_or (on_answer_at kind q d) o (refused_with code.Stale)).1)
+    at None = refl
+    at (Some z) = cell_at kind q d z
 
 to_attempt : (kind : AnswerKind) (d q : ℕ) (a : Attempt) → a.seq ≡ q
     → IsTrue (list_all (of_reply q) (on_answer_to kind d a).1)

@@ -124,56 +124,24 @@ pub ends : (kind : AnswerKind) (q : ℕ) (x : DeviceAnswer) (stage : Stage) (giv
     → IsTrue (is_made (on_answer_in kind q x stage given).0) → Ends q x given (on_answer_in kind q x stage given)
 ends kind q x Preparing given p h = absurd (cc)
 ends answer_kind.StandingBy q x Decided answer.Waiting p h = absurd (cc)
-ends answer_kind.StandingBy q x Decided answer.Ready p h = absurd (cc)
-ends answer_kind.StandingBy q x Decided answer.Done p h = absurd (cc)
-ends answer_kind.StandingBy q x Decided answer.LetGo p h = absurd (cc)
-ends answer_kind.StandingBy q x Decided answer.Failed p h = absurd (cc)
-ends answer_kind.StandingBy q x Decided answer.Excused p h = absurd (cc)
+ends answer_kind.StandingBy q x Decided _ p h = absurd (cc)
 ends answer_kind.StandingBy q x (Cancelling r) answer.Waiting p h = absurd (cc)
-ends answer_kind.StandingBy q x (Cancelling r) answer.Ready p h = absurd (cc)
-ends answer_kind.StandingBy q x (Cancelling r) answer.Done p h = absurd (cc)
-ends answer_kind.StandingBy q x (Cancelling r) answer.LetGo p h = absurd (cc)
-ends answer_kind.StandingBy q x (Cancelling r) answer.Failed p h = absurd (cc)
-ends answer_kind.StandingBy q x (Cancelling r) answer.Excused p h = absurd (cc)
+ends answer_kind.StandingBy q x (Cancelling r) _ p h = absurd (cc)
 ends answer_kind.Complete q x Decided answer.Waiting p h =
     record { last = answer.Done; waited = refl; makes = λ s. refl }
-ends answer_kind.Complete q x Decided answer.Ready p h = absurd (cc)
-ends answer_kind.Complete q x Decided answer.Done p h = absurd (cc)
-ends answer_kind.Complete q x Decided answer.LetGo p h = absurd (cc)
-ends answer_kind.Complete q x Decided answer.Failed p h = absurd (cc)
-ends answer_kind.Complete q x Decided answer.Excused p h = absurd (cc)
+ends answer_kind.Complete q x Decided _ p h = absurd (cc)
 ends answer_kind.Complete q x (Cancelling r) answer.Waiting p h = absurd (cc)
-ends answer_kind.Complete q x (Cancelling r) answer.Ready p h = absurd (cc)
-ends answer_kind.Complete q x (Cancelling r) answer.Done p h = absurd (cc)
-ends answer_kind.Complete q x (Cancelling r) answer.LetGo p h = absurd (cc)
-ends answer_kind.Complete q x (Cancelling r) answer.Failed p h = absurd (cc)
-ends answer_kind.Complete q x (Cancelling r) answer.Excused p h = absurd (cc)
+ends answer_kind.Complete q x (Cancelling r) _ p h = absurd (cc)
 ends answer_kind.Cancelled q x Decided answer.Waiting p h = absurd (cc)
-ends answer_kind.Cancelled q x Decided answer.Ready p h = absurd (cc)
-ends answer_kind.Cancelled q x Decided answer.Done p h = absurd (cc)
-ends answer_kind.Cancelled q x Decided answer.LetGo p h = absurd (cc)
-ends answer_kind.Cancelled q x Decided answer.Failed p h = absurd (cc)
-ends answer_kind.Cancelled q x Decided answer.Excused p h = absurd (cc)
+ends answer_kind.Cancelled q x Decided _ p h = absurd (cc)
 ends answer_kind.Cancelled q x (Cancelling r) answer.Waiting p h =
     record { last = answer.LetGo; waited = refl; makes = λ s. refl }
-ends answer_kind.Cancelled q x (Cancelling r) answer.Ready p h = absurd (cc)
-ends answer_kind.Cancelled q x (Cancelling r) answer.Done p h = absurd (cc)
-ends answer_kind.Cancelled q x (Cancelling r) answer.LetGo p h = absurd (cc)
-ends answer_kind.Cancelled q x (Cancelling r) answer.Failed p h = absurd (cc)
-ends answer_kind.Cancelled q x (Cancelling r) answer.Excused p h = absurd (cc)
+ends answer_kind.Cancelled q x (Cancelling r) _ p h = absurd (cc)
 ends answer_kind.Abort q x Decided answer.Waiting p h =
     record { last = answer.Failed; waited = refl; makes = λ s. refl }
-ends answer_kind.Abort q x Decided answer.Ready p h = absurd (cc)
-ends answer_kind.Abort q x Decided answer.Done p h = absurd (cc)
-ends answer_kind.Abort q x Decided answer.LetGo p h = absurd (cc)
-ends answer_kind.Abort q x Decided answer.Failed p h = absurd (cc)
-ends answer_kind.Abort q x Decided answer.Excused p h = absurd (cc)
+ends answer_kind.Abort q x Decided _ p h = absurd (cc)
 ends answer_kind.Abort q x (Cancelling r) answer.Waiting p h = ends_late q x x.optional
-ends answer_kind.Abort q x (Cancelling r) answer.Ready p h = absurd (cc)
-ends answer_kind.Abort q x (Cancelling r) answer.Done p h = absurd (cc)
-ends answer_kind.Abort q x (Cancelling r) answer.LetGo p h = absurd (cc)
-ends answer_kind.Abort q x (Cancelling r) answer.Failed p h = absurd (cc)
-ends answer_kind.Abort q x (Cancelling r) answer.Excused p h = absurd (cc)
+ends answer_kind.Abort q x (Cancelling r) _ p h = absurd (cc)
 
 -- ---- an attempt that is Preparing
 
@@ -232,11 +200,7 @@ excused_stays u = record { last = answer.Excused; makes = u.makes }
 too_late : (s : ShowState) (n : ℕ) (w : DeviceAnswer) (x : Answer)
     → after_events s (on_answer_in answer_kind.StandingBy n w (Cancelling Abort) x).1 ≡ s
 too_late s n w answer.Waiting = refl
-too_late s n w answer.Ready = refl
-too_late s n w answer.Done = refl
-too_late s n w answer.LetGo = refl
-too_late s n w answer.Failed = refl
-too_late s n w answer.Excused = refl
+too_late s n w _ = refl
 
 -- an abort excuses an optional device, and gives up for a required one
 cannot : (q : ℕ) (x : DeviceAnswer) (given : Answer) → IsTrue (not (is_excused given)) → (b : Bool) → x.optional ≡ b
@@ -251,26 +215,11 @@ prepares kind q x Decided given p h = absurd (cc)
 prepares kind q x (Cancelling r) given p h = absurd (cc)
 prepares answer_kind.StandingBy q x Preparing answer.Waiting p h =
     inl (record { makes = λ s. refl; asked = refl; late = λ s n w. too_late s n w w.answer })
-prepares answer_kind.StandingBy q x Preparing answer.Ready p h = absurd (cc)
-prepares answer_kind.StandingBy q x Preparing answer.Done p h = absurd (cc)
-prepares answer_kind.StandingBy q x Preparing answer.LetGo p h = absurd (cc)
-prepares answer_kind.StandingBy q x Preparing answer.Failed p h = absurd (cc)
-prepares answer_kind.StandingBy q x Preparing answer.Excused p h = absurd (cc)
+prepares answer_kind.StandingBy q x Preparing _ p h = absurd (cc)
 prepares answer_kind.Complete q x Preparing answer.Waiting p h = absurd (cc)
-prepares answer_kind.Complete q x Preparing answer.Ready p h = absurd (cc)
-prepares answer_kind.Complete q x Preparing answer.Done p h = absurd (cc)
-prepares answer_kind.Complete q x Preparing answer.LetGo p h = absurd (cc)
-prepares answer_kind.Complete q x Preparing answer.Failed p h = absurd (cc)
-prepares answer_kind.Complete q x Preparing answer.Excused p h = absurd (cc)
+prepares answer_kind.Complete q x Preparing _ p h = absurd (cc)
 prepares answer_kind.Cancelled q x Preparing answer.Waiting p h = absurd (cc)
-prepares answer_kind.Cancelled q x Preparing answer.Ready p h = absurd (cc)
-prepares answer_kind.Cancelled q x Preparing answer.Done p h = absurd (cc)
-prepares answer_kind.Cancelled q x Preparing answer.LetGo p h = absurd (cc)
-prepares answer_kind.Cancelled q x Preparing answer.Failed p h = absurd (cc)
-prepares answer_kind.Cancelled q x Preparing answer.Excused p h = absurd (cc)
+prepares answer_kind.Cancelled q x Preparing _ p h = absurd (cc)
 prepares answer_kind.Abort q x Preparing answer.Waiting p h = cannot q x answer.Waiting refl x.optional refl
 prepares answer_kind.Abort q x Preparing answer.Ready p h = cannot q x answer.Ready refl x.optional refl
-prepares answer_kind.Abort q x Preparing answer.Done p h = cannot q x answer.Done refl x.optional refl
-prepares answer_kind.Abort q x Preparing answer.LetGo p h = cannot q x answer.LetGo refl x.optional refl
-prepares answer_kind.Abort q x Preparing answer.Failed p h = cannot q x answer.Failed refl x.optional refl
-prepares answer_kind.Abort q x Preparing answer.Excused p h = absurd (cc)
+prepares answer_kind.Abort q x Preparing _ p h = absurd (cc)

@@ -4,7 +4,6 @@ use Rattle.std.proofs.Common.{inr, nat_eq, nat_le, Option, None, Some}
 use Rattle.std.specs.Prelude.{IsTrue, if◌then◌else◌, option_and_then}
 use Rattle.std.specs.List.{list_all}
 use Rattle.std.specs.Option.{option_map_or}
-use Rattle.cue_show.specs.Show.{is_show}
 use Rattle.cue_exchange.specs.declared.attempt.Answer.{Answer}
 use Rattle.cue_exchange.specs.declared.attempt.Answer.TheVariants as answer
 use Rattle.cue_exchange.specs.declared.attempt.Reason.TheVariants.{Abort}
@@ -19,7 +18,7 @@ use Rattle.cue_exchange.specs.Live.{attempt_of, has_number, distinct, are_live, 
 use Rattle.cue_exchange.specs.Steps.{answers_as, moves_to, after_answer, after_move, without_ended}
 use Rattle.cue_core.specs.declared.command.Code.TheVariants as code
 use Rattle.cue_core.specs.declared.command.AnswerKind.{AnswerKind}
-use Rattle.cue_core.specs.State.{ShowState, with_live, is_state, are_tied}
+use Rattle.cue_core.specs.State.{ShowState, with_live, is_state}
 use Rattle.cue_core.specs.Steps.{after_events, after_last_answer}
 use Rattle.cue_core.specs.Judge.{Judgement, refused_with, on_answer_to, on_answer_in}
 use Rattle.cue_core.specs.Answers.{Said, is_made, is_answer_made, after_said, AnswersCommute}

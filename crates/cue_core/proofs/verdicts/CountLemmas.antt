@@ -3,12 +3,12 @@ use Rattle.std.proofs.Common.{◌≡◌, ◌≢◌, ◌↔◌, ℕ, ◌≤◌, B
 use Rattle.std.proofs.Common.{if◌then◌else◌, refl, arith}
 use Rattle.std.specs.Option.{option_map_or}
 use Rattle.cue_exchange.specs.declared.attempt.Answer.{Answer}
-use Rattle.cue_exchange.specs.declared.attempt.Answer.TheVariants as answer
 use Rattle.cue_exchange.specs.declared.attempt.Stage.{Stage}
-use Rattle.cue_exchange.specs.declared.attempt.Stage.TheVariants.{Preparing, Decided, Cancelling}
 use Rattle.cue_exchange.specs.declared.attempt.DeviceAnswer.{DeviceAnswer}
 use Rattle.cue_exchange.specs.declared.attempt.Attempt.{Attempt}
-use Rattle.cue_exchange.specs.Answers.{device_answer}
+use Rattle.cue_exchange.specs.declared.situation.Situation.{Situation}
+use Rattle.cue_exchange.specs.declared.situation.Situation.TheVariants as situation
+use Rattle.cue_exchange.specs.Answers.{situation_of, device_answer}
 use Rattle.cue_exchange.specs.declared.attempt.Reason.TheVariants.{Abort, Release}
 use Rattle.cue_core.specs.declared.event.Event.{Event}
 use Rattle.cue_core.specs.declared.event.Event.TheVariants as event
@@ -19,8 +19,9 @@ use Rattle.cue_core.specs.declared.command.AnswerKind.{AnswerKind}
 use Rattle.cue_core.specs.declared.command.AnswerKind.TheVariants as answer_kind
 use Rattle.cue_core.specs.declared.command.Verdict.TheVariants.{Made, Known, No}
 use Rattle.cue_core.specs.State.{ShowState}
-use Rattle.cue_core.specs.Judge.{Judgement, judgement_of, made_by, abort_early, abort_late, release_early, on_answer_in}
-use Rattle.cue_core.specs.Judge.{on_answer_to, on_release_in, on_release_of}
+use Rattle.cue_core.specs.Judge.{Judgement, judgement_of, made_by, known_already, abort_early, abort_late}
+use Rattle.cue_core.specs.Judge.{release_early, on_standing_by, on_complete, on_cancelled, on_abort, on_answer_at}
+use Rattle.cue_core.specs.Judge.{on_answer_in, on_answer_to, on_release_at, on_release_in, on_release_of}
 
 pub record HasItsEvents (j : Judgement) : Type 0 where
   pub few : length j.1 ≤ 2
@@ -47,68 +48,22 @@ one = record { few = omega arith; made = (λ h k. cc, λ h. refl) }
 two : {e f : Event} → HasItsEvents (Made, e ∷ f ∷ [])
 two = record { few = omega arith; made = (λ h k. cc, λ h. refl) }
 
-standing_by-has : (q : ℕ) (d : DeviceAnswer) (g : Stage) (x : Answer)
-    → HasItsEvents (on_answer_in answer_kind.StandingBy q d g x)
-standing_by-has q d Preparing answer.Waiting = one
-standing_by-has q d Preparing answer.Ready = none-known
-standing_by-has q d Preparing answer.Done = none-known
-standing_by-has q d Preparing answer.LetGo = none-known
-standing_by-has q d Preparing answer.Failed = none-known
-standing_by-has q d Preparing answer.Excused = none-refused
-standing_by-has q d Decided answer.Waiting = none-known
-standing_by-has q d Decided answer.Ready = none-known
-standing_by-has q d Decided answer.Done = none-known
-standing_by-has q d Decided answer.LetGo = none-known
-standing_by-has q d Decided answer.Failed = none-refused
-standing_by-has q d Decided answer.Excused = none-refused
-standing_by-has q d (Cancelling r) answer.Waiting = none-refused
-standing_by-has q d (Cancelling r) answer.Ready = none-refused
-standing_by-has q d (Cancelling r) answer.Done = none-refused
-standing_by-has q d (Cancelling r) answer.LetGo = none-refused
-standing_by-has q d (Cancelling r) answer.Failed = none-refused
-standing_by-has q d (Cancelling r) answer.Excused = none-refused
+standing_by-has : (q : ℕ) (d : DeviceAnswer) (z : Situation) → HasItsEvents (on_standing_by q d z)
+standing_by-has q d situation.AskedToStandBy = one
+standing_by-has q d situation.StandsBy = none-known
+standing_by-has q d situation.AskedToGo = none-known
+standing_by-has q d situation.Done = none-known
+standing_by-has q d _ = none-refused
 
-complete-has : (q : ℕ) (d : DeviceAnswer) (g : Stage) (x : Answer)
-    → HasItsEvents (on_answer_in answer_kind.Complete q d g x)
-complete-has q d Preparing answer.Waiting = none-refused
-complete-has q d Preparing answer.Ready = none-refused
-complete-has q d Preparing answer.Done = none-refused
-complete-has q d Preparing answer.LetGo = none-refused
-complete-has q d Preparing answer.Failed = none-refused
-complete-has q d Preparing answer.Excused = none-refused
-complete-has q d Decided answer.Waiting = one
-complete-has q d Decided answer.Ready = none-refused
-complete-has q d Decided answer.Done = none-known
-complete-has q d Decided answer.LetGo = none-refused
-complete-has q d Decided answer.Failed = none-refused
-complete-has q d Decided answer.Excused = none-refused
-complete-has q d (Cancelling r) answer.Waiting = none-refused
-complete-has q d (Cancelling r) answer.Ready = none-refused
-complete-has q d (Cancelling r) answer.Done = none-refused
-complete-has q d (Cancelling r) answer.LetGo = none-refused
-complete-has q d (Cancelling r) answer.Failed = none-refused
-complete-has q d (Cancelling r) answer.Excused = none-refused
+complete-has : (q : ℕ) (d : DeviceAnswer) (z : Situation) → HasItsEvents (on_complete q d z)
+complete-has q d situation.AskedToGo = one
+complete-has q d situation.Done = none-known
+complete-has q d _ = none-refused
 
-cancelled-has : (q : ℕ) (d : DeviceAnswer) (g : Stage) (x : Answer)
-    → HasItsEvents (on_answer_in answer_kind.Cancelled q d g x)
-cancelled-has q d Preparing answer.Waiting = none-refused
-cancelled-has q d Preparing answer.Ready = none-refused
-cancelled-has q d Preparing answer.Done = none-refused
-cancelled-has q d Preparing answer.LetGo = none-refused
-cancelled-has q d Preparing answer.Failed = none-refused
-cancelled-has q d Preparing answer.Excused = none-refused
-cancelled-has q d Decided answer.Waiting = none-refused
-cancelled-has q d Decided answer.Ready = none-refused
-cancelled-has q d Decided answer.Done = none-refused
-cancelled-has q d Decided answer.LetGo = none-refused
-cancelled-has q d Decided answer.Failed = none-refused
-cancelled-has q d Decided answer.Excused = none-refused
-cancelled-has q d (Cancelling r) answer.Waiting = one
-cancelled-has q d (Cancelling r) answer.Ready = none-refused
-cancelled-has q d (Cancelling r) answer.Done = none-refused
-cancelled-has q d (Cancelling r) answer.LetGo = none-known
-cancelled-has q d (Cancelling r) answer.Failed = none-refused
-cancelled-has q d (Cancelling r) answer.Excused = none-refused
+cancelled-has : (q : ℕ) (d : DeviceAnswer) (z : Situation) → HasItsEvents (on_cancelled q d z)
+cancelled-has q d situation.AskedToLetGo = one
+cancelled-has q d situation.LetGo = none-known
+cancelled-has q d _ = none-refused
 
 abort_early-has : (q : ℕ) (d : DeviceAnswer) → HasItsEvents (abort_early q d)
 abort_early-has q d = if-has d.optional (made_by (event.Excuse q d.device ∷ []))
@@ -119,56 +74,38 @@ abort_late-has q d = if-has d.optional (made_by (event.LetGo q d.device ∷ []))
     one
     one
 
-abort-has : (q : ℕ) (d : DeviceAnswer) (g : Stage) (x : Answer) → HasItsEvents (on_answer_in answer_kind.Abort q d g x)
-abort-has q d Preparing answer.Waiting = abort_early-has q d
-abort-has q d Preparing answer.Ready = abort_early-has q d
-abort-has q d Preparing answer.Done = abort_early-has q d
-abort-has q d Preparing answer.LetGo = abort_early-has q d
-abort-has q d Preparing answer.Failed = abort_early-has q d
-abort-has q d Preparing answer.Excused = none-known
-abort-has q d Decided answer.Waiting = one
-abort-has q d Decided answer.Ready = none-refused
-abort-has q d Decided answer.Done = none-refused
-abort-has q d Decided answer.LetGo = none-refused
-abort-has q d Decided answer.Failed = none-known
-abort-has q d Decided answer.Excused = none-known
-abort-has q d (Cancelling r) answer.Waiting = abort_late-has q d
-abort-has q d (Cancelling r) answer.Ready = none-refused
-abort-has q d (Cancelling r) answer.Done = none-refused
-abort-has q d (Cancelling r) answer.LetGo = none-refused
-abort-has q d (Cancelling r) answer.Failed = none-known
-abort-has q d (Cancelling r) answer.Excused = none-refused
+abort-has : (q : ℕ) (d : DeviceAnswer) (z : Situation) → HasItsEvents (on_abort q d z)
+abort-has q d situation.AskedToStandBy = abort_early-has q d
+abort-has q d situation.StandsBy = abort_early-has q d
+abort-has q d situation.AskedToGo = one
+abort-has q d situation.AskedToLetGo = abort_late-has q d
+abort-has q d situation.Done = none-refused
+abort-has q d situation.LetGo = none-refused
+abort-has q d _ = none-known
 
 release_early-has : (q : ℕ) (d : DeviceAnswer) → HasItsEvents (release_early q d)
 release_early-has q d = if-has d.optional (made_by (event.Excuse q d.device ∷ []))
     (made_by (event.Cancel q Release ∷ event.LetGo q d.device ∷ [])) one two
 
+release_at-has : (q : ℕ) (d : DeviceAnswer) (z : Situation) → HasItsEvents (on_release_at q d z)
+release_at-has q d situation.AskedToStandBy = release_early-has q d
+release_at-has q d situation.StandsBy = release_early-has q d
+release_at-has q d situation.AskedToGo = one
+release_at-has q d situation.AskedToLetGo = one
+release_at-has q d _ = none-known
+
 release_in-has : (q : ℕ) (d : DeviceAnswer) (g : Stage) (x : Answer) → HasItsEvents (on_release_in q d g x)
-release_in-has q d Preparing answer.Waiting = release_early-has q d
-release_in-has q d Preparing answer.Ready = release_early-has q d
-release_in-has q d Preparing answer.Done = release_early-has q d
-release_in-has q d Preparing answer.LetGo = release_early-has q d
-release_in-has q d Preparing answer.Failed = release_early-has q d
-release_in-has q d Preparing answer.Excused = none-known
-release_in-has q d Decided answer.Waiting = one
-release_in-has q d Decided answer.Ready = none-known
-release_in-has q d Decided answer.Done = none-known
-release_in-has q d Decided answer.LetGo = none-known
-release_in-has q d Decided answer.Failed = none-known
-release_in-has q d Decided answer.Excused = none-known
-release_in-has q d (Cancelling r) answer.Waiting = one
-release_in-has q d (Cancelling r) answer.Ready = none-known
-release_in-has q d (Cancelling r) answer.Done = none-known
-release_in-has q d (Cancelling r) answer.LetGo = none-known
-release_in-has q d (Cancelling r) answer.Failed = none-known
-release_in-has q d (Cancelling r) answer.Excused = none-known
+release_in-has q d g x = or-has (on_release_at q d) (situation_of g x) known_already (release_at-has q d) none-known
+
+answer_at-has : (kind : AnswerKind) (q : ℕ) (d : DeviceAnswer) (z : Situation) → HasItsEvents (on_answer_at kind q d z)
+answer_at-has answer_kind.StandingBy q d z = standing_by-has q d z
+answer_at-has answer_kind.Complete q d z = complete-has q d z
+answer_at-has answer_kind.Cancelled q d z = cancelled-has q d z
+answer_at-has answer_kind.Abort q d z = abort-has q d z
 
 answer-has : (kind : AnswerKind) (q : ℕ) (d : DeviceAnswer) (g : Stage) (x : Answer)
     → HasItsEvents (on_answer_in kind q d g x)
-answer-has answer_kind.StandingBy q d g x = standing_by-has q d g x
-answer-has answer_kind.Complete q d g x = complete-has q d g x
-answer-has answer_kind.Cancelled q d g x = cancelled-has q d g x
-answer-has answer_kind.Abort q d g x = abort-has q d g x
+answer-has kind q d g x = or-has (on_answer_at kind q d) (situation_of g x) _ (answer_at-has kind q d) none-refused
 
 answer_to-has : (kind : AnswerKind) (d : ℕ) (a : Attempt) → HasItsEvents (on_answer_to kind d a)
 answer_to-has kind d a = or-has (λ x. on_answer_in kind a.seq x a.stage x.answer) (device_answer a.answers d) _

@@ -1,7 +1,8 @@
 -- What judging makes is acceptable in turn.
-use Rattle.std.proofs.Common.{◌≡◌, ℕ, List, [], ◌∷◌, refl, sym, true≢false, ap, subst, Bool, true, false, not}
+use Rattle.std.proofs.Common.{◌≡◌, ℕ, List, [], ◌∷◌, refl, sym, ap, subst, Bool, true, false, not}
 use Rattle.std.proofs.Common.{◌&&◌, ◌||◌, nat_eq, nat_lt, Option, None, Some, Result, Ok, Err}
 use Rattle.std.specs.Prelude.{IsTrue, IfOk, find, if◌then◌else◌}
+use Rattle.std.specs.List.{list_all}
 use Rattle.std.specs.Option.{option_map, option_map_or}
 use Rattle.cue_show.specs.Show.{has_device}
 use Rattle.cue_exchange.specs.declared.attempt.Answer.{Answer}
@@ -16,9 +17,7 @@ use Rattle.cue_exchange.specs.Answers.{is_waiting, is_preparing, is_decided, is_
 use Rattle.cue_exchange.specs.Answers.{is_excused, is_excusable, is_known_in, can_be_excused, is_required, may_be_in}
 use Rattle.cue_exchange.specs.Answers.{answer_of, device_answer, answer_passes}
 use Rattle.cue_exchange.specs.Live.{attempt_of, attempt_of_device, has_number, has_device as is_of_device}
-use Rattle.cue_exchange.specs.Live.{is_attempt}
 use Rattle.cue_exchange.specs.Steps.{holds, waits_in, after_move}
-use Rattle.cue_exchange.proofs.LiveLemmas.{attempts_of, is_sound-of_attempt, sound_of}
 use Rattle.cue_core.specs.declared.event.Event.{Event}
 use Rattle.cue_core.specs.declared.event.Event.TheVariants as event
 use Rattle.cue_core.specs.declared.command.AnswerKind.{AnswerKind}
@@ -28,12 +27,14 @@ use Rattle.cue_core.specs.declared.command.Command.{Command}
 use Rattle.cue_core.specs.declared.command.Command.TheVariants as command
 use Rattle.cue_core.specs.State.{ShowState, is_state}
 use Rattle.cue_core.specs.Steps.{acceptable, after, are_acceptable}
+use Rattle.cue_core.specs.Answers.{has_situation, EachHasASituation}
 use Rattle.cue_core.specs.Judge.{made_by, refused_with, judgement_of, is_fit}
 use Rattle.cue_core.specs.Judge.{on_release, on_release_of, on_release_in, release_early, abort_early, abort_late}
 use Rattle.cue_core.specs.Judge.{on_answer, on_answer_to, on_answer_in, is_from_another}
-use Rattle.cue_core.proofs.lists.ConditionLemmas.{both, join, same_number}
-use Rattle.cue_core.proofs.live.FindingLemmas.{found_has, found_passes}
-use Rattle.cue_core.proofs.rules.RuleLemmas.{Rules, rules_of}
+use Rattle.cue_core.proofs.lists.ConditionLemmas.{both, join, all_from, same_number}
+use Rattle.cue_core.proofs.live.FindingLemmas.{found_passes}
+use Rattle.cue_core.proofs.rules.RuleLemmas.{rules_of}
+use Rattle.cue_core.proofs.rules.SoundLemmas.{sound_of}
 use Rattle.cue_core.proofs.verdicts.ShowJudgementLemmas.{one, two, add_device_fits, remove_device_fits, add_cue_fits}
 use Rattle.cue_core.proofs.verdicts.ShowJudgementLemmas.{goto_fits, remove_cue_fits, standby_fits}
 use Rattle.cue_core.proofs.verdicts.LiveJudgementLemmas.{found_holds, go_fits, cancel_fits, cancelled_then}
@@ -131,107 +132,49 @@ module _ (s : ShowState) (t : Attempt → Bool) (a : Attempt) (w : DeviceAnswer)
       by false = one s (event.Failed a.seq w.device)
           (waits_fits (Cancelling r) is_concluding answer.Waiting f g refl refl)
 
-  release_in_fits : (stage : Stage) (x : Answer) → a.stage ≡ stage → Told a w x → IsTrue (is_known_in stage x)
+  release_in_fits : (stage : Stage) (x : Answer) → a.stage ≡ stage → Told a w x
       → IsTrue (are_acceptable s (on_release_in a.seq w stage x).1)
-  release_in_fits Preparing answer.Waiting f g k = release_early_fits answer.Waiting f g refl refl
-  release_in_fits Preparing answer.Ready f g k = release_early_fits answer.Ready f g refl refl
-  release_in_fits Preparing answer.Done f g k = absurd (true≢false (sym k))
-  release_in_fits Preparing answer.LetGo f g k = absurd (true≢false (sym k))
-  release_in_fits Preparing answer.Failed f g k = absurd (true≢false (sym k))
-  release_in_fits Preparing answer.Excused f g k = refl
-  release_in_fits Decided answer.Waiting f g k =
+  release_in_fits Preparing answer.Waiting f g = release_early_fits answer.Waiting f g refl refl
+  release_in_fits Preparing answer.Ready f g = release_early_fits answer.Ready f g refl refl
+  release_in_fits Preparing _ f g = refl
+  release_in_fits Decided answer.Waiting f g =
       one s (event.Failed a.seq w.device) (waits_fits Decided is_concluding answer.Waiting f g refl refl)
-  release_in_fits Decided answer.Ready f g k = refl
-  release_in_fits Decided answer.Done f g k = refl
-  release_in_fits Decided answer.LetGo f g k = refl
-  release_in_fits Decided answer.Failed f g k = refl
-  release_in_fits Decided answer.Excused f g k = refl
-  release_in_fits (Cancelling r) answer.Waiting f g k =
+  release_in_fits Decided _ f g = refl
+  release_in_fits (Cancelling r) answer.Waiting f g =
       one s (event.LetGo a.seq w.device) (waits_fits (Cancelling r) is_cancelling answer.Waiting f g refl refl)
-  release_in_fits (Cancelling r) answer.Ready f g k = refl
-  release_in_fits (Cancelling r) answer.Done f g k = refl
-  release_in_fits (Cancelling r) answer.LetGo f g k = refl
-  release_in_fits (Cancelling r) answer.Failed f g k = refl
-  release_in_fits (Cancelling r) answer.Excused f g k = refl
+  release_in_fits (Cancelling r) _ f g = refl
 
   answer_in_fits : (kind : AnswerKind) (stage : Stage) (x : Answer) → a.stage ≡ stage → Told a w x
-      → IsTrue (is_known_in stage x) → IsTrue (are_acceptable s (on_answer_in kind a.seq w stage x).1)
-  answer_in_fits answer_kind.StandingBy Preparing answer.Waiting f g k =
+      → IsTrue (are_acceptable s (on_answer_in kind a.seq w stage x).1)
+  answer_in_fits answer_kind.StandingBy Preparing answer.Waiting f g =
       one s (event.Ready a.seq w.device) (waits_fits Preparing is_preparing answer.Waiting f g refl refl)
-  answer_in_fits answer_kind.StandingBy Preparing answer.Ready f g k = refl
-  answer_in_fits answer_kind.StandingBy Preparing answer.Done f g k = refl
-  answer_in_fits answer_kind.StandingBy Preparing answer.LetGo f g k = refl
-  answer_in_fits answer_kind.StandingBy Preparing answer.Failed f g k = refl
-  answer_in_fits answer_kind.StandingBy Preparing answer.Excused f g k = refl
-  answer_in_fits answer_kind.StandingBy Decided answer.Waiting f g k = refl
-  answer_in_fits answer_kind.StandingBy Decided answer.Ready f g k = refl
-  answer_in_fits answer_kind.StandingBy Decided answer.Done f g k = refl
-  answer_in_fits answer_kind.StandingBy Decided answer.LetGo f g k = refl
-  answer_in_fits answer_kind.StandingBy Decided answer.Failed f g k = refl
-  answer_in_fits answer_kind.StandingBy Decided answer.Excused f g k = refl
-  answer_in_fits answer_kind.StandingBy (Cancelling r) answer.Waiting f g k = refl
-  answer_in_fits answer_kind.StandingBy (Cancelling r) answer.Ready f g k = refl
-  answer_in_fits answer_kind.StandingBy (Cancelling r) answer.Done f g k = refl
-  answer_in_fits answer_kind.StandingBy (Cancelling r) answer.LetGo f g k = refl
-  answer_in_fits answer_kind.StandingBy (Cancelling r) answer.Failed f g k = refl
-  answer_in_fits answer_kind.StandingBy (Cancelling r) answer.Excused f g k = refl
-  answer_in_fits answer_kind.Complete Preparing answer.Waiting f g k = refl
-  answer_in_fits answer_kind.Complete Preparing answer.Ready f g k = refl
-  answer_in_fits answer_kind.Complete Preparing answer.Done f g k = refl
-  answer_in_fits answer_kind.Complete Preparing answer.LetGo f g k = refl
-  answer_in_fits answer_kind.Complete Preparing answer.Failed f g k = refl
-  answer_in_fits answer_kind.Complete Preparing answer.Excused f g k = refl
-  answer_in_fits answer_kind.Complete Decided answer.Waiting f g k =
+  answer_in_fits answer_kind.StandingBy Preparing _ f g = refl
+  answer_in_fits answer_kind.StandingBy Decided answer.Waiting f g = refl
+  answer_in_fits answer_kind.StandingBy Decided _ f g = refl
+  answer_in_fits answer_kind.StandingBy (Cancelling r) answer.Waiting f g = refl
+  answer_in_fits answer_kind.StandingBy (Cancelling r) _ f g = refl
+  answer_in_fits answer_kind.Complete Preparing answer.Waiting f g = refl
+  answer_in_fits answer_kind.Complete Preparing _ f g = refl
+  answer_in_fits answer_kind.Complete Decided answer.Waiting f g =
       one s (event.Done a.seq w.device) (waits_fits Decided is_decided answer.Waiting f g refl refl)
-  answer_in_fits answer_kind.Complete Decided answer.Ready f g k = refl
-  answer_in_fits answer_kind.Complete Decided answer.Done f g k = refl
-  answer_in_fits answer_kind.Complete Decided answer.LetGo f g k = refl
-  answer_in_fits answer_kind.Complete Decided answer.Failed f g k = refl
-  answer_in_fits answer_kind.Complete Decided answer.Excused f g k = refl
-  answer_in_fits answer_kind.Complete (Cancelling r) answer.Waiting f g k = refl
-  answer_in_fits answer_kind.Complete (Cancelling r) answer.Ready f g k = refl
-  answer_in_fits answer_kind.Complete (Cancelling r) answer.Done f g k = refl
-  answer_in_fits answer_kind.Complete (Cancelling r) answer.LetGo f g k = refl
-  answer_in_fits answer_kind.Complete (Cancelling r) answer.Failed f g k = refl
-  answer_in_fits answer_kind.Complete (Cancelling r) answer.Excused f g k = refl
-  answer_in_fits answer_kind.Cancelled Preparing answer.Waiting f g k = refl
-  answer_in_fits answer_kind.Cancelled Preparing answer.Ready f g k = refl
-  answer_in_fits answer_kind.Cancelled Preparing answer.Done f g k = refl
-  answer_in_fits answer_kind.Cancelled Preparing answer.LetGo f g k = refl
-  answer_in_fits answer_kind.Cancelled Preparing answer.Failed f g k = refl
-  answer_in_fits answer_kind.Cancelled Preparing answer.Excused f g k = refl
-  answer_in_fits answer_kind.Cancelled Decided answer.Waiting f g k = refl
-  answer_in_fits answer_kind.Cancelled Decided answer.Ready f g k = refl
-  answer_in_fits answer_kind.Cancelled Decided answer.Done f g k = refl
-  answer_in_fits answer_kind.Cancelled Decided answer.LetGo f g k = refl
-  answer_in_fits answer_kind.Cancelled Decided answer.Failed f g k = refl
-  answer_in_fits answer_kind.Cancelled Decided answer.Excused f g k = refl
-  answer_in_fits answer_kind.Cancelled (Cancelling r) answer.Waiting f g k =
+  answer_in_fits answer_kind.Complete Decided _ f g = refl
+  answer_in_fits answer_kind.Complete (Cancelling r) answer.Waiting f g = refl
+  answer_in_fits answer_kind.Complete (Cancelling r) _ f g = refl
+  answer_in_fits answer_kind.Cancelled Preparing answer.Waiting f g = refl
+  answer_in_fits answer_kind.Cancelled Preparing _ f g = refl
+  answer_in_fits answer_kind.Cancelled Decided answer.Waiting f g = refl
+  answer_in_fits answer_kind.Cancelled Decided _ f g = refl
+  answer_in_fits answer_kind.Cancelled (Cancelling r) answer.Waiting f g =
       one s (event.LetGo a.seq w.device) (waits_fits (Cancelling r) is_cancelling answer.Waiting f g refl refl)
-  answer_in_fits answer_kind.Cancelled (Cancelling r) answer.Ready f g k = refl
-  answer_in_fits answer_kind.Cancelled (Cancelling r) answer.Done f g k = refl
-  answer_in_fits answer_kind.Cancelled (Cancelling r) answer.LetGo f g k = refl
-  answer_in_fits answer_kind.Cancelled (Cancelling r) answer.Failed f g k = refl
-  answer_in_fits answer_kind.Cancelled (Cancelling r) answer.Excused f g k = refl
-  answer_in_fits answer_kind.Abort Preparing answer.Waiting f g k = abort_early_fits answer.Waiting f g refl refl
-  answer_in_fits answer_kind.Abort Preparing answer.Ready f g k = abort_early_fits answer.Ready f g refl refl
-  answer_in_fits answer_kind.Abort Preparing answer.Done f g k = absurd (true≢false (sym k))
-  answer_in_fits answer_kind.Abort Preparing answer.LetGo f g k = absurd (true≢false (sym k))
-  answer_in_fits answer_kind.Abort Preparing answer.Failed f g k = absurd (true≢false (sym k))
-  answer_in_fits answer_kind.Abort Preparing answer.Excused f g k = refl
-  answer_in_fits answer_kind.Abort Decided answer.Waiting f g k =
+  answer_in_fits answer_kind.Cancelled (Cancelling r) _ f g = refl
+  answer_in_fits answer_kind.Abort Preparing answer.Waiting f g = abort_early_fits answer.Waiting f g refl refl
+  answer_in_fits answer_kind.Abort Preparing answer.Ready f g = abort_early_fits answer.Ready f g refl refl
+  answer_in_fits answer_kind.Abort Preparing _ f g = refl
+  answer_in_fits answer_kind.Abort Decided answer.Waiting f g =
       one s (event.Failed a.seq w.device) (waits_fits Decided is_concluding answer.Waiting f g refl refl)
-  answer_in_fits answer_kind.Abort Decided answer.Ready f g k = refl
-  answer_in_fits answer_kind.Abort Decided answer.Done f g k = refl
-  answer_in_fits answer_kind.Abort Decided answer.LetGo f g k = refl
-  answer_in_fits answer_kind.Abort Decided answer.Failed f g k = refl
-  answer_in_fits answer_kind.Abort Decided answer.Excused f g k = refl
-  answer_in_fits answer_kind.Abort (Cancelling r) answer.Waiting f g k = abort_late_fits r f g
-  answer_in_fits answer_kind.Abort (Cancelling r) answer.Ready f g k = refl
-  answer_in_fits answer_kind.Abort (Cancelling r) answer.Done f g k = refl
-  answer_in_fits answer_kind.Abort (Cancelling r) answer.LetGo f g k = refl
-  answer_in_fits answer_kind.Abort (Cancelling r) answer.Failed f g k = refl
-  answer_in_fits answer_kind.Abort (Cancelling r) answer.Excused f g k = refl
+  answer_in_fits answer_kind.Abort Decided _ f g = refl
+  answer_in_fits answer_kind.Abort (Cancelling r) answer.Waiting f g = abort_late_fits r f g
+  answer_in_fits answer_kind.Abort (Cancelling r) _ f g = refl
 
 -- the device that is found is the one that was looked for, with its answer
 found_told : (d : ℕ) (a : Attempt) (w : DeviceAnswer) → device_answer a.answers d ≡ Some w → Told a w w.answer
@@ -244,50 +187,39 @@ found_told d a w g =
       same = refl;
     }
 
--- and its stage knows the answer
-found_known : (d : ℕ) (s : ShowState) (t : Attempt → Bool) (a : Attempt) (w : DeviceAnswer) → Rules s
-    → find t s.live ≡ Some a → device_answer a.answers d ≡ Some w → IsTrue (is_known_in a.stage w.answer)
-found_known d s t a w r e g =
-    let attempt = found_has is_attempt t s.live a (attempts_of s.live r.live) e in
-    let stand = (sound_of a (is_sound-of_attempt a attempt)).stand in
-    (both (is_known_in a.stage w.answer) (not (is_required w && is_excused w.answer))
-    (found_has (may_be_in a.stage) (λ x. nat_eq x.device d) a.answers w stand g)).0
-
-release_of_fits : (s : ShowState) (d : ℕ) (a : Attempt) → Rules s → attempt_of_device s.live d ≡ Some a
+release_of_fits : (s : ShowState) (d : ℕ) (a : Attempt) → attempt_of_device s.live d ≡ Some a
     → IsTrue (are_acceptable s (on_release_of d a).1)
-release_of_fits s d a r e = by (device_answer a.answers d) refl
+release_of_fits s d a e = by (device_answer a.answers d) refl
   where
     by : (o : Option DeviceAnswer) → device_answer a.answers d ≡ o
         → IsTrue (are_acceptable s
         (option_map_or (λ x. on_release_in a.seq x a.stage x.answer) o (refused_with code.NotLive)).1)
     by None g = refl
     by (Some w) g = release_in_fits s (is_of_device d) a w e a.stage w.answer refl (found_told d a w g)
-        (found_known d s (is_of_device d) a w r e g)
 
-answer_to_fits : (s : ShowState) (q d : ℕ) (a : Attempt) → Rules s → attempt_of s.live q ≡ Some a → (kind : AnswerKind)
+answer_to_fits : (s : ShowState) (q d : ℕ) (a : Attempt) → attempt_of s.live q ≡ Some a → (kind : AnswerKind)
     → IsTrue (are_acceptable s (on_answer_to kind d a).1)
-answer_to_fits s q d a r e kind = by (device_answer a.answers d) refl
+answer_to_fits s q d a e kind = by (device_answer a.answers d) refl
   where
     by : (o : Option DeviceAnswer) → device_answer a.answers d ≡ o
         → IsTrue (are_acceptable s
         (option_map_or (λ x. on_answer_in kind a.seq x a.stage x.answer) o (refused_with code.NotPart)).1)
     by None g = refl
     by (Some w) g = answer_in_fits s (has_number q) a w e kind a.stage w.answer refl (found_told d a w g)
-        (found_known d s (has_number q) a w r e g)
 
-release_fits : (s : ShowState) (d : ℕ) → Rules s → IsTrue (are_acceptable s (on_release s d).1)
-release_fits s d r = by (has_device s.show d) (attempt_of_device s.live d) refl
+release_fits : (s : ShowState) (d : ℕ) → IsTrue (are_acceptable s (on_release s d).1)
+release_fits s d = by (has_device s.show d) (attempt_of_device s.live d) refl
   where
     by : (b : Bool) (o : Option Attempt) → attempt_of_device s.live d ≡ o
         → IsTrue (are_acceptable s (if not b then refused_with code.NoMethod else option_map_or (on_release_of d) o
         (refused_with code.NotLive)).1)
     by false o e = refl
     by true None e = refl
-    by true (Some a) e = release_of_fits s d a r e
+    by true (Some a) e = release_of_fits s d a e
 
-answer_fits : (s : ShowState) (from : ℕ) (kind : AnswerKind) (d q : ℕ) → Rules s
+answer_fits : (s : ShowState) (from : ℕ) (kind : AnswerKind) (d q : ℕ)
     → IsTrue (are_acceptable s (on_answer s from kind d q).1)
-answer_fits s from kind d q r = by (has_device s.show d) (is_from_another s d from) (nat_lt s.last_seq q)
+answer_fits s from kind d q = by (has_device s.show d) (is_from_another s d from) (nat_lt s.last_seq q)
     (attempt_of s.live q) refl
   where
     by : (b p l : Bool) (o : Option Attempt) → attempt_of s.live q ≡ o
@@ -298,7 +230,16 @@ answer_fits s from kind d q r = by (has_device s.show d) (is_from_another s d fr
     by true true l o e = refl
     by true false true o e = refl
     by true false false None e = refl
-    by true false false (Some a) e = answer_to_fits s q d a r e kind
+    by true false false (Some a) e = answer_to_fits s q d a e kind
+
+-- ---- the situations of devices
+
+pub each-has-a-situation : EachHasASituation
+each-has-a-situation s h = all_from (λ a. list_all (may_be_in a.stage) a.answers)
+    (λ a. list_all (has_situation a.stage) a.answers) s.live
+    (λ a k. all_from (may_be_in a.stage) (has_situation a.stage) a.answers
+    (λ x m. (both (is_known_in a.stage x.answer) (not (is_required x && is_excused x.answer)) m).0) k)
+    (sound_of s h).stand
 
 -- ---- all commands
 
@@ -312,8 +253,8 @@ judgement_of-acceptable s now from (command.Go c) h fit = go_fits s c
 judgement_of-acceptable s now from (command.Cancel c) h fit = cancel_fits s c
 judgement_of-acceptable s now from (command.Goto c) h fit = goto_fits s c
 judgement_of-acceptable s now from (command.RemoveCue c) h fit = remove_cue_fits s c
-judgement_of-acceptable s now from (command.Reply kind d q) h fit = answer_fits s from kind d q (rules_of s h)
-judgement_of-acceptable s now from (command.Release d) h fit = release_fits s d (rules_of s h)
+judgement_of-acceptable s now from (command.Reply kind d q) h fit = answer_fits s from kind d q
+judgement_of-acceptable s now from (command.Release d) h fit = release_fits s d
 judgement_of-acceptable s now from (command.RemoveDevice d) h fit = remove_device_fits s d
 judgement_of-acceptable s now from (command.Bad c) h fit = refl
 

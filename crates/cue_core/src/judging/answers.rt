@@ -1,9 +1,10 @@
-//! Answers of devices: what each makes of the stage of its attempt and of what the device has answered so far.
+//! Answers of devices: what each makes of the situation of its device.
 ghost use Rattle.std.specs.Prelude.{◌≡◌, [], ◌∷◌};
 ghost use Rattle.cue_exchange.specs.declared.attempt.Reason.TheVariants as reason;
 ghost use Rattle.cue_core.specs.declared.event.Event.TheVariants as event;
 ghost use Rattle.cue_core.specs.declared.command.Code.TheVariants as code;
-ghost use Rattle.cue_core.specs.Judge.{made_by, refused_with, on_answer, on_answer_to, on_answer_in, is_from_another};
+ghost use Rattle.cue_core.specs.Judge.{made_by, refused_with, on_answer, on_answer_to, on_answer_in, on_answer_at};
+ghost use Rattle.cue_core.specs.Judge.{is_from_another};
 ghost use Rattle.cue_core.specs.Judge.{on_standing_by, on_complete, on_cancelled, on_abort, abort_early, abort_late};
 
 use crate::command::{AnswerKind, Code, Verdict};
@@ -11,7 +12,7 @@ use crate::event::Event;
 use crate::events::Events;
 use crate::judging::verdicts::{known, made, made_by_two, refused};
 use crate::state::State;
-use cue_exchange::{Answer, Attempt, DeviceAnswer, Reason, Stage};
+use cue_exchange::{Attempt, DeviceAnswer, Reason, Situation, Stage};
 use cue_show::DeviceNo;
 
 pub(crate) fn on_answer(
@@ -60,74 +61,74 @@ fn on_answer_to(attempt: &Attempt, kind: AnswerKind, device: DeviceNo) -> (Verdi
 fn on_answer_in(kind: AnswerKind, seq: u32, told: DeviceAnswer, stage: Stage) -> (Verdict, Events)
     ensures { result ≡ on_answer_in kind seq told stage told.answer }
 {
+    match Situation::of(stage, told.answer) {
+        None => stale(),
+        Some(situation) => on_answer_at(kind, seq, told, situation),
+    }
+}
+
+fn on_answer_at(
+    kind: AnswerKind,
+    seq: u32,
+    told: DeviceAnswer,
+    situation: Situation,
+) -> (Verdict, Events)
+    ensures { result ≡ on_answer_at kind seq told situation }
+{
     match kind {
-        AnswerKind::StandingBy => on_standing_by(seq, told, stage),
-        AnswerKind::Complete => on_complete(seq, told, stage),
-        AnswerKind::Cancelled => on_cancelled(seq, told, stage),
-        AnswerKind::Abort => on_abort(seq, told, stage),
+        AnswerKind::StandingBy => on_standing_by(seq, told, situation),
+        AnswerKind::Complete => on_complete(seq, told, situation),
+        AnswerKind::Cancelled => on_cancelled(seq, told, situation),
+        AnswerKind::Abort => on_abort(seq, told, situation),
     }
 }
 
-fn on_standing_by(seq: u32, told: DeviceAnswer, stage: Stage) -> (Verdict, Events)
-    ensures { result ≡ on_standing_by seq told stage told.answer }
+fn on_standing_by(seq: u32, told: DeviceAnswer, situation: Situation) -> (Verdict, Events)
+    ensures { result ≡ on_standing_by seq told situation }
 {
-    match (stage, told.answer) {
-        (Stage::Preparing | Stage::Decided | Stage::Cancelling(_), Answer::Excused) => stale(),
-        (Stage::Preparing, Answer::Waiting) => made(Event::Ready(seq, told.device)),
-        (Stage::Preparing, Answer::Ready | Answer::Done) => known(),
-        (Stage::Preparing, Answer::LetGo | Answer::Failed) => known(),
-        (Stage::Decided, Answer::Waiting | Answer::Ready) => known(),
-        (Stage::Decided, Answer::Done | Answer::LetGo) => known(),
-        (Stage::Decided, Answer::Failed) => stale(),
-        (Stage::Cancelling(_), Answer::Waiting | Answer::Ready | Answer::Done) => stale(),
-        (Stage::Cancelling(_), Answer::LetGo | Answer::Failed) => stale(),
+    match situation {
+        Situation::AskedToStandBy => made(Event::Ready(seq, told.device)),
+        Situation::StandsBy | Situation::AskedToGo | Situation::Done => known(),
+        Situation::Excused | Situation::FailedAfterGo | Situation::LeftOut => stale(),
+        Situation::AskedToLetGo | Situation::LetGo | Situation::FailedAfterCancel => stale(),
     }
 }
 
-fn on_complete(seq: u32, told: DeviceAnswer, stage: Stage) -> (Verdict, Events)
-    ensures { result ≡ on_complete seq told stage told.answer }
+fn on_complete(seq: u32, told: DeviceAnswer, situation: Situation) -> (Verdict, Events)
+    ensures { result ≡ on_complete seq told situation }
 {
-    match (stage, told.answer) {
-        (Stage::Preparing, Answer::Waiting | Answer::Ready | Answer::Done) => early(),
-        (Stage::Preparing, Answer::LetGo | Answer::Failed | Answer::Excused) => early(),
-        (Stage::Decided, Answer::Waiting) => made(Event::Done(seq, told.device)),
-        (Stage::Decided, Answer::Done) => known(),
-        (Stage::Decided, Answer::Ready | Answer::LetGo | Answer::Failed) => stale(),
-        (Stage::Decided | Stage::Cancelling(_), Answer::Excused) => stale(),
-        (Stage::Cancelling(_), Answer::Waiting | Answer::Ready | Answer::Done) => stale(),
-        (Stage::Cancelling(_), Answer::LetGo | Answer::Failed) => stale(),
+    match situation {
+        Situation::AskedToStandBy | Situation::StandsBy | Situation::Excused => early(),
+        Situation::AskedToGo => made(Event::Done(seq, told.device)),
+        Situation::Done => known(),
+        Situation::FailedAfterGo | Situation::LeftOut => stale(),
+        Situation::AskedToLetGo | Situation::LetGo | Situation::FailedAfterCancel => stale(),
     }
 }
 
-fn on_cancelled(seq: u32, told: DeviceAnswer, stage: Stage) -> (Verdict, Events)
-    ensures { result ≡ on_cancelled seq told stage told.answer }
+fn on_cancelled(seq: u32, told: DeviceAnswer, situation: Situation) -> (Verdict, Events)
+    ensures { result ≡ on_cancelled seq told situation }
 {
-    match (stage, told.answer) {
-        (Stage::Preparing, Answer::Waiting | Answer::Ready | Answer::Done) => early(),
-        (Stage::Preparing, Answer::LetGo | Answer::Failed | Answer::Excused) => early(),
-        (Stage::Decided, Answer::Waiting | Answer::Ready | Answer::Done) => decided(),
-        (Stage::Decided, Answer::LetGo | Answer::Failed | Answer::Excused) => decided(),
-        (Stage::Cancelling(_), Answer::Waiting) => made(Event::LetGo(seq, told.device)),
-        (Stage::Cancelling(_), Answer::LetGo) => known(),
-        (Stage::Cancelling(_), Answer::Ready | Answer::Done) => stale(),
-        (Stage::Cancelling(_), Answer::Failed | Answer::Excused) => stale(),
+    match situation {
+        Situation::AskedToStandBy | Situation::StandsBy | Situation::Excused => early(),
+        Situation::AskedToGo | Situation::Done => decided(),
+        Situation::FailedAfterGo | Situation::LeftOut => decided(),
+        Situation::AskedToLetGo => made(Event::LetGo(seq, told.device)),
+        Situation::LetGo => known(),
+        Situation::FailedAfterCancel => stale(),
     }
 }
 
-fn on_abort(seq: u32, told: DeviceAnswer, stage: Stage) -> (Verdict, Events)
-    ensures { result ≡ on_abort seq told stage told.answer }
+fn on_abort(seq: u32, told: DeviceAnswer, situation: Situation) -> (Verdict, Events)
+    ensures { result ≡ on_abort seq told situation }
 {
-    match (stage, told.answer) {
-        (Stage::Preparing, Answer::Waiting | Answer::Ready) => abort_early(seq, told),
-        (Stage::Preparing, Answer::Done | Answer::LetGo | Answer::Failed) => abort_early(seq, told),
-        (Stage::Preparing | Stage::Decided, Answer::Excused) => known(),
-        (Stage::Decided, Answer::Waiting) => made(Event::Failed(seq, told.device)),
-        (Stage::Decided, Answer::Failed) => known(),
-        (Stage::Decided, Answer::Ready | Answer::Done | Answer::LetGo) => stale(),
-        (Stage::Cancelling(_), Answer::Waiting) => abort_late(seq, told),
-        (Stage::Cancelling(_), Answer::Failed) => known(),
-        (Stage::Cancelling(_), Answer::Ready | Answer::Done) => stale(),
-        (Stage::Cancelling(_), Answer::LetGo | Answer::Excused) => stale(),
+    match situation {
+        Situation::AskedToStandBy | Situation::StandsBy => abort_early(seq, told),
+        Situation::AskedToGo => made(Event::Failed(seq, told.device)),
+        Situation::AskedToLetGo => abort_late(seq, told),
+        Situation::Excused | Situation::LeftOut => known(),
+        Situation::FailedAfterGo | Situation::FailedAfterCancel => known(),
+        Situation::Done | Situation::LetGo => stale(),
     }
 }
 

@@ -3,7 +3,8 @@ ghost use Rattle.std.specs.Prelude.{◌≡◌, [], ◌∷◌};
 ghost use Rattle.cue_exchange.specs.declared.attempt.Reason.TheVariants as reason;
 ghost use Rattle.cue_core.specs.declared.event.Event.TheVariants as event;
 ghost use Rattle.cue_core.specs.Judge.{made_by, prepares, on_standby, on_standby_of, on_go, on_go_of, on_cancel};
-ghost use Rattle.cue_core.specs.Judge.{on_cancel_of, on_release, on_release_of, on_release_in, release_early};
+ghost use Rattle.cue_core.specs.Judge.{on_cancel_of, on_release, on_release_of, on_release_in, on_release_at};
+ghost use Rattle.cue_core.specs.Judge.{release_early};
 
 use crate::command::{Code, Verdict};
 use crate::event::Event;
@@ -12,7 +13,7 @@ use crate::judging::verdicts::{known, made, made_by_two, refused};
 use crate::limits::STANDBY_MS;
 use crate::state::State;
 use cue_exchange::limits::MAX_NUMBER;
-use cue_exchange::{Answer, Attempt, DeviceAnswer, Reason, Stage};
+use cue_exchange::{Attempt, DeviceAnswer, Reason, Situation, Stage};
 use cue_show::{CueNo, DeviceNo, Parts};
 
 pub(crate) fn on_standby(state: &State, now: u64, cue: CueNo) -> (Verdict, Events)
@@ -128,18 +129,22 @@ fn on_release_of(attempt: &Attempt, device: DeviceNo) -> (Verdict, Events)
 fn on_release_in(seq: u32, told: DeviceAnswer, stage: Stage) -> (Verdict, Events)
     ensures { result ≡ on_release_in seq told stage told.answer }
 {
-    match (stage, told.answer) {
-        (Stage::Preparing | Stage::Decided | Stage::Cancelling(_), Answer::Excused) => known(),
-        (Stage::Preparing, Answer::Waiting | Answer::Ready) => release_early(seq, told),
-        (Stage::Preparing, Answer::Done | Answer::LetGo | Answer::Failed) => {
-            release_early(seq, told)
-        }
-        (Stage::Decided, Answer::Waiting) => made(Event::Failed(seq, told.device)),
-        (Stage::Decided, Answer::Ready | Answer::Done) => known(),
-        (Stage::Decided, Answer::LetGo | Answer::Failed) => known(),
-        (Stage::Cancelling(_), Answer::Waiting) => made(Event::LetGo(seq, told.device)),
-        (Stage::Cancelling(_), Answer::Ready | Answer::Done) => known(),
-        (Stage::Cancelling(_), Answer::LetGo | Answer::Failed) => known(),
+    match Situation::of(stage, told.answer) {
+        None => known(),
+        Some(situation) => on_release_at(seq, told, situation),
+    }
+}
+
+fn on_release_at(seq: u32, told: DeviceAnswer, situation: Situation) -> (Verdict, Events)
+    ensures { result ≡ on_release_at seq told situation }
+{
+    match situation {
+        Situation::AskedToStandBy | Situation::StandsBy => release_early(seq, told),
+        Situation::AskedToGo => made(Event::Failed(seq, told.device)),
+        Situation::AskedToLetGo => made(Event::LetGo(seq, told.device)),
+        Situation::Excused | Situation::LeftOut => known(),
+        Situation::Done | Situation::FailedAfterGo => known(),
+        Situation::LetGo | Situation::FailedAfterCancel => known(),
     }
 }
 

@@ -1,4 +1,4 @@
--- The pending orders of the attempts with some numbers, attempt by attempt.
+-- The pending orders of some attempts, attempt by attempt.
 use Rattle.std.proofs.Common.{◌≡◌, ℕ, ◌+◌, ◌<◌, Bool, true, false, cond, List, [], ◌∷◌, ◌++◌, length, filter, drop}
 use Rattle.std.proofs.Common.{get_or, refl, sym, ◌∙◌, ap, append_assoc}
 use Rattle.std.specs.List.{AllByRecursion, flat_map}
@@ -9,10 +9,19 @@ use Rattle.cue_core.specs.State.{ShowState}
 use Rattle.cue_core.specs.Pending.{Order}
 use Rattle.cue_outbox.specs.Sending.{order, datagram, datagrams, orders}
 use Rattle.cue_outbox.specs.Asked.{number_of}
-use Rattle.cue_outbox.specs.Owed.{datagrams_for, datagrams_of}
+use Rattle.cue_outbox.specs.Owed.{datagrams_for}
 use Rattle.cue_outbox.proofs.ListLemmas.{each_weaker, filter-append}
 use Rattle.cue_outbox.proofs.SinceLemmas.{told}
 use Rattle.cue_outbox.proofs.NewlyPendingLemmas.{IsOf, told_of}
+
+-- the datagrams to the devices of those attempts
+abbrev pub datagrams_in : ShowState → List Attempt → List (ℕ × List ℕ)
+datagrams_in s attempts = datagrams (orders (flat_map (told s) attempts))
+
+-- the datagrams to the devices of those of the attempts that have one of the numbers
+abbrev pub datagrams_of : ShowState → List ℕ → List Attempt → List (ℕ × List ℕ)
+datagrams_of s numbers attempts =
+    datagrams (orders (filter (λ o. is_among (number_of o.1) numbers) (flat_map (told s) attempts)))
 
 -- where each has one outcome, all are kept or none
 filter-alike : {A : Type 0} (test : A → Bool) (b : Bool) (xs : List A) → AllByRecursion (λ x. test x ≡ b) xs

@@ -1,5 +1,5 @@
 -- What events in turn leave of the orders of each live attempt.
-use Rattle.std.proofs.Common.{◌≡◌, ℕ, ◌+◌, ◌≤◌, List, [], ◌∷◌, refl, sym, ◌∙◌, ap, subst, Bool, true}
+use Rattle.std.proofs.Common.{◌≡◌, ℕ, ◌+◌, ◌≤◌, List, [], ◌∷◌, refl, sym, ◌∙◌, subst, Bool, true}
 use Rattle.std.proofs.Common.{false, ◌||◌, nat_eq, arith, Option, None, Some, IsTrue}
 use Rattle.std.specs.List.{filter_map, cons_option}
 use Rattle.std.specs.Option.{option_map_or}

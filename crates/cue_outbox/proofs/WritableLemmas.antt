@@ -13,7 +13,7 @@ use Rattle.cue_exchange.specs.Answers.{waits}
 use Rattle.cue_core.specs.State.{ShowState, cue_parts, is_state}
 use Rattle.cue_core.specs.Pending.{Order, bytes_for, order_at, order_for, pending}
 use Rattle.cue_outbox.specs.Sending.{Send, order, order_content, send_content}
-use Rattle.cue_outbox.specs.Owed.{order_to}
+use Rattle.cue_outbox.specs.Owed.{order_in}
 use Rattle.cue_outbox.specs.Laws.{IsReadBack, OrdersAreRead, OrdersHavePorts}
 use Rattle.cue_outbox.proofs.ReadBackLemmas.{IsWritable, read_back, standby_writable, go_2pc_writable, cancel_writable}
 use Rattle.cue_outbox.proofs.ListLemmas.{each_weaker, each_map, each_found, each_flat}
@@ -21,7 +21,7 @@ use Rattle.cue_outbox.proofs.ReportLemmas.{IsTold, live_told}
 
 -- the port of a device of the attempt, and what it is told
 abbrev pub sent : ShowState → Attempt → DeviceAnswer → ℕ × Order
-sent s a x = (unwrap_or (port_of s.show x.device) 0, order_to s.show a x.device)
+sent s a x = (unwrap_or (port_of s.show x.device) 0, order_in a (cue_parts s.show a.cue) x.device)
 
 -- what holds of it holds of it also where the device is to be told nothing
 pub if_waits : (b : Bool) (o : ℕ × Order) (P : ℕ × Order → Type 0) → P o → IfSome (cond b (Some o) None) P

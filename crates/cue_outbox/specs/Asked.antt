@@ -3,8 +3,7 @@ use Rattle.std.specs.Prelude.{◌≡◌, ◌≢◌, ℕ, Bool, List, filter, Opt
 use Rattle.std.specs.List.{AllPairs, filter_map, list_all}
 use Rattle.cue_show.specs.Devices.{is_among}
 use Rattle.cue_core.specs.declared.event.Event.{Event}
-use Rattle.cue_core.specs.declared.event.Event.TheVariants.{Device, NoDevice, Cue, NoCue, Place, Start, Ready, Go, Done}
-use Rattle.cue_core.specs.declared.event.Event.TheVariants.{Cancel, LetGo, Failed, Excuse}
+use Rattle.cue_core.specs.declared.event.Event.TheVariants.{Start, Go, Cancel}
 use Rattle.cue_core.specs.State.{ShowState, is_state}
 use Rattle.cue_core.specs.declared.command.Command.{Command}
 use Rattle.cue_core.specs.Steps.{are_acceptable, after_events}
@@ -22,19 +21,10 @@ number_of (cancel q d) = q
 
 -- the attempt whose devices get new orders by the event: it starts, is decided, or is cancelled
 abbrev pub number_asked : Event → Option ℕ
-number_asked (Device d port) = None
-number_asked (NoDevice d) = None
-number_asked (Cue c parts) = None
-number_asked (NoCue c) = None
-number_asked (Place c) = None
 number_asked (Start q c t) = Some q
-number_asked (Ready q d) = None
 number_asked (Go q) = Some q
-number_asked (Done q d) = None
 number_asked (Cancel q r) = Some q
-number_asked (LetGo q d) = None
-number_asked (Failed q d) = None
-number_asked (Excuse q d) = None
+number_asked _ = None
 
 -- the devices of q get new orders by some of the events
 abbrev pub is_asked : ℕ → List Event → Bool

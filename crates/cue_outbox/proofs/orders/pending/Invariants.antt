@@ -1,7 +1,7 @@
 use Rattle.std.specs.Prelude.{◌≡◌, ◌++◌, drop}
 use Rattle.cue_outbox.specs.Sending.{datagrams, all_pending}
-use Rattle.cue_outbox.specs.Owed.{datagrams_in}
 use Rattle.cue_outbox.specs.Views.{outs_view}
+use Rattle.cue_outbox.proofs.CountedLemmas.{datagrams_in}
 use Rattle.cue_outbox.proofs.orders.pending.Given as goal
 
 -- what was found, and the orders of the attempts that are left, are all

@@ -11,10 +11,11 @@ pub record Area : Type 0 where
   pub snapshot : List ℕ
   pub payloads : List (List ℕ)
 
--- a number in four bytes, and in eight, the highest byte first
+-- a number in four bytes, the highest byte first
 unfoldable pub four_bytes : ℕ → List ℕ
 four_bytes n = to_be_bytes w32 n
 
+-- a number in eight bytes, the highest byte first
 unfoldable pub eight_bytes : ℕ → List ℕ
 eight_bytes n = to_be_bytes w64 n
 

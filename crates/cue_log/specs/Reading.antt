@@ -7,10 +7,11 @@ use Rattle.cue_log.specs.declared.area.TheConstants.{MAX_AREA, MAX_PAYLOAD}
 use Rattle.std.specs.Option.{option_map}
 use Rattle.cue_log.specs.Area.{Area, records_text}
 
--- the number in the first four bytes, and in the first eight
+-- the number in the first four bytes
 unfoldable pub four_at : List ℕ → ℕ
 four_at bytes = from_be_bytes w32 (take 4 bytes)
 
+-- the number in the first eight bytes
 unfoldable pub eight_at : List ℕ → ℕ
 eight_at bytes = from_be_bytes w64 (take 8 bytes)
 
@@ -20,16 +21,18 @@ frame_at most bytes =
     if nat_lt (length bytes) 4 || (nat_lt most (four_at bytes) || nat_lt (length bytes) (4 + four_at bytes)) then None
     else Some (take (four_at bytes) (drop 4 bytes), drop (4 + four_at bytes) bytes)
 
--- the payloads up to a gate that is not open, of at most so many records
+-- this payload, and then those, where there are any
 abbrev pub in_front : List ℕ → Option (List (List ℕ)) → Option (List (List ℕ))
 in_front payload None = None
 in_front payload (Some payloads) = Some (payload ∷ payloads)
 
+-- the payloads of a record that was read, and of those that are read after it
 abbrev pub payloads_after :
     (List ℕ → Option (List (List ℕ))) → Option (List ℕ × List ℕ) → Option (List (List ℕ))
 payloads_after rest_at None = None
 payloads_after rest_at (Some frame) = in_front frame.0 (rest_at frame.1)
 
+-- the payloads up to a gate that is not open, of at most so many records
 abbrev pub payloads_at : ℕ → List ℕ → Option (List (List ℕ))
 payloads_at zero bytes = None
 payloads_at (suc most) [] = None
@@ -41,11 +44,12 @@ abbrev pub behind : List (List ℕ) → Option (List (List ℕ)) → Option (Lis
 behind front None = None
 behind front (Some payloads) = Some (front ++ payloads)
 
--- the payloads up to the last gate; none where these bytes are no records
+-- those that were read, and else none
 abbrev pub or_none : Option (List (List ℕ)) → List (List ℕ)
 or_none None = []
 or_none (Some payloads) = payloads
 
+-- the payloads of records that stand here; none where these bytes are no records
 abbrev pub payloads_in : List ℕ → List (List ℕ)
 payloads_in bytes = or_none (payloads_at (length bytes) bytes)
 
@@ -53,11 +57,13 @@ payloads_in bytes = or_none (payloads_at (length bytes) bytes)
 abbrev pub HasRecords : List ℕ → Type 0
 HasRecords bytes = IsSome (payloads_at (length bytes) bytes)
 
+-- the area of this generation and snapshot, where its records were read
 abbrev pub area_with : ℕ → List ℕ → Option (List (List ℕ)) → Option Area
 area_with generation snapshot None = None
 area_with generation snapshot (Some payloads) =
     Some (record { generation = generation; snapshot = snapshot; payloads = payloads })
 
+-- the area of this generation, where its snapshot was read, with the records after that
 abbrev pub area_after : ℕ → Option (List ℕ × List ℕ) → Option Area
 area_after generation None = None
 area_after generation (Some frame) = area_with generation frame.0 (payloads_at (length frame.1) frame.1)
@@ -74,11 +80,12 @@ area_at (gate ∷ bytes) =
 unfoldable pub read_area : List ℕ → Option Area
 read_area bytes = area_at (take MAX_AREA bytes)
 
--- The same, with an empty one where there is none.
+-- an area that was read, and else an empty one
 abbrev pub or_empty : Option Area → Area
 or_empty None = record { generation = 0; snapshot = []; payloads = [] }
 or_empty (Some area) = area
 
+-- the area that the bytes read as, and an empty one where there is none
 abbrev pub area_in : List ℕ → Area
 area_in bytes = or_empty (read_area bytes)
 

@@ -21,6 +21,7 @@ pub record ShowLists : Type 0 where
   pub cues : Cues
   pub place : Option (List ℕ)
 
+-- no device, no cue, and no place
 abbrev pub empty_show : ShowLists
 empty_show = record { devices = []; cues = []; place = None }
 
@@ -34,9 +35,11 @@ port_of s d = lookup (nat_eq d) s.devices
 abbrev pub parts_of : ShowLists → List ℕ → Option (List Part)
 parts_of s c = lookup (same_text c) s.cues
 
+-- the device is in the table
 abbrev pub has_device : ShowLists → ℕ → Bool
 has_device s d = is_some (port_of s d)
 
+-- the cue is in the stack
 abbrev pub has_cue : ShowLists → List ℕ → Bool
 has_cue s c = is_some (parts_of s c)
 
@@ -101,12 +104,15 @@ is_show s = is_table s.devices && (is_stack_of s s.cues && is_place_of s s.place
 
 -- ---- what may be asked of it
 
+-- the device has the number and the port of one, and is not in the table
 abbrev pub can_add_device : ShowLists → ℕ → ℕ → Bool
 can_add_device s d port = not (has_device s d) && (is_device d && is_port port)
 
+-- the device is in the table, and no cue has a part for it
 abbrev pub can_remove_device : ShowLists → ℕ → Bool
 can_remove_device s d = has_device s d && not (is_used s d)
 
+-- the cue is one that the stack can have, is not in it, and has room there
 abbrev pub can_add_cue : ShowLists → List ℕ → List Part → Bool
 can_add_cue s c parts = not (has_cue s c) && (not (is_full s) && is_cue_of s (c, parts))
 
@@ -132,5 +138,6 @@ without_cue s c =
       place = if is_place c s.place then following s c else s.place;
     }
 
+-- the operator goes to another place
 abbrev pub with_place : ShowLists → Option (List ℕ) → ShowLists
 with_place s place = record s { place = place }

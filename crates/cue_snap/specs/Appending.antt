@@ -1,11 +1,11 @@
 -- What a call that appends records does to a pair, whether it succeeds or fails.
-use Rattle.std.specs.Prelude.{◌≡◌, ◌≤◌, ◌<◌, ◌+◌, ◌↔◌, ℕ, false, true, List, [], length}
+use Rattle.std.specs.Prelude.{◌≡◌, ◌≤◌, ◌+◌, ◌↔◌, ℕ, false, true, List, [], length}
 use Rattle.std.specs.Prelude.{Result, OnOk, IfErr, IsErrOf}
 use Rattle.cue_disk.specs.declared.disk.Disk.{Ghosts}
 use Rattle.cue_disk.specs.Disk.{IsImage, LeavesAtEachMoment, MoreFailures, overwritten_bytes}
-use Rattle.cue_log.specs.declared.area.TheConstants.{MAX_AREA}
 use Rattle.cue_log.specs.declared.log.AppendFault.{AppendFault}
 use Rattle.cue_log.specs.declared.log.AppendFault.TheVariants as fault
+use Rattle.cue_log.specs.Appending as log
 use Rattle.cue_log.specs.Area.{group_text, room_of, with_payloads}
 use Rattle.cue_snap.specs.declared.snap.Snap.{Snap}
 use Rattle.cue_snap.specs.Pair.{PairIsEither, PairLeaves}
@@ -14,7 +14,7 @@ use Rattle.cue_snap.specs.Observed.{live_area_of}
 
 -- with them the encoding of the live area, its last gate included, would pass the limit
 abbrev pub LacksRoom : {D : Type 0} {disk : Ghosts D} → Snap D disk → List (List ℕ) → Type 0
-LacksRoom snap payloads = MAX_AREA < end_of snap + 1 + room_of payloads
+LacksRoom snap payloads = log.LacksRoom snap.log payloads
 
 -- a device call failed on the live disk
 abbrev pub LiveHasFailed : {D : Type 0} {disk : Ghosts D} → (old new : Snap D disk) → Type 0

@@ -1,14 +1,16 @@
 -- What callers see of a pair.
-use Rattle.std.specs.Prelude.{◌≡◌, ◌≢◌, ℕ, Bool, if◌then◌else◌, Result, Ok, Err, Option, None, Some}
+use Rattle.std.specs.Prelude.{◌≡◌, ℕ, Bool, if◌then◌else◌, Result, Ok, Err, Option, None, Some}
 use Rattle.cue_disk.specs.Disk.{Contents}
 use Rattle.cue_log.specs.Area.{Area}
 use Rattle.cue_log.specs.Observed as log
+pub use Rattle.cue_log.specs.Opened.{FailsAs, CountsOnlyAs}
 use Rattle.cue_snap.specs.declared.snap.Snap.{Snap}
 
--- the disk with the area that counts, and the other one
+-- the disk with the area that counts
 abbrev pub live_of : {D : Type 0} {disk : _} → Snap D disk → D
 live_of snap = log.disk_of snap.log
 
+-- the other disk, which the next turn-over writes
 abbrev pub spare_of : {D : Type 0} {disk : _} → Snap D disk → D
 spare_of snap = snap.spare
 
@@ -16,10 +18,11 @@ spare_of snap = snap.spare
 abbrev pub is_first_live : {D : Type 0} {disk : _} → Snap D disk → Bool
 is_first_live snap = snap.first_is_live
 
--- the two disks in their order
+-- the first of the two disks
 abbrev pub first_of : {D : Type 0} {disk : _} → Snap D disk → D
 first_of snap = if snap.first_is_live then log.disk_of snap.log else snap.spare
 
+-- the second of the two disks
 abbrev pub second_of : {D : Type 0} {disk : _} → Snap D disk → D
 second_of snap = if snap.first_is_live then snap.spare else log.disk_of snap.log
 
@@ -48,11 +51,12 @@ abbrev pub turned_disk : {E D : Type 0} {disk : _} {T : Type 0} → Result T E �
 turned_disk (Ok done) snap = log.disk_of snap.log
 turned_disk (Err fault) snap = snap.spare
 
--- the two disks that come back: in what was made, or with the fault
+-- the first of the two disks that come back: in what was made, or with the fault
 abbrev pub first_after : {T E D : Type 0} → (T → D) → Result T (E × D × D) → D
 first_after disk_in (Ok made) = disk_in made
 first_after disk_in (Err refused) = refused.1
 
+-- the second of the two disks that come back
 abbrev pub second_after : {T E D : Type 0} → (T → D) → Result T (E × D × D) → D
 second_after disk_in (Ok made) = disk_in made
 second_after disk_in (Err refused) = refused.2
@@ -66,13 +70,3 @@ fault_of (Err refused) = Some refused.0
 abbrev pub RefusedAs : {T E D : Type 0} → E → Type 0 → Result T (E × D × D) → Type 0
 RefusedAs fault reason (Ok made) = Unit {0}
 RefusedAs fault reason (Err refused) = refused.0 ≡ fault → reason
-
--- a fault of a call on one disk, which comes back with it, is answered only where it is so
-abbrev pub FailsAs : {T E D : Type 0} → E → Type 0 → Result T (E × D) → Type 0
-FailsAs fault reason (Ok made) = Unit {0}
-FailsAs fault reason (Err refused) = refused.0 ≡ fault → reason
-
--- a count of failures rose only where this fault is answered
-abbrev pub CountsOnlyAs : {T E D : Type 0} → E → ℕ → ℕ → Result T (E × D) → Type 0
-CountsOnlyAs fault old new (Ok made) = new ≡ old
-CountsOnlyAs fault old new (Err refused) = refused.0 ≢ fault → new ≡ old

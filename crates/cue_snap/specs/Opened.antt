@@ -11,9 +11,10 @@ live_area_read opened = record {
   payloads = opened.tail;
 }
 
--- the two disks in their order
+-- the first of the two disks
 abbrev pub first_opened : {D : Type 0} {disk : _} → Opened2 D disk → D
 first_opened opened = first_of opened.snap
 
+-- the second of the two disks
 abbrev pub second_opened : {D : Type 0} {disk : _} → Opened2 D disk → D
 second_opened opened = second_of opened.snap

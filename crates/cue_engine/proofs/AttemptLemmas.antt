@@ -21,7 +21,7 @@ use Rattle.cue_core.proofs.history.SafetyLemmas.{never-asked-both}
 use Rattle.cue_outbox.specs.Sending.{Send, order, all_pending}
 use Rattle.cue_engine.specs.Given.{Given}
 use Rattle.cue_engine.specs.Runs.{Happening, run, joined_list, given_at, with_batch}
-use Rattle.cue_engine.specs.Attempts.{accepted_events, may_go_after, IsDecidedInOrder, DecidedInOrder, NumberNamesOne}
+use Rattle.cue_engine.specs.Attempts.{accepted_events, IsDecidedInOrder, DecidedInOrder, NumberNamesOne}
 use Rattle.cue_engine.specs.Attempts.{is_order_with, was_sent, NeverSentBoth}
 use Rattle.cue_core.proofs.lists.AnyLemmas.{or_left, or_right, either, itself, same, any-append, any-mapped}
 use Rattle.cue_core.proofs.lists.AnyLemmas.{all_implied}
@@ -111,10 +111,10 @@ no_cancel_later q (e ∷ es) past h gone c =
 
 -- who may go by the history may go after the events
 may_go : (q : ℕ) (before : List Event) (p : Part) → IsTrue (may_go_by (onto before []) q p)
-    → IsTrue (may_go_after before q p)
+    → IsTrue (may_go_by before q p)
 may_go q before p h =
     either (list_any (is_ready_of q p.device) (onto before []))
-    (p.optional && list_any (is_excuse_of q p.device) (onto before [])) (may_go_after before q p)
+    (p.optional && list_any (is_excuse_of q p.device) (onto before [])) (may_go_by before q p)
     (λ k. or_left (list_any (is_ready_of q p.device) before) _
     (any_left (list_any (is_ready_of q p.device) before) (any_onto (is_ready_of q p.device) before [] k)))
     (λ k.
@@ -133,7 +133,7 @@ decided_of q before later h =
     let two = both (list_all (may_go_by past q) (parts_by past q)) (not (list_any (is_cancel_of q) past)) one.1 in
     record {
       started = any_left (list_any (is_start_of q) before) (any_onto (is_start_of q) before [] one.0);
-      all_ready = all_implied (may_go_by past q) (may_go_after before q) (λ p k. may_go q before p k) (parts_by past q)
+      all_ready = all_implied (may_go_by past q) (may_go_by before q) (λ p k. may_go q before p k) (parts_by past q)
           two.0;
       not_cancelled = no_any (list_any (is_cancel_of q) before)
           (λ k. contrary (list_any (is_cancel_of q) past)

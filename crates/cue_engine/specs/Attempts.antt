@@ -1,14 +1,14 @@
 -- What an attempt may count on, over all inputs of any parties, in any order, with recoveries from power loss between
 -- them.
-use Rattle.std.specs.Prelude.{◌≡◌, ℕ, Bool, false, not, ◌&&◌, ◌||◌, List, [], ◌∷◌, ◌++◌, IsTrue}
+use Rattle.std.specs.Prelude.{◌≡◌, ℕ, Bool, false, not, ◌&&◌, List, [], ◌∷◌, ◌++◌, IsTrue}
 use Rattle.std.specs.List.{list_any, list_all}
-use Rattle.cue_show.specs.declared.part.Part.{Part}
 use Rattle.cue_core.specs.declared.event.Event.{Event}
 use Rattle.cue_core.specs.declared.event.Event.TheVariants.{Start, Go}
-use Rattle.cue_core.specs.Events.{is_start_of, is_ready_of, is_cancel_of, is_end_of, is_excuse_of}
+use Rattle.cue_core.specs.Events.{is_start_of, is_cancel_of, is_end_of}
 use Rattle.cue_core.specs.State.{empty_state}
 use Rattle.cue_core.specs.Happenings.{onto}
 use Rattle.cue_core.specs.History.{parts_by}
+use Rattle.cue_core.specs.InOrder.{may_go_by}
 use Rattle.cue_core.specs.Pending.{Order}
 use Rattle.cue_core.specs.Safety.{is_order_to, is_go_to, is_cancel_to}
 use Rattle.cue_outbox.specs.Sending.{Send, reply, status, order}
@@ -18,17 +18,12 @@ use Rattle.cue_engine.specs.Runs.{Happening, run, joined_list}
 abbrev pub accepted_events : List Happening → List Event
 accepted_events hs = joined_list (run empty_state hs).batches
 
--- the device of the part stood by in q, or it is optional and was excused
-abbrev pub may_go_after : List Event → ℕ → Part → Bool
-may_go_after before q p = list_any (is_ready_of q p.device) before
-    || (p.optional && list_any (is_excuse_of q p.device) before)
-
 -- What was accepted before Go of an attempt, and after it.
 pub record IsDecidedInOrder (q : ℕ) (before later : List Event) : Type 0 where
   -- the attempt had started
   pub started : IsTrue (list_any (is_start_of q) before)
   -- each required device of its cue stood by in it, and each optional one stood by or was excused
-  pub all_ready : IsTrue (list_all (may_go_after before q) (parts_by (onto before []) q))
+  pub all_ready : IsTrue (list_all (may_go_by before q) (parts_by (onto before []) q))
   -- it was not cancelled, and it never is
   pub not_cancelled : IsTrue (not (list_any (is_cancel_of q) before))
   pub stays : IsTrue (not (list_any (is_cancel_of q) later))

@@ -12,7 +12,8 @@ use Rattle.cue_core.specs.State.{empty_state}
 use Rattle.cue_core.proofs.lists.AnyLemmas.{any-append, or_left}
 use Rattle.cue_core.proofs.lists.ConditionLemmas.{both}
 use Rattle.cue_core.proofs.rules.BatchLemmas.{onto-append}
-use Rattle.cue_engine.specs.Attempts.{IsDecidedInOrder, may_go_after}
+use Rattle.cue_core.specs.InOrder.{may_go_by}
+use Rattle.cue_engine.specs.Attempts.{IsDecidedInOrder}
 use Rattle.cue_engine.specs.Incidents.{Incident, formed, stopped_in_form, committed, handed_out, handed_some, stopped}
 use Rattle.cue_engine.specs.Incidents.{stopped_in_commit, recovered, stopped_in_recovery, refused}
 use Rattle.cue_engine.specs.Runs.{joined_list}
@@ -116,9 +117,9 @@ was_ready q e es before later split h decided r =
     decided.started in
     let here : Contains (parts_by (onto before []) q) r.part =
     subst (λ (ps : List Part). Contains ps r.part) same r.of_cue in
-    let may : may_go_after before q r.part ≡ true =
-    each_has (λ (p : Part). may_go_after before q p ≡ true) (parts_by (onto before []) q) r.part
-    (all_of (may_go_after before q) (parts_by (onto before []) q) decided.all_ready) here in
+    let may : may_go_by before q r.part ≡ true =
+    each_has (λ (p : Part). may_go_by before q p ≡ true) (parts_by (onto before []) q) r.part
+    (all_of (may_go_by before q) (parts_by (onto before []) q) decided.all_ready) here in
     let ready = required_ready (list_any (is_ready_of q r.part.device) before) r.part.optional _ may r.required in
     let there = or_left (list_any (is_ready_of q r.part.device) before)
     (list_any (is_ready_of q r.part.device) (event.Go q ∷ later)) ready in

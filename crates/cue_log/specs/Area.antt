@@ -81,14 +81,6 @@ with_payloads area payloads = record {
   payloads = area.payloads ++ payloads;
 }
 
--- one record more
-abbrev pub with_payload : Area → List ℕ → Area
-with_payload area payload = record {
-  generation = area.generation;
-  snapshot = area.snapshot;
-  payloads = area.payloads ++ payload ∷ [];
-}
-
 -- no record yet
 abbrev pub fresh : ℕ → List ℕ → Area
 fresh generation snapshot = record { generation = generation; snapshot = snapshot; payloads = [] }

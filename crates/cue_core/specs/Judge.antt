@@ -79,7 +79,7 @@ on_add_device s d port =
     option_map_or (λ p. if nat_eq p port then known_already else refused_with code.Duplicate)
     (port_of s.show d) (made_by (event.Device d port ∷ []))
 
--- a device leaves the table, where no cue has a part for it
+-- a device leaves the table, if no cue has a part for it
 abbrev pub on_remove_device : ShowState → ℕ → Judgement
 on_remove_device s d =
     first_line (
@@ -88,14 +88,14 @@ on_remove_device s d =
     ∷ [])
     (made_by (event.NoDevice d ∷ []))
 
--- a cue that is in the stack is known where its parts are the same
+-- a cue that is in the stack is known if its parts are the same
 abbrev pub on_new_cue : ShowState → List ℕ → List Part → Judgement
 on_new_cue s c parts =
     option_map_or (λ old. if same_parts old parts then known_already else refused_with code.Duplicate)
     (parts_of s.show c)
     (if is_full s.show then refused_with code.Full else made_by (event.Cue c parts ∷ []))
 
--- a cue comes to the end of the stack, where its devices are in the table
+-- a cue comes to the end of the stack, if its devices are in the table
 abbrev pub on_add_cue : ShowState → List ℕ → List Part → Judgement
 on_add_cue s c parts = if not (are_known s.show parts) then refused_with code.UnknownDevice else on_new_cue s c parts
 
@@ -108,7 +108,7 @@ on_goto s c =
     ∷ [])
     (made_by (event.Place c ∷ []))
 
--- a cue leaves the stack, where no attempt at it is live
+-- a cue leaves the stack, if no attempt at it is live
 abbrev pub on_remove_cue : ShowState → List ℕ → Judgement
 on_remove_cue s c =
     first_line (
@@ -154,7 +154,7 @@ on_go s c =
     if not (has_cue s.show c) then refused_with code.NoMethod
     else option_map_or on_go_of (attempt_of_cue s.live c) (refused_with code.NotLive)
 
--- the attempt is to be given up, where it was not decided
+-- the attempt is to be given up, if it was not decided
 abbrev pub on_cancel_of : Attempt → Judgement
 on_cancel_of a =
     first_line (

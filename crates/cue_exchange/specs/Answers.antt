@@ -1,6 +1,6 @@
 -- What the devices of an attempt have answered, and what each stage makes of it.
-use Rattle.std.specs.Prelude.{ℕ, Bool, true, false, not, ◌&&◌, ◌||◌, if◌then◌else◌, List, map, find, Option, None, Some, is_some}
-use Rattle.std.specs.Prelude.{nat_eq}
+use Rattle.std.specs.Prelude.{ℕ, Bool, true, false, not, ◌&&◌, ◌||◌, if◌then◌else◌, List, map, find, Option, None}
+use Rattle.std.specs.Prelude.{Some, is_some, nat_eq}
 use Rattle.std.specs.List.{list_any, list_all}
 use Rattle.std.specs.Option.{option_map}
 use Rattle.cue_show.specs.declared.part.Part.{Part}
@@ -56,7 +56,7 @@ abbrev pub is_concluding : Stage → Bool
 is_concluding Preparing = false
 is_concluding _ = true
 
--- the situation of a device of a live attempt, by the stage and its answer; none where the stage has no such answer
+-- the situation of a device of a live attempt, by the stage and its answer; none if the stage has no such answer
 abbrev pub situation_of : Stage → Answer → Option Situation
 situation_of Preparing Waiting = Some situation.AskedToStandBy
 situation_of Preparing Ready = Some situation.StandsBy

@@ -16,7 +16,7 @@ area_read opened = record {
 abbrev pub opened_disk : {D : Type 0} {disk : _} → Opened D disk → D
 opened_disk opened = disk_of opened.log
 
--- a fault of a call on one disk, which comes back with it, is answered only where it is so
+-- a fault of a call on one disk, which comes back with it, is answered only if it is so
 abbrev pub FailsAs : {T E D : Type 0} → E → Type 0 → Result T (E × D) → Type 0
 FailsAs fault reason (Ok made) = Unit {0}
 FailsAs fault reason (Err refused) = refused.0 ≡ fault → reason

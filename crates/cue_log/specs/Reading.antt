@@ -21,7 +21,7 @@ frame_at most bytes =
     if nat_lt (length bytes) 4 || (nat_lt most (four_at bytes) || nat_lt (length bytes) (4 + four_at bytes)) then None
     else Some (take (four_at bytes) (drop 4 bytes), drop (4 + four_at bytes) bytes)
 
--- this payload, and then those, where there are any
+-- this payload, and then those, if they could be read
 abbrev pub in_front : List ℕ → Option (List (List ℕ)) → Option (List (List ℕ))
 in_front payload None = None
 in_front payload (Some payloads) = Some (payload ∷ payloads)
@@ -49,7 +49,7 @@ abbrev pub or_none : Option (List (List ℕ)) → List (List ℕ)
 or_none None = []
 or_none (Some payloads) = payloads
 
--- the payloads of records that stand here; none where these bytes are no records
+-- the payloads of records that stand here; none if these bytes are no records
 abbrev pub payloads_in : List ℕ → List (List ℕ)
 payloads_in bytes = or_none (payloads_at (length bytes) bytes)
 
@@ -57,13 +57,13 @@ payloads_in bytes = or_none (payloads_at (length bytes) bytes)
 abbrev pub HasRecords : List ℕ → Type 0
 HasRecords bytes = IsSome (payloads_at (length bytes) bytes)
 
--- the area of this generation and snapshot, where its records were read
+-- the area of this generation and snapshot, if its records could be read
 abbrev pub area_with : ℕ → List ℕ → Option (List (List ℕ)) → Option Area
 area_with generation snapshot None = None
 area_with generation snapshot (Some payloads) =
     Some (record { generation = generation; snapshot = snapshot; payloads = payloads })
 
--- the area of this generation, where its snapshot was read, with the records after that
+-- the area of this generation, if its snapshot could be read, and the records after it
 abbrev pub area_after : ℕ → Option (List ℕ × List ℕ) → Option Area
 area_after generation None = None
 area_after generation (Some frame) = area_with generation frame.0 (payloads_at (length frame.1) frame.1)
@@ -85,7 +85,7 @@ abbrev pub or_empty : Option Area → Area
 or_empty None = record { generation = 0; snapshot = []; payloads = [] }
 or_empty (Some area) = area
 
--- the area that the bytes read as, and an empty one where there is none
+-- the area that the bytes read as, or else an empty one
 abbrev pub area_in : List ℕ → Area
 area_in bytes = or_empty (read_area bytes)
 

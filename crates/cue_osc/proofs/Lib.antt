@@ -10,3 +10,4 @@ pub mod WrittenLemmas
 pub mod DatagramLemmas
 pub mod ViewLemmas
 pub mod AddressLemmas
+pub mod OneSpellingLemmas

@@ -31,7 +31,7 @@ blob_len b = length-append (to_be_bytes w32 (length b)) (b ++ replicate (padding
     ∙ ap (λ (n : ℕ). 4 + n) (length-append b (replicate (padding (length b)) 0)
     ∙ ap (λ (n : ℕ). length b + n) (length-replicate (padding (length b)) 0))
 
-string_whole : (t : List ℕ) → IsWhole (length (osc_string t))
+pub string_whole : (t : List ℕ) → IsWhole (length (osc_string t))
 string_whole t = omega (arith, string_len t)
 
 string_some : (t : List ℕ) → 0 < length (osc_string t)
@@ -65,7 +65,7 @@ pub record IsUnit (n : ℕ) : Type 0 where
   pub some : 0 < n
   pub whole : n % 4 ≡ 0
 
-message_unit : (a : List ℕ) (xs : List Argument) → IsUnit (length (message_text a xs))
+pub message_unit : (a : List ℕ) (xs : List Argument) → IsUnit (length (message_text a xs))
 message_unit a xs = record {
   some = omega (arith, message_len a xs, string_some a);
   whole = omega (arith, message_len a xs, string_whole a, string_whole (tags xs), args_whole xs);

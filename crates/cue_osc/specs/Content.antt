@@ -17,6 +17,7 @@ mutual
     nothing : Contents
     element : Content → Contents → Contents
 
+-- the packets of a list, as the elements of a bundle
 abbrev pub contents_of : List Content → Contents
 contents_of [] = nothing
 contents_of (c ∷ cs) = element c (contents_of cs)

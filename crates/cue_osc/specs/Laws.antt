@@ -1,9 +1,9 @@
 -- What holds of every datagram and every packet.
-use Rattle.std.specs.Prelude.{◌≡◌, ◌↔◌, ℕ, ◌<◌, ◌≤◌, List, length, slice_index, Ok, Err}
+use Rattle.std.specs.Prelude.{◌≡◌, ◌≢◌, ◌↔◌, ◌⊎◌, ℕ, ◌<◌, ◌≤◌, List, [], length, slice_index, Ok, Err}
 use Rattle.std.specs.List.{AllByRecursion}
 use Rattle.cue_osc.specs.declared.fault.Fault.TheVariants.{Memory}
-use Rattle.cue_osc.specs.Content.{Content}
-use Rattle.cue_osc.specs.Spelling.{Spells}
+use Rattle.cue_osc.specs.Content.{Content, message, discarded, bundle}
+use Rattle.cue_osc.specs.Spelling.{Spells, IsAddress, message_text, osc_string}
 use Rattle.cue_osc.specs.Reading.{datagram_at}
 use Rattle.cue_osc.specs.Plain.{IsPlain}
 use Rattle.cue_osc.specs.Walking.{leaves, HasAddress}
@@ -21,6 +21,30 @@ ReadingIsTheGrammar = (bytes : List ℕ) (c : Content) → AreBytes bytes → (d
 -- a datagram is one packet and no other
 abbrev pub OnePacket : Type 0
 OnePacket = (bytes : List ℕ) (c d : Content) → Spells bytes c → Spells bytes d → c ≡ d
+
+-- a message is understood, and has arguments
+abbrev pub HasArguments : Content → Type 0
+HasArguments (message a xs) = xs ≢ []
+HasArguments (discarded a) = ⊥
+HasArguments (bundle t cs) = ⊥
+
+-- a packet whose messages are all understood and have arguments is one datagram and no other
+abbrev pub OneSpelling : Type 0
+OneSpelling =
+    (bytes other : List ℕ) (c : Content) → AllByRecursion HasArguments (leaves c)
+    → Spells bytes c → Spells other c → bytes ≡ other
+
+-- and that datagram is its text, as it is written
+abbrev pub SpelledAsWritten : Type 0
+SpelledAsWritten =
+    (bytes : List ℕ) (c : Content) → AllByRecursion HasArguments (leaves c) → Spells bytes c → bytes ≡ text_of c
+
+-- a message without arguments is spelled in two ways, if they are short enough: with its type tag string, which is
+-- empty, and without it
+abbrev pub TwoSpellings : Type 0
+TwoSpellings =
+    (bytes a : List ℕ) → Spells bytes (message a [])
+    ↔ (IsAddress a × (length bytes ≤ MAX_LEN) × ((bytes ≡ message_text a []) ⊎ (bytes ≡ osc_string a)))
 
 -- the spelling of a plain packet is a datagram of it
 abbrev pub WrittenIsSpelled : Type 0

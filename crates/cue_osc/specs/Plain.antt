@@ -23,19 +23,24 @@ abbrev mutual
   AllPlain d nothing = Unit {0}
   AllPlain d (element c cs) = IsPlain d c × AllPlain d cs
 
--- the same as tests
+-- ---- the same as tests
+
+-- no null in it
 abbrev pub is_text : List ℕ → Bool
 is_text bytes = list_all (λ b. not (b == 0)) bytes
 
+-- it begins with / and holds no null
 abbrev pub is_address : List ℕ → Bool
 is_address [] = false
 is_address (b ∷ bs) = (b == slash) && is_text bs
 
+-- no null if it is a text
 abbrev pub is_plain_arg : Argument → Bool
 is_plain_arg (int z) = true
 is_plain_arg (text t) = is_text t
 is_plain_arg (blob b) = true
 
+-- whether a packet can be written
 abbrev mutual
   pub is_plain : ℕ → Content → Bool
   is_plain d (message a xs) = is_address a && list_all is_plain_arg xs

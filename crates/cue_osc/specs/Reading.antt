@@ -1,5 +1,5 @@
--- Reading from front to back: what is found, or the first fault that is met. This order is what the
--- grammar does not say; that both agree on what is found is a law.
+-- Helper: reading from front to back, a field after the other. What is found is what the grammar of `Spelling.antt`
+-- says, by the law `reading_is_the_grammar`. Which fault is met first is said here alone.
 use Rattle.std.specs.Prelude.{◌≡◌, ℕ, zero, suc, ◌-◌, ◌%◌, ◌^◌, List, [], ◌∷◌, length, take, drop, Bool, false, ◌&&◌}
 use Rattle.std.specs.Prelude.{not, Option, Some, None, Result, Ok, Err, nat_lt, nat_le, nat_eq, ◌==◌, if◌then◌else◌}
 use Rattle.std.specs.List.{list_all, prefix_len, starts_with}

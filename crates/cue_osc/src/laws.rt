@@ -3,6 +3,7 @@
 ghost use Rattle.std.specs.Prelude.{◌≡◌};
 ghost use Rattle.cue_osc.specs.declared.limits.TheConstants.{MAX_DEPTH, MAX_LEN};
 ghost use Rattle.cue_osc.specs.Laws.{ReadingIsTheGrammar, OnePacket, WrittenIsSpelled, WrittenIsRead};
+ghost use Rattle.cue_osc.specs.Laws.{OneSpelling, SpelledAsWritten, TwoSpellings};
 ghost use Rattle.cue_osc.specs.Laws.{MessagesHaveAddresses, MemoryIsNoFault};
 
 /// Reading from front to back finds a packet exactly where the grammar has one, and that one.
@@ -13,6 +14,19 @@ pub fn reading_is_the_grammar()
 /// At most one packet belongs to the same bytes.
 pub fn one_packet()
     ensures { OnePacket }
+{}
+
+/// One datagram belongs to a packet whose messages are all understood and have arguments, and it is
+/// the one that `write` gives.
+pub fn one_spelling()
+    ensures alone { OneSpelling }
+    ensures written { SpelledAsWritten }
+{}
+
+/// A message without arguments may lack its type tag string, as those of older senders do: so it has
+/// two spellings, and no third.
+pub fn two_spellings()
+    ensures { TwoSpellings }
 {}
 
 /// What `write` gives of a plain packet is a datagram of that packet.

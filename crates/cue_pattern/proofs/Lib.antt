@@ -1,4 +1,5 @@
 pub mod CutLemmas
+pub mod FrontLemmas
 pub mod MeaningLemmas
 pub mod PartsLemmas
 pub mod PatternLemmas

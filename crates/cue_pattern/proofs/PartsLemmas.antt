@@ -1,7 +1,7 @@
 -- Going over the parts of a pattern or an address, one cut after the other.
 use Rattle.std.proofs.Common.{◌≡◌, ℕ, zero, suc, ◌≢◌, get_or, add-one, is_none, is_some, not, Bor, ◌+◌, ◌<◌, ◌≤◌, Bool}
 use Rattle.std.proofs.Common.{true, false, ◌&&◌, List, [], ◌∷◌, ◌++◌, length, drop, Option, Some, None, Result, Ok, Err}
-use Rattle.std.proofs.Common.{IfOk, MatchResult, IsTrue, ◌↔◌, refl, sym, ap, ◌∙◌, arith, append_assoc, append-nil}
+use Rattle.std.proofs.Common.{IfOk, MatchResult, IsTrue, ◌↔◌, refl, sym, ap, ◌∙◌, arith, append-nil}
 use Rattle.std.proofs.Common.{subst, if◌then◌else◌, ◌==◌, nat_le, count_by, cond}
 use Rattle.std.specs.Option.{option_map, option_copied}
 use Rattle.cue_pattern.specs.declared.piece.Piece.{Piece}
@@ -11,7 +11,8 @@ use Rattle.cue_pattern.specs.Grammar.{IsPattern}
 use Rattle.cue_pattern.specs.Meaning.{separated_texts, Denotes}
 use Rattle.cue_pattern.specs.Reading.{with_byte, cut, parts_of, pieces_after, pieces_of, pattern_at}
 use Rattle.cue_pattern.specs.Matching.{part_matches, parts_match, matches}
-use Rattle.cue_pattern.specs.Steps.{cut_left, left_len, CutsFirst, with_front}
+use Rattle.cue_pattern.specs.Steps.{cut_left, left_len, CutsFirst}
+use Rattle.cue_pattern.proofs.FrontLemmas.{with_front, front-more}
 use Rattle.std.specs.declared.alloc.AllocError.{AllocError}
 use Rattle.cue_pattern.specs.Short.{is_short}
 use Rattle.cue_pattern.specs.Laws.{MatchesPartByPart}
@@ -106,11 +107,6 @@ pub parts-uncounted_yet : (read : Option (List (List Piece)))
     → option_map {U = ℕ} (λ ps. 0 + length ps) read ≡ option_map length read
 parts-uncounted_yet None = refl
 parts-uncounted_yet (Some ps) = ap (λ (n : ℕ). Some n) (let e : 0 + length ps ≡ length ps = omega arith in e)
-
-front-more : (front : List (List Piece)) (p : List Piece) (read : Option (List (List Piece)))
-    → with_front front (option_map (λ ps. p ∷ ps) read) ≡ with_front (front ++ p ∷ []) read
-front-more front p None = refl
-front-more front p (Some ps) = ap (λ (x : List (List Piece)). Some x) (sym (append_assoc front (p ∷ []) ps))
 
 pub parts-fronted : (front : List (List Piece)) (p : List Piece) (bytes before : List ℕ) (behind : Option (List ℕ))
     → CutsFirst 47 bytes before behind → pieces_after 0 before ≡ Some p

@@ -15,7 +15,8 @@ use Rattle.cue_pattern.specs.Meaning.{HasNo, IsCut}
 use Rattle.cue_pattern.specs.Grammar.{ranges, IsPlain, IsBraced, IsPiece}
 use Rattle.cue_pattern.specs.Reading.{cut, text_before, negated_piece, bracketed_piece, is_braced, braced_piece}
 use Rattle.cue_pattern.specs.Reading.{piece_between, piece_at, pieces_after}
-use Rattle.cue_pattern.specs.Steps.{Reads, with_front}
+use Rattle.cue_pattern.specs.Steps.{Reads}
+use Rattle.cue_pattern.proofs.FrontLemmas.{with_front, front-more}
 use Rattle.cue_pattern.proofs.CutLemmas.{cut-is_cut, cut-from, Encloses, text_before-is, text_before-again}
 
 -- ---- one piece
@@ -281,11 +282,6 @@ pub counted : (m b : ℕ) (bs : List ℕ) (p : Piece) (rest : List ℕ) → Read
     (pieces_after 0 rest)
 counted m b bs p rest h = ap (option_map (λ (ps : List Piece). m + length ps)) (pieces-read b bs p rest h)
     ∙ count-more m p (pieces_after 0 rest)
-
-front-more : (front : List Piece) (p : Piece) (read : Option (List Piece))
-    → with_front front (option_map (λ ps. p ∷ ps) read) ≡ with_front (front ++ p ∷ []) read
-front-more front p None = refl
-front-more front p (Some ps) = ap (λ (x : List Piece). Some x) (sym (append_assoc front (p ∷ []) ps))
 
 -- one piece more is read
 pub fronted : (front : List Piece) (b : ℕ) (bs : List ℕ) (p : Piece) (rest : List ℕ) → Reads (piece_at b bs) bs p rest

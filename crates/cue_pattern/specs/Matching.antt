@@ -1,4 +1,5 @@
--- Matching as a test that computes, a piece after the other.
+-- Helper: matching as a test that computes, a piece after the other. By the law `matches_the_meaning` it holds of
+-- exactly the addresses that a pattern denotes (`Meaning.antt`).
 use Rattle.std.specs.Prelude.{ℕ, Bool, true, false, not, ◌&&◌, ◌||◌, ◌==◌, nat_le, List, [], ◌∷◌, Option, None, Some}
 use Rattle.std.specs.List.{list_any}
 use Rattle.cue_pattern.specs.declared.ranges.Range.{Range}

@@ -1,4 +1,5 @@
--- Reading as a function on lists: the one pattern that bytes spell, or none.
+-- Helper: reading as a function on lists. By the law `reads_the_grammar` it finds the one pattern that the bytes spell
+-- (`Grammar.antt`), and none if they spell none.
 use Rattle.std.specs.Prelude.{ℕ, zero, suc, ◌+◌, Bool, ◌&&◌, ◌==◌, not, if◌then◌else◌, List, [], ◌∷◌, length, Option}
 use Rattle.std.specs.Prelude.{None, Some, option_and_then}
 use Rattle.std.specs.Option.{option_map}

@@ -1,5 +1,5 @@
 -- Helper: what the steps of reading and matching give each other.
-use Rattle.std.specs.Prelude.{◌≡◌, ℕ, ◌+◌, ◌<◌, ◌≤◌, Bool, false, List, [], ◌∷◌, ◌++◌, ◌&&◌, nat_eq, length, drop}
+use Rattle.std.specs.Prelude.{◌≡◌, ℕ, ◌+◌, ◌<◌, ◌≤◌, Bool, false, List, [], ◌∷◌, ◌&&◌, nat_eq, length, drop}
 use Rattle.std.specs.Prelude.{Option, None, Some, IfSome, slice_index_or}
 use Rattle.std.specs.List.{starts_with}
 use Rattle.std.specs.Option.{option_map}
@@ -41,10 +41,6 @@ pub record Reads (found : Option (Piece × ℕ)) (behind : List ℕ) (piece : Pi
   pub own : ℕ
   pub piece_is : found ≡ Some (piece, own)
   pub rest_is : rest ≡ drop own behind
-
--- the pieces, and then what is read
-abbrev pub with_front : {A : Type 0} → List A → Option (List A) → Option (List A)
-with_front front read = option_map (λ rest. front ++ rest) read
 
 -- whether the text u stands at the front of t, and the position after it is reached
 abbrev pub leads : List ℕ → List ℕ → List Bool → Bool

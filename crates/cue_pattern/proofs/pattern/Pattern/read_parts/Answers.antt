@@ -5,7 +5,8 @@ use Rattle.cue_pattern.specs.declared.fault.Fault.{Fault}
 use Rattle.cue_pattern.specs.declared.fault.Fault.TheVariants.{BadPattern}
 use Rattle.cue_pattern.specs.declared.piece.Piece.{Piece}
 use Rattle.cue_pattern.specs.Reading.{cut, pieces_of}
-use Rattle.cue_pattern.specs.Steps.{cut_left, with_front}
+use Rattle.cue_pattern.specs.Steps.{cut_left}
+use Rattle.cue_pattern.proofs.FrontLemmas.{with_front}
 use Rattle.cue_pattern.proofs.PartsLemmas.{pattern_at-no_slash, pattern_at-behind, parts-unread_yet, parts-bad}
 use Rattle.cue_pattern.proofs.PartsLemmas.{parts-fronted, parts-fronted_all}
 use Rattle.cue_pattern.proofs.pattern.Pattern.read_parts.Goals as goal

@@ -1,7 +1,8 @@
 use Rattle.std.proofs.Common.{◌≡◌}
 use Rattle.std.specs.Option.{option_copied}
 use Rattle.cue_pattern.specs.Reading.{pieces_of, pattern_at}
-use Rattle.cue_pattern.specs.Steps.{cut_left, left_len, with_front}
+use Rattle.cue_pattern.specs.Steps.{cut_left, left_len}
+use Rattle.cue_pattern.proofs.FrontLemmas.{with_front}
 use Rattle.cue_pattern.proofs.pattern.Pattern.read_parts.Given as goal
 
 abbrev pub invariant-loop-left : goal.invariant-loop-left

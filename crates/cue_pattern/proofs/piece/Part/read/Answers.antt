@@ -1,7 +1,8 @@
 use Rattle.std.proofs.Common.{◌≡◌, ◌++◌, [], ◌∷◌, List, ap, sym, ◌∙◌}
 use Rattle.cue_pattern.specs.declared.piece.Piece.{Piece}
 use Rattle.cue_pattern.specs.Reading.{pieces_after}
-use Rattle.cue_pattern.specs.Steps.{with_front, piece_of}
+use Rattle.cue_pattern.specs.Steps.{piece_of}
+use Rattle.cue_pattern.proofs.FrontLemmas.{with_front}
 use Rattle.cue_pattern.proofs.SpellingLemmas.{none-at, fronted-at, fronted-end}
 use Rattle.cue_pattern.proofs.piece.Part.read.Goals as goal
 

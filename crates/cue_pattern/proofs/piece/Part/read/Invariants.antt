@@ -1,6 +1,6 @@
 use Rattle.std.proofs.Common.{◌≡◌, length}
 use Rattle.cue_pattern.specs.Reading.{pieces_after}
-use Rattle.cue_pattern.specs.Steps.{with_front}
+use Rattle.cue_pattern.proofs.FrontLemmas.{with_front}
 use Rattle.cue_pattern.proofs.piece.Part.read.Given as goal
 
 abbrev pub invariant-loop-rest : goal.invariant-loop-rest

@@ -255,7 +255,7 @@ no-address show a xs h = at (parts_of a) h
     at None e = refl
     at (Some ts) e = cc
 
-pattern-asks : (show : ShowLists) (a : List ℕ) (xs : List Argument) (p : List (List Piece)) → pattern_at a ≡ Some p
+pub pattern-asks : (show : ShowLists) (a : List ℕ) (xs : List Argument) (p : List (List Piece)) → pattern_at a ≡ Some p
     → commands_of show a xs ≡ commands_matched show xs p
 unfolding commands_of
 pattern-asks show a xs p h =

@@ -12,7 +12,7 @@ use Rattle.cue_pattern.specs.Reading.{with_byte, cut, parts_of, piece_at, pieces
 use Rattle.cue_pattern.specs.Matching.{part_matches, parts_match, matches_parts, matches}
 use Rattle.cue_operator.specs.Commands.{LiteralMatchesItself}
 use Rattle.cue_pattern.specs.Literal.{is_literal_byte, is_literal}
-use Rattle.cue_show.proofs.TestLemmas.{both, join, not_so, same_number}
+use Rattle.cue_show.proofs.TestLemmas.{both, join, not_so}
 
 abbrev each_literal : List (List ℕ) → Bool
 each_literal ts = list_all is_literal ts

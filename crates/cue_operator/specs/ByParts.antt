@@ -1,4 +1,5 @@
--- The methods that a pattern matches, found part by part.
+-- Helper: the methods that a pattern matches, found part by part. By the law `matched_by_parts` they are those whose
+-- address it matches.
 use Rattle.std.specs.Prelude.{◌≡◌, ℕ, Bool, true, false, List, [], ◌∷◌, ◌++◌, map, filter, codes, IsTrue}
 use Rattle.std.specs.Fmt.{decimal}
 use Rattle.std.specs.List.{flat_map}
@@ -33,10 +34,11 @@ named_cue name verbs cue = methods_if (part_matches name cue) (map (method.OfCue
 abbrev pub named_device : List Piece → List DeviceVerb → ℕ → List Method
 named_device name verbs device = methods_if (part_matches name (decimal device)) (map (method.OfDevice device) verbs)
 
--- the commands of an entry of the stack, and of one of the table
+-- the commands of an entry of the stack
 abbrev pub cue_commands : List Argument → List Piece → List CueVerb → List ℕ × List Part → List Command
 cue_commands xs name verbs e = reads xs (named_cue name verbs e.0)
 
+-- the commands of an entry of the table
 abbrev pub device_commands : List Argument → List Piece → List DeviceVerb → ℕ × ℕ → List Command
 device_commands xs name verbs e = reads xs (named_device name verbs e.0)
 

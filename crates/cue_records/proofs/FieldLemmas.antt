@@ -23,7 +23,7 @@ use Rattle.cue_core.proofs.lists.ConditionLemmas.{both, join, all_from, all_zip}
 use Rattle.cue_records.specs.declared.parts_form.PartsForm.{PartsForm}
 use Rattle.cue_records.specs.declared.parts_form.PartsForm.TheVariants.{Plain, Flagged}
 use Rattle.cue_records.specs.Fields.{byte_text, short_text, number_text, time_text, text_text, flag_number, flag_text}
-use Rattle.cue_records.specs.Fields.{part_text, parts_text, have_text, entry_text, new_cue_text, reason_number}
+use Rattle.cue_records.specs.Fields.{part_text, parts_text, are_required, entry_text, new_cue_text, reason_number}
 use Rattle.cue_records.specs.Reading.{byte_at, number_at, bytes_at, text_at, device_at, port_at, sequence_at, cue_at}
 use Rattle.cue_records.specs.Reading.{part_bytes_at, flag_of, flag_at, part_at, part_count_at, parts_at, entry_at}
 use Rattle.cue_records.specs.Reading.{new_cue_at, reason_of, reason_at}
@@ -250,6 +250,11 @@ part_field form =
     (nat_le (length p.bytes) MAX_PART_BYTES && are_bytes p.bytes) h)
     (λ p h. last_again (is_device p.device) (flag_fits form p.optional)
     (nat_le (length p.bytes) MAX_PART_BYTES && are_bytes p.bytes) h)
+
+-- the parts have an encoding in this form: as plain parts only where each is required
+abbrev pub have_text : PartsForm → List Part → Bool
+have_text Plain parts = are_required parts
+have_text Flagged parts = true
 
 -- what each part is
 all_fit : (form : PartsForm) (ps : List Part) → IsTrue (list_all (part_fits form) ps) → IsTrue (list_all is_part ps)

@@ -21,14 +21,15 @@ use Rattle.cue_core.proofs.lists.ConditionLemmas.{both, join, all_from}
 use Rattle.cue_records.specs.declared.limits.TheConstants.{OLD_MAX_CUES}
 use Rattle.cue_records.specs.declared.parts_form.PartsForm.{PartsForm}
 use Rattle.cue_records.specs.declared.parts_form.PartsForm.TheVariants.{Plain, Flagged}
-use Rattle.cue_records.specs.Fields.{short_text, text_text, have_text}
+use Rattle.cue_records.specs.Fields.{short_text, text_text}
 use Rattle.cue_records.specs.State.{table_text, stack_text, place_text, show_text}
 use Rattle.cue_records.specs.Reading.{◌>>=◌, where_it}
 use Rattle.cue_records.specs.StateReading.{device_step, most_cues, cue_count_at, cue_step, place_of, place_at}
 use Rattle.cue_records.specs.StateReading.{place_step, table_at, stack_at, show_at}
 use Rattle.cue_records.proofs.AfterwardsLemmas.{all_here, absent_before}
 use Rattle.cue_records.proofs.FittingLemmas.{cue_fits}
-use Rattle.cue_records.proofs.FieldLemmas.{byte_field, text_field, cue_short, entry_field, new_cue_fits, new_cue_field}
+use Rattle.cue_records.proofs.FieldLemmas.{byte_field, text_field, cue_short, have_text, entry_field, new_cue_fits}
+use Rattle.cue_records.proofs.FieldLemmas.{new_cue_field}
 use Rattle.cue_records.proofs.FoldLemmas.{IsMade, counted_takes, counted_again}
 use Rattle.cue_records.proofs.NumberLemmas.{field16}
 use Rattle.cue_records.proofs.TakingLemmas.{IsField, bind_some, where_some, some_is, bytes_behind, test_field}

@@ -34,7 +34,7 @@ use Rattle.cue_records.specs.declared.fault.StateFault.TheVariants as fault
 use Rattle.cue_records.specs.declared.parts_form.PartsForm.{PartsForm}
 use Rattle.cue_records.specs.declared.parts_form.PartsForm.TheVariants.{Plain, Flagged}
 use Rattle.cue_records.specs.declared.state.TheConstants.{VERSION, OLD_VERSION}
-use Rattle.cue_records.specs.Fields.{byte_text, number_text, have_text}
+use Rattle.cue_records.specs.Fields.{byte_text, number_text}
 use Rattle.cue_records.specs.State.{show_text, ended_text, live_text, version_number, form_of_version, has_text}
 use Rattle.cue_records.specs.State.{text_in, state_text, IsStateText, IsNoState}
 use Rattle.cue_records.specs.Laws.{StatesAreReadBack, StateTextsDiffer}
@@ -42,7 +42,7 @@ use Rattle.cue_records.specs.Reading.{◌>>=◌, where_it, number_at}
 use Rattle.cue_records.specs.StateReading.{GivesState, ended_of, ended_at, show_at, live_at, tail_of, where_state}
 use Rattle.cue_records.specs.StateReading.{standing_of, state_of, is_text_in, is_state_text}
 use Rattle.cue_records.proofs.AttemptLemmas.{attempt_fits, are_live_at, live_takes, live_again}
-use Rattle.cue_records.proofs.FieldLemmas.{byte_field, step_number}
+use Rattle.cue_records.proofs.FieldLemmas.{byte_field, have_text, step_number}
 use Rattle.cue_records.proofs.FittingLemmas.{attempt_cue_fits}
 use Rattle.cue_records.proofs.NumberLemmas.{field32}
 use Rattle.cue_records.proofs.RangeLemmas.{live_short}

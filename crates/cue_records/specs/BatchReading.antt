@@ -1,4 +1,5 @@
--- Reading a batch of events.
+-- Helper: reading a batch of events. The encoding of a batch (`Batch.antt`) is read as the batch by the law
+-- `batches_are_read_back`, and nothing else is read, as `read_batch` promises (`found`).
 use Rattle.std.specs.Prelude.{ℕ, not, ◌&&◌, ◌==◌, if◌then◌else◌, List, Option, None, Some, length, nat_le}
 use Rattle.std.specs.Int.{w16, w64}
 use Rattle.cue_show.specs.declared.part.Part.{Part}

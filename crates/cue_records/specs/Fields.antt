@@ -51,11 +51,6 @@ parts_text form parts = length parts ∷ flat_map (part_text form) parts
 abbrev pub are_required : List Part → Bool
 are_required parts = list_all is_required_part parts
 
--- the parts have an encoding in this form: as plain parts only where each is required
-abbrev pub have_text : PartsForm → List Part → Bool
-have_text Plain parts = are_required parts
-have_text Flagged parts = true
-
 -- the form in which parts are written: plain where each is required
 abbrev pub form_for : List Part → PartsForm
 form_for parts = if are_required parts then Plain else Flagged

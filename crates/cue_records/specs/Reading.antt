@@ -1,4 +1,5 @@
--- Reading fields from the front of the bytes: what is found, and the bytes after it.
+-- Helper: reading fields from the front of the bytes, what is found and the bytes after it. How each is spelled stands
+-- in `Fields.antt`; the laws `batches_are_read_back` and `states_are_read_back` tie the two.
 use Rattle.std.specs.Prelude.{◌≡◌, ℕ, zero, suc, Bool, true, false, ◌&&◌, ◌==◌, if◌then◌else◌, List, [], ◌∷◌, length}
 use Rattle.std.specs.Prelude.{take, drop, Option, None, Some, Result, Ok, Err, nat_le, nat_lt}
 use Rattle.std.specs.Int.{Width, w16, w32, byte_len, from_be_bytes}

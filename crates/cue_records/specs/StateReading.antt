@@ -1,4 +1,5 @@
--- Reading a state.
+-- Helper: reading a state. Each encoding of a state (`State.antt`) is read as the state by the law
+-- `states_are_read_back`, and nothing else is read, as `read_state` promises (`found`).
 use Rattle.std.specs.Prelude.{◌≡◌, ℕ, zero, suc, Bool, ◌&&◌, ◌||◌, ◌==◌, if◌then◌else◌, List, [], ◌∷◌, length, nat_le}
 use Rattle.std.specs.Prelude.{Option, None, Some, Result, Ok, Err}
 use Rattle.std.specs.Int.{w16, w32, w64}

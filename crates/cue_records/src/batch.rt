@@ -15,7 +15,8 @@ use cue_show::Bytes;
 use std::alloc::{AllocError, Global};
 use std::marker::Model;
 
-/// The events of a batch, in order.
+/// The events of a batch, in order. `read_batch` alone makes one, since `write_batch` takes a slice of events. It gives
+/// no `Vec` back: whoever has read a batch goes over its events where they lie.
 #[derive(Drop)]
 pub struct Batch {
     events: Vec<Event>,

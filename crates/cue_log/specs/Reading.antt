@@ -1,4 +1,5 @@
--- Reading an area from the front.
+-- Helper: reading an area from the front. It finds each area (`Area.antt`) by the law `reader_finds_each`, and nothing
+-- else by the law `reader_finds_only`.
 use Rattle.std.specs.Prelude.{◌+◌, ◌-◌, ℕ, zero, suc, nat_lt, ◌||◌, ◌==◌, if◌then◌else◌, List}
 use Rattle.std.specs.Prelude.{[], ◌∷◌, ◌++◌, length}
 use Rattle.std.specs.Prelude.{take, drop, Option, Some, None, IsSome}

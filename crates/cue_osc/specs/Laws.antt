@@ -28,13 +28,13 @@ HasArguments (message a xs) = xs ≢ []
 HasArguments (discarded a) = ⊥
 HasArguments (bundle t cs) = ⊥
 
--- a packet whose messages are all understood and have arguments is one datagram and no other
+-- a packet whose messages are all understood and have arguments has one spelling at most
 abbrev pub OneSpelling : Type 0
 OneSpelling =
     (bytes other : List ℕ) (c : Content) → AllByRecursion HasArguments (leaves c)
     → Spells bytes c → Spells other c → bytes ≡ other
 
--- and that datagram is its text, as it is written
+-- and that is its text, as it is written
 abbrev pub SpelledAsWritten : Type 0
 SpelledAsWritten =
     (bytes : List ℕ) (c : Content) → AllByRecursion HasArguments (leaves c) → Spells bytes c → bytes ≡ text_of c

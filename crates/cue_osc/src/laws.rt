@@ -16,8 +16,8 @@ pub fn one_packet()
     ensures { OnePacket }
 {}
 
-/// One datagram belongs to a packet whose messages are all understood and have arguments, and it is
-/// the one that `write` gives.
+/// A packet whose messages are all understood and have arguments has one datagram at most, the one
+/// that `write` gives.
 pub fn one_spelling()
     ensures alone { OneSpelling }
     ensures written { SpelledAsWritten }

@@ -1,4 +1,3 @@
-pub mod KeptLemmas
 pub mod ReadingLemmas
 pub mod CommandLemmas
 pub mod ReplyLemmas

@@ -1,4 +1,3 @@
-pub mod Kept
 pub mod Table
 pub mod Hearing
 pub mod Datagrams

@@ -1,10 +1,12 @@
 //! What the controller sends a device.
-
 ghost use Rattle.std.specs.Prelude.{◌≡◌};
 ghost use Rattle.cue_device.specs.Hearing.{seq_of, task_of};
 
-use crate::part_bytes::PartBytes;
-use cue_show::CueNo;
+use cue_show::limits::MAX_PART_BYTES;
+use cue_show::{CueNo, ShortBytes};
+
+/// The bytes of a part, 0 to 32 of them. The controller does not look into them.
+pub type PartBytes = ShortBytes<MAX_PART_BYTES>;
 
 /// What a device is asked to prepare for.
 #[derive(Clone, Copy, PartialEq, Eq, Debug)]

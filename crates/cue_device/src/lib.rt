@@ -34,16 +34,14 @@ mod fields;
 mod hearing;
 pub mod laws;
 mod over_bytes;
-mod part_bytes;
 mod phase;
 mod reading;
 mod table;
 mod words;
 mod writing;
 
-pub use asked::{Command, Task};
+pub use asked::{Command, PartBytes, Task};
 pub use hearing::{Device, Heard, ReportFault};
-pub use part_bytes::PartBytes;
 pub use phase::{Attempt, Phase};
 pub use reading::{MAX_NUMBER, command};
 pub use words::{Answer, Order};

@@ -5,9 +5,8 @@ ghost use Rattle.cue_osc.specs.Spelling.{osc_blob, osc_string};
 ghost use Rattle.cue_device.specs.declared.asked.Task.{Task};
 ghost use Rattle.cue_device.specs.Datagrams.{IsFor, IsForNone, IsNumber, IsTask};
 
-use crate::asked::{Command, Task};
+use crate::asked::{Command, PartBytes, Task};
 use crate::fields::{after, blob_at, int_at, string_at};
-use crate::part_bytes::PartBytes;
 use cue_show::{CueNo, DeviceNo};
 
 /// The highest number of an attempt; the lowest is 1.

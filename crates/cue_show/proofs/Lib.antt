@@ -3,6 +3,7 @@ pub mod ChangeLemmas
 pub mod ListLemmas
 pub mod NumberLemmas
 pub mod OrderLemmas
+pub mod PaddedLemmas
 pub mod PiecesLemmas
 pub mod RunsLemmas
 pub mod SeenLemmas

@@ -8,7 +8,7 @@
 //! Why it is so:
 //! - A map lies below each list, so a look-up by number takes no scan. `is_used` alone looks through the stack: a count
 //!   for each device would have to be kept in step with each cue.
-//! - A cue number is kept in place, 16 bytes and a length, and is `Copy`: on the heap each copy could fail.
+//! - A cue number is kept in place (`ShortBytes`), and is `Copy`: on the heap each copy could fail.
 //! - `Bytes` and `Parts` have no limit of their own, since a message may carry more; `is_fit` is the test, and no show
 //!   holds others.
 //! - `add_cue` takes the parts by value, so that a reader moves them in without a copy.
@@ -25,10 +25,12 @@ pub mod laws;
 pub mod limits;
 pub mod number;
 pub mod part;
+pub mod short_bytes;
 pub mod show;
 
 pub use bytes::Bytes;
 pub use device::DeviceNo;
 pub use number::CueNo;
 pub use part::{Part, Parts};
+pub use short_bytes::ShortBytes;
 pub use show::Show;

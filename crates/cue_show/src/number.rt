@@ -1,5 +1,5 @@
 //! Cue numbers: short texts that are compared byte for byte, kept in place so that they take no memory.
-ghost use Rattle.std.specs.Prelude.{◌≡◌, ◌≤◌, true, false, nat_eq, IsTrue, IfSome, IfNone, length};
+ghost use Rattle.std.specs.Prelude.{◌≡◌, false, IsTrue, IfSome, IfNone};
 ghost use Rattle.std.proofs.Common.{rules};
 ghost use Rattle.std.specs.Cmp.{partial_equiv_from_equiv};
 ghost use Rattle.std.specs.Cmp.Lexicographic.{nat_list_eq_equiv};
@@ -8,6 +8,7 @@ ghost use Rattle.std.specs.Hash as fed;
 ghost use Rattle.cue_show.specs.Number.{is_cue_number, same_text};
 
 use crate::limits::MAX_CUE_BYTES;
+use crate::short_bytes::ShortBytes;
 use std::hash::{Hash, Hasher};
 use std::marker::Model;
 
@@ -16,25 +17,20 @@ use std::marker::Model;
 /// Numbers are compared byte for byte, so `1`, `01` and `1.0` are three cues.
 #[derive(Clone, Copy, Debug)]
 pub struct CueNo {
-    // The text, with zeros after it.
-    bytes: [u8; MAX_CUE_BYTES],
-    len: u8,
+    text: ShortBytes<MAX_CUE_BYTES>,
 }
 
 impl Model for CueNo {
-    ghost use Rattle.std.specs.Prelude.{ℕ, List, length};
+    ghost use Rattle.std.specs.Prelude.{ℕ, List, IsTrue};
+    ghost use Rattle.cue_show.specs.Number.{is_cue_number};
 
     ghost Value = { List ℕ };
 
-    ghost use Rattle.cue_show.specs.Padded.{text_of, padded_text, IsPadded};
+    ghost view = { λ c. c.text };
 
-    ghost view = { λ c. text_of c.bytes c.len };
+    ghost invariant = { λ c. IsTrue (is_cue_number c.text) };
 
-    ghost invariant = { λ c. IsPadded c.bytes c.len };
-
-    ghost inverse = { λ text. record { bytes = padded_text text; len = length text } };
-
-    ghost inverse_ok = { λ c h i. record { bytes = h.zeros i; len = h.whole i } };
+    ghost inverse = { λ text. record { text = text } };
 }
 
 impl CueNo {
@@ -46,11 +42,8 @@ impl CueNo {
         if !is_cue_number(text) {
             return None;
         }
-        let mut bytes = [0; MAX_CUE_BYTES];
-        bytes[..text.len()].copy_from_slice(text);
         Some(CueNo {
-            bytes,
-            len: text.len() as u8,
+            text: ShortBytes::read(text)?,
         })
     }
 
@@ -59,7 +52,7 @@ impl CueNo {
         ensures value { result.now ≡ self.now }
         ensures number { IsTrue (is_cue_number self.now) }
     {
-        &self.bytes[..usize::from(self.len)]
+        self.text.as_slice()
     }
 }
 

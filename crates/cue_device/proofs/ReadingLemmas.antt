@@ -1,18 +1,15 @@
 -- What stands at the front of a command's bytes is what was written there.
-use Rattle.std.proofs.Common.{◌≡◌, ℕ, ◌^◌, ◌<◌, ◌≤◌, Bool, true, false, ◌&&◌, ◌==◌, cond, List, [], ◌∷◌, ◌++◌, length}
-use Rattle.std.proofs.Common.{nat_le, IsTrue, Ok, refl, sym, ap, subst, ◌∙◌, arith}
-use Rattle.std.specs.Char.{is_ascii_digit}
+use Rattle.std.proofs.Common.{◌≡◌, ℕ, ◌^◌, ◌≤◌, true, false, ◌==◌, List, [], ◌∷◌, ◌++◌, length}
+use Rattle.std.proofs.Common.{IsTrue, Ok, refl, sym, ap, subst, ◌∙◌, arith}
 use Rattle.std.specs.Int.{w32, to_be_bytes}
-use Rattle.std.specs.List.{list_all}
-use Rattle.std.proofs.lemmas.Bool.{and_parts, eqb-true, leb-true}
-use Rattle.std.proofs.lemmas.Bool.Decides.{nat_tests}
-use Rattle.cue_osc.specs.Spelling.{IsText, osc_blob, osc_string}
+use Rattle.std.proofs.lemmas.Bool.{eqb-true}
+use Rattle.cue_osc.specs.Spelling.{osc_blob, osc_string}
 use Rattle.cue_osc.specs.Reading.{blob_at, number_at, string_at}
 use Rattle.cue_osc.proofs.FieldLemmas.{IsBytes, IsBytes-rest, ok_is, number_takes, wide32, string_takes, string_again}
 use Rattle.cue_osc.proofs.FieldLemmas.{blob_takes, blob_again}
-use Rattle.cue_show.specs.Number.{pieces, is_run, is_cue_number}
-use Rattle.cue_show.specs.declared.limits.TheConstants.{MAX_CUE_BYTES, MAX_PART_BYTES}
-use Rattle.cue_show.proofs.RunsLemmas.{runs_from, runs_from-start}
+use Rattle.cue_show.specs.Number.{is_cue_number}
+use Rattle.cue_show.specs.declared.limits.TheConstants.{MAX_PART_BYTES}
+use Rattle.cue_show.proofs.NumberLemmas.{number_text}
 use Rattle.cue_device.specs.declared.asked.Task.{Task}
 use Rattle.cue_device.specs.Datagrams.{IsTask}
 
@@ -27,34 +24,6 @@ two_numbers bytes behind rest q d e fits first second same =
     let b = number_takes w32 (2 ^ 32) wide32 behind e rest (IsBytes-rest bytes (to_be_bytes w32 q) behind a.0 fits)
     second in
     a.0 ∙ ap (λ (x : List ℕ). to_be_bytes w32 q ++ x) (b.0 ∙ ap (λ (n : ℕ). to_be_bytes w32 n ++ rest) same)
-
--- ---- cue numbers are texts
-
-digit_some : (b : ℕ) → is_ascii_digit b ≡ true → 0 < b
-digit_some b h = grind (arith, nat_tests)
-
-runs_are_text : (after_digit : Bool) (bs : List ℕ) → runs_from after_digit bs ≡ true → IsText bs
-runs_are_text a [] h = tt
-runs_are_text a (b ∷ bs) h = by (is_ascii_digit b) refl h (runs_are_text true bs) (runs_are_text false bs)
-  where
-    by : (d : Bool) → is_ascii_digit b ≡ d → cond d (runs_from true bs) (b == 46 && (a && runs_from false bs)) ≡ true
-        → (runs_from true bs ≡ true → IsText bs) → (runs_from false bs ≡ true → IsText bs) → IsText (b ∷ bs)
-    by true digit h after before = (digit_some b digit, after h)
-    by false digit h after before =
-        let here = and_parts (b == 46) (a && runs_from false bs) h in
-        let point : b ≡ 46 = eqb-true b 46 here.0 in
-        (omega arith, before (and_parts a (runs_from false bs) here.1).1)
-
--- a cue number holds no null
-pub number_text : (text : List ℕ) → IsTrue (is_cue_number text) → IsText text
-number_text text h =
-    let runs = (and_parts (nat_le (length text) MAX_CUE_BYTES) (list_all is_run (pieces text)) h).1 in
-    runs_are_text false text (rw (runs_from-start text) runs)
-
--- and is short
-pub number_short : (text : List ℕ) → IsTrue (is_cue_number text) → length text ≤ 16
-number_short text h = leb-true (length text) MAX_CUE_BYTES
-    (and_parts (nat_le (length text) MAX_CUE_BYTES) (list_all is_run (pieces text)) h).0
 
 -- ---- tasks
 

@@ -29,7 +29,8 @@ use Rattle.cue_outbox.specs.Sending.{reply, status, order_content, send_content,
 use Rattle.cue_outbox.specs.Sending.{ended_outcome}
 use Rattle.cue_exchange.specs.Outcomes.{outcome_number}
 use Rattle.cue_outbox.specs.Laws.{RepliesAreRead, StatusIsRead}
-use Rattle.cue_outbox.proofs.FactLemmas.{number_text, number_short, last_fits, live_fits, ended_fits}
+use Rattle.cue_show.proofs.NumberLemmas.{number_text, number_short}
+use Rattle.cue_outbox.proofs.FactLemmas.{last_fits, live_fits, ended_fits}
 use Rattle.cue_osc.specs.declared.limits.TheConstants.{MAX_LEN}
 
 -- a message that can be written

@@ -26,7 +26,7 @@ use Rattle.cue_exchange.proofs.ListLemmas.{all_weaker, all_map}
 use Rattle.cue_core.specs.State.{ShowState, cue_parts, is_of_part, are_of_parts, is_at_cue, is_state}
 use Rattle.cue_core.specs.Pending.{bytes_for}
 use Rattle.cue_core.proofs.rules.RuleLemmas.{rules_of}
-use Rattle.cue_outbox.proofs.FactLemmas.{number_text, number_short}
+use Rattle.cue_show.proofs.NumberLemmas.{number_text, number_short}
 use Rattle.cue_outbox.proofs.ListLemmas.{each_weaker, each_passes, each_mapped}
 
 -- what the rules say of a live attempt

@@ -143,7 +143,7 @@ fn bytes_for(parts: &[Part], device: DeviceNo) -> &[u8]
     &[]
 }
 
-#[tactic(auto, using(crate::proofs::FactLemmas::number_text, crate::proofs::FactLemmas::number_short))]
+#[tactic(auto, using(cue_show::proofs::NumberLemmas::number_text, cue_show::proofs::NumberLemmas::number_short))]
 fn standby(
     alloc: Global,
     to: u16,

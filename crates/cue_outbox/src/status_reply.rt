@@ -38,7 +38,7 @@ fn last_number(state: &State) -> u32
 }
 
 // The text of the place; empty where there is none.
-#[tactic(auto, using(crate::proofs::FactLemmas::number_text, crate::proofs::FactLemmas::number_short))]
+#[tactic(auto, using(cue_show::proofs::NumberLemmas::number_text, cue_show::proofs::NumberLemmas::number_short))]
 fn text_of(place: &Option<CueNo>) -> &[u8]
     ensures value { result.now ≡ unwrap_or place.now [] }
     ensures text { IsText result.now }

@@ -23,6 +23,7 @@ use Rattle.cue_osc.proofs.WrittenLemmas.{text_spells}
 use Rattle.cue_osc.proofs.PacketLemmas.{datagram_again}
 use Rattle.cue_show.specs.declared.limits.TheConstants.{MAX_PART_BYTES}
 use Rattle.cue_show.specs.Number.{is_cue_number, same_text}
+use Rattle.cue_show.proofs.NumberLemmas.{number_text, number_short}
 use Rattle.cue_show.proofs.TestLemmas.{both, join}
 use Rattle.cue_device.specs.declared.asked.Command.{Command}
 use Rattle.cue_device.specs.declared.asked.Command.TheVariants as command
@@ -33,7 +34,6 @@ use Rattle.cue_device.specs.declared.words.Answer.TheVariants.{StandingBy, Compl
 use Rattle.cue_device.specs.Datagrams.{IsCommand, IsFor, IsForNone, IsNumber, HasTask}
 use Rattle.cue_device.specs.Datagrams.{answer_content, answer_text, command_content, command_text, verb}
 use Rattle.cue_device.specs.Hearing.{answered_for, seq_of, task_of}
-use Rattle.cue_device.proofs.ReadingLemmas.{number_text, number_short}
 use Rattle.cue_relay.specs.declared.messages.Message.{Message}
 use Rattle.cue_relay.specs.declared.messages.Message.TheVariants as says
 use Rattle.cue_relay.specs.declared.route.Side.TheVariants.{Controller, Stage}
@@ -55,10 +55,6 @@ read_back c w = datagram_again (text_of c) c (text_spells c w.plain w.in_range w
 -- a number that an int32 holds
 fits : (n : ℕ) → n < 2 ^ 31 → FitsSigned w32 (pos n)
 fits n h = omega (arith, ints)
-
--- a text is the same as itself
-pub same-itself : (text : List ℕ) → same_text text text ≡ true
-same-itself text = (bytes_decides text text).1 refl
 
 -- ---- orders
 

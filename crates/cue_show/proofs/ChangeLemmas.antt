@@ -1,28 +1,21 @@
 -- What stands in the table and in the stack after each change, for the number that changed and for the others.
-use Rattle.std.proofs.Common.{◌≡◌, ℕ, Bor, true, false, not, cond, ◌&&◌, List, Option, None, Some, IsTrue, IfSome}
+use Rattle.std.proofs.Common.{◌≡◌, ℕ, Bor, true, false, cond, List, Option, None, Some, IsTrue, IfSome}
 use Rattle.std.proofs.Common.{nat_eq, sym, subst}
 use Rattle.std.specs.Cmp.{nat_eq_equiv}
 use Rattle.std.specs.Option.{option_copied}
 use Rattle.std.specs.Map.{keys_of}
-use Rattle.std.proofs.lemmas.Bool.{and_parts, not-true, eqb-true}
+use Rattle.std.proofs.lemmas.Bool.{eqb-true}
 use Rattle.std.proofs.lemmas.Map.{lookup-remove_entry}
-use Rattle.cue_show.specs.DeviceNumber.{is_device, is_port}
 use Rattle.cue_show.specs.Number.{same_text}
-use Rattle.cue_show.specs.Show.{ShowLists, port_of, parts_of, has_device, has_cue, is_full, is_entry, is_cue_of}
-use Rattle.cue_show.specs.Show.{is_show, can_add_device, can_add_cue, with_device, without_device, with_cue}
+use Rattle.cue_show.specs.Show.{ShowLists, port_of, parts_of, is_entry, is_cue_of}
+use Rattle.cue_show.specs.Show.{is_show, with_device, without_device, with_cue}
 use Rattle.cue_show.specs.declared.part.Part.{Part}
-use Rattle.cue_show.proofs.ListLemmas.{lookup-push_other, lookup-push_same, lookup-passes, IsDistinct-from_are_distinct}
+use Rattle.cue_show.proofs.ListLemmas.{lookup-push_other, lookup-passes, IsDistinct-from_are_distinct}
 use Rattle.cue_show.proofs.ShowLemmas.{show_rules, stack_parts}
 use Rattle.cue_show.proofs.TableLemmas.{table_parts}
-use Rattle.cue_show.proofs.TextLemmas.{same_text-true, same_text-itself}
+use Rattle.cue_show.proofs.TextLemmas.{same_text-true}
 
 -- ---- devices
-
-pub port_of-with_device_same : (s : ShowLists) (d port : ℕ) → IsTrue (can_add_device s d port)
-    → port_of (with_device s d port) d ≡ Some port
-port_of-with_device_same s d port can =
-    let absent = not-true (has_device s d) (and_parts (not (has_device s d)) (is_device d && is_port port) can).0 in
-    lookup-push_same (nat_eq d) s.devices (d, port) (nat_eq_equiv.refl d) absent
 
 pub port_of-with_device_other : (s : ShowLists) (d port q : ℕ) → nat_eq q d ≡ false
     → port_of (with_device s d port) q ≡ port_of s q
@@ -44,13 +37,6 @@ is_entry-port_of s d show =
     → Type 0 = λ k. is_entry (k, e.1) ≡ true in subst P (sym (eqb-true d e.0 same)) entry) s.devices t.entries
 
 -- ---- cues
-
-pub parts_of-with_cue_same : (s : ShowLists) (c : List ℕ) (parts : List Part) → IsTrue (can_add_cue s c parts)
-    → parts_of (with_cue s c parts) c ≡ Some parts
-parts_of-with_cue_same s c parts can =
-    let absent = not-true (has_cue s c) (and_parts (not (has_cue s c)) (not (is_full s) && is_cue_of s (c, parts))
-    can).0 in
-    lookup-push_same (same_text c) s.cues (c, parts) (same_text-itself c) absent
 
 pub parts_of-with_cue_other : (s : ShowLists) (c : List ℕ) (parts : List Part) (q : List ℕ) → same_text q c ≡ false
     → parts_of (with_cue s c parts) q ≡ parts_of s q

@@ -103,19 +103,6 @@ module _ {K V : Type 0} where
   lookup-push_other test (f ∷ fs) e other =
       ap (λ rest. cond (test f.0) (Some f.1) rest) (lookup-push_other test fs e other)
 
-  -- and for that one
-  pub lookup-push_same : (test : K → Bool) (es : List (K × V)) (e : K × V) → test e.0 ≡ true
-      → is_some (lookup test es) ≡ false → lookup test (es ++ e ∷ []) ≡ Some e.1
-  lookup-push_same test [] e same absent = rw same
-  lookup-push_same test (f ∷ fs) e same absent = by (test f.0) refl absent (lookup-push_same test fs e same)
-    where
-      by : (b : Bool) → test f.0 ≡ b → is_some (cond (test f.0) (Some f.1) (lookup test fs)) ≡ false
-          → (is_some (lookup test fs) ≡ false → lookup test (fs ++ e ∷ []) ≡ Some e.1)
-          → cond (test f.0) (Some f.1) (lookup test (fs ++ e ∷ [])) ≡ Some e.1
-      by true h missing later =
-          absurd (true≢false (sym (ap (λ c. is_some (cond c (Some f.1) (lookup test fs))) h) ∙ missing))
-      by false h missing later = rw h (later (sym (ap (λ c. is_some (cond c (Some f.1) (lookup test fs))) h) ∙ missing))
-
   -- what is found passes what each entry passes, and stands under a key that passes
   pub lookup-passes : (test : K → Bool) (p : K × V → Bool) (Q : V → Type 0)
       → ((e : K × V) → test e.0 ≡ true → p e ≡ true → Q e.1) → (es : List (K × V)) → list_all p es ≡ true

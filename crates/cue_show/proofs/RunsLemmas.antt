@@ -87,7 +87,3 @@ runs_from-stops a text i within not_digit why = rw (drop-cons text i 0 within, n
 pub is_cue_number-short : (text : List ℕ) → length text ≤ MAX_CUE_BYTES → is_cue_number text ≡ runs_from false text
 is_cue_number-short text short = let e : nat_le (length text) MAX_CUE_BYTES ≡ true = grind (arith, nat_tests) in
     rw e (sym (runs_from-start text))
-
--- and one that is too long is none
-pub is_cue_number-long : (text : List ℕ) → MAX_CUE_BYTES < length text → is_cue_number text ≡ false
-is_cue_number-long text long = let e : nat_le (length text) MAX_CUE_BYTES ≡ false = grind (arith, nat_tests) in rw e

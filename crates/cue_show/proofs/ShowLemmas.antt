@@ -330,13 +330,6 @@ cue_removed s old cues place c view show removed moved =
     (λ i. record s { cues = removed i; place = (moved ∙ sym (ap (λ t. (without_cue t c).place) view)) i })
     (is_show-without_cue s c show)
 
-pub place_set : (s old : ShowLists) (place : Option (List ℕ)) → s ≡ old → IsTrue (is_show s)
-    → IsTrue (is_place_of old place) → IsMade (record s { place = place }) (with_place old place)
-place_set s old place view show asked =
-    let P : ShowLists → Type 0 = λ t. IsTrue (is_place_of t place) in
-    made (record s { place = place }) s old (λ t. with_place t place) view refl
-    (is_show-with_place s place show (subst P (sym view) asked))
-
 -- ---- the cue that follows, by its index
 
 cue_after-position : (c : List ℕ) (es : Cues)

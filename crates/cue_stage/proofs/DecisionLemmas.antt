@@ -14,7 +14,7 @@ use Rattle.cue_core.specs.State.{empty_state}
 use Rattle.cue_core.specs.Pending.{standby, cancel, go_2pc}
 use Rattle.cue_outbox.specs.Sending.{number, order_content}
 use Rattle.cue_osc.specs.Reading.{datagram_at}
-use Rattle.cue_outbox.proofs.FactLemmas.{number_short, number_text}
+use Rattle.cue_show.proofs.NumberLemmas.{number_short, number_text}
 use Rattle.cue_outbox.proofs.ListLemmas.{each_weaker}
 use Rattle.cue_outbox.proofs.ReadBackLemmas.{read_back, cancel_writable, go_2pc_writable, standby_writable}
 use Rattle.cue_engine.specs.Headline.{CameTo}

@@ -1,6 +1,5 @@
 pub mod Hearing
 pub mod Laws
-pub mod Memory
 pub mod Messages
 pub mod Rates
 pub mod Relayed

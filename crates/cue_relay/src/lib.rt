@@ -26,6 +26,8 @@
 //!   would deliver orders late.
 //! - The status is a file that is replaced whole, once a second: whoever only looks needs no permission to speak to the
 //!   relay, and a relay that has stopped shows by the age of its file.
+//! - `Source` and `Wire` are not the controller's: a sender there is a port of this machine, and here an opening and an
+//!   address. Only the faults, and how a list of answers is used up, are the same.
 //! - Only IPv4, as four numbers: a name would be looked up by a service that may be slow or wrong in the middle of an
 //!   evening.
 //!
@@ -35,8 +37,6 @@
 mod going;
 mod hearing;
 pub mod laws;
-mod mem_source;
-mod mem_wire;
 mod messages;
 mod rate;
 mod relaying;
@@ -47,11 +47,9 @@ mod wire;
 
 pub use going::Going;
 pub use hearing::{Contact, News, Pending, SILENCE, hearing_limits};
-pub use mem_source::{MemAnswer, MemSource};
-pub use mem_wire::{MemWire, Sent};
 pub use messages::{Message, message_in};
 pub use rate::{Meter, RATE, SECOND, meters};
-pub use relaying::{Counts, Ended, Happening, Relay, RelayFault, Unwatched, Watch, run};
+pub use relaying::{Counts, Ended, Happening, Relay, RelayFault, Watch, run};
 pub use route::{Address, Opening, Route, Side, Way, way_of};
 pub use source::{Source, SourceFault, Turn};
 pub use wire::{Wire, WireFault};

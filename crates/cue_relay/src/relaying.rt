@@ -81,14 +81,6 @@ pub trait Watch {
     fn look(&mut self, what: Happening, counts: Counts);
 }
 
-/// Nobody looks on.
-#[derive(Drop)]
-pub struct Unwatched;
-
-impl Watch for Unwatched {
-    fn look(&mut self, _what: Happening, _counts: Counts) {}
-}
-
 impl Counts {
     /// Nothing came yet.
     pub const NONE: Counts = Counts {

@@ -83,11 +83,6 @@ impl Status {
             devices,
         })
     }
-
-    /// What it says of the device.
-    pub fn device(&self, device: DeviceNo) -> Option<&Seen> {
-        self.devices.iter().find(|seen| seen.device == device)
-    }
 }
 
 impl fmt::Display for Address {
@@ -125,15 +120,6 @@ impl Ordered {
             "go" => Some(Ordered::Go),
             "cancel" => Some(Ordered::Cancel),
             _ => None,
-        }
-    }
-
-    // What a device does that was ordered this and has not answered.
-    fn doing(self) -> &'static str {
-        match self {
-            Ordered::Standby => "preparing",
-            Ordered::Go => "moving",
-            Ordered::Cancel => "letting go",
         }
     }
 }
@@ -282,56 +268,5 @@ pub fn read(alloc: Global, text: &str) -> Result<Option<Status>, AllocError> {
             devices,
         })),
         None => Ok(None),
-    }
-}
-
-// When the device was heard, in words. A time that is still to come was stamped before the clock was put back.
-fn when(alloc: Global, heard: Option<u64>, now: u64) -> Result<String, AllocError> {
-    match heard {
-        Some(heard) if heard <= now => {
-            let seconds = (now - heard) / 1_000;
-            format!(in alloc; "heard {seconds} s ago")
-        }
-        Some(_) => String::from_str(alloc, "heard at an unknown time"),
-        None => String::from_str(alloc, "never heard"),
-    }
-}
-
-impl Seen {
-    // What it does, in a word, where something is pending.
-    fn doing(&self) -> Option<&'static str> {
-        if self.silent {
-            return Some("silent");
-        }
-        match self.ordered {
-            Some(ordered) => Some(ordered.doing()),
-            None => None,
-        }
-    }
-}
-
-/// What is known of the device, in words, as of a time in milliseconds since 1970: `heard 3 s ago` or `never heard`.
-/// Before that stands what it does, where it was sent an order and has not answered: `preparing`, `moving`, `letting
-/// go`, or `silent`. `relay stopped` where the status is old, `relay unknown` where its time is still to come, since
-/// the clock was put back, and empty for a device that has no route.
-pub fn heard_words(
-    alloc: Global,
-    status: &Status,
-    device: DeviceNo,
-    now: u64,
-) -> Result<String, AllocError> {
-    let Some(seen) = status.device(device) else {
-        return Ok(String::new(alloc));
-    };
-    if now < status.now {
-        return String::from_str(alloc, "relay unknown");
-    }
-    if now - status.now > STALE {
-        return String::from_str(alloc, "relay stopped");
-    }
-    let when = when(alloc, seen.heard, now)?;
-    match seen.doing() {
-        Some(doing) => format!(in alloc; "{doing}, {}", when.as_str()),
-        None => Ok(when),
     }
 }

@@ -1,12 +1,11 @@
 //! One device: what it hears, what its machine reports, and what comes of both.
 ghost use Rattle.std.specs.Prelude.{◌≡◌, Some, is_none};
-ghost use Rattle.std.specs.Option.{option_map};
 ghost use Rattle.cue_device.specs.declared.hearing.Told.TheVariants.{Prepared, Moved, GaveUp, Cannot};
 ghost use Rattle.cue_device.specs.Hearing.{after_command, after_reply, after_told, answer_ticked, answer_told};
-ghost use Rattle.cue_device.specs.Hearing.{begun, ends, after_report, what_comes_of, left_after};
+ghost use Rattle.cue_device.specs.Hearing.{begun, ends, what_comes_of, left_after};
 ghost use Rattle.cue_device.specs.Hearing.{attempt_with_report, place};
 ghost use Rattle.cue_device.specs.Hearing.{answer_call, after_call, device_restarted, is_in_time, reported_for};
-ghost use Rattle.cue_device.specs.Hearing.{device_at_rest, said_by, phase_now, seq_of, task_now, after_cell, task_of};
+ghost use Rattle.cue_device.specs.Hearing.{device_at_rest, said_by, phase_now, task_now, after_cell};
 ghost use Rattle.cue_device.specs.Hearing.{told_in, told_of, unheard_after, with_parts};
 
 use crate::asked::{Command, Task};

@@ -24,14 +24,12 @@ pub struct CuePlace {
 }
 
 impl CuePlace {
-    // No place.
     pub(crate) fn none() -> CuePlace
         ensures { result ≡ no_place }
     {
         CuePlace { bytes: [0; 8] }
     }
 
-    // Whether it is no place.
     pub(crate) fn is_none(&self) -> bool
         ensures { result ≡ is_none_place self.now }
     {

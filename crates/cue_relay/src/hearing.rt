@@ -63,7 +63,6 @@ impl Pending {
     }
 }
 
-// Whether something is overdue.
 fn is_any_overdue(pending: Option<Pending>, now: u64) -> bool
     ensures { result ≡ is_any_overdue pending now }
 {

@@ -1,5 +1,5 @@
 //! How much of a device goes on to the controller.
-ghost use Rattle.std.specs.Prelude.{◌≡◌, ◌<◌, [], IfOk, length, replicate};
+ghost use Rattle.std.specs.Prelude.{◌≡◌, ◌<◌, [], IfOk, replicate};
 ghost use Rattle.cue_relay.specs.Rates.{admits, has_room, is_past, meters_after, times_after, times_noted};
 
 use crate::route::{Opening, Side};

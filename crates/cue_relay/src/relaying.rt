@@ -89,7 +89,6 @@ impl Counts {
         dropped: 0,
     };
 
-    // Counts what happened.
     fn after(self, what: Happening) -> Counts
         requires { self.passed + self.lost + self.dropped < 2 ^ 64 - 1 }
         ensures { result ≡ counts_after self what }

@@ -1,5 +1,5 @@
 //! Who may send to whom through the relay.
-ghost use Rattle.std.specs.Prelude.{◌≡◌, length};
+ghost use Rattle.std.specs.Prelude.{◌≡◌};
 ghost use Rattle.cue_relay.specs.Relaying.{across, is_same, way_by, way_of, who_is_at};
 
 use cue_osc::MAX_LEN;

@@ -1,5 +1,5 @@
 //! Device numbers, each within its range from the moment it is made.
-ghost use Rattle.std.specs.Prelude.{◌≡◌, ◌≤◌, IsTrue, pos};
+ghost use Rattle.std.specs.Prelude.{◌≡◌, ◌≤◌};
 ghost use Rattle.cue_show.specs.DeviceNumber.{device_of, device_of_byte};
 
 use crate::limits::MAX_DEVICE_NUMBER;

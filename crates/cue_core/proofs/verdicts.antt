@@ -7,3 +7,4 @@ pub mod StepLemmas
 pub mod CellLemmas
 pub mod AnswerLemmas
 pub mod CommuteLemmas
+pub mod ReadyLemmas

@@ -8,6 +8,7 @@ pub mod History
 pub mod InOrder
 pub mod Happenings
 pub mod Answers
+pub mod ByAnswer
 pub mod Pending
 pub mod Safety
 pub mod Batches

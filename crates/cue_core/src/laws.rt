@@ -4,6 +4,7 @@ ghost use Rattle.std.specs.Prelude.{◌≡◌};
 ghost use Rattle.cue_core.specs.declared.limits.TheConstants.{STANDBY_MS};
 ghost use Rattle.cue_core.specs.Batches.{AcceptableAreHistories, ClosedStays, DecidedByGo, EventsKeepRules};
 ghost use Rattle.cue_core.specs.Batches.{HistoriesFold, LiveByStart};
+ghost use Rattle.cue_core.specs.ByAnswer.{ReadyOnlyByAnswer};
 ghost use Rattle.cue_core.specs.History.{FactsByHistory};
 ghost use Rattle.cue_core.specs.Happenings.{CommandsInOrder, CommandsMakeHistories};
 ghost use Rattle.cue_core.specs.InOrder.{GoAfterReady};
@@ -36,6 +37,11 @@ pub fn commands_make_histories()
 /// Cancel is accepted.
 pub fn commands_in_order()
     ensures { CommandsInOrder }
+{}
+
+/// A device becomes Ready in an attempt only by its own answer that it stands by in that attempt.
+pub fn ready_only_by_answer()
+    ensures { ReadyOnlyByAnswer }
 {}
 
 /// No device is ever asked to both go and cancel in one attempt: where some state of a history has the one pending,

@@ -39,18 +39,11 @@ has-no (b ∷ t) h = let k = both (not (b == 47)) (no_slash t) h in
 
 cue_verb-no_slash : (v : CueVerb) → IsTrue (no_slash (cue_verb_text v))
 cue_verb-no_slash on_cue.Standby = refl
-cue_verb-no_slash on_cue.Go = refl
-cue_verb-no_slash on_cue.Cancel = refl
-cue_verb-no_slash on_cue.Goto = refl
-cue_verb-no_slash on_cue.Remove = refl
+cue_verb-no_slash _ = refl
 
 device_verb-no_slash : (v : DeviceVerb) → IsTrue (no_slash (device_verb_text v))
 device_verb-no_slash on_device.StandingBy = refl
-device_verb-no_slash on_device.Complete = refl
-device_verb-no_slash on_device.Cancelled = refl
-device_verb-no_slash on_device.Abort = refl
-device_verb-no_slash on_device.Release = refl
-device_verb-no_slash on_device.Remove = refl
+device_verb-no_slash _ = refl
 
 -- ---- the parts of each address
 

@@ -42,16 +42,9 @@ all_mapped : {A B : Type 0} (r : B → Bool) (f : A → B) → ((x : A) → r (f
 all_mapped r f g [] = refl
 all_mapped r f g (x ∷ xs) = join (r (f x)) (list_all r (map f xs)) (g x) (all_mapped r f g xs)
 
-no_arguments-fit : (c : Command) (xs : List Argument) → is_fit c ≡ true → is_fit (no_arguments c xs) ≡ true
-no_arguments-fit c [] h = h
-no_arguments-fit c (x ∷ xs) h = refl
-
 cue-fit : (v : CueVerb) (c : List ℕ) → is_fit (cue_command v c) ≡ true
 cue-fit on_cue.Standby c = refl
-cue-fit on_cue.Go c = refl
-cue-fit on_cue.Cancel c = refl
-cue-fit on_cue.Goto c = refl
-cue-fit on_cue.Remove c = refl
+cue-fit _ c = refl
 
 -- a number that passes a test, or none
 abbrev passes : (ℕ → Bool) → Option ℕ → Bool
@@ -74,66 +67,81 @@ device-passes (pos n) = by (is_device n) refl
     by true e = e
     by false e = refl
 
-device_with-fit : (d p : Option ℕ) → passes is_device d ≡ true → passes is_port p ≡ true
-    → is_fit (or_bad_number (device_with d p)) ≡ true
-device_with-fit None p h k = refl
-device_with-fit (Some d) None h k = refl
-device_with-fit (Some d) (Some p) h k = join (is_device d) (is_port p) h k
+-- ---- what holds of each refusal and of the command that is asked for holds of what the arguments make of it
 
-add_device-fit : (xs : List Argument) → is_fit (add_device_by xs) ≡ true
-add_device-fit (int d ∷ int p ∷ []) = device_with-fit (device_of d) (port_in p) (device-passes d)
-    (number_passing-passes is_port p)
-add_device-fit _ = refl
+module _ (P : Command → Type 0) (bad : (c : Code) → P (command.Bad c)) where
+  pub no_arguments-read : (c : Command) (xs : List Argument) → P c → P (no_arguments c xs)
+  no_arguments-read c [] h = h
+  no_arguments-read c (x ∷ xs) h = bad code.Arguments
 
-answer-fit : (kind : AnswerKind) (d : ℕ) (xs : List Argument) → is_fit (answer_by kind d xs) ≡ true
-answer-fit kind d (int q ∷ []) = by (number_in q) (number_passing-passes is_number q)
-  where
-    by : (o : Option ℕ) → passes is_number o ≡ true
-        → is_fit (or_bad_number (option_map (command.Reply kind d) o)) ≡ true
-    by None h = refl
-    by (Some n) h = h
-answer-fit kind d _ = refl
+  pub add_device-read : ((d p : ℕ) → is_device d ≡ true → is_port p ≡ true → P (command.AddDevice d p))
+      → (xs : List Argument) → P (add_device_by xs)
+  add_device-read h (int d ∷ int p ∷ []) =
+      by (device_of d) (port_in p) (device-passes d) (number_passing-passes is_port p)
+    where
+      by : (d p : Option ℕ) → passes is_device d ≡ true → passes is_port p ≡ true → P (or_bad_number (device_with d p))
+      by None p e f = bad code.BadNumber
+      by (Some d) None e f = bad code.BadNumber
+      by (Some d) (Some p) e f = h d p e f
+  add_device-read h _ = bad code.Arguments
 
-cue_with-fit : (c : List ℕ) (o : Option (List Part)) → is_fit (cue_with c o) ≡ true
-cue_with-fit c None = refl
-cue_with-fit c (Some parts) = by (is_cue_number c) (are_parts parts) refl refl
-  where
-    by : (a b : Bool) → is_cue_number c ≡ a → are_parts parts ≡ b
-        → is_fit (if not a then command.Bad code.BadNumber else
-        (if b then command.AddCue c parts else command.Bad code.BadParts)) ≡ true
-    by true true e f = join (is_cue_number c) (are_parts parts) e f
-    by true false e f = refl
-    by false b e f = refl
+  pub answer-read : (kind : AnswerKind) (d : ℕ) → ((q : ℕ) → is_number q ≡ true → P (command.Reply kind d q))
+      → (xs : List Argument) → P (answer_by kind d xs)
+  answer-read kind d h (int z ∷ []) = by (number_in z) (number_passing-passes is_number z)
+    where
+      by : (o : Option ℕ) → passes is_number o ≡ true → P (or_bad_number (option_map (command.Reply kind d) o))
+      by None e = bad code.BadNumber
+      by (Some q) e = h q e
+  answer-read kind d h _ = bad code.Arguments
 
--- the cue that is asked for where the tags are so
-tagged-fit : (c : List ℕ) (parts : Option (List Part)) (tags : Bool)
-    → is_fit (if tags then cue_with c parts else command.Bad code.Arguments) ≡ true
-tagged-fit c parts true = cue_with-fit c parts
-tagged-fit c parts false = refl
+  module _ (h : (c : List ℕ) (ps : List Part) → is_cue_number c ≡ true → are_parts ps ≡ true → P (command.AddCue c ps))
+    where
+      cue_with-read : (c : List ℕ) (o : Option (List Part)) → P (cue_with c o)
+      cue_with-read c None = bad code.BadNumber
+      cue_with-read c (Some ps) = by (is_cue_number c) (are_parts ps) refl refl
+        where
+          by : (a b : Bool) → is_cue_number c ≡ a → are_parts ps ≡ b
+              → P (if not a then command.Bad code.BadNumber else
+              (if b then command.AddCue c ps else command.Bad code.BadParts))
+          by true true e f = h c ps e f
+          by true false e f = bad code.BadParts
+          by false b e f = bad code.BadNumber
 
-add_cue-fit : (xs : List Argument) → is_fit (add_cue_by xs) ≡ true
-add_cue-fit (text c ∷ rest) = tagged-fit c (pairs_in rest) (are_pairs rest)
-add_cue-fit _ = refl
+      -- where the tags are so
+      tagged-read : (c : List ℕ) (ps : Option (List Part)) (tags : Bool)
+          → P (if tags then cue_with c ps else command.Bad code.Arguments)
+      tagged-read c ps true = cue_with-read c ps
+      tagged-read c ps false = bad code.Arguments
 
-add_mixed_cue-fit : (xs : List Argument) → is_fit (add_mixed_cue_by xs) ≡ true
-add_mixed_cue-fit (text c ∷ rest) = tagged-fit c (triples_in rest) (are_triples rest)
-add_mixed_cue-fit _ = refl
+      pub add_cue-read : (xs : List Argument) → P (add_cue_by xs)
+      add_cue-read (text c ∷ rest) = tagged-read c (pairs_in rest) (are_pairs rest)
+      add_cue-read _ = bad code.Arguments
 
-device-fit : (v : DeviceVerb) (d : ℕ) (xs : List Argument) → is_fit (device_by v d xs) ≡ true
-device-fit on_device.StandingBy d xs = answer-fit _ d xs
-device-fit on_device.Complete d xs = answer-fit _ d xs
-device-fit on_device.Cancelled d xs = answer-fit _ d xs
-device-fit on_device.Abort d xs = answer-fit _ d xs
-device-fit on_device.Release d xs = no_arguments-fit (command.Release d) xs refl
-device-fit on_device.Remove d xs = no_arguments-fit (command.RemoveDevice d) xs refl
+      pub add_mixed_cue-read : (xs : List Argument) → P (add_mixed_cue_by xs)
+      add_mixed_cue-read (text c ∷ rest) = tagged-read c (triples_in rest) (are_triples rest)
+      add_mixed_cue-read _ = bad code.Arguments
 
-pub command-fit : (m : Method) (xs : List Argument) → is_fit (command_by xs m) ≡ true
+-- ---- what is read is fit
+
+abbrev Fit : Command → Type 0
+Fit c = is_fit c ≡ true
+
+bad-fit : (c : Code) → Fit (command.Bad c)
+bad-fit c = refl
+
+device-fit : (v : DeviceVerb) (d : ℕ) (xs : List Argument) → Fit (device_by v d xs)
+device-fit on_device.Release d xs = no_arguments-read Fit bad-fit (command.Release d) xs refl
+device-fit on_device.Remove d xs = no_arguments-read Fit bad-fit (command.RemoveDevice d) xs refl
+device-fit _ d xs = answer-read Fit bad-fit _ d (λ q e. e) xs
+
+pub command-fit : (m : Method) (xs : List Argument) → Fit (command_by xs m)
 unfolding command_by
-command-fit method.Status xs = no_arguments-fit command.Status xs refl
-command-fit method.AddDevice xs = add_device-fit xs
-command-fit method.AddCue xs = add_cue-fit xs
-command-fit method.AddMixedCue xs = add_mixed_cue-fit xs
-command-fit (method.OfCue c v) xs = no_arguments-fit (cue_command v c) xs (cue-fit v c)
+command-fit method.Status xs = no_arguments-read Fit bad-fit command.Status xs refl
+command-fit method.AddDevice xs = add_device-read Fit bad-fit (λ d p e f. join (is_device d) (is_port p) e f) xs
+command-fit method.AddCue xs = add_cue-read Fit bad-fit (λ c ps e f. join (is_cue_number c) (are_parts ps) e f) xs
+command-fit method.AddMixedCue xs = add_mixed_cue-read Fit bad-fit
+    (λ c ps e f. join (is_cue_number c) (are_parts ps) e f) xs
+command-fit (method.OfCue c v) xs = no_arguments-read Fit bad-fit (cue_command v c) xs (cue-fit v c)
 command-fit (method.OfDevice d v) xs = device-fit v d xs
 
 abbrev pub are_fit : Result (List Command) Code → Bool

@@ -152,17 +152,7 @@ shown-rests : (s : ShowState) (es : List Event) (c : Command) (t : ShowState)
     → list_all (send_rests s es) (shown_by c t) ≡ true
 unfolding status_of
 shown-rests s es command.Status t = refl
-shown-rests s es (command.AddDevice device port) t = refl
-shown-rests s es (command.AddCue cue parts) t = refl
-shown-rests s es (command.Standby cue) t = refl
-shown-rests s es (command.Go cue) t = refl
-shown-rests s es (command.Cancel cue) t = refl
-shown-rests s es (command.Goto cue) t = refl
-shown-rests s es (command.RemoveCue cue) t = refl
-shown-rests s es (command.Reply kind device seq) t = refl
-shown-rests s es (command.Release device) t = refl
-shown-rests s es (command.RemoveDevice device) t = refl
-shown-rests s es (command.Bad code) t = refl
+shown-rests s es _ t = refl
 
 reply-rests : (s : ShowState) (es : List Event) (h : Heard) → list_all (send_rests s es) (replies_to h) ≡ true
 reply-rests s es (refused a c) = refl
@@ -241,29 +231,19 @@ more s es fs (order (cancel q d)) h =
     join (is_live_in s q || list_any (is_start_of q) (es ++ fs)) _ (live-more s es fs q w.0)
     (cancelling-more s es fs q w.1)
 
+-- what is so after the events by them, or by later ones, is so by all of them
+earlier-by : (before after : Bool) (p : Event → Bool) (es fs : List Event)
+    → (after ≡ true → (before || list_any p es) ≡ true) → (after || list_any p fs) ≡ true
+    → (before || list_any p (es ++ fs)) ≡ true
+earlier-by before after p es fs by h =
+    rw any-append (either after _ _ (λ k. or_swap before _ _ (by k))
+    (λ k. or_right before _ (or_right (list_any p es) _ k)) h)
+
 live-earlier : (s : ShowState) (es fs : List Event) (q : ℕ)
     → (is_live_in (after_events s es) q || list_any (is_start_of q) fs) ≡ true
     → (is_live_in s q || list_any (is_start_of q) (es ++ fs)) ≡ true
-live-earlier s es fs q h =
-    rw any-append (either (is_live_in (after_events s es) q) _ _
-    (λ k. or_swap (is_live_in s q) _ _ (live-by-start s es q k))
-    (λ k. or_right (is_live_in s q) _ (or_right (list_any (is_start_of q) es) _ k)) h)
-
-decided-earlier : (s : ShowState) (es fs : List Event) (q : ℕ)
-    → (is_decided_in (after_events s es) q || list_any (is_go_of q) fs) ≡ true
-    → (is_decided_in s q || list_any (is_go_of q) (es ++ fs)) ≡ true
-decided-earlier s es fs q h =
-    rw any-append (either (is_decided_in (after_events s es) q) _ _
-    (λ k. or_swap (is_decided_in s q) _ _ (decided-by-go s es q k))
-    (λ k. or_right (is_decided_in s q) _ (or_right (list_any (is_go_of q) es) _ k)) h)
-
-cancelling-earlier : (s : ShowState) (es fs : List Event) (q : ℕ)
-    → (is_cancelling_in (after_events s es) q || list_any (is_cancel_of q) fs) ≡ true
-    → (is_cancelling_in s q || list_any (is_cancel_of q) (es ++ fs)) ≡ true
-cancelling-earlier s es fs q h =
-    rw any-append (either (is_cancelling_in (after_events s es) q) _ _
-    (λ k. or_swap (is_cancelling_in s q) _ _ (cancelling-by-cancel s es q k))
-    (λ k. or_right (is_cancelling_in s q) _ (or_right (list_any (is_cancel_of q) es) _ k)) h)
+live-earlier s es fs q = earlier-by (is_live_in s q) (is_live_in (after_events s es) q) (is_start_of q) es fs
+    (live-by-start s es q)
 
 -- what rests on a later state rests on the earlier one
 pub earlier : (s : ShowState) (es fs : List Event) (m : Send) → send_rests (after_events s es) fs m ≡ true
@@ -271,11 +251,13 @@ pub earlier : (s : ShowState) (es fs : List Event) (m : Send) → send_rests (af
 earlier s es fs (reply a m k r c) h = refl
 earlier s es fs (status a b c d e) h = refl
 earlier s es fs (order (standby q d c b)) h = live-earlier s es fs q h
-earlier s es fs (order (go_2pc q d)) h = decided-earlier s es fs q h
+earlier s es fs (order (go_2pc q d)) h = earlier-by (is_decided_in s q) (is_decided_in (after_events s es) q)
+    (is_go_of q) es fs (decided-by-go s es q) h
 earlier s es fs (order (cancel q d)) h =
     let w = both (is_live_in (after_events s es) q || list_any (is_start_of q) fs) _ h in
     join (is_live_in s q || list_any (is_start_of q) (es ++ fs)) _ (live-earlier s es fs q w.0)
-    (cancelling-earlier s es fs q w.1)
+    (earlier-by (is_cancelling_in s q) (is_cancelling_in (after_events s es) q) (is_cancel_of q) es fs
+    (cancelling-by-cancel s es q) w.1)
 
 pub joined-with : (b : List Event) (bs : List (List Event)) → joined_list (with_batch b bs) ≡ b ++ joined_list bs
 joined-with [] bs = refl

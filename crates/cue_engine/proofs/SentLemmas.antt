@@ -50,17 +50,7 @@ module _ (R : Send → Type 0) (els : HoldsElsewhere R) where
   shown-each : (c : Command) (t : ShowState) → AllByRecursion R (shown_by c t)
   unfolding status_of
   shown-each command.Status t = (els.statuses _ _ _ _ _, tt)
-  shown-each (command.AddDevice device port) t = tt
-  shown-each (command.AddCue cue parts) t = tt
-  shown-each (command.Standby cue) t = tt
-  shown-each (command.Go cue) t = tt
-  shown-each (command.Cancel cue) t = tt
-  shown-each (command.Goto cue) t = tt
-  shown-each (command.RemoveCue cue) t = tt
-  shown-each (command.Reply kind device seq) t = tt
-  shown-each (command.Release device) t = tt
-  shown-each (command.RemoveDevice device) t = tt
-  shown-each (command.Bad code) t = tt
+  shown-each _ t = tt
 
   reply-each : (h : Heard) → AllByRecursion R (replies_to h)
   reply-each (refused a c) = (els.answers _ _ _ _ _, tt)

@@ -9,8 +9,8 @@ use Rattle.cue_osc.specs.Reading.{datagram_at}
 use Rattle.cue_core.specs.Judge.{is_fit}
 use Rattle.cue_core.specs.declared.command.Command.{Command}
 use Rattle.cue_core.specs.declared.command.Command.TheVariants as command
-use Rattle.cue_operator.specs.Arguments.{command_by, cue_command}
-use Rattle.cue_operator.specs.Methods.{address_of}
+use Rattle.cue_operator.specs.Arguments.{command_by}
+use Rattle.cue_operator.specs.Methods.{address_of, cue_command}
 use Rattle.cue_operator.specs.declared.method.DeviceVerb.TheVariants as on_device
 use Rattle.cue_operator.specs.declared.method.Method.{Method}
 use Rattle.cue_operator.specs.declared.method.Method.TheVariants as method

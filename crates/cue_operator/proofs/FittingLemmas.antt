@@ -31,10 +31,10 @@ use Rattle.cue_operator.specs.declared.method.DeviceVerb.{DeviceVerb}
 use Rattle.cue_operator.specs.declared.method.DeviceVerb.TheVariants as on_device
 use Rattle.cue_operator.specs.declared.method.Method.{Method}
 use Rattle.cue_operator.specs.declared.method.Method.TheVariants as method
-use Rattle.cue_operator.specs.Methods.{methods, methods_at}
+use Rattle.cue_operator.specs.Methods.{cue_command, methods, methods_at}
 use Rattle.cue_operator.specs.Arguments.{number_passing, port_in, number_in, no_arguments, or_bad_number, device_with}
 use Rattle.cue_operator.specs.Arguments.{add_device_by, answer_by, are_pairs, are_triples, pairs_in, triples_in}
-use Rattle.cue_operator.specs.Arguments.{cue_with, add_cue_by, add_mixed_cue_by, cue_command, device_by, command_by}
+use Rattle.cue_operator.specs.Arguments.{cue_with, add_cue_by, add_mixed_cue_by, device_by, command_by}
 use Rattle.cue_operator.specs.Commands.{commands_at, unless_none, commands_matched, commands_of}
 
 all_mapped : {A B : Type 0} (r : B → Bool) (f : A → B) → ((x : A) → r (f x) ≡ true) → (xs : List A)

@@ -23,10 +23,10 @@ use Rattle.cue_operator.specs.declared.method.DeviceVerb.{DeviceVerb}
 use Rattle.cue_operator.specs.declared.method.DeviceVerb.TheVariants as on_device
 use Rattle.cue_operator.specs.declared.method.Method.{Method}
 use Rattle.cue_operator.specs.declared.method.Method.TheVariants as method
-use Rattle.cue_operator.specs.Methods.{address_of, methods, methods_at}
+use Rattle.cue_operator.specs.Methods.{address_of, cue_command, methods, methods_at}
 use Rattle.cue_operator.specs.Arguments.{number_in, port_in, no_arguments, or_bad_number, device_with, add_device_by}
 use Rattle.cue_operator.specs.Arguments.{answer_by, are_pairs, are_triples, pairs_in, triples_in, cue_with, add_cue_by}
-use Rattle.cue_operator.specs.Arguments.{add_mixed_cue_by, cue_command, device_by, command_by}
+use Rattle.cue_operator.specs.Arguments.{add_mixed_cue_by, device_by, command_by}
 use Rattle.cue_operator.specs.Commands.{commands_at, unless_none, commands_matched, commands_of}
 use Rattle.cue_stage.specs.Consent.{IsReadAsStandingBy}
 use Rattle.cue_stage.proofs.ReadyLemmas.{Among}

@@ -1,19 +1,15 @@
 -- A message that asks for a standing_by of a device is read as one.
-use Rattle.std.proofs.Common.{◌≡◌, ◌⊎◌, inl, inr, ℕ, pos, negsuc, Bool, true, false, not, List, [], ◌∷◌, Option, None}
+use Rattle.std.proofs.Common.{◌≡◌, ◌⊎◌, inl, inr, ℕ, pos, negsuc, Bool, true, false, List, [], ◌∷◌, Option, None}
 use Rattle.std.proofs.Common.{Some, Ok, Err, map, cond, if◌then◌else◌, refl, sym, ap, ◌∙◌, subst, true≢false}
 use Rattle.std.specs.Option.{option_map, option_map_or}
-use Rattle.cue_show.specs.declared.part.Part.{Part}
-use Rattle.cue_show.specs.DeviceNumber.{device_of}
-use Rattle.cue_show.specs.Number.{is_cue_number}
-use Rattle.cue_show.specs.Parts.{are_parts}
 use Rattle.cue_show.specs.Show.{ShowLists}
 use Rattle.cue_exchange.specs.Live.{is_number}
+use Rattle.cue_core.specs.declared.command.Code.{Code}
 use Rattle.cue_core.specs.declared.command.Code.TheVariants as code
 use Rattle.cue_core.specs.declared.command.Command.{Command}
 use Rattle.cue_core.specs.declared.command.Command.TheVariants as command
-use Rattle.cue_core.specs.declared.command.AnswerKind.{AnswerKind}
 use Rattle.cue_core.specs.declared.command.AnswerKind.TheVariants as answer_kind
-use Rattle.cue_osc.specs.Argument.{Argument, int, text}
+use Rattle.cue_osc.specs.Argument.{Argument, int}
 use Rattle.cue_pattern.specs.declared.piece.Piece.{Piece}
 use Rattle.cue_pattern.specs.Reading.{pattern_at}
 use Rattle.cue_pattern.specs.Matching.{matches}
@@ -24,89 +20,33 @@ use Rattle.cue_operator.specs.declared.method.DeviceVerb.TheVariants as on_devic
 use Rattle.cue_operator.specs.declared.method.Method.{Method}
 use Rattle.cue_operator.specs.declared.method.Method.TheVariants as method
 use Rattle.cue_operator.specs.Methods.{address_of, cue_command, methods, methods_at}
-use Rattle.cue_operator.specs.Arguments.{number_in, port_in, no_arguments, or_bad_number, device_with, add_device_by}
-use Rattle.cue_operator.specs.Arguments.{answer_by, are_pairs, are_triples, pairs_in, triples_in, cue_with, add_cue_by}
-use Rattle.cue_operator.specs.Arguments.{add_mixed_cue_by, device_by, command_by}
+use Rattle.cue_operator.specs.Arguments.{or_bad_number, answer_by, device_by, command_by}
+use Rattle.cue_operator.proofs.FittingLemmas.{no_arguments-read, add_device-read, answer-read, add_cue-read}
+use Rattle.cue_operator.proofs.FittingLemmas.{add_mixed_cue-read}
 use Rattle.cue_operator.specs.Commands.{commands_at, unless_none, commands_matched, commands_of}
 use Rattle.cue_stage.specs.Consent.{IsReadAsStandingBy}
 use Rattle.cue_stage.proofs.ReadyLemmas.{Among}
 
 -- the command is a standing_by
 abbrev says : Command → Bool
-says command.Status = false
-says (command.AddDevice d p) = false
-says (command.AddCue c ps) = false
-says (command.Standby c) = false
-says (command.Go c) = false
-says (command.Cancel c) = false
-says (command.Goto c) = false
-says (command.RemoveCue c) = false
 says (command.Reply answer_kind.StandingBy d q) = true
-says (command.Reply answer_kind.Complete d q) = false
-says (command.Reply answer_kind.Cancelled d q) = false
-says (command.Reply answer_kind.Abort d q) = false
-says (command.Release d) = false
-says (command.RemoveDevice d) = false
-says (command.Bad c) = false
+says _ = false
 
 -- ---- what no method but one reads
 
-no_arguments-says : (c : Command) (xs : List Argument) → says c ≡ false → says (no_arguments c xs) ≡ false
-no_arguments-says c [] h = h
-no_arguments-says c (x ∷ xs) h = refl
+abbrev Quiet : Command → Type 0
+Quiet c = says c ≡ false
 
-device_with-says : (d p : Option ℕ) → says (or_bad_number (device_with d p)) ≡ false
-device_with-says None p = refl
-device_with-says (Some d) None = refl
-device_with-says (Some d) (Some p) = refl
+bad-quiet : (c : Code) → Quiet (command.Bad c)
+bad-quiet c = refl
 
-add_device-says : (xs : List Argument) → says (add_device_by xs) ≡ false
-add_device-says (int d ∷ int p ∷ []) = device_with-says (device_of d) (port_in p)
-add_device-says _ = refl
-
-cue_with-says : (c : List ℕ) (o : Option (List Part)) → says (cue_with c o) ≡ false
-cue_with-says c None = refl
-cue_with-says c (Some parts) = by (is_cue_number c) (are_parts parts)
-  where
-    by : (a b : Bool) → says
-        (if not a then command.Bad code.BadNumber else
-        (if b then command.AddCue c parts else command.Bad code.BadParts)) ≡ false
-    by true true = refl
-    by true false = refl
-    by false b = refl
-
-tagged-says : (c : List ℕ) (parts : Option (List Part)) (tags : Bool)
-    → says (if tags then cue_with c parts else command.Bad code.Arguments) ≡ false
-tagged-says c parts true = cue_with-says c parts
-tagged-says c parts false = refl
-
-add_cue-says : (xs : List Argument) → says (add_cue_by xs) ≡ false
-add_cue-says (text c ∷ rest) = tagged-says c (pairs_in rest) (are_pairs rest)
-add_cue-says _ = refl
-
-add_mixed_cue-says : (xs : List Argument) → says (add_mixed_cue_by xs) ≡ false
-add_mixed_cue-says (text c ∷ rest) = tagged-says c (triples_in rest) (are_triples rest)
-add_mixed_cue-says _ = refl
-
-cue-says : (v : CueVerb) (c : List ℕ) → says (cue_command v c) ≡ false
-cue-says on_cue.Standby c = refl
-cue-says on_cue.Go c = refl
-cue-says on_cue.Cancel c = refl
-cue-says on_cue.Goto c = refl
-cue-says on_cue.Remove c = refl
-
-answer-says : (kind : AnswerKind) (d : ℕ) (xs : List Argument) → ((n : ℕ) → says (command.Reply kind d n) ≡ false)
-    → says (answer_by kind d xs) ≡ false
-answer-says kind d (int z ∷ []) h = by (number_in z)
-  where
-    by : (o : Option ℕ) → says (or_bad_number (option_map (command.Reply kind d) o)) ≡ false
-    by None = refl
-    by (Some n) = h n
-answer-says kind d _ h = refl
+cue-quiet : (v : CueVerb) (c : List ℕ) → Quiet (cue_command v c)
+cue-quiet on_cue.Standby c = refl
+cue-quiet _ c = refl
 
 -- ---- the one that does
 
-not_said : {A : Type 0} (c : Command) (d q : ℕ) → says c ≡ false → c ≡ command.Reply answer_kind.StandingBy d q → A
+not_said : {A : Type 0} (c : Command) (d q : ℕ) → Quiet c → c ≡ command.Reply answer_kind.StandingBy d q → A
 not_said c d q h is = absurd (true≢false (sym (ap says is) ∙ h))
 
 abbrev device_in : Command → ℕ
@@ -139,27 +79,23 @@ device_reads : (v : DeviceVerb) (d e q : ℕ) (xs : List Argument)
     → Reads xs (method.OfDevice d v) e q
 device_reads on_device.StandingBy d e q xs is = let r = read_by d e q xs is in
     record { method = ap (λ (n : ℕ). method.OfDevice n on_device.StandingBy) r.0; number = r.1 }
-device_reads on_device.Complete d e q xs is =
-    not_said (answer_by answer_kind.Complete d xs) e q (answer-says answer_kind.Complete d xs (λ n. refl)) is
-device_reads on_device.Cancelled d e q xs is =
-    not_said (answer_by answer_kind.Cancelled d xs) e q (answer-says answer_kind.Cancelled d xs (λ n. refl)) is
-device_reads on_device.Abort d e q xs is =
-    not_said (answer_by answer_kind.Abort d xs) e q (answer-says answer_kind.Abort d xs (λ n. refl)) is
 device_reads on_device.Release d e q xs is =
-    not_said (no_arguments (command.Release d) xs) e q (no_arguments-says (command.Release d) xs refl) is
+    not_said _ e q (no_arguments-read Quiet bad-quiet (command.Release d) xs refl) is
 device_reads on_device.Remove d e q xs is =
-    not_said (no_arguments (command.RemoveDevice d) xs) e q (no_arguments-says (command.RemoveDevice d) xs refl) is
+    not_said _ e q (no_arguments-read Quiet bad-quiet (command.RemoveDevice d) xs refl) is
+device_reads _ d e q xs is = not_said _ e q (answer-read Quiet bad-quiet _ d (λ n k. refl) xs) is
 
 method_reads : (m : Method) (e q : ℕ) (xs : List Argument) → command_by xs m ≡ command.Reply answer_kind.StandingBy e q
     → Reads xs m e q
 unfolding command_by
 method_reads method.Status e q xs is =
-    not_said (no_arguments command.Status xs) e q (no_arguments-says command.Status xs refl) is
-method_reads method.AddDevice e q xs is = not_said (add_device_by xs) e q (add_device-says xs) is
-method_reads method.AddCue e q xs is = not_said (add_cue_by xs) e q (add_cue-says xs) is
-method_reads method.AddMixedCue e q xs is = not_said (add_mixed_cue_by xs) e q (add_mixed_cue-says xs) is
+    not_said _ e q (no_arguments-read Quiet bad-quiet command.Status xs refl) is
+method_reads method.AddDevice e q xs is = not_said _ e q (add_device-read Quiet bad-quiet (λ d p g h. refl) xs) is
+method_reads method.AddCue e q xs is = not_said _ e q (add_cue-read Quiet bad-quiet (λ c ps g h. refl) xs) is
+method_reads method.AddMixedCue e q xs is =
+    not_said _ e q (add_mixed_cue-read Quiet bad-quiet (λ c ps g h. refl) xs) is
 method_reads (method.OfCue c v) e q xs is =
-    not_said (no_arguments (cue_command v c) xs) e q (no_arguments-says (cue_command v c) xs (cue-says v c)) is
+    not_said _ e q (no_arguments-read Quiet bad-quiet (cue_command v c) xs (cue-quiet v c)) is
 method_reads (method.OfDevice d v) e q xs is = device_reads v d e q xs is
 
 -- ---- the methods of a pattern

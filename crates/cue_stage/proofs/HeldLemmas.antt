@@ -13,7 +13,7 @@ use Rattle.cue_device.specs.declared.hearing.Told.TheVariants.{Prepared, Moved, 
 use Rattle.cue_device.specs.declared.phase.Attempt.{Attempt}
 use Rattle.cue_device.specs.declared.phase.Cell.{Cell}
 use Rattle.cue_device.specs.declared.phase.Phase.{Phase}
-use Rattle.cue_device.specs.declared.phase.Phase.TheVariants.{Preparing, Ready, Moving, Done, LettingGo, LetGo, Failed}
+use Rattle.cue_device.specs.declared.phase.Phase.TheVariants.{Preparing, Ready, Moving, Done, LetGo, Failed}
 use Rattle.cue_device.specs.declared.words.Order.{Order}
 use Rattle.cue_device.specs.Hearing.{after_at, after_cell, after_report, again}
 use Rattle.cue_device.specs.Hearing.{device_at_rest, is_for, ordered_for, place, seq_of, task_of, told_at}
@@ -27,13 +27,9 @@ use Rattle.cue_stage.proofs.PreparedLemmas.{place_same}
 
 -- the machine is ordered nothing in this phase
 abbrev pub IsIdle : Phase → Type 0
-IsIdle Preparing = ⊥
-IsIdle Ready = ⊥
-IsIdle Moving = ⊥
-IsIdle Done = ⊥
-IsIdle LettingGo = ⊥
 IsIdle LetGo = Unit {0}
 IsIdle Failed = Unit {0}
+IsIdle _ = ⊥
 
 -- an order comes for this number, and in no idle phase
 abbrev pub OrdersFor : ℕ → Phase → Option Order → Type 0
@@ -46,39 +42,23 @@ Fits n p cell = OrdersFor n p cell.order × (IsIdle p → IsIdle cell.phase)
 
 same_standby-fits : (n : ℕ) (p : Phase) → Fits n p (same_standby n p)
 same_standby-fits n Preparing = (tt, λ i. i)
-same_standby-fits n Ready = (tt, λ i. i)
-same_standby-fits n Moving = (tt, λ i. i)
-same_standby-fits n Done = (tt, λ i. i)
-same_standby-fits n LettingGo = (tt, λ i. i)
-same_standby-fits n LetGo = (tt, λ i. i)
-same_standby-fits n Failed = (tt, λ i. i)
+same_standby-fits n _ = (tt, λ i. i)
 
 other_standby-fits : (n : ℕ) (p : Phase) → Fits n p (other_standby n p)
 other_standby-fits n Preparing = ((refl, λ i. i), λ i. tt)
 other_standby-fits n Ready = ((refl, λ i. i), λ i. tt)
-other_standby-fits n Moving = (tt, λ i. tt)
-other_standby-fits n Done = (tt, λ i. tt)
-other_standby-fits n LettingGo = (tt, λ i. tt)
-other_standby-fits n LetGo = (tt, λ i. tt)
-other_standby-fits n Failed = (tt, λ i. tt)
+other_standby-fits n _ = (tt, λ i. tt)
 
 same_go-fits : (n : ℕ) (p : Phase) → Fits n p (same_go n p)
-same_go-fits n Preparing = (tt, λ i. tt)
 same_go-fits n Ready = ((refl, λ i. i), λ i. i)
 same_go-fits n Moving = (tt, λ i. i)
 same_go-fits n Done = (tt, λ i. i)
-same_go-fits n LettingGo = (tt, λ i. tt)
-same_go-fits n LetGo = (tt, λ i. tt)
-same_go-fits n Failed = (tt, λ i. tt)
+same_go-fits n _ = (tt, λ i. tt)
 
 same_cancel-fits : (n : ℕ) (p : Phase) → Fits n p (same_cancel n p)
 same_cancel-fits n Preparing = ((refl, λ i. i), λ i. i)
 same_cancel-fits n Ready = ((refl, λ i. i), λ i. i)
-same_cancel-fits n Moving = (tt, λ i. i)
-same_cancel-fits n Done = (tt, λ i. i)
-same_cancel-fits n LettingGo = (tt, λ i. i)
-same_cancel-fits n LetGo = (tt, λ i. i)
-same_cancel-fits n Failed = (tt, λ i. i)
+same_cancel-fits n _ = (tt, λ i. i)
 
 standby_fits : (n : ℕ) (p : Phase) (same : Bool) → Fits n p (cond same (same_standby n p) (other_standby n p))
 standby_fits n p true = same_standby-fits n p
@@ -91,11 +71,6 @@ again_fits a (Cancel n) = same_cancel-fits n a.phase
 
 -- what is reported of an idle attempt leaves it idle
 told_idle : (t : Told) (p : Phase) → IsIdle p → IsIdle (told_in t p).phase
-told_idle t Preparing i = absurd i
-told_idle t Ready i = absurd i
-told_idle t Moving i = absurd i
-told_idle t Done i = absurd i
-told_idle t LettingGo i = absurd i
 told_idle (Prepared n) LetGo i = tt
 told_idle (Prepared n) Failed i = tt
 told_idle (Moved n) LetGo i = tt
@@ -104,6 +79,7 @@ told_idle (GaveUp n) LetGo i = tt
 told_idle (GaveUp n) Failed i = tt
 told_idle (Cannot n) LetGo i = tt
 told_idle (Cannot n) Failed i = tt
+told_idle _ _ i = absurd i
 
 -- ---- where the task of an attempt came from
 

@@ -7,7 +7,7 @@ use Rattle.cue_device.specs.declared.hearing.Place.{Place}
 use Rattle.cue_device.specs.declared.hearing.Place.TheVariants.{Over, Same, New}
 use Rattle.cue_device.specs.declared.phase.Attempt.{Attempt}
 use Rattle.cue_device.specs.declared.phase.Phase.{Phase}
-use Rattle.cue_device.specs.declared.phase.Phase.TheVariants.{Preparing, Ready, Moving, Done, LettingGo, LetGo, Failed}
+use Rattle.cue_device.specs.declared.phase.Phase.TheVariants.{Preparing, Ready}
 use Rattle.cue_device.specs.declared.words.Order.{Order}
 use Rattle.cue_device.specs.declared.words.Order.TheVariants.{Prepare, Move, GiveUp}
 use Rattle.cue_device.specs.Hearing.{again, heard_at, is_for, place, seq_of}
@@ -23,39 +23,19 @@ ComesOf c (Some (GiveUp p)) = Unit {0}
 
 same_standby-comes : (c : Command) (q : ℕ) (p : Phase) → ComesOf c (same_standby q p).order
 same_standby-comes c q Preparing = tt
-same_standby-comes c q Ready = tt
-same_standby-comes c q Moving = tt
-same_standby-comes c q Done = tt
-same_standby-comes c q LettingGo = tt
-same_standby-comes c q LetGo = tt
-same_standby-comes c q Failed = tt
+same_standby-comes c q _ = tt
 
 other_standby-comes : (c : Command) (q : ℕ) (p : Phase) → ComesOf c (other_standby q p).order
 other_standby-comes c q Preparing = tt
-other_standby-comes c q Ready = tt
-other_standby-comes c q Moving = tt
-other_standby-comes c q Done = tt
-other_standby-comes c q LettingGo = tt
-other_standby-comes c q LetGo = tt
-other_standby-comes c q Failed = tt
+other_standby-comes c q _ = tt
 
 same_go-comes : (q : ℕ) (p : Phase) → ComesOf (Go q) (same_go q p).order
-same_go-comes q Preparing = tt
 same_go-comes q Ready = refl
-same_go-comes q Moving = tt
-same_go-comes q Done = tt
-same_go-comes q LettingGo = tt
-same_go-comes q LetGo = tt
-same_go-comes q Failed = tt
+same_go-comes q _ = tt
 
 same_cancel-comes : (c : Command) (q : ℕ) (p : Phase) → ComesOf c (same_cancel q p).order
 same_cancel-comes c q Preparing = tt
-same_cancel-comes c q Ready = tt
-same_cancel-comes c q Moving = tt
-same_cancel-comes c q Done = tt
-same_cancel-comes c q LettingGo = tt
-same_cancel-comes c q LetGo = tt
-same_cancel-comes c q Failed = tt
+same_cancel-comes c q _ = tt
 
 standby_comes : (c : Command) (q : ℕ) (p : Phase) (b : Bool)
     → ComesOf c (cond b (same_standby q p) (other_standby q p)).order

@@ -44,40 +44,20 @@ abbrev IsReady : ℕ → Phase → ℕ → Type 0
 IsReady n p q = (p ≡ Ready) × (n ≡ q)
 
 same_standby-comes : (n q : ℕ) (p : Phase) → ComesOf (IsReady n p q) q (same_standby n p).answer
-same_standby-comes n q Preparing = tt
 same_standby-comes n q Ready = λ e. (refl, e)
-same_standby-comes n q Moving = tt
-same_standby-comes n q Done = tt
-same_standby-comes n q LettingGo = tt
-same_standby-comes n q LetGo = tt
-same_standby-comes n q Failed = tt
+same_standby-comes n q _ = tt
 
 other_standby-comes : (P : Type 0) (n q : ℕ) (p : Phase) → ComesOf P q (other_standby n p).answer
 other_standby-comes P n q Preparing = tt
-other_standby-comes P n q Ready = tt
-other_standby-comes P n q Moving = tt
-other_standby-comes P n q Done = tt
-other_standby-comes P n q LettingGo = tt
-other_standby-comes P n q LetGo = tt
-other_standby-comes P n q Failed = tt
+other_standby-comes P n q _ = tt
 
 same_go-comes : (P : Type 0) (n q : ℕ) (p : Phase) → ComesOf P q (same_go n p).answer
 same_go-comes P n q Preparing = tt
-same_go-comes P n q Ready = tt
-same_go-comes P n q Moving = tt
-same_go-comes P n q Done = tt
-same_go-comes P n q LettingGo = tt
-same_go-comes P n q LetGo = tt
-same_go-comes P n q Failed = tt
+same_go-comes P n q _ = tt
 
 same_cancel-comes : (P : Type 0) (n q : ℕ) (p : Phase) → ComesOf P q (same_cancel n p).answer
 same_cancel-comes P n q Preparing = tt
-same_cancel-comes P n q Ready = tt
-same_cancel-comes P n q Moving = tt
-same_cancel-comes P n q Done = tt
-same_cancel-comes P n q LettingGo = tt
-same_cancel-comes P n q LetGo = tt
-same_cancel-comes P n q Failed = tt
+same_cancel-comes P n q _ = tt
 
 standby_comes : (n q : ℕ) (p : Phase) (same : Bool)
     → ComesOf (IsReady n p q) q (cond same (same_standby n p) (other_standby n p)).answer
@@ -105,33 +85,13 @@ over_comes P q (Cancel n) = tt
 
 told_comes : (t : Told) (q : ℕ) (p : Phase) → ComesOf (t ≡ Prepared q) q (told_in t p).answer
 told_comes (Prepared n) q Preparing = λ e. ap Prepared e
-told_comes (Prepared n) q Ready = tt
-told_comes (Prepared n) q Moving = tt
-told_comes (Prepared n) q Done = tt
-told_comes (Prepared n) q LettingGo = tt
-told_comes (Prepared n) q LetGo = tt
-told_comes (Prepared n) q Failed = tt
+told_comes (Prepared n) q _ = tt
 told_comes (Moved n) q Preparing = tt
-told_comes (Moved n) q Ready = tt
-told_comes (Moved n) q Moving = tt
-told_comes (Moved n) q Done = tt
-told_comes (Moved n) q LettingGo = tt
-told_comes (Moved n) q LetGo = tt
-told_comes (Moved n) q Failed = tt
+told_comes (Moved n) q _ = tt
 told_comes (GaveUp n) q Preparing = tt
-told_comes (GaveUp n) q Ready = tt
-told_comes (GaveUp n) q Moving = tt
-told_comes (GaveUp n) q Done = tt
-told_comes (GaveUp n) q LettingGo = tt
-told_comes (GaveUp n) q LetGo = tt
-told_comes (GaveUp n) q Failed = tt
+told_comes (GaveUp n) q _ = tt
 told_comes (Cannot n) q Preparing = tt
-told_comes (Cannot n) q Ready = tt
-told_comes (Cannot n) q Moving = tt
-told_comes (Cannot n) q Done = tt
-told_comes (Cannot n) q LettingGo = tt
-told_comes (Cannot n) q LetGo = tt
-told_comes (Cannot n) q Failed = tt
+told_comes (Cannot n) q _ = tt
 
 answer_comes : (p : Place) (t : Told) (q : ℕ) → ComesOf (t ≡ Prepared q) q (answer_at p t)
 answer_comes Over t q = tt

@@ -16,7 +16,7 @@ use Rattle.cue_device.specs.declared.hearing.Place.{Place}
 use Rattle.cue_device.specs.declared.hearing.Place.TheVariants.{Over, Same, New}
 use Rattle.cue_device.specs.declared.phase.Attempt.{Attempt}
 use Rattle.cue_device.specs.declared.phase.Phase.{Phase}
-use Rattle.cue_device.specs.declared.phase.Phase.TheVariants.{Preparing, Ready, Moving, Done, LettingGo, LetGo, Failed}
+use Rattle.cue_device.specs.declared.phase.Phase.TheVariants.{Preparing, Ready}
 use Rattle.cue_device.specs.declared.words.Order.{Order}
 use Rattle.cue_device.specs.declared.words.Order.TheVariants.{Prepare, Move, GiveUp}
 use Rattle.cue_device.specs.Hearing.{after_at, again, device_at_rest, heard_at, is_for, is_same_task, ordered_for}
@@ -108,39 +108,21 @@ ComesOf c (Some (GiveUp p)) = c ≡ Cancel p
 
 same_standby-comes : (c : Command) (n : ℕ) (p : Phase) → ComesOf c (same_standby n p).order
 same_standby-comes c n Preparing = tt
-same_standby-comes c n Ready = tt
-same_standby-comes c n Moving = tt
-same_standby-comes c n Done = tt
-same_standby-comes c n LettingGo = tt
-same_standby-comes c n LetGo = tt
-same_standby-comes c n Failed = tt
+same_standby-comes c n _ = tt
 
 other_standby-comes : (c : Command) (n : ℕ) (p : Phase) → ((IsIdle p → ⊥) → ⊥) → ComesOf c (other_standby n p).order
 other_standby-comes c n Preparing none = absurd (none (λ i. i))
 other_standby-comes c n Ready none = absurd (none (λ i. i))
-other_standby-comes c n Moving none = tt
-other_standby-comes c n Done none = tt
-other_standby-comes c n LettingGo none = tt
-other_standby-comes c n LetGo none = tt
-other_standby-comes c n Failed none = tt
+other_standby-comes c n _ none = tt
 
 same_go-comes : (c : Command) (n : ℕ) (p : Phase) → ComesOf c (same_go n p).order
 same_go-comes c n Preparing = tt
-same_go-comes c n Ready = tt
-same_go-comes c n Moving = tt
-same_go-comes c n Done = tt
-same_go-comes c n LettingGo = tt
-same_go-comes c n LetGo = tt
-same_go-comes c n Failed = tt
+same_go-comes c n _ = tt
 
 same_cancel-comes : (n : ℕ) (p : Phase) → ComesOf (Cancel n) (same_cancel n p).order
 same_cancel-comes n Preparing = refl
 same_cancel-comes n Ready = refl
-same_cancel-comes n Moving = tt
-same_cancel-comes n Done = tt
-same_cancel-comes n LettingGo = tt
-same_cancel-comes n LetGo = tt
-same_cancel-comes n Failed = tt
+same_cancel-comes n _ = tt
 
 same_itself : (t : Task) → is_same_task t t ≡ true
 same_itself t = join (same_text t.cue t.cue) (same_text t.bytes t.bytes) (same_text-itself t.cue)

@@ -19,7 +19,7 @@ PATTERNS = ["/cue/*/{verb}", "/cue/{cue}/*", "/*/*/{verb}", "/cue/[0-9]/{verb}",
             "/cue/0{cue}/go",
             "/device/0{device}/release", "/**/*/*", "/cue/{cue}/{{stand,go}}*", "/c*e/{cue}/s*y", "/show/{{cue,mixed}}",
             "/show/[!d]*"]
-VERBS = ["standby", "go", "cancel", "goto", "remove"]
+VERBS = model.CUE_VERBS
 REPLIES = ["standing_by", "complete", "cancelled", "abort"]
 ANSWERS = {"preparing": "standing_by", "decided": "complete", "cancelling": "cancelled"}
 BAD_LINES = ["", "y", "d 1 2", "t", "t -1", "x ", "d 1 65536 ", "t 18446744073709551616", "d 1 2 abc", "T 1"]

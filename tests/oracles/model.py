@@ -299,11 +299,14 @@ def is_cue_number(text):
     return len(text) <= 16 and re.fullmatch(rb"[0-9]+(\.[0-9]+)*", text) is not None
 
 
+CUE_VERBS = ["standby", "go", "cancel", "goto", "remove"]
+
+
 def methods(s):
     yield from ((b"/status", ("status",)), (b"/show/device", ("add_device",)))
     yield from ((b"/show/cue", ("add_cue",)), (b"/show/mixed", ("add_mixed",)))
     for cue in s.cues:
-        for verb in ("standby", "go", "cancel", "goto", "remove"):
+        for verb in CUE_VERBS:
             yield f"/cue/{cue}/{verb}".encode(), ("cue", verb, cue)
     for device in s.devices:
         for verb in ("standing_by", "complete", "cancelled", "abort", "release", "remove"):

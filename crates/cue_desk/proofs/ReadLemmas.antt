@@ -23,13 +23,14 @@ use Rattle.cue_pattern.specs.Reading.{parts_of as address_parts}
 use Rattle.cue_osc.specs.Argument.{Argument}
 use Rattle.cue_operator.specs.declared.method.CueVerb.{CueVerb}
 use Rattle.cue_operator.specs.declared.method.CueVerb.TheVariants as on_cue
+use Rattle.cue_operator.specs.declared.method.DeviceVerb.{DeviceVerb}
 use Rattle.cue_operator.specs.declared.method.DeviceVerb.TheVariants as on_device
 use Rattle.cue_operator.specs.declared.method.Method.{Method}
 use Rattle.cue_operator.specs.declared.method.Method.TheVariants as method
 use Rattle.cue_operator.specs.Arguments.{command_by}
 use Rattle.cue_operator.specs.Commands.{commands_of}
-use Rattle.cue_operator.specs.Methods.{address_of, cue_verb_text, fixed_methods, methods, methods_of_cue}
-use Rattle.cue_operator.specs.Methods.{methods_of_device}
+use Rattle.cue_operator.specs.Methods.{address_of, cue_verb_text, device_verb_text, fixed_methods, methods}
+use Rattle.cue_operator.specs.Methods.{methods_of_cue, methods_of_device}
 use Rattle.cue_operator.proofs.FindingLemmas.{one-method_at_each}
 use Rattle.cue_operator.proofs.LiteralLemmas.{literal-matches-itself, literal-pattern}
 use Rattle.cue_operator.proofs.LookUpLemmas.{filter-same}
@@ -88,10 +89,11 @@ only-one p m (n ∷ ns) h t few = at (p n) refl h few (λ k. only-one p m ns k t
 
 cue-verb : (cue : List ℕ) (v : CueVerb) → IsOf (method.OfCue cue v) (methods_of_cue cue)
 cue-verb cue on_cue.Standby = inl refl
-cue-verb cue on_cue.Go = inr (inl refl)
-cue-verb cue on_cue.Cancel = inr (inr (inl refl))
-cue-verb cue on_cue.Goto = inr (inr (inr (inl refl)))
-cue-verb cue on_cue.Remove = inr (inr (inr (inr (inl refl))))
+cue-verb cue _ = search (inl, inr) depth 12
+
+device-verb : (device : ℕ) (v : DeviceVerb) → IsOf (method.OfDevice device v) (methods_of_device device)
+device-verb device on_device.StandingBy = inl refl
+device-verb device _ = search (inl, inr) depth 12
 
 cue-method : (cue : List ℕ) (v : CueVerb) (es : Cues) → is_some (lookup (same_text cue) es) ≡ true
     → IsOf (method.OfCue cue v) (flat_map methods_of_cue (keys_of es))
@@ -109,18 +111,22 @@ cue-method cue v (e ∷ es) h = at (same_text cue e.0) refl h (cue-method cue v 
     at false other k more = of-back (method.OfCue cue v) (methods_of_cue e.0) (flat_map methods_of_cue (keys_of es))
         (more k)
 
-device-method : (m : ℕ → Method) → ((d : ℕ) → IsOf (m d) (methods_of_device d)) → (d : ℕ) (es : List (ℕ × ℕ))
-    → is_some (lookup (nat_eq d) es) ≡ true → IsOf (m d) (flat_map methods_of_device (keys_of es))
-device-method m own d [] h = cc
-device-method m own d (e ∷ es) h = at (nat_eq d e.0) refl h (device-method m own d es)
+device-method : (d : ℕ) (v : DeviceVerb) (es : List (ℕ × ℕ)) → is_some (lookup (nat_eq d) es) ≡ true
+    → IsOf (method.OfDevice d v) (flat_map methods_of_device (keys_of es))
+device-method d v [] h = cc
+device-method d v (e ∷ es) h = at (nat_eq d e.0) refl h (device-method d v es)
   where
     at : (b : Bool) → nat_eq d e.0 ≡ b → is_some (cond b (Some e.1) (lookup (nat_eq d) es)) ≡ true
-        → (is_some (lookup (nat_eq d) es) ≡ true → IsOf (m d) (flat_map methods_of_device (keys_of es)))
-        → IsOf (m d) (methods_of_device e.0 ++ flat_map methods_of_device (keys_of es))
-    at true same k more = subst (λ (n : ℕ). IsOf (m d) (methods_of_device n ++ flat_map methods_of_device (keys_of es)))
-        (same_number d e.0 same) (of-front (m d) (methods_of_device d) (flat_map methods_of_device (keys_of es))
-        (own d))
-    at false other k more = of-back (m d) (methods_of_device e.0) (flat_map methods_of_device (keys_of es)) (more k)
+        → (is_some (lookup (nat_eq d) es) ≡ true
+        → IsOf (method.OfDevice d v) (flat_map methods_of_device (keys_of es)))
+        → IsOf (method.OfDevice d v) (methods_of_device e.0 ++ flat_map methods_of_device (keys_of es))
+    at true same k more = subst
+        (λ (n : ℕ). IsOf (method.OfDevice d v) (methods_of_device n ++ flat_map methods_of_device (keys_of es)))
+        (same_number d e.0 same)
+        (of-front (method.OfDevice d v) (methods_of_device d) (flat_map methods_of_device (keys_of es))
+        (device-verb d v))
+    at false other k more = of-back (method.OfDevice d v) (methods_of_device e.0)
+        (flat_map methods_of_device (keys_of es)) (more k)
 
 fixed-of : (s : ShowLists) (m : Method) → IsOf m fixed_methods → IsOf m (methods s)
 unfolding methods
@@ -217,10 +223,11 @@ device-number s d h there = at (port_of s d) there (is_entry-port_of s d h)
 
 verb-literal : (v : CueVerb) → IsTrue (is_literal (47 ∷ cue_verb_text v))
 verb-literal on_cue.Standby = refl
-verb-literal on_cue.Go = refl
-verb-literal on_cue.Cancel = refl
-verb-literal on_cue.Goto = refl
-verb-literal on_cue.Remove = refl
+verb-literal _ = refl
+
+device_verb-literal : (v : DeviceVerb) → IsTrue (is_literal (47 ∷ device_verb_text v))
+device_verb-literal on_device.StandingBy = refl
+device_verb-literal _ = refl
 
 under-literal : (front name verb : List ℕ) → IsTrue (is_literal front) → IsTrue (is_literal name)
     → IsTrue (is_literal (47 ∷ verb)) → IsTrue (is_literal (front ++ (name ++ 47 ∷ verb)))
@@ -231,6 +238,15 @@ as_asked : (s : ShowLists) (a : Asked) → IsTrue (is_askable a)
     → commands_of s (address_of (method_of a)) (arguments_of a) ≡ Ok (command_by (arguments_of a) (method_of a) ∷ [])
     → read_by s a ≡ Ok (command_of a ∷ [])
 as_asked s a k read = read ∙ ap (λ c. Ok (c ∷ [])) (asked-read a k)
+
+-- what asks something of a device of the show, without arguments
+device-read : (s : ShowLists) (d : ℕ) (v : DeviceVerb) → IsTrue (is_show s) → IsTrue (has_device s d)
+    → commands_of s (address_of (method.OfDevice d v)) [] ≡ Ok (command_by [] (method.OfDevice d v) ∷ [])
+device-read s d v h there =
+    let literal = under-literal (codes "/device/") (decimal d) (device_verb_text v) refl
+    (decimal-literal d (device-number s d h there)) (device_verb-literal v) in
+    reads-one s (method.OfDevice d v) [] h literal refl
+    (device-of s (method.OfDevice d v) (device-method d v s.devices there))
 
 pub asked-is_read : AskedIsRead
 asked-is_read s asked.Status h k there =
@@ -250,16 +266,6 @@ asked-is_read s (asked.OfCue verb cue) h k there =
     (reads-one s (method.OfCue cue verb) [] h literal refl
     (cue-of s (method.OfCue cue verb) (cue-method cue verb s.cues there)))
 asked-is_read s (asked.Release device) h k there =
-    let m : Method = method.OfDevice device on_device.Release in
-    let literal = under-literal (codes "/device/") (decimal device) (codes "release") refl
-    (decimal-literal device (device-number s device h there)) refl in
-    let own = device-method (λ d. method.OfDevice d on_device.Release) (λ d. inr (inr (inr (inr (inl refl))))) device
-    s.devices there in
-    as_asked s (asked.Release device) k (reads-one s m [] h literal refl (device-of s m own))
+    as_asked s (asked.Release device) k (device-read s device on_device.Release h there)
 asked-is_read s (asked.RemoveDevice device) h k there =
-    let m : Method = method.OfDevice device on_device.Remove in
-    let literal = under-literal (codes "/device/") (decimal device) (codes "remove") refl
-    (decimal-literal device (device-number s device h there)) refl in
-    let own = device-method (λ d. method.OfDevice d on_device.Remove) (λ d. inr (inr (inr (inr (inr (inl refl))))))
-    device s.devices there in
-    as_asked s (asked.RemoveDevice device) k (reads-one s m [] h literal refl (device-of s m own))
+    as_asked s (asked.RemoveDevice device) k (device-read s device on_device.Remove h there)

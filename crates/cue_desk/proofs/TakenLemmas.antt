@@ -35,31 +35,17 @@ none-there : {X : Type 0} (o : Option X) → IsTrue (not (is_some o)) → o ≡ 
 none-there None h = refl
 none-there (Some x) h = cc
 
--- what is to be added need not be there
-adds-device : (s : ShowLists) (a : Asked) (d port : ℕ) → command_of a ≡ command.AddDevice d port → IsTrue (is_there s a)
-adds-device s asked.Status d port e = refl
-adds-device s (asked.AddDevice device p) d port e = refl
-adds-device s (asked.AddCue cue parts) d port e = refl
-adds-device s (asked.OfCue on_cue.Standby cue) d port e = cc
-adds-device s (asked.OfCue on_cue.Go cue) d port e = cc
-adds-device s (asked.OfCue on_cue.Cancel cue) d port e = cc
-adds-device s (asked.OfCue on_cue.Goto cue) d port e = cc
-adds-device s (asked.OfCue on_cue.Remove cue) d port e = cc
-adds-device s (asked.Release device) d port e = cc
-adds-device s (asked.RemoveDevice device) d port e = cc
+-- the command adds something to the show
+abbrev adds : Command → Bool
+adds (command.AddDevice d port) = true
+adds (command.AddCue c ps) = true
+adds _ = false
 
-adds-cue : (s : ShowLists) (a : Asked) (c : List ℕ) (ps : List Part) → command_of a ≡ command.AddCue c ps
-    → IsTrue (is_there s a)
-adds-cue s asked.Status c ps e = refl
-adds-cue s (asked.AddDevice device p) c ps e = refl
-adds-cue s (asked.AddCue cue parts) c ps e = refl
-adds-cue s (asked.OfCue on_cue.Standby cue) c ps e = cc
-adds-cue s (asked.OfCue on_cue.Go cue) c ps e = cc
-adds-cue s (asked.OfCue on_cue.Cancel cue) c ps e = cc
-adds-cue s (asked.OfCue on_cue.Goto cue) c ps e = cc
-adds-cue s (asked.OfCue on_cue.Remove cue) c ps e = cc
-adds-cue s (asked.Release device) c ps e = cc
-adds-cue s (asked.RemoveDevice device) c ps e = cc
+-- what is to be added need not be there
+added-there : (s : ShowLists) (a : Asked) → adds (command_of a) ≡ true → IsTrue (is_there s a)
+added-there s (asked.OfCue on_cue.Standby cue) e = cc
+added-there s (asked.OfCue _ cue) e = cc
+added-there s _ e = cc
 
 -- ---- what becomes of an entry that can be added
 
@@ -104,7 +90,7 @@ device-taken s a more t e h can is rest =
     let fit : IsTrue (is_fit (command_of a)) =
     subst (λ (c : Command). IsTrue (is_fit c)) (sym is)
     (both (not (has_device s.show e.number)) (is_device e.number && is_port e.port) can).1 in
-    let read = asked-is_read s.show a h fit (adds-device s.show a e.number e.port is) in
+    let read = asked-is_read s.show a h fit (added-there s.show a (ap adds is)) in
     then-taken s a more t (made_by (event.Device e.number e.port ∷ [])) refl read
     (λ now from. ap (judgement_of s now from) is ∙ device-made s e.number e.port can) rest
 
@@ -118,7 +104,7 @@ cue-taken s a more t e h can is rest =
     let own = join (is_cue_number e.number) (are_parts e.parts) r.0
     (both (are_parts e.parts) (are_known s.show e.parts) r.1).0 in
     let fit : IsTrue (is_fit (command_of a)) = subst (λ (c : Command). IsTrue (is_fit c)) (sym is) own in
-    let read = asked-is_read s.show a h fit (adds-cue s.show a e.number e.parts is) in
+    let read = asked-is_read s.show a h fit (added-there s.show a (ap adds is)) in
     then-taken s a more t (made_by (event.Cue e.number e.parts ∷ [])) refl read
     (λ now from. ap (judgement_of s now from) is ∙ cue-made s e.number e.parts can) rest
 

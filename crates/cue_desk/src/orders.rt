@@ -32,14 +32,10 @@ pub fn word_in(name: &str) -> Option<Word>
     ensures none { result ≡ None → (word : Word) → spelling_of word ≡ name.now → ⊥ }
 {
     match name {
-        "standby" => Some(Word::OfCue(CueVerb::Standby)),
-        "go" => Some(Word::OfCue(CueVerb::Go)),
-        "cancel" => Some(Word::OfCue(CueVerb::Cancel)),
-        "goto" => Some(Word::OfCue(CueVerb::Goto)),
         "release" => Some(Word::Release),
         "remove" => Some(Word::Remove),
         "status" => Some(Word::Status),
-        _ => None,
+        _ => CueVerb::of(name.as_bytes()).map(Word::OfCue),
     }
 }
 

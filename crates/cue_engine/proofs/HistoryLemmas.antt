@@ -22,6 +22,7 @@ use Rattle.cue_engine.specs.Heard.{Heard, carried_out, hear, heard_events, hear_
 use Rattle.cue_engine.specs.Heard.{replies_or_one, sent_to}
 use Rattle.cue_engine.specs.Given.{Input, datagram, tick, Given, given_of, given_by, given_heard, given_refused}
 use Rattle.cue_engine.specs.Given.{are_too_many, messages_in}
+use Rattle.cue_engine.specs.Accounts.{replies_of, new_orders}
 use Rattle.cue_outbox.specs.New.{newly_pending}
 use Rattle.cue_engine.specs.Runs.{Happening, took, given_at, run, joined_list, InputsMakeHistories, InputsInOrder}
 use Rattle.cue_engine.specs.Runs as runs
@@ -65,6 +66,8 @@ heard-ok s from hs h = by (are_too_many hs)
       sends =
           sent_to from (replies_or_one hs) ++ newly_pending s (after_events s (all_events hs));
       counts = all_counts hs;
+      replies = replies_of from hs;
+      orders = new_orders (all_events hs) (after_events s (all_events hs));
     }
 
     by : (b : Bool) → are_acceptable s (if b then given_refused from refusal.TooMany else full).batch ≡ true

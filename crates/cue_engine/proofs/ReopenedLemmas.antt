@@ -23,6 +23,8 @@ use Rattle.cue_core.specs.Batches.{closed_state}
 use Rattle.cue_engine.specs.Recovery.{ClosedFrom, IsLeftOrStands, NeedsArea, NoGenerationLeft, RefusedBut}
 use Rattle.cue_engine.specs.Recovery.{CannotBeRecovered}
 use Rattle.cue_engine.specs.Recovery.{cancels_records}
+use Rattle.cue_engine.specs.Accounts.{Accounted}
+use Rattle.cue_engine.specs.Given.{account_of, given_recovery}
 
 -- ---- what a crash leaves
 
@@ -204,3 +206,11 @@ pub cancels_of : {T E : Type 0} (last_in : T → List (List Event)) (x y : List 
 cancels_of last_in x y s t (Ok made) stood stands is =
     is ∙ ap (λ (u : ShowState). events_at u recovered ∷ []) (one_state x y s t stood stands)
 cancels_of last_in x y s t (Err refused) stood stands is = tt
+
+-- and its account is that of the recovery
+pub account_of_same : {T E : Type 0} (last_in : T → List Accounted) (x y : List ℕ) (s t : ShowState) (r : Result T E)
+    → Stands x y s → Stands x y t → IfOk r (λ made. last_in made ≡ account_of (given_recovery s) ∷ [])
+    → IfOk r (λ made. last_in made ≡ account_of (given_recovery t) ∷ [])
+account_of_same last_in x y s t (Ok made) stood stands is =
+    is ∙ ap (λ (u : ShowState). account_of (given_recovery u) ∷ []) (one_state x y s t stood stands)
+account_of_same last_in x y s t (Err refused) stood stands is = tt

@@ -28,6 +28,7 @@ use Rattle.cue_engine.specs.Heard.{replies_or_one, shown_by, sent_to}
 use Rattle.cue_core.specs.InTurn.{Step}
 use Rattle.cue_engine.specs.Given.{Input, datagram, tick, Given, given_of, given_by, given_heard, given_refused}
 use Rattle.cue_engine.specs.Given.{are_too_many, messages_in}
+use Rattle.cue_engine.specs.Accounts.{replies_of, new_orders}
 use Rattle.cue_core.specs.Batches.{closed_state, is_live_in, is_decided_in}
 use Rattle.cue_outbox.specs.New.{newly_pending, is_new}
 use Rattle.cue_engine.specs.Runs.{Story, run, joined_list, with_batch, Happening, took, given_at, is_cancelling_in}
@@ -182,6 +183,8 @@ heard_rests s from hs = by (are_too_many hs)
       sends =
           sent_to from (replies_or_one hs) ++ newly_pending s (after_events s (all_events hs));
       counts = all_counts hs;
+      replies = replies_of from hs;
+      orders = new_orders (all_events hs) (after_events s (all_events hs));
     }
 
     by : (b : Bool) → given_rests s (if b then given_refused from refusal.TooMany else full)

@@ -7,6 +7,7 @@ use Rattle.cue_outbox.specs.Sending.{Send}
 use Rattle.cue_outbox.specs.Views.{outs_view}
 use Rattle.cue_engine.specs.declared.offers.Offered.{Offered}
 use Rattle.cue_engine.specs.Given.{Input, given_of}
+use Rattle.cue_engine.specs.Accounts.{Accounted, accounts_view}
 use Rattle.cue_keeper.specs.Groups.{with_events}
 use Rattle.cue_keeper.specs.Stands.{folded_all}
 use Rattle.cue_engine.specs.Runs.{Happening, took, run}
@@ -43,6 +44,11 @@ offered_batches (Some offered) = offered.group
 abbrev pub offered_sends : Option Offered → List (ℕ × List ℕ)
 offered_sends None = []
 offered_sends (Some offered) = outs_view offered.sends.items
+
+-- the account of each input
+abbrev pub offered_accounts : Option Offered → List Accounted
+offered_accounts None = []
+offered_accounts (Some offered) = accounts_view offered.accounts.items
 
 -- the last of some batches; empty where there is none
 abbrev pub last_of : List (List Event) → List Event

@@ -17,7 +17,8 @@ use Rattle.cue_keeper.specs.Opening as keeper
 use Rattle.cue_keeper.specs.Stands.{Stands}
 use Rattle.cue_outbox.specs.Sending.{datagrams, all_pending}
 use Rattle.cue_engine.specs.declared.engine.Engine.{Engine}
-use Rattle.cue_engine.specs.Observed.{keeper_of, state_of, queue_of, last_batches_of}
+use Rattle.cue_engine.specs.Observed.{keeper_of, state_of, queue_of, last_batches_of, last_accounts_of}
+use Rattle.cue_engine.specs.Given.{account_of, given_recovery}
 use Rattle.cue_engine.specs.Recovery.{CannotBeRecovered, NoGenerationLeft, MustBeRefusedAs, RefusedBut}
 use Rattle.cue_engine.specs.Taking.{IsOffered}
 
@@ -46,6 +47,7 @@ pub record IsClosedFrom {D : Type 0} {disk : Ghosts D} (keeper : Keeper D disk) 
   pub owes : Owes engine
   pub state : state_of engine ≡ closed_state (kept.state_of keeper)
   pub last : last_batches_of engine ≡ events_at (kept.state_of keeper) recovered ∷ []
+  pub account : last_accounts_of engine ≡ account_of (given_recovery (kept.state_of keeper)) ∷ []
   pub turned : TurnedOnceFrom disk (kept.first_of keeper) (kept.second_of keeper) engine
 
 -- It owes what is pending, and the batch that was accepted last is the cancels of what stood on the disks.
@@ -57,6 +59,13 @@ pub record IsRecovered {D : Type 0} {disk : Ghosts D} (first second : D) (engine
       → (s : ShowState)
       → Stands (disk.held first).bytes (disk.held second).bytes s
       → last_batches_of engine ≡ events_at s recovered ∷ []
+  -- and its account has what is pending
+  pub account :
+      disk.is_honest first
+      → disk.is_honest second
+      → (s : ShowState)
+      → Stands (disk.held first).bytes (disk.held second).bytes s
+      → last_accounts_of engine ≡ account_of (given_recovery s) ∷ []
   pub turned : TurnedOnceFrom disk first second engine
 
 -- The cancels are refused over these two disks: each fault has its reason.

@@ -4,11 +4,14 @@ ghost use Rattle.std.specs.Prelude.{IfOk, OnOk, OnErr, MatchResult, IsTrue};
 ghost use Rattle.cue_core.specs.Steps.{after_events, are_acceptable};
 ghost use Rattle.cue_outbox.specs.Sending.{datagrams};
 ghost use Rattle.cue_outbox.specs.Views.{outs_view};
-ghost use Rattle.cue_engine.specs.Given.{given_of};
+ghost use Rattle.cue_engine.specs.Accounts.{account_view, accounts_view};
+ghost use Rattle.cue_engine.specs.Given.{account_of, given_of};
+ghost use Rattle.cue_engine.specs.Hearing.{accounted};
 ghost use Rattle.cue_engine.specs.Inputs.{input_view};
 ghost use Rattle.cue_engine.specs.Takes.{FitsRecord, CanFollow, Follows, InStep, IsAhead};
 ghost use Rattle.cue_records.specs.Batch.{is_batch};
 
+use crate::account::Account;
 use crate::drafts::{Draft, follow, last_batch, set_missing};
 use crate::heard::Heard;
 use crate::input::Input;
@@ -27,6 +30,8 @@ pub(crate) struct Offered {
     pub(crate) group: BatchGroup,
     /// What is sent for them, in order.
     pub(crate) sends: Vec<Out>,
+    /// The account of each input.
+    pub(crate) accounts: Vec<Account>,
 }
 
 impl Offered {
@@ -34,27 +39,37 @@ impl Offered {
     fn new(alloc: Global) -> Result<Offered, AllocError>
         ensures group { IfOk result (λ offered. offered.group ≡ []) }
         ensures sends { IfOk result (λ offered. outs_view offered.sends.items ≡ []) }
+        ensures accounts { IfOk result (λ offered. offered.accounts.items ≡ []) }
     {
         Ok(Offered {
             group: BatchGroup::new(alloc)?,
             sends: Vec::new(alloc),
+            accounts: Vec::new(alloc),
         })
     }
 
-    /// This batch alone, and what is sent for it.
+    /// This batch alone, what is sent for it, and its account.
     pub(crate) fn of_one(
         alloc: Global,
         batch: Vec<Event>,
         sends: Vec<Out>,
+        account: Account,
     ) -> Result<Offered, AllocError>
         requires batch { 1 ≤ length batch.items → IsTrue (is_batch batch.items) }
         requires fits { FitsRecord batch.items }
         ensures group { IfOk result (λ offered. offered.group ≡ batch.items ∷ []) }
         ensures sends { IfOk result (λ offered. outs_view offered.sends.items ≡ outs_view sends.items) }
+        ensures account { IfOk result (λ offered. accounts_view offered.accounts.items ≡ account_view account ∷ []) }
     {
         let mut group = BatchGroup::new(alloc)?;
         group.push(batch)?;
-        Ok(Offered { group, sends })
+        let mut accounts = Vec::new(alloc);
+        accounts.push(account)?;
+        Ok(Offered {
+            group,
+            sends,
+            accounts,
+        })
     }
 
     // Adds what an input gives after all that was offered before. If memory runs out nothing changes.
@@ -65,21 +80,28 @@ impl Offered {
         ensures sends { OnOk result (outs_view self.new.sends.items
             ≡ outs_view self.old.sends.items ++ outs_view heard.sends.items) }
         ensures counts { IfOk result (λ counts. counts ≡ heard.counts) }
+        ensures accounts { OnOk result (accounts_view self.new.accounts.items
+            ≡ accounts_view self.old.accounts.items ++ accounted heard ∷ []) }
         ensures same { OnErr result ((self.new.group ≡ self.old.group)
             × (outs_view self.new.sends.items ≡ outs_view self.old.sends.items)) }
+        ensures same_accounts { OnErr result (self.new.accounts.items ≡ self.old.accounts.items) }
     {
         let Heard {
             batch,
             mut sends,
             counts,
+            replies,
+            orders,
             ..
         } = heard;
+        self.accounts.reserve(1)?;
         let before = self.sends.len();
         self.sends.append(&mut sends)?;
         if let Err(refused) = self.group.push(batch) {
             self.sends.truncate(before);
             return Err(refused);
         }
+        self.accounts.push_reserved(Account { replies, orders });
         Ok(counts)
     }
 }
@@ -103,6 +125,8 @@ pub(crate) fn offer_first(
     ensures sends { IfOk result (λ first. outs_view first.0.sends.items
         ≡ datagrams (given_of kept.now now (input_view input.entry)).sends) }
     ensures counts { IfOk result (λ first. first.1 ≡ (given_of kept.now now (input_view input.entry)).counts) }
+    ensures account { IfOk result (λ first. accounts_view first.0.accounts.items
+        ≡ account_of (given_of kept.now now (input_view input.entry)) ∷ []) }
     ensures spare { MatchResult result (λ _. InStep draft.new.state spare.new) (λ _. InStep kept.now spare.new) }
 {
     // Called for its clause that the state keeps its rules.
@@ -139,9 +163,13 @@ pub(crate) fn offer_next(
         ≡ outs_view offered.old.sends.items
         ++ datagrams (given_of draft.old.state now (input_view input.entry)).sends) }
     ensures counts { IfOk result (λ counts. counts ≡ (given_of draft.old.state now (input_view input.entry)).counts) }
+    ensures account { OnOk result (accounts_view offered.new.accounts.items
+        ≡ accounts_view offered.old.accounts.items
+        ++ account_of (given_of draft.old.state now (input_view input.entry)) ∷ []) }
     ensures fits { OnOk result (FitsRecord (given_of draft.old.state now (input_view input.entry)).batch) }
     ensures same { OnErr result ((offered.new.group ≡ offered.old.group)
         × (outs_view offered.new.sends.items ≡ outs_view offered.old.sends.items)) }
+    ensures same_accounts { OnErr result (offered.new.accounts.items ≡ offered.old.accounts.items) }
     ensures spare { InStep draft.new.state spare.new }
 {
     // Called for its clause that the state keeps its rules.
@@ -149,7 +177,7 @@ pub(crate) fn offer_next(
     let heard = judge_input(alloc, now, &draft.state, spare, input)?;
     let counts = offered.add(heard)?;
     mem::swap(&mut draft.state, &mut spare.state);
-    set_missing(spare, Vec::new(alloc));
+    set_missing(spare, Vec::new(alloc), Vec::new(alloc));
     follow(alloc, spare, last_batch(offered.group.batches()));
     Ok(counts)
 }

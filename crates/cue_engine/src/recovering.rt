@@ -9,11 +9,15 @@ ghost use Rattle.cue_keeper.specs.Observed.{state_of, is_broken};
 ghost use Rattle.cue_outbox.specs.Sending.{datagrams, all_pending};
 ghost use Rattle.cue_core.specs.Batches.{closed_state};
 ghost use Rattle.cue_outbox.specs.Views.{outs_view};
+ghost use Rattle.cue_engine.specs.Accounts.{accounts_view};
+ghost use Rattle.cue_engine.specs.Given.{account_of, given_recovery};
 ghost use Rattle.cue_engine.specs.Takes.{FitsRecord, CanFollow, Follows, InStep, IsAhead};
 
+use crate::account::Account;
 use crate::drafts::{Draft, sync_to};
 use crate::keeping::keep;
 use crate::offers::Offered;
+use crate::ordering::all_orders;
 use crate::ticking::cancels;
 use cue_core::{Event, State, undecided};
 use cue_disk::Disk;
@@ -44,6 +48,8 @@ fn close_on(alloc: Global, kept: &State, draft: &mut Draft) -> Result<Offered, A
     ensures group { IfOk result (λ offered. offered.group ≡ events_at kept.now recovered ∷ []) }
     ensures sends { IfOk result (λ offered. outs_view offered.sends.items
         ≡ datagrams (all_pending (closed_state kept.now))) }
+    ensures account { IfOk result (λ offered. accounts_view offered.accounts.items
+        ≡ account_of (given_recovery kept.now) ∷ []) }
 {
     // Called for its clause that the state keeps its rules.
     let _last = kept.last_seq();
@@ -51,7 +57,11 @@ fn close_on(alloc: Global, kept: &State, draft: &mut Draft) -> Result<Offered, A
     let batch = cancels_undecided(alloc, kept)?;
     draft.state.apply_all(&batch)?;
     let sends = pending(alloc, &draft.state)?;
-    Offered::of_one(alloc, batch, sends)
+    let account = Account {
+        replies: Vec::new(alloc),
+        orders: all_orders(alloc, &draft.state, &batch)?,
+    };
+    Offered::of_one(alloc, batch, sends, account)
 }
 
 /// Cancels what is undecided, and answers what is owed then. All memory is taken before the first device call; if
@@ -72,6 +82,8 @@ pub(crate) fn close_undecided<D: Disk>(
     ensures draft { InStep (state_of keeper.new) draft.new }
     ensures last { OnOk result
         (batches_view draft.new.missing.items ≡ events_at (state_of keeper.old) recovered ∷ []) }
+    ensures account { OnOk result
+        (accounts_view draft.new.accounts.items ≡ account_of (given_recovery (state_of keeper.old)) ∷ []) }
 {
     // Called for its clause that a keeper that is not broken stands for its state.
     let _broken = keeper.is_broken();

@@ -1,5 +1,5 @@
 // Inputs that are offered one after the other and then committed together, with the two writes and two syncs of one.
-ghost use Rattle.std.specs.Prelude.{◌≡◌, ◌⊎◌, ◌↔◌, [], true, length};
+ghost use Rattle.std.specs.Prelude.{◌≡◌, ◌⊎◌, ◌↔◌, ◌≤◌, ◌++◌, [], ◌∷◌, true, length};
 ghost use Rattle.std.specs.Prelude.{IfOk, IfErr, OnOk, OnErr, IsErrOf, IsTrue};
 ghost use Rattle.std.specs.Result.{result_err};
 ghost use Rattle.cue_keeper.specs.Accepting.{Accepts};
@@ -7,8 +7,10 @@ ghost use Rattle.cue_keeper.specs.Groups.{batches_view};
 ghost use Rattle.cue_keeper.specs.Observed as kept;
 ghost use Rattle.cue_engine.specs.Given.{given_of};
 ghost use Rattle.cue_engine.specs.Inputs.{input_view};
+ghost use Rattle.cue_engine.specs.Accounts.{accounts_view};
 
 use super::{Engine, drop_offered};
+use crate::account::Account;
 use crate::input::Input;
 use crate::keeping::keep;
 use crate::offers::{offer_first, offer_next};
@@ -21,6 +23,8 @@ impl<D: Disk> Engine<D> {
     ghost use Rattle.cue_engine.specs.Taking.{Offers, IsOffered, TakesUp};
     ghost use Rattle.cue_engine.specs.Observed.{keeper_of, state_of, queue_of, latest_of, has_room, last_batches_of};
     ghost use Rattle.cue_engine.specs.Observed.{offered_of, offered_sends_of, HasRoomForAll};
+    ghost use Rattle.cue_engine.specs.Observed.{offered_accounts_of, last_accounts_of};
+    ghost use Rattle.cue_engine.specs.Given.{account_of};
 
     /// Judges what came after all that was offered before, and keeps what it gives until `commit`; it answers how many
     /// commands are made, known and refused then. It makes no device call, and state and queue stay as they are. If
@@ -28,10 +32,14 @@ impl<D: Disk> Engine<D> {
     pub fn offer(&mut self, now: u64, input: Input<'_>) -> Result<Taken, Fault>
         ensures offers { IfOk result
             (λ counts. Offers (given_of (latest_of self.old) now (input_view input.entry)) counts self.old self.new) }
+        // Its account goes after those of what was offered before.
+        ensures account { OnOk result (offered_accounts_of self.new ≡ offered_accounts_of self.old
+            ++ account_of (given_of (latest_of self.old) now (input_view input.entry)) ∷ []) }
         ensures keeper { keeper_of self.new ≡ keeper_of self.old }
         ensures queue { queue_of self.new ≡ queue_of self.old }
         ensures refused { OnErr result ((offered_of self.new ≡ offered_of self.old)
             × (offered_sends_of self.new ≡ offered_sends_of self.old)) }
+        ensures refused_account { OnErr result (offered_accounts_of self.new ≡ offered_accounts_of self.old) }
         ensures broken { IsErrOf result Fault.Broken ↔ (kept.is_broken (keeper_of self.old) ≡ true) }
         ensures memory { IfErr result (λ fault. (fault ≡ Fault.Broken) ⊎ (fault ≡ Fault.Memory)) }
         // If `has_room` was asked before, `commit` has room for all of them.
@@ -90,6 +98,7 @@ impl<D: Disk> Engine<D> {
         ensures keeper { keeper_of self.new ≡ keeper_of self.old }
         ensures queue { queue_of self.new ≡ queue_of self.old }
         ensures dropped { IsOffered [] self.new }
+        ensures no_account { offered_accounts_of self.new ≡ [] }
         ensures last { last_batches_of self.new ≡ last_batches_of self.old }
     {
         drop_offered(&mut self.offered, &mut self.spare);
@@ -109,6 +118,9 @@ impl<D: Disk> Engine<D> {
         // Their batches are on both disks, each whole, or the fault says why not.
         ensures accepts { Accepts (offered_of self.old) (result_err result)
             (keeper_of self.old) (keeper_of self.new) }
+        // And what each came to can be read.
+        ensures accounts { OnOk result (1 ≤ length (offered_of self.old)
+            → last_accounts_of self.new ≡ offered_accounts_of self.old) }
         // It answers Full only if several inputs change something and the live area lacks room for them.
         ensures no_full { HasRoomForAll self.old → IsErrOf result Fault.Full → ⊥ }
         ensures dropped { IsOffered [] self.new }
@@ -137,5 +149,13 @@ impl<D: Disk> Engine<D> {
         ensures { batches_view result.now ≡ last_batches_of self.now }
     {
         &self.draft.missing
+    }
+
+    /// The account of each input whose batch is among `last_batches`, in their order. After `recover` it has the orders
+    /// that are pending.
+    pub fn last_accounts(&self) -> &[Account]
+        ensures { accounts_view result.now ≡ last_accounts_of self.now }
+    {
+        &self.draft.accounts
     }
 }

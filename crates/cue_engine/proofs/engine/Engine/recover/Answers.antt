@@ -15,9 +15,9 @@ use Rattle.cue_keeper.proofs.MovingLemmas.{opened_then, leaves_weaker}
 use Rattle.cue_keeper.proofs.RefusedLemmas.{is_opened}
 use Rattle.cue_core.specs.Batches.{closed_state}
 use Rattle.cue_engine.specs.Recovery.{IsLeftOrStands}
-use Rattle.cue_engine.specs.Observed.{state_of, first_of, second_of, last_batches_of}
+use Rattle.cue_engine.specs.Observed.{state_of, first_of, second_of, last_batches_of, last_accounts_of}
 use Rattle.cue_engine.proofs.ReopenedLemmas.{closed_from, left_or_stands, unwritten, went_through, left_over}
-use Rattle.cue_engine.proofs.ReopenedLemmas.{cancels_of, has_reason, cancels_refused}
+use Rattle.cue_engine.proofs.ReopenedLemmas.{cancels_of, account_of_same, has_reason, cancels_refused}
 use Rattle.cue_engine.proofs.engine.Engine.recover.Goals as goal
 
 pub returns-in-Ok-clause-any_moment : goal.returns-in-Ok-clause-any_moment
@@ -73,6 +73,9 @@ returns-in-Ok-clause-recovered g c =
       last = λ first second s stands. cancels_of {E = StoreFault} last_batches_of (d.held c.args.first).bytes
           (d.held c.args.second).bytes (kept.state_of c.in-Ok.keeper) s (Ok engine)
           (c.in-Ok.ensures.stood first second) stands closed.last;
+      account = λ first second s stands. account_of_same {E = StoreFault} last_accounts_of (d.held c.args.first).bytes
+          (d.held c.args.second).bytes (kept.state_of c.in-Ok.keeper) s (Ok engine)
+          (c.in-Ok.ensures.stood first second) stands closed.account;
       turned = λ first second.
           rw (← opens.first_kept.bytes first, ← opens.second_kept.bytes second)
           (closed.turned (opens.first_kept.keeps.honest.1 first) (opens.second_kept.keeps.honest.1 second));

@@ -115,6 +115,7 @@ returns-in-Ok-clause-closed g c =
       };
       state = now;
       last = c.in-Ok.ensures.last;
+      account = c.in-Ok.ensures.account;
       turned = λ first second area reads.
           let d = g.D.Disk in
           let keeper = c.args.keeper in

@@ -1,4 +1,0 @@
-pub mod Alone
-pub mod Busy
-pub mod Ends
-pub mod Entries

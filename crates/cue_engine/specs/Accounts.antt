@@ -1,5 +1,5 @@
 -- What an input came to, as values, for whoever writes a log.
-use Rattle.std.specs.Prelude.{ℕ, Bool, true, List, [], ◌∷◌, length, map, take, if◌then◌else◌}
+use Rattle.std.specs.Prelude.{ℕ, ◌+◌, Bool, true, List, [], ◌∷◌, length, map, take, if◌then◌else◌, Option, Some, None}
 use Rattle.std.specs.List.{filter_map, flat_map}
 use Rattle.std.specs.Option.{option_map}
 use Rattle.cue_exchange.specs.declared.attempt.Attempt.{Attempt}
@@ -11,6 +11,7 @@ use Rattle.cue_core.specs.Pending.{Order as Pending, standby, go_2pc, cancel, or
 use Rattle.cue_core.specs.State.{ShowState}
 use Rattle.cue_show.specs.Devices.{is_among}
 use Rattle.cue_outbox.specs.Asked.{is_asked}
+use Rattle.cue_outbox.specs.Sending.{Send, reply, status, order}
 use Rattle.cue_engine.specs.declared.account.Account.{Account}
 use Rattle.cue_engine.specs.declared.account.Order.{Order}
 use Rattle.cue_engine.specs.declared.account.OrderKind.TheVariants as kind
@@ -52,6 +53,11 @@ reply_to from (carried address xs) = record {
 abbrev pub reply_or_more : ℕ → List Reply → List Reply
 reply_or_more from [] = plain_reply from [] no_counts 0 ∷ []
 reply_or_more from (r ∷ rs) = r ∷ rs
+
+-- how many events they have together
+abbrev pub events_in : List Reply → ℕ
+events_in [] = 0
+events_in (r ∷ rs) = r.events + events_in rs
 
 abbrev pub replies_of : ℕ → List Heard → List Reply
 replies_of from hs = reply_or_more from (map (reply_to from) hs)
@@ -96,6 +102,12 @@ new_orders events s = new_orders_of events s s.live
 -- all that are pending after the events, the new ones among them
 unfoldable pub all_orders : List Event → ShowState → List Order
 all_orders events s = orders_asked events s s.live
+
+-- an order that is sent for the first time; none if it is a reply or the status
+abbrev pub order_in : ℕ × Send → Option Order
+order_in (port, reply address made known not_made code) = None
+order_in (port, status last place live ended outcome) = None
+order_in (port, order o) = Some (order_of true port o)
 
 -- ---- accounts of the code
 

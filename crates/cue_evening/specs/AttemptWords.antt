@@ -1,7 +1,7 @@
 -- What the log says of a device that failed.
 use Rattle.std.specs.Prelude.{ℕ, List, codes}
-use Rattle.cue_course.specs.declared.course.Cause.{Cause}
-use Rattle.cue_course.specs.declared.course.Cause.TheVariants as cause
+use Rattle.cue_evening.specs.declared.course.Cause.{Cause}
+use Rattle.cue_evening.specs.declared.course.Cause.TheVariants as cause
 
 -- how a device failed
 abbrev pub cause_words : Cause → List ℕ

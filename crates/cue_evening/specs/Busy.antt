@@ -3,7 +3,6 @@ use Rattle.std.specs.Prelude.{ℕ, Bool, List, Option, find, is_some, map, filte
 use Rattle.std.specs.Option.{option_map}
 use Rattle.cue_show.specs.declared.part.Part.{Part}
 use Rattle.cue_exchange.specs.declared.attempt.Attempt.{Attempt}
-use Rattle.cue_exchange.specs.declared.attempt.DeviceAnswer.{DeviceAnswer}
 use Rattle.cue_exchange.specs.Answers.{is_waiting}
 use Rattle.cue_exchange.specs.Live.{attempt_of_device}
 

@@ -1,1 +1,5 @@
+pub mod Alone
 pub mod AttemptWords
+pub mod Busy
+pub mod Ends
+pub mod OrderWords

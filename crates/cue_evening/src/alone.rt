@@ -1,6 +1,6 @@
 //! The attempts that hang on one device: it alone is required, and the others of the cue are optional.
 ghost use Rattle.std.specs.Prelude.{◌≡◌};
-ghost use Rattle.cue_course.specs.Alone.{
+ghost use Rattle.cue_evening.specs.Alone.{
   required_count,
   has_optional,
   hangs_on_one,

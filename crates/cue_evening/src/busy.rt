@@ -1,6 +1,6 @@
 //! Who keeps a command from being made: the devices that an attempt waits for, and the device that makes a cue busy.
 ghost use Rattle.std.specs.Prelude.{◌≡◌, IfOk};
-ghost use Rattle.cue_course.specs.Busy.{waiting_devices, is_held, held_device};
+ghost use Rattle.cue_evening.specs.Busy.{waiting_devices, is_held, held_device};
 
 use cue_exchange::{Attempt, Live};
 use cue_show::{DeviceNo, Part};

@@ -1,10 +1,10 @@
 //! The attempts that the log follows, each from its standby to its end.
 ghost use Rattle.std.specs.Prelude.{◌≡◌};
-ghost use Rattle.cue_course.specs.Ends.{end_of};
+ghost use Rattle.cue_evening.specs.Ends.{end_of};
 
 use cue_core::limits::STANDBY_MS;
 use cue_core::{Event, State};
-use cue_exchange::{Answer, Attempt, Outcome, Stage};
+use cue_exchange::{Answer, Attempt, Outcome, Reason, Stage};
 use cue_show::{CueNo, DeviceNo};
 use std::alloc::{AllocError, Global};
 
@@ -123,18 +123,26 @@ impl Course {
         Ok(())
     }
 
-    /// Takes an event; if a device fails by it, for this cause. If there is no memory for it, it is passed over.
-    pub fn take(&mut self, event: &Event, cause: Cause) {
+    /// Takes an event; if a device fails by it, for this cause. Answers the attempt that is given up by it, and why. If
+    /// there is no memory for it, it is passed over.
+    pub fn take(&mut self, event: &Event, cause: Cause) -> Option<(u32, Reason)> {
         match event {
             Event::Start(seq, cue, deadline) => {
                 let followed = Followed::new(self.alloc, *seq, *cue, *deadline);
                 let _ = self.items.push(followed);
             }
             Event::Go(seq) => self.enter(*seq, Stage::Decided),
-            Event::Cancel(seq, reason) => self.enter(*seq, Stage::Cancelling(*reason)),
+            Event::Cancel(seq, reason) => {
+                self.enter(*seq, Stage::Cancelling(*reason));
+                return Some((*seq, *reason));
+            }
             Event::Failed(seq, device) => self.fail(*seq, *device, cause),
-            _ => {}
+            Event::Device(_, _) | Event::NoDevice(_) => {}
+            Event::Cue(_, _) | Event::NoCue(_) | Event::Place(_) => {}
+            Event::Ready(_, _) | Event::Done(_, _) => {}
+            Event::LetGo(_, _) | Event::Excuse(_, _) => {}
         }
+        None
     }
 
     fn enter(&mut self, seq: u32, stage: Stage) {

@@ -1,22 +1,36 @@
 //! The log of the evening: lines on standard error that say what a show was asked, what it sent, and how each attempt
 //! went.
 //!
-//! A logged wire keeps notes of what it sends (`cue_course`). The log looks on while the show runs: after each input it
-//! takes the notes, and writes the lines that they make with the state and the events of the input. So the run and its
-//! contract know nothing of the log; one that wrote as it sends would not know the cue of an order, nor why an attempt
-//! ended. What no datagram shows, as which devices are required, it takes from the state. Its lines are those of inputs
-//! that come one by one, also if they are committed together. What keeps a command from being made is looked up only if
-//! no later command of the datagram changed the state. If there is no memory for a line it is lost, and the show goes
-//! on.
+//! The log looks on while the show runs: after each input it reads the input's account (`cue_engine`), its events and
+//! the state, and on a *logged wire* which of its datagrams left. It can change neither the show nor what is sent. The
+//! attempts are followed in a table (`course`), eight at most.
+//!
+//! Why it is so:
+//! - The run and its contract know nothing of the log. One that wrote as it sends would not know the cue of an order,
+//!   nor why an attempt ended.
+//! - The run shows the state after a whole group. The log lets the events of each input happen to a state of its own,
+//!   so its lines are those of inputs that come one by one. It is a copy, since nobody else needs the states between:
+//!   the kept state is already ahead, and the draft stays behind until the next input.
+//! - What keeps a command from being made is looked up only if no later command of the datagram changed the state.
+//! - If there is no memory for a line it is lost, and the show goes on. If there was none for a bit of the wire, the
+//!   lines of its input are lost that say what was sent.
 //!
 //! Only tested: the text of the lines, and whole evenings.
 #![tactic(auto)]
 
+mod alone;
+mod busy;
+mod course;
 mod log;
 pub mod names;
+pub mod orders;
 mod page;
 pub mod reasons;
 pub mod replies;
+mod sent;
+mod states;
 mod time;
+mod wire;
 
 pub use log::{EveningLog, say_ready};
+pub use wire::LoggedWire;

@@ -1,14 +1,17 @@
 //! The log: what it writes at each look.
 ghost use Rattle.std.specs.Prelude.{◌≡◌, Some};
 
+use crate::course::{Cause, Course};
+use crate::orders::order_line;
 use crate::page::Page;
 use crate::reasons::{cancel_line, device_of_cancel, end_line, recovered_line, standby_line};
 use crate::replies::{Answer, cause_in};
+use crate::sent::Sent;
+use crate::states::state_after;
 use crate::time::Time;
+use crate::wire::LoggedWire;
 use cue_core::{Event, State};
-use cue_course::commands::cut;
-use cue_course::{Cause, Course, Entry, LoggedWire, Notes, Reply, state_after};
-use cue_engine::Wire;
+use cue_engine::{Account, Wire};
 use cue_run::Watch;
 use std::alloc::Global;
 use std::io::Eprint;
@@ -25,9 +28,9 @@ pub fn say_ready<R: Clock + Eprint>(rt: &R, dir: &str, port: u16) {
     };
 }
 
-/// Writes the log of the evening. It takes the notes of a logged wire at each look, and follows the attempts. If
-/// inputs are committed together it writes what it writes of inputs that come one by one: it has a state of its own, to
-/// which it lets the events of each input happen.
+/// Writes the log of the evening. It reads the account of each input, and on a logged wire what left of it, and follows
+/// the attempts. If inputs are committed together it writes what it writes of inputs that come one by one: it has a
+/// state of its own, to which it lets the events of each input happen.
 #[derive(Drop)]
 pub struct EveningLog<'a, R: Clock + Eprint> {
     rt: &'a R,
@@ -60,29 +63,31 @@ impl<'a, R: Clock + Eprint> EveningLog<'a, R> {
         self.course.follow(state);
     }
 
-    // Writes a line for each reply, and takes the events that its commands made. Answers the events that are left.
+    // Writes a line for each reply of which there is something to say, and takes the events that its commands made.
+    // Answers the events that are left.
     fn tell_replies<'b>(
         &mut self,
         page: &Page<'_, R>,
         state: &State,
         batch: &'b [Event],
-        notes: &Notes,
+        sent: &mut Sent<'_>,
     ) -> &'b [Event] {
         let mut rest = batch;
-        for note in notes.items.iter() {
-            if let Entry::Replied(reply) = &note.entry {
-                let (made, later) = cut(rest, made_count(notes, reply));
-                let is_last = notes.are_whole && later.is_empty();
+        for reply in sent.replies {
+            let (made, later) = cut(rest, reply.events);
+            if let Some(is_sent) = sent.take(reply.statuses) {
                 let answer = Answer {
                     reply,
-                    is_sent: note.is_sent,
+                    is_sent,
                     made,
-                    state: if is_last { Some(state) } else { None },
+                    state: if later.is_empty() { Some(state) } else { None },
                 };
-                page.write(answer.text(self.alloc));
-                self.take_events(page, made, cause_in(&reply.address));
-                rest = later;
+                if answer.is_told() {
+                    page.write(answer.text(self.alloc));
+                }
             }
+            self.take_events(page, made, cause_in(reply.address.as_slice()));
+            rest = later;
         }
         rest
     }
@@ -90,21 +95,24 @@ impl<'a, R: Clock + Eprint> EveningLog<'a, R> {
     // Takes events, and writes a line for each attempt that is given up.
     fn take_events(&mut self, page: &Page<'_, R>, events: &[Event], cause: Cause) {
         for (place, event) in events.iter().enumerate() {
-            self.course.take(event, cause);
-            if let Event::Cancel(seq, reason) = event {
-                let cue = self.course.cue_of(*seq);
+            if let Some((seq, reason)) = self.course.take(event, cause) {
+                let cue = self.course.cue_of(seq);
                 let device = device_of_cancel(events, place);
-                page.write(cancel_line(self.alloc, *seq, cue, *reason, device));
+                page.write(cancel_line(self.alloc, seq, cue, reason, device));
             }
         }
     }
 
-    // Writes a line for each order.
-    fn tell_orders(&self, page: &Page<'_, R>, notes: &Notes) {
-        for note in notes.items.iter() {
-            if let Entry::Ordered(order) = &note.entry {
-                let cue = self.course.cue_of(order.attempt);
-                page.write(order.text(self.alloc, cue, note.is_sent));
+    // Writes a line for each order that is sent for the first time, or for the first time since a start.
+    fn tell_orders(&self, page: &Page<'_, R>, sent: &mut Sent<'_>) {
+        for order in sent.orders {
+            let is_first = order.is_new || self.last.is_none();
+            match (sent.take(0), is_first) {
+                (Some(is_sent), true) => {
+                    let cue = self.course.cue_of(order.attempt);
+                    page.write(order_line(self.alloc, order, cue, is_sent));
+                }
+                (Some(_), false) | (None, _) => {}
             }
         }
     }
@@ -130,40 +138,47 @@ impl<'a, R: Clock + Eprint> EveningLog<'a, R> {
         self.course.drop_ended(state);
     }
 
-    // Writes what the notes say, and what becomes of the attempts.
-    fn tell(&mut self, state: &State, batch: &[Event], notes: &Notes)
+    // Writes what was sent, and what becomes of the attempts.
+    fn tell(&mut self, state: &State, batch: &[Event], sent: Sent<'_>)
         ensures seen { self.new.last ≡ Some state.now.last_seq }
     {
         let page = Page::now(self.rt);
         if self.last.is_none() {
             self.begin(&page, state);
         }
-        let rest = self.tell_replies(&page, state, batch, notes);
+        let mut sent = sent;
+        let rest = self.tell_replies(&page, state, batch, &mut sent);
         self.take_events(&page, rest, Cause::Unseen);
-        self.tell_orders(&page, notes);
+        self.tell_orders(&page, &mut sent);
         self.tell_alone(&page, state);
         self.tell_ends(&page, state);
         self.last = Some(state.last_seq());
     }
 }
 
-// How many commands of a reply made events, if each reply that made some has a note.
-fn made_count(notes: &Notes, reply: &Reply) -> usize {
-    if notes.are_whole {
-        usize::try_from(reply.made).unwrap_or(0)
-    } else {
-        0
+// The first so many events, and those after them.
+fn cut(events: &[Event], count: usize) -> (&[Event], &[Event]) {
+    match events.split_at_checked(count) {
+        Some(both) => both,
+        None => (events, &[]),
     }
 }
 
 impl<'a, R: Clock + Eprint, W: Wire + Drop> Watch<LoggedWire<W>> for EveningLog<'a, R> {
-    fn look(&mut self, state: &State, batch: &[Event], wire: &mut LoggedWire<W>) {
-        let notes = wire.take_notes();
+    fn look(
+        &mut self,
+        state: &State,
+        batch: &[Event],
+        account: Option<&Account>,
+        wire: &mut LoggedWire<W>,
+    ) {
         let followed = state_after(self.followed.take(), state, batch);
+        let sent = Sent::of(account, wire.left());
         match &followed {
-            Some(followed) => self.tell(followed, batch, &notes),
-            None => self.tell(state, batch, &notes),
+            Some(followed) => self.tell(followed, batch, sent),
+            None => self.tell(state, batch, sent),
         }
         self.followed = followed;
+        wire.forget();
     }
 }

@@ -2,8 +2,9 @@
 ghost use Rattle.std.specs.Prelude.{◌≡◌};
 ghost use Rattle.cue_evening.specs.AttemptWords.{cause_words};
 
+use crate::alone::named_device;
+use crate::course::{Cause, Failure, Followed};
 use cue_core::Event;
-use cue_course::{Cause, Failure, Followed, named_device};
 use cue_exchange::{Attempt, Reason};
 use cue_show::{CueNo, DeviceNo};
 use cue_words::{outcome_words, reason_words, recovered_words};
@@ -36,11 +37,22 @@ pub fn standby_line(alloc: Global, last: u32, attempt: &Attempt) -> Option<Strin
     text.ok()
 }
 
-/// The device by which a preparation was given up, if the event at this place gives it up.
+// The device that is done with by an event, since it failed or has given up.
+fn device_of_end(event: &Event) -> Option<DeviceNo> {
+    match event {
+        Event::Failed(_, device) | Event::LetGo(_, device) => Some(*device),
+        Event::Device(_, _) | Event::NoDevice(_) => None,
+        Event::Cue(_, _) | Event::NoCue(_) | Event::Place(_) => None,
+        Event::Start(_, _, _) | Event::Go(_) | Event::Cancel(_, _) => None,
+        Event::Ready(_, _) | Event::Done(_, _) | Event::Excuse(_, _) => None,
+    }
+}
+
+/// The device by which a preparation was given up, if the event at this place gives it up: the event after it says so.
 pub fn device_of_cancel(events: &[Event], place: usize) -> Option<DeviceNo> {
-    match events.split_at_checked(place) {
-        Some((_, [_, Event::Failed(_, device) | Event::LetGo(_, device), ..])) => Some(*device),
-        _ => None,
+    match events.get(place.saturating_add(1)) {
+        Some(next) => device_of_end(next),
+        None => None,
     }
 }
 

@@ -1,7 +1,11 @@
 //! The lines of replies.
+ghost use Rattle.std.specs.Prelude.{◌≡◌, ◌≢◌, true, false};
+
+use crate::busy::{held_device, waiting_devices};
+use crate::course::Cause;
 use crate::names::{push_cues, push_devices, push_numbers};
 use cue_core::{Code, Event, State};
-use cue_course::{Cause, Reply, held_device, waiting_devices};
+use cue_engine::{Reply, Taken};
 use cue_exchange::{Attempt, Live};
 use cue_show::{CueNo, DeviceNo, Part, Parts};
 use cue_words::code_words;
@@ -34,6 +38,16 @@ pub fn cause_in(address: &[u8]) -> Cause {
     }
 }
 
+// Whether the log says something of a reply: one that made or refused something, or did not leave.
+fn is_told(counts: Taken, is_sent: bool) -> bool
+    ensures made { counts.made ≢ 0 → result ≡ true }
+    ensures refused { counts.refused ≢ 0 → result ≡ true }
+    ensures unsent { is_sent ≡ false → result ≡ true }
+    ensures quiet { counts.made ≡ 0 → counts.refused ≡ 0 → is_sent ≡ true → result ≡ false }
+{
+    counts.made != 0 || counts.refused != 0 || !is_sent
+}
+
 /// A reply, and what its line adds to its numbers.
 #[derive(Drop)]
 pub struct Answer<'a> {
@@ -47,6 +61,11 @@ pub struct Answer<'a> {
 }
 
 impl Answer<'_> {
+    /// Whether the log says something of it.
+    pub fn is_told(&self) -> bool {
+        is_told(self.reply.counts, self.is_sent)
+    }
+
     /// The reply as its line says it.
     pub fn text(&self, alloc: Global) -> Result<String, AllocError> {
         let mut text = format!(in alloc; "{} asked ", self.reply.port)?;
@@ -63,10 +82,11 @@ impl Answer<'_> {
     }
 
     fn push_address(&self, text: &mut String) -> Result<(), AllocError> {
-        if self.reply.address.is_empty() {
+        let address = self.reply.address.as_slice();
+        if address.is_empty() {
             text.push_str("-")?;
         } else {
-            write!(text, "{}", self.reply.address.escape_ascii())?;
+            write!(text, "{}", address.escape_ascii())?;
         }
         Ok(())
     }
@@ -74,22 +94,20 @@ impl Answer<'_> {
     // Whether the address speaks to many, and what was not made of it is no refusal in words: nothing was stood by
     // there, or the arguments were those of another method.
     fn has_bystanders(&self) -> bool {
-        let code = self.reply.code;
-        let applies = self.reply.made > 0 || self.reply.known > 0;
-        let is_aside = code == i32::from(Code::NotLive.number())
-            || code == i32::from(Code::Arguments.number());
-        applies && is_aside && is_wide(&self.reply.address)
+        let applies = self.reply.counts.made > 0 || self.reply.counts.known > 0;
+        let is_aside = is_of(self.reply, Code::NotLive) || is_of(self.reply, Code::Arguments);
+        applies && is_aside && is_wide(self.reply.address.as_slice())
     }
 
     fn push_counts(&self, text: &mut String) -> Result<(), AllocError> {
-        let reply = self.reply;
-        write!(text, ": made {} known {}", reply.made, reply.known)?;
-        if reply.refused == 1 && self.has_bystanders() {
+        let counts = self.reply.counts;
+        write!(text, ": made {} known {}", counts.made, counts.known)?;
+        if counts.refused == 1 && self.has_bystanders() {
             text.push_str(", 1 other did not apply")?;
-        } else if reply.refused > 0 && self.has_bystanders() {
-            write!(text, ", {} others did not apply", reply.refused)?;
+        } else if counts.refused > 0 && self.has_bystanders() {
+            write!(text, ", {} others did not apply", counts.refused)?;
         } else {
-            write!(text, " refused {}", reply.refused)?;
+            write!(text, " refused {}", counts.refused)?;
             self.push_code(text)?;
         }
         Ok(())
@@ -97,8 +115,8 @@ impl Answer<'_> {
 
     fn push_code(&self, text: &mut String) -> Result<(), AllocError> {
         let code = self.reply.code;
-        if self.reply.refused > 0 {
-            write!(text, ", code {code}, {}", code_words(code))?;
+        if self.reply.counts.refused > 0 {
+            write!(text, ", code {code}, {}", code_words(i32::from(code)))?;
         }
         Ok(())
     }
@@ -108,21 +126,19 @@ impl Answer<'_> {
         let mut more = String::new(alloc);
         self.push_why(alloc, &mut more)?;
         self.push_new(alloc, &mut more)?;
-        if is_wide(&self.reply.address) {
-            self.push_removed_devices(alloc, &mut more)?;
-            self.push_removed_cues(alloc, &mut more)?;
-            self.push_place(&mut more)?;
+        if is_wide(self.reply.address.as_slice()) {
+            self.push_changes(alloc, &mut more)?;
         }
         Ok(more)
     }
 
     fn push_why(&self, alloc: Global, more: &mut String) -> Result<(), AllocError> {
-        if self.reply.refused == 0 {
+        if self.reply.counts.refused == 0 {
             return Ok(());
         }
-        match (self.state, cue_in(&self.reply.address)) {
+        match (self.state, cue_in(self.reply.address.as_slice())) {
             (Some(state), Some((cue, method))) => {
-                push_refusal(alloc, more, state, self.reply.code, cue, method)
+                push_refusal(alloc, more, state, self.reply, cue, method)
             }
             _ => Ok(()),
         }
@@ -134,56 +150,66 @@ impl Answer<'_> {
             match event {
                 Event::Device(device, port) => push_new_device(more, *device, *port)?,
                 Event::Cue(cue, parts) => push_new_cue(alloc, more, *cue, parts)?,
-                _ => {}
+                Event::NoDevice(_) | Event::NoCue(_) | Event::Place(_) => {}
+                Event::Start(_, _, _) | Event::Go(_) | Event::Cancel(_, _) => {}
+                Event::Ready(_, _) | Event::Done(_, _) => {}
+                Event::LetGo(_, _) | Event::Failed(_, _) | Event::Excuse(_, _) => {}
             }
         }
         Ok(())
     }
 
-    fn push_removed_devices(&self, alloc: Global, more: &mut String) -> Result<(), AllocError> {
+    // The devices and the cues that were removed, and the cue that the operator was moved to last.
+    fn push_changes(&self, alloc: Global, more: &mut String) -> Result<(), AllocError> {
         let mut devices = Vec::new(alloc);
-        for event in self.made {
-            if let Event::NoDevice(device) = event {
-                devices.push(*device)?;
-            }
-        }
-        if !devices.is_empty() {
-            push_comma(more)?;
-            push_devices(more, &devices)?;
-            more.push_str(" removed")?;
-        }
-        Ok(())
-    }
-
-    fn push_removed_cues(&self, alloc: Global, more: &mut String) -> Result<(), AllocError> {
         let mut cues = Vec::new(alloc);
-        for event in self.made {
-            if let Event::NoCue(cue) = event {
-                cues.push(*cue)?;
-            }
-        }
-        if !cues.is_empty() {
-            push_comma(more)?;
-            push_cues(more, &cues)?;
-            more.push_str(" removed")?;
-        }
-        Ok(())
-    }
-
-    // The cue that the operator was moved to last.
-    fn push_place(&self, more: &mut String) -> Result<(), AllocError> {
         let mut place = None;
         for event in self.made {
-            if let Event::Place(cue) = event {
-                place = Some(*cue);
+            match event {
+                Event::NoDevice(device) => devices.push(*device)?,
+                Event::NoCue(cue) => cues.push(*cue)?,
+                Event::Place(cue) => place = Some(*cue),
+                Event::Device(_, _) | Event::Cue(_, _) => {}
+                Event::Start(_, _, _) | Event::Go(_) | Event::Cancel(_, _) => {}
+                Event::Ready(_, _) | Event::Done(_, _) => {}
+                Event::LetGo(_, _) | Event::Failed(_, _) | Event::Excuse(_, _) => {}
             }
         }
-        if let Some(cue) = place {
-            push_comma(more)?;
-            write!(more, "the place is cue {}", cue.text().escape_ascii())?;
-        }
-        Ok(())
+        push_removed_devices(more, &devices)?;
+        push_removed_cues(more, &cues)?;
+        push_place(more, place)
     }
+}
+
+// Whether the first command that was refused has this code.
+fn is_of(reply: &Reply, code: Code) -> bool {
+    reply.code == u16::from(code.number())
+}
+
+fn push_removed_devices(more: &mut String, devices: &[DeviceNo]) -> Result<(), AllocError> {
+    if !devices.is_empty() {
+        push_comma(more)?;
+        push_devices(more, devices)?;
+        more.push_str(" removed")?;
+    }
+    Ok(())
+}
+
+fn push_removed_cues(more: &mut String, cues: &[CueNo]) -> Result<(), AllocError> {
+    if !cues.is_empty() {
+        push_comma(more)?;
+        push_cues(more, cues)?;
+        more.push_str(" removed")?;
+    }
+    Ok(())
+}
+
+fn push_place(more: &mut String, place: Option<CueNo>) -> Result<(), AllocError> {
+    if let Some(cue) = place {
+        push_comma(more)?;
+        write!(more, "the place is cue {}", cue.text().escape_ascii())?;
+    }
+    Ok(())
 }
 
 // Parts what follows from what stands there already.
@@ -233,12 +259,12 @@ fn push_refusal(
     alloc: Global,
     more: &mut String,
     state: &State,
-    code: i32,
+    reply: &Reply,
     cue: CueNo,
     method: &[u8],
 ) -> Result<(), AllocError> {
-    let is_late = code == i32::from(Code::NotReady.number());
-    let is_busy = code == i32::from(Code::Busy.number());
+    let is_late = is_of(reply, Code::NotReady);
+    let is_busy = is_of(reply, Code::Busy);
     if is_late && method == b"/go".as_slice() {
         match state.live().of_cue(cue) {
             Some(attempt) => push_waiting(alloc, more, attempt),

@@ -1,16 +1,15 @@
-//! A wire that keeps notes of what it sends.
+//! A wire that keeps whether what it sends leaves.
 ghost use Rattle.std.specs.Prelude.{◌≡◌};
 
-use crate::notes::{Notebook, Notes};
 use cue_engine::{Wire, WireFault};
 use std::alloc::Global;
 
-/// A wire that keeps notes of what it sends, for the log of the evening. It sends and answers what the wire in it does,
-/// whatever becomes of a note. Whoever looks on takes the notes out.
+/// A wire that keeps one bit of each datagram, for the log of the evening: whether it left. It sends and answers what
+/// the wire in it does. A bit for which there is no memory is lost.
 #[derive(Drop)]
 pub struct LoggedWire<W: Wire + Drop> {
     wire: W,
-    notebook: Notebook,
+    left: Vec<bool>,
 }
 
 impl<W: Wire + Drop> LoggedWire<W> {
@@ -20,15 +19,20 @@ impl<W: Wire + Drop> LoggedWire<W> {
     {
         LoggedWire {
             wire,
-            notebook: Notebook::new(alloc),
+            left: Vec::new(alloc),
         }
     }
 
-    /// Takes the notes of what was sent since they were taken last.
-    pub fn take_notes(&mut self) -> Notes
+    /// Whether each datagram left that was sent since `forget` was called last, in order.
+    pub fn left(&self) -> &[bool] {
+        &self.left
+    }
+
+    /// Forgets what was sent so far.
+    pub fn forget(&mut self)
         ensures { self.new.wire ≡ self.old.wire }
     {
-        self.notebook.take()
+        self.left.clear();
     }
 }
 
@@ -37,7 +41,7 @@ impl<W: Wire + Drop> Wire for LoggedWire<W> {
 
     fn send(&mut self, to: u16, bytes: &[u8]) -> Result<(), WireFault> {
         let sent = self.wire.send(to, bytes);
-        self.notebook.note(to, bytes, sent.is_ok());
+        let _ = self.left.push(sent.is_ok());
         sent
     }
 }

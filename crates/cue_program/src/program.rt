@@ -41,10 +41,9 @@ pub(crate) mod settling;
 
 use cue_command_line::{Line, LineFault, line};
 use cue_copies::refusal_of;
-use cue_course::LoggedWire;
 use cue_disk::{Disk, FileDisk};
 use cue_engine::Engine;
-use cue_evening::{EveningLog, say_ready};
+use cue_evening::{EveningLog, LoggedWire, say_ready};
 use cue_keeper::{Fault, StoreFault};
 use cue_run::{Ended, MAX_TOGETHER, RunFault, UdpReceiver, UdpSource, UdpWire, local, run_grouped};
 use cue_script::script;

@@ -59,7 +59,7 @@ fn run_rounds<D: Disk, S: Source, W: Wire, V: Watch<W>>(
 {
     engine.withdraw();
     let mut unsent = engine.hand_out(wire);
-    watch.look(engine.state(), &[], wire);
+    watch.look(engine.state(), &[], engine.last_accounts().last(), wire);
     let mut taken = 0;
     while taken < turns {
         let room = (ends.capacity() as u64).min(turns - taken);

@@ -40,7 +40,9 @@ fn hand_out_each<D: Disk, W: Wire, V: Watch<W>>(
         let refused = engine.hand_out_first(wire, end.saturating_sub(handed));
         unsent = unsent.saturating_add(refused);
         handed = *end;
-        watch.look(engine.state(), batch_at(engine.last_batches(), place), wire);
+        let batch = batch_at(engine.last_batches(), place);
+        let account = engine.last_accounts().get(place);
+        watch.look(engine.state(), batch, account, wire);
     }
     unsent.saturating_add(engine.hand_out(wire))
 }

@@ -50,11 +50,13 @@ pub new-of-numbers : (s : ShowState) (numbers : List ℕ) (batch : List Event)
 unfolding new_orders
 new-of-numbers s numbers batch exact = of-asked s numbers batch s.live exact
 
+-- what is the same as these orders
 pub if_orders : {E : Type 0} (r : Result (Vec Order Global) E) (xs ys : List Order)
     → IfOk r (λ (v : Vec Order Global). v.items ≡ xs) → xs ≡ ys → IfOk r (λ (v : Vec Order Global). v.items ≡ ys)
 if_orders (Ok v) xs ys is same = is ∙ same
 if_orders (Err e) xs ys is same = is
 
+-- what holds anyway
 pub ok_either : {T E : Type 0} {P : Type 0} (r : Result T E) → P → OnOk r P
 ok_either (Ok t) h = h
 ok_either (Err e) h = tt

@@ -59,6 +59,7 @@ abbrev pub events_in : List Reply → ℕ
 events_in [] = 0
 events_in (r ∷ rs) = r.events + events_in rs
 
+-- the replies to all messages, or the one
 abbrev pub replies_of : ℕ → List Heard → List Reply
 replies_of from hs = reply_or_more from (map (reply_to from) hs)
 
@@ -76,6 +77,7 @@ order_of new port (standby q d cue bytes) = record {
 order_of new port (go_2pc q d) = record { kind = kind.Go; attempt = q; device = d; port = port; is_new = new }
 order_of new port (cancel q d) = record { kind = kind.Cancel; attempt = q; device = d; port = port; is_new = new }
 
+-- the same of an order beside its port
 abbrev pub order_view : Bool → ℕ × Pending → Order
 order_view new o = order_of new o.0 o.1
 
@@ -111,8 +113,10 @@ order_in (port, order o) = Some (order_of true port o)
 
 -- ---- accounts of the code
 
+-- what it has, in order
 abbrev pub account_view : Account → Accounted
 account_view account = record { replies = account.replies.items; orders = account.orders.items }
 
+-- the same of each
 abbrev pub accounts_view : List Account → List Accounted
 accounts_view accounts = map account_view accounts

@@ -48,6 +48,7 @@ impl Reply {
     }
 }
 
+// So many bytes at most, from the front.
 fn front_of(text: &[u8], most: usize) -> &[u8]
     ensures { result.now ≡ take most text.now }
 {

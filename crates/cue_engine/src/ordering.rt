@@ -4,8 +4,6 @@ ghost use Rattle.std.specs.List.Sorted.{IsStrictlyIncreasing};
 ghost use Rattle.std.specs.Option.{option_map};
 ghost use Rattle.cue_core.specs.Pending.{order_at, order_for};
 ghost use Rattle.cue_show.specs.Devices.{is_among};
-ghost use Rattle.cue_outbox.specs.Asked.{is_asked};
-ghost use Rattle.cue_core.specs.declared.event.Event.{Event};
 ghost use Rattle.cue_engine.specs.Accounts.{order_view, orders_for, orders_of, all_orders};
 
 use crate::account::{Order, OrderKind};
@@ -62,6 +60,7 @@ fn push_orders(
     Ok(())
 }
 
+// Whether the number is one of them.
 fn is_among(numbers: &[u32], number: u32) -> bool
     requires { IsStrictlyIncreasing numbers.now }
     ensures { result ≡ is_among number numbers.now }

@@ -5,4 +5,5 @@ pub mod Reading
 pub mod Reviewed
 pub mod Routes
 pub mod Said
+pub mod Together
 pub mod Written

@@ -160,6 +160,22 @@ flag_by None = Some None
 flag_by (Some (string t)) = mark_said (flag_of t)
 flag_by _ = None
 
+-- a value, if it is the text of a cue number
+abbrev pub number_said : Data → Option (List ℕ)
+number_said (string t) = cue_number_of t
+number_said _ = None
+
+-- each of these values, if all are
+abbrev pub numbers_said : Items → Option (List (List ℕ))
+numbers_said no_items = Some []
+numbers_said (item d ds) = with_first (number_said d) (numbers_said ds)
+
+-- the cues that are stood by together with a cue, which may have none: a list of cue numbers
+abbrev pub companions_by : Option Data → Option (List (List ℕ))
+companions_by None = Some []
+companions_by (Some (array ds)) = numbers_said ds
+companions_by _ = None
+
 -- what people see of a cue: texts for its name and its note, a colour and a flag that there are
 abbrev pub has_signs : Members → Bool
 has_signs ms =
@@ -169,11 +185,12 @@ has_signs ms =
 -- the keys of a cue
 abbrev pub cue_keys : List (List ℕ)
 cue_keys =
-    codes "number" ∷ codes "name" ∷ codes "note" ∷ codes "color" ∷ codes "flag" ∷ codes "parts" ∷ []
+    codes "number" ∷ codes "name" ∷ codes "note" ∷ codes "color" ∷ codes "flag" ∷ codes "with" ∷ codes "parts"
+    ∷ []
 
 -- the table has what a cue may have
 unfoldable pub is_of_cue : Members → Bool
-is_of_cue ms = has_only cue_keys ms && has_signs ms
+is_of_cue ms = has_only cue_keys ms && (has_signs ms && is_some (companions_by (get_member (codes "with") ms)))
 
 -- a cue: its number and its parts
 abbrev pub cue_said : Members → Option (List ℕ × List Part)

@@ -176,7 +176,17 @@ abbrev pub bare_device : ℕ × ℕ → DeviceEntry
 bare_device e = record { line = None; number = e.0; port = e.1; address = None; name = None }
 
 abbrev pub bare_cue : List ℕ × List Part → CueEntry
-bare_cue e = record { line = None; number = e.0; name = None; note = None; color = None; flag = None; parts = e.1 }
+bare_cue e =
+    record {
+      line = None;
+      number = e.0;
+      name = None;
+      note = None;
+      color = None;
+      flag = None;
+      companions = [];
+      parts = e.1;
+    }
 
 -- the file has all that the show has, in order, and nothing else
 pub record IsFileOf (s : ShowLists) (f : ShowFile) : Type 0 where

@@ -32,6 +32,7 @@ name = "Curtain up"
 note = "wait for the conductor"
 color = "red"                 # red, orange, yellow, green, blue, purple or white
 flag = "fly"                  # danger, fly or trap
+# with = ["3", "4"]           # cues that are stood by together with it, by one press
 parts = [
   { device = 1, hex = "0a01" },                           # which bytes a device takes, its maker says
   { device = 20, text = "state=1", optional = true },     # the cue may go without it

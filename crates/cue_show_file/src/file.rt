@@ -1,7 +1,10 @@
 //! A show file: its devices and its cues, with their names.
+ghost use Rattle.std.specs.Prelude.{◌≡◌};
+
 use crate::marks::{Color, Flag};
 use cue_relay::Address;
 use cue_show::{CueNo, DeviceNo, Parts};
+use std::marker::Model;
 
 /// A device of a show file.
 #[derive(Drop)]
@@ -15,6 +18,36 @@ pub struct DeviceEntry {
     pub address: Option<Address>,
     /// What people call it; the controller never sees it.
     pub name: Option<String>,
+}
+
+/// The cues that are stood by together with one, in the order in which the file names them.
+#[derive(Drop)]
+pub struct Companions {
+    cues: Vec<CueNo>,
+}
+
+impl Model for Companions {
+    ghost use Rattle.std.specs.Prelude.{ℕ, List};
+
+    ghost Value = { List (List ℕ) };
+
+    ghost view = { λ c. c.cues.items };
+}
+
+impl Companions {
+    /// These cues.
+    pub fn of(cues: Vec<CueNo>) -> Companions
+        ensures { result ≡ cues.items }
+    {
+        Companions { cues }
+    }
+
+    /// The cues.
+    pub fn as_slice(&self) -> &[CueNo]
+        ensures { result.now ≡ self.now }
+    {
+        &self.cues
+    }
 }
 
 /// A cue of a show file.
@@ -31,6 +64,8 @@ pub struct CueEntry {
     pub color: Option<Color>,
     /// Why it is one to take care of; the controller never sees it.
     pub flag: Option<Flag>,
+    /// What the file names at `with`; the controller never sees it.
+    pub companions: Companions,
     pub parts: Parts,
 }
 

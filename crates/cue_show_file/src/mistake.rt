@@ -44,6 +44,7 @@ pub enum Key {
     Note,
     Color,
     Flag,
+    With,
     Parts,
     Device,
     Hex,
@@ -63,6 +64,7 @@ impl fmt::Display for Key {
             Key::Note => "note = \"wait for the lamp\"",
             Key::Color => "color = \"red\"",
             Key::Flag => "flag = \"danger\"",
+            Key::With => "with = [\"13\", \"14\"]",
             Key::Parts => "parts = [{ device = 3, hex = \"0a0b\" }]",
             Key::Device => "device = 3",
             Key::Hex => "hex = \"0a0b\"",
@@ -156,6 +158,14 @@ pub enum Mistake {
     NoListen,
     /// The device has the port of this other one.
     SharedPort(DeviceNo),
+    /// The cue stands by together with more cues than can be live beside it.
+    TooManyWith,
+    /// It stands by together with this cue, and the file has none with the number.
+    UnknownWith(CueNo),
+    /// Of those that stand by together this cue is named twice, or is the cue itself.
+    TwiceWith(CueNo),
+    /// These two would stand by together, and have a device in common.
+    SharedWith(CueNo, CueNo),
 }
 
 /// A mistake, with what it is about and where that stands.

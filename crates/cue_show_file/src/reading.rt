@@ -11,6 +11,7 @@ mod keys;
 mod marks;
 mod parts;
 mod tables;
+mod together;
 
 use crate::file::ShowFile;
 use crate::headers::{headers_of, is_single, line_of_key};

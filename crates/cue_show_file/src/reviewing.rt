@@ -1,12 +1,14 @@
 //! What a controller takes, and an evening may not.
-ghost use Rattle.std.specs.Prelude.{◌≡◌, ◌==◌, ◌&&◌, IfOk, length};
+ghost use Rattle.std.specs.Prelude.{◌≡◌, ◌==◌, ◌&&◌, IfOk, false, length};
 ghost use Rattle.std.specs.List.{list_all};
 ghost use Rattle.cue_show_file.specs.Reading.{is_clean};
-ghost use Rattle.cue_show_file.specs.Reviewed.{has_listen, has_something, is_apart, is_reviewed};
+ghost use Rattle.cue_show_file.specs.Reviewed.{are_together, has_listen, has_something, is_apart, is_reviewed};
+ghost use Rattle.cue_show_file.specs.Together.{is_group};
 
-use crate::file::{DeviceEntry, ShowFile};
+use crate::file::{CueEntry, DeviceEntry, ShowFile};
 use crate::mistake::{Finding, Findings, Mistake, Subject};
-use cue_show::DeviceNo;
+use crate::together::{MAX_COMPANIONS, are_apart, is_group};
+use cue_show::{CueNo, DeviceNo};
 use std::alloc::{AllocError, Global};
 
 /// The port at which the controller listens, where nobody says another.
@@ -91,6 +93,90 @@ fn note_addresses(
     }
 }
 
+// Notes each of these cues that the file does not have.
+fn note_unknown_companions(
+    findings: &mut Findings,
+    entries: &[CueEntry],
+    cues: &[CueNo],
+) -> Result<(), AllocError> {
+    for cue in cues {
+        if !entries.iter().any(|entry| entry.number == *cue) {
+            findings.note(Mistake::UnknownWith(*cue))?;
+        }
+    }
+    Ok(())
+}
+
+// Notes each of the others that cannot be live beside the cue.
+fn note_clashes(
+    findings: &mut Findings,
+    entries: &[CueEntry],
+    cue: CueNo,
+    others: &[CueNo],
+) -> Result<(), AllocError> {
+    for other in others {
+        if cue == *other {
+            findings.note(Mistake::TwiceWith(cue))?;
+        } else if !are_apart(entries, cue, *other) {
+            findings.note(Mistake::SharedWith(cue, *other))?;
+        }
+    }
+    Ok(())
+}
+
+// Notes why the cue cannot be stood by with its companions; a file that has the cue twice is another mistake.
+fn note_why_apart(
+    findings: &mut Findings,
+    entries: &[CueEntry],
+    entry: &CueEntry,
+) -> Result<(), AllocError>
+    ensures { IfOk result (λ _. is_clean findings.new ≡ false) }
+{
+    let others = entry.companions.as_slice();
+    findings.look_at(entry.line, Subject::Cue(entry.number));
+    note_unknown_companions(findings, entries, others)?;
+    note_clashes(findings, entries, entry.number, others)?;
+    for (index, cue) in others.iter().enumerate() {
+        note_clashes(findings, entries, *cue, &others[index + 1..])?;
+    }
+    if others.len() > MAX_COMPANIONS || findings.len() == 0 {
+        findings.note(Mistake::TooManyWith)?;
+    }
+    Ok(())
+}
+
+// Notes a cue that cannot be stood by with its companions.
+fn note_companions(
+    findings: &mut Findings,
+    entries: &[CueEntry],
+    entry: &CueEntry,
+) -> Result<(), AllocError>
+    ensures { IfOk result (λ _. is_clean findings.new ≡ (is_clean findings.old && is_group entries.now entry.now)) }
+{
+    if is_group(entries, entry) {
+        return Ok(());
+    }
+    note_why_apart(findings, entries, entry)
+}
+
+// Notes each of these cues that cannot be stood by with its companions.
+fn note_all_companions(
+    findings: &mut Findings,
+    entries: &[CueEntry],
+    rest: &[CueEntry],
+) -> Result<(), AllocError>
+    ensures { IfOk result (λ _. is_clean findings.new
+        ≡ (is_clean findings.old && are_together entries.now rest.now)) }
+{
+    match rest {
+        [] => Ok(()),
+        [first, rest @ ..] => {
+            note_companions(findings, entries, first)?;
+            note_all_companions(findings, entries, rest)
+        }
+    }
+}
+
 // Notes a file that has nothing.
 fn note_empty(findings: &mut Findings, file: &ShowFile) -> Result<(), AllocError>
     ensures { IfOk result (λ _. is_clean findings.new ≡ (is_clean findings.old && has_something file.now)) }
@@ -110,6 +196,7 @@ fn mistakes_of(alloc: Global, file: &ShowFile) -> Result<Vec<Finding>, AllocErro
     note_empty(&mut findings, file)?;
     note_own_ports(&mut findings, file.port, &file.devices)?;
     note_addresses(&mut findings, file.listen, &file.devices)?;
+    note_all_companions(&mut findings, &file.cues, &file.cues)?;
     Ok(findings.into_vec())
 }
 
@@ -150,7 +237,7 @@ fn hints_at(alloc: Global, file: &ShowFile) -> Result<Vec<Finding>, AllocError> 
 }
 
 /// What a controller takes of a file, and an evening may not: a device at the controller's own port, an address without
-/// `listen`, nothing at all; and, as hints, two devices at one port, and one at the controller's usual port.
+/// `listen`, cues that cannot stand by together, nothing at all; and, as hints, two devices at one port, and one at the controller's usual port.
 pub fn review_of(alloc: Global, file: &ShowFile) -> Result<Review, AllocError>
     ensures { IfOk result (λ found. (length found.mistakes.items == 0) ≡ is_reviewed file.now) }
 {

@@ -5,7 +5,7 @@ ghost use Rattle.cue_show_file.specs.Written as written;
 
 mod parts;
 
-use crate::file::{CueEntry, DeviceEntry, ShowFile};
+use crate::file::{Companions, CueEntry, DeviceEntry, ShowFile};
 use crate::marks::{Color, Flag};
 use crate::text::cue_text;
 use cue_show::{CueNo, DeviceNo, Parts, Show};
@@ -27,7 +27,7 @@ fn device_entry(number: DeviceNo, port: u16) -> DeviceEntry
 }
 
 // A cue of a show, without a name or a note.
-fn cue_entry(number: CueNo, parts: &Parts) -> Result<CueEntry, AllocError>
+fn cue_entry(alloc: Global, number: CueNo, parts: &Parts) -> Result<CueEntry, AllocError>
     ensures { IfOk result (λ entry. entry ≡ written.bare_cue (number, parts.now)) }
 {
     Ok(CueEntry {
@@ -37,6 +37,7 @@ fn cue_entry(number: CueNo, parts: &Parts) -> Result<CueEntry, AllocError>
         note: None,
         color: None,
         flag: None,
+        companions: Companions::of(Vec::new(alloc)),
         parts: parts.clone()?,
     })
 }
@@ -56,7 +57,7 @@ fn cue_entries(alloc: Global, show: &Show) -> Result<Vec<CueEntry>, AllocError>
 {
     let mut entries = Vec::new(alloc);
     for (number, parts) in show.cues() {
-        entries.push(cue_entry(*number, parts)?)?;
+        entries.push(cue_entry(alloc, *number, parts)?)?;
     }
     Ok(entries)
 }
@@ -194,7 +195,7 @@ fn push_cues(alloc: Global, text: &mut String, entries: &[CueEntry]) -> Result<(
 
 /// The text of a show file: its port, its devices and its cues. By the grammar of TOML it is read as exactly that
 /// (`laws::written_is_read`), and of a show `read` makes the same file of it (`laws::export_reads_back`). Where this
-/// machine and its devices are on the stage's network is left out: no store has it.
+/// machine and its devices are on the stage's network, and which cues stand by together, is left out: no store has it.
 pub fn written(alloc: Global, file: &ShowFile) -> Result<String, AllocError>
     ensures { IfOk result (λ text. string_bytes text ≡ written.file_text file.now) }
 {

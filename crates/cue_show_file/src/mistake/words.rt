@@ -1,5 +1,7 @@
 //! The words of each mistake, with what to do about it.
 use super::{Mistake, Section, Slip};
+use crate::text::cue_text;
+use crate::together::MAX_COMPANIONS;
 use cue_show::DeviceNo;
 use cue_show::limits::{MAX_CUE_BYTES, MAX_CUES, MAX_DEVICE_NUMBER, MAX_PART_BYTES, MAX_PARTS};
 use std::fmt;
@@ -51,7 +53,7 @@ fn keys_of(section: Section) -> &'static str {
     match section {
         Section::File => "of a show file: it has port, listen, [[device]], [[cue]] and [rehearse]",
         Section::Device => "of a device: it has number, port, address and name",
-        Section::Cue => "of a cue: it has number, name, note, color, flag and parts",
+        Section::Cue => "of a cue: it has number, name, note, color, flag, with and parts",
         Section::Part => "of a part: it has device, hex or text, and optional",
     }
 }
@@ -143,6 +145,33 @@ fn write_of_evening<W: fmt::Write>(f: &mut fmt::Formatter<W>, mistake: &Mistake)
     }
 }
 
+// Writes why cues cannot stand by together.
+fn write_of_companions<W: fmt::Write>(f: &mut fmt::Formatter<W>, mistake: &Mistake) -> fmt::Result {
+    match mistake {
+        Mistake::TooManyWith => write!(
+            f,
+            "eight cues at most can be live: let {MAX_COMPANIONS} at most stand by with it"
+        ),
+        Mistake::UnknownWith(cue) => write!(
+            f,
+            "it stands by with cue {}, which the file does not have: take that out of `with`",
+            cue_text(cue)
+        ),
+        Mistake::TwiceWith(cue) => write!(
+            f,
+            "of those that stand by together cue {} is named twice: take it out of `with` once",
+            cue_text(cue)
+        ),
+        Mistake::SharedWith(cue, other) => write!(
+            f,
+            "cue {} and cue {} have a device in common, so they cannot stand by together",
+            cue_text(cue),
+            cue_text(other)
+        ),
+        _ => Ok(()),
+    }
+}
+
 // Writes that parts are for a device that the file does not have.
 fn write_unknown_device<W: fmt::Write>(
     f: &mut fmt::Formatter<W>,
@@ -211,6 +240,10 @@ impl fmt::Display for Mistake {
             | Mistake::NoListen
             | Mistake::SharedPort(_) => write_of_evening(f, self),
             Mistake::BadColor | Mistake::BadFlag => write_of_mark(f, self),
+            Mistake::TooManyWith
+            | Mistake::UnknownWith(_)
+            | Mistake::TwiceWith(_)
+            | Mistake::SharedWith(_, _) => write_of_companions(f, self),
             Mistake::DeviceTwice => {
                 f.write_str(
                     "the file has this device twice: take one of them out, or give it another number",

@@ -10,8 +10,9 @@ use super::keys::{cue_in, note_unknown, text_in, value_at};
 use super::marks::{read_color, read_flag};
 use super::parts::read_parts;
 use super::tables::{Place, place_of, tables_in};
+use super::together::read_companions;
 use crate::checking::note_torn;
-use crate::file::{CueEntry, DeviceEntry};
+use crate::file::{Companions, CueEntry, DeviceEntry};
 use crate::headers::{Headers, lines_for};
 use crate::marks::{Color, Flag};
 use crate::mistake::{Findings, Key, Mistake, Section, Subject};
@@ -26,6 +27,7 @@ struct Rest {
     note: Option<String>,
     color: Option<Color>,
     flag: Option<Flag>,
+    companions: Companions,
     parts: Parts,
 }
 
@@ -64,18 +66,20 @@ fn read_rest(alloc: Global, findings: &mut Findings, table: &Table) -> Result<Re
         findings,
         table,
         Section::Cue,
-        &["number", "name", "note", "color", "flag", "parts"],
+        &["number", "name", "note", "color", "flag", "with", "parts"],
     )?;
     let name = text_in(findings, table, "name", Key::Name)?;
     let note = text_in(findings, table, "note", Key::Note)?;
     let color = read_color(findings, table)?;
     let flag = read_flag(findings, table)?;
+    let companions = read_companions(alloc, findings, table)?;
     let parts = read_parts(alloc, findings, table)?;
     Ok(Rest {
         name,
         note,
         color,
         flag,
+        companions,
         parts,
     })
 }
@@ -108,6 +112,7 @@ fn read_cue(
         note,
         color,
         flag,
+        companions,
         parts,
     } = read_rest(alloc, findings, table)?;
     let is_torn = findings.len() > before && !has_all(table, &parts);
@@ -120,6 +125,7 @@ fn read_cue(
                 note,
                 color,
                 flag,
+                companions,
                 parts,
             })?;
             Ok(())

@@ -9,3 +9,4 @@ pub mod Orders
 pub mod Ports
 pub mod Readings
 pub mod Replies
+pub mod Together

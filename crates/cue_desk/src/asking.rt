@@ -1,10 +1,11 @@
 //! What the desk asks of the controller: each as exactly one message of the protocol, by itself or with others.
-ghost use Rattle.std.specs.Prelude.{◌≡◌, ◌++◌, ◌∷◌, [], IsTrue, Ok, IfOk, OnOk, map};
+ghost use Rattle.std.specs.Prelude.{◌≡◌, ◌++◌, ◌∷◌, [], IsTrue, Ok, IfOk, OnOk, map, codes};
+ghost use Rattle.std.specs.Fmt.{decimal};
 ghost use Rattle.cue_osc.specs.Argument.{arg_view, text};
 ghost use Rattle.cue_osc.specs.Content.{message};
 ghost use Rattle.cue_osc.specs.Reading.{datagram_at};
-ghost use Rattle.cue_operator.specs.Methods.{address_of, under};
-ghost use Rattle.cue_operator.specs.declared.method.Method.TheVariants.{OfCue, OfDevice};
+ghost use Rattle.cue_operator.specs.Methods.{address_of, cue_verb_text, under};
+ghost use Rattle.cue_operator.specs.declared.method.Method.TheVariants.{OfCue};
 ghost use Rattle.cue_desk.specs.Asks.{AsksFor, arguments_of, ask_fault, command_of, flag_of, flagged_parts};
 ghost use Rattle.cue_desk.specs.Asks.{is_askable, method_of};
 ghost use Rattle.cue_desk.specs.Loading.{message_of};
@@ -12,7 +13,7 @@ ghost use Rattle.cue_desk.specs.Loading.{message_of};
 mod bundling;
 
 pub use bundling::{bundle_of_cues, bundle_of_devices, cues_that_fit, devices_that_fit};
-use cue_operator::{CueVerb, DeviceVerb};
+use cue_operator::CueVerb;
 use cue_osc::{Arg, Args, Message, Packet, WriteFault};
 use cue_show::{CueNo, DeviceNo, Part, Parts};
 use itoa::Buffer;
@@ -96,13 +97,31 @@ pub fn address(alloc: Global, asked: &Asked<'_>) -> Result<Vec<u8>, AllocError>
         Asked::AddDevice(_, _) => Vec::from_slice(alloc, b"/show/device"),
         Asked::AddCue(_, _) => Vec::from_slice(alloc, b"/show/mixed"),
         Asked::OfCue(verb, cue) => cue_address(alloc, *verb, *cue),
-        Asked::Release(device) => device_address(alloc, DeviceVerb::Release, *device),
-        Asked::RemoveDevice(device) => device_address(alloc, DeviceVerb::Remove, *device),
+        Asked::Release(device) => device_address(alloc, b"release", *device),
+        Asked::RemoveDevice(device) => device_address(alloc, b"remove", *device),
     }
 }
 
-// A name, a slash and a verb after the front of an address.
-fn under(alloc: Global, front: &[u8], name: &[u8], verb: &[u8]) -> Result<Vec<u8>, AllocError>
+// What the address of a verb ends with.
+fn cue_verb_text(verb: CueVerb) -> &'static [u8]
+    ensures { result.now ≡ cue_verb_text verb }
+{
+    match verb {
+        CueVerb::Standby => b"standby",
+        CueVerb::Go => b"go",
+        CueVerb::Cancel => b"cancel",
+        CueVerb::Goto => b"goto",
+        CueVerb::Remove => b"remove",
+    }
+}
+
+/// A name, a slash and a verb after the front of an address.
+pub(crate) fn under(
+    alloc: Global,
+    front: &[u8],
+    name: &[u8],
+    verb: &[u8],
+) -> Result<Vec<u8>, AllocError>
     ensures { IfOk result (λ bytes. bytes.items ≡ under front.now name.now verb.now) }
 {
     let mut address = Vec::from_slice(alloc, front)?;
@@ -112,18 +131,24 @@ fn under(alloc: Global, front: &[u8], name: &[u8], verb: &[u8]) -> Result<Vec<u8
     Ok(address)
 }
 
-fn cue_address(alloc: Global, verb: CueVerb, cue: CueNo) -> Result<Vec<u8>, AllocError>
+/// Where something is asked of a cue.
+pub(crate) fn cue_address(alloc: Global, verb: CueVerb, cue: CueNo) -> Result<Vec<u8>, AllocError>
     ensures { IfOk result (λ bytes. bytes.items ≡ address_of (OfCue cue verb)) }
 {
-    under(alloc, b"/cue/", cue.text(), verb.text())
+    under(alloc, b"/cue/", cue.text(), cue_verb_text(verb))
 }
 
-fn device_address(alloc: Global, verb: DeviceVerb, device: DeviceNo) -> Result<Vec<u8>, AllocError>
-    ensures { IfOk result (λ bytes. bytes.items ≡ address_of (OfDevice device verb)) }
+/// Where something is asked of a device.
+pub(crate) fn device_address(
+    alloc: Global,
+    verb: &[u8],
+    device: DeviceNo,
+) -> Result<Vec<u8>, AllocError>
+    ensures { IfOk result (λ bytes. bytes.items ≡ under (codes "/device/") (decimal device) verb.now) }
 {
     let mut number = Buffer::new();
     let name = number.format(device.number());
-    under(alloc, b"/device/", name.as_bytes(), verb.text())
+    under(alloc, b"/device/", name.as_bytes(), verb)
 }
 
 // Whether the part is optional, as a flag.
@@ -174,8 +199,12 @@ fn args_of<'a>(alloc: Global, asked: &'a Asked<'a>) -> Result<Vec<Arg<'a>>, Allo
     }
 }
 
-// The datagram of a message.
-fn message(alloc: Global, address: &[u8], args: Vec<Arg<'_>>) -> Result<Vec<u8>, AskFault>
+/// The datagram of a message.
+pub(crate) fn message(
+    alloc: Global,
+    address: &[u8],
+    args: Vec<Arg<'_>>,
+) -> Result<Vec<u8>, AskFault>
     ensures { let said = message address.now (map arg_view args.entry.items) in
         IfOk result (λ bytes. datagram_at bytes.items ≡ Ok said) }
 {

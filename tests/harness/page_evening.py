@@ -189,13 +189,17 @@ def is_answered(evening, within=1.2):
 MARKS = {"1": ("yellow", None), "5": ("blue", "fly"), "6": ("red", "danger"), "7": (None, "trap")}
 
 
+# Which cues stand by together with cue 10.
+TOGETHER = "8.5", "12.5"
+
+
 def marked(text):
-    """A show file whose cues have these colours and flags."""
+    """A show file whose cues have these colours and flags, and of which some stand by together."""
     text = re.sub(r'^(?:color|flag) = ".*"\n', "", text, flags=re.M)
     for cue, (color, flag) in MARKS.items():
         lines = [f'{key} = "{word}"\n' for key, word in (("color", color), ("flag", flag)) if word]
         text = text.replace(f'[[cue]]\nnumber = "{cue}"\n', f'[[cue]]\nnumber = "{cue}"\n{"".join(lines)}')
-    return text
+    return text.replace('[[cue]]\nnumber = "10"\n', f'[[cue]]\nnumber = "10"\nwith = {list(TOGETHER)}\n')
 
 
 def evening_text():

@@ -6,7 +6,7 @@ import time
 import serving
 from browser import ESCAPE
 from checking import check
-from page_evening import SHOWN, is_checked, write_status
+from page_evening import SHOWN, TOGETHER, is_checked, write_status
 from page_look import CONTRAST, calls, has_contrast, in_windows, sounded
 
 
@@ -132,6 +132,36 @@ def keys(page, evening):
     time.sleep(0.7)
     check("GO where nothing is ready sends nothing", evening.view()["said"] == said)
     check("and says so", "GO is not lit: no cue is stood by" in page.text("words"))
+
+
+def goes_back(page, evening):
+    """The way back after a move."""
+    goes_to(page, "3")
+    goes_to(page, "4")
+    check("the way back is offered", page.shows("back", "Back to cue 3"))
+    check("it asks once more, and goes back", twice(page, "back", "back", lambda: page.text("standby-cue") == "cue 3"))
+    check("and from there is a way back, too", page.shows("back", "Back to cue 4"))
+    check("somebody else moves the place", evening.tells("goto", "5"))
+    check("then there is none", page.waits_for(lambda: not page.find("back").is_displayed()))
+
+
+def stand_by_together(page, evening):
+    """Cues that stand by together, by one key; and each has its own GO."""
+    named = f"cue 10 with {', '.join(TOGETHER)}"
+    moved = twice(page, "goto-10", "stack", lambda: page.text("standby-cue") == named)
+    check("STANDBY names the cues that stand by together", moved)
+    check("and so does NEXT", page.text("next").count("with 8.5") == 1)
+    page.key("s")
+    check("one key stands them all by", evening.waits_for(lambda view: sum(one["ready"] for one in view["live"]) == 3))
+    check("and that is said", page.shows("words", f"standby 10 with {', '.join(TOGETHER)}: made"))
+    check("GO is for the first one", is_lit(page, "10"))
+    page.click("go")
+    check("then for none", page.waits_for(lambda: not page.find("go").is_enabled(), 0.5))
+    chooses(page, "8.5")
+    check("and for the one that is chosen", is_lit(page, "8.5"))
+    page.click("go")
+    check("the others have been given or given up", evening.tells("cancel", "12.5")
+          and page.waits_for(lambda: "Nothing is stood by" in page.text("live")))
 
 
 def fails(page, evening, pictures):

@@ -8,8 +8,8 @@ from checking import check
 from page_guard import guards
 from page_list import lists
 from page_look import is_allowed, is_kept, sounded, sounds
-from page_scenes import (begins, fails, follows, gives, is_readable, is_refused, keys, loses_power, prepares,
-                         second_tab)
+from page_scenes import (begins, fails, follows, gives, goes_back, is_readable, is_refused, keys, loses_power,
+                         prepares, second_tab, stand_by_together)
 
 
 def sends_nothing(page, evening):
@@ -51,6 +51,8 @@ def in_browser(evening, pictures):
         prepares(page, evening, pictures)
         is_refused(page, evening)
         keys(page, evening)
+        goes_back(page, evening)
+        stand_by_together(page, evening)
         fails(page, evening, pictures)
         loses_power(page, evening)
         second_tab(page, evening)

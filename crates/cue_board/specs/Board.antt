@@ -21,6 +21,9 @@ use Rattle.cue_board.specs.Columns.{fit_of}
 use Rattle.cue_board.specs.Ends.{last_said}
 use Rattle.cue_board.specs.Progress.{progress_of}
 use Rattle.cue_board.specs.Times.{seconds}
+use Rattle.cue_board.specs.Together.{with_said}
+use Rattle.cue_show_file.specs.Together.{others_of}
+use Rattle.cue_show_file.specs.declared.together.Group.{Group}
 use Rattle.cue_board.specs.declared.columns.TheConstants.{COLUMNS}
 use Rattle.cue_board.specs.declared.line.BoardLine.{BoardLine}
 use Rattle.cue_board.specs.declared.live.TheConstants.{NAME_AT}
@@ -120,12 +123,12 @@ attempt_brief at a =
 
 -- ---- the stack
 
--- which cue is next, or why none is
-unfoldable pub next_said : Next → List ℕ
-next_said (next.Cue cue) = codes "NEXT   cue " ++ cue
-next_said next.Empty = codes "NEXT   the stack has no cue"
-next_said next.End = codes "NEXT   no cue: the stack is at its end"
-next_said next.Unknown = codes "NEXT   not known: move to a cue"
+-- which cue is next, with those that are stood by together with it, or why none is
+unfoldable pub next_said : List Group → Next → List ℕ
+next_said groups (next.Cue cue) = codes "NEXT   cue " ++ (cue ++ with_said (others_of groups cue))
+next_said groups next.Empty = codes "NEXT   the stack has no cue"
+next_said groups next.End = codes "NEXT   no cue: the stack is at its end"
+next_said groups next.Unknown = codes "NEXT   not known: move to a cue"
 
 -- how many cues stand before this one
 abbrev pub cues_before : List ℕ → List (List ℕ) → ℕ
@@ -146,9 +149,9 @@ unfoldable pub cue_said : Option (List ℕ) → List ℕ → List ℕ
 cue_said place cue = if is_place cue place then codes " -->   " ++ cue else codes "       " ++ cue
 
 -- the next cue, room for its note, and so many cues of the stack around the place
-abbrev pub stack_said : ℕ → View → List (List ℕ)
-stack_said shown v =
-    next_said v.next ∷ codes "       " ∷ codes "STACK"
+abbrev pub stack_said : ℕ → List Group → View → List (List ℕ)
+stack_said shown groups v =
+    next_said groups v.next ∷ codes "       " ∷ codes "STACK"
     ∷ map (cue_said v.place) (around shown v.place v.stack.items)
 
 -- ---- the whole
@@ -181,12 +184,15 @@ ends_said names v = last_said names v.last ∷ read_said v.at v.read ∷ []
 -- the loudest alarm, the stack, each live attempt with its devices, the last attempt, and the age
 abbrev pub board_with : ℕ → Names → View → List (List ℕ)
 board_with shown names v =
-    alarm_said names.port v ++ (stack_said shown v ++ (live_said v.at v.live.items ++ ends_said names v))
+    alarm_said names.port v
+    ++ (stack_said shown names.together.now v ++ (live_said v.at v.live.items ++ ends_said names v))
 
 -- the same without cues, and with a line for each answer in place of one for each device
 abbrev pub board_brief : Names → View → List (List ℕ)
 board_brief names v =
-    alarm_said names.port v ++ (stack_said 0 v ++ (flat_map (attempt_brief v.at) v.live.items ++ ends_said names v))
+    alarm_said names.port v
+    ++ (stack_said 0 names.together.now v
+    ++ (flat_map (attempt_brief v.at) v.live.items ++ ends_said names v))
 
 -- with so many cues; where none has room, the devices share lines
 abbrev pub board_said : ℕ → Names → View → List (List ℕ)

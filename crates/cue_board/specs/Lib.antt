@@ -7,3 +7,4 @@ pub mod Network
 pub mod Presses
 pub mod Progress
 pub mod Times
+pub mod Together

@@ -12,6 +12,11 @@ abbrev pub refused_words : ℤ → List ℕ
 refused_words code =
     codes "refused: " ++ (number_words code ++ (codes " (code " ++ (signed_decimal code ++ codes ")")))
 
+-- only some of several cues stand by: one was refused by this code
+abbrev pub partly_words : ℤ → List ℕ
+partly_words code =
+    codes "NOT ALL of them stand by: " ++ (number_words code ++ (codes " (code " ++ (signed_decimal code ++ codes ")")))
+
 -- nobody listens at the port
 abbrev pub nobody_words : ℕ → List ℕ
 nobody_words port = codes "not carried out: nobody listens at 127.0.0.1:" ++ decimal port
@@ -27,6 +32,7 @@ plain_words _ = codes "open: nobody has replied yet; it may still be carried out
 -- what became of it; a press that nobody replied to is open
 abbrev pub became_words : ℕ → Became → List ℕ
 became_words port (became.Refused code) = refused_words code
+became_words port (became.Partly code) = partly_words code
 became_words port became.Nobody = nobody_words port
 became_words port b = plain_words b
 

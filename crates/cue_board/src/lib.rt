@@ -14,6 +14,8 @@
 //! - In the line of the last cue its name stands before how it ended, and has 28 columns at most, so that the end is
 //!   not cut away. A text has at most four bytes a column: marks that belong to the letter before them take no column.
 //! - A line of the log takes up to three lines: the reason stands at its end.
+//! - Which cues stand by together is drawn by the groups that the desk sends by, not by the show file as it is now: what
+//!   is shown beside the next cue is what STANDBY stands by.
 //! - A cue all of whose devices are ready is `held` if GO cannot be given all the same, as while `serve` does not
 //!   answer.
 //!
@@ -35,6 +37,7 @@ mod presses;
 mod progress;
 mod stack;
 mod times;
+mod together;
 
 pub use alarms::alarm_words;
 pub use board::board_lines;
@@ -45,3 +48,4 @@ pub use names::Names;
 pub use network::contact_words;
 pub use presses::{became_words, unsent_words};
 pub use progress::{Progress, progress_of, progress_word};
+pub use together::with_words;

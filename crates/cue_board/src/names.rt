@@ -4,13 +4,15 @@ ghost use Rattle.std.specs.Option.{option_copied};
 ghost use Rattle.cue_board.specs.Names as spec;
 
 use cue_show::{CueNo, DeviceNo};
-use cue_show_file::{CueEntry, DeviceEntry, ShowFile};
+use cue_show_file::{CueEntry, DeviceEntry, Group, ShowFile};
 
 /// What is drawn beside a view.
 #[derive(Clone, Copy)]
 pub struct Names<'a> {
     /// The show file, for names and notes.
     pub file: Option<&'a ShowFile>,
+    /// The cues that are stood by together, as the desk does it.
+    pub together: &'a [Group],
     /// The port of 127.0.0.1 at which the controller is asked.
     pub port: u16,
 }

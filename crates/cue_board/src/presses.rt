@@ -14,6 +14,14 @@ fn refused_words(alloc: Global, code: i32) -> Result<String, AllocError>
     format!(in alloc; "refused: {words} (code {code})")
 }
 
+// That only some of several cues stand by.
+fn partly_words(alloc: Global, code: i32) -> Result<String, AllocError>
+    ensures { IfOk result (λ text. string_bytes text ≡ presses.partly_words code) }
+{
+    let words = code_words(code);
+    format!(in alloc; "NOT ALL of them stand by: {words} (code {code})")
+}
+
 // That nobody listens at the port.
 fn nobody_words(alloc: Global, port: u16) -> Result<String, AllocError>
     ensures { IfOk result (λ text. string_bytes text ≡ presses.nobody_words port) }
@@ -31,7 +39,7 @@ fn plain_words(became: Became) -> &'static str
         Became::Carried => "no reply came; the store shows that it was carried out",
         Became::Lost => "no reply came; the store shows that it was not carried out",
         Became::Unknown => "no reply came, and the store does not show it: look at the devices",
-        Became::Open | Became::Nobody | Became::Refused(_) => {
+        Became::Open | Became::Nobody | Became::Refused(_) | Became::Partly(_) => {
             "open: nobody has replied yet; it may still be carried out"
         }
     }
@@ -43,6 +51,7 @@ pub fn became_words(alloc: Global, became: Became, port: u16) -> Result<String, 
 {
     match became {
         Became::Refused(code) => refused_words(alloc, code),
+        Became::Partly(code) => partly_words(alloc, code),
         Became::Nobody => nobody_words(alloc, port),
         _ => String::from_str(alloc, plain_words(became)),
     }

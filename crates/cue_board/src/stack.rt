@@ -5,8 +5,9 @@ ghost use Rattle.cue_board.specs.Board.{said_of};
 
 use crate::line::{BoardLine, push_spaces};
 use crate::names::Names;
+use crate::together::with_words;
 use cue_show::CueNo;
-use cue_show_file::cue_text;
+use cue_show_file::{Group, cue_text, others_of};
 use cue_view::view::{LiveAttempt, Next, View};
 use std::alloc::{AllocError, Global};
 
@@ -78,13 +79,14 @@ pub(crate) fn cues_within(room: usize, live: &[LiveAttempt]) -> usize
 
 // What is said of the cue that is next.
 #[tactic(auto, unfolding(crate::specs::Board::next_said))]
-fn next_said(alloc: Global, next: Next) -> Result<String, AllocError>
-    ensures { IfOk result (λ text. string_bytes text ≡ board.next_said next) }
+fn next_said(alloc: Global, next: Next, groups: &[Group]) -> Result<String, AllocError>
+    ensures { IfOk result (λ text. string_bytes text ≡ board.next_said groups.now next) }
 {
     match next {
         Next::Cue(cue) => {
-            let cue = cue_text(&cue);
-            Ok(format!(in alloc; "NEXT   cue {cue}")?)
+            let with = with_words(alloc, others_of(groups, cue))?;
+            let (cue, with) = (cue_text(&cue), with.as_str());
+            Ok(format!(in alloc; "NEXT   cue {cue}{with}")?)
         }
         Next::Empty => String::from_str(alloc, "NEXT   the stack has no cue"),
         Next::End => String::from_str(alloc, "NEXT   no cue: the stack is at its end"),
@@ -101,10 +103,15 @@ fn next_texts<'a>(next: Next, names: &Names<'a>) -> (&'a str, &'a str) {
 }
 
 // The line of the next cue.
-fn next_line(alloc: Global, next: Next, name: &str) -> Result<BoardLine, AllocError>
-    ensures { IfOk result (λ line. said_of line ≡ board.next_said next) }
+fn next_line(
+    alloc: Global,
+    next: Next,
+    groups: &[Group],
+    name: &str,
+) -> Result<BoardLine, AllocError>
+    ensures { IfOk result (λ line. said_of line ≡ board.next_said groups.now next) }
 {
-    let said = next_said(alloc, next)?;
+    let said = next_said(alloc, next, groups)?;
     let mut rest = String::from_str(alloc, "  ")?;
     rest.push_str(name)?;
     BoardLine::with_rest(alloc, said, rest.as_str())
@@ -165,10 +172,10 @@ pub(crate) fn push_stack(
     shown: usize,
 ) -> Result<(), AllocError>
     ensures { OnOk result
-        (map said_of lines.new.items ≡ map said_of lines.old.items ++ board.stack_said shown view.now) }
+        (map said_of lines.new.items ≡ map said_of lines.old.items ++ board.stack_said shown names.now.together.now view.now) }
 {
     let (name, note) = next_texts(view.next, names);
-    lines.push(next_line(alloc, view.next, name)?)?;
+    lines.push(next_line(alloc, view.next, names.together, name)?)?;
     let margin = String::from_str(alloc, "       ")?;
     lines.push(BoardLine::with_rest(alloc, margin, note)?)?;
     lines.push(BoardLine::bare(alloc, String::from_str(alloc, "STACK")?))?;

@@ -209,7 +209,7 @@ impl<'a, R: Files<File = File> + Net + Clock + Eprint + AllocGlobal> Hand<'a, R>
     fn tell<W: Write>(&self, became: Became, writer: &mut W) -> Result<(), Ending> {
         let alloc = self.rt.alloc();
         let button = match self.desk.view().said {
-            Some(said) => button_words(alloc, said.button)?,
+            Some(said) => button_words(alloc, said.button, self.desk.together())?,
             None => intent_words(alloc, &self.intent)?,
         };
         let words = became_words(alloc, became, self.port)?;

@@ -288,7 +288,7 @@ impl<'a, R: Files<File = File> + Net + Clock + AllocGlobal> Panel<'a, R> {
     // Presses.
     fn press(&mut self, source: &str, press: &Press) -> Result<(), AllocError> {
         let alloc = self.rt.alloc();
-        let button = button_words(alloc, press.button)?;
+        let button = button_words(alloc, press.button, self.desk.together())?;
         let button = button.as_str();
         let what = format!(in alloc; "{source}: {button}")?;
         match press_at(&mut self.desk, press) {

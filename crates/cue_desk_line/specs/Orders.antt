@@ -17,7 +17,8 @@ intent_text (intent.Standby cue) = codes "standby"
 intent_text (intent.Go cue) = codes "go"
 intent_text intent.Cancel = codes "cancel"
 
--- the command intends what the word says
+-- the command intends what the word says; of several cues `standby` alone can be asked
 abbrev pub IsPressedBy : List ℕ → Line → Type 0
 IsPressedBy word (line.Press p) = intent_text p.intent ≡ word
+IsPressedBy word (line.StandBy cue others port name) = codes "standby" ≡ word
 IsPressedBy word _ = ⊥

@@ -258,9 +258,9 @@ fn pressed_or_asked(
     alloc: Global,
     name: &str,
     found: &ArgMatches<'_>,
-    store: Option<&str>,
+    environment: &Environment<'_>,
 ) -> Result<Line, LineFault> {
-    match pressed_in(alloc, name, found, store) {
+    match pressed_in(alloc, name, found, environment) {
         Some(line) => line,
         None => order_in(alloc, name, found),
     }
@@ -271,20 +271,24 @@ fn line_in(
     alloc: Global,
     name: &str,
     found: &ArgMatches<'_>,
-    store: Option<&str>,
+    environment: &Environment<'_>,
 ) -> Result<Line, LineFault> {
     match file_line_in(alloc, name, found) {
         Some(line) => line,
-        None => pressed_or_asked(alloc, name, found, store),
+        None => pressed_or_asked(alloc, name, found, environment),
     }
 }
 
 // The command that `clap` finds.
-fn matched(alloc: Global, words: &[String], store: Option<&str>) -> Result<Line, LineFault> {
+fn matched(
+    alloc: Global,
+    words: &[String],
+    environment: &Environment<'_>,
+) -> Result<Line, LineFault> {
     let command = cuedesk(alloc)?;
     match command.try_get_matches_from(words) {
         Ok(matches) => match matches.subcommand() {
-            Some((name, found)) => line_in(alloc, name, found, store),
+            Some((name, found)) => line_in(alloc, name, found, environment),
             None => Err(unfit(alloc, "cuedesk", "wants a command after it")),
         },
         Err(error) => Err(fault_of(alloc, &error)),
@@ -305,14 +309,14 @@ fn port_of(alloc: Global, text: &str) -> Result<u16, LineFault> {
 
 /// Reads a command line, the program's name first, as `clap` matches it. Where a command speaks to the controller and
 /// its words name no port, the port is the one that CUEDESK_PORT says, where that is set; and where they do not name
-/// who asks, that is who CUEDESK_AS says. CUEDESK_STORE says the folder of the store, for `standby` and `go` without a
-/// cue.
+/// who asks, that is who CUEDESK_AS says. CUEDESK_STORE says the folder of the store, and CUEDESK_FILE the show
+/// file, for `standby` and `go` without a cue.
 pub fn line(
     alloc: Global,
     words: &[String],
     environment: &Environment<'_>,
 ) -> Result<Line, LineFault> {
-    let mut line = matched(alloc, words, environment.store)?;
+    let mut line = matched(alloc, words, environment)?;
     if let (Some(port), Some(text)) = (line.port(), environment.port) {
         if port.is_none() {
             *port = said_port(*port, Some(port_of(alloc, text)?));

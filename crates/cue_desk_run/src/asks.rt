@@ -7,10 +7,11 @@ use crate::addresses::local;
 use crate::naming::name_datagram;
 use cue_asker::AskerName;
 use cue_desk::answered::answer_in;
-use cue_desk::asking::{Asked, address, datagram};
-use cue_desk::orders::{Order, asked_by};
+use cue_desk::orders::Order;
 use cue_desk::replying::{Replied, read_reply};
+use cue_desk::together::{address_with, condensed, datagram_with};
 use cue_osc::MAX_LEN;
+use cue_show::CueNo;
 use cue_station::heard::{Heard, Send};
 use mio::net::UdpSocket;
 use mio::{Interest, Registry, Token};
@@ -35,6 +36,8 @@ const REPLIES: Token = Token(2);
 struct Ask {
     number: u64,
     is_status: bool,
+    // How many cues are asked for: 1, also where none is.
+    count: u8,
     // The address that was asked, as a reply shows it.
     shown: Vec<u8>,
     socket: UdpSocket,
@@ -57,15 +60,17 @@ fn open_socket<R: Net>(rt: &R, registry: &Registry, port: u16) -> io::Result<Udp
     Ok(socket)
 }
 
-// The datagram that asks it.
-fn message_of(alloc: Global, asked: &Asked<'_>) -> io::Result<Vec<u8>> {
-    if !asked.is_askable() {
-        return Err(io::Error::from(ErrorKind::InvalidInput));
-    }
-    let Ok(message) = datagram(alloc, asked) else {
+// The datagram that asks it, and stands these others by, too.
+fn message_of(alloc: Global, order: Order, others: &[CueNo]) -> io::Result<Vec<u8>> {
+    let Ok(message) = datagram_with(alloc, order, others) else {
         return Err(io::Error::from(ErrorKind::OutOfMemory));
     };
     Ok(message)
+}
+
+// How many cues there are with these others.
+fn count_of(others: &[CueNo]) -> u8 {
+    u8::try_from(others.len().saturating_add(1)).unwrap_or(u8::MAX)
 }
 
 // Says who asks from this socket, once. Nobody waits for what becomes of that.
@@ -138,11 +143,11 @@ impl Ask {
         registry: &Registry,
         (port, name): (u16, Option<AskerName>),
         send: Send,
+        others: &[CueNo],
     ) -> io::Result<Ask> {
-        let asked = asked_by(send.order);
-        let mut shown = address(rt.alloc(), &asked)?;
+        let mut shown = address_with(rt.alloc(), send.order, others)?;
         shown.truncate(SHOWN);
-        let message = message_of(rt.alloc(), &asked)?;
+        let message = message_of(rt.alloc(), send.order, others)?;
         let socket = open_socket(rt, registry, port)?;
         match name {
             Some(name) if !is_status(send.order) => {
@@ -156,16 +161,29 @@ impl Ask {
         Ok(Ask {
             number: send.ask,
             is_status: is_status(send.order),
+            count: count_of(others),
             shown,
             socket,
         })
     }
 
-    // What a reply is to this ask: the status if that was asked, else what became of exactly one command.
-    fn is_answer(&self, replied: &Replied) -> bool {
+    // What a reply says of what was asked: of exactly one command, or of several cues as one that is of one command.
+    fn reply_to(&self, replied: Replied) -> Option<Replied> {
+        if self.count > 1 {
+            return condensed(self.count, replied);
+        }
+        answer_in(replied).map(|_| replied)
+    }
+
+    // What a reply is to this ask: the status if that was asked, else what became of the command.
+    fn answer_by(&self, replied: Replied) -> Option<Replied> {
         match replied {
-            Replied::Status(_) => self.is_status,
-            Replied::Reply { .. } => !self.is_status && answer_in(*replied).is_some(),
+            Replied::Status(_) => if self.is_status { Some(replied) } else { None },
+            Replied::Reply { .. } => if self.is_status {
+                None
+            } else {
+                self.reply_to(replied)
+            },
         }
     }
 
@@ -174,10 +192,9 @@ impl Ask {
         let Ok(Some(replied)) = read_reply(alloc, &self.shown, datagram) else {
             return Came::Noise;
         };
-        if self.is_answer(&replied) {
-            Came::Replied(replied)
-        } else {
-            Came::Noise
+        match self.answer_by(replied) {
+            Some(answer) => Came::Replied(answer),
+            None => Came::Noise,
         }
     }
 
@@ -234,15 +251,16 @@ impl Asks {
         }
     }
 
-    /// Sends a message, once, from a socket of its own.
+    /// Sends a message, once, from a socket of its own; a cue is stood by with these others.
     pub fn send<R: Net + AllocGlobal>(
         &mut self,
         rt: &R,
         registry: &Registry,
         send: Send,
+        others: &[CueNo],
     ) -> io::Result<()> {
         self.make_room(is_status(send.order));
-        let ask = Ask::send(rt, registry, (self.port, self.name), send)?;
+        let ask = Ask::send(rt, registry, (self.port, self.name), send, others)?;
         Ok(self.open.push(ask)?)
     }
 

@@ -6,6 +6,8 @@ use crate::reading::Store;
 use crate::relay::read_young;
 use cue_asker::AskerName;
 use cue_core::State;
+use cue_desk::together::companions_of;
+use cue_show_file::Group;
 use cue_station::heard::{Heard, Input, Send};
 use cue_station::memory::Choice;
 use cue_station::station::{Station, Step};
@@ -32,13 +34,16 @@ const MAX_ANSWERS: u32 = 3;
 /// How many events one wait tells of. What is not told is heard all the same.
 const EVENTS: usize = 64;
 
-/// What a desk works with: the folder of a store, a controller's port, the file of a relay, and who presses.
+/// What a desk works with: the folder of a store, a controller's port, the file of a relay, who presses, and which cues
+/// are stood by together.
 #[derive(Clone, Copy)]
 pub struct Sources<'a> {
     pub dir: &'a str,
     pub port: u16,
     pub relay: Option<&'a str>,
     pub name: Option<AskerName>,
+    /// The cues that STANDBY stands by together, for as long as the desk runs.
+    pub together: &'a [Group],
 }
 
 /// A desk.
@@ -57,6 +62,7 @@ pub struct Desk<'a, R> {
     fault: Option<io::Error>,
     store: Store,
     relay: Option<&'a str>,
+    together: &'a [Group],
     ticks: Beat,
     looks: Beat,
     relays: Beat,
@@ -90,6 +96,7 @@ impl<'a, R: Files<File = File> + Net + Clock + AllocGlobal> Desk<'a, R> {
             fault: None,
             store: Store::new(String::from_str(alloc, sources.dir)?),
             relay: sources.relay,
+            together: sources.together,
             ticks: Beat::of(TICK),
             looks: Beat::of(LOOK),
             relays: Beat::of(RELAY),
@@ -101,6 +108,11 @@ impl<'a, R: Files<File = File> + Net + Clock + AllocGlobal> Desk<'a, R> {
     /// The newest view.
     pub fn view(&self) -> &View {
         &self.view
+    }
+
+    /// The cues that STANDBY stands by together.
+    pub fn together(&self) -> &'a [Group] {
+        self.together
     }
 
     /// What the store stood for when it was read last; none if it was never read.
@@ -126,7 +138,8 @@ impl<'a, R: Files<File = File> + Net + Clock + AllocGlobal> Desk<'a, R> {
         let Some(send) = send else {
             return;
         };
-        match self.asks.send(self.rt, self.poll.registry(), send) {
+        let others = companions_of(self.together, send.order);
+        match self.asks.send(self.rt, self.poll.registry(), send, others) {
             Ok(()) => self.has_failed = false,
             Err(why) => {
                 if !self.has_failed {

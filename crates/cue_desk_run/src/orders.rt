@@ -3,6 +3,7 @@ use crate::asks::Asks;
 use crate::clocks::SteadyClock;
 use cue_asker::AskerName;
 use cue_desk::orders::Order;
+use cue_show::CueNo;
 use cue_station::heard::{Heard, Send};
 use mio::{Events, Poll};
 use std::io;
@@ -34,15 +35,17 @@ fn answer_to<R: Clock + AllocGlobal>(
 }
 
 /// Asks one thing of the controller at this port, once, from a socket of its own: its answer, or that nobody listens
-/// there; none if neither came within a second. Who asks is said first, if there is a name.
+/// there; none if neither came within a second. A cue is stood by with these others, and what is answered of several is
+/// `cue_desk::together::condensed`. Who asks is said first, if there is a name.
 pub fn ask_once<R: Net + Clock + AllocGlobal>(
     rt: &R,
     order: Order,
+    others: &[CueNo],
     port: u16,
     name: Option<AskerName>,
 ) -> io::Result<Option<Heard>> {
     let mut poll = Poll::new(rt)?;
     let mut asks = Asks::new(rt.alloc(), port, name);
-    asks.send(rt, poll.registry(), Send { ask: 0, order })?;
+    asks.send(rt, poll.registry(), Send { ask: 0, order }, others)?;
     answer_to(rt, &mut asks, &mut poll)
 }

@@ -4,6 +4,7 @@ mod adding;
 mod asking;
 mod comparing;
 mod counts;
+mod keeping;
 mod order;
 mod progress;
 mod replacing;
@@ -98,13 +99,18 @@ struct Added {
     comes_late: bool,
 }
 
-// Adds what the file has, and compares the store with it if its folder is known.
+// Adds what the file has. If the folder of the store is known, what it had is kept before, and it is compared with the
+// file after.
 fn add_all<R: Files<File = File> + Net + Eprint + AllocGlobal, W: Write>(
     rt: &R,
     sound: &Sound,
     what: Loaded<'_>,
     mut loading: Loading<'_, R, W>,
 ) -> Result<(), Ending> {
+    if let Some(dir) = what.dir {
+        let stored = loading.asker.stored(dir)?;
+        loading.keep(what, dir, &sound.show, &stored)?;
+    }
     let added = loading.run(&sound.file)?;
     let differs = match what.dir {
         Some(dir) => {
@@ -134,8 +140,7 @@ fn replace_all<R: Files<File = File> + Net + Eprint + AllocGlobal, W: Write>(
     dir: &str,
     mut loading: Loading<'_, R, W>,
 ) -> Result<(), Ending> {
-    let is_exact = what.manner == Manner::IsExact;
-    loading.replace(&sound.show, dir, is_exact)?;
+    loading.replace(what, &sound.show, dir)?;
     let stored = loading.asker.stored(dir)?;
     let compared = Compared::replaced(what.path, dir);
     if say_differences(rt, compared, &sound.show, &stored)? {

@@ -4,6 +4,7 @@ use Rattle.std.specs.List.{list_any}
 use Rattle.serde_json.specs.Data.{Data, null, boolean, number, unsigned, string, array, object, Members, member}
 use Rattle.serde_json.specs.Data.{no_members, put}
 use Rattle.serde_json.specs.View.{items_of, view}
+use Rattle.cue_show_file.specs.declared.together.Group.{Group}
 use Rattle.cue_view.specs.declared.view.View.{View}
 use Rattle.cue_request.specs.Lit.{button_data}
 use Rattle.cue_page.specs.Alarms.{alarm_data}
@@ -28,36 +29,43 @@ abbrev pub chosen_data : Option ℕ → Data
 chosen_data None = null
 chosen_data (Some q) = number (unsigned q)
 
+-- the cue to which the way back leads
+abbrev pub back_data : Option (List ℕ) → Data
+back_data None = null
+back_data (Some c) = string c
+
 -- all that a view says
-abbrev pub view_data : ℕ → View → Data
-view_data port v =
+abbrev pub view_data : ℕ → List Group → View → Data
+view_data port groups v =
     object (member (codes "alarms") (array (items_of (map (alarm_data port v.at) v.alarms.items)))
+    (member (codes "back") (back_data v.back)
     (member (codes "chosen") (chosen_data v.chosen)
     (member (codes "last") (told_or_null v.last)
     (member (codes "lit") (array (items_of (map button_data (filter is_other v.lit.items))))
     (member (codes "live") (array (items_of (map (attempt_data v.at) v.live.items)))
     (member (codes "moves") (boolean (list_any is_move v.lit.items))
     (member (codes "network") (array (items_of (map contact_data v.network.items)))
-    (member (codes "next") (next_data v.next)
+    (member (codes "next") (next_data groups v.next)
     (member (codes "number") (number (unsigned v.number))
     (member (codes "past") (array (items_of (map told_data v.past.items)))
     (member (codes "read") (age_data v.at v.read)
     (member (codes "said") (said_data port v.said)
     (member (codes "served") (age_data v.at v.served)
     (member (codes "stack") (array (items_of (map number_data v.stack.items)))
-    (member (codes "unsent") (unsent_data v.unsent) no_members)))))))))))))))
+    (member (codes "unsent") (unsent_data v.unsent) no_members))))))))))))))))
 
 -- the first half of the parts, each by its name, and more members after them
 abbrev pub first_members : FirstHalf → Members → Members
 first_members p more =
     member (codes "alarms") (view p.alarms)
+    (member (codes "back") (view p.back)
     (member (codes "chosen") (view p.chosen)
     (member (codes "last") (view p.last)
     (member (codes "lit") (view p.lit)
     (member (codes "live") (view p.live)
     (member (codes "moves") (boolean p.moves)
     (member (codes "network") (view p.network)
-    (member (codes "next") (view p.next) more)))))))
+    (member (codes "next") (view p.next) more))))))))
 
 -- the second half
 abbrev pub second_members : SecondHalf → Members

@@ -18,6 +18,8 @@ use alarms::alarms_value;
 use buttons::{has_moves, others_value};
 use called::names_value;
 use cue_board::Names;
+use cue_show::CueNo;
+use cue_show_file::{Group, cue_text};
 use cue_view::view::View;
 use ends::{past_value, told_or_null};
 use live::live_value;
@@ -47,10 +49,21 @@ fn chosen_value(chosen: Option<u32>) -> Value
     }
 }
 
+// The cue to which the way back leads; null where there is none.
+fn back_value(alloc: Global, back: Option<CueNo>) -> Result<Value, AllocError>
+    ensures { IfOk result (λ v. view v ≡ page.back_data back) }
+{
+    match back {
+        Some(cue) => Ok(Value::String(String::from_str(alloc, cue_text(&cue))?)),
+        None => Ok(Value::Null),
+    }
+}
+
 // What a view says, part by part: the first half by their names.
 #[derive(Drop)]
 struct FirstHalf {
     alarms: Value,
+    back: Value,
     chosen: Value,
     last: Value,
     lit: Value,
@@ -78,6 +91,7 @@ fn first_members(alloc: Global, half: FirstHalf) -> Result<Map<String, Value>, A
 {
     let FirstHalf {
         alarms,
+        back,
         chosen,
         last,
         lit,
@@ -88,6 +102,7 @@ fn first_members(alloc: Global, half: FirstHalf) -> Result<Map<String, Value>, A
     } = half;
     let mut map = Map::new(alloc);
     put(&mut map, alloc, "alarms", alarms)?;
+    put(&mut map, alloc, "back", back)?;
     put(&mut map, alloc, "chosen", chosen)?;
     put(&mut map, alloc, "last", last)?;
     put(&mut map, alloc, "lit", lit)?;
@@ -144,19 +159,20 @@ fn joined(alloc: Global, parts: Parts) -> Result<Value, AllocError>
 }
 
 // The parts of a view.
-fn parts_of(alloc: Global, shown: &View, port: u16) -> Result<Parts, AllocError>
-    ensures { IfOk result (λ parts. page.parts_data parts ≡ page.view_data port shown.now) }
+fn parts_of(alloc: Global, shown: &View, port: u16, groups: &[Group]) -> Result<Parts, AllocError>
+    ensures { IfOk result (λ parts. page.parts_data parts ≡ page.view_data port groups.now shown.now) }
 {
     let at = shown.at;
     let first = FirstHalf {
         alarms: alarms_value(alloc, &shown.alarms, at, port)?,
+        back: back_value(alloc, shown.back)?,
         chosen: chosen_value(shown.chosen),
         last: told_or_null(alloc, shown.last.as_ref())?,
         lit: others_value(alloc, &shown.lit)?,
         live: live_value(alloc, &shown.live, at)?,
         moves: has_moves(&shown.lit),
         network: network_value(alloc, &shown.network)?,
-        next: next_value(alloc, shown.next)?,
+        next: next_value(alloc, shown.next, groups)?,
     };
     let second = SecondHalf {
         number: shown.number,
@@ -170,11 +186,16 @@ fn parts_of(alloc: Global, shown: &View, port: u16) -> Result<Parts, AllocError>
     Ok(Parts { first, second })
 }
 
-/// What a view says.
-pub fn view_value(alloc: Global, shown: &View, port: u16) -> Result<Value, AllocError>
-    ensures { IfOk result (λ v. view v ≡ page.view_data port shown.now) }
+/// What a view says; these cues are stood by together.
+pub fn view_value(
+    alloc: Global,
+    shown: &View,
+    port: u16,
+    groups: &[Group],
+) -> Result<Value, AllocError>
+    ensures { IfOk result (λ v. view v ≡ page.view_data port groups.now shown.now) }
 {
-    let parts = parts_of(alloc, shown, port)?;
+    let parts = parts_of(alloc, shown, port, groups)?;
     joined(alloc, parts)
 }
 
@@ -225,6 +246,6 @@ pub fn view_text(
     manner: &Manner<'_>,
 ) -> Result<String, AllocError> {
     let called = names_value(alloc, names)?;
-    let facts = view_value(alloc, shown, names.port)?;
+    let facts = view_value(alloc, shown, names.port, names.together)?;
     page_value(alloc, &called, manner, &facts)?.to_string(alloc)
 }

@@ -88,6 +88,7 @@ const BODY: &str = r#"">
 <input id="find" type="text" placeholder="Find" autocomplete="off" spellcheck="false"
  aria-label="Find a cue by its number or its name">
 <span id="found" role="status"></span>
+<button id="back" class="small" type="button" hidden></button>
 <button id="to-place" class="small stays" type="button">To the place</button></div>
 <fieldset id="moves" disabled aria-label="The cues of the stack">
 <div id="list" tabindex="0"><ol id="stack"></ol></div></fieldset>

@@ -11,6 +11,7 @@ ending_by became.Made = None
 ending_by became.Known = None
 ending_by became.Carried = None
 ending_by (became.Refused code) = Some ending.Refused
+ending_by (became.Partly code) = Some ending.Refused
 ending_by became.Nobody = Some ending.Silent
 ending_by became.Open = Some ending.Silent
 ending_by became.Lost = Some ending.Silent

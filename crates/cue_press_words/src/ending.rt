@@ -11,7 +11,7 @@ pub fn ending_by(became: Became) -> Option<Ending>
 {
     match became {
         Became::Made | Became::Known | Became::Carried => None,
-        Became::Refused(_) => Some(Ending::Refused),
+        Became::Refused(_) | Became::Partly(_) => Some(Ending::Refused),
         Became::Nobody | Became::Open | Became::Lost | Became::Unknown => Some(Ending::Silent),
     }
 }

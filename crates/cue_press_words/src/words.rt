@@ -1,8 +1,9 @@
 //! Wishes, keys and presses in words, and why nothing is pressed.
-use cue_board::alarm_words;
+use cue_board::{alarm_words, with_words};
 use cue_exchange::{Answer, Answers, Stage};
 use cue_presses::{Intent, Key, Spoken, Why};
 use cue_show::CueNo;
+use cue_show_file::{Group, others_of};
 use cue_view::button::Button;
 use cue_view::view::{Alarm, LiveAttempt, Next, View};
 use std::alloc::{AllocError, Global};
@@ -36,10 +37,17 @@ pub fn intent_words(alloc: Global, intent: &Intent) -> Result<String, AllocError
     }
 }
 
-/// A button in words, as `GO of cue 12`.
-pub fn button_words(alloc: Global, button: Button) -> Result<String, AllocError> {
+// STANDBY of a cue, with those that stand by together with it.
+fn standby_words(alloc: Global, cue: CueNo, groups: &[Group]) -> Result<String, AllocError> {
+    let with = with_words(alloc, others_of(groups, cue))?;
+    let (cue, with) = (cue.text().escape_ascii(), with.as_str());
+    format!(in alloc; "STANDBY of cue {cue}{with}")
+}
+
+/// A button in words, as `GO of cue 12`. These cues are stood by together.
+pub fn button_words(alloc: Global, button: Button, groups: &[Group]) -> Result<String, AllocError> {
     match button {
-        Button::Standby(cue) => named_words(alloc, "STANDBY", Some(cue)),
+        Button::Standby(cue) => standby_words(alloc, cue, groups),
         Button::Go(cue, _) => named_words(alloc, "GO", Some(cue)),
         Button::Cancel(cue, _) => named_words(alloc, "CANCEL", Some(cue)),
         Button::MoveTo(cue) => named_words(alloc, "move", Some(cue)),

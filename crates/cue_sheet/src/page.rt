@@ -2,7 +2,7 @@
 mod style;
 
 use crate::sent::sent_text;
-use crate::text::place_text;
+use crate::text::{place_text, together_text};
 use cue_html::{HEAD, push_escaped};
 use cue_show::Part;
 use cue_show_file::{CueEntry, DeviceEntry, ShowFile, cue_text};
@@ -108,6 +108,12 @@ impl Page<'_> {
             self.text.push_str("</div>")?;
         }
         self.push_marks(entry)?;
+        let together = together_text(self.alloc, entry)?;
+        if !together.is_empty() {
+            self.text.push_str("<div class=\"together\">")?;
+            self.push_text(together.as_str())?;
+            self.text.push_str("</div>")?;
+        }
         if let Some(note) = &entry.note {
             self.text.push_str("<div class=\"note\" dir=\"auto\">")?;
             self.push_text(note.as_str())?;

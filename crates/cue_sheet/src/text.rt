@@ -4,7 +4,7 @@ ghost use Rattle.cue_board.specs.Columns.{AreFit};
 
 use crate::cells::{Cell, GAP, push_row};
 use crate::sent::sent_text;
-use cue_board::{COLUMNS, fitted};
+use cue_board::{COLUMNS, fitted, with_words};
 use cue_show::Part;
 use cue_show_file::{CueEntry, DeviceEntry, ShowFile, cue_text};
 use std::alloc::{AllocError, Global};
@@ -55,6 +55,16 @@ pub(crate) fn marks_text(alloc: Global, entry: &CueEntry) -> Result<String, Allo
         (None, Some(flag)) => format!(in alloc; "flag {}", flag.word()),
         (None, None) => Ok(String::new(alloc)),
     }
+}
+
+/// With which cues a cue is stood by; empty if it is stood by alone.
+pub(crate) fn together_text(alloc: Global, entry: &CueEntry) -> Result<String, AllocError> {
+    let others = entry.companions.as_slice();
+    if others.is_empty() {
+        return Ok(String::new(alloc));
+    }
+    let with = with_words(alloc, others)?;
+    format!(in alloc; "stood by{}", with.as_str())
 }
 
 impl Sheet<'_> {
@@ -132,6 +142,10 @@ impl Sheet<'_> {
         let marks = marks_text(self.alloc, entry)?;
         if !marks.is_empty() {
             self.push_beside("", marks.as_str())?;
+        }
+        let together = together_text(self.alloc, entry)?;
+        if !together.is_empty() {
+            self.push_beside("", together.as_str())?;
         }
         match &entry.note {
             Some(note) => {

@@ -34,6 +34,7 @@ use Rattle.cue_station.specs.Choosing.{chosen_by_press, chosen_by_sending, chose
 use Rattle.cue_station.specs.Choosing.{is_refused}
 use Rattle.cue_station.specs.Lighting.{footing_of, is_live_as, is_ready, is_number, may, may_by}
 use Rattle.cue_station.specs.Memory.{IsAfter, IsKept, if_open, is_beside, open_in, turn_of}
+use Rattle.cue_station.specs.Moving.{moved_by, place_by}
 use Rattle.cue_station.specs.Network.{relayed_with}
 use Rattle.cue_station.specs.Noting.{beside_after, footing_by, order_by, press_after, send_by, waits_by}
 use Rattle.cue_station.specs.Offering.{is_offered, kept_in, kept_of}
@@ -345,6 +346,8 @@ step-after past s i m k makes =
           ∙ ap (λ o. given_in (seen_after s.seen.items i.at o) q) n.reading
           ∙ given-seen s.seen.items i.at q (given_since q past) (k.given q) r;
       choice = ap (λ (x : Notes). x.choice) makes.notes ∙ ap (chosen_by_sending m.step.send) (choice-kept past s k i);
+      moved = ap (λ (x : Notes). x.moved) makes.notes
+          ∙ ap₂ (λ o v. moved_by m.step.send (place_by o) v) n.reading k.moved;
       views = ap (λ x. kept_with x s.views.items) makes.shown ∙ ap (kept_with (shown_in m.step.view)) k.views
           ∙ take_front KEPT_VIEWS (kept_in t) (map kept_in past);
       press = ep ∙ newest-sent sent f s.notes.press (presses_of past) k.press;

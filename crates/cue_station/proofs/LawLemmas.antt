@@ -35,6 +35,7 @@ use Rattle.cue_station.specs.Drawing.{ShowsReading, alarms_of, facts_of, live_by
 use Rattle.cue_station.specs.Laws.{Keeps, LitIsSo, PressIsSo, StatusIsAsked}
 use Rattle.cue_station.specs.Lighting.{may, may_by}
 use Rattle.cue_station.specs.Memory.{IsAfter, IsKept, turn_of}
+use Rattle.cue_station.specs.Moving.{back_by, place_by}
 use Rattle.cue_station.specs.Network.{network_by, relayed_of, relayed_with}
 use Rattle.cue_station.specs.Noting.{footing_by, order_by, send_by}
 use Rattle.cue_station.specs.Offering.{is_offered, is_recent, kept_of}
@@ -290,6 +291,7 @@ step-keeps past s i m k makes =
           (since_in m.seen.items) (λ q. seen_since q turns) (given_in m.seen.items) (λ q. given_since q turns)
           after.since after.given i.at i.wall m.step.view r makes.view.copy);
       chosen = makes.view.chosen ∙ ap chosen_number after.choice;
+      back = makes.view.back ∙ ap₂ (λ v o. back_by v (place_by o)) after.moved after.reading;
       alarm = makes.view.alarms
           ∙ alarms-kept turns m.notes r relay m.seen.items (kept_with m.shown s.views.items) after i.at i.wall;
       network = makes.view.network ∙ ap (λ o. network_by o i.at) after.relay;

@@ -31,6 +31,7 @@ numbered n r relay seen f v number unsent k =
       read = k.read;
       served = k.served;
       chosen = k.chosen;
+      back = k.back;
       said = k.said;
       copy = shows_numbered f.stands (since_in seen) (given_in seen) f.at f.wall v number unsent r k.copy;
       lit = k.lit;

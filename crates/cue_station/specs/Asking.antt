@@ -37,12 +37,14 @@ is_press_sent (Some s) = not (is_status s.order)
 abbrev pub counts : ℤ → ℤ → ℤ → ℕ → ℕ → ℕ → Bool
 counts made known refused m k r = int_eq made (pos m) && (int_eq known (pos k) && int_eq refused (pos r))
 
--- what the reply to one command says; none where it is the reply to none, or to several
+-- what the reply to one press says: its numbers are 0 or 1. Made and refused are both 1 where only some of several cues
+-- were stood by; none where it speaks of nothing
 abbrev pub word_by : ℤ → ℤ → ℤ → ℤ → Option Became
 word_by made known refused code =
     if counts made known refused 1 0 0 then Some became.Made
     else if counts made known refused 0 1 0 then Some became.Known
-    else if counts made known refused 0 0 1 then Some (became.Refused code) else None
+    else if counts made known refused 0 0 1 then Some (became.Refused code)
+    else if counts made known refused 1 0 1 then Some (became.Partly code) else None
 
 abbrev pub word_in : Replied → Option Became
 word_in (replied.Reply made known refused code) = word_by made known refused code

@@ -19,6 +19,7 @@ use Rattle.cue_station.specs.Choosing.{chosen_of, chosen_number}
 use Rattle.cue_station.specs.Drawing.{ShowsReading, alarms_of}
 use Rattle.cue_station.specs.Lighting.{may}
 use Rattle.cue_station.specs.Network.{network_by, relayed_of}
+use Rattle.cue_station.specs.Moving.{back_by, moved_of, place_by}
 use Rattle.cue_station.specs.Offering.{is_lit}
 use Rattle.cue_station.specs.Pacing.{is_overdue}
 use Rattle.cue_station.specs.Pressing.{IsOfPress, asks_of, is_heeded, order_of, unsent_of}
@@ -82,6 +83,10 @@ CopyIsSo t past =
 abbrev pub NoHop : Turn → List Turn → Type 0
 NoHop t past = t.view.chosen ≡ chosen_number (chosen_of (t ∷ past))
 
+-- THE WAY BACK IS SO: where the last press moved the place from, as long as the place is where it moved it.
+abbrev pub BackIsSo : Turn → List Turn → Type 0
+BackIsSo t past = t.view.back ≡ back_by (moved_of (t ∷ past)) (place_by (reading_of (t ∷ past)))
+
 -- WHAT IS WRONG IS SAID, the loudest first, and nothing else is.
 abbrev pub AlarmIsSo : Turn → List Turn → Type 0
 AlarmIsSo t past = t.view.alarms.items ≡ alarms_of (t ∷ past) t.input.at t.input.wall
@@ -103,6 +108,7 @@ pub record Keeps (t : Turn) (past : List Turn) : Type 0 where
   pub age : AgeIsSo t past
   pub copy : CopyIsSo t past
   pub chosen : NoHop t past
+  pub back : BackIsSo t past
   pub alarm : AlarmIsSo t past
   pub network : NetworkIsSo t past
   pub newest : IsNewest t past

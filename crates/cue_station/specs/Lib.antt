@@ -12,6 +12,7 @@ pub mod Drawing
 pub mod Asking
 pub mod Opening
 pub mod Choosing
+pub mod Moving
 pub mod Lighting
 pub mod Smaller
 pub mod Pressing

@@ -17,6 +17,7 @@ use Rattle.cue_station.specs.Asking.{is_final, is_open, newest_of, presses_of}
 use Rattle.cue_station.specs.Choosing.{chosen_of}
 use Rattle.cue_station.specs.Laws.{Keeps}
 use Rattle.cue_station.specs.Network.{relayed_of}
+use Rattle.cue_station.specs.Moving.{moved_of}
 use Rattle.cue_station.specs.Offering.{kept_of}
 use Rattle.cue_station.specs.Pressing.{asks_of}
 use Rattle.cue_station.specs.Reading.{answered_of, question_of, reading_of, seen_since}
@@ -57,6 +58,7 @@ pub record IsKept (turns : List Turn) (n : Notes) (copied : Option Reading) (rel
   pub since : (q : ℕ) → since_in attempts q ≡ seen_since q turns
   pub given : (q : ℕ) → given_in attempts q ≡ given_since q turns
   pub choice : n.choice ≡ chosen_of turns
+  pub moved : n.moved ≡ moved_of turns
   pub views : newest ≡ kept_of turns
   pub press : n.press ≡ newest_of (presses_of turns)
   pub opened : open_in (reading_of turns) n.press n.beside ≡ filter (is_open (reading_of turns)) (presses_of turns)

@@ -19,6 +19,7 @@ use Rattle.cue_station.specs.Alarms.{acknowledged_by, differs_by, failures_by, l
 use Rattle.cue_station.specs.Alarms.{trouble_with}
 use Rattle.cue_station.specs.Asking.{first_of, followed, sent_press}
 use Rattle.cue_station.specs.Choosing.{chosen_by_press, chosen_by_sending, chosen_number, grown}
+use Rattle.cue_station.specs.Moving.{moved_by, place_by}
 use Rattle.cue_station.specs.Memory.{if_open}
 use Rattle.cue_station.specs.Opening.{has_ask, is_some_final}
 use Rattle.cue_station.specs.Pressing.{ask_after, order_of}
@@ -109,6 +110,7 @@ notes_sent h at r send n =
       next_ask = ask_after send n.next_ask;
       question = question_with send at n.question;
       choice = chosen_by_sending send n.choice;
+      moved = moved_by send (place_by r) n.moved;
       press = press_after (sent_press h at send) n.press;
       beside = beside_after r (sent_press h at send) n.press n.beside;
     }

@@ -43,6 +43,7 @@ first_notes =
       beside = None;
       failed = None;
       acknowledged = None;
+      moved = None;
     }
 
 -- what is kept of a view

@@ -17,6 +17,7 @@ use Rattle.cue_station.specs.Alarms.{alarms_by, asked_at, failures_by, put_back_
 use Rattle.cue_station.specs.Asking.{said_by}
 use Rattle.cue_station.specs.Drawing.{ShowsReading, live_by}
 use Rattle.cue_station.specs.Following.{next_in}
+use Rattle.cue_station.specs.Moving.{back_by, place_by}
 use Rattle.cue_station.specs.Lighting.{keys_of, may_in}
 use Rattle.cue_station.specs.Network.{network_by}
 use Rattle.cue_station.specs.Smaller.{smaller_of}
@@ -94,6 +95,7 @@ pub record IsView (n : Notes) (r : Option Reading) (relay : Option Relayed) (see
   pub read : v.read ≡ read_at r
   pub served : v.served ≡ asked_at n.answered
   pub chosen : v.chosen ≡ f.chosen
+  pub back : v.back ≡ back_by n.moved (place_by r)
   pub said : v.said ≡ option_map said_by n.press
   pub copy : ShowsReading f.stands (since_in seen) (given_in seen) f.at f.wall v r
   pub lit : LightsBy f seen r v.stack.items v.alarms.items v.lit.items

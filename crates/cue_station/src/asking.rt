@@ -31,7 +31,7 @@ fn are_counts(made: i32, known: i32, refused: i32, m: u8, k: u8, r: u8) -> bool
     is_count(made, m) && (is_count(known, k) && is_count(refused, r))
 }
 
-// What a reply of these numbers says of one command.
+// What a reply of these numbers says of one press.
 fn word_by(made: i32, known: i32, refused: i32, code: i32) -> Option<Became>
     ensures { result ≡ asking.word_by made known refused code }
 {
@@ -41,6 +41,8 @@ fn word_by(made: i32, known: i32, refused: i32, code: i32) -> Option<Became>
         Some(Became::Known)
     } else if are_counts(made, known, refused, 0, 0, 1) {
         Some(Became::Refused(code))
+    } else if are_counts(made, known, refused, 1, 0, 1) {
+        Some(Became::Partly(code))
     } else {
         None
     }

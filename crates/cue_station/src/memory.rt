@@ -114,6 +114,13 @@ pub struct Pending {
     pub settled: Option<Became>,
 }
 
+/// A press that moved the place: from where, and to where.
+#[derive(Clone, Copy)]
+pub struct Moved {
+    pub from: CueNo,
+    pub to: CueNo,
+}
+
 /// What the desk keeps beside the copy of the store and its lists.
 #[derive(Clone, Copy)]
 pub struct Notes {
@@ -140,6 +147,8 @@ pub struct Notes {
     pub failed: Option<u32>,
     /// The newest failure of which a press said that it was seen.
     pub acknowledged: Option<u32>,
+    /// The last press, if that moved the place.
+    pub moved: Option<Moved>,
 }
 
 /// What says when the status is to be asked again. Nothing that is shown or sent for a press rests on it.

@@ -15,6 +15,7 @@ use crate::heard::{Heard, Send};
 use crate::hearing::{answered_with, question_with};
 use crate::lighting::{Footing, differs_by, stands_by};
 use crate::memory::{Answered, Choice, Notes, Pending, Question, Reading, Shown};
+use crate::moving::{moved_by, place_by};
 use crate::opening::{are_none, if_open, is_none_final, is_one_ask};
 use crate::remembering::{differs_with, failed_with, nobody_with, trouble_with};
 use cue_desk::orders::Order;
@@ -213,6 +214,7 @@ fn with_message(
         next_ask,
         question: question_with(notes.question, send.ask, send.order, at),
         choice: chosen_by_order(notes.choice, send.order, send.ask),
+        moved: moved_by(send, place_by(reading), notes.moved),
         ..sent
     }
 }

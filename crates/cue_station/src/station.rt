@@ -64,6 +64,7 @@ fn first_notes() -> Notes
         beside: None,
         failed: None,
         acknowledged: None,
+        moved: None,
     }
 }
 

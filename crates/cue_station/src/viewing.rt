@@ -13,6 +13,7 @@ use crate::heard::Copied;
 use crate::lighting::{Footing, asked_at, read_at};
 use crate::lit::lit_of;
 use crate::memory::{Notes, Reading, Relayed, Seen};
+use crate::moving::{back_by, place_by};
 use crate::network::network_in;
 use crate::showing::{live_of, stack_of};
 use crate::telling::{last_of, past_of};
@@ -216,6 +217,7 @@ pub(crate) fn view_of(
         served: asked_at(&notes.answered),
         next,
         place,
+        back: back_by(notes.moved, place_by(reading)),
         stack,
         live,
         chosen: footing.chosen,

@@ -83,9 +83,11 @@ pub enum Became {
     Made,
     Known,
     Refused(i32),
+    /// Of several cues some were stood by, and others not, by this code.
+    Partly(i32),
     /// Nobody listens at the port: it was not carried out.
     Nobody,
-    /// No reply came; the store shows that it was carried out.
+    /// No reply came; the store shows that it was carried out: of several cues at least the first was stood by.
     Carried,
     /// No reply came; the store shows that it was not carried out.
     Lost,
@@ -178,6 +180,8 @@ pub struct View {
     pub served: Option<u64>,
     pub next: Next,
     pub place: Option<CueNo>,
+    /// Where the last press moved the place from, as long as the place is the cue that it moved to.
+    pub back: Option<CueNo>,
     /// All cues, in order.
     pub stack: Vec<CueNo>,
     pub live: Vec<LiveAttempt>,

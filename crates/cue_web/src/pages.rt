@@ -119,6 +119,7 @@ impl<'a> Pages<'a> {
         }
         let names = Names {
             file: self.beside.file.as_ref(),
+            together: desk.together(),
             port: self.beside.port,
         };
         let manner = Manner {

@@ -52,10 +52,12 @@ fn perform(rt: &HostRuntime) -> io::Result<u8> {
     let words = words(rt)?;
     let port = said(rt, "CUEDESK_PORT")?;
     let store = said(rt, "CUEDESK_STORE")?;
+    let file = said(rt, "CUEDESK_FILE")?;
     let name = said(rt, "CUEDESK_AS")?;
     let environment = Environment {
         port: port.as_deref(),
         store: store.as_deref(),
+        file: file.as_deref(),
         name: name.as_deref(),
     };
     let is_terminal = rt.stdout().is_terminal();

@@ -22,12 +22,14 @@ use board::{show_board, window_of};
 use buttons::hear_buttons;
 use cue_desk::ending::Ending;
 use cue_desk::line::LineFault;
+use cue_desk::orders::Order;
 use cue_desk::ports::{PORT, controller_port};
 use cue_desk_line::{Environment, Line, line};
 use cue_files_run::{check_file, export};
 use cue_loading_run::{Loaded, load};
+use cue_operator::CueVerb;
 use cue_saying::{print, say};
-use cue_show_file::ShowFile;
+use cue_show_file::{Group, ShowFile, groups_of};
 use new::write_new;
 use next::press_word;
 use orders::carry_order;
@@ -35,6 +37,7 @@ use rehearsing::rehearse;
 use relaying::relay_devices;
 use reporting::report_evening;
 use sheet::print_sheet;
+use std::alloc::{AllocError, Global};
 use std::fs::{File, Files};
 use std::io::{Eprint, Write};
 use std::net::Net;
@@ -45,6 +48,14 @@ use web::serve_page;
 /// The port of the controller: the one that was said, else that of the show file, else 9100.
 pub fn port_of(said: Option<u16>, file: Option<&ShowFile>) -> u16 {
     controller_port(said, file.and_then(|file| file.port))
+}
+
+/// The cues of a show file that are stood by together; none without a file.
+pub fn groups_in(alloc: Global, file: Option<&ShowFile>) -> Result<Vec<Group>, AllocError> {
+    match file {
+        Some(file) => groups_of(alloc, file),
+        None => Ok(Vec::new(alloc)),
+    }
 }
 
 // The exit status of a command that is not done. If its output failed, that is said.
@@ -122,8 +133,24 @@ fn carry_out<R: Files<File = File> + Net + Clock + RandomSource + Eprint + Alloc
         }
         Line::Report(report) => report_evening(rt, report, writer),
         Line::Ask { order, port, name } => {
-            carry_order(rt, *order, controller_port(*port, None), *name, writer)
-        },
+            carry_order(rt, *order, &[], controller_port(*port, None), *name, writer)
+        }
+        Line::StandBy {
+            cue,
+            others,
+            port,
+            name,
+        } => {
+            let order = Order::OfCue(CueVerb::Standby, *cue);
+            carry_order(
+                rt,
+                order,
+                others,
+                controller_port(*port, None),
+                *name,
+                writer,
+            )
+        }
     }
 }
 

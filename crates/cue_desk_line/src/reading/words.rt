@@ -7,6 +7,7 @@ use super::web::Web;
 use cue_asker::AskerName;
 use cue_desk::orders::Order;
 use cue_loading::Manner;
+use cue_show::CueNo;
 
 /// What the environment says, where a command line does not.
 #[derive(Clone, Copy)]
@@ -15,6 +16,8 @@ pub struct Environment<'a> {
     pub port: Option<&'a str>,
     /// CUEDESK_STORE: the folder of the store.
     pub store: Option<&'a str>,
+    /// CUEDESK_FILE: the show file.
+    pub file: Option<&'a str>,
     /// CUEDESK_AS: who asks.
     pub name: Option<&'a str>,
 }
@@ -87,6 +90,14 @@ pub enum Line {
     },
     /// Tell an evening by its log.
     Report(Report),
+    /// Stand a cue by, and with it the others.
+    StandBy {
+        cue: CueNo,
+        others: Vec<CueNo>,
+        port: Option<u16>,
+        /// Who asks, where the command line or the environment says it.
+        name: Option<AskerName>,
+    },
     /// Ask one thing.
     Ask {
         order: Order,
@@ -103,6 +114,7 @@ impl Line {
             Line::Load { port, .. } | Line::Relay { port, .. } | Line::Ask { port, .. } => {
                 Some(port)
             }
+            Line::StandBy { port, .. } => Some(port),
             Line::Board { watched, .. } => Some(&mut watched.port),
             Line::Web(web) => Some(&mut web.port),
             Line::Buttons(buttons) => Some(&mut buttons.port),
@@ -119,7 +131,7 @@ impl Line {
     /// Who asks, of a command that asks the controller for something.
     pub fn name(&mut self) -> Option<&mut Option<AskerName>> {
         match self {
-            Line::Ask { name, .. } => Some(name),
+            Line::Ask { name, .. } | Line::StandBy { name, .. } => Some(name),
             Line::Web(web) => Some(&mut web.name),
             Line::Buttons(buttons) => Some(&mut buttons.name),
             Line::Press(pressed) => Some(&mut pressed.name),

@@ -45,6 +45,11 @@ impl<'a, R: Net + Eprint + AllocGlobal> Asker<'a, R> {
         self.rt
     }
 
+    /// The port of the controller.
+    pub fn port(&self) -> u16 {
+        self.port
+    }
+
     /// Where memory is taken from.
     pub fn alloc(&self) -> Global {
         self.rt.alloc()

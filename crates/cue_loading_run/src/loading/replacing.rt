@@ -1,10 +1,10 @@
 //! A plan puts a show file in the place of what differs from it in the store: one message for each of its steps.
-use super::Loading;
 use super::counts::{Became, Counts};
+use super::{Loaded, Loading};
 use cue_desk::answered::{Answered, refusal_of_removal};
 use cue_desk::asking::Asked;
 use cue_desk::ending::Ending;
-use cue_loading::{Step, plan};
+use cue_loading::{Manner, Step, plan};
 use cue_operator::CueVerb;
 use cue_show::{CueNo, DeviceNo, Parts, Show};
 use cue_show_file::Subject;
@@ -130,14 +130,22 @@ impl<'a, R: Files<File = File> + Net + Eprint + AllocGlobal, W: Write> Loading<'
     }
 
     /// Puts the show of the file in the place of what differs from it in the store of this folder. What the file does
-    /// not have keeps its place there, or is removed. While a cue is live nothing is asked.
-    pub(super) fn replace(&mut self, file: &Show, dir: &str, is_exact: bool) -> Result<(), Ending> {
+    /// not have keeps its place there, or is removed. What the store had is kept before. While a cue is live nothing is
+    /// asked.
+    pub(super) fn replace(
+        &mut self,
+        what: Loaded<'_>,
+        file: &Show,
+        dir: &str,
+    ) -> Result<(), Ending> {
+        let is_exact = what.manner == Manner::IsExact;
         let stored = self.asker.stored_at_rest(dir)?;
         let alloc = self.asker.alloc();
         let Some(steps) = plan(alloc, is_exact, file, &stored)? else {
             self.asker.say_full();
             return Err(Ending::Refused);
         };
+        self.keep(what, dir, file, &stored)?;
         self.progress.expect_only(steps.len());
         self.carry_all_out(&steps, stored.place())?;
         let devices = count_devices(file, &stored, is_exact);

@@ -16,7 +16,8 @@ fn kind_of(became: Became) -> &'static str
     match became {
         Became::Open => "open",
         Became::Made | Became::Known | Became::Carried => "made",
-        Became::Refused(_) | Became::Nobody | Became::Lost | Became::Unknown => "refused",
+        Became::Refused(_) | Became::Partly(_) => "refused",
+        Became::Nobody | Became::Lost | Became::Unknown => "refused",
     }
 }
 

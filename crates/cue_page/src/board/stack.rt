@@ -5,7 +5,7 @@ ghost use Rattle.serde_json.specs.View.{items_of, view};
 ghost use Rattle.cue_page.specs.Stack as stack;
 
 use cue_show::CueNo;
-use cue_show_file::cue_text;
+use cue_show_file::{Group, cue_text, others_of};
 use cue_view::view::Next;
 use serde_json::{Value, json};
 use std::alloc::{AllocError, Global};
@@ -32,12 +32,23 @@ fn why(next: Next) -> &'static str
     }
 }
 
-/// The cue that is next, or why none is.
-pub fn next_value(alloc: Global, next: Next) -> Result<Value, AllocError>
-    ensures { IfOk result (λ v. view v ≡ stack.next_data next) }
+// The cues that are stood by together with the one that is next.
+fn companions_of(groups: &[Group], next: Next) -> &[CueNo]
+    ensures { result.now ≡ stack.companions_of groups.now next }
+{
+    match next {
+        Next::Cue(cue) => others_of(groups, cue),
+        Next::Empty | Next::End | Next::Unknown => &[],
+    }
+}
+
+/// The cue that is next with those that are stood by together with it, or why none is.
+pub fn next_value(alloc: Global, next: Next, groups: &[Group]) -> Result<Value, AllocError>
+    ensures { IfOk result (λ v. view v ≡ stack.next_data groups.now next) }
 {
     let (cue, why) = (cue_value(alloc, next)?, why(next));
-    json!(in alloc; {"cue": cue, "why": why})
+    let with = stack_value(alloc, companions_of(groups, next))?;
+    json!(in alloc; {"cue": cue, "why": why, "with": with})
 }
 
 /// The stack: the numbers of its cues, in order.

@@ -43,6 +43,7 @@ const cueName = (cue) => factsOf(cue).name;
 const deviceName = (device) => names.devices.get(device) || "";
 const called = (number, name) => name ? number + " " + name : "" + number;
 const cueWords = (told) => told.cue === null ? "attempt " + told.attempt : "cue " + called(told.cue, cueName(told.cue));
+const withWords = (cues) => cues.length ? " with " + cues.join(", ") : "";
 const devicesWords = (devices) => devices.map((device) => called(device, deviceName(device))).join(", ");
 
 // What the show file marks a cue with: a sign of its flag with the word, and a bar of its colour with the word.

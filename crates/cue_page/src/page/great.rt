@@ -8,7 +8,7 @@ const KEYS = "S is STANDBY, space is GO, Esc is CANCEL, R twice releases who GO 
 function showKey(id, dark) {
   const lit = litOf(id, () => true);
   if (at(id).disabled === !!lit) at(id).disabled = !lit;
-  write(id + "-cue", lit ? "cue " + lit.cue : dark);
+  write(id + "-cue", lit ? "cue " + lit.cue + (id === "standby" ? withWords(view.next.with) : "") : dark);
 }
 
 const chosenAttempt = () => view.live.find((attempt) => attempt.attempt === view.chosen && isOpen(attempt));
@@ -47,14 +47,20 @@ function goWords() {
   return "waits for " + (waits.length > 2 ? waits.length + " devices" : devicesWords(waits));
 }
 
+// A press in words: STANDBY of the next cue names those that stand by together with it.
+function pressWords(press) {
+  const isNext = view.next.cue !== null && press === "standby " + view.next.cue;
+  return press + (isNext ? withWords(view.next.with) : "");
+}
+
 function showWords() {
   const said = view && view.said, noted = now() < note.until;
   at("words").className = noted ? note.kind : said ? said.kind : "";
-  write("words", noted ? note.words : said ? said.press + ": " + said.words : KEYS);
+  write("words", noted ? note.words : said ? pressWords(said.press) + ": " + said.words : KEYS);
 }
 
 function showKeys() {
-  showKey("standby", view && view.next.cue !== null ? "cue " + view.next.cue : "no cue");
+  showKey("standby", view && view.next.cue !== null ? "cue " + view.next.cue + withWords(view.next.with) : "no cue");
   showKey("go", goWords());
   showKey("cancel", "");
 }

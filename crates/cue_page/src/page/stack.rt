@@ -69,13 +69,22 @@ function showArmed() {
 }
 
 function nextCard() {
-  const { cue, why } = view.next;
+  const { cue, why, with: others } = view.next;
   if (cue === null) return [make("p", "empty", why)];
   const title = make("strong"), { name, note, color } = factsOf(cue);
   title.append(make("span", "number", cue), " " + name);
   const marked = make("div", "marks");
   marked.append(...marks(cue));
-  return [make("span", "bar " + (color || "")), marked, title, make("span", "note", note)];
+  const together = make("span", "together", withWords(others.map((one) => called(one, cueName(one)))));
+  return [make("span", "bar " + (color || "")), marked, title, together, make("span", "note", note)];
+}
+
+// The way back after a move: the move to that cue, as long as the view has it.
+function showBack() {
+  const cue = view.back, press = "goto " + cue;
+  at("back").hidden = cue === null;
+  at("back").disabled = !canMove() || !view.stack.includes(cue);
+  dress(at("back"), sure.press === press, "Back to cue " + cue, "Move the place back to cue " + cue);
 }
 
 function showStack() {
@@ -83,6 +92,7 @@ function showStack() {
   if (at("moves").disabled === canMove()) at("moves").disabled = !canMove();
   showHere();
   showArmed();
+  showBack();
   place("next", nextCard, JSON.stringify([view.next, renamed]));
 }
 
@@ -91,6 +101,11 @@ at("stack").addEventListener("click", (event) => {
   if (!move || !canMove()) return;
   if (event.detail > 0) move.blur();
   pressTwice("goto " + move.dataset.cue);
+});
+
+at("back").addEventListener("click", (event) => {
+  if (event.detail > 0) event.currentTarget.blur();
+  if (canMove() && view.back !== null) pressTwice("goto " + view.back);
 });
 
 at("to-place").addEventListener("click", (event) => {

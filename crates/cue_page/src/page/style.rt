@@ -66,12 +66,14 @@ section { min-height: 0; min-width: 0; overflow: auto; }
   border: 1px solid var(--line); border-radius: .5rem; padding: .6rem 1rem; margin: .4rem 0 .8rem;
   overflow-wrap: anywhere; }
 .next > * { grid-column: 2; }
-.next .bar { grid-column: 1; grid-row: 1 / span 5; width: .8rem; }
+.next .bar { grid-column: 1; grid-row: 1 / span 6; width: .8rem; }
 .next .empty { grid-column: 1 / -1; }
 .marks { display: flex; flex-wrap: wrap; gap: .3rem .6rem; align-items: center; }
 .next .flag { font-size: 1.2rem; padding: 0 .7rem; margin-bottom: .2rem; }
 .next .flag.danger { font-size: 2rem; line-height: 1.25; letter-spacing: .08em; }
 .next strong { font-size: 1.7rem; line-height: 1.2; display: block; }
+.next .together { font-size: 1.2rem; font-weight: 700; }
+.next .together:empty { display: none; }
 .next .note { color: var(--soft); }
 .attempt { background: var(--panel); border: 2px solid var(--line); border-radius: .5rem; padding: .6rem 1rem;
   margin-top: .4rem; }

@@ -5,8 +5,8 @@ ghost use Rattle.cuedesk.specs.Windows.{window_of};
 mod screen;
 
 use super::beside::{file_line, read_log, relay_line};
-use super::port_of;
 use super::renewing::{Renewed, begin};
+use super::{groups_in, port_of};
 use cue_board::{Names, board_lines};
 use cue_desk::ending::Ending;
 use cue_desk_line::Watched;
@@ -108,6 +108,7 @@ impl<'a, R: Files<File = File> + Net + Clock + AllocGlobal> Board<'a, R> {
     fn lines(&self) -> Result<Vec<String>, AllocError> {
         let names = Names {
             file: self.file.as_ref(),
+            together: self.desk.together(),
             port: self.port,
         };
         let others = self.other_lines()?;
@@ -256,11 +257,13 @@ pub fn show_board<R: Files<File = File> + Net + Clock + Eprint + AllocGlobal, W:
         Some((file, renewed)) => (Some(file), Some(renewed)),
         None => (None, None),
     };
+    let together = groups_in(rt.alloc(), file.as_ref())?;
     let sources = Sources {
         name: None,
         dir: watched.dir.as_str(),
         port: port_of(watched.port, file.as_ref()),
         relay: watched.relay.as_deref(),
+        together: &together,
     };
     let desk = match Desk::new(rt, &sources) {
         Ok(desk) => desk,

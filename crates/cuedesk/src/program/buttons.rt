@@ -1,5 +1,5 @@
 //! The command `buttons`: a real desk presses over MIDI what the page would press.
-use super::port_of;
+use super::{groups_in, port_of};
 use cue_buttons_run::{Panel, Setting, hear_all};
 use cue_desk::ending::Ending;
 use cue_desk_line::Buttons;
@@ -21,12 +21,14 @@ pub fn hear_buttons<R: Files<File = File> + Net + Clock + Eprint + AllocGlobal, 
         Some(path) => Some(read_file(rt, path.as_str())?),
         None => None,
     };
+    let together = groups_in(rt.alloc(), file.as_ref())?;
     let port = port_of(buttons.port, file.as_ref());
     let sources = Sources {
         dir: buttons.dir.as_str(),
         port,
         relay: None,
         name: buttons.name,
+        together: &together,
     };
     let desk = match Desk::new(rt, &sources) {
         Ok(desk) => desk,

@@ -1,9 +1,10 @@
 //! The words `standby` and `go` without a number, and `go --wait`: a press at a desk without a browser.
-use super::port_of;
+use super::{groups_in, port_of};
 use cue_buttons_run::Hand;
 use cue_desk::ending::Ending;
 use cue_desk_line::Pressed;
 use cue_desk_run::{Desk, Sources};
+use cue_files_run::read_file;
 use cue_saying::failed;
 use std::fs::{File, Files};
 use std::io::{Eprint, Write};
@@ -20,12 +21,18 @@ pub fn press_word<R: Files<File = File> + Net + Clock + Eprint + AllocGlobal, W:
     pressed: &Pressed,
     writer: &mut W,
 ) -> Result<(), Ending> {
-    let port = port_of(pressed.port, None);
+    let file = match &pressed.file {
+        Some(path) => Some(read_file(rt, path.as_str())?),
+        None => None,
+    };
+    let together = groups_in(rt.alloc(), file.as_ref())?;
+    let port = port_of(pressed.port, file.as_ref());
     let sources = Sources {
         dir: pressed.dir.as_str(),
         port,
         relay: None,
         name: pressed.name,
+        together: &together,
     };
     let desk = match Desk::new(rt, &sources) {
         Ok(desk) => desk,

@@ -3,10 +3,13 @@ use cue_asker::AskerName;
 use cue_desk::answered::{Answered, answer_in, ending_of};
 use cue_desk::ending::Ending;
 use cue_desk::orders::Order;
+use cue_desk::ports::PORT;
 use cue_desk::replying::{Replied, Status};
 use cue_desk_run::ask_once;
 use cue_exchange::Outcome;
+use cue_operator::CueVerb;
 use cue_saying::{print, say};
+use cue_show::CueNo;
 use cue_station::heard::Heard;
 use cue_words::{code_words, outcome_words};
 use std::alloc::{AllocError, Global};
@@ -86,6 +89,18 @@ fn say_alone<R: Eprint>(rt: &R, port: u16) -> Ending {
     Ending::Silent
 }
 
+// Says that only some of several cues stand by.
+fn say_partly<R: Eprint>(rt: &R, code: i32) -> Ending {
+    say(
+        rt,
+        format_args!(
+            "NOT ALL of them stand by, code {code}: {}: look at the board",
+            code_words(code)
+        ),
+    );
+    Ending::Refused
+}
+
 // Says in words what was replied.
 fn tell<R: Eprint + AllocGlobal, W: Write>(
     rt: &R,
@@ -94,6 +109,12 @@ fn tell<R: Eprint + AllocGlobal, W: Write>(
 ) -> Result<(), Ending> {
     match replied {
         Replied::Status(status) => print(writer, status_text(rt.alloc(), status)?.as_str()),
+        Replied::Reply {
+            made: 1,
+            refused: 1,
+            code,
+            ..
+        } => Err(say_partly(rt, code)),
         Replied::Reply { .. } => match answer_in(replied) {
             Some(answered) => tell_answer(rt, answered, writer),
             None => Err(Ending::Silent),
@@ -101,17 +122,66 @@ fn tell<R: Eprint + AllocGlobal, W: Write>(
     }
 }
 
-/// Asks one thing of the controller, once, and says in words what it replied, within a second. Who asks is said first,
-/// if there is a name.
+// The place before a move, as the controller says it; none if nothing moves, or nobody says it.
+fn place_before<R: Net + Clock + AllocGlobal>(
+    rt: &R,
+    order: Order,
+    port: u16,
+) -> Option<Option<CueNo>> {
+    let Order::OfCue(CueVerb::Goto, _) = order else {
+        return None;
+    };
+    match ask_once(rt, Order::Status, &[], port, None) {
+        Ok(Some(Heard::Replied(_, Replied::Status(status)))) => Some(status.place),
+        _ => None,
+    }
+}
+
+// How to go back from a move that was made.
+fn way_back(alloc: Global, place: Option<CueNo>, port: u16) -> Result<String, AllocError> {
+    let Some(cue) = place else {
+        return String::from_str(
+            alloc,
+            "before, no cue was the place: no command goes back to that\n",
+        );
+    };
+    let cue = cue.text().escape_ascii();
+    if port == PORT {
+        format!(in alloc; "moved from cue {cue}; back: cuedesk goto {cue}\n")
+    } else {
+        format!(in alloc; "moved from cue {cue}; back: cuedesk goto {cue} --port {port}\n")
+    }
+}
+
+// Says how to go back, if a move was made.
+fn tell_way_back<W: Write>(
+    alloc: Global,
+    replied: Replied,
+    before: Option<Option<CueNo>>,
+    port: u16,
+    writer: &mut W,
+) -> Result<(), Ending> {
+    match (before, replied) {
+        (Some(place), Replied::Reply { made: 1, .. }) => {
+            print(writer, way_back(alloc, place, port)?.as_str())
+        }
+        _ => Ok(()),
+    }
+}
+
+/// Asks one thing of the controller, once, and says in words what it replied, within a second; a cue is stood by with
+/// these others. Who asks is said first, if there is a name. After a move it says how to go back.
 pub fn carry_order<R: Net + Clock + Eprint + AllocGlobal, W: Write>(
     rt: &R,
     order: Order,
+    others: &[CueNo],
     port: u16,
     name: Option<AskerName>,
     writer: &mut W,
 ) -> Result<(), Ending> {
     let words = open_words(&order);
-    let heard = match ask_once(rt, order, port, name) {
+    let before = place_before(rt, order, port);
+    let heard = match ask_once(rt, order, others, port, name) {
         Ok(heard) => heard,
         Err(why) => {
             say(rt, format_args!("no socket: {why}"));
@@ -119,7 +189,10 @@ pub fn carry_order<R: Net + Clock + Eprint + AllocGlobal, W: Write>(
         }
     };
     match &heard {
-        Some(Heard::Replied(_, replied)) => tell(rt, *replied, writer),
+        Some(Heard::Replied(_, replied)) => {
+            tell(rt, *replied, writer)?;
+            tell_way_back(rt.alloc(), *replied, before, port, writer)
+        }
         Some(Heard::Nobody(_)) => Err(say_alone(rt, port)),
         _ => Err(say_silent(rt, words, port)),
     }

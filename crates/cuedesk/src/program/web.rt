@@ -1,7 +1,7 @@
 //! The command `web`: the board with buttons, served to a browser on this machine.
 use super::locking::lock_word;
-use super::port_of;
 use super::renewing::{Renewed, begin};
+use super::{groups_in, port_of};
 use cue_desk::ending::Ending;
 use cue_desk_line::{PageUse, Web};
 use cue_desk_run::{Desk, Sources};
@@ -136,11 +136,13 @@ pub fn serve_page<
         Some((file, renewed)) => (Some(file), Some(renewed)),
         None => (None, None),
     };
+    let together = groups_in(rt.alloc(), file.as_ref())?;
     let sources = Sources {
         dir: web.dir.as_str(),
         port: port_of(web.port, file.as_ref()),
         relay: web.relay.as_deref(),
         name: web.name,
+        together: &together,
     };
     let identity = PageIdentity {
         port: web.http,

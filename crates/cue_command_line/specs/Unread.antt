@@ -1,4 +1,4 @@
--- Helper: what was matched, where it is no line.
+-- Helper: what was matched, if it is no line.
 use Rattle.std.specs.Prelude.{◌≡◌, ◌⊎◌, ℕ, List, None, codes}
 use Rattle.clap.specs.Words.{Row, Text, first_of}
 use Rattle.cue_command_line.specs.Lines.{AreTurnsIn, IsPortIn}

@@ -129,7 +129,7 @@ fn dir_in(alloc: Global, found: &ArgMatches<'_>) -> Result<String, LineFault>
     }
 }
 
-// The port that stands there, where it is one.
+// The port that stands there, if it is one.
 fn port_in(found: &ArgMatches<'_>) -> Result<u16, LineFault>
     ensures port { IfOk result (λ port. IsPortIn (rows_of (found_of found.now)) port) }
     ensures usage { IsErrOf result Usage → LacksPort (rows_of (found_of found.now)) }
@@ -208,7 +208,7 @@ pub fn line(alloc: Global, words: &[String]) -> Result<Line, LineFault>
     ensures line { IfOk result (λ line. IsLineOf (subcommand_of cuectl_app (map string_bytes words.now)) line) }
     // Words at which clap stops are no command, and words that ask for help or for the version are kept apart.
     ensures taken { OnOk result (fault_of cuectl_app (map string_bytes words.now) ≡ []) }
-    // They are refused only where clap stops for another reason, where they name no command, or where the port is 0.
+    // They are refused only if clap stops for another reason, if they name no command, or if the port is 0.
     ensures usage { IsErrOf result Usage → IsNoCommand (map string_bytes words.now) }
     ensures help { IfErr result (λ fault. IsHelp fault
         → AsksForText (fault_of cuectl_app (map string_bytes words.now))) }

@@ -23,7 +23,7 @@ is_read_again store.Exhausted = false
 is_read_again store.Memory = false
 is_read_again store.Disk = false
 
--- a disk in memory fails only where memory runs out
+-- a disk in memory fails only if memory runs out
 abbrev pub fault_in_memory : StoreFault → StoreFault
 fault_in_memory store.Disk = store.Memory
 fault_in_memory store.NotEmpty = store.NotEmpty
@@ -39,7 +39,7 @@ fault_in_memory store.Memory = store.Memory
 abbrev pub IsOfMachine : StoreFault → Type 0
 IsOfMachine fault = (fault ≡ store.Disk) ⊎ (fault ≡ store.Memory)
 
--- why a store of the two is not opened; where memory or a device failed, nothing is said of them
+-- why a store of the two is not opened; if memory or a device failed, nothing is said of them
 abbrev pub CannotBeOpened : StoreFault → List ℕ → List ℕ → Type 0
 CannotBeOpened store.NotEmpty x y = ⊥
 CannotBeOpened store.Unformed x y = NeitherHas x y

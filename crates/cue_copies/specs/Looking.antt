@@ -6,7 +6,7 @@ use Rattle.cue_copies.specs.Copies.{CannotBeOpened, copy_of}
 use Rattle.cue_copies.specs.declared.looking.Seen.{Seen}
 use Rattle.cue_copies.specs.declared.looking.Seen.TheVariants.{Whole, Refused, Changing}
 
--- Where a store was seen, what the disks hold stands for its state; where it is refused, it is said why. While nobody
+-- If a store was seen, what the disks hold stands for its state; if it is refused, it is said why. While nobody
 -- else writes the disks, they do not change.
 abbrev pub StandsAsSeen : Contents → Contents → Seen → Type 0
 StandsAsSeen first second (Whole keeper) = Stands (copy_of first) (copy_of second) (state_of keeper)

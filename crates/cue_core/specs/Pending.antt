@@ -27,7 +27,7 @@ order_at Preparing q d cue bytes = standby q d cue bytes
 order_at Decided q d cue bytes = go_2pc q d
 order_at (Cancelling r) q d cue bytes = cancel q d
 
--- the port of the device, and its order, where it is still to answer
+-- the port of the device, and its order, if it is still to answer
 abbrev pub order_for : ShowState → Attempt → DeviceAnswer → Option (ℕ × Order)
 order_for s a x =
     if waits x

@@ -32,13 +32,13 @@ with_show s show = record { show = show; live = s.live; last_seq = s.last_seq; e
 abbrev pub with_live : ShowState → List Attempt → ShowState
 with_live s live = record { show = s.show; live = live; last_seq = s.last_seq; ended = s.ended }
 
--- the parts of a cue; none where it is not in the stack
+-- the parts of a cue; none if it is not in the stack
 abbrev pub cue_parts : ShowLists → List ℕ → List Part
 cue_parts show c = unwrap_or (parts_of show c) []
 
 -- ---- the rules
 
--- the device is that of the part, and optional where the part is
+-- the device is that of the part, and optional if the part is
 abbrev pub is_of_part : Part → DeviceAnswer → Bool
 is_of_part p x = nat_eq p.device x.device && beq p.optional x.optional
 

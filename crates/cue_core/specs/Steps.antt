@@ -36,12 +36,12 @@ acceptable s (LetGo q d) = can_let_go q d s.live
 acceptable s (Failed q d) = can_fail q d s.live
 acceptable s (Excuse q d) = can_excuse q d s.live
 
--- the attempt that ended last: q, where it has ended
+-- the attempt that ended last: q, if it has ended
 abbrev pub ended_as : ℕ → Option Outcome → Option Ended → Option Ended
 ended_as q None old = old
 ended_as q (Some o) old = Some (record { seq = q; outcome = o })
 
--- a device of q has answered for the last time: q ends where it was the last
+-- a device of q has answered for the last time: q ends if it was the last
 abbrev pub after_last_answer : ShowState → ℕ → List Attempt → ShowState
 after_last_answer s q live =
     record {

@@ -89,7 +89,7 @@ impl Events {
         }
     }
 
-    /// Takes the first event out, where there is one.
+    /// Takes the first event out, if there is one.
     pub fn take_first(&mut self) -> Option<Event>
         ensures taken { self.old ≡ option_to_list result ++ self.new }
         ensures none { IfNone result (self.old ≡ []) }

@@ -14,7 +14,7 @@ use crate::state::State;
 use std::alloc::{AllocError, Global};
 use verdicts::{known, refused};
 
-/// Judges a command on a state, at the time `now` in milliseconds since 1970, where it came from the port `from` of
+/// Judges a command on a state, at the time `now` in milliseconds since 1970, from the port `from` of
 /// this machine.
 ///
 /// The events that come with the verdict are acceptable in turn. Only the parts of a new

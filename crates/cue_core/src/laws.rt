@@ -13,9 +13,9 @@ ghost use Rattle.cue_core.specs.Answers.{AnswersCommute, AnswersLeaveOthers, Eac
 ghost use Rattle.cue_core.specs.Safety.{DecidedStays, NeverAskedBoth, NothingMoreIsAsked, OneHolder};
 
 /// Every state that acceptable events lead to from the empty one is what its history says: the last number is the
-/// count of the Starts; an attempt is live exactly where it started and some device of it is not done with; its
-/// devices are those of its cue at its Start, and optional alike; it is Decided exactly where it was decided; a
-/// device of a Preparing attempt is Ready exactly where it stood by and was not excused.
+/// count of the Starts; an attempt is live exactly if it started and some device of it is not done with; its
+/// devices are those of its cue at its Start, and optional alike; it is Decided exactly if it was decided; a
+/// device of a Preparing attempt is Ready exactly if it stood by and was not excused.
 pub fn facts_by_history()
     ensures { FactsByHistory }
 {}
@@ -44,7 +44,7 @@ pub fn ready_only_by_answer()
     ensures { ReadyOnlyByAnswer }
 {}
 
-/// No device is ever asked to both go and cancel in one attempt: where some state of a history has the one pending,
+/// No device is ever asked to both go and cancel in one attempt: if some state of a history has the one pending,
 /// none has the other.
 pub fn never_asked_both()
     ensures { NeverAskedBoth }

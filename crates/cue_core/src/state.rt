@@ -51,7 +51,7 @@ impl State {
         }
     }
 
-    /// The state of these parts, where they keep the rules of a state together. For whoever reads a stored state.
+    /// The state of these parts, if they keep the rules of a state together. For whoever reads a stored state.
     pub fn of(show: Show, live: Live, last_seq: u32, ended: Option<Ended>) -> Option<State>
         ensures found { IfSome result (λ s. s
             ≡ record { show = show; live = live; last_seq = last_seq; ended = ended }) }
@@ -119,7 +119,7 @@ impl State {
     }
 }
 
-/// Applies an event to a state, as `State::apply` does. Where memory runs out nothing changes.
+/// Applies an event to a state, as `State::apply` does. If memory runs out nothing changes.
 ///
 /// Whoever reads events from outside asks `State::can_apply` first; the events of `judge` are acceptable in turn.
 pub fn apply(state: &mut State, event: &Event) -> Result<(), AllocError>
@@ -187,7 +187,7 @@ fn are_of_parts(parts: &[Part], answers: &[DeviceAnswer]) -> bool
     }
 }
 
-// Whether the device is that of the part, and optional where the part is.
+// Whether the device is that of the part, and optional if the part is.
 fn is_of_part(part: &Part, answer: &DeviceAnswer) -> bool
     ensures { result ≡ is_of_part part.now answer.now }
 {

@@ -44,7 +44,7 @@ pub record IsTask (task : Task) : Type 0 where
   pub cue : IsTrue (is_cue_number task.cue)
   pub short : length task.bytes ≤ MAX_PART_BYTES
 
--- where there is a task, it is one
+-- if there is a task, it is one
 abbrev pub HasTask : Option Task → Type 0
 HasTask None = Unit {0}
 HasTask (Some task) = IsTask task
@@ -84,7 +84,7 @@ answer_content d answer = message (answer_address d answer) (number (answered_fo
 unfoldable pub answer_text : ℕ → Answer → List ℕ
 answer_text d answer = text_of (answer_content d answer)
 
--- the bytes of an answer, and none where there is nothing to answer
+-- the bytes of an answer, and none if there is nothing to answer
 abbrev pub answered_text : ℕ → Option Answer → List ℕ
 answered_text d None = []
 answered_text d (Some answer) = answer_text d answer
@@ -133,7 +133,7 @@ HearsDatagram datagram old new order sent = HearsCommand datagram old new order 
 
 -- ---- what is found at the front of bytes
 
--- a function finds what reading has, and nothing where reading has nothing
+-- a function finds what reading has, and nothing if reading has nothing
 abbrev pub Finds : {X Y : Type 0} → (X → Y) → Option X → Result Y Fault → Type 0
 Finds view (Some x) read = read ≡ Ok (view x)
 Finds view None read = (y : _) → read ≢ Ok y

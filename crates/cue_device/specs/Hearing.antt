@@ -90,7 +90,7 @@ abbrev pub is_for : Task → Option Task → Bool
 is_for t None = false
 is_for t (Some s) = is_same_task s t
 
--- the place of a number that is not above the last: the attempt's, where it is the last one
+-- the place of a number that is not above the last: the attempt's, if it is the last one
 abbrev pub place_known : Bool → Option Attempt → Place
 place_known is_last None = Over
 place_known true (Some a) = Same a
@@ -205,7 +205,7 @@ unheard_after (Moved q) unheard = unheard
 unheard_after (GaveUp q) unheard = unheard
 unheard_after (Cannot q) unheard = true
 
--- the attempt with what was reported of it: where nothing is answered, nothing changes
+-- the attempt with what was reported of it: if nothing is answered, nothing changes
 abbrev pub attempt_with_report : Told → Option Task → Cell → Device → Device
 attempt_with_report told task cell d = if is_some cell.answer then record (after_cell task cell d)
     { unheard = unheard_after told d.unheard } else d
@@ -240,7 +240,7 @@ number_of (Some order) last = ordered_for order
 abbrev pub reported_for : Device → ℕ
 reported_for d = number_of d.doing d.last
 
--- a report is in time where it is the end of the order; at rest, where it has an answer
+-- a report is in time if it is the end of the order; at rest, if it has an answer
 abbrev pub in_time : Option Order → Told → Device → Bool
 in_time None told d = is_some (answer_told told d)
 in_time (Some order) told d = ends order told

@@ -42,7 +42,7 @@ answer_to repeats d = answer_ticked d
 answer_to hears_reply d = None
 answer_to (restarts n) d = None
 
--- one more at the front, where there is one
+-- one more at the front, if there is one
 abbrev pub latest : {A : Type 0} → Option A → List A → List A
 latest None xs = xs
 latest (Some x) xs = x ∷ xs
@@ -62,7 +62,7 @@ abbrev pub answers_of : Device → List Happening → List Answer
 answers_of d [] = []
 answers_of d (h ∷ hs) = latest (answer_to h (device_after d hs)) (answers_of d hs)
 
--- what is left of an order, once this happened: nothing, where its end was reported, or where the device restarted
+-- what is left of an order, once this happened: nothing, if its end was reported, or if the device restarted
 abbrev pub left_then : Happening → Option Order → Option Order
 left_then (hears c) u = u
 left_then (tells t) u = left_after t u

@@ -69,7 +69,7 @@ same_cancel q Failed = say Failed (Cancelled q)
 
 -- ---- a number above all that was heard of
 
--- a standby, where the machine is free or still does what an earlier number asked for
+-- a standby, if the machine is free or still does what an earlier number asked for
 abbrev pub new_standby : ℕ → Bool → Cell
 new_standby q free = if free then act Preparing (Prepare q) else say Failed (Abort q)
 

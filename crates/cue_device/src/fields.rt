@@ -46,7 +46,7 @@ pub(crate) fn blob_at(bytes: &[u8]) -> Option<(&[u8], &[u8])>
     padded(rest, len, (4 - len % 4) % 4)
 }
 
-// The number of bytes before the first null, or of all bytes where there is none.
+// The number of bytes before the first null, or of all bytes if there is none.
 fn text_len(bytes: &[u8]) -> usize
     ensures { result ≡ text_len bytes.now }
 {

@@ -59,7 +59,7 @@ pub struct Device {
     number: DeviceNo,
     // The highest number that it has heard of.
     last: u32,
-    // What it has made of that number; none where the number is over.
+    // What it has made of that number; none if the number is over.
     attempt: Option<Attempt>,
     // The order whose end the machine has not reported.
     doing: Option<Order>,
@@ -84,7 +84,7 @@ impl Device {
 
     /// A device of this number that has restarted: its machine is at rest and holds nothing, and `kept` is the `last`
     /// that was kept. The attempts up to it are over. `tick` gives the abort of `kept` at once, and again until its
-    /// reply came: a cue that waits for this device is so given up before anybody moves. Where 0 was kept there is
+    /// reply came: a cue that waits for this device is so given up before anybody moves. If 0 was kept there is
     /// nothing to say.
     pub fn restarted(number: DeviceNo, kept: u32) -> Device
         ensures { result ≡ device_restarted number kept }
@@ -130,7 +130,7 @@ impl Device {
         self.last
     }
 
-    /// What the device is asked to prepare for, which is what an order to prepare means; none where it has heard no
+    /// What the device is asked to prepare for, which is what an order to prepare means; none if it has heard no
     /// standby of its last number.
     pub fn task(&self) -> Option<Task>
         ensures { result ≡ task_now self.now.attempt }
@@ -141,7 +141,7 @@ impl Device {
         }
     }
 
-    /// How far the device has come in the attempt of its last number; none where that number is over.
+    /// How far the device has come in the attempt of its last number; none if that number is over.
     pub fn phase(&self) -> Option<Phase>
         ensures { result ≡ phase_now self.now.attempt }
     {
@@ -151,7 +151,7 @@ impl Device {
         }
     }
 
-    /// The order whose end the machine has not reported; none where it is free.
+    /// The order whose end the machine has not reported; none if it is free.
     pub fn doing(&self) -> Option<Order>
         ensures { result ≡ self.now.doing }
     {
@@ -184,7 +184,7 @@ impl Device {
         }
     }
 
-    /// The machine has prepared, as it was ordered. No answer where the attempt has gone on.
+    /// The machine has prepared, as it was ordered. No answer if the attempt has gone on.
     pub fn prepared(&mut self) -> Result<Option<Answer>, ReportFault>
         ensures state { self.new ≡ after_call (Prepared (reported_for self.old)) self.old }
         ensures said { result ≡ answer_call (Prepared (reported_for self.old)) self.old }
@@ -192,7 +192,7 @@ impl Device {
         self.report(Told::Prepared(self.reported_for()))
     }
 
-    /// The machine has carried the cue out, as it was ordered. No answer where the attempt has gone on.
+    /// The machine has carried the cue out, as it was ordered. No answer if the attempt has gone on.
     pub fn moved(&mut self) -> Result<Option<Answer>, ReportFault>
         ensures state { self.new ≡ after_call (Moved (reported_for self.old)) self.old }
         ensures said { result ≡ answer_call (Moved (reported_for self.old)) self.old }
@@ -200,7 +200,7 @@ impl Device {
         self.report(Told::Moved(self.reported_for()))
     }
 
-    /// The machine has given up what it prepared, as it was ordered. No answer where the attempt has gone on.
+    /// The machine has given up what it prepared, as it was ordered. No answer if the attempt has gone on.
     pub fn gave_up(&mut self) -> Result<Option<Answer>, ReportFault>
         ensures state { self.new ≡ after_call (GaveUp (reported_for self.old)) self.old }
         ensures said { result ≡ answer_call (GaveUp (reported_for self.old)) self.old }
@@ -208,8 +208,8 @@ impl Device {
         self.report(Told::GaveUp(self.reported_for()))
     }
 
-    /// The machine cannot go on, and is at rest: with what it was ordered, or with what it holds. Where that is an
-    /// abort `tick` gives it again until its reply came. No answer where the attempt has gone on.
+    /// The machine cannot go on, and is at rest: with what it was ordered, or with what it holds. If that is an
+    /// abort `tick` gives it again until its reply came. No answer if the attempt has gone on.
     pub fn cannot(&mut self) -> Result<Option<Answer>, ReportFault>
         ensures state { self.new ≡ after_call (Cannot (reported_for self.old)) self.old }
         ensures said { result ≡ answer_call (Cannot (reported_for self.old)) self.old }
@@ -300,7 +300,7 @@ impl Device {
         }
     }
 
-    // The machine reports this, where it may.
+    // The machine reports this, if it may.
     fn report(&mut self, told: Told) -> Result<Option<Answer>, ReportFault>
         ensures state { self.new ≡ after_call told self.old }
         ensures said { result ≡ answer_call told self.old }
@@ -330,7 +330,7 @@ impl Device {
         }
     }
 
-    // The attempt goes on as the machine reported, where that is something new.
+    // The attempt goes on as the machine reported, if that is something new.
     fn note(&mut self, told: Told, cell: Cell, task: Option<Task>)
         ensures { self.new ≡ attempt_with_report told task cell self.old }
     {

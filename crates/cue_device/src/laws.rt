@@ -33,7 +33,7 @@ pub fn numbers_rise()
     ensures { NumbersRise }
 {}
 
-/// It prepares for a number only where that is above the number of each order before.
+/// It prepares for a number only if that is above the number of each order before.
 pub fn prepares_once()
     ensures { PreparesOnce }
 {}

@@ -13,7 +13,7 @@ use cue_show::DeviceNo;
 const REPLY: [u8; 16] = *b"/reply\0\0,siiii\0\0";
 
 impl Device {
-    /// A datagram came. The order, where there is one, is carried out at once; the bytes of `out` up to the length that
+    /// A datagram came. The order, if there is one, is carried out at once; the bytes of `out` up to the length that
     /// is given are sent at once to where the datagram came from, unless it is 0. A datagram that is neither an order
     /// of the controller for this device nor a reply to an abort of it changes nothing and has no answer.
     pub fn hear_datagram(
@@ -40,7 +40,7 @@ impl Device {
     }
 
     /// Puts the datagram of what `prepared`, `moved`, `gave_up`, `cannot` or `tick` gave at the front of `out`, and
-    /// gives its length: 0 where there is nothing to send.
+    /// gives its length: 0 if there is nothing to send.
     pub fn write_answer(&self, answer: Option<Answer>, out: &mut [u8; MAX_ANSWER]) -> usize
         ensures text { take result out.new ≡ answered_text self.now.number answer }
         ensures short { result ≤ 32 }

@@ -31,7 +31,7 @@ pub enum Phase {
 pub struct Attempt {
     /// How far the device has come.
     pub phase: Phase,
-    /// What it was asked to prepare for; none where no standby of this number came.
+    /// What it was asked to prepare for; none if no standby of this number came.
     pub task: Option<Task>,
 }
 

@@ -19,7 +19,7 @@ const GO: [u8; 16] = *b"/msc/go_2pc\0,ii\0";
 
 const CANCEL: [u8; 16] = *b"/msc/cancel\0,ii\0";
 
-/// The order that the datagram is, where it is one for this device: a message with exactly the arguments of the
+/// The order that the datagram is, if it is one for this device: a message with exactly the arguments of the
 /// order, a number of 1 or higher, and in a standby the number of a cue and at most 32 bytes. `/reply` is none.
 pub fn command(datagram: &[u8], number: DeviceNo) -> Option<Command>
     ensures found { IfSome result (λ c. IsFor number datagram.now c) }
@@ -39,7 +39,7 @@ pub fn command(datagram: &[u8], number: DeviceNo) -> Option<Command>
     Some(Command::Cancel { seq })
 }
 
-// The number of the attempt, and the bytes after the device's number, where that is this one.
+// The number of the attempt, and the bytes after the device's number, if that is this one.
 fn seq_for(bytes: &[u8], number: DeviceNo) -> Option<(u32, &[u8])>
     ensures found { IfSome result (λ x. (bytes.now ≡ to_be_bytes w32 x.0 ++ (to_be_bytes w32 number ++ x.1.now))
         × IsNumber x.0) }
@@ -55,7 +55,7 @@ fn seq_for(bytes: &[u8], number: DeviceNo) -> Option<(u32, &[u8])>
     }
 }
 
-// The number of the attempt, where nothing stands after the device's number.
+// The number of the attempt, if nothing stands after the device's number.
 fn lone_seq_for(bytes: &[u8], number: DeviceNo) -> Option<u32>
     ensures found { IfSome result (λ q. (bytes.now ≡ to_be_bytes w32 q ++ (to_be_bytes w32 number ++ []))
         × IsNumber q) }

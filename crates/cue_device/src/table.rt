@@ -79,7 +79,7 @@ pub(crate) fn again(command: &Command, attempt: Attempt) -> Cell
     }
 }
 
-// An order of the controller with a new number, where the machine is free or still does what an earlier number asked
+// An order of the controller with a new number, if the machine is free or still does what an earlier number asked
 // for.
 pub(crate) fn new_number(command: &Command, is_free: bool) -> Cell
     ensures { result ≡ new_number is_free command.now }

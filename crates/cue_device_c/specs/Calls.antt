@@ -54,7 +54,7 @@ abbrev pub Reports : Result (Option Answer) ReportFault → Told → Device → 
 Reports (Ok said) told d old new answer given = DeviceTells told d said old new answer given
 Reports (Err fault) told d old new answer given = IsNoCall old new answer given
 
--- it reports where the numbers stand for a device: of the number for which it may
+-- it reports if the numbers stand for a device: of the number for which it may
 abbrev pub TellsOf : Option Device → (ℕ → Told) → CueDevice → CueDevice → CueAnswer → ℕ → Type 0
 TellsOf None what old new answer given = IsNoCall old new answer given
 TellsOf (Some d) what old new answer given =
@@ -93,7 +93,7 @@ abbrev pub HearsFrom : Bool → List ℕ → CuePlace → Device → CueDevice �
 HearsFrom true datagram from d old new answer given = DeviceHears datagram from d old new answer given
 HearsFrom false datagram from d old new answer given = PassesOver old new answer given
 
--- it hears where the numbers stand for a device
+-- it hears if the numbers stand for a device
 abbrev pub HearsOf : Option Device → List ℕ → CuePlace → CueDevice → CueDevice → CueAnswer → ℕ → Type 0
 HearsOf None datagram from old new answer given = IsNoCall old new answer given
 HearsOf (Some d) datagram from old new answer given =
@@ -110,7 +110,7 @@ pub record IsNamed (d : Device) (sender : CuePlace) (old new : CueDevice) (given
   pub state : new ≡ numbers_of d old.controller sender
   pub result : given ≡ 0
 
--- where the numbers stand for a device
+-- if the numbers stand for a device
 abbrev pub NamesOf : Option Device → CuePlace → CueDevice → CueDevice → ℕ → Type 0
 NamesOf None sender old new given = (new ≡ old) × (given ≡ BAD_CALL)
 NamesOf (Some d) sender old new given = IsNamed d sender old new given
@@ -125,7 +125,7 @@ pub record DeviceTicks (d : Device) (now : CueDevice) (answer : CueAnswer) (give
   pub to : answer.to ≡ now.controller
   pub result : given ≡ 0
 
--- time has passed where the numbers stand for a device
+-- time has passed if the numbers stand for a device
 abbrev pub TicksOf : Option Device → CueDevice → CueAnswer → ℕ → Type 0
 TicksOf None now answer given = IsNoCall now now answer given
 TicksOf (Some d) now answer given = DeviceTicks d now answer given

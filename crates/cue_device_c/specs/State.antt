@@ -49,7 +49,7 @@ abbrev pub task_in : CueDevice → Option Task
 task_in s = if nat_eq s.cue_length 0 then None else Some
     (record { cue = take s.cue_length s.cue; bytes = take s.bytes_length s.bytes })
 
--- the attempt of a phase, where there is one
+-- the attempt of a phase, if there is one
 abbrev pub attempt_in : Option Phase → Option Task → Option Attempt
 attempt_in None task = None
 attempt_in (Some phase) task = Some (record { phase = phase; task = task })
@@ -64,18 +64,18 @@ device_in s = record {
   unheard = nat_eq s.unheard 1;
 }
 
--- the device that the numbers stand for; none where they stand for no device
+-- the device that the numbers stand for; none if they stand for no device
 abbrev pub device_of : CueDevice → Option Device
 device_of s = if fits s then Some (device_in s) else None
 
 -- ---- the numbers that stand for a device
 
--- the length of the cue's number, 0 where there is no task
+-- the length of the cue's number, 0 if there is no task
 abbrev pub cue_length : Option Task → ℕ
 cue_length None = 0
 cue_length (Some task) = length task.cue
 
--- how many bytes the show keeps, 0 where there is no task
+-- how many bytes the show keeps, 0 if there is no task
 abbrev pub bytes_length : Option Task → ℕ
 bytes_length None = 0
 bytes_length (Some task) = length task.bytes

@@ -6,7 +6,7 @@ ghost use Rattle.cue_device_c.specs.Calls.{sent_bytes};
 use crate::state::CuePlace;
 use cue_device::{Answer, Device, MAX_ANSWER};
 
-/// `struct cue_answer`: the first `length` bytes are sent to the place, none where it is 0.
+/// `struct cue_answer`: the first `length` bytes are sent to the place, none if it is 0.
 #[repr(C)]
 #[derive(Clone, Copy)]
 pub struct CueAnswer {
@@ -27,7 +27,7 @@ impl CueAnswer {
         }
     }
 
-    // The datagram of the device's answer, for this place; nothing to send where there is none.
+    // The datagram of the device's answer, for this place; nothing to send if there is none.
     pub(crate) fn of(device: &Device, answer: Option<Answer>, to: CuePlace) -> CueAnswer
         ensures bytes { sent_bytes result ≡ answered_text device.now.number answer }
         ensures to { result.to ≡ to }

@@ -4,10 +4,10 @@ ghost use Rattle.cue_device_c.specs.Codes.{order_code, order_number, order_of, p
 
 use cue_device::{Order, Phase};
 
-/// What a call gives where it was no call: `CUE_BAD_CALL`.
+/// What a call gives if it was no call: `CUE_BAD_CALL`.
 pub const BAD_CALL: u32 = 4;
 
-// `enum cue_phase`: the phase of an attempt, 0 where there is none.
+// `enum cue_phase`: the phase of an attempt, 0 if there is none.
 pub(crate) fn phase_code(phase: Option<Phase>) -> u32
     ensures { result ≡ phase_code phase }
 {
@@ -23,7 +23,7 @@ pub(crate) fn phase_code(phase: Option<Phase>) -> u32
     }
 }
 
-// The phase of a number, none for 0 and where the number is no phase.
+// The phase of a number, none for 0 and if the number is no phase.
 pub(crate) fn phase_of(code: u32) -> Option<Phase>
     ensures { result ≡ phase_of code }
 {
@@ -39,7 +39,7 @@ pub(crate) fn phase_of(code: u32) -> Option<Phase>
     }
 }
 
-// `enum cue_order`: 0 where nothing is ordered.
+// `enum cue_order`: 0 if nothing is ordered.
 pub(crate) fn order_code(order: Option<Order>) -> u32
     ensures { result ≡ order_code order }
 {
@@ -51,7 +51,7 @@ pub(crate) fn order_code(order: Option<Order>) -> u32
     }
 }
 
-// The number of the attempt of an order, 0 where there is none.
+// The number of the attempt of an order, 0 if there is none.
 pub(crate) fn order_number(order: Option<Order>) -> u32
     ensures { result ≡ order_number order }
 {
@@ -61,7 +61,7 @@ pub(crate) fn order_number(order: Option<Order>) -> u32
     }
 }
 
-// The order of a number, none for 0 and where the number is no order.
+// The order of a number, none for 0 and if the number is no order.
 pub(crate) fn order_of(code: u32, number: u32) -> Option<Order>
     ensures { result ≡ order_of code number }
 {

@@ -15,7 +15,7 @@ use cue_device::{Device, MAX_ANSWER, MAX_NUMBER, ReportFault, command};
 use cue_show::DeviceNo;
 
 /// Makes a device of this number, 0 to 111, for a new store. `size` is that of the caller's struct. Gives 0, or
-/// `BAD_CALL` where the number is out of range or the size is not that of this library's.
+/// `BAD_CALL` if the number is out of range or the size is not that of this library's.
 #[unsafe(no_mangle)]
 pub extern "C" fn cue_device_new(device: &mut CueDevice, size: u32, number: u32) -> u32
     ensures made { size ≡ SIZE → number ≤ MAX_DEVICE_NUMBER → IsMade number device.new result }
@@ -32,7 +32,7 @@ pub extern "C" fn cue_device_new(device: &mut CueDevice, size: u32, number: u32)
 }
 
 /// Makes a device of this number, 0 to 111, that has restarted: `kept` is its last number, 0 to 2,147,483,647, and
-/// `from` is where that came from. Gives 0, or `BAD_CALL` where a number is out of range, the size is not that of this
+/// `from` is where that came from. Gives 0, or `BAD_CALL` if a number is out of range, the size is not that of this
 /// library's struct, or a number above 0 was kept without its place.
 #[unsafe(no_mangle)]
 pub extern "C" fn cue_device_restarted(
@@ -61,8 +61,8 @@ pub extern "C" fn cue_device_restarted(
     }
 }
 
-/// The device hears datagrams of this sender alone from now on; of any, where it is eight zeros. Gives 0, or `BAD_CALL`
-/// where `device` is none.
+/// The device hears datagrams of this sender alone from now on; of any, if it is eight zeros. Gives 0, or `BAD_CALL`
+/// if `device` is none.
 #[unsafe(no_mangle)]
 pub extern "C" fn cue_device_hear_only(device: &mut CueDevice, sender: &CuePlace) -> u32
     ensures { Names sender.now device.old device.new result }
@@ -77,7 +77,7 @@ pub extern "C" fn cue_device_hear_only(device: &mut CueDevice, sender: &CuePlace
 }
 
 /// A datagram came from this sender. Gives what the machine is to do, 1 to prepare, 2 to move, 3 to give up and 0 for
-/// nothing, or `BAD_CALL` where `device` is none.
+/// nothing, or `BAD_CALL` if `device` is none.
 #[unsafe(no_mangle)]
 pub extern "C" fn cue_device_hear(
     device: &mut CueDevice,
@@ -128,7 +128,7 @@ fn controller_after(datagram: &[u8], number: DeviceNo, from: CuePlace, before: C
     }
 }
 
-/// The machine has prepared, as it was ordered. Gives 0, or `BAD_CALL` where it prepares nothing or `device` is none.
+/// The machine has prepared, as it was ordered. Gives 0, or `BAD_CALL` if it prepares nothing or `device` is none.
 #[unsafe(no_mangle)]
 pub extern "C" fn cue_device_prepared(device: &mut CueDevice, answer: &mut CueAnswer) -> u32
     ensures { Tells Prepared device.old device.new answer.new result }
@@ -152,7 +152,7 @@ pub extern "C" fn cue_device_prepared(device: &mut CueDevice, answer: &mut CueAn
     }
 }
 
-/// The machine has carried the cue out. Gives 0, or `BAD_CALL` where it does not move or `device` is none.
+/// The machine has carried the cue out. Gives 0, or `BAD_CALL` if it does not move or `device` is none.
 #[unsafe(no_mangle)]
 pub extern "C" fn cue_device_moved(device: &mut CueDevice, answer: &mut CueAnswer) -> u32
     ensures { Tells Moved device.old device.new answer.new result }
@@ -176,7 +176,7 @@ pub extern "C" fn cue_device_moved(device: &mut CueDevice, answer: &mut CueAnswe
     }
 }
 
-/// The machine has given up what it prepared. Gives 0, or `BAD_CALL` where it gives nothing up or `device` is none.
+/// The machine has given up what it prepared. Gives 0, or `BAD_CALL` if it gives nothing up or `device` is none.
 #[unsafe(no_mangle)]
 pub extern "C" fn cue_device_gave_up(device: &mut CueDevice, answer: &mut CueAnswer) -> u32
     ensures { Tells GaveUp device.old device.new answer.new result }
@@ -200,7 +200,7 @@ pub extern "C" fn cue_device_gave_up(device: &mut CueDevice, answer: &mut CueAns
     }
 }
 
-/// The machine cannot go on, and is at rest. Gives 0, or `BAD_CALL` where there is nothing to abort or `device` is
+/// The machine cannot go on, and is at rest. Gives 0, or `BAD_CALL` if there is nothing to abort or `device` is
 /// none.
 #[unsafe(no_mangle)]
 pub extern "C" fn cue_device_cannot(device: &mut CueDevice, answer: &mut CueAnswer) -> u32
@@ -225,7 +225,7 @@ pub extern "C" fn cue_device_cannot(device: &mut CueDevice, answer: &mut CueAnsw
     }
 }
 
-/// Time has passed: what is sent again. Gives 0, or `BAD_CALL` where `device` is none.
+/// Time has passed: what is sent again. Gives 0, or `BAD_CALL` if `device` is none.
 #[unsafe(no_mangle)]
 pub extern "C" fn cue_device_tick(device: &CueDevice, answer: &mut CueAnswer) -> u32
     ensures { Ticks device.now answer.new result }

@@ -9,7 +9,7 @@ use cue_device::{Attempt, Device, PartBytes, Task};
 use cue_show::limits::{MAX_CUE_BYTES, MAX_DEVICE_NUMBER, MAX_PART_BYTES};
 use cue_show::{CueNo, DeviceNo};
 
-/// What `magic` has where the numbers were made by `cue_device_new` or `cue_device_restarted`: "cue2".
+/// What `magic` has if the numbers were made by `cue_device_new` or `cue_device_restarted`: "cue2".
 pub const MAGIC: u32 = 1668638002;
 
 /// How many bytes `struct cue_device` has: what `size` has there, and what the header hands to a call that makes one.
@@ -58,7 +58,7 @@ pub struct CueDevice {
 }
 
 impl CueDevice {
-    // The device that these numbers stand for; none where they stand for no device.
+    // The device that these numbers stand for; none if they stand for no device.
     pub(crate) fn read(&self) -> Option<Device>
         ensures { result ≡ device_of self.now }
     {
@@ -76,7 +76,7 @@ impl CueDevice {
     }
 
     // The numbers that stand for the device. Its last order came from the one place, and it hears the other alone,
-    // where that is one.
+    // if that is one.
     pub(crate) fn of(device: &Device, controller: CuePlace, only: CuePlace) -> CueDevice
         ensures { result ≡ numbers_of device.now controller only }
     {
@@ -138,7 +138,7 @@ impl CueDevice {
     }
 }
 
-// The cue's number with zeros after it, and its length; zeros where there is no task.
+// The cue's number with zeros after it, and its length; zeros if there is no task.
 fn cue_of(task: &Option<Task>) -> (u32, [u8; MAX_CUE_BYTES])
     ensures len { result.0 ≡ cue_length task.now }
     ensures places { result.1 ≡ cue_places task.now }
@@ -154,7 +154,7 @@ fn cue_of(task: &Option<Task>) -> (u32, [u8; MAX_CUE_BYTES])
     }
 }
 
-// The bytes that the show keeps with zeros after them, and how many; zeros where there is no task.
+// The bytes that the show keeps with zeros after them, and how many; zeros if there is no task.
 fn bytes_of(task: &Option<Task>) -> (u32, [u8; MAX_PART_BYTES])
     ensures len { result.0 ≡ bytes_length task.now }
     ensures places { result.1 ≡ bytes_places task.now }
@@ -170,7 +170,7 @@ fn bytes_of(task: &Option<Task>) -> (u32, [u8; MAX_PART_BYTES])
     }
 }
 
-// The device of a number, where it is 0 to 111.
+// The device of a number, if it is 0 to 111.
 pub(crate) fn device_number(number: u32) -> Option<DeviceNo>
     ensures { result ≡ device_of_byte number }
 {

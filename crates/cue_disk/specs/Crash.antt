@@ -12,7 +12,7 @@ abbrev pub changeable_before : Contents → ℕ → ℕ
 changeable_before now zero = 0
 changeable_before now (suc i) = changeable_before now i + (if may_change now i then 1 else 0)
 
--- The byte at this place after the crash: the k-th that it may change is the k-th of the junk, or as it was where there
+-- The byte at this place after the crash: the k-th that it may change is the k-th of the junk, or as it was if there
 -- is no more junk.
 abbrev pub crashed_byte : Contents → List ℕ → ℕ → ℕ
 crashed_byte now junk i =
@@ -24,7 +24,7 @@ pub record IsCrashed (now : Contents) (extra : ℕ) (junk image : List ℕ) : Ty
   pub long : length image ≡ min (now.synced + extra) (length now.bytes)
   pub each : (i : ℕ) → i < length image → slice_index image i ≡ crashed_byte now junk i
 
--- Some length and some junk make this image. The junk is no longer than the image, and of bytes where the image is.
+-- Some length and some junk make this image. The junk is no longer than the image, and of bytes if the image is.
 pub record IsReached (now : Contents) (image : List ℕ) : Type 0 where
   pub extra : ℕ
   pub junk : List ℕ

@@ -38,7 +38,7 @@ pub record IsStable (now : Contents) : Type 0 where
   pub length : now.synced ≡ length now.bytes
   pub none_touched : (i : ℕ) → i < now.synced → now.touched i ≡ false
 
--- the old bytes with these in their place from an offset on, and longer where these reach past the end
+-- the old bytes with these in their place from an offset on, and longer if these reach past the end
 abbrev pub overwritten_bytes : List ℕ → ℕ → List ℕ → List ℕ
 overwritten_bytes old at bytes = take at old ++ bytes ++ drop (at + length bytes) old
 

@@ -16,7 +16,7 @@ after_write now at asked stored = record {
   touched = λ i. now.touched i || (nat_le at i && nat_lt i (at + asked));
 }
 
--- the bytes that a write gets to: all, the first half rounded down where it is to fail, none where the disk has stopped
+-- the bytes that a write gets to: all, the first half rounded down if it is to fail, none if the disk has stopped
 abbrev pub part_stored : CallOutcome → List ℕ → List ℕ
 part_stored Succeeds bytes = bytes
 part_stored Fails bytes = take (length bytes / 2) bytes

@@ -61,11 +61,11 @@ pub record IsCounted (old new : MemDisk) : Type 0 where
   pub calls : memory_calls new ≡ one_more (memory_calls old)
   pub plan : memory_plan new ≡ after_one (memory_plan old)
 
--- A call that takes no memory goes through exactly where no failure was planned for it.
+-- A call that takes no memory goes through exactly if no failure was planned for it.
 abbrev pub GoesAsPlanned : {T E : Type 0} → Result T E → MemDisk → Type 0
 GoesAsPlanned result old = is_ok result ≡ goes_through (outcome_of (memory_plan old) 1)
 
--- A call that takes memory goes through exactly where no failure was planned for it and the memory was there.
+-- A call that takes memory goes through exactly if no failure was planned for it and the memory was there.
 abbrev pub GoesWithMemory : {T E : Type 0} → Result T E → MemDisk → MemDisk → Type 0
 GoesWithMemory result old new =
     is_ok result ≡ (goes_through (outcome_of (memory_plan old) 1) && not (lacked_memory new))

@@ -76,7 +76,7 @@ impl DiskOver<File> {
         opened.and_then(FileDisk::over).map_err(opening_fault)
     }
 
-    /// Opens a file, or makes it empty where it is missing. The folder that it stands in is synced, so that a crash
+    /// Opens a file, or makes it empty if it is missing. The folder that it stands in is synced, so that a crash
     /// does not lose the file.
     pub fn create<R: Files<File = File>>(rt: &R, path: &str) -> Result<FileDisk, FileFault>
         ensures { IfOk result (λ disk. file_failures disk ≡ 0) }
@@ -121,7 +121,7 @@ impl<F: OpenFile + FileExt + Drop> DiskOver<F> {
         DiskFault
     }
 
-    // What a call answers, counted where it failed.
+    // What a call answers, counted if it failed.
     fn counted(&mut self, done: io::Result<()>) -> Result<(), DiskFault>
         ensures { CountsFailure result (file_failures self.old) (file_failures self.new) }
     {

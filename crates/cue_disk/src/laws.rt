@@ -13,7 +13,7 @@ pub fn stop_within_a_sync()
     ensures { StopWithinASync }
 {}
 
-/// Where the disk is stable a crash leaves what a read gives.
+/// If the disk is stable a crash leaves what a read gives.
 pub fn stable_leaves_what_is_read()
     ensures { StableLeavesWhatIsRead }
 {}

@@ -173,7 +173,7 @@ impl Medium {
     }
 }
 
-// Puts bytes in place of those from an offset on, and after the last, where there is room for them.
+// Puts bytes in place of those from an offset on, and after the last, if there is room for them.
 fn overwrite(bytes: &mut Vec<u8>, at: usize, stored: &[u8])
     requires within { at ≤ vec_len bytes.old }
     requires room { vec_len bytes.old + (length stored.now - (vec_len bytes.old - at)) ≤ vec_capacity bytes.old }

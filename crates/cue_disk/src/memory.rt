@@ -103,7 +103,7 @@ impl MemDisk {
     }
 
     /// The disk that a crash now leaves, as a new one. Its length is the synced one and `extra`, at most the present
-    /// one. The k-th byte that the crash may change, in rising order, is `junk[k]`; where `junk` is shorter it is as it
+    /// one. The k-th byte that the crash may change, in rising order, is `junk[k]`; if `junk` is shorter it is as it
     /// was. Some `extra` and `junk` make each image that there is.
     pub fn crash(&self, extra: u64, junk: &[u8]) -> Result<MemDisk, AllocError>
         ensures image { IfOk result (λ disk. IsImage (memory_held self.now) (memory_bytes disk)) }

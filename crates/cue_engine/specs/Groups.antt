@@ -50,7 +50,7 @@ abbrev pub offered_accounts : Option Offered → List Accounted
 offered_accounts None = []
 offered_accounts (Some offered) = accounts_view offered.accounts.items
 
--- the last of some batches; empty where there is none
+-- the last of some batches; empty if there is none
 abbrev pub last_of : List (List Event) → List Event
 last_of [] = []
 last_of (batch ∷ []) = batch

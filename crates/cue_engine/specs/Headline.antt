@@ -118,7 +118,7 @@ pub record IsReadable (x y : List ℕ) : Type 0 where
   pub known : HasOtherVersion x y → ⊥
   pub well_formed : StandsForNone x y → ⊥
 
--- What recovery answers with, where it answers Ok: the state was closed from one that the disks stood for (`stood`),
+-- What recovery answers with, if it answers Ok: the state was closed from one that the disks stood for (`stood`),
 -- and the queue is what is pending in it (`queue`).
 pub record IsAnswered (x y : List ℕ) (state : ShowState) (queue : List (ℕ × List ℕ)) : Type 0 where
   pub stood : ClosedFrom x y state

@@ -48,7 +48,7 @@ KeptNumberNamesOne = (is : List Incident) (kept : List (List Event)) (q : ℕ) (
 abbrev pub was_handed : (Order → Bool) → Store → List Incident → Bool
 was_handed test store is = list_any (λ m. is_order_with test m.1) (all_handed store is)
 
--- Where a GO_2PC of an attempt was handed to the network, for whichever device, no CANCEL of it is, for any.
+-- If a GO_2PC of an attempt was handed to the network, for whichever device, no CANCEL of it is, for any.
 abbrev pub NeverHandedBoth : Type 0
 NeverHandedBoth = (store : Store) (is : List Incident) (x y : List ℕ) (q d e : ℕ) → BeginsWith store empty_state
     → Happens store is → MayRead (left_by_all store is) x y

@@ -33,7 +33,7 @@ pub record StandsSince (then_a then_b : Contents) (x y : List ℕ) : Type 0 wher
 abbrev pub IsLeftOrStands : Contents → Contents → List ℕ → List ℕ → Type 0
 IsLeftOrStands then_a then_b x y = (IsImage then_a x × IsImage then_b y) ⊎ StandsSince then_a then_b x y
 
--- the record of the cancels, where there are some
+-- the record of the cancels, if there are some
 abbrev pub cancels_records : ShowState → List (List ℕ)
 cancels_records s = records_of (events_at s recovered ∷ [])
 
@@ -51,7 +51,7 @@ pub record NoGenerationLeft (x y : List ℕ) : Type 0 where
   pub needs : NeedsArea x y area state
   pub last : area.generation ≡ 2 ^ 64 - 1
 
--- why the two cannot be recovered; where memory or a device failed, nothing is said of them
+-- why the two cannot be recovered; if memory or a device failed, nothing is said of them
 abbrev pub CannotBeRecovered : StoreFault → List ℕ → List ℕ → Type 0
 CannotBeRecovered store.NotEmpty x y = ⊥
 CannotBeRecovered store.Unformed x y = NeitherHas x y
@@ -63,7 +63,7 @@ CannotBeRecovered store.Exhausted x y = NoGenerationLeft x y
 CannotBeRecovered store.Memory x y = Unit {0}
 CannotBeRecovered store.Disk x y = Unit {0}
 
--- it is so where any other fault is answered
+-- it is so if any other fault is answered
 abbrev pub RefusedBut : {T E D : Type 0} → E → Type 0 → Result T (E × D × D) → Type 0
 RefusedBut fault fact (Ok made) = Unit {0}
 RefusedBut fault fact (Err refused) = (refused.0 ≡ fault → ⊥) → fact

@@ -11,7 +11,7 @@ sent_view sent = record { to = sent.to; bytes = sent.bytes.items; refused = sent
 abbrev pub sents_view : List Sent → List Handed
 sents_view sent = map sent_view sent
 
--- all that was handed over; None where it reports nothing
+-- all that was handed over; None if it reports nothing
 abbrev pub told_by : MemWire → Option (List Handed)
 told_by wire = if wire.tells then Some (sents_view wire.sent.items) else None
 
@@ -19,7 +19,7 @@ told_by wire = if wire.tells then Some (sents_view wire.sent.items) else None
 abbrev pub refuse_in_of : MemWire → ℕ
 refuse_in_of wire = wire.refuse_in
 
--- A send is refused where that was planned for it, and else only where the wire reports nothing any more.
+-- A send is refused if that was planned for it, and else only if the wire reports nothing any more.
 abbrev pub IsAsPlanned : ℕ → Bool → Option (List Handed) → Type 0
 IsAsPlanned refuse_in refused None = refuse_in ≡ 1 → refused ≡ true
 IsAsPlanned refuse_in refused (Some all) = refused ≡ (refuse_in == 1)

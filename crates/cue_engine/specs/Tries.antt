@@ -32,7 +32,7 @@ Tried old brought None = Unit {0}
 Tried None brought (Some new) = ⊥
 Tried (Some old) brought (Some new) = (brought ≡ first_try old) × (new ≡ others old)
 
--- the first turn of so many tries, where all before it are passed over
+-- the first turn of so many tries, if all before it are passed over
 abbrev pub first_of : ℕ → List Try → Option Turn
 first_of zero tries = None
 first_of (suc most) [] = None
@@ -40,7 +40,7 @@ first_of (suc most) (passes ∷ more) = first_of most more
 first_of (suc most) (brings turn ∷ more) = Some turn
 first_of (suc most) (breaks ∷ more) = None
 
--- a call of so many tries at most answered the first turn, and where they bring none a fault
+-- a call of so many tries at most answered the first turn, and if they bring none a fault
 abbrev pub GaveFirst : ℕ → Option (List Try) → Result Turn SourceFault → Option (List Try) → Type 0
 GaveFirst most old result None = Unit {0}
 GaveFirst most None result (Some new) = ⊥

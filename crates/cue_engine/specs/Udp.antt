@@ -53,7 +53,7 @@ abbrev pub came_of : ℕ → Result (ℕ × ℕ) Error → Result Came Error
 came_of own (Ok received) = Ok (came_from own received.1 received.0)
 came_of own (Err error) = known_or error (meaning_of (error_kind error))
 
--- a tick is due 250 ms after the last one, or where the clock was put back
+-- a tick is due 250 ms after the last one, or if the clock was put back
 abbrev pub is_tick_due : ℕ → ℕ → Bool
 is_tick_due last now = nat_lt now last || nat_le 250 (now - last)
 
@@ -61,13 +61,13 @@ is_tick_due last now = nat_lt now last || nat_le 250 (now - last)
 abbrev pub tick_if_due : ℕ → ℕ → Option Turn
 tick_if_due last now = if is_tick_due last now then Some (turn.Tick now) else None
 
--- the turn of what a wait brought that was over at this time: a tick where nothing came, none of noise
+-- the turn of what a wait brought that was over at this time: a tick if nothing came, none of noise
 abbrev pub next_of : Came → ℕ → Option Turn
 next_of came.Noise now = None
 next_of came.Nothing now = Some (turn.Tick now)
 next_of (came.Datagram from n) now = Some (turn.Datagram now from n)
 
--- the datagram that a look found at this time: none where nothing came, or noise
+-- the datagram that a look found at this time: none if nothing came, or noise
 abbrev pub waiting_of : Came → ℕ → Option Waiting
 waiting_of came.Nothing now = None
 waiting_of came.Noise now = None

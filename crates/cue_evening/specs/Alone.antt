@@ -22,7 +22,7 @@ hangs_on_one answers = required_count answers == 1 && has_optional answers
 abbrev pub first_required : List DeviceAnswer → Option ℕ
 first_required answers = option_map (λ x. x.device) (find is_required answers)
 
--- the device that alone is required, where others are optional
+-- the device that alone is required, if others are optional
 abbrev pub alone_required : List DeviceAnswer → Option ℕ
 alone_required answers = if hangs_on_one answers then first_required answers else None
 

@@ -6,7 +6,7 @@ use Rattle.cue_exchange.specs.declared.attempt.Stage.{Stage}
 use Rattle.cue_exchange.specs.declared.attempt.Stage.TheVariants.{Preparing, Decided, Cancelling}
 use Rattle.cue_evening.specs.declared.course.Failure.{Failure}
 
--- an attempt that was decided is complete where no device failed, and one that was not decided is cancelled
+-- an attempt that was decided is complete if no device failed, and one that was not decided is cancelled
 abbrev pub end_of : Stage → List Failure → Outcome
 end_of Preparing failures = Cancelled
 end_of (Cancelling reason) failures = Cancelled

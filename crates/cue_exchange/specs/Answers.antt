@@ -134,11 +134,11 @@ answers_on_entry stage answers = map (enters stage) answers
 abbrev pub with_answer : ℕ → Answer → List DeviceAnswer → List DeviceAnswer
 with_answer d answer answers = map (answers_with d answer) answers
 
--- the device with its answer, where it is one of the attempt
+-- the device with its answer, if it is one of the attempt
 abbrev pub device_answer : List DeviceAnswer → ℕ → Option DeviceAnswer
 device_answer answers d = find (λ x. nat_eq x.device d) answers
 
--- what the device has answered, where it is one of the attempt
+-- what the device has answered, if it is one of the attempt
 abbrev pub answer_of : List DeviceAnswer → ℕ → Option Answer
 answer_of answers d = option_map (λ x. x.answer) (device_answer answers d)
 

@@ -5,7 +5,7 @@ use Rattle.cue_show.specs.declared.limits.TheConstants.{MAX_DEVICE_NUMBER}
 use Rattle.cue_exchange.specs.declared.attempt.Attempt.{Attempt}
 use Rattle.cue_exchange.specs.Live.{attempt_of_device}
 
--- the number of the attempt that the device is in; 0 where it is in none
+-- the number of the attempt that the device is in; 0 if it is in none
 abbrev pub holder : List Attempt → ℕ → ℕ
 holder live d = option_map_or (λ a. a.seq) (attempt_of_device live d) 0
 

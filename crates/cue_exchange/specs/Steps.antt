@@ -130,7 +130,7 @@ after_move q stage live = map (with_change q (moves_to stage)) live
 abbrev pub goes_on : ℕ → Attempt → Bool
 goes_on q a = not (has_number q a) || some_waits a.answers
 
--- the attempts without q, where q has no device that is still to answer
+-- the attempts without q, if q has no device that is still to answer
 abbrev pub without_ended : ℕ → List Attempt → List Attempt
 without_ended q live = filter (goes_on q) live
 
@@ -140,7 +140,7 @@ outcome_of a =
     if is_cancelling a.stage then outcome.Cancelled
     else (if all_have_done a.answers then outcome.Complete else outcome.Failed)
 
--- how q ends, where it has no device that is still to answer
+-- how q ends, if it has no device that is still to answer
 abbrev pub ended_in : ℕ → List Attempt → Option Outcome
 ended_in q live = option_map outcome_of (find (λ a. not (goes_on q a)) live)
 

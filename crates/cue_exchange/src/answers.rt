@@ -51,7 +51,7 @@ impl Answers {
         &self.items
     }
 
-    /// The device with its answer; none where it is not one of the attempt.
+    /// The device with its answer; none if it is not one of the attempt.
     pub fn device_answer(&self, device: DeviceNo) -> Option<&DeviceAnswer>
         ensures { option_copied result ≡ device_answer self.now device }
     {

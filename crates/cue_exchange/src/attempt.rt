@@ -296,7 +296,7 @@ impl Attempt {
         self.answers.has_sound_devices() && self.answers.all_stand(self.stage)
     }
 
-    // Whether some device is still to answer, where the attempt is carried out or given up.
+    // Whether some device is still to answer, if the attempt is carried out or given up.
     fn is_open(&self) -> bool
         ensures { result ≡ is_open self.now.stage self.now.answers }
     {

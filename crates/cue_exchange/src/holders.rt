@@ -7,10 +7,10 @@ ghost use Rattle.cue_exchange.specs.Holders.{AreHolders};
 use crate::attempt::{Attempt, DeviceAnswer};
 use cue_show::limits::MAX_DEVICES;
 
-/// For each device the number of the attempt that it is in, and 0 where it is in none.
+/// For each device the number of the attempt that it is in, and 0 if it is in none.
 pub(crate) type Holders = [u32; MAX_DEVICES];
 
-// The table of these attempts. Where a device were in two, the first would count.
+// The table of these attempts. If a device were in two, the first would count.
 pub(crate) fn holders_of(attempts: &[Attempt]) -> Holders
     ensures { AreHolders result attempts.now }
 {

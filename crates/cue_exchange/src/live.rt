@@ -251,7 +251,7 @@ impl Live {
         self.attempts.iter().all(|a| attempt.is_apart(a))
     }
 
-    /// Puts an attempt that was read from a stored state at its place by number. Asked first: `can_put`. Where memory
+    /// Puts an attempt that was read from a stored state at its place by number. Asked first: `can_put`. If memory
     /// runs out nothing changes.
     pub fn put(&mut self, attempt: Attempt) -> Result<(), AllocError>
         requires { IsTrue (can_put attempt self.old) }
@@ -265,7 +265,7 @@ impl Live {
     }
 
     /// Begins an attempt at the cue: it is Preparing, and each device of the parts is asked to stand by. The deadline
-    /// is in milliseconds since 1970. Where memory runs out nothing changes.
+    /// is in milliseconds since 1970. If memory runs out nothing changes.
     pub fn start(
         &mut self,
         seq: u32,
@@ -322,7 +322,7 @@ impl Live {
         steps::move_to(&mut self.attempts, seq, Stage::Cancelling(reason));
     }
 
-    /// The device has carried the cue out. Where it was the last to answer, the attempt ends, and the result is how
+    /// The device has carried the cue out. If it was the last to answer, the attempt ends, and the result is how
     /// it ended. Asked first: `can_done`.
     pub fn done(&mut self, seq: u32, device: DeviceNo) -> Option<Outcome>
         requires { IsTrue (can_done seq device self.old) }
@@ -334,7 +334,7 @@ impl Live {
         outcome
     }
 
-    /// The device has given the preparation up. Where it was the last to answer, the attempt ends, and the result is
+    /// The device has given the preparation up. If it was the last to answer, the attempt ends, and the result is
     /// how it ended. Asked first: `can_let_go`.
     pub fn let_go(&mut self, seq: u32, device: DeviceNo) -> Option<Outcome>
         requires { IsTrue (can_let_go seq device self.old) }
@@ -346,7 +346,7 @@ impl Live {
         outcome
     }
 
-    /// The device cannot go on. Where it was the last to answer, the attempt ends, and the result is how it ended.
+    /// The device cannot go on. If it was the last to answer, the attempt ends, and the result is how it ended.
     /// Asked first: `can_fail`.
     pub fn failed(&mut self, seq: u32, device: DeviceNo) -> Option<Outcome>
         requires { IsTrue (can_fail seq device self.old) }

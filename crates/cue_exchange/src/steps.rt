@@ -76,7 +76,7 @@ fn move_in(attempt: &mut Attempt, seq: u32, stage: Stage)
     }
 }
 
-// The device has answered for the last time: the attempt ends where no other is still to answer.
+// The device has answered for the last time: the attempt ends if no other is still to answer.
 pub(crate) fn settle(
     attempts: &mut Vec<Attempt>,
     seq: u32,
@@ -99,7 +99,7 @@ fn goes_on(attempt: &Attempt, seq: u32) -> bool
     attempt.seq != seq || attempt.answers.some_waits()
 }
 
-// How the attempt with the number ends, where no device of it is still to answer.
+// How the attempt with the number ends, if no device of it is still to answer.
 fn outcome_in(attempts: &Vec<Attempt>, seq: u32) -> Option<Outcome>
     ensures { result ≡ ended_in seq attempts.now.items }
 {
@@ -109,7 +109,7 @@ fn outcome_in(attempts: &Vec<Attempt>, seq: u32) -> Option<Outcome>
         .map(|a| a.outcome())
 }
 
-// The attempt with the number goes, where no device of it is still to answer.
+// The attempt with the number goes, if no device of it is still to answer.
 fn remove_ended(attempts: &mut Vec<Attempt>, seq: u32)
     ensures { attempts.new.items ≡ without_ended seq attempts.old.items }
 {

@@ -34,7 +34,7 @@ pub enum News {
     Old,
     /// It was read again at this moment, in milliseconds of a clock that never goes back.
     Read(u64, Later),
-    /// It has mistakes, the first in this line, from 1; none where the file does not say.
+    /// It has mistakes, the first in this line, from 1; none if the file does not say.
     Wrong(Option<usize>),
 }
 

@@ -4,7 +4,7 @@ use Rattle.std.specs.List.{flat_map, list_all}
 use Rattle.std.specs.Str.{chars, encode_utf8_all}
 use Rattle.cue_words.specs.Signs.{is_shown, shown}
 
--- a sign as HTML has it: by its entity where it means something there, as < > & " and ' do
+-- a sign as HTML has it: by its entity if it means something there, as < > & " and ' do
 abbrev pub html_sign : ℕ → List ℕ
 html_sign s =
     if s == 60 then codes "&lt;"

@@ -24,7 +24,7 @@ pub const HEAD: &str = r#"<!DOCTYPE html>
 <meta name="viewport" content="width=device-width, initial-scale=1">
 "#;
 
-// Puts a sign after a page, as HTML has it: by its entity where it means something there.
+// Puts a sign after a page, as HTML has it: by its entity if it means something there.
 fn push_html(page: &mut String, sign: char) -> Result<(), AllocError>
     ensures { OnOk result (string_bytes page.new ≡ string_bytes page.old ++ encode_utf8_all (html_sign sign)) }
 {

@@ -57,14 +57,14 @@ pub record Commits {D : Type 0} {disk : Ghosts D} (s : ShowState) (batches : Lis
   -- each fault has its reason
   pub cause : IfSome refused (HasCause batches old new)
   pub after : IfSome refused (LeavesPair old new)
-  -- Broken comes first, then Memory, then Exhausted or Full: where memory is there, it comes wherever it can.
+  -- Broken comes first, then Memory, then Exhausted or Full: if memory is there, it comes wherever it can.
   pub broken : is_broken old ≡ true → refused ≡ Some fault.Broken
   pub in_the_way :
       is_broken old ≡ false
       → (f : Fault)
       → IsInTheWay old batches f
       → (refused ≡ Some fault.Memory) ⊎ (refused ≡ Some f)
-  -- where no batch has an event, there is no device call
+  -- if no batch has an event, there is no device call
   pub quiet : with_events batches ≡ [] → new ≡ old
   pub works : IfNone refused (is_broken new ≡ false)
   -- each batch that has an event is a record of the live area, in order; a new one has no other

@@ -5,11 +5,11 @@ use Rattle.cue_show.specs.Show.{with_cue, with_device, with_place, without_cue, 
 use Rattle.cue_loading.specs.declared.step.Step.{Step}
 use Rattle.cue_loading.specs.declared.step.Step.TheVariants as step
 
--- the show, where it takes the step
+-- the show, if it takes the step
 abbrev pub if_taken : Bool → ShowLists → Option ShowLists
 if_taken taken s = if taken then Some s else None
 
--- the show after a step; none where a controller would refuse it
+-- the show after a step; none if a controller would refuse it
 abbrev pub after_step : ShowLists → Step → Option ShowLists
 after_step s (step.AddDevice d port) = if_taken (can_add_device s d port) (with_device s d port)
 after_step s (step.RemoveDevice d) = if_taken (can_remove_device s d) (without_device s d)
@@ -17,7 +17,7 @@ after_step s (step.AddCue c parts) = if_taken (can_add_cue s c parts) (with_cue 
 after_step s (step.RemoveCue c) = if_taken (has_cue s c) (without_cue s c)
 after_step s (step.MovePlace c) = if_taken (has_cue s c) (with_place s (Some c))
 
--- each in turn, where each is taken
+-- each in turn, if each is taken
 abbrev pub after_steps : ShowLists → List Step → Option ShowLists
 after_steps s [] = Some s
 after_steps s (x ∷ xs) = option_and_then (λ t. after_steps t xs) (after_step s x)

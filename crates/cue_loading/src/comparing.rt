@@ -139,7 +139,7 @@ fn at_least_one(found: &mut Vec<Difference>) -> Result<(), AllocError>
     Ok(())
 }
 
-/// All in which the store is not what the file says: devices, then cues, then the order. There is none exactly where it
+/// All in which the store is not what the file says: devices, then cues, then the order. There is none exactly if it
 /// has the devices of the file with their ports, and no other one, and its stack is that of the file.
 pub fn differences(alloc: Global, file: &Show, stored: &Show) -> Result<Vec<Difference>, AllocError>
     ensures { IfOk result (λ found. (length found.items == 0) ≡ is_same file.now stored.now) }

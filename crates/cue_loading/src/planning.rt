@@ -128,7 +128,7 @@ fn steps_to(
     steps_for(alloc, task)
 }
 
-// The steps, where a trial says that they make of the store what is wanted.
+// The steps, if a trial says that they make of the store what is wanted.
 fn tried(
     alloc: Global,
     is_exact: bool,
@@ -146,7 +146,7 @@ fn tried(
 
 /// What is to be asked, in order, of a controller whose store has this show, so that the file takes the place of what
 /// differs from it and the stack has its order. What the file does not have stays after the cue that it stands after,
-/// or at the front; where it is to be exact, it is removed. None where the stack would have more cues than it can have.
+/// or at the front; if it is to be exact, it is removed. None if the stack would have more cues than it can have.
 ///
 /// The controller takes each step, as long as nothing of the show is live and nobody else changes it.
 pub fn plan(

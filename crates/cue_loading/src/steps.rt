@@ -120,7 +120,7 @@ fn put_rest(task: Task<'_>, steps: &mut Vec<Step>) -> Result<(), AllocError> {
     Ok(())
 }
 
-// The devices that the file does not have, where none of these is to stay.
+// The devices that the file does not have, if none of these is to stay.
 fn remove_devices(task: Task<'_>, steps: &mut Vec<Step>) -> Result<(), AllocError> {
     for (device, _) in task.stored.devices() {
         if task.is_exact && !task.file.has_device(*device) {
@@ -142,7 +142,7 @@ fn wanted_place(task: Task<'_>) -> Option<CueNo> {
     place
 }
 
-// Moves the place back, where a removal has taken it from there.
+// Moves the place back, if a removal has taken it from there.
 fn put_place_back(task: Task<'_>, steps: &mut Vec<Step>) -> Result<(), AllocError> {
     let Some(place) = wanted_place(task) else {
         return Ok(());

@@ -80,7 +80,7 @@ fn carry_all_out(show: &mut Show, steps: &[Step]) -> Result<bool, AllocError>
     Ok(all)
 }
 
-/// The show after each of these steps; none where a controller with this show would refuse one of them.
+/// The show after each of these steps; none if a controller with this show would refuse one of them.
 pub fn after(show: &Show, steps: &[Step]) -> Result<Option<Show>, AllocError>
     ensures { IfOk result (λ after. after ≡ after_steps show.now steps.now) }
 {

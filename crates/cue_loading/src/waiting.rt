@@ -24,7 +24,7 @@ fn listed(alloc: Global, cues: &[CueNo]) -> Result<String, AllocError> {
     Ok(text)
 }
 
-/// What is said while these cues are live: for which to wait. None are known where the store changes while it is read.
+/// What is said while these cues are live: for which to wait. None are known if the store changes while it is read.
 pub fn live_words(alloc: Global, cues: &[CueNo]) -> Result<String, AllocError> {
     let numbers = listed(alloc, cues)?;
     let numbers = numbers.as_str();

@@ -63,7 +63,7 @@ pub record Appends {T D : Type 0} {disk : Ghosts D} (payloads : List (List ℕ))
   -- Broken comes first, then Full: each wherever it can
   pub broken : is_broken old ≡ true → IsErrOf result fault.Broken
   pub full : is_broken old ≡ false → LacksRoom old payloads → IsErrOf result fault.Full
-  -- where there is no record, there is no device call
+  -- if there is no record, there is no device call
   pub quiet : payloads ≡ [] → new ≡ old
   -- after Ok they are there, whatever a stop leaves
   pub appended :
@@ -76,7 +76,7 @@ pub record Appends {T D : Type 0} {disk : Ghosts D} (payloads : List (List ℕ))
   pub count : OnOk result (count_of new ≡ count_of old + length payloads)
   pub end : OnOk result (end_of new ≡ end_of old + room_of payloads)
   pub generation : generation_of new ≡ generation_of old
-  -- the bytes from the last gate on, where there is a record
+  -- the bytes from the last gate on, if there is a record
   pub bytes :
       1 ≤ length payloads
       → disk.is_honest (disk_of old)

@@ -13,7 +13,7 @@ AreBytes bytes = (i : ℕ) → slice_index bytes i < 256
 abbrev pub OneArea : Type 0
 OneArea = (a b : Area) (bytes : List ℕ) → IsArea a bytes → IsArea b bytes → a ≡ b
 
--- The reader finds the area where there is one.
+-- The reader finds the area if there is one.
 abbrev pub ReaderFindsEach : Type 0
 ReaderFindsEach = (area : Area) (bytes : List ℕ) → IsArea area bytes → read_area bytes ≡ Some area
 

@@ -21,7 +21,7 @@ abbrev pub FailsAs : {T E D : Type 0} → E → Type 0 → Result T (E × D) →
 FailsAs fault reason (Ok made) = Unit {0}
 FailsAs fault reason (Err refused) = refused.0 ≡ fault → reason
 
--- a count of failures rose only where this fault is answered
+-- a count of failures rose only if this fault is answered
 abbrev pub CountsOnlyAs : {T E D : Type 0} → E → ℕ → ℕ → Result T (E × D) → Type 0
 CountsOnlyAs fault old new (Ok made) = new ≡ old
 CountsOnlyAs fault old new (Err refused) = refused.0 ≢ fault → new ≡ old

@@ -77,7 +77,7 @@ area_at (gate ∷ bytes) =
     then (if nat_lt (length bytes) 8 then None else area_after (eight_at bytes) (frame_at MAX_AREA (drop 8 bytes)))
     else None
 
--- The area that the bytes read as, where there is one.
+-- The area that the bytes read as, if there is one.
 unfoldable pub read_area : List ℕ → Option Area
 read_area bytes = area_at (take MAX_AREA bytes)
 

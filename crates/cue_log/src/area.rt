@@ -25,7 +25,7 @@ pub(crate) const OPEN: u8 = 1;
 pub(crate) const CLOSED: u8 = 0;
 
 /// Gives up the area of a disk, so that another can be formed there. An empty disk is left alone. On another the head
-/// gate is written only where it is open. After a gate that is not open may stand a torn body, and a stop within a
+/// gate is written only if it is open. After a gate that is not open may stand a torn body, and a stop within a
 /// write of that gate could open it.
 pub fn close<D: Disk>(disk: &mut D) -> Result<(), DiskFault>
     // A stop at any moment leaves what one at entry might have left, or no area.

@@ -64,7 +64,7 @@ fn read_text<D: Disk>(alloc: Global, disk: &mut D, most: usize) -> Result<Vec<u8
     Ok(text)
 }
 
-/// Makes the disk stable, and reads the front of it that has the area, where there is one.
+/// Makes the disk stable, and reads the front of it that has the area, if there is one.
 pub(crate) fn fetch<D: Disk>(alloc: Global, disk: &mut D) -> Result<Vec<u8>, OpenFault>
     ensures any_moment { D.is_honest disk.old → LeavesAtEachMoment D.moment D.held_at disk.old disk.new
         (IsImage (D.held disk.old)) }

@@ -9,7 +9,7 @@ ghost use Rattle.cue_log.specs.Log.{IsClosed, IsShut, IsFilled, IsNoneOr, IsSett
 use crate::area::{CLOSED, HEAD_LEN, MAX_AREA, OPEN};
 use cue_disk::{Disk, DiskFault};
 
-// Writes a closed head gate where the disk is empty.
+// Writes a closed head gate if the disk is empty.
 fn prepare<D: Disk>(disk: &mut D) -> Result<(), DiskFault>
     requires { D.is_honest disk.old → IsClosed (D.held disk.old) }
     ensures any_moment { D.is_honest disk.old → LeavesAtEachMoment D.moment D.held_at disk.old disk.new IsAbsent }

@@ -39,7 +39,7 @@ impl RecordGroup {
         Ok(RecordGroup { bytes, count: 0 })
     }
 
-    /// Adds a record after the others. It takes memory, so that appending the group takes none. Where there is none,
+    /// Adds a record after the others. It takes memory, so that appending the group takes none. If there is none,
     /// the group stays as it was.
     pub fn push(&mut self, added: &Record) -> Result<(), AllocError>
         ensures ok { OnOk result (self.new ≡ self.old ++ added.now ∷ []) }

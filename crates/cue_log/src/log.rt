@@ -122,7 +122,7 @@ impl<D: Disk> Log<D> {
     }
 
     /// Adds records after the last one, with the two writes and two syncs of one: after a stop none of them is there,
-    /// or all are. It takes no memory, and makes no device call where there is no record.
+    /// or all are. It takes no memory, and makes no device call if there is no record.
     pub fn append_all(&mut self, added: &RecordGroup) -> Result<(), AppendFault>
         ensures appends { Appends added.now result self.old self.new }
     {

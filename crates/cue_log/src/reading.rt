@@ -38,7 +38,7 @@ pub(crate) fn frame(bytes: &[u8], most: usize) -> Option<(&[u8], &[u8])>
     Some(behind.split_at(len))
 }
 
-// The front of an area's encoding, where it is there in whole.
+// The front of an area's encoding, if it is there in whole.
 #[tactic(auto, unfolding(crate::specs::Reading::eight_at))]
 fn split_front(text: &[u8]) -> Option<Front<'_>>
     ensures front { MatchOption result (area_at text.now ≡ None)
@@ -95,7 +95,7 @@ pub(crate) struct Parts {
     pub end: u64,
 }
 
-/// The area that stands in front of these bytes, where there is one.
+/// The area that stands in front of these bytes, if there is one.
 pub(crate) fn read_parts(alloc: Global, text: &[u8]) -> Result<Option<Parts>, AllocError>
     requires { length text.now ≤ MAX_AREA }
     ensures area { IfOk result (λ parts. option_map parts_area parts ≡ area_at text.now) }

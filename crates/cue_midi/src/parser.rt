@@ -92,7 +92,7 @@ fn by_data(status: u8, half: Option<u8>, byte: u8) -> Option<Heard>
     }
 }
 
-// The same, where there may be no status byte.
+// The same, if there may be no status byte.
 fn by_data_at(status: Option<u8>, half: Option<u8>, byte: u8) -> Option<Heard>
     ensures { result ≡ stream.by_data_at status half byte }
 {
@@ -208,7 +208,7 @@ impl Parser {
         }
     }
 
-    /// Hears a byte, and answers what it finishes; none where a message goes on.
+    /// Hears a byte, and answers what it finishes; none if a message goes on.
     pub fn hear(&mut self, byte: u8) -> Option<Heard>
         ensures heard { stream.HearsAt self.old byte result }
         ensures keeps { stream.KeepsAt self.old byte self.new }

@@ -21,16 +21,16 @@ use Rattle.cue_operator.specs.Arguments.{command_by}
 abbrev pub reads : List Argument → List Method → List Command
 reads xs ms = map (command_by xs) ms
 
--- the methods, where the test holds
+-- the methods, if the test holds
 abbrev pub methods_if : Bool → List Method → List Method
 methods_if true ms = ms
 methods_if false ms = []
 
--- what a cue is asked by these verbs, where the part matches its number
+-- what a cue is asked by these verbs, if the part matches its number
 abbrev pub named_cue : List Piece → List CueVerb → List ℕ → List Method
 named_cue name verbs cue = methods_if (part_matches name cue) (map (method.OfCue cue) verbs)
 
--- what a device is asked by these verbs, where the part matches its number
+-- what a device is asked by these verbs, if the part matches its number
 abbrev pub named_device : List Piece → List DeviceVerb → ℕ → List Method
 named_device name verbs device = methods_if (part_matches name (decimal device)) (map (method.OfDevice device) verbs)
 
@@ -42,7 +42,7 @@ cue_commands xs name verbs e = reads xs (named_cue name verbs e.0)
 abbrev pub device_commands : List Argument → List Piece → List DeviceVerb → ℕ × ℕ → List Command
 device_commands xs name verbs e = reads xs (named_device name verbs e.0)
 
--- the method, where the part matches this text
+-- the method, if the part matches this text
 abbrev pub named_method : List Piece → List ℕ → Method → List Method
 named_method name text m = methods_if (part_matches name text) (m ∷ [])
 

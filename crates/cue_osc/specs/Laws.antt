@@ -60,6 +60,6 @@ WrittenIsRead =
 abbrev pub MessagesHaveAddresses : Type 0
 MessagesHaveAddresses = (bytes : List ℕ) (c : Content) → Spells bytes c → AllByRecursion HasAddress (leaves c)
 
--- no bytes are to blame where memory ran out
+-- no bytes are to blame if memory ran out
 abbrev pub MemoryIsNoFault : Type 0
 MemoryIsNoFault = (bytes : List ℕ) → datagram_at bytes ≡ Err Memory → ⊥

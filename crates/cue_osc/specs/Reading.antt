@@ -13,7 +13,7 @@ use Rattle.cue_osc.specs.Content.{Content, message, discarded, bundle, Contents,
 use Rattle.cue_osc.specs.Spelling.{slash, comma, padding, is_known_tag, bundle_head}
 use Rattle.cue_osc.specs.declared.limits.TheConstants.{MAX_LEN, MAX_DEPTH}
 
--- one step, and the next where it did not fail
+-- one step, and the next if it did not fail
 infixl 10 ◌>>=◌
 abbrev pub ◌>>=◌ : {A B : Type 0} → Result A Fault → (A → Result B Fault) → Result B Fault
 (Ok x) >>= f = f x
@@ -98,7 +98,7 @@ message_at bytes = do
   a ← string_at bytes
   after_address a.0 a.1
 
--- whether an element may be so long, where so many bytes are left
+-- whether an element may be so long, if so many bytes are left
 abbrev pub is_size : ℕ → ℕ → Bool
 is_size n left = nat_lt 0 n && (nat_lt n (2 ^ 31) && ((n % 4 == 0) && nat_le n left))
 
@@ -133,7 +133,7 @@ bundle_by read bytes = do
   items ← elements_by read (length time.1) time.1
   Ok (bundle time.0 items)
 
--- a packet, where inner is what is read of it as a bundle
+-- a packet, if inner is what is read of it as a bundle
 abbrev pub start_at : Result Content Fault → List ℕ → Result Content Fault
 start_at inner bytes =
     if is_message_start bytes then message_at bytes else if is_bundle_start bytes then inner else Err BadStart

@@ -6,7 +6,7 @@ ghost use Rattle.cue_osc.specs.Laws.{ReadingIsTheGrammar, OnePacket, WrittenIsSp
 ghost use Rattle.cue_osc.specs.Laws.{OneSpelling, SpelledAsWritten, TwoSpellings};
 ghost use Rattle.cue_osc.specs.Laws.{MessagesHaveAddresses, MemoryIsNoFault};
 
-/// Reading from front to back finds a packet exactly where the grammar has one, and that one.
+/// Reading from front to back finds a packet exactly if the grammar has one, and that one.
 pub fn reading_is_the_grammar()
     ensures { ReadingIsTheGrammar }
 {}

@@ -61,9 +61,9 @@ impl<'a> Args<'a> {
 /// A message: an address (in a request: an address pattern) and arguments.
 #[derive(Debug, Drop)]
 pub struct Message<'a> {
-    /// It begins with `/` and holds no null where it was read.
+    /// It begins with `/` and holds no null if it was read.
     pub address: &'a [u8],
-    /// One for each type tag; none also where the type tag string was missing.
+    /// One for each type tag; none also if the type tag string was missing.
     pub args: Args<'a>,
 }
 

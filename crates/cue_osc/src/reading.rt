@@ -19,8 +19,8 @@ use bundle::packet;
 use std::alloc::Global;
 
 /// Reads a datagram, all of it. The packet's slices lie in `bytes`; nothing is copied, and a
-/// message takes one allocation where it has arguments and none where it has not.
-/// `Memory` comes only where an allocation was refused, each other fault only where the bytes
+/// message takes one allocation if it has arguments and none if it has not.
+/// `Memory` comes only if an allocation was refused, each other fault only if the bytes
 /// are no packet: then it is the first fault from front to back.
 pub fn read<'a>(alloc: Global, bytes: &'a [u8]) -> Result<Packet<'a>, Fault>
     // What is read is spelled so.

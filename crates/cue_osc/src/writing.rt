@@ -19,7 +19,7 @@ use length::room_after;
 use std::alloc::{AllocError, Global};
 
 /// The bytes of a packet: its one spelling, each message with its type tag string, also an empty
-/// one. Call `plain` where the packet is not known to be writable. `TooLong` comes where the
+/// one. Call `plain` if the packet is not known to be writable. `TooLong` comes if the
 /// spelling has more than 4,096 bytes, before anything is allocated; else one allocation is made.
 pub fn write(alloc: Global, packet: &Packet<'_>) -> Result<Vec<u8>, WriteFault>
     requires { IsPlain 8 (view packet.now) }

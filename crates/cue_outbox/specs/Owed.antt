@@ -13,7 +13,7 @@ use Rattle.cue_outbox.specs.Sending.{order, orders, datagram, datagrams}
 abbrev pub order_in : Attempt → List Part → ℕ → Order
 order_in a parts d = order_at a.stage a.seq d a.cue (bytes_for d parts)
 
--- the datagram to a device, where it is still to answer
+-- the datagram to a device, if it is still to answer
 abbrev pub datagram_for : ShowState → Attempt → DeviceAnswer → Option (ℕ × List ℕ)
 datagram_for s a x = option_map (λ o. datagram (o.0, order o.1)) (order_for s a x)
 

@@ -77,7 +77,7 @@ fn push_orders(
     Ok(())
 }
 
-// The parts of the cue; none where it is not in the stack.
+// The parts of the cue; none if it is not in the stack.
 fn parts_of(show: &Show, cue: CueNo) -> &[Part]
     ensures value { result.now ≡ cue_parts show.now cue }
     ensures each { IsTrue (list_all is_part result.now) }
@@ -88,7 +88,7 @@ fn parts_of(show: &Show, cue: CueNo) -> &[Part]
     }
 }
 
-// The order to a device, where it is still to answer. Each device of a live attempt has a port, as the law
+// The order to a device, if it is still to answer. Each device of a live attempt has a port, as the law
 // `orders_have_ports` says.
 fn order_for(
     alloc: Global,

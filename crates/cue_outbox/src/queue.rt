@@ -43,7 +43,7 @@ impl Queue {
         self.outs.append(&mut outs)
     }
 
-    /// Takes the first datagram out, where there is one.
+    /// Takes the first datagram out, if there is one.
     pub fn take_first(&mut self) -> Option<Out>
         ensures taken { self.old ≡ outs_view (option_to_list result) ++ self.new }
         ensures none { IfNone result (self.old ≡ []) }

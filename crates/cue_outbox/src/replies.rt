@@ -13,7 +13,7 @@ use std::alloc::{AllocError, Global};
 const SHOWN: usize = 64;
 
 /// The reply to a message: its address, of which the first 64 bytes are shown, how many of its commands were made,
-/// were known and were refused, and the code of the first that was refused, 0 where none was.
+/// were known and were refused, and the code of the first that was refused, 0 if none was.
 #[tactic(auto, unfolding(crate::specs::Sending::send_content, crate::specs::Sending::datagram))]
 pub fn reply(
     alloc: Global,

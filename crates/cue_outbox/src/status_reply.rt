@@ -37,7 +37,7 @@ fn last_number(state: &State) -> u32
     state.last_seq()
 }
 
-// The text of the place; empty where there is none.
+// The text of the place; empty if there is none.
 #[tactic(auto, using(cue_show::proofs::NumberLemmas::number_text, cue_show::proofs::NumberLemmas::number_short))]
 fn text_of(place: &Option<CueNo>) -> &[u8]
     ensures value { result.now ≡ unwrap_or place.now [] }

@@ -66,7 +66,7 @@ parts_match [] (t ∷ ts) = false
 parts_match (p ∷ ps) [] = false
 parts_match (p ∷ ps) (t ∷ ts) = part_matches p t && parts_match ps ts
 
--- the same where there may be no parts, since the bytes are no address
+-- the same if there may be no parts, since the bytes are no address
 abbrev pub matches_parts : List (List Piece) → Option (List (List ℕ)) → Bool
 matches_parts pattern None = false
 matches_parts pattern (Some ts) = parts_match pattern ts

@@ -30,7 +30,7 @@ abbrev pub text_before : ℕ → List ℕ → Option (List ℕ)
 text_before c [] = None
 text_before c (b ∷ bs) = if b == c then Some [] else option_map (λ t. b ∷ t) (text_before c bs)
 
--- the piece that brackets make of what stands after their exclamation mark; none where nothing does
+-- the piece that brackets make of what stands after their exclamation mark; none if nothing does
 abbrev pub negated_piece : List ℕ → Option Piece
 negated_piece [] = None
 negated_piece (b ∷ bs) = Some (Unlisted (ranges (b ∷ bs)))
@@ -46,7 +46,7 @@ is_braced b =
     not (b == open_bracket) && (not (b == close_bracket)
     && (not (b == open_brace) && (not (b == close_brace) && (not (b == asterisk) && not (b == question_mark)))))
 
--- the piece that braces make of what stands in them; none where a byte may not stand there
+-- the piece that braces make of what stands in them; none if a byte may not stand there
 abbrev pub braced_piece : List ℕ → Option Piece
 braced_piece inside = if list_all is_braced inside then Some (Among (cut comma inside)) else None
 
@@ -78,6 +78,6 @@ unfoldable pub pieces_of : List (List ℕ) → Option (List (List Piece))
 pieces_of [] = Some []
 pieces_of (t ∷ ts) = option_and_then (λ p. option_map (λ ps. p ∷ ps) (pieces_of ts)) (pieces_after 0 t)
 
--- the pattern that the bytes spell; none where they are no pattern
+-- the pattern that the bytes spell; none if they are no pattern
 unfoldable pub pattern_at : List ℕ → Option (List (List Piece))
 pattern_at bytes = option_and_then pieces_of (parts_of bytes)

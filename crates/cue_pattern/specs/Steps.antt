@@ -16,12 +16,12 @@ abbrev pub cut_left : ℕ → Option (List ℕ) → List (List ℕ)
 cut_left c None = []
 cut_left c (Some bytes) = cut c bytes
 
--- how many bytes are left, and one more where there are texts to come
+-- how many bytes are left, and one more if there are texts to come
 abbrev pub left_len : Option (List ℕ) → ℕ
 left_len None = 0
 left_len (Some bytes) = length bytes + 1
 
--- what stands before the first separator, and after it where there is one
+-- what stands before the first separator, and after it if there is one
 pub record CutsFirst (c : ℕ) (bytes before : List ℕ) (behind : Option (List ℕ)) : Type 0 where
   pub parts : cut c bytes ≡ before ∷ cut_left c behind
   pub inside : text_before c bytes ≡ option_map (λ _. before) behind

@@ -11,7 +11,7 @@ fn find(separator: u8, bytes: &[u8]) -> Option<usize>
     bytes.iter().position(|b| *b == separator)
 }
 
-/// What stands before the first separator, and what stands after it where there is one. By it an address is cut
+/// What stands before the first separator, and what stands after it if there is one. By it an address is cut
 /// into its parts.
 pub fn cut_first(separator: u8, bytes: &[u8]) -> (&[u8], Option<&[u8]>)
     ensures { CutsFirst separator bytes.now result.0.now (option_copied result.1) }

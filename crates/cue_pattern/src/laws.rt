@@ -2,7 +2,7 @@
 
 ghost use Rattle.cue_pattern.specs.Laws.{ReadsTheGrammar, MatchesTheMeaning, MatchesPartByPart};
 
-/// Reading gives a pattern exactly where the bytes spell it: so no bytes spell two patterns, and
+/// Reading gives a pattern exactly if the bytes spell it: so no bytes spell two patterns, and
 /// bytes that spell none are exactly those that are refused.
 pub fn reads_the_grammar()
     ensures { ReadsTheGrammar }

@@ -41,7 +41,7 @@ fn after_slash(bytes: &[u8]) -> Option<&[u8]>
     }
 }
 
-/// How many parts a pattern has; `None` where the bytes are no pattern. No memory is needed for it.
+/// How many parts a pattern has; `None` if the bytes are no pattern. No memory is needed for it.
 fn count_parts(bytes: &[u8]) -> Option<usize>
     ensures { result ≡ option_map length (pattern_at bytes.now) }
 {
@@ -134,7 +134,7 @@ impl Pattern {
 
         // The same by a function that computes, for the layers above.
         ensures exact { IfOk result (λ b. b ≡ matches self.now address.now) }
-        // Where each part of the address is short, no memory is asked for.
+        // If each part of the address is short, no memory is asked for.
         ensures short { IsTrue (are_short (parts_of address.now)) → IsOk result }
     {
         let Some(first) = after_slash(address) else {

@@ -21,7 +21,7 @@ pub(crate) fn start_at_end(text: &[u8], reached: &mut [bool])
     reached[text.len()] = true;
 }
 
-/// A piece that stands for single bytes: from here, where it takes the byte here and the rest matches
+/// A piece that stands for single bytes: from here, if it takes the byte here and the rest matches
 /// from the next position.
 fn step_byte(piece: &Piece, text: &[u8], reached: &mut [bool])
     requires { length text.now < length reached.old }
@@ -35,7 +35,7 @@ fn step_byte(piece: &Piece, text: &[u8], reached: &mut [bool])
     reached[text.len()] = false;
 }
 
-/// Any text: from here, where the rest matches from here or from a later position.
+/// Any text: from here, if the rest matches from here or from a later position.
 fn step_many(text: &[u8], reached: &mut [bool])
     requires { length text.now < length reached.old }
     ensures { (rest : List ℕ → Bool) → Tells rest text.now reached.old

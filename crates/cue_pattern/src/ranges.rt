@@ -6,7 +6,7 @@ ghost use Rattle.cue_pattern.specs.Grammar.{ranges};
 use std::alloc::{AllocError, Global};
 use std::marker::Model;
 
-/// The bytes from `low` to `high`, both included; none where `low` is above `high`.
+/// The bytes from `low` to `high`, both included; none if `low` is above `high`.
 #[derive(Clone, Copy, Debug, PartialEq, Eq)]
 pub struct Range {
     pub low: u8,
@@ -42,7 +42,7 @@ fn first_range(low: u8, behind: &[u8]) -> (Range, &[u8])
 impl Ranges {
     ghost use Rattle.cue_pattern.specs.Matching.{is_in};
 
-    /// Reads what stands between the brackets, after the `!` where there is one.
+    /// Reads what stands between the brackets, after the `!` if there is one.
     pub(crate) fn read(alloc: Global, inside: &[u8]) -> Result<Ranges, AllocError>
         ensures { IfOk result (λ r. r ≡ ranges inside.now) }
     {

@@ -63,7 +63,7 @@ fn brace_at(behind: &[u8]) -> Option<(Token<'_>, &[u8])>
     }
 }
 
-/// The piece that begins with this byte, and what follows the piece; `None` where brackets or braces
+/// The piece that begins with this byte, and what follows the piece; `None` if brackets or braces
 /// are badly written.
 #[tactic(auto, unfolding(crate::specs::Reading::piece_at))]
 pub(crate) fn token_at(first: u8, behind: &[u8]) -> Option<(Token<'_>, &[u8])>
@@ -79,7 +79,7 @@ pub(crate) fn token_at(first: u8, behind: &[u8]) -> Option<(Token<'_>, &[u8])>
     }
 }
 
-/// How many pieces a part has; `None` where it is badly written.
+/// How many pieces a part has; `None` if it is badly written.
 pub(crate) fn count_pieces(text: &[u8]) -> Option<usize>
     ensures { result ≡ option_map length (pieces_after 0 text.now) }
 {

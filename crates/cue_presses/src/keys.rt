@@ -91,7 +91,7 @@ fn is_held_after(key: Key, is_held: bool, heard: &Heard) -> bool
     }
 }
 
-/// What is wished by what is heard; none where no key is pressed.
+/// What is wished by what is heard; none if no key is pressed.
 pub fn intent_of(keys: &Keys, held: &Held, heard: &Heard) -> Option<Intent>
     ensures { result ≡ rule.intent_of keys.now held.now heard.now }
 {

@@ -17,7 +17,7 @@ program_line program.NotFound = fault_line (codes "NotFound")
 program_line program.Io = fault_line (codes "Io")
 program_line program.Net = fault_line (codes "Net")
 
--- 1 where the store refuses, 3 where the machine does
+-- 1 if the store refuses, 3 if the machine does
 abbrev pub program_status : ProgramFault → ℕ
 program_status (program.Failed failure) = failure_status failure
 program_status program.NotFound = 3
@@ -39,7 +39,7 @@ abbrev pub unbound_fault : Option StoreFault → ProgramFault
 unbound_fault None = program.Net
 unbound_fault (Some fault) = program.Failed (Store fault)
 
--- 0 where a command was carried out
+-- 0 if a command was carried out
 abbrev pub done_status : {T : Type 0} → Result T ProgramFault → ℕ
 done_status (Ok done) = 0
 done_status (Err fault) = program_status fault

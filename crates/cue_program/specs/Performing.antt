@@ -1,4 +1,4 @@
--- How a command line ends: what is printed where it was carried out.
+-- How a command line ends: what is printed if it was carried out.
 use Rattle.std.specs.Prelude.{◌≡◌, ℕ, ◌≤◌, List, [], ◌∷◌, ◌++◌, codes, decimal, Option, Some}
 use Rattle.std.specs.Prelude.{None, IfSome}
 use Rattle.std.specs.Io.KnownBytes.{Appends}
@@ -37,7 +37,7 @@ pub record IsStateShown (x y : List ℕ) (old new : Option (List ℕ)) : Type 0 
   pub stand : Stands x y state
   pub printed : Appends old new (show_text state)
 
--- How a command ends: what is printed where its status is 0, and for a script all that is written. The text is what the
+-- How a command ends: what is printed if its status is 0, and for a script all that is written. The text is what the
 -- reader has.
 abbrev pub EndsSo : Line → (status : ℕ) → (text old new : Option (List ℕ)) → Type 0
 EndsSo (Form dir) status text old new = status ≡ 0 → Appends old new formed_text

@@ -72,7 +72,7 @@ fn print<W: Write>(writer: &mut W, text: &[u8]) -> Result<(), ProgramFault>
     }
 }
 
-// The engine of an empty show on two files. It is asked for where it is said that one was formed.
+// The engine of an empty show on two files. It is asked for if it is said that one was formed.
 fn form_on<R: Eprint>(
     rt: &R,
     alloc: Global,

@@ -29,7 +29,7 @@ time_text n = to_be_bytes w64 n
 abbrev pub text_text : List ℕ → List ℕ
 text_text bytes = length bytes ∷ bytes
 
--- the number of a part's flag: 1 where the part is optional
+-- the number of a part's flag: 1 if the part is optional
 abbrev pub flag_number : Bool → ℕ
 flag_number false = 0
 flag_number true = 1
@@ -51,7 +51,7 @@ parts_text form parts = length parts ∷ flat_map (part_text form) parts
 abbrev pub are_required : List Part → Bool
 are_required parts = list_all is_required_part parts
 
--- the form in which parts are written: plain where each is required
+-- the form in which parts are written: plain if each is required
 abbrev pub form_for : List Part → PartsForm
 form_for parts = if are_required parts then Plain else Flagged
 

@@ -23,7 +23,7 @@ use Rattle.cue_records.specs.declared.parts_form.PartsForm.TheVariants.{Plain, F
 abbrev pub Reads : Type 0 → Type 0
 Reads X = List ℕ → Option (X × List ℕ)
 
--- one step, and the next where it found something
+-- one step, and the next if it found something
 infixl 10 ◌>>=◌
 abbrev pub ◌>>=◌ : {A B : Type 0} → Option A → (A → Option B) → Option B
 (Some x) >>= f = f x
@@ -41,15 +41,15 @@ Gives view (Err e) read = Fails e read
 
 -- ---- readers of readers
 
--- the value, where it passes the test
+-- the value, if it passes the test
 abbrev pub where_it : {A : Type 0} → Bool → A → Option A
 where_it test x = if test then Some x else None
 
--- what is read, where it passes the test
+-- what is read, if it passes the test
 abbrev pub where_at : {A : Type 0} → (A → Bool) → Reads A → Reads A
 where_at test read bytes = read bytes >>= λ x. where_it (test x.0) x
 
--- what is made of what is read, where something is
+-- what is made of what is read, if something is
 abbrev pub made_at : {A B : Type 0} → (A → Option B) → Reads A → Reads B
 made_at make read bytes = read bytes >>= λ x. make x.0 >>= λ y. Some (y, x.1)
 

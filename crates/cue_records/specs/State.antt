@@ -29,7 +29,7 @@ table_text devices = byte_text (length devices) ++ flat_map entry_text devices
 abbrev pub stack_text : PartsForm → Cues → List ℕ
 stack_text form cues = short_text (length cues) ++ flat_map (new_cue_text form) cues
 
--- the place, or an empty text where there is none
+-- the place, or an empty text if there is none
 abbrev pub place_text : Option (List ℕ) → List ℕ
 place_text None = text_text []
 place_text (Some c) = text_text c
@@ -40,7 +40,7 @@ show_text form s = table_text s.devices ++ (stack_text form s.cues ++ place_text
 
 -- ---- the attempts
 
--- the attempt that ended last and how, or zeros where none has
+-- the attempt that ended last and how, or zeros if none has
 abbrev pub ended_text : Option Ended → List ℕ
 ended_text None = number_text 0 ++ byte_text 0
 ended_text (Some e) = number_text e.seq ++ byte_text (outcome_number e.outcome)
@@ -81,7 +81,7 @@ abbrev pub version_number : PartsForm → ℕ
 version_number Plain = OLD_VERSION
 version_number Flagged = VERSION
 
--- the form of the parts in the version; none where there is no such version
+-- the form of the parts in the version; none if there is no such version
 abbrev pub form_of_version : ℕ → Option PartsForm
 form_of_version n = if n == OLD_VERSION then Some Plain else if n == VERSION then Some Flagged else None
 
@@ -90,7 +90,7 @@ abbrev pub is_other_version : List ℕ → Bool
 is_other_version [] = false
 is_other_version (b ∷ bytes) = is_none (form_of_version b)
 
--- the state has an encoding with parts of this form: with plain parts only where it has at most 256 cues, of required
+-- the state has an encoding with parts of this form: with plain parts only if it has at most 256 cues, of required
 -- parts alone
 abbrev pub has_text : PartsForm → ShowState → Bool
 has_text Plain s = nat_le (length s.show.cues) OLD_MAX_CUES && list_all (λ e. are_required e.1) s.show.cues

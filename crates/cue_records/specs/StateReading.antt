@@ -38,7 +38,7 @@ GivesState (Err fault.Memory) read = Unit {0}
 
 -- ---- one after the other
 
--- one more is read and added, where it can be
+-- one more is read and added, if it can be
 abbrev pub added_at : {S A : Type 0} → (S → A → Bool) → (S → A → S) → Reads A → S → Reads S
 added_at can add read s bytes = read bytes >>= λ x. where_it (can s x.0) (add s x.0, x.1)
 
@@ -57,7 +57,7 @@ device_step = added_at (λ s e. can_add_device s e.0 e.1) (λ s e. with_device s
 unfoldable pub cue_step : PartsForm → ShowLists → Reads ShowLists
 cue_step form = added_at (λ s e. can_add_cue s e.0 e.1) (λ s e. with_cue s e.0 e.1) (new_cue_at form)
 
--- the place with the text; none where it is empty
+-- the place with the text; none if it is empty
 abbrev pub place_of : List ℕ → Option (Option (List ℕ))
 place_of [] = Some None
 place_of (b ∷ bs) = where_it (is_cue_number (b ∷ bs)) (Some (b ∷ bs))
@@ -66,7 +66,7 @@ place_of (b ∷ bs) = where_it (is_cue_number (b ∷ bs)) (Some (b ∷ bs))
 unfoldable pub place_at : Reads (Option (List ℕ))
 place_at = made_at place_of text_at
 
--- the place, where it is one of the show
+-- the place, if it is one of the show
 unfoldable pub place_step : ShowLists → Reads ShowLists
 place_step = added_at is_place_of with_place place_at
 
@@ -162,7 +162,7 @@ tail_of show live bytes =
 
 -- ---- the state
 
--- the state, where it keeps the rules
+-- the state, if it keeps the rules
 abbrev pub where_state : ShowState → Option ShowState
 where_state s = where_it (is_state s) s
 

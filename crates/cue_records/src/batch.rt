@@ -16,7 +16,7 @@ use std::alloc::{AllocError, Global};
 use std::marker::Model;
 
 /// The events of a batch, in order. `read_batch` alone makes one, since `write_batch` takes a slice of events. It gives
-/// no `Vec` back: whoever has read a batch goes over its events where they lie.
+/// no `Vec` back: whoever has read a batch goes over its events if they lie.
 #[derive(Drop)]
 pub struct Batch {
     events: Vec<Event>,
@@ -47,7 +47,7 @@ impl Batch {
     }
 }
 
-/// How many bytes the encoding of the events has, or the most that 64 bits hold where it has more.
+/// How many bytes the encoding of the events has, or the most that 64 bits hold if it has more.
 pub fn batch_len(events: &[Event]) -> u64
     ensures { result ≡ min (length (batch_text events.now)) (2 ^ 64 - 1) }
 {

@@ -15,7 +15,7 @@ pub enum PartsForm {
 }
 
 impl PartsForm {
-    /// The plain form where each part is required, and the one with flags otherwise.
+    /// The plain form if each part is required, and the one with flags otherwise.
     pub(crate) fn of_parts(parts: &Parts) -> PartsForm
         ensures { result ≡ form_for parts.now }
     {

@@ -74,7 +74,7 @@ told_by order p = told_at_end p.manner.behaviour order (reported_for p.device)
 abbrev pub after_end : Order → Player → Player
 after_end order p = record p { device = after_call (told_by order p) p.device; work = None }
 
--- the answer where a report was in time
+-- the answer if a report was in time
 abbrev pub answer_in : Result (Option Answer) ReportFault → Option Answer
 answer_in (Ok answer) = answer
 answer_in (Err fault) = None

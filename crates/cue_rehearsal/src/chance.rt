@@ -36,7 +36,7 @@ impl Chance {
         }
     }
 
-    /// Whether the next datagram is lost, where so many of a hundred are.
+    /// Whether the next datagram is lost, if so many of a hundred are.
     pub fn is_lost(&mut self, of_hundred: u8) -> bool
         ensures none { of_hundred ≡ 0 → result ≡ false }
         ensures all { 100 ≤ of_hundred → IsTrue result }

@@ -53,7 +53,7 @@ pub struct Manner {
 }
 
 impl Manner {
-    /// How long the machine takes for an order, in milliseconds, where it takes so much longer than it always does.
+    /// How long the machine takes for an order, in milliseconds, if it takes so much longer than it always does.
     pub fn time_for(self, order: Order, longer: u32) -> u64
         ensures { result ≡ time_for self order longer }
     {

@@ -138,7 +138,7 @@ fn push(devices: &mut Vec<DeviceNo>, device: DeviceNo) -> Result<(), AllocError>
     Ok(())
 }
 
-// The devices at this key; none where there is no such key.
+// The devices at this key; none if there is no such key.
 fn devices_in(alloc: Global, table: &Table, key: &'static str) -> Result<Vec<DeviceNo>, PlanFault> {
     let mut devices = Vec::new(alloc);
     let values = match table.get(key) {
@@ -166,7 +166,7 @@ fn number_of(value: &Value, most: u32) -> Option<u32> {
     }
 }
 
-// The time at this key; the usual one where there is no such key.
+// The time at this key; the usual one if there is no such key.
 fn time_in(table: &Table, key: &'static str, usual: u32) -> Result<u32, PlanFault> {
     match table.get(key) {
         None => Ok(usual),
@@ -216,7 +216,7 @@ fn plan_in(alloc: Global, table: &Table) -> Result<Plan, PlanFault> {
 }
 
 /// The plan of a show file, of which this is all that TOML reads: that of its table `[rehearse]`, and the usual one
-/// where it has none.
+/// if it has none.
 pub fn read_plan(alloc: Global, file: &Table) -> Result<Plan, PlanFault> {
     match file.get("rehearse") {
         None => Ok(Plan::new(alloc)),
@@ -225,7 +225,7 @@ pub fn read_plan(alloc: Global, file: &Table) -> Result<Plan, PlanFault> {
     }
 }
 
-/// The devices of a text as `3,22`; none where it is no such text. It fails only where memory ran out.
+/// The devices of a text as `3,22`; none if it is no such text. It fails only if memory ran out.
 pub fn read_devices(alloc: Global, text: &str) -> Result<Option<Vec<DeviceNo>>, AllocError> {
     let mut devices = Vec::new(alloc);
     for word in text.split(',') {

@@ -23,7 +23,7 @@ pub struct Work {
 pub struct Player {
     device: Device,
     manner: Manner,
-    // What the machine does; none where it is at rest.
+    // What the machine does; none if it is at rest.
     work: Option<Work>,
 }
 
@@ -46,14 +46,14 @@ impl Player {
         &self.device
     }
 
-    /// What the machine does; none where it is at rest.
+    /// What the machine does; none if it is at rest.
     pub fn work(&self) -> Option<Work>
         ensures { result ≡ self.now.work }
     {
         self.work
     }
 
-    /// A datagram came: the order that the machine begins with, and the length of the answer in `out`, 0 where there is
+    /// A datagram came: the order that the machine begins with, and the length of the answer in `out`, 0 if there is
     /// none. `longer` is how much longer than always the machine takes for what is ordered now, in milliseconds. A
     /// silent device hears nothing.
     pub fn hear(

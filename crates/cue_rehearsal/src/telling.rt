@@ -46,7 +46,7 @@ impl fmt::Display for Deed {
 /// A line: `12.5 device 3 prepares`.
 #[derive(Clone, Copy, PartialEq, Eq, Debug)]
 pub struct Line {
-    /// The cue; none where no standby came to the device.
+    /// The cue; none if no standby came to the device.
     pub cue: Option<CueNo>,
     pub device: DeviceNo,
     pub deed: Deed,

@@ -13,7 +13,7 @@ use toml::Table;
 #[derive(Clone, Copy)]
 pub struct PlanPlace<'a> {
     pub path: &'a str,
-    /// The line of its header, where it can be seen.
+    /// The line of its header, if it can be seen.
     pub line: Option<usize>,
 }
 
@@ -42,7 +42,7 @@ pub fn plan_of<R: Eprint + AllocGlobal>(
     }
 }
 
-// Says that the file does not have a device which the plan names; with its line, where the plan is of the file alone.
+// Says that the file does not have a device which the plan names; with its line, if the plan is of the file alone.
 fn say_unknown<R: Eprint>(rt: &R, at: Option<PlanPlace<'_>>, device: DeviceNo) {
     let number = device.number();
     let what = format_args!("the file has no device {number} to rehearse");
@@ -69,7 +69,7 @@ fn knows_all<R: Eprint>(
 }
 
 /// Whether each device that the plan names is in the file; else which one is not is on standard error, with the place
-/// of the plan where it is of the file alone.
+/// of the plan if it is of the file alone.
 pub fn knows_plan<R: Eprint>(
     rt: &R,
     at: Option<PlanPlace<'_>>,

@@ -32,7 +32,7 @@ pub(crate) struct Shared {
 }
 
 impl Seat {
-    // The next datagram: its length. None where none waits.
+    // The next datagram: its length. None if none waits.
     fn next(&mut self, buffer: &mut [u8; MAX_LEN]) -> Option<usize>
         ensures { IfSome result (λ n. n ≤ length buffer.new) }
     {
@@ -53,7 +53,7 @@ impl Seat {
         let _ = self.socket.send_to(answer, self.controller);
     }
 
-    /// Sends the answer of the device, where it has one.
+    /// Sends the answer of the device, if it has one.
     pub(crate) fn send_answer(&self, shared: &mut Shared, answer: Option<Answer>) {
         let mut out = [0; MAX_ANSWER];
         let len = self.player.device().write_answer(answer, &mut out);
@@ -108,7 +108,7 @@ impl Seat {
         Ok(())
     }
 
-    /// Ends what the machine does, where its time is over.
+    /// Ends what the machine does, if its time is over.
     pub(crate) fn work<R: AllocGlobal, W: Write>(
         &mut self,
         rt: &R,

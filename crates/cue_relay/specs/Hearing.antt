@@ -88,7 +88,7 @@ abbrev pub is_any_overdue : Option Pending → ℕ → Bool
 is_any_overdue None now = false
 is_any_overdue (Some p) now = is_overdue p now
 
--- it falls silent where something is overdue, once
+-- it falls silent if something is overdue, once
 abbrev pub falls_silent : Contact → ℕ → Bool
 falls_silent c now = not c.silent && is_any_overdue c.pending now
 

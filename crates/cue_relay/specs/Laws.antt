@@ -45,7 +45,7 @@ abbrev pub is_controller : Side → Bool
 is_controller Controller = true
 is_controller Stage = false
 
--- the time of an answer of a source, where that goes on to the controller by the route
+-- the time of an answer of a source, if that goes on to the controller by the route
 abbrev pub time_to_controller : ℕ → Answer → Option Going → List ℕ
 time_to_controller route (comes now at from bytes) (Some g) =
     if is_controller g.way.out.side && (g.way.out.route == route) then now ∷ [] else []

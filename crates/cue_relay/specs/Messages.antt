@@ -85,7 +85,7 @@ abbrev pub order_at : Result Content Fault → Option Command
 order_at (Ok c) = order_read c
 order_at (Err e) = None
 
--- where there is a task, it is one that a cue may have
+-- if there is a task, it is one that a cue may have
 abbrev pub is_task : Option Task → Bool
 is_task None = true
 is_task (Some t) = is_cue_number t.cue && nat_le (length t.bytes) MAX_PART_BYTES
@@ -125,7 +125,7 @@ said_in d bytes = if is_reply bytes then Some says.Reply else option_map order_o
 abbrev pub answered_in : ℕ → List ℕ → Option Message
 answered_in d bytes = option_map answer_of (answer_in d bytes)
 
--- what a datagram says that came at this side of the route of the device d; none where it says nothing that may go on
+-- what a datagram says that came at this side of the route of the device d; none if it says nothing that may go on
 abbrev pub message_in : Side → ℕ → List ℕ → Option Message
 message_in Controller d bytes = said_in d bytes
 message_in Stage d bytes = answered_in d bytes

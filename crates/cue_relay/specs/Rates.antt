@@ -10,12 +10,12 @@ use Rattle.cue_relay.specs.declared.route.Side.TheVariants.{Controller, Stage}
 abbrev pub is_past : ℕ → ℕ → Bool
 is_past time now = nat_lt now time || nat_le SECOND (now - time)
 
--- where there is a time, it is past
+-- if there is a time, it is past
 abbrev pub is_past_or_none : Option ℕ → ℕ → Bool
 is_past_or_none None now = true
 is_past_or_none (Some time) now = is_past time now
 
--- One more may go on where fewer than a hundred went on before, or the hundredth before it a second ago or more. The
+-- One more may go on if fewer than a hundred went on before, or the hundredth before it a second ago or more. The
 -- times are those of the last hundred, the latest first.
 abbrev pub has_room : List ℕ → ℕ → Bool
 has_room times now = is_past_or_none (slice_get times (RATE - 1)) now

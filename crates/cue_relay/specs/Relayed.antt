@@ -24,13 +24,13 @@ use Rattle.cue_relay.specs.Wires.{Sending, Handed, Grew}
 abbrev pub no_times : List Route → List (List ℕ)
 no_times routes = replicate (length routes) []
 
--- where both are there
+-- if both are there
 abbrev pub going_of : Option Way → Option Message → Option Going
 going_of (Some way) (Some m) = Some (record { way = way; message = m })
 going_of (Some way) None = None
 going_of None m = None
 
--- how a datagram would go on, whatever went on before it: by its way, where it says something that may go on there
+-- how a datagram would go on, whatever went on before it: by its way, if it says something that may go on there
 abbrev pub way_and_message : Relay → Opening → Address → List ℕ → Option Going
 way_and_message r at from bytes =
     going_of (way_of r.controller r.routes.now at from (length bytes)) (message_at r.routes.now at bytes)
@@ -50,7 +50,7 @@ times_then r meters (ticks now) = meters
 times_then r meters ends = meters
 times_then r meters fails = meters
 
--- the bytes as they came, where they go on
+-- the bytes as they came, if they go on
 abbrev pub sent_by : List ℕ → Option Going → List Sending
 sent_by bytes None = []
 sent_by bytes (Some g) = record { way = g.way; bytes = bytes } ∷ []

@@ -42,7 +42,7 @@ way_of controller routes at from len =
     then option_and_then (λ route. way_by controller route at from) (slice_get routes at.route)
     else None
 
--- what it says, where it says something that may go on there
+-- what it says, if it says something that may go on there
 abbrev pub message_at : List Route → Opening → List ℕ → Option Message
 message_at routes at bytes =
     option_and_then (λ route. message_in at.side route.device bytes) (slice_get routes at.route)

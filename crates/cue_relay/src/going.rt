@@ -16,7 +16,7 @@ pub struct Going {
     pub message: Message,
 }
 
-// What a datagram says that came at this opening; none where it says nothing that may go on there.
+// What a datagram says that came at this opening; none if it says nothing that may go on there.
 fn message_at(routes: &[Route], at: Opening, datagram: &[u8]) -> Option<Message>
     ensures { result ≡ message_at routes.now at datagram.now }
 {
@@ -35,7 +35,7 @@ fn way_and_message(relay: Relay<'_>, at: Opening, from: Address, datagram: &[u8]
     Some(Going { way, message })
 }
 
-/// How a datagram goes on that came at this opening from this sender at this time; none where it is dropped. What goes
+/// How a datagram goes on that came at this opening from this sender at this time; none if it is dropped. What goes
 /// on to the controller is noted.
 pub fn goes_on(
     relay: Relay<'_>,

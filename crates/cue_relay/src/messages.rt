@@ -73,7 +73,7 @@ fn answer_with(device: DeviceNo, datagram: &[u8], seq: u32) -> Option<Answer>
     }
 }
 
-// The answer of the device that the datagram is, byte for byte; none where it is anything else.
+// The answer of the device that the datagram is, byte for byte; none if it is anything else.
 fn answer_in(device: DeviceNo, datagram: &[u8]) -> Option<Answer>
     ensures { result ≡ answer_in device datagram.now }
 {
@@ -83,7 +83,7 @@ fn answer_in(device: DeviceNo, datagram: &[u8]) -> Option<Answer>
     }
 }
 
-// The order to the device that the datagram is, byte for byte; none where it is anything else. `number` says how large
+// The order to the device that the datagram is, byte for byte; none if it is anything else. `number` says how large
 // a device's number is.
 fn order_in(device: DeviceNo, datagram: &[u8]) -> Option<Command>
     ensures { result ≡ order_in device datagram.now }
@@ -133,7 +133,7 @@ fn said_in(device: DeviceNo, datagram: &[u8]) -> Option<Message>
     }
 }
 
-/// What a datagram says that came at this side of the device's route; none where it says nothing that may go on.
+/// What a datagram says that came at this side of the device's route; none if it says nothing that may go on.
 pub fn message_in(side: Side, device: DeviceNo, datagram: &[u8]) -> Option<Message>
     ensures { result ≡ message_in side device datagram.now }
 {

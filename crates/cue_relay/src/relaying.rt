@@ -71,7 +71,7 @@ pub struct Ended {
     /// How many datagrams and ticks came.
     pub turns: u64,
     pub counts: Counts,
-    /// None where it had its turns or the source ended.
+    /// None if it had its turns or the source ended.
     pub fault: Option<RelayFault>,
 }
 
@@ -104,7 +104,7 @@ impl Counts {
     }
 }
 
-// Hands a datagram on, where it goes on.
+// Hands a datagram on, if it goes on.
 fn hand_on<W: Wire>(
     relay: Relay<'_>,
     meters: &mut [Meter],
@@ -204,7 +204,7 @@ fn room(alloc: Global, routes: usize) -> Result<(Vec<u8>, Vec<Meter>), AllocErro
 }
 
 /// Takes so many datagrams and ticks at most, and hands on what goes on, each at once and with its own bytes. It ends
-/// at its turns, where the source ends, or at a fault of the source. After each turn `watch` looks at what happened.
+/// at its turns, if the source ends, or at a fault of the source. After each turn `watch` looks at what happened.
 /// What it works with it takes before its first turn: none takes memory.
 pub fn run<S: Source, W: Wire, V: Watch>(
     alloc: Global,

@@ -19,7 +19,7 @@ pub struct Route {
     pub device: DeviceNo,
     /// The port at which the relay has a socket on either side.
     pub port: u16,
-    /// Where the device itself is, on the stage's network.
+    /// If the device itself is, on the stage's network.
     pub address: Address,
 }
 
@@ -92,7 +92,7 @@ fn way_by(controller: Address, route: &Route, at: Opening, from: Address) -> Opt
     Some(Way { out, to })
 }
 
-/// How a datagram of so many bytes goes on that came at this opening from this sender; None where it is dropped.
+/// How a datagram of so many bytes goes on that came at this opening from this sender; None if it is dropped.
 pub fn way_of(
     controller: Address,
     routes: &[Route],

@@ -1,4 +1,4 @@
-//! Where the datagrams of the relay come from.
+//! If the datagrams of the relay come from.
 ghost use Rattle.std.specs.Prelude.{List, Option, [], ◌∷◌, length};
 ghost use Rattle.cue_relay.specs.Sources.{Answer, gave, IsWithin, GaveAll};
 

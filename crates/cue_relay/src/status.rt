@@ -237,7 +237,7 @@ fn seen_in(line: &str) -> Option<Seen> {
     })
 }
 
-// The devices of the lines up to `end`; none where a line is no device's, or there is no end.
+// The devices of the lines up to `end`; none if a line is no device's, or there is no end.
 fn devices_in(alloc: Global, lines: Lines<'_>) -> Result<Option<Vec<Seen>>, AllocError> {
     let mut devices = Vec::new(alloc);
     for line in lines {
@@ -252,7 +252,7 @@ fn devices_in(alloc: Global, lines: Lines<'_>) -> Result<Option<Vec<Seen>>, Allo
     Ok(None)
 }
 
-/// Reads the status that a text is; None where it is none, as where it is cut off.
+/// Reads the status that a text is; None if it is none, as if it is cut off.
 pub fn read(alloc: Global, text: &str) -> Result<Option<Status>, AllocError> {
     let mut lines = text.lines();
     let (Some(first), Some(second)) = (lines.next(), lines.next()) else {

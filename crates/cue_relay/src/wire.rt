@@ -1,4 +1,4 @@
-//! Where the relay hands datagrams over.
+//! If the relay hands datagrams over.
 ghost use Rattle.std.specs.Prelude.{List, Option, [], ◌∷◌, is_err};
 ghost use Rattle.cue_relay.specs.Wires.{Handed, Grew, handed_as};
 

@@ -24,7 +24,7 @@ impl Ready {
         self.queue.is_empty()
     }
 
-    /// The socket has something to read: it is the last in turn, where it does not wait already.
+    /// The socket has something to read: it is the last in turn, if it does not wait already.
     pub fn add(&mut self, place: usize) -> Result<(), AllocError> {
         match self.waits.get_mut(place) {
             Some(waits) if !*waits => {

@@ -21,7 +21,7 @@ no order, or more than 100 of one device within a second";
 struct StatusFile<'a> {
     path: &'a str,
     beside: String,
-    // When it was written last; none where that has failed.
+    // When it was written last; none if that has failed.
     last: u64,
     has_failed: bool,
 }
@@ -48,7 +48,7 @@ fn words(news: News) -> &'static str {
     }
 }
 
-// Where the status is written first.
+// If the status is written first.
 fn status_file<'a>(alloc: Global, path: &'a str) -> Result<StatusFile<'a>, AllocError> {
     Ok(StatusFile {
         path,
@@ -128,7 +128,7 @@ impl<'a, R: Files<File = File> + Eprint + AllocGlobal, W: Write> Reporter<'a, R,
         }
     }
 
-    // Writes the status, where a second has passed since it was written.
+    // Writes the status, if a second has passed since it was written.
     fn write_status(&mut self, now: u64, counts: Counts) {
         let Some(file) = &mut self.status else {
             return;

@@ -68,7 +68,7 @@ fn opening_at(place: usize) -> Opening {
     }
 }
 
-// One socket; where there is none, why is on standard error.
+// One socket; if there is none, why is on standard error.
 fn bind_one<R: Net + Eprint>(rt: &R, address: Address) -> Result<UdpSocket, Ending> {
     match UdpSocket::bind(rt, socket_address(address)) {
         Ok(socket) => Ok(socket),
@@ -173,7 +173,7 @@ impl<'a, C: Clock> NetSource<'a, C> {
         true
     }
 
-    // Waits until a socket has something to read, or looks which ones have where some wait already.
+    // Waits until a socket has something to read, or looks which ones have if some wait already.
     fn look(&mut self) -> io::Result<()> {
         let wait = if self.ready.is_empty() { TICK } else { 0 };
         self.poll
@@ -207,7 +207,7 @@ impl<'a, C: Clock> NetSource<'a, C> {
         }
     }
 
-    // What it means that the socket of this place gave no datagram. Where another call may, it stays in turn.
+    // What it means that the socket of this place gave no datagram. If another call may, it stays in turn.
     fn passes(&mut self, place: usize, error: io::Error) -> io::Result<Try>
         ensures { IfOk result (λ brought. brought ≡ Passes) }
     {

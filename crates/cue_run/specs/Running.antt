@@ -78,7 +78,7 @@ pub record Refuses {D : Type 0} {disk : Ghosts D} (size most : ℕ) (f : Fault) 
   pub accepts : Accepts (batches_given (kept.state_of met) inputs) (Some f) met new
   -- a new area has room for any state and batch, and what is offered together has room in the live one
   pub not_full : f ≡ Full → ⊥
-  -- even where a device failed a crash leaves the state, or the one after all of the inputs
+  -- even if a device failed a crash leaves the state, or the one after all of the inputs
   pub leaves :
       disk.is_honest (kept.first_of old)
       → disk.is_honest (kept.second_of old)

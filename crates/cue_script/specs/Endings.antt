@@ -40,7 +40,7 @@ abbrev pub stream_line : StreamFailure → List ℕ
 stream_line Io = fault_line (codes "Io")
 stream_line Memory = fault_line (codes "Memory")
 
--- the last line of what is written; none where all lines were run
+-- the last line of what is written; none if all lines were run
 abbrev pub ending_line : Ending → List ℕ
 ending_line Done = []
 ending_line BadLine = fault_line (codes "BadLine")
@@ -48,7 +48,7 @@ ending_line BadInput = fault_line (codes "BadInput")
 ending_line (Failed failure) = failure_line failure
 ending_line (Stopped failure) = stream_line failure
 
--- 3 where memory or the disk failed, 1 where the store refuses
+-- 3 if memory or the disk failed, 1 if the store refuses
 abbrev pub store_status : StoreFault → ℕ
 store_status store.NotEmpty = 1
 store_status store.Unformed = 1
@@ -64,7 +64,7 @@ abbrev pub failure_status : Failure → ℕ
 failure_status Broken = 3
 failure_status (Store fault) = store_status fault
 
--- 0 where all lines were run
+-- 0 if all lines were run
 abbrev pub status_of : Ending → ℕ
 status_of Done = 0
 status_of BadLine = 1

@@ -49,7 +49,7 @@ pub record Goes (line : List ℕ) (s t : ShowState) (old new : Option (List ℕ)
   pub wrote : Appends old new (printed_lines (datagrams (given_at s happening).sends))
 
 -- what happened cannot be carried out, or its output not be written, and that ends the script; nothing is said of the
--- output where a call of the writer failed
+-- output if a call of the writer failed
 abbrev pub EndsUnheard : Ending → (old new : Option (List ℕ)) → Type 0
 EndsUnheard Done old new = ⊥
 EndsUnheard BadLine old new = ⊥
@@ -57,7 +57,7 @@ EndsUnheard BadInput old new = ⊥
 EndsUnheard (Failed failure) old new = (can_come failure ≡ true) × (new ≡ old)
 EndsUnheard (Stopped failure) old new = Unit {0}
 
--- a line ends the script, and nothing was written for it; nothing is said of the output where a call of the writer
+-- a line ends the script, and nothing was written for it; nothing is said of the output if a call of the writer
 -- failed
 abbrev pub EndsAt : Ending → List ℕ → (old new : Option (List ℕ)) → Type 0
 EndsAt Done line old new = ⊥

@@ -43,7 +43,7 @@ pub record RanToBadLine (first : ShowState) (text last : List ℕ) (old new : Op
   pub no_form : happening_in bad ≡ None
   pub ran : Ran first text (bad ∷ others) last old new
 
--- what is written of a text where a script ends so, its last line given: nothing is said where a call of the reader
+-- what is written of a text if a script ends so, its last line given: nothing is said if a call of the reader
 -- or the writer failed
 abbrev pub Wrote : Ending → ShowState → List ℕ → List ℕ → Option (List ℕ) → Option (List ℕ) → Type 0
 Wrote Done first text last old new = Ran first text [] last old new

@@ -20,7 +20,7 @@ lines_of (byte ∷ bytes) = if byte == 10 then [] ∷ lines_of bytes else onto_f
 abbrev pub before_front : ℕ → List ℕ × List ℕ → List ℕ × List ℕ
 before_front byte cut = (byte ∷ cut.0, cut.1)
 
--- what stands before the first such byte, and what stands after it; none where there is no such byte
+-- what stands before the first such byte, and what stands after it; none if there is no such byte
 abbrev pub cut_at : ℕ → List ℕ → Option (List ℕ × List ℕ)
 cut_at mark [] = None
 cut_at mark (byte ∷ bytes) =
@@ -70,11 +70,11 @@ tick_in line = do
   digits ← rest_after (codes "t ") line
   number_in 18446744073709551615 digits
 
--- what happens where a datagram arrives
+-- what happens if a datagram arrives
 abbrev pub arrives : Arrived → Happening
 arrives a = took a.now (datagram a.from a.bytes)
 
--- what happens where the clock ticks
+-- what happens if the clock ticks
 abbrev pub ticks : ℕ → Happening
 ticks now = took now tick
 

@@ -25,7 +25,7 @@ abbrev pub Tells : {T : Type 0} → Result T Error → (old new : Streams) → T
 Tells (Ok done) old new = new ≡ old
 Tells (Err error) old new = FailedAs (failure_of error) old new
 
--- a script stopped for this failure where a call failed so, and else no call did
+-- a script stopped for this failure if a call failed so, and else no call did
 abbrev pub HasCause : Ending → (old new : Streams) → Type 0
 HasCause Done old new = new ≡ old
 HasCause BadLine old new = new ≡ old

@@ -10,7 +10,7 @@ is_device d = nat_le d MAX_DEVICE_NUMBER
 abbrev pub is_port : ℕ → Bool
 is_port port = nat_le 1 port && nat_le port MAX_PORT
 
--- the device of a number, where it is one
+-- the device of a number, if it is one
 abbrev pub device_of_byte : ℕ → Option ℕ
 device_of_byte n = if is_device n then Some n else None
 

@@ -25,7 +25,7 @@ impl Model for DeviceNo {
 }
 
 impl DeviceNo {
-    /// The device of a number that a message carries, where it is in range.
+    /// The device of a number that a message carries, if it is in range.
     pub fn of(number: i32) -> Option<DeviceNo>
         ensures { result ≡ device_of number }
     {
@@ -35,7 +35,7 @@ impl DeviceNo {
         }
     }
 
-    /// The device of a number that a stored text carries, where it is in range.
+    /// The device of a number that a stored text carries, if it is in range.
     pub fn of_byte(number: u8) -> Option<DeviceNo>
         ensures { result ≡ device_of_byte number }
     {

@@ -4,7 +4,7 @@ ghost use Rattle.cue_show.specs.declared.limits.TheConstants.{MAX_DEVICE_NUMBER,
 ghost use Rattle.cue_show.specs.declared.limits.TheConstants.{MAX_DEVICES, MAX_PART_BYTES, MAX_PARTS};
 ghost use Rattle.cue_show.specs.Laws.{CueNumbersAreRunsJoinedByPoints, FollowingComesNext, RemovalsKeepTheOrder};
 
-/// A text is a cue number exactly where it has at most 16 bytes and is one run of digits or more, with single points
+/// A text is a cue number exactly if it has at most 16 bytes and is one run of digits or more, with single points
 /// between them.
 pub fn cue_numbers_are_runs_joined_by_points()
     ensures { CueNumbersAreRunsJoinedByPoints }

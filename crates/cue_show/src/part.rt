@@ -23,7 +23,7 @@ pub struct Part {
 }
 
 impl Part {
-    /// The part of a device, with a copy of its bytes. It fails only where memory ran out.
+    /// The part of a device, with a copy of its bytes. It fails only if memory ran out.
     pub fn of(
         alloc: Global,
         device: DeviceNo,
@@ -89,7 +89,7 @@ impl Parts {
         Parts { parts }
     }
 
-    /// A copy of the parts. It fails only where memory ran out.
+    /// A copy of the parts. It fails only if memory ran out.
     pub fn from_slice(alloc: Global, parts: &[Part]) -> Result<Parts, AllocError>
         ensures { IfOk result (λ copy. copy ≡ parts.now) }
     {
@@ -163,7 +163,7 @@ impl Parts {
         self.has_distinct_devices() && self.each_is_fit()
     }
 
-    /// Puts a part after the others. Where memory runs out nothing changes.
+    /// Puts a part after the others. If memory runs out nothing changes.
     pub fn push(&mut self, part: Part) -> Result<(), AllocError>
         ensures ok { OnOk result (self.new ≡ self.old ++ part ∷ []) }
         ensures err { OnErr result (self.new ≡ self.old) }

@@ -176,7 +176,7 @@ impl Show {
     }
 
     /// Puts the device last into the table, with a port of 1 to 65,535; a caller tests by `can_add_device` first.
-    /// Where memory runs out nothing changes.
+    /// If memory runs out nothing changes.
     pub fn add_device(&mut self, device: DeviceNo, port: u16) -> Result<(), AllocError>
         requires { IsTrue (can_add_device self.old device port) }
         ensures ok { OnOk result (self.new ≡ with_device self.old device port) }
@@ -194,7 +194,7 @@ impl Show {
         let _port = self.devices.shift_remove(&device);
     }
 
-    /// Puts the cue last on the stack; a caller tests by `can_add_cue` first. Where memory runs out nothing changes,
+    /// Puts the cue last on the stack; a caller tests by `can_add_cue` first. If memory runs out nothing changes,
     /// and the parts are dropped.
     pub fn add_cue(&mut self, cue: CueNo, parts: Parts) -> Result<(), AllocError>
         requires { IsTrue (can_add_cue self.old cue parts) }

@@ -66,7 +66,7 @@ abbrev pub fault_of : {T E D : Type 0} → Result T (E × D × D) → Option E
 fault_of (Ok made) = None
 fault_of (Err refused) = Some refused.0
 
--- this fault is answered only where it is so
+-- this fault is answered only if it is so
 abbrev pub RefusedAs : {T E D : Type 0} → E → Type 0 → Result T (E × D × D) → Type 0
 RefusedAs fault reason (Ok made) = Unit {0}
 RefusedAs fault reason (Err refused) = refused.0 ≡ fault → reason

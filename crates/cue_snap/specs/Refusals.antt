@@ -16,7 +16,7 @@ found_by area.Damaged on = Ok (found.Damaged on)
 found_by area.Disk on = Err (fault.Disk, on)
 found_by area.Memory on = Err (fault.Memory, on)
 
--- what a pair is refused as where neither area is chosen
+-- what a pair is refused as if neither area is chosen
 abbrev pub open_fault : Unfit → OpenFault
 open_fault unfit.Damaged = fault.Damaged
 open_fault unfit.Unformed = fault.Unformed

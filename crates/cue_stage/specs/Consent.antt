@@ -95,7 +95,7 @@ pub record IsConsented (from : Beginning) (past : List Happening) (es : List Eve
   pub started : IsTrue (list_any (is_start_of q) es)
   pub each : (d : ℕ) → IsRequired es q d → HasConsented from past d q
 
--- Only with consent: where only devices answer, a device is ordered to move for an attempt only after each required
+-- Only with consent: if only devices answer, a device is ordered to move for an attempt only after each required
 -- device of it, by the batches that the store keeps, has prepared for it and has said so. The list of what happened
 -- may end with the order itself, with which nothing is reported or answered: so consent came before it.
 abbrev pub OnlyWithConsent : Type 0

@@ -9,12 +9,12 @@ use Rattle.cue_exchange.specs.Outcomes.{outcome_number}
 use Rattle.cue_exchange.specs.declared.attempt.Stage.{Stage}
 use Rattle.cue_exchange.specs.declared.attempt.Stage.TheVariants.{Preparing, Decided, Cancelling}
 
--- the cue that the operator stands at, `-` where there is none
+-- the cue that the operator stands at, `-` if there is none
 abbrev pub place_text : Option (List ℕ) → List ℕ
 place_text None = codes "-"
 place_text (Some cue) = cue
 
--- the number of the attempt that ended last, and how it ended; twice 0 where none has ended
+-- the number of the attempt that ended last, and how it ended; twice 0 if none has ended
 abbrev pub ended_text : Option Ended → List ℕ
 ended_text None = codes "0 0"
 ended_text (Some ended) = decimal ended.seq ++ (32 ∷ decimal (outcome_number ended.outcome))

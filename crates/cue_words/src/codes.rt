@@ -113,7 +113,7 @@ fn words_of_number(number: u32) -> &'static str
     }
 }
 
-/// What the code with this number says; `refused` where there is no such code.
+/// What the code with this number says; `refused` if there is no such code.
 pub fn code_words(number: i32) -> &'static str
     ensures { result.now ≡ words.number_words number }
 {

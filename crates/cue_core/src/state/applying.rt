@@ -41,7 +41,7 @@ impl State {
         }
     }
 
-    /// Applies the events in order. Where memory runs out, those before the one that it ran out at are applied, and
+    /// Applies the events in order. If memory runs out, those before the one that it ran out at are applied, and
     /// no other.
     pub fn apply_all(&mut self, events: &[Event]) -> Result<(), AllocError>
         requires { IsTrue (are_acceptable self.old events.now) }
@@ -54,7 +54,7 @@ impl State {
         Ok(())
     }
 
-    /// Applies an event. Where memory runs out nothing changes.
+    /// Applies an event. If memory runs out nothing changes.
     ///
     /// Whoever reads events from outside asks `can_apply` first; the events of `judge` are acceptable in turn.
     pub fn apply(&mut self, event: &Event) -> Result<(), AllocError>

@@ -25,7 +25,7 @@ fn is_bundle_start(bytes: &[u8]) -> bool
     bytes.starts_with(&BUNDLE_HEAD)
 }
 
-/// Whether an element may be so long, where so many bytes are left.
+/// Whether an element may be so long, if so many bytes are left.
 fn is_size(size: u32, left: usize) -> bool
     ensures { result ≡ is_element_size size left }
 {
@@ -44,7 +44,7 @@ fn element(bytes: &[u8]) -> Result<(&[u8], &[u8]), Fault>
     Ok(rest.split_at(size as usize))
 }
 
-/// How many elements there are where each is as long as the first. Room is made for so many at once.
+/// How many elements there are if each is as long as the first. Room is made for so many at once.
 fn likely_count(bytes: &[u8]) -> usize
     ensures { result ≤ length bytes.now }
 {

@@ -38,7 +38,7 @@ pub(crate) fn u64_at(bytes: &[u8]) -> Result<(u64, &[u8]), Fault>
     Ok((number, rest))
 }
 
-/// The number of bytes before the first null, or of all bytes where there is none.
+/// The number of bytes before the first null, or of all bytes if there is none.
 fn text_len(bytes: &[u8]) -> usize
     ensures { result ≡ text_length bytes.now }
 {

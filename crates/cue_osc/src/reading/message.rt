@@ -36,7 +36,7 @@ fn all_args<'a>(alloc: Global, kinds: &[u8], bytes: &'a [u8]) -> Result<Vec<Arg<
     Ok(args)
 }
 
-/// The arguments of a message, beginning with its type tag string; None where a tag is not known.
+/// The arguments of a message, beginning with its type tag string; None if a tag is not known.
 #[tactic(auto, unfolding(crate::specs::Reading::tagged_at))]
 #[inline(never)]
 fn tagged<'a>(alloc: Global, bytes: &'a [u8]) -> Result<Option<Args<'a>>, Fault>

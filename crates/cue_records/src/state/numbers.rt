@@ -8,7 +8,7 @@ use crate::parts_form::PartsForm;
 use crate::state::{OLD_VERSION, VERSION};
 use cue_exchange::{Answer, Reason, Stage};
 
-/// The form of the parts in a version; none where there is no such version.
+/// The form of the parts in a version; none if there is no such version.
 pub(crate) fn form_of_version(number: u8) -> Option<PartsForm>
     ensures { result ≡ form_of_version number }
 {

@@ -82,7 +82,7 @@ impl<'a> Reader<'a> {
         place_of(text).ok_or(ReadFault::Malformed)
     }
 
-    // The place, where it is one of the show.
+    // The place, if it is one of the show.
     #[tactic(auto, unfolding(crate::specs::StateReading::place_step))]
     fn set_place(&mut self, show: &mut Show) -> Result<(), ReadFault>
         ensures { Gives (λ _. (show.new, self.new.rest.now)) result (place_step show.old self.old.rest.now) }
@@ -275,7 +275,7 @@ fn most_cues(form: PartsForm) -> usize
     }
 }
 
-// The place with the text; none where it is empty.
+// The place with the text; none if it is empty.
 fn place_of(text: &[u8]) -> Option<Option<CueNo>>
     ensures { result ≡ place_of text.now }
 {
@@ -288,7 +288,7 @@ fn place_of(text: &[u8]) -> Option<Option<CueNo>>
     }
 }
 
-// Sets the place, where it is one of the show.
+// Sets the place, if it is one of the show.
 fn move_to(show: &mut Show, place: Option<CueNo>) -> Result<(), ReadFault>
     ensures { Gives (λ _. show.new) result (where_it (is_place_of show.old place) (with_place show.old place)) }
 {

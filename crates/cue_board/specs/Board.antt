@@ -90,7 +90,7 @@ abbrev pub live_said : ℕ → List LiveAttempt → List (List ℕ)
 live_said at [] = codes "LIVE   nothing is stood by" ∷ []
 live_said at (a ∷ more) = flat_map (attempt_lines at) (a ∷ more)
 
--- ---- the live attempts where there is little room
+-- ---- the live attempts if there is little room
 
 -- a number for each answer, in the order in which they are shown
 abbrev pub answer_rank : Answer → ℕ
@@ -108,7 +108,7 @@ numbers_of kind (a ∷ more) =
     if answer_rank a.answer == answer_rank kind then (codes " " ++ decimal a.device) ++ numbers_of kind more
     else numbers_of kind more
 
--- the line of an answer, where a device has it
+-- the line of an answer, if a device has it
 unfoldable pub answer_lines : List DeviceAnswer → Answer → List (List ℕ)
 answer_lines answers kind =
     if length (numbers_of kind answers) == 0 then []
@@ -135,7 +135,7 @@ abbrev pub cues_before : List ℕ → List (List ℕ) → ℕ
 cues_before cue [] = 0
 cues_before cue (c ∷ cs) = if same_text c cue then 0 else suc (cues_before cue cs)
 
--- how many stand before the place; 0 where there is none
+-- how many stand before the place; 0 if there is none
 abbrev pub before_place : Option (List ℕ) → List (List ℕ) → ℕ
 before_place None cues = 0
 before_place (Some cue) cues = cues_before cue cues
@@ -144,7 +144,7 @@ before_place (Some cue) cues = cues_before cue cues
 abbrev pub around : ℕ → Option (List ℕ) → List (List ℕ) → List (List ℕ)
 around shown place cues = take shown (drop (before_place place cues - shown / 3) cues)
 
--- a cue of the stack, with a mark where it is the place
+-- a cue of the stack, with a mark if it is the place
 unfoldable pub cue_said : Option (List ℕ) → List ℕ → List ℕ
 cue_said place cue = if is_place cue place then codes " -->   " ++ cue else codes "       " ++ cue
 
@@ -194,7 +194,7 @@ board_brief names v =
     ++ (stack_said 0 names.together.now v
     ++ (flat_map (attempt_brief v.at) v.live.items ++ ends_said names v))
 
--- with so many cues; where none has room, the devices share lines
+-- with so many cues; if none has room, the devices share lines
 abbrev pub board_said : ℕ → Names → View → List (List ℕ)
 board_said shown names v = if shown == 0 then board_brief names v else board_with shown names v
 

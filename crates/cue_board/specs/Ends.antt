@@ -10,7 +10,7 @@ use Rattle.cue_board.specs.Names.{cue_name, device_name}
 use Rattle.cue_board.specs.declared.ends.TheConstants.{NAME}
 use Rattle.cue_board.specs.declared.names.Names.{Names}
 
--- why it was given up; nothing where it was not
+-- why it was given up; nothing if it was not
 abbrev pub why : Option Reason → List ℕ
 why None = []
 why (Some reason) = codes ": " ++ reason_words reason
@@ -19,7 +19,7 @@ why (Some reason) = codes ": " ++ reason_words reason
 abbrev pub end_front : Told → List ℕ
 end_front t = outcome_words t.outcome ++ why t.reason
 
--- a space and a name, as much of it as has room; nothing where there is none
+-- a space and a name, as much of it as has room; nothing if there is none
 abbrev pub name_after : List ℕ → List ℕ
 name_after name = if length name == 0 then [] else codes " " ++ fit_of NAME name
 
@@ -45,7 +45,7 @@ end_rest names t = failed_words names t.failed ++ devices_words names (codes " w
 unfoldable pub end_words : Names → Told → List ℕ
 end_words names t = end_front t ++ end_rest names t
 
--- which attempt it is: its cue, or its number where the cue is not known any more
+-- which attempt it is: its cue, or its number if the cue is not known any more
 abbrev pub which : Names → Option (List ℕ) → ℕ → List ℕ
 which names (Some cue) seq = codes "LAST   cue " ++ (cue ++ name_after (cue_name names cue))
 which names None seq = codes "LAST   attempt " ++ decimal seq

@@ -1,4 +1,4 @@
--- What people call the numbers of a view: what the show file has, and nothing where it has nothing.
+-- What people call the numbers of a view: what the show file has, and nothing if it has nothing.
 use Rattle.std.specs.Prelude.{ℕ, List, [], String, string_bytes, Option, None, Some, find, nat_eq}
 use Rattle.std.specs.declared.alloc.Global.{Global}
 use Rattle.cue_show.specs.Number.{same_text}

@@ -34,7 +34,7 @@ fn loudest(alarms: &[Alarm]) -> Option<Alarm>
     alarms.iter().copied().find(|alarm| is_called(*alarm))
 }
 
-// Puts the line of the loudest alarm after the lines, where there is one.
+// Puts the line of the loudest alarm after the lines, if there is one.
 fn push_alarm(
     alloc: Global,
     lines: &mut Vec<BoardLine>,
@@ -128,7 +128,7 @@ fn lines_of(
     }
 }
 
-// How many cues are shown, where the network takes so many lines.
+// How many cues are shown, if the network takes so many lines.
 fn cues_in(room: Option<usize>, view: &View, taken: usize) -> usize {
     let alarm = if loudest(&view.alarms).is_some() {
         1
@@ -162,8 +162,8 @@ fn drawn(
 /// last one ended, the age of what is shown, and what a relay says. What does not fit into a line is cut off at its
 /// end.
 ///
-/// `room` is how many lines there are; none: as many as it takes. The stack has fewer cues where the live attempts need
-/// the room. Where no cue has room any more, the devices of an attempt that have answered the same share a line, by
+/// `room` is how many lines there are; none: as many as it takes. The stack has fewer cues if the live attempts need
+/// the room. If no cue has room any more, the devices of an attempt that have answered the same share a line, by
 /// their numbers.
 pub fn board_lines(
     alloc: Global,

@@ -1,4 +1,4 @@
-//! The live attempts where there is little room: a line for each answer, with the numbers of its devices.
+//! The live attempts if there is little room: a line for each answer, with the numbers of its devices.
 ghost use Rattle.std.specs.Prelude.{◌≡◌, ◌++◌, IfOk, OnOk, codes, map, string_bytes};
 ghost use Rattle.std.specs.Fmt.{decimal};
 ghost use Rattle.std.specs.List.{flat_map};
@@ -48,7 +48,7 @@ fn numbers_of(alloc: Global, kind: Answer, answers: &[DeviceAnswer]) -> Result<S
     Ok(numbers)
 }
 
-// Puts the line of an answer after the lines, where a device has it.
+// Puts the line of an answer after the lines, if a device has it.
 #[tactic(auto, unfolding(crate::specs::Board::answer_lines))]
 fn push_answer(
     alloc: Global,

@@ -17,7 +17,7 @@ use std::alloc::{AllocError, Global};
 /// The room of a name within a line, in columns.
 const NAME: usize = 28;
 
-// A space and a name, as much of it as has room; nothing where there is none.
+// A space and a name, as much of it as has room; nothing if there is none.
 fn name_after(alloc: Global, name: &str) -> Result<String, AllocError>
     ensures { IfOk result (λ text. string_bytes text ≡ ends.name_after name.now) }
 {
@@ -97,7 +97,7 @@ fn failed_words(
     }
 }
 
-// Why it was given up; nothing where it was not.
+// Why it was given up; nothing if it was not.
 fn why(alloc: Global, reason: Option<Reason>) -> Result<String, AllocError>
     ensures { IfOk result (λ text. string_bytes text ≡ ends.why reason) }
 {
@@ -141,7 +141,7 @@ pub fn end_words(alloc: Global, told: &Told, names: &Names<'_>) -> Result<String
     Ok(text)
 }
 
-// Which attempt ended: its cue with its name, or its number where the cue is not known any more.
+// Which attempt ended: its cue with its name, or its number if the cue is not known any more.
 #[tactic(auto, unfolding(crate::specs::Ends::last_front))]
 fn last_front(alloc: Global, told: &Told, names: &Names<'_>) -> Result<String, AllocError>
     ensures { IfOk result (λ text. string_bytes text ≡ ends.last_front names.now told.now) }

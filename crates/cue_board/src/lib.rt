@@ -14,8 +14,8 @@
 //! - In the line of the last cue its name stands before how it ended, and has 28 columns at most, so that the end is
 //!   not cut away. A text has at most four bytes a column: marks that belong to the letter before them take no column.
 //! - A line of the log takes up to three lines: the reason stands at its end.
-//! - Which cues stand by together is drawn by the groups that the desk sends by, not by the show file as it is now: what
-//!   is shown beside the next cue is what STANDBY stands by.
+//! - Which cues stand by together is drawn by the groups that the desk sends by, not by the show file as it is now:
+//!   what is shown beside the next cue is what STANDBY stands by.
 //! - A cue all of whose devices are ready is `held` if GO cannot be given all the same, as while `serve` does not
 //!   answer.
 //!

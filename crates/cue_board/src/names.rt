@@ -17,7 +17,7 @@ pub struct Names<'a> {
     pub port: u16,
 }
 
-// The text; empty where there is none.
+// The text; empty if there is none.
 fn text_of(text: &Option<String>) -> &str
     ensures { result.now ≡ spec.text_of text.now }
 {
@@ -62,7 +62,7 @@ impl<'a> Names<'a> {
         }
     }
 
-    /// What the file calls the cue; empty where it does not.
+    /// What the file calls the cue; empty if it does not.
     pub fn cue_name(&self, cue: CueNo) -> &'a str
         ensures { result.now ≡ spec.cue_name self.now cue }
     {
@@ -72,7 +72,7 @@ impl<'a> Names<'a> {
         }
     }
 
-    /// What the file notes at the cue; empty where it does not.
+    /// What the file notes at the cue; empty if it does not.
     pub fn cue_note(&self, cue: CueNo) -> &'a str
         ensures { result.now ≡ spec.cue_note self.now cue }
     {
@@ -82,7 +82,7 @@ impl<'a> Names<'a> {
         }
     }
 
-    /// What the file calls the device; empty where it does not.
+    /// What the file calls the device; empty if it does not.
     pub fn device_name(&self, device: DeviceNo) -> &'a str
         ensures { result.now ≡ spec.device_name self.now device }
     {

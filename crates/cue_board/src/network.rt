@@ -32,7 +32,7 @@ fn when(alloc: Global, heard: LastHeard) -> Result<String, AllocError>
     }
 }
 
-// What a device does that was sent an order and has not answered; nothing where it was sent none.
+// What a device does that was sent an order and has not answered; nothing if it was sent none.
 fn doing(contact: &Contacted) -> &'static str
     ensures { result.now ≡ network.doing contact.now }
 {

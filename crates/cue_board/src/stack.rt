@@ -69,7 +69,7 @@ fn room_after(room: usize, live: &[LiveAttempt]) -> usize
     left
 }
 
-/// How many cues have room beside the live attempts, where a board has so many lines.
+/// How many cues have room beside the live attempts, if a board has so many lines.
 pub(crate) fn cues_within(room: usize, live: &[LiveAttempt]) -> usize
     ensures { result ≡ board.cues_within room live.now }
 {
@@ -117,7 +117,7 @@ fn next_line(
     BoardLine::with_rest(alloc, said, rest.as_str())
 }
 
-// A cue of the stack, with a mark where it is the place.
+// A cue of the stack, with a mark if it is the place.
 #[tactic(auto, unfolding(crate::specs::Board::cue_said))]
 fn cue_said(alloc: Global, place: Option<CueNo>, cue: CueNo) -> Result<String, AllocError>
     ensures { IfOk result (λ text. string_bytes text ≡ board.cue_said place cue) }

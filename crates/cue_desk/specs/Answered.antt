@@ -9,7 +9,7 @@ use Rattle.cue_desk.specs.declared.ending.Ending.TheVariants as ending
 use Rattle.cue_desk.specs.declared.replying.Replied.{Replied}
 use Rattle.cue_desk.specs.declared.replying.Replied.TheVariants as replied
 
--- refused where one was refused, with its code; else made where one was made; else it was so already
+-- refused if one was refused, with its code; else made if one was made; else it was so already
 abbrev pub Tells : Replied → Answered → Type 0
 Tells (replied.Reply made known refused code) (answered.Refused told) = (pos 0 <ℤ refused) × (told ≡ code)
 Tells (replied.Reply made known refused code) answered.Made = (refused ≤ℤ pos 0) × (pos 0 <ℤ made)
@@ -26,7 +26,7 @@ IsOfOne (replied.Reply made known refused code) =
     ⊎ ((made ≡ pos 0) × (known ≡ pos 0) × (refused ≡ pos 1))
 IsOfOne (replied.Status status) = ⊥
 
--- how a command ends of which this became; none where it is done
+-- how a command ends of which this became; none if it is done
 abbrev pub ending_of : Answered → Option Ending
 ending_of answered.Made = None
 ending_of answered.Known = None

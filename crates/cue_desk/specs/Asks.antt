@@ -32,7 +32,7 @@ command_of (asked.RemoveDevice device) = command.RemoveDevice device
 abbrev pub is_askable : Asked → Bool
 is_askable a = is_fit (command_of a)
 
--- where it is asked
+-- the method by which it is asked
 abbrev pub method_of : Asked → Method
 method_of asked.Status = method.Status
 method_of (asked.AddDevice device port) = method.AddDevice
@@ -64,7 +64,7 @@ pub record AsksFor (bytes : List ℕ) (wanted : Command) : Type 0 where
   pub message : datagram_at bytes ≡ Ok (message (address_of method) arguments)
   pub command : command_by arguments method ≡ wanted
 
--- why there is no datagram where its message is not written
+-- why there is no datagram if its message is not written
 abbrev pub ask_fault : WriteFault → AskFault
 ask_fault write.Memory = fault.Memory
 ask_fault write.TooLong = fault.Unwritable

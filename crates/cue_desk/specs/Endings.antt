@@ -3,7 +3,7 @@ use Rattle.std.specs.Prelude.{ℕ}
 use Rattle.cue_desk.specs.declared.ending.Ending.{Ending}
 use Rattle.cue_desk.specs.declared.ending.Ending.TheVariants as ending
 
--- 1 where it was refused, 3 where nobody replied or something failed
+-- 1 if it was refused, 3 if nobody replied or something failed
 abbrev pub ending_status : Ending → ℕ
 ending_status ending.Refused = 1
 ending_status ending.Silent = 3

@@ -16,13 +16,13 @@ unheard ConnectionRefused = Some heard.Noise
 unheard Interrupted = Some heard.Noise
 unheard _ = None
 
--- what the controller replied, where it did
+-- what the controller replied, if it did
 abbrev pub reply_in : Heard → Option Replied
 reply_in (heard.Replied reply) = Some reply
 reply_in heard.Silence = None
 reply_in heard.Noise = None
 
--- what is waited for: the status, where that was asked, and else the reply
+-- what is waited for: the status, if that was asked, and else the reply
 abbrev pub is_wanted : Heard → Bool → Bool
 is_wanted (heard.Replied (replied.Status status)) wants_status = wants_status
 is_wanted (heard.Replied (replied.Reply made known refused code)) wants_status = not wants_status

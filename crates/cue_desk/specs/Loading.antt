@@ -40,7 +40,7 @@ is_there s (asked.OfCue verb cue) = has_cue s cue
 is_there s (asked.Release device) = has_device s device
 is_there s (asked.RemoveDevice device) = has_device s device
 
--- Where the show has what is asked for, the controller reads from the message exactly that command.
+-- If the show has what is asked for, the controller reads from the message exactly that command.
 abbrev pub AskedIsRead : Type 0
 AskedIsRead =
     (s : ShowLists) (a : Asked) → IsTrue (is_show s) → IsTrue (is_askable a) → IsTrue (is_there s a)

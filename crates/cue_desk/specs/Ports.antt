@@ -1,7 +1,7 @@
 -- The port at which the controller listens.
 use Rattle.std.specs.Prelude.{ℕ, Option, Some, None}
 
--- the first one, where there is one, or else the second
+-- the first one, if there is one, or else the second
 abbrev pub first_of : Option ℕ → Option ℕ → Option ℕ
 first_of (Some port) other = Some port
 first_of None other = other

@@ -30,7 +30,7 @@ after_commas (c ∷ cs) = codes "," ++ (c ++ after_commas cs)
 abbrev pub braced : List ℕ → List (List ℕ) → List ℕ
 braced c others = codes "{" ++ (c ++ (after_commas others ++ codes "}"))
 
--- where these cues are stood by: /cue/{12,13,14}/standby
+-- the address at which these cues are stood by: /cue/{12,13,14}/standby
 abbrev pub together_address : List ℕ → List (List ℕ) → List ℕ
 together_address c others = under (codes "/cue/") (braced c others) (codes "standby")
 
@@ -43,16 +43,16 @@ abbrev pub standby_of : Order → Option (List ℕ)
 standby_of (order.OfCue v c) = verb_standby v c
 standby_of o = None
 
--- where it is asked alone: /cue/12/standby
+-- the address at which it is asked alone: /cue/12/standby
 abbrev pub alone_address : Order → List ℕ
 alone_address o = address_of (method_of (asked_of o))
 
--- where it is asked with these others, if it stands a cue by
+-- the address at which it is asked with these others, if it stands a cue by
 abbrev pub address_by : Option (List ℕ) → Order → List (List ℕ) → List ℕ
 address_by None o others = alone_address o
 address_by (Some c) o others = together_address c others
 
--- where an order is asked, which stands these others by, too, if it stands a cue by
+-- the address at which it is asked, which stands these others by, too, if it stands a cue by
 abbrev pub address_with : Order → List (List ℕ) → List ℕ
 address_with o [] = alone_address o
 address_with o (d ∷ others) = address_by (standby_of o) o (d ∷ others)
@@ -81,7 +81,7 @@ are_numbers made known refused =
     not (int_lt made (pos 0)) && (not (int_lt known (pos 0)) && (not (int_lt refused (pos 0))
     && (int_lt (pos 0) made || (int_lt (pos 0) known || int_lt (pos 0) refused))))
 
--- the code by which one was refused; where the controller refused none, a cue is not there
+-- the code by which one was refused; if the controller refused none, a cue is not there
 abbrev pub code_by : ℤ → ℤ → ℤ
 code_by refused code = if int_lt (pos 0) refused then code else pos (code_number NoMethod)
 
@@ -92,7 +92,7 @@ is_none_made made known = int_eq made (pos 0) && int_eq known (pos 0)
 abbrev pub are_all : ℕ → ℤ → ℤ → Bool
 are_all count made known = int_eq (made +ℤ known) (pos count)
 
--- What the reply to one message for so many cues says, as a reply to one command has it: refused where none was carried
+-- What the reply to one message for so many cues says, as a reply to one command has it: refused if none was carried
 -- out; made, or known, where all were; and where some were and others not, both made and refused.
 abbrev pub condensed_by : ℕ → ℤ → ℤ → ℤ → ℤ → Replied
 condensed_by count made known refused code =
@@ -102,7 +102,7 @@ condensed_by count made known refused code =
     else reply_of (pos 0) (pos 1) (pos 0) (pos 0)
     else reply_of (pos 1) (pos 0) (pos 1) (code_by refused code)
 
--- the same of a reply; none where it says nothing of any
+-- the same of a reply; none if it says nothing of any
 abbrev pub condensed : ℕ → Replied → Option Replied
 condensed count (replied.Reply made known refused code) =
     if are_numbers made known refused then Some (condensed_by count made known refused code) else None

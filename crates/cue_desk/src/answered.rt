@@ -71,7 +71,7 @@ pub fn answer_in(replied: Replied) -> Option<Answered>
     }
 }
 
-/// How a command ends of which this became; none where it is done.
+/// How a command ends of which this became; none if it is done.
 pub fn ending_of(answered: Answered) -> Option<Ending>
     ensures { result ≡ ending_of answered }
 {
@@ -82,7 +82,7 @@ pub fn ending_of(answered: Answered) -> Option<Ending>
     }
 }
 
-/// The code by which a removal was refused; none where what was to be removed is not there.
+/// The code by which a removal was refused; none if what was to be removed is not there.
 pub fn refusal_of_removal(answered: Answered) -> Option<i32>
     ensures { result ≡ refusal_of_removal answered }
 {

@@ -16,7 +16,7 @@ pub enum Heard {
     Noise,
 }
 
-/// What it means that no datagram was heard; none where the socket failed.
+/// What it means that no datagram was heard; none if the socket failed.
 pub fn unheard(kind: ErrorKind) -> Option<Heard>
     ensures { result ≡ unheard kind }
 {
@@ -29,7 +29,7 @@ pub fn unheard(kind: ErrorKind) -> Option<Heard>
     }
 }
 
-/// What the controller replied; none where it did not.
+/// What the controller replied; none if it did not.
 pub fn reply_in(heard: Heard) -> Option<Replied>
     ensures { result ≡ reply_in heard }
 {

@@ -10,8 +10,8 @@
 //! Why it is so:
 //! - Every cue is added by `/show/mixed`, also if all its parts are required: one message for each thing that is asked.
 //! - What an operator asks is sent once: a second `go` could find another attempt. What `load` adds may be sent again.
-//! - Cues that stand by together are asked for by one message, whose address is a pattern of their numbers: a message for
-//!   each could stand the first one by and be lost before the second. There is no such message for GO: each GO is a
+//! - Cues that stand by together are asked for by one message, whose address is a pattern of their numbers: a message
+//!   for each could stand the first one by and be lost before the second. There is no such message for GO: each GO is a
 //!   decision of its own, taken with the eyes on that cue.
 //! - An answer speaks of exactly one command: a reply in which not exactly one of made, known and refused is 1 is none.
 //! - `load` sends several messages by one datagram, at most 64, so that no more replies wait at the socket at once.

@@ -26,7 +26,7 @@ pub enum Word {
     Remove,
 }
 
-/// The word that is spelled so; none where no command of an evening is.
+/// The word that is spelled so; none if no command of an evening is.
 pub fn word_in(name: &str) -> Option<Word>
     ensures spelled { IfSome result (λ word. spelling_of word ≡ name.now) }
     ensures none { result ≡ None → (word : Word) → spelling_of word ≡ name.now → ⊥ }

@@ -2,7 +2,7 @@
 ghost use Rattle.std.specs.Prelude.{◌≡◌};
 ghost use Rattle.cue_desk.specs.Ports.{first_of, port_of};
 
-/// The port at which the controller listens, where nobody says another.
+/// The port at which the controller listens, if nobody says another.
 pub const PORT: u16 = 9100;
 
 /// The port that the command line says, or else the environment: what was said last of it.

@@ -35,7 +35,7 @@ pub enum Replied {
     Status(Status),
 }
 
-// The reply that these arguments are, where its address, cut at 64 bytes, is the one that was asked.
+// The reply that these arguments are, if its address, cut at 64 bytes, is the one that was asked.
 fn reply_in(asked: &[u8], args: &[Arg<'_>]) -> Option<Replied>
     ensures { result ≡ reply_in asked.now (map arg_view args.now) }
 {
@@ -89,8 +89,8 @@ fn replied_in(asked: &[u8], message: &Message<'_>) -> Option<Replied> {
     }
 }
 
-/// What a datagram of the controller says to who asked at this address. None where it is something else, as the reply
-/// to an earlier message. It fails only where memory ran out.
+/// What a datagram of the controller says to who asked at this address. None if it is something else, as the reply
+/// to an earlier message. It fails only if memory ran out.
 pub fn read_reply(
     alloc: Global,
     asked: &[u8],

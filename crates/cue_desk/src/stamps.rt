@@ -59,7 +59,7 @@ impl Stamps {
     }
 }
 
-/// A law: a change after that moment gives a settled file another time, where the file system counts time in steps of
+/// A law: a change after that moment gives a settled file another time, if the file system counts time in steps of
 /// two seconds at most. The seconds of that change are cut off to whole ones.
 pub fn later_changes_show()
     ensures { (stamp : Stamp) → (begun time seconds : ℕ) → IsSettled stamp begun → begun ≤ time

@@ -37,7 +37,7 @@ fn braced(alloc: Global, cue: CueNo, others: &[CueNo]) -> Result<Vec<u8>, AllocE
     Ok(text)
 }
 
-// Where these cues are stood by.
+// The address at which these cues are stood by.
 fn together_address(alloc: Global, cue: CueNo, others: &[CueNo]) -> Result<Vec<u8>, AllocError>
     ensures { IfOk result (λ bytes. bytes.items ≡ together.together_address cue others.now) }
 {
@@ -58,7 +58,7 @@ fn standby_of(order: &Order) -> Option<CueNo>
     }
 }
 
-// Where an order is asked alone.
+// The address at which it is asked alone.
 fn alone_address(alloc: Global, order: Order) -> Result<Vec<u8>, AllocError>
     ensures { IfOk result (λ bytes. bytes.items ≡ together.alone_address order) }
 {
@@ -70,7 +70,7 @@ fn alone_address(alloc: Global, order: Order) -> Result<Vec<u8>, AllocError>
     }
 }
 
-// Where an order is asked with these others, if it stands this cue by.
+// The address at which it is asked with these others, if it stands this cue by.
 fn address_by(
     alloc: Global,
     cue: Option<CueNo>,
@@ -85,7 +85,7 @@ fn address_by(
     }
 }
 
-/// Where an order is asked, which stands these others by, too, if it stands a cue by.
+/// The address at which it is asked, which stands these others by, too, if it stands a cue by.
 pub fn address_with(alloc: Global, order: Order, others: &[CueNo]) -> Result<Vec<u8>, AllocError>
     ensures { IfOk result (λ bytes. bytes.items ≡ together.address_with order others.now) }
 {
@@ -176,8 +176,8 @@ fn condensed_by(count: u8, made: i32, known: i32, refused: i32, code: i32) -> Re
 }
 
 /// What the reply to one message for so many cues says, as a reply to one command has it; none if it says nothing of
-/// any. Made and refused are both 1 if only some of them were carried out: by the code of the first that was refused, or
-/// by that of an address that is not there, if the store does not have one of the cues.
+/// any. Made and refused are both 1 if only some of them were carried out: by the code of the first that was refused,
+/// or by that of an address that is not there, if the store does not have one of the cues.
 pub fn condensed(count: u8, replied: Replied) -> Option<Replied>
     ensures { result ≡ together.condensed count replied }
 {

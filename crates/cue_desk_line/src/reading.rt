@@ -48,7 +48,7 @@ fn no_port(alloc: Global, word: &str) -> LineFault {
     unfit(alloc, word, "is no port: take one of 1 to 65535")
 }
 
-// The port that stands there, where one does.
+// The port that stands there, if one does.
 fn port_in(alloc: Global, found: &ArgMatches<'_>) -> Result<Option<u16>, LineFault> {
     match found.get_one::<u16>("port") {
         Some(port) if port >= 1 => Ok(Some(port)),
@@ -129,7 +129,7 @@ fn manner_in(found: &ArgMatches<'_>) -> Manner {
     }
 }
 
-// The folder of the store of a `load`. Where something is to be replaced, it is wanted.
+// The folder of the store of a `load`. If something is to be replaced, it is wanted.
 fn store_in(
     alloc: Global,
     found: &ArgMatches<'_>,
@@ -164,7 +164,7 @@ fn export_in(alloc: Global, found: &ArgMatches<'_>) -> Result<Line, LineFault> {
     })
 }
 
-// A command over a file or a folder; none where the name is of another kind.
+// A command over a file or a folder; none if the name is of another kind.
 fn file_line_in(
     alloc: Global,
     name: &str,
@@ -186,7 +186,7 @@ fn file_line_in(
     }
 }
 
-// The word after an option, where it is given.
+// The word after an option, if it is given.
 fn option_in(alloc: Global, found: &ArgMatches<'_>, id: &str) -> Result<Option<String>, LineFault> {
     match found.get_str(id) {
         Some(text) => Ok(Some(String::from_str(alloc, text)?)),
@@ -307,8 +307,8 @@ fn port_of(alloc: Global, text: &str) -> Result<u16, LineFault> {
     }
 }
 
-/// Reads a command line, the program's name first, as `clap` matches it. Where a command speaks to the controller and
-/// its words name no port, the port is the one that CUEDESK_PORT says, where that is set; and where they do not name
+/// Reads a command line, the program's name first, as `clap` matches it. If a command speaks to the controller and
+/// its words name no port, the port is the one that CUEDESK_PORT says, if that is set; and if they do not name
 /// who asks, that is who CUEDESK_AS says. CUEDESK_STORE says the folder of the store, and CUEDESK_FILE the show
 /// file, for `standby` and `go` without a cue.
 pub fn line(

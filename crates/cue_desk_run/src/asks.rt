@@ -36,7 +36,7 @@ const REPLIES: Token = Token(2);
 struct Ask {
     number: u64,
     is_status: bool,
-    // How many cues are asked for: 1, also where none is.
+    // How many cues are asked for: 1, also if none is.
     count: u8,
     // The address that was asked, as a reply shows it.
     shown: Vec<u8>,

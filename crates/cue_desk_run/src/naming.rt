@@ -8,7 +8,7 @@ use cue_osc::{Args, Message, Packet};
 use std::alloc::Global;
 
 /// The datagram of the message `/as/NAME`, without an argument, by which a socket says who asks from it. The controller
-/// refuses it, since it knows no such method, and so its log has the name beside the port. Where it is called, the name
+/// refuses it, since it knows no such method, and so its log has the name beside the port. If it is called, the name
 /// is one that `AskerName` reads: no sign in it means anything to OSC.
 pub fn name_datagram(alloc: Global, name: &[u8]) -> Result<Vec<u8>, AskFault>
     ensures { let said = message (codes "/as/" ++ name.now) [] in

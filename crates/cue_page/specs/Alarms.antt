@@ -17,7 +17,7 @@ kind_of (alarm.ClockPutBack q) = codes "clock"
 kind_of (alarm.Failed q) = codes "failed"
 kind_of (alarm.DeviceSilent d) = codes "device"
 
--- the attempt or the device that it is of; 0 where it is of none
+-- the attempt or the device that it is of; 0 if it is of none
 abbrev pub subject_of : Alarm → ℕ
 subject_of (alarm.ClockPutBack q) = q
 subject_of (alarm.Failed q) = q

@@ -9,12 +9,12 @@ use Rattle.cue_words.specs.Answered.{outcome_words, reason_words}
 abbrev pub number_data : ℕ → Data
 number_data n = number (unsigned n)
 
--- its cue; null where nobody knows it any more
+-- its cue; null if nobody knows it any more
 abbrev pub cue_data : Option (List ℕ) → Data
 cue_data None = null
 cue_data (Some c) = string c
 
--- why it was given up; empty where it was not
+-- why it was given up; empty if it was not
 abbrev pub why : Option Reason → List ℕ
 why None = []
 why (Some reason) = reason_words reason

@@ -16,7 +16,7 @@ device_data a =
     (member (codes "device") (number (unsigned a.device))
     (member (codes "optional") (boolean a.optional) no_members)))
 
--- why it was given up; empty where it was not
+-- why it was given up; empty if it was not
 abbrev pub why : Progress → List ℕ
 why (progress.GivenUp reason) = reason_words reason
 why _ = []

@@ -19,7 +19,7 @@ use Rattle.cue_page.specs.declared.board.Manner.{Manner}
 use Rattle.cue_page.specs.declared.board.Parts.{Parts}
 use Rattle.cue_page.specs.declared.board.SecondHalf.{SecondHalf}
 
--- how old a thing of this moment is; null where it never came
+-- how old a thing of this moment is; null if it never came
 abbrev pub age_data : ℕ → Option ℕ → Data
 age_data at None = null
 age_data at (Some moment) = number (unsigned (at - moment))
@@ -89,7 +89,7 @@ with_second p members =
     (put (codes "read") (view p.read) (put (codes "past") (view p.past)
     (put (codes "number") (number (unsigned p.number)) members))))))
 
--- the line about the show file; null where there is none
+-- the line about the show file; null if there is none
 abbrev pub file_line_data : Manner → Data
 file_line_data m = elim m.told [ None ↦ null | Some told ↦ string told.now ]
 

@@ -7,12 +7,12 @@ use Rattle.cue_show_file.specs.declared.together.Group.{Group}
 use Rattle.cue_view.specs.declared.view.Next.{Next}
 use Rattle.cue_view.specs.declared.view.Next.TheVariants as next
 
--- the cue that is next; null where none is
+-- the cue that is next; null if none is
 abbrev pub cue_data : Next → Data
 cue_data (next.Cue c) = string c
 cue_data _ = null
 
--- why none is next; empty where one is
+-- why none is next; empty if one is
 abbrev pub why : Next → List ℕ
 why (next.Cue c) = []
 why next.Empty = codes "The stack has no cue."

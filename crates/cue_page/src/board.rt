@@ -29,7 +29,7 @@ use serde_json::{Map, Value, json, put};
 use stack::{next_value, stack_value};
 use std::alloc::{AllocError, Global};
 
-// How old a thing is at this moment; null where it never came.
+// How old a thing is at this moment; null if it never came.
 fn age_value(at: u64, moment: Option<u64>) -> Value
     ensures { view result ≡ page.age_data at moment }
 {
@@ -39,7 +39,7 @@ fn age_value(at: u64, moment: Option<u64>) -> Value
     }
 }
 
-// The attempt that is chosen; null where none is.
+// The attempt that is chosen; null if none is.
 fn chosen_value(chosen: Option<u32>) -> Value
     ensures { view result ≡ page.chosen_data chosen }
 {
@@ -49,7 +49,7 @@ fn chosen_value(chosen: Option<u32>) -> Value
     }
 }
 
-// The cue to which the way back leads; null where there is none.
+// The cue to which the way back leads; null if there is none.
 fn back_value(alloc: Global, back: Option<CueNo>) -> Result<Value, AllocError>
     ensures { IfOk result (λ v. view v ≡ page.back_data back) }
 {
@@ -212,7 +212,7 @@ pub struct Manner<'a> {
     pub told: Option<&'a str>,
 }
 
-// The line about the show file; null where there is none.
+// The line about the show file; null if there is none.
 fn file_line_value(alloc: Global, manner: &Manner<'_>) -> Result<Value, AllocError>
     ensures { IfOk result (λ v. view v ≡ page.file_line_data manner.now) }
 {

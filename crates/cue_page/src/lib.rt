@@ -22,7 +22,7 @@
 //!   one alone: which one it is, and what comes of it, stands in words before the second press.
 //! - The word of a locked show is kept by the script alone, for a minute without use. Its form does not stand in front
 //!   of the page, so a cue can be given while it is open.
-//! - How much room there is counts in letters: large type, a browser's zoom and a small window are one thing. Where the
+//! - How much room there is counts in letters: large type, a browser's zoom and a small window are one thing. If the
 //!   card of a cue has no room, GO says for whom it waits.
 //! - A colour stands with its word. The flash is slower than three in a second, and a steady frame for who wants no
 //!   motion.

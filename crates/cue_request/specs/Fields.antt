@@ -12,7 +12,7 @@ is_named name found = same_text (map to_ascii_lowercase found) (map to_ascii_low
 abbrev pub has_field : List ℕ → List (List ℕ × List ℕ) → Bool
 has_field name fields = list_any (λ f. is_named name f.0) fields
 
--- the value of the field of this name; none where there is no such field, or more than one
+-- the value of the field of this name; none if there is no such field, or more than one
 abbrev pub only_value : List ℕ → List (List ℕ × List ℕ) → Option (List ℕ)
 only_value name [] = None
 only_value name (f ∷ fs) =

@@ -23,7 +23,7 @@ cue_data (button.Cancel c q) = string c
 cue_data (button.MoveTo c) = string c
 cue_data _ = null
 
--- the attempt that it is for; 0 where it names none
+-- the attempt that it is for; 0 if it names none
 abbrev pub attempt_of : Button → ℕ
 attempt_of (button.Standby c) = 0
 attempt_of (button.MoveTo c) = 0

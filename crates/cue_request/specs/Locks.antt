@@ -23,7 +23,7 @@ pub record IsWord (text : List ℕ) : Type 0 where
   pub short : length text ≤ 64
   pub graphic : IsTrue (list_all is_ascii_graphic text)
 
--- the word of its lock, where a page has one: none has that only shows
+-- the word of its lock, if a page has one: none has that only shows
 abbrev pub lock_of : Purpose → Option (List ℕ)
 lock_of (purpose.Plays lock) = option_map (λ v. v.now) lock
 lock_of (purpose.Shows name) = None

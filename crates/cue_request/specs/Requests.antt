@@ -10,7 +10,7 @@ use Rattle.cue_request.specs.declared.request.Head.{Head}
 use Rattle.cue_request.specs.declared.request.Asked.{Asked}
 use Rattle.cue_request.specs.declared.request.Asked.TheVariants as asked
 
--- the value of the field of this name, where exactly one has it
+-- the value of the field of this name, if exactly one has it
 abbrev pub field : RequestHead → List ℕ → Option (List ℕ)
 field head name = only_value name (map name_and_value head.fields)
 
@@ -61,7 +61,7 @@ pub record IsCommand (identity : PageIdentity) (bytes body : List ℕ) (word : O
   pub follows : body ≡ take (length body) rest
   pub says : word ≡ field read (codes "cuedesk-word")
 
--- where a command is wished, this holds of the length of its body
+-- if a command is wished, this holds of the length of its body
 abbrev pub OnCommand : Asked → (ℕ → Type 0) → Type 0
 OnCommand (asked.Command size) holds = holds size
 OnCommand asked.Page holds = ⊤

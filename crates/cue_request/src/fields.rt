@@ -25,7 +25,7 @@ fn has_field(buffer: &[u8], fields: &[HeaderSpan], name: &[u8]) -> bool
     }
 }
 
-/// The value of the field of this name; none where there is no such field, or more than one.
+/// The value of the field of this name; none if there is no such field, or more than one.
 pub(crate) fn only_value<'a>(
     buffer: &'a [u8],
     fields: &[HeaderSpan],

@@ -35,9 +35,9 @@ const MAX_NAME: usize = 253;
 /// What a page is for.
 #[derive(Clone, Copy)]
 pub enum Purpose<'a> {
-    /// Its buttons are pressed, and it is asked on this machine alone. The word of its lock, where it has one.
+    /// Its buttons are pressed, and it is asked on this machine alone. The word of its lock, if it has one.
     Plays(Option<&'a [u8]>),
-    /// It only shows: no press is taken. The name that a proxy gives it, where there is one, as a browser says it:
+    /// It only shows: no press is taken. The name that a proxy gives it, if there is one, as a browser says it:
     /// `fly.example`, or `fly.example:8443`, in lower case.
     Shows(Option<&'a [u8]>),
 }
@@ -96,7 +96,7 @@ fn is_port(text: &[u8]) -> bool
 }
 
 /// Whether a text can be the name that a proxy gives the page: letters in lower case, digits, dashes and points, and
-/// then a port, where it is not that of its kind.
+/// then a port, if it is not that of its kind.
 pub fn is_name(text: &[u8]) -> bool
     ensures { IsTrue result → IsName text.now }
 {
@@ -145,7 +145,7 @@ fn is_home_with(port: u16, host: &[u8]) -> bool
     is_joined(host, b"127.0.0.1:", spelled) || is_joined(host, b"localhost:", spelled)
 }
 
-// Whether the host is this machine at the port, which browsers leave out where it is the usual one.
+// Whether the host is this machine at the port, which browsers leave out if it is the usual one.
 fn is_home(port: u16, host: &[u8]) -> bool
     ensures { IsTrue result → IsHome port host.now }
 {

@@ -25,7 +25,7 @@ fn kind_of(button: Button) -> &'static str
     }
 }
 
-// The cue that it is for; null where it names none.
+// The cue that it is for; null if it names none.
 fn cue_value(alloc: Global, button: Button) -> Result<Value, AllocError>
     ensures { IfOk result (λ v. view v ≡ lit.cue_data button) }
 {
@@ -36,7 +36,7 @@ fn cue_value(alloc: Global, button: Button) -> Result<Value, AllocError>
     }
 }
 
-// The attempt that it is for; 0 where it names none.
+// The attempt that it is for; 0 if it names none.
 fn attempt_of(button: Button) -> u32
     ensures { result ≡ lit.attempt_of button }
 {
@@ -50,7 +50,7 @@ fn attempt_of(button: Button) -> u32
     }
 }
 
-// The device that it is for; null where it names none.
+// The device that it is for; null if it names none.
 fn device_value(button: Button) -> Value
     ensures { view result ≡ lit.device_data button }
 {

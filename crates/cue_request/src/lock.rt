@@ -30,7 +30,7 @@ pub enum Said {
 /// What has become of the words so far: when wrong ones came, in milliseconds of a clock that never goes back.
 #[derive(Clone, Copy, Debug, PartialEq, Eq)]
 pub struct Guard {
-    // The last four wrong words, the oldest first. Where they were fewer, the first of these are none.
+    // The last four wrong words, the oldest first. If they were fewer, the first of these are none.
     first: Option<u64>,
     second: Option<u64>,
     third: Option<u64>,

@@ -147,7 +147,7 @@ fn button_in(text: &[u8]) -> Option<Button>
     release_button(text)
 }
 
-/// The view and the button that the body of a press names. None where it is no press, letter by letter: no sign, no
+/// The view and the button that the body of a press names. None if it is no press, letter by letter: no sign, no
 /// zero in front, no second space. Nothing is sent then.
 pub fn read_press(body: &[u8]) -> Option<(u64, Button)>
     ensures { IfSome result (λ read. body.now ≡ body_of read.0 read.1) }

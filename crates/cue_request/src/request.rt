@@ -96,7 +96,7 @@ fn head_at<'a>(buffer: &'a [u8], fields: &[HeaderSpan], spans: &RequestSpans) ->
     }
 }
 
-/// The head at the front of what has come, and where its body begins; none where it has not come whole.
+/// The head at the front of what has come, and where its body begins; none if it has not come whole.
 pub fn read_head(bytes: &[u8]) -> Result<Option<(Head<'_>, usize)>, Refusal>
     ensures { IfOk result (λ found. IfSome found (λ at. (head : RequestHead)
         × ReadsRequest bytes.now head (drop at.1 bytes.now) × IsHeadOf at.0 head)) }
@@ -196,7 +196,7 @@ pub struct Request<'a> {
     pub word: Option<&'a [u8]>,
 }
 
-// The request whose body begins there; none where it has not come whole.
+// The request whose body begins there; none if it has not come whole.
 fn with_body<'a>(
     bytes: &'a [u8],
     start: usize,
@@ -217,7 +217,7 @@ fn with_body<'a>(
     Some(Request { asked, body, word })
 }
 
-/// The request at the front of what has come from one connection; none where it has not come whole. A head that is
+/// The request at the front of what has come from one connection; none if it has not come whole. A head that is
 /// refused is so before its body has come.
 pub fn read_request<'a>(
     identity: &PageIdentity<'_>,

@@ -12,7 +12,7 @@ pub(crate) fn after<'a>(front: &[u8], body: &'a [u8]) -> Option<&'a [u8]>
     if first == front { Some(rest) } else { None }
 }
 
-/// What stands before the first colon, and what stands after it; none where there is none.
+/// What stands before the first colon, and what stands after it; none if there is none.
 pub(crate) fn at_colon(text: &[u8]) -> Option<(&[u8], &[u8])>
     ensures { IfSome result (λ found. text.now ≡ found.0.now ++ (codes ":" ++ found.1.now)) }
 {

@@ -3,7 +3,7 @@ use cue_desk::ending::Ending;
 use std::fmt::Display;
 use std::io::{self, Eprint, Write};
 
-/// Says something on standard error. Where that cannot be written, the ending is the same.
+/// Says something on standard error. If that cannot be written, the ending is the same.
 pub fn say<R: Eprint, D: Display + Drop>(rt: &R, what: D) {
     let _ = rt.eprintln(format_args!("cuedesk: {what}"));
 }

@@ -3,7 +3,7 @@ use Rattle.std.specs.Prelude.{ℕ, ◌==◌, if◌then◌else◌, List, ◌++◌
 use Rattle.hex.specs.Hex.{encode_lower}
 use Rattle.cue_show_file.specs.Plain.{is_plain}
 
--- the digits of bytes, where there is one
+-- the digits of bytes, if there is one
 abbrev pub digits_of : List ℕ → List ℕ
 digits_of bytes = if length bytes == 0 then codes "no bytes" else codes "hex " ++ encode_lower bytes
 

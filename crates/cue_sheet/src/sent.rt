@@ -17,7 +17,7 @@ fn digits_of(alloc: Global, bytes: &[u8]) -> Result<String, AllocError>
     format!(in alloc; "hex {digits}")
 }
 
-/// What a part with these bytes sends: `"house=50"` where they are plain text, `hex 0a01` where not, and `no bytes`.
+/// What a part with these bytes sends: `"house=50"` if they are plain text, `hex 0a01` if not, and `no bytes`.
 pub fn sent_text(alloc: Global, bytes: &[u8]) -> Result<String, AllocError>
     ensures { IfOk result (λ text. string_bytes text ≡ sent_of bytes.now) }
 {

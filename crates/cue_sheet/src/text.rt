@@ -37,7 +37,7 @@ fn number_width(file: &ShowFile) -> usize {
     widths.max().unwrap_or(NUMBER).clamp(NUMBER, 16)
 }
 
-/// Where a device is: its address on the stage's network where it has one, else its port on this machine.
+/// Where a device is: its address on the stage's network if it has one, else its port on this machine.
 pub(crate) fn place_text(alloc: Global, entry: &DeviceEntry) -> Result<String, AllocError> {
     match entry.address {
         Some(address) => format!(in alloc; "{address}"),
@@ -45,7 +45,7 @@ pub(crate) fn place_text(alloc: Global, entry: &DeviceEntry) -> Result<String, A
     }
 }
 
-/// The colour and the flag of a cue in words; empty where it has neither.
+/// The colour and the flag of a cue in words; empty if it has neither.
 pub(crate) fn marks_text(alloc: Global, entry: &CueEntry) -> Result<String, AllocError> {
     match (entry.color, entry.flag) {
         (Some(color), Some(flag)) => {
@@ -79,7 +79,7 @@ impl Sheet<'_> {
         COLUMNS.saturating_sub(self.number.saturating_add(GAP))
     }
 
-    // A text beside the number of a cue; nothing where it is empty.
+    // A text beside the number of a cue; nothing if it is empty.
     fn push_beside(&mut self, number: &str, text: &str) -> Result<(), AllocError> {
         let cells = [
             Cell::of(self.alloc, number, self.number)?,

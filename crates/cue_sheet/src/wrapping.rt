@@ -65,7 +65,7 @@ impl Wrapping {
         Ok(())
     }
 
-    // Puts a character into the line, or into the next one where it has no room.
+    // Puts a character into the line, or into the next one if it has no room.
     fn push_sign(&mut self, c: char) -> Result<(), AllocError> {
         let width = width_of(c);
         if !self.line.text.is_empty() && !self.has_room(width, c.len_utf8()) {
@@ -116,7 +116,7 @@ impl Wrapping {
     }
 }
 
-/// A text in so many columns, 2 at least: its lines, one at least. They break between words where they can, and lose
+/// A text in so many columns, 2 at least: its lines, one at least. They break between words if they can, and lose
 /// nothing but the space at which they break. What a terminal would not show is a question mark.
 pub(crate) fn wrapped(alloc: Global, text: &str, columns: usize) -> Result<Vec<Piece>, AllocError> {
     let text = shown_text(alloc, text)?;

@@ -11,6 +11,6 @@ is_plain_sign b = (nat_le 32 b && nat_le b 126) && (not (b == 34) && not (b == 9
 abbrev pub is_plain : List ℕ → Bool
 is_plain bytes = not (length bytes == 0) && list_all is_plain_sign bytes
 
--- the bytes as a text, where they are plain text
+-- the bytes as a text, if they are plain text
 abbrev pub plain_of : List ℕ → Option (List ℕ)
 plain_of bytes = if is_plain bytes then Some bytes else None

@@ -17,7 +17,7 @@ use Rattle.cue_show_file.specs.Written.{IsFileOf, file_text}
 abbrev pub is_clean : Findings → Bool
 is_clean f = length f.found.items == 0
 
--- what was read, where nothing is wrong so far
+-- what was read, if nothing is wrong so far
 abbrev pub if_clean : {A : Type 0} → Findings → Option A → Option A
 if_clean f said = only_if (is_clean f) said
 
@@ -40,7 +40,7 @@ cues_of entries = map (λ e. (e.number, e.parts)) entries
 abbrev pub said_of : ShowFile → List (ℕ × ℕ) × Cues
 said_of f = (devices_of f.devices.items, cues_of f.cues.items)
 
--- the file says this, where there is no finding
+-- the file says this, if there is no finding
 abbrev pub said_without : List Finding → ShowFile → Option (List (ℕ × ℕ) × Cues)
 said_without [] f = Some (said_of f)
 said_without (x ∷ xs) f = None
@@ -73,7 +73,7 @@ no_places_at d = all_in_option (λ ds. no_places_in ds) (tables_at d)
 abbrev pub no_place_in : Members → Bool
 no_place_in ms = is_none (get_member (codes "listen") ms) && no_places_at (get_member (codes "device") ms)
 
--- a text, where it is TOML, that names no place on the network
+-- a text, if it is TOML, that names no place on the network
 abbrev pub names_no_place : List ℕ → Bool
 names_no_place t = all_in_option (λ ms. no_place_in ms) (parse_document t)
 

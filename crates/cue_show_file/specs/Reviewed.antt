@@ -24,8 +24,8 @@ are_together all entries = list_all (is_group all) entries
 abbrev pub has_something : ShowFile → Bool
 has_something f = not (length f.devices.items == 0) || not (length f.cues.items == 0)
 
--- there is something, no device has the controller's port, one with an address knows where this machine is, and each cue
--- can be stood by with its companions
+-- there is something, no device has the controller's port, one with an address knows where this machine is, and each
+-- cue can be stood by with its companions
 abbrev pub is_reviewed : ShowFile → Bool
 is_reviewed f =
     has_something f

@@ -20,13 +20,13 @@ use Rattle.cue_show_file.specs.Written.{IsFileOf, file_text}
 
 -- ---- lists of tables
 
--- one more in front, where all are there
+-- one more in front, if all are there
 abbrev pub with_first : {A : Type 0} → Option A → Option (List A) → Option (List A)
 with_first (Some x) (Some xs) = Some (x ∷ xs)
 with_first (Some x) None = None
 with_first None xs = None
 
--- what a table says; nothing where it is none
+-- what a table says; nothing if it is none
 abbrev pub table_said : {A : Type 0} → (Members → Option A) → Data → Option A
 table_said said (table ms) = said ms
 table_said said _ = None
@@ -41,7 +41,7 @@ abbrev pub list_said : {A : Type 0} → (Members → Option A) → Option Data �
 list_said said (Some (array ds)) = each_said said ds
 list_said said _ = None
 
--- a list, which has nothing where it is not there
+-- a list, which has nothing if it is not there
 abbrev pub tables_at : Option Data → Option Items
 tables_at None = Some no_items
 tables_at (Some (array ds)) = Some ds
@@ -52,7 +52,7 @@ list_or_none said d = option_and_then (λ ds. each_said said ds) (tables_at d)
 
 -- ---- what else stands in a table
 
--- it is said only where this holds
+-- it is said only if this holds
 abbrev pub only_if : {A : Type 0} → Bool → Option A → Option A
 only_if true said = said
 only_if false said = None
@@ -104,13 +104,13 @@ bytes_by (Some (string digits)) None = result_ok (decode_of digits)
 bytes_by None (Some (string t)) = Some t
 bytes_by _ _ = None
 
--- a part is required where nothing else is said
+-- a part is required if nothing else is said
 abbrev pub optional_by : Option Data → Option Bool
 optional_by None = Some false
 optional_by (Some (boolean b)) = Some b
 optional_by _ = None
 
--- a part of these, where all are there
+-- a part of these, if all are there
 abbrev pub part_of : Option ℕ → Option Bool → Option (List ℕ) → Option Part
 part_of device optional None = None
 part_of device optional (Some bytes) = part_with device optional bytes
@@ -129,7 +129,7 @@ part_in ms =
 abbrev pub part_said : Members → Option Part
 part_said ms = only_if (is_of_part ms) (part_in ms)
 
--- the text, where it is a cue number
+-- the text, if it is a cue number
 abbrev pub cue_number_of : List ℕ → Option (List ℕ)
 cue_number_of t = if is_cue_number t then Some t else None
 
@@ -143,7 +143,7 @@ cue_of (Some number) (Some parts) = Some (number, parts)
 cue_of (Some number) None = None
 cue_of None parts = None
 
--- what a word says, where it says something
+-- what a word says, if it says something
 abbrev pub mark_said : {A : Type 0} → Option A → Option (Option A)
 mark_said None = None
 mark_said (Some x) = Some (Some x)
@@ -221,7 +221,7 @@ file_said ms =
     only_if (is_of_file ms) (both_of (list_or_none device_said (get_member (codes "device") ms))
     (list_or_none cue_said (get_member (codes "cue") ms)))
 
--- what a text says, where it is TOML
+-- what a text says, if it is TOML
 abbrev pub text_said : List ℕ → Option (List (ℕ × ℕ) × Cues)
 text_said t = option_and_then file_said (parse_document t)
 

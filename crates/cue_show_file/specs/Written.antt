@@ -29,12 +29,12 @@ use Rattle.cue_show_file.specs.Plain.{is_plain}
 abbrev pub line_of : List ℕ → List ℕ → List ℕ
 line_of key t = key ++ (codes " = " ++ (string_text t ++ codes "\n"))
 
--- the same, where there is one
+-- the same, if there is one
 abbrev pub text_line : List ℕ → Option (String Global) → List ℕ
 text_line key None = []
 text_line key (Some t) = line_of key (string_bytes t)
 
--- the line of a colour, and of a flag, where there is one
+-- the line of a colour, and of a flag, if there is one
 abbrev pub color_line : Option Color → List ℕ
 color_line None = []
 color_line (Some c) = line_of (codes "color") (color_word c)
@@ -96,7 +96,7 @@ signs_text e =
 abbrev pub cue_text : CueEntry → List ℕ
 cue_text e = cue_head e ++ (signs_text e ++ parts_line e.parts)
 
--- the port of the controller, where the file says it
+-- the port of the controller, if the file says it
 abbrev pub port_text : Option ℕ → List ℕ
 port_text None = []
 port_text (Some port) = codes "port = " ++ (decimal port ++ codes "\n")
@@ -107,7 +107,7 @@ file_text f = port_text f.port ++ (flat_map device_text f.devices.items ++ flat_
 
 -- ---- the table
 
--- the table with a text more, where there is one
+-- the table with a text more, if there is one
 abbrev pub with_text : List ℕ → Option (String Global) → Members → Members
 with_text key None ms = ms
 with_text key (Some t) ms = member key (string (string_bytes t)) ms
@@ -117,7 +117,7 @@ device_members e =
     with_text (codes "name") e.name
     (member (codes "number") (integer (pos e.number)) (member (codes "port") (integer (pos e.port)) no_members))
 
--- the table with a colour more, and with a flag more, where there is one
+-- the table with a colour more, and with a flag more, if there is one
 abbrev pub with_color : Option Color → Members → Members
 with_color None ms = ms
 with_color (Some c) ms = member (codes "color") (string (color_word c)) ms
@@ -126,7 +126,7 @@ abbrev pub with_flag : Option Flag → Members → Members
 with_flag None ms = ms
 with_flag (Some f) ms = member (codes "flag") (string (flag_word f)) ms
 
--- the table that says that a part is optional, where it is
+-- the table that says that a part is optional, if it is
 abbrev pub with_optional : Bool → Members → Members
 with_optional true ms = member (codes "optional") (boolean true) ms
 with_optional false ms = ms
@@ -154,7 +154,7 @@ cue_members e =
     (member (codes "number") (string e.number)
     (member (codes "parts") (array (tables_of (map part_members e.parts))) no_members)))))
 
--- the table with a list of tables more, where the list has one
+-- the table with a list of tables more, if the list has one
 abbrev pub with_tables : List ℕ → List Members → Members → Members
 with_tables key [] ms = ms
 with_tables key (x ∷ xs) ms = member key (array (tables_of (x ∷ xs))) ms

@@ -14,7 +14,7 @@ use std::alloc::{AllocError, Global};
 /// What a controller with an empty show makes of a file.
 #[derive(Drop)]
 pub struct Checked {
-    /// The show that the file makes; none where a device or a cue of it is refused.
+    /// The show that the file makes; none if a device or a cue of it is refused.
     pub show: Option<Show>,
     /// Why: devices first, then cues, each in the order of the file.
     pub findings: Vec<Finding>,
@@ -122,7 +122,7 @@ fn note_count(findings: &mut Findings, parts: &Parts) -> Result<(), AllocError> 
     Ok(())
 }
 
-// Notes that the cue is refused, where nothing was found that says why.
+// Notes that the cue is refused, if nothing was found that says why.
 fn note_refused(findings: &mut Findings) -> Result<(), AllocError>
     ensures { IfOk result (λ _. is_clean findings.new ≡ false) }
 {
@@ -194,7 +194,7 @@ fn check_cues(
     Ok(all)
 }
 
-// The show, where all of a file is taken.
+// The show, if all of a file is taken.
 fn taken(show: Show, devices: bool, cues: bool) -> Option<Show>
     ensures show { result ≡ if_all (devices && cues) show }
     ensures some { is_some result ≡ (devices && cues) }

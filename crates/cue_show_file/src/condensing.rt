@@ -53,7 +53,7 @@ impl Unknown {
         unknown <= self.numberless
     }
 
-    // What is told of a device that the file does not have; none where it was told, or may be one without a number.
+    // What is told of a device that the file does not have; none if it was told, or may be one without a number.
     fn telling(&mut self, device: DeviceNo) -> Option<Mistake> {
         let index = usize::from(device.number());
         if self.is_explained() || self.told[index] {
@@ -128,8 +128,8 @@ fn told(
 }
 
 /// What is reported of the findings of `read` and of `check`. That parts are for a device which the file does not have
-/// is reported once for each device, with how many cues it concerns; not at all where as many devices of the file have
-/// no number that can be read, since they may be those. There is nothing to report exactly where nothing was found.
+/// is reported once for each device, with how many cues it concerns; not at all if as many devices of the file have
+/// no number that can be read, since they may be those. There is nothing to report exactly if nothing was found.
 pub fn condensed(
     alloc: Global,
     read: Vec<Finding>,

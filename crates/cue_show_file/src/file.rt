@@ -9,12 +9,12 @@ use std::marker::Model;
 /// A device of a show file.
 #[derive(Drop)]
 pub struct DeviceEntry {
-    /// The line of its header, from 1; none where the file does not say.
+    /// The line of its header, from 1; none if the file does not say.
     pub line: Option<usize>,
     pub number: DeviceNo,
     /// The port of 127.0.0.1 at which it listens, 1 to 65,535.
     pub port: u16,
-    /// Where it is on the stage's network; none where it is on this machine.
+    /// Where it is on the stage's network; none if it is on this machine.
     pub address: Option<Address>,
     /// What people call it; the controller never sees it.
     pub name: Option<String>,
@@ -53,7 +53,7 @@ impl Companions {
 /// A cue of a show file.
 #[derive(Drop)]
 pub struct CueEntry {
-    /// The line of its header, from 1; none where the file does not say.
+    /// The line of its header, from 1; none if the file does not say.
     pub line: Option<usize>,
     pub number: CueNo,
     /// What people call it; the controller never sees it.
@@ -72,9 +72,9 @@ pub struct CueEntry {
 /// A show file: what it says, in the order in which it says it.
 #[derive(Drop)]
 pub struct ShowFile {
-    /// The port at which the controller listens, where the file says so.
+    /// The port at which the controller listens, if the file says so.
     pub port: Option<u16>,
-    /// Where this machine is on the stage's network, where the file says so: the octets as one number.
+    /// Where this machine is on the stage's network, if the file says so: the octets as one number.
     pub listen: Option<u32>,
     pub devices: Vec<DeviceEntry>,
     pub cues: Vec<CueEntry>,

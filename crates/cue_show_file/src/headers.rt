@@ -34,7 +34,7 @@ pub(crate) fn headers_of(alloc: Global, text: &str) -> Result<Headers, AllocErro
     })
 }
 
-/// Whether a line begins with the header of one table where a list of tables is wanted.
+/// Whether a line begins with the header of one table if a list of tables is wanted.
 pub(crate) fn is_single(line: &str) -> bool {
     line.starts_with("[device]") || line.starts_with("[cue]")
 }
@@ -54,8 +54,8 @@ fn has_key(line: &str, key: &str) -> bool {
     }
 }
 
-/// The line, from 1, at which a key of the file stands, or a table with this name; none where it cannot be seen, as
-/// where the key is written by escapes.
+/// The line, from 1, at which a key of the file stands, or a table with this name; none if it cannot be seen, as
+/// if the key is written by escapes.
 pub(crate) fn line_of_key(text: &str, key: &str) -> Option<usize> {
     let text = text.strip_prefix(MARK).unwrap_or(text);
     for (index, line) in text.lines().enumerate() {
@@ -66,8 +66,8 @@ pub(crate) fn line_of_key(text: &str, key: &str) -> Option<usize> {
     None
 }
 
-/// The lines at which so many tables begin. None where there are more or fewer such lines, as where the tables are
-/// written in one line, or where a text holds a header.
+/// The lines at which so many tables begin. None if there are more or fewer such lines, as if the tables are
+/// written in one line, or if a text holds a header.
 pub(crate) fn lines_for(lines: &[usize], count: usize) -> &[usize] {
     if lines.len() == count { lines } else { &[] }
 }

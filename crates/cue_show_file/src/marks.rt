@@ -70,7 +70,7 @@ impl Color {
         }
     }
 
-    /// The colour of which this is the word; none where it is the word of none. `laws::marks_have_their_words` says
+    /// The colour of which this is the word; none if it is the word of none. `laws::marks_have_their_words` says
     /// that this and `word` are inverse.
     pub fn read(word: &str) -> Option<Color>
         ensures { result ≡ marks.color_of word.now }
@@ -91,7 +91,7 @@ impl Flag {
         }
     }
 
-    /// The flag of which this is the word; none where it is the word of none. `laws::marks_have_their_words` says that
+    /// The flag of which this is the word; none if it is the word of none. `laws::marks_have_their_words` says that
     /// this and `word` are inverse.
     pub fn read(word: &str) -> Option<Flag>
         ensures { result ≡ marks.flag_of word.now }

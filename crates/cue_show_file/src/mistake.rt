@@ -124,7 +124,7 @@ pub enum Mistake {
     BadFlag,
     /// The bytes of a part are no hexadecimal digits in pairs.
     BadHex,
-    /// The part for this device has both `hex` and `text`; the device is none where it cannot be read.
+    /// The part for this device has both `hex` and `text`; the device is none if it cannot be read.
     TwoBytes(Option<DeviceNo>),
     /// An earlier device of the file has the number.
     DeviceTwice,
@@ -171,7 +171,7 @@ pub enum Mistake {
 /// A mistake, with what it is about and where that stands.
 #[derive(Debug, Drop, PartialEq, Eq)]
 pub struct Finding {
-    /// The line, from 1; none where the file does not say.
+    /// The line, from 1; none if the file does not say.
     pub line: Option<usize>,
     pub subject: Subject,
     pub mistake: Mistake,

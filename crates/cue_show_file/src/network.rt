@@ -49,7 +49,7 @@ fn listen_in(table: &Table) -> Result<Option<u32>, Mistake>
     }
 }
 
-/// Where a device is on the stage's network; none where the file does not say so, or where that is wrong, which is
+/// Where a device is on the stage's network; none if the file does not say so, or if that is wrong, which is
 /// noted.
 pub(crate) fn read_address(
     findings: &mut Findings,
@@ -68,7 +68,7 @@ pub(crate) fn read_address(
     }
 }
 
-/// Where this machine is on the stage's network; none where the file does not say so, or where that is wrong, which is
+/// Where this machine is on the stage's network; none if the file does not say so, or if that is wrong, which is
 /// noted.
 pub(crate) fn read_listen(findings: &mut Findings, table: &Table) -> Result<Option<u32>, AllocError>
     ensures clean { IfOk result (λ _. IsTrue (is_clean findings.new) → IsTrue (is_clean findings.old)) }

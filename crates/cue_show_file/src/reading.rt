@@ -29,11 +29,11 @@ use toml::Table;
 #[derive(Drop)]
 pub struct Draft {
     pub file: ShowFile,
-    /// In the order of the text; none where it is a show file as far as each entry alone says.
+    /// In the order of the text; none if it is a show file as far as each entry alone says.
     pub findings: Vec<Finding>,
-    /// All that TOML reads from the text, for callers that read further keys of it; empty where the text is no TOML.
+    /// All that TOML reads from the text, for callers that read further keys of it; empty if the text is no TOML.
     pub table: Table,
-    /// The line, from 1, of the table `[rehearse]`, where it can be seen.
+    /// The line, from 1, of the table `[rehearse]`, if it can be seen.
     pub rehearse: Option<usize>,
 }
 
@@ -96,7 +96,7 @@ fn note_no_toml(
     findings.note(Mistake::NotToml(slip_at(text, line), why))
 }
 
-// The port of the controller, where the file has one.
+// The port of the controller, if the file has one.
 fn read_port(findings: &mut Findings, table: &Table) -> Result<Option<u16>, AllocError>
     ensures { IfOk result (λ _. is_clean findings.new
         ≡ (is_clean findings.old && is_port_or_none (get_member (codes "port") (table_view table.now)))) }
@@ -113,7 +113,7 @@ fn read_port(findings: &mut Findings, table: &Table) -> Result<Option<u16>, Allo
     }
 }
 
-// Notes a key of the file, where it is not among these, with the line at which it stands.
+// Notes a key of the file, if it is not among these, with the line at which it stands.
 fn note_key_of_file(
     alloc: Global,
     findings: &mut Findings,
@@ -186,8 +186,8 @@ fn empty_file(alloc: Global) -> ShowFile {
     }
 }
 
-/// Reads a show file. It fails only where memory ran out; what is wrong with the text is among the findings. Where
-/// there is none, the text says exactly what was read; and where a text says devices and cues, and has no `address` and
+/// Reads a show file. It fails only if memory ran out; what is wrong with the text is among the findings. If
+/// there is none, the text says exactly what was read; and if a text says devices and cues, and has no `address` and
 /// no `listen`, there is none.
 pub fn read(alloc: Global, text: &str) -> Result<Draft, AllocError>
     ensures said { IfOk result (λ draft. draft.findings.items ≡ [] → text_said text.now ≡ Some (said_of draft.file)) }

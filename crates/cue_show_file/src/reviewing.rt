@@ -11,7 +11,7 @@ use crate::together::{MAX_COMPANIONS, are_apart, is_group};
 use cue_show::{CueNo, DeviceNo};
 use std::alloc::{AllocError, Global};
 
-/// The port at which the controller listens, where nobody says another.
+/// The port at which the controller listens, if nobody says another.
 const USUAL_PORT: u16 = 9100;
 
 /// What may spoil the evening with a file that a controller takes.
@@ -58,7 +58,7 @@ fn note_own_ports(
     }
 }
 
-// Notes a device that has an address, where the file does not say where this machine is.
+// Notes a device that has an address, if the file does not say where this machine is.
 fn note_address(
     findings: &mut Findings,
     listen: Option<u32>,
@@ -75,7 +75,7 @@ fn note_address(
     }
 }
 
-// Notes each device that has an address, where the file does not say where this machine is.
+// Notes each device that has an address, if the file does not say where this machine is.
 fn note_addresses(
     findings: &mut Findings,
     listen: Option<u32>,
@@ -237,7 +237,8 @@ fn hints_at(alloc: Global, file: &ShowFile) -> Result<Vec<Finding>, AllocError> 
 }
 
 /// What a controller takes of a file, and an evening may not: a device at the controller's own port, an address without
-/// `listen`, cues that cannot stand by together, nothing at all; and, as hints, two devices at one port, and one at the controller's usual port.
+/// `listen`, cues that cannot stand by together, nothing at all; and, as hints, two devices at one port, and one at the
+/// controller's usual port.
 pub fn review_of(alloc: Global, file: &ShowFile) -> Result<Review, AllocError>
     ensures { IfOk result (λ found. (length found.mistakes.items == 0) ≡ is_reviewed file.now) }
 {

@@ -36,7 +36,7 @@ fn is_shared(port: u16, later: &[Route]) -> bool {
     later.iter().any(|route| route.port == port)
 }
 
-/// A port that two of the routes have, where there is one: one socket cannot stand for two devices.
+/// A port that two of the routes have, if there is one: one socket cannot stand for two devices.
 pub fn shared_port(routes: &[Route]) -> Option<u16> {
     for (index, route) in routes.iter().enumerate() {
         if is_shared(route.port, &routes[index + 1..]) {

@@ -38,7 +38,7 @@ fn is_plain(bytes: &[u8]) -> bool
     !bytes.is_empty() && are_plain_signs(bytes)
 }
 
-/// The bytes of a part as a text, where they are plain text: one byte at least, and each a sign of ASCII that is
+/// The bytes of a part as a text, if they are plain text: one byte at least, and each a sign of ASCII that is
 /// printed, no quote and no backslash. A show file that is written has them as `text`, and all others as `hex`; a cue
 /// sheet shows them so.
 pub fn plain_text(bytes: &[u8]) -> Option<&str>

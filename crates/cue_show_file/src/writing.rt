@@ -99,7 +99,7 @@ fn push_line(text: &mut String, key: &str, value: &str) -> Result<(), AllocError
     write!(text, "{key} = {quoted}\n")
 }
 
-// Writes a line with a key and a text, where there is one.
+// Writes a line with a key and a text, if there is one.
 fn push_text(text: &mut String, key: &str, value: &Option<String>) -> Result<(), AllocError>
     ensures { OnOk result (string_bytes text.new ≡ string_bytes text.old ++ written.text_line key.now value.now) }
 {
@@ -109,7 +109,7 @@ fn push_text(text: &mut String, key: &str, value: &Option<String>) -> Result<(),
     }
 }
 
-// Writes the line of a colour, where there is one.
+// Writes the line of a colour, if there is one.
 fn push_color(text: &mut String, color: Option<Color>) -> Result<(), AllocError>
     ensures { OnOk result (string_bytes text.new ≡ string_bytes text.old ++ written.color_line color) }
 {
@@ -119,7 +119,7 @@ fn push_color(text: &mut String, color: Option<Color>) -> Result<(), AllocError>
     }
 }
 
-// Writes the line of a flag, where there is one.
+// Writes the line of a flag, if there is one.
 fn push_flag(text: &mut String, flag: Option<Flag>) -> Result<(), AllocError>
     ensures { OnOk result (string_bytes text.new ≡ string_bytes text.old ++ written.flag_line flag) }
 {
@@ -194,7 +194,7 @@ fn push_cues(alloc: Global, text: &mut String, entries: &[CueEntry]) -> Result<(
 }
 
 /// The text of a show file: its port, its devices and its cues. By the grammar of TOML it is read as exactly that
-/// (`laws::written_is_read`), and of a show `read` makes the same file of it (`laws::export_reads_back`). Where this
+/// (`laws::written_is_read`), and of a show `read` makes the same file of it (`laws::export_reads_back`). If this
 /// machine and its devices are on the stage's network, and which cues stand by together, is left out: no store has it.
 pub fn written(alloc: Global, file: &ShowFile) -> Result<String, AllocError>
     ensures { IfOk result (λ text. string_bytes text ≡ written.file_text file.now) }

@@ -197,7 +197,7 @@ put_back_in since now wall live = map (λ a. a.seq) (filter (is_put_back since n
 abbrev pub unseen : Option ℕ → List ℕ → List ℕ
 unseen acknowledged qs = filter (λ q. not (is_acknowledged acknowledged q)) qs
 
--- the newest failure, where the copy does not tell of it any more
+-- the newest failure, if the copy does not tell of it any more
 abbrev pub beside : Option ℕ → List ℕ → List ℕ
 beside None qs = []
 beside (Some q) qs = if list_any (nat_eq q) qs then [] else q ∷ []

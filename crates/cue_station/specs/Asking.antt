@@ -37,8 +37,8 @@ is_press_sent (Some s) = not (is_status s.order)
 abbrev pub counts : ℤ → ℤ → ℤ → ℕ → ℕ → ℕ → Bool
 counts made known refused m k r = int_eq made (pos m) && (int_eq known (pos k) && int_eq refused (pos r))
 
--- what the reply to one press says: its numbers are 0 or 1. Made and refused are both 1 where only some of several cues
--- were stood by; none where it speaks of nothing
+-- what the reply to one press says: its numbers are 0 or 1. Made and refused are both 1 if only some of several cues
+-- were stood by; none if it speaks of nothing
 abbrev pub word_by : ℤ → ℤ → ℤ → ℤ → Option Became
 word_by made known refused code =
     if counts made known refused 1 0 0 then Some became.Made
@@ -50,7 +50,7 @@ abbrev pub word_in : Replied → Option Became
 word_in (replied.Reply made known refused code) = word_by made known refused code
 word_in (replied.Status u) = None
 
--- what came to the socket of the ask n, where it answers it
+-- what came to the socket of the ask n, if it answers it
 abbrev pub word_to : ℕ → Heard → Option Became
 word_to n (heard.Replied m r) = if nat_eq m n then word_in r else None
 word_to n (heard.Nobody m) = if nat_eq m n then Some became.Nobody else None
@@ -94,7 +94,7 @@ abbrev pub is_settled : ℕ → Option Answered → ℕ → Bool
 is_settled sent None begun = false
 is_settled sent (Some a) begun = nat_lt sent a.asked && nat_le a.came begun
 
--- what the copy shows, where it settles what was sent at the moment
+-- what the copy shows, if it settles what was sent at the moment
 abbrev pub settled_by : Button → ℕ → Option Answered → Option Reading → Option Became
 settled_by b sent a None = None
 settled_by b sent a (Some r) = if is_settled sent a r.at then Some (shown_of b r.copy) else None

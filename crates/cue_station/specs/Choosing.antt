@@ -22,7 +22,7 @@ use Rattle.cue_station.specs.Asking.{heard_presses, is_open_ask, presses_of}
 use Rattle.cue_station.specs.Offering.{is_offered, kept_of}
 use Rattle.cue_station.specs.Reading.{reading_of}
 
--- the attempt at the cue, once the copy has one; where the copy of after the answer has none, nothing comes of it
+-- the attempt at the cue, once the copy has one; if the copy of after the answer has none, nothing comes of it
 abbrev pub found_by : Option Attempt → Bool → Choice → Choice
 found_by (Some a) waits old = choice.Attempt a.seq
 found_by None waits old = if waits then old else choice.Nothing

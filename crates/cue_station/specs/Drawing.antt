@@ -29,7 +29,7 @@ pub record ShowsCopy (stands : Bool) (since given : ℕ → Option ℕ) (now wal
   pub past : v.past.items ≡ past_in c
   pub live : v.live.items ≡ shown_live stands since given now wall c.state.live
 
--- what it says where there is none
+-- what it says if there is none
 pub record ShowsNone (v : View) : Type 0 where
   pub next : v.next ≡ next.Unknown
   pub place : v.place ≡ None

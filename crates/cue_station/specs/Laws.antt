@@ -37,7 +37,7 @@ is_key (button.Choose q) = false
 is_key (button.Seen q) = false
 
 -- LIT IS SO: what is lit may be lit; of the great buttons, and of the moves to cues, what may be lit is; and that a
--- failure was seen can be said exactly where its alarm is shown.
+-- failure was seen can be said exactly if its alarm is shown.
 pub record LitIsSo (t : Turn) (past : List Turn) : Type 0 where
   pub lit : (b : Button) → IsTrue (is_lit b t.view.lit.items)
       → IsTrue (may (t ∷ past) t.input.at t.input.wall b)
@@ -56,7 +56,7 @@ pub record PressIsSo (t : Turn) (past : List Turn) : Type 0 where
       → IsTrue (is_heeded past t.input.at t.input.wall view b) → IsSome (order_of b) → IsTrue (is_press_sent t.sent)
   pub told : t.view.unsent ≡ unsent_of past t.input
 
--- THE STATUS IS ASKED: where none was ever asked, or a second ago, a message goes out: a question, or that of a press.
+-- THE STATUS IS ASKED: if none was ever asked, or a second ago, a message goes out: a question, or that of a press.
 abbrev pub StatusIsAsked : Turn → List Turn → Type 0
 StatusIsAsked t past = IsTrue (is_overdue (question_of past) t.input.at) → IsSome t.sent
 
@@ -72,7 +72,7 @@ pub record AgeIsSo (t : Turn) (past : List Turn) : Type 0 where
   pub served : t.view.served ≡ asked_at (answered_of (t ∷ past))
 
 -- LAST IS SO, AND SO ARE NEXT, THE STACK AND WHAT IS LIVE: by the newest copy and its events, and no first cue after
--- the end; an attempt is ready only where GO can be given.
+-- the end; an attempt is ready only if GO can be given.
 abbrev pub CopyIsSo : Turn → List Turn → Type 0
 CopyIsSo t past =
     ShowsReading (stands_by t.input.at (answered_of (t ∷ past)) (reading_of (t ∷ past)))
@@ -91,7 +91,7 @@ BackIsSo t past = t.view.back ≡ back_by (moved_of (t ∷ past)) (place_by (rea
 abbrev pub AlarmIsSo : Turn → List Turn → Type 0
 AlarmIsSo t past = t.view.alarms.items ≡ alarms_of (t ∷ past) t.input.at t.input.wall
 
--- THE NETWORK IS WHAT THE RELAY SAYS, and nothing where it has stopped.
+-- THE NETWORK IS WHAT THE RELAY SAYS, and nothing if it has stopped.
 abbrev pub NetworkIsSo : Turn → List Turn → Type 0
 NetworkIsSo t past = t.view.network.items ≡ network_by (relayed_of (t ∷ past)) t.input.at
 

@@ -16,7 +16,7 @@ abbrev pub place_by : Option Reading → Option (List ℕ)
 place_by None = None
 place_by (Some r) = r.copy.state.show.place
 
--- from the place to the cue, where there is a place
+-- from the place to the cue, if there is a place
 abbrev pub moved_from : Option (List ℕ) → List ℕ → Option Moved
 moved_from None c = None
 moved_from (Some p) c = Some (record { from = p; to = c })

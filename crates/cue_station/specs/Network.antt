@@ -35,7 +35,7 @@ relayed_with (heard.Relay (Some s)) at old = Some (record { status = Some s; sin
 relayed_with (heard.Relay None) at old = Some (unreadable_at at old)
 relayed_with _ at old = old
 
--- what it wrote last, and since when it has written nothing new; none where no relay is watched
+-- what it wrote last, and since when it has written nothing new; none if no relay is watched
 abbrev pub relayed_of : List Turn → Option Relayed
 relayed_of [] = None
 relayed_of (t ∷ past) = relayed_with t.input.heard t.input.at (relayed_of past)
@@ -59,7 +59,7 @@ contacted now age s =
 abbrev pub contacts : ℕ → Status → List Contacted
 contacts age s = map (contacted s.now age) s.devices.items
 
--- its devices, where it has been read and has not stopped
+-- its devices, if it has been read and has not stopped
 abbrev pub contacts_by : Option Status → Bool → ℕ → List Contacted
 contacts_by None stopped age = []
 contacts_by (Some s) true age = []
@@ -68,7 +68,7 @@ contacts_by (Some s) false age = contacts age s
 abbrev pub network_in : Relayed → ℕ → List Contacted
 network_in r now = contacts_by r.status (is_stopped r.since now) (now - r.since)
 
--- what is shown of the devices of the relay; nothing where none is watched
+-- what is shown of the devices of the relay; nothing if none is watched
 abbrev pub network_by : Option Relayed → ℕ → List Contacted
 network_by None now = []
 network_by (Some r) now = network_in r now

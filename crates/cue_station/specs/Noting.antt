@@ -25,7 +25,7 @@ use Rattle.cue_station.specs.Opening.{has_ask, is_some_final}
 use Rattle.cue_station.specs.Pressing.{ask_after, order_of}
 use Rattle.cue_station.specs.Reading.{answered_with, question_with}
 
--- ---- once something was heard: h, at the moment, where r is the newest copy then
+-- ---- once something was heard: h, at the moment, if r is the newest copy then
 
 -- what is known of the controller, and since when that is not of the store that was copied
 abbrev pub with_answer : Heard → ℕ → Option Reading → Option Answered → Notes → Notes
@@ -83,7 +83,7 @@ abbrev pub order_by : Heard → (ℕ → Button → Bool) → Option Order
 order_by (heard.Pressed view b) is_heeded = if is_heeded view b then order_of b else None
 order_by _ is_heeded = None
 
--- the message: that of a press, else a question for the status, where one is due
+-- the message: that of a press, else a question for the status, if one is due
 abbrev pub send_by : Option Order → Bool → ℕ → Option Send
 send_by (Some o) due n = Some (record { ask = n; order = o })
 send_by None true n = Some (record { ask = n; order = order.Status })

@@ -16,7 +16,7 @@ use Rattle.cue_station.specs.Turns.{Turn}
 use Rattle.cue_station.specs.Lighting.{may}
 use Rattle.cue_station.specs.Offering.{is_offered, is_recent, kept_of}
 
--- the message of a button; none where nothing is sent
+-- the message of a button; none if nothing is sent
 abbrev pub order_of : Button → Option Order
 order_of (button.Standby c) = Some (order.OfCue verb.Standby c)
 order_of (button.Go c q) = Some (order.OfCue verb.Go c)
@@ -43,7 +43,7 @@ abbrev pub unsent_by : (ℕ → Button → Option Unsent) → Heard → Option U
 unsent_by refusal (Pressed view b) = refusal view b
 unsent_by refusal _ = None
 
--- why the press that was heard is not heeded; none where it is, and where none was heard
+-- why the press that was heard is not heeded; none if it is, and if none was heard
 abbrev pub unsent_of : List Turn → Input → Option Unsent
 unsent_of past i =
     unsent_by

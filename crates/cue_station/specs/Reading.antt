@@ -68,13 +68,13 @@ abbrev pub question_of : List Turn → Option Question
 question_of [] = None
 question_of (t ∷ past) = question_with t.sent t.input.at (question_of past)
 
--- a status that came to the ask n, where that is the newest question
+-- a status that came to the ask n, if that is the newest question
 abbrev pub answered_by : ℕ → Option Question → ℕ → Status → Option Answered → Option Answered
 answered_by n None came u old = old
 answered_by n (Some q) came u old =
     if nat_eq q.ask n then Some (record { asked = q.at; came = came; status = u }) else old
 
--- nobody listens where the ask n went: nothing is known, where that is the newest question
+-- nobody listens where the ask n went: nothing is known, if that is the newest question
 abbrev pub forgotten : ℕ → Option Question → Option Answered → Option Answered
 forgotten n None old = old
 forgotten n (Some q) old = if nat_eq q.ask n then None else old

@@ -48,7 +48,8 @@ abbrev pub left_of : Option ℕ → ℕ → ℕ → Attempt → ℕ
 left_of None now wall a = 0
 left_of (Some since) now wall a = min (a.deadline - wall) (STANDBY_MS - (now - since))
 
--- An attempt as it is shown: as the copy has it, with what is left, and whether GO can be given where the copy stands.
+-- An attempt as it is shown: as the copy has it, with what is left, and whether GO can be given
+-- at the moment of the copy.
 abbrev pub shown_attempt : Bool → (ℕ → Option ℕ) → (ℕ → Option ℕ) → ℕ → ℕ → Attempt → LiveAttempt
 shown_attempt stands since given now wall a =
     record {

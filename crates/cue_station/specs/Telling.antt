@@ -22,7 +22,7 @@ abbrev pub cue_in : Event → Option (List ℕ)
 cue_in (event.Start p c t) = Some c
 cue_in _ = None
 
--- the cue at which q started; none where its start is not among the events
+-- the cue at which q started; none if its start is not among the events
 abbrev pub cue_of_start : ℕ → List Event → Option (List ℕ)
 cue_of_start q es = option_and_then cue_in (find (is_start_of q) es)
 
@@ -65,13 +65,13 @@ told_of es e =
       excused = excused_in e.seq es;
     }
 
--- LAST: the attempt that ended last, where one has
+-- LAST: the attempt that ended last, if one has
 abbrev pub last_in : Copied → Option Told
 last_in c = option_map (told_of c.events.items) c.state.ended
 
 -- ---- the attempts before it
 
--- how q ended: given up where it was cancelled; else failed where a device did
+-- how q ended: given up if it was cancelled; else failed if a device did
 abbrev pub outcome_by : Bool → Bool → Outcome
 outcome_by true failed = outcome.Cancelled
 outcome_by false true = outcome.Failed
@@ -111,7 +111,7 @@ is_failure outcome.Failed = true
 is_failure outcome.Complete = false
 is_failure outcome.Cancelled = false
 
--- the attempt that ended last, where it failed
+-- the attempt that ended last, if it failed
 abbrev pub failed_last : Option Ended → Option ℕ
 failed_last None = None
 failed_last (Some e) = if is_failure e.outcome then Some e.seq else None

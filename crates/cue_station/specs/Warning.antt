@@ -37,13 +37,13 @@ abbrev pub IsLoudestFirst : List Alarm → Type 0
 IsLoudestFirst [] = Unit {0}
 IsLoudestFirst (a ∷ more) = All (λ b. rank_of a ≤ rank_of b) more × IsLoudestFirst more
 
--- there is an alarm of silence exactly where no status is alive
+-- there is an alarm of silence exactly if no status is alive
 abbrev pub SilenceIsSaid : Type 0
 SilenceIsSaid =
     (f : Facts) (back failures : List ℕ) (network : List Contacted)
     → list_any is_silence (alarms_by f back failures network) ≡ not (is_within STATUS_MS f.at f.asked)
 
--- there is one of age exactly where no copy is young
+-- there is one of age exactly if no copy is young
 abbrev pub AgeIsSaid : Type 0
 AgeIsSaid =
     (f : Facts) (back failures : List ℕ) (network : List Contacted)

@@ -166,7 +166,7 @@ fn is_among(seq: u32, numbers: &[u32]) -> bool
     numbers.iter().any(|other| seq == *other)
 }
 
-// The newest failure, where the copy does not tell of it any more.
+// The newest failure, if the copy does not tell of it any more.
 fn beside(failed: Option<u32>, failures: &[u32]) -> Option<u32>
     ensures { option_to_list result ≡ alarms.beside failed failures.now }
 {
@@ -203,7 +203,7 @@ fn silent_in(alloc: Global, network: &[Contacted]) -> Result<Vec<DeviceNo>, Allo
         .collect(alloc)
 }
 
-// Puts the alarm after the others, where there is one.
+// Puts the alarm after the others, if there is one.
 fn push_one(all: &mut Vec<Alarm>, one: Option<Alarm>) -> Result<(), AllocError>
     ensures { OnOk result (all.new.items ≡ all.old.items ++ option_to_list one) }
 {

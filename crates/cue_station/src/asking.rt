@@ -63,7 +63,7 @@ fn word_in(replied: Replied) -> Option<Became>
     }
 }
 
-// What came to the socket of the ask, where it answers it.
+// What came to the socket of the ask, if it answers it.
 fn word_to(ask: u64, heard: &Heard) -> Option<Became>
     ensures { result ≡ asking.word_to ask heard.now }
 {
@@ -195,7 +195,7 @@ fn is_live_at(cue: CueNo, state: &State) -> bool
     state.live().of_cue(cue).is_some()
 }
 
-// What is said where something was carried out, or where that is known not to be so.
+// What is said if something was carried out, or if that is known not to be so.
 fn if_known(known: bool, carried: bool) -> Became
     ensures { result ≡ asking.if_known known carried }
 {
@@ -231,7 +231,7 @@ fn is_settled(sent: u64, answered: &Option<Answered>, begun: u64) -> bool
     }
 }
 
-// What the copy shows, where it settles what was sent at the moment.
+// What the copy shows, if it settles what was sent at the moment.
 fn settled_by(
     button: Button,
     sent: u64,

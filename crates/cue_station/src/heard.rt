@@ -29,7 +29,7 @@ pub enum Heard {
     Nobody(u64),
     /// A button of the view with this number was pressed.
     Pressed(u64, Button),
-    /// What the relay has written; none where that cannot be read.
+    /// What the relay has written; none if that cannot be read.
     Relay(Option<Status>),
     Tick,
 }

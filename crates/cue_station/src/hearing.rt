@@ -175,7 +175,7 @@ fn asked_at(ask: u64, question: Option<Question>) -> Option<u64>
     }
 }
 
-// The status that came to the ask, where that is the newest question.
+// The status that came to the ask, if that is the newest question.
 fn answered_by(
     ask: u64,
     question: Option<Question>,

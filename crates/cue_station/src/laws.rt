@@ -2,7 +2,7 @@
 ghost use Rattle.cue_station.specs.Examples.{LitUnheardIsRefused, OtherCueIsRefused, UnpressedIsRefused};
 ghost use Rattle.cue_station.specs.Readings.{AfterGoNothing, NoCueAfterEnd, DeadlineIsDark};
 
-/// Without a place a cue is next only where none was given, and where the events tell of every attempt.
+/// Without a place a cue is next only if none was given, and if the events tell of every attempt.
 pub fn no_cue_after_the_end()
     ensures { NoCueAfterEnd }
 {}

@@ -19,9 +19,9 @@
 //!   safe way.
 //! - What came to a socket before it was opened is nothing; the answer of a press is the first that comes after it was
 //!   sent.
-//! - The way back after a move is offered only while the move was the last press and the place is where it left it: after
-//!   any other step forward it would lead somewhere that nobody thinks of. It is the move to that cue, and no message of
-//!   its own.
+//! - The way back after a move is offered only while the move was the last press and the place is where it left it:
+//!   after any other step forward it would lead somewhere that nobody thinks of. It is the move to that cue, and no
+//!   message of its own.
 //! - A failure stays until somebody says that it was seen, also if later attempts end well: an operator who looked away
 //!   has to find it. That press names a view, too. The newest failure stays also if a newer snapshot has swallowed its
 //!   events.

@@ -219,7 +219,7 @@ fn with_message(
     }
 }
 
-/// What is noted once this was sent, with the numbers of the next view and the next ask. It fails only where no number
+/// What is noted once this was sent, with the numbers of the next view and the next ask. It fails only if no number
 /// is left.
 pub(crate) fn notes_sent(
     notes: &Notes,

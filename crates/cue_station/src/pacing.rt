@@ -10,7 +10,7 @@ use cue_desk::replying::Replied;
 /// How long after a question for the status the next one is due, in milliseconds.
 const ASK_MS: u64 = 1_000;
 
-/// The same where no status came to it.
+/// The same if no status came to it.
 const ASK_AGAIN_MS: u64 = 500;
 
 // Whether the last press was sent before the moment, so that a question that is sent now is asked after it.

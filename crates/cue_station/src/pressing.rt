@@ -14,7 +14,7 @@ use cue_operator::CueVerb;
 use cue_view::button::Button;
 use cue_view::view::Unsent;
 
-/// The message of a button; none where nothing is sent.
+/// The message of a button; none if nothing is sent.
 pub(crate) fn order_of(button: Button) -> Option<Order>
     ensures { result ≡ pressing.order_of button }
 {

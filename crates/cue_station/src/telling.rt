@@ -204,7 +204,7 @@ fn told_of(alloc: Global, events: &[Event], ended: Ended) -> Result<Told, AllocE
     })
 }
 
-/// The attempt that ended last, where one has: its cue, its reason and its devices are those of the events.
+/// The attempt that ended last, if one has: its cue, its reason and its devices are those of the events.
 pub fn last_of(alloc: Global, copy: &Copied) -> Result<Option<Told>, AllocError>
     ensures { IfOk result (λ last. last ≡ telling.last_in copy.now) }
 {
@@ -335,7 +335,7 @@ fn failed_of(
         .collect(alloc)
 }
 
-/// The number as a list, where there is one.
+/// The number as a list, if there is one.
 pub(crate) fn one_or_none(alloc: Global, last: Option<u32>) -> Result<Vec<u32>, AllocError>
     ensures { IfOk result (λ numbers. numbers.items ≡ option_to_list last) }
 {

@@ -105,7 +105,7 @@ fn alarms(
     alarms_of(alloc, facts, &put_back, failures, network)
 }
 
-// What is shown where nothing was read.
+// What is shown if nothing was read.
 fn nothing_drawn(alloc: Global) -> Drawn
     ensures { viewing.DrawsNone result }
 {

@@ -174,13 +174,13 @@ pub struct View {
     pub number: u64,
     /// When it was made.
     pub at: u64,
-    /// The moment for which the copy of the store stands; none where nothing was read.
+    /// The moment for which the copy of the store stands; none if nothing was read.
     pub read: Option<u64>,
     /// The moment at which the status was asked that was answered last.
     pub served: Option<u64>,
     pub next: Next,
     pub place: Option<CueNo>,
-    /// Where the last press moved the place from, as long as the place is the cue that it moved to.
+    /// If the last press moved the place from, as long as the place is the cue that it moved to.
     pub back: Option<CueNo>,
     /// All cues, in order.
     pub stack: Vec<CueNo>,

@@ -6,7 +6,7 @@ abbrev pub rows_of : Option ℕ → ℕ
 rows_of (Some rows) = rows
 rows_of None = 24
 
--- the rows of the window: none where the board is printed once, and 24 where they are not given
+-- the rows of the window: none if the board is printed once, and 24 if they are not given
 abbrev pub window_of : Bool → Option ℕ → Option ℕ
 window_of true given = None
 window_of false given = Some (rows_of given)

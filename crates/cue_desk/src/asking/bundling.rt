@@ -83,7 +83,7 @@ fn device_address() -> &'static [u8]
     b"/show/device"
 }
 
-// Where a cue is added.
+// If a cue is added.
 fn cue_address() -> &'static [u8]
     ensures { result.now ≡ address_of AddMixedCue }
 {
@@ -160,7 +160,7 @@ fn bundle_of(alloc: Global, items: Vec<Packet<'_>>) -> Result<Vec<u8>, AskFault>
 }
 
 /// The datagram that asks for these devices to be added, in order, and for nothing else: a bundle of the message of
-/// each, to be carried out at once. `Unwritable` where it would be longer than a datagram: `devices_that_fit` says how
+/// each, to be carried out at once. `Unwritable` if it would be longer than a datagram: `devices_that_fit` says how
 /// many are not.
 pub fn bundle_of_devices(alloc: Global, entries: &[DeviceEntry]) -> Result<Vec<u8>, AskFault>
     ensures { let said = contents_of (map device_message entries.now) in

@@ -20,13 +20,13 @@ pub struct Buttons {
     pub midi: String,
     pub keys: Keys,
     pub address: Address,
-    /// The port of the controller, where the command line or the environment says it.
+    /// The port of the controller, if the command line or the environment says it.
     pub port: Option<u16>,
-    /// Who asks, where the command line or the environment says it.
+    /// Who asks, if the command line or the environment says it.
     pub name: Option<AskerName>,
 }
 
-/// The keys, where nothing else is said.
+/// The keys, if nothing else is said.
 const STANDBY: Key = Key::Note(60);
 
 const GO: Key = Key::Note(62);

@@ -20,7 +20,7 @@ const MOST: u64 = 10;
 /// How many cues can be live at once.
 const MAX_TOGETHER: usize = 8;
 
-/// What is said where neither a cue nor the store is named.
+/// What is said if neither a cue nor the store is named.
 const NO_STORE: &str =
     "wants the number of a cue, as 12.5; or else the folder of the store, to see which cue it is: \
 --store show, or `export CUEDESK_STORE=show`";
@@ -35,9 +35,9 @@ pub struct Pressed {
     pub file: Option<String>,
     /// How long it is waited for until it can be pressed, in seconds, if it is.
     pub wait: Option<u64>,
-    /// The port of the controller, where the command line or the environment says it.
+    /// The port of the controller, if the command line or the environment says it.
     pub port: Option<u16>,
-    /// Who asks, where the command line or the environment says it.
+    /// Who asks, if the command line or the environment says it.
     pub name: Option<AskerName>,
 }
 
@@ -240,8 +240,8 @@ fn go_in(
     }))
 }
 
-/// The commands `standby` without a number or of several cues, and `go` without one or with `--wait`; none where it is
-/// another one, which asks by its words alone. The environment says the folder of the store and the show file where the
+/// The commands `standby` without a number or of several cues, and `go` without one or with `--wait`; none if it is
+/// another one, which asks by its words alone. The environment says the folder of the store and the show file if the
 /// command line does not.
 pub fn pressed_in(
     alloc: Global,

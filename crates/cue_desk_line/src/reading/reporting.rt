@@ -73,7 +73,7 @@ fn name_of(alloc: Global, text: &str, more: &str) -> Result<AskerName, LineFault
     }
 }
 
-/// Who asks, where the command line says it.
+/// Who asks, if the command line says it.
 pub fn asker_in(alloc: Global, found: &ArgMatches<'_>) -> Result<Option<AskerName>, LineFault> {
     match found.get_str("as") {
         Some(text) => Ok(Some(name_of(alloc, text, "")?)),

@@ -24,9 +24,9 @@ pub enum LockWord {
 /// What a page is for.
 #[derive(Drop)]
 pub enum PageUse {
-    /// Its buttons are pressed; some of them want a word, where one is given.
+    /// Its buttons are pressed; some of them want a word, if one is given.
     Plays(Option<LockWord>),
-    /// It only shows. A proxy gives it this name, where there is one.
+    /// It only shows. A proxy gives it this name, if there is one.
     Shows(Option<String>),
 }
 
@@ -41,9 +41,9 @@ pub struct Web {
     pub relay: Option<String>,
     /// The port of 127.0.0.1 at which the page is.
     pub http: u16,
-    /// The port of the controller, where the command line or the environment says it.
+    /// The port of the controller, if the command line or the environment says it.
     pub port: Option<u16>,
-    /// Who presses, where the command line or the environment says it.
+    /// Who presses, if the command line or the environment says it.
     pub name: Option<AskerName>,
     pub page_use: PageUse,
 }
@@ -169,7 +169,7 @@ fn lock_in(alloc: Global, found: &ArgMatches<'_>) -> Result<Option<LockWord>, Li
     }
 }
 
-// What the page is for, where it is read-only or not, and its other options go together.
+// What the page is for, if it is read-only or not, and its other options go together.
 fn use_of(alloc: Global, found: &ArgMatches<'_>, is_read_only: bool) -> Result<PageUse, LineFault>
     ensures words { IfOk result IsUse }
     ensures shows { IfOk result (λ page_use. IsShown page_use ↔ IsTrue is_read_only) }

@@ -9,7 +9,7 @@ use cue_desk::orders::Order;
 use cue_loading::Manner;
 use cue_show::CueNo;
 
-/// What the environment says, where a command line does not.
+/// What the environment says, if a command line does not.
 #[derive(Clone, Copy)]
 pub struct Environment<'a> {
     /// CUEDESK_PORT: the port of the controller.
@@ -33,11 +33,11 @@ pub struct Watched {
     pub log: Option<String>,
     /// The file in which a relay reports.
     pub relay: Option<String>,
-    /// The port of the controller, where the command line or the environment says it.
+    /// The port of the controller, if the command line or the environment says it.
     pub port: Option<u16>,
 }
 
-/// A command, as the words of a command line give it. A port in it is that of the controller, where the command line or
+/// A command, as the words of a command line give it. A port in it is that of the controller, if the command line or
 /// the environment says it.
 #[derive(Drop)]
 pub enum Line {
@@ -48,7 +48,7 @@ pub enum Line {
     /// Add what this show file has.
     Load {
         file: String,
-        /// The folder of the store, where it is given: then what the store has is compared with the file.
+        /// The folder of the store, if it is given: then what the store has is compared with the file.
         dir: Option<String>,
         port: Option<u16>,
         manner: Manner,
@@ -71,7 +71,7 @@ pub enum Line {
     Board {
         watched: Watched,
         once: bool,
-        /// The rows of the window, where they are given.
+        /// The rows of the window, if they are given.
         rows: Option<u16>,
     },
     /// Show the board of a folder with buttons in a browser.
@@ -95,14 +95,14 @@ pub enum Line {
         cue: CueNo,
         others: Vec<CueNo>,
         port: Option<u16>,
-        /// Who asks, where the command line or the environment says it.
+        /// Who asks, if the command line or the environment says it.
         name: Option<AskerName>,
     },
     /// Ask one thing.
     Ask {
         order: Order,
         port: Option<u16>,
-        /// Who asks, where the command line or the environment says it.
+        /// Who asks, if the command line or the environment says it.
         name: Option<AskerName>,
     },
 }

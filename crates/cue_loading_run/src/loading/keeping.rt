@@ -114,7 +114,7 @@ fn text_of(alloc: Global, stored: &Show, port: u16) -> Result<String, AllocError
 }
 
 impl<'a, R: Files<File = File> + Net + Eprint + AllocGlobal, W: Write> Loading<'a, R, W> {
-    // Says where it is kept, and how to take the load back.
+    // Says if it is kept, and how to take the load back.
     fn tell_kept(&mut self, what: Loaded<'_>, dir: &str, kept: &Kept) -> Result<(), Ending> {
         match kept {
             Kept::In(path) => {

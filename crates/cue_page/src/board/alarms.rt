@@ -24,7 +24,7 @@ fn kind_of(alarm: Alarm) -> &'static str
     }
 }
 
-// The attempt or the device that it is of; 0 where it is of none.
+// The attempt or the device that it is of; 0 if it is of none.
 fn subject_of(alarm: Alarm) -> u64
     ensures { result ≡ alarms.subject_of alarm }
 {

@@ -8,7 +8,7 @@ use cue_words::shown_text;
 use serde_json::{Value, json};
 use std::alloc::{AllocError, Global};
 
-// A text of the file, as a screen may get it; empty where there is none.
+// A text of the file, as a screen may get it; empty if there is none.
 fn text_of(alloc: Global, text: &Option<String>) -> Result<String, AllocError> {
     match text {
         Some(text) => shown_text(alloc, text.as_str()),
@@ -16,7 +16,7 @@ fn text_of(alloc: Global, text: &Option<String>) -> Result<String, AllocError> {
     }
 }
 
-// A word that may be missing; null where it is.
+// A word that may be missing; null if it is.
 fn word_value(alloc: Global, word: Option<&str>) -> Result<Value, AllocError> {
     match word {
         Some(word) => Ok(Value::String(String::from_str(alloc, word)?)),
@@ -58,7 +58,7 @@ fn devices_value(alloc: Global, devices: &[DeviceEntry]) -> Result<Value, AllocE
     Ok(Value::Array(values))
 }
 
-/// What the show file calls its cues and devices, and how its cues are marked; nothing where there is no file.
+/// What the show file calls its cues and devices, and how its cues are marked; nothing if there is no file.
 pub(super) fn names_value(alloc: Global, names: &Names<'_>) -> Result<Value, AllocError> {
     let (cues, devices) = match names.file {
         Some(file) => (

@@ -23,7 +23,7 @@ fn devices_value(alloc: Global, devices: &[DeviceNo]) -> Result<Value, AllocErro
     Ok(Value::Array(numbers))
 }
 
-// The cue of an attempt; null where nobody knows it any more.
+// The cue of an attempt; null if nobody knows it any more.
 fn cue_value(alloc: Global, cue: Option<CueNo>) -> Result<Value, AllocError>
     ensures { IfOk result (λ v. view v ≡ ends.cue_data cue) }
 {
@@ -33,7 +33,7 @@ fn cue_value(alloc: Global, cue: Option<CueNo>) -> Result<Value, AllocError>
     }
 }
 
-// Why it was given up; empty where it was not.
+// Why it was given up; empty if it was not.
 fn why(reason: Option<Reason>) -> &'static str
     ensures { result.now ≡ ends.why reason }
 {
@@ -56,7 +56,7 @@ pub fn told_value(alloc: Global, told: &Told) -> Result<Value, AllocError>
     })
 }
 
-/// How the last attempt ended; null where none has.
+/// How the last attempt ended; null if none has.
 pub(super) fn told_or_null(alloc: Global, told: Option<&Told>) -> Result<Value, AllocError>
     ensures { IfOk result (λ v. view v ≡ ends.told_or_null (option_map (λ t. t.now) told.entry)) }
 {

@@ -32,7 +32,7 @@ fn devices_value(alloc: Global, answers: &[DeviceAnswer]) -> Result<Value, Alloc
     Ok(Value::Array(devices))
 }
 
-// Why an attempt was given up; empty where it was not.
+// Why an attempt was given up; empty if it was not.
 fn why(progress: Progress) -> &'static str
     ensures { result.now ≡ spec.why progress }
 {
@@ -42,7 +42,7 @@ fn why(progress: Progress) -> &'static str
     }
 }
 
-// For how long it is seen to be given; null where it is not.
+// For how long it is seen to be given; null if it is not.
 fn given_value(at: u64, given: Option<u64>) -> Value
     ensures { view result ≡ spec.given_data at given }
 {

@@ -31,7 +31,7 @@ fn press_value(alloc: Global, press: Said, port: u16) -> Result<Value, AllocErro
     json!(in alloc; {"ask": press.ask, "kind": kind_of(press.became), "press": text, "words": words})
 }
 
-/// The last press that was sent, and what became of it; null where none was.
+/// The last press that was sent, and what became of it; null if none was.
 pub(super) fn said_value(alloc: Global, press: Option<Said>, port: u16) -> Result<Value, AllocError>
     ensures { IfOk result (λ v. view v ≡ said.said_data port press) }
 {
@@ -41,7 +41,7 @@ pub(super) fn said_value(alloc: Global, press: Option<Said>, port: u16) -> Resul
     }
 }
 
-/// Why a press was not sent; null where each was.
+/// Why a press was not sent; null if each was.
 pub(super) fn unsent_value(alloc: Global, unsent: Option<Unsent>) -> Result<Value, AllocError>
     ensures { IfOk result (λ v. view v ≡ said.unsent_data unsent) }
 {

@@ -10,7 +10,7 @@ use cue_view::view::Next;
 use serde_json::{Value, json};
 use std::alloc::{AllocError, Global};
 
-// The cue that is next; null where none is.
+// The cue that is next; null if none is.
 fn cue_value(alloc: Global, next: Next) -> Result<Value, AllocError>
     ensures { IfOk result (λ v. view v ≡ stack.cue_data next) }
 {
@@ -20,7 +20,7 @@ fn cue_value(alloc: Global, next: Next) -> Result<Value, AllocError>
     }
 }
 
-// Why none is next; empty where one is.
+// Why none is next; empty if one is.
 fn why(next: Next) -> &'static str
     ensures { result.now ≡ stack.why next }
 {

@@ -37,7 +37,7 @@ function showAlarms() {
   all.forEach((alarm, index) => write("alarm-" + index, alarmWords(alarm)));
 }
 
-// How the last attempt ended; in short where an alarm says it whole.
+// How the last attempt ended; in short if an alarm says it whole.
 function lastWords(last) {
   if (!last) return "no attempt has ended yet";
   const isAlarm = view.alarms.some((alarm) => alarm.kind === "failed" && alarm.of === last.attempt);
@@ -52,7 +52,7 @@ function showEnds() {
     JSON.stringify([view.past, renamed]));
 }
 
-// What a screen reader is told where it changes: what is wrong, and how far each cue is.
+// What a screen reader is told when it changes: what is wrong, and how far each cue is.
 function showSpoken() {
   const cues = view.live.map((attempt) => "Cue " + attempt.cue + " " + stageWords(attempt));
   const wrong = view.alarms.map((alarm) => alarmWords(alarm).replace(/:? [^:]*\d\.\d s.*$/, ""));

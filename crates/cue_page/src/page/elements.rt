@@ -28,7 +28,7 @@ function place(id, parts, key) {
   if (focus && at(focus)) at(focus).focus();
 }
 
-// Puts a text where it differs from the one that is there.
+// Puts a text if it differs from the one that is there.
 function write(id, text) {
   if (at(id).textContent !== text) at(id).textContent = text;
 }
@@ -70,7 +70,7 @@ function pressTwice(press) {
   else draw();
 }
 
-// A button of the view: dark where the view has it not lit.
+// A button of the view: dark if the view has it not lit.
 function button(id, text, label, lit, asks) {
   const made = make("button");
   dress(made, lit && sure.press === lit.press, text, label);

@@ -8,7 +8,7 @@ const POLL = 250, NOTED = 6000, LOCKED = 423, CLOSED = 429;
 const token = document.querySelector("meta[name=cuedesk-token]").content;
 let namesText = "";
 
-// The names of a view; where they are those of before, nothing that shows them is made anew.
+// The names of a view; if they are those of before, nothing that shows them is made anew.
 function takeNames(told) {
   const text = JSON.stringify(told);
   if (text === namesText) return;

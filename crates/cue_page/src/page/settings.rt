@@ -6,7 +6,7 @@ pub(super) const SETTINGS: &str = r#"
 const THEMES = ["dark", "light"], SIZES = ["normal", "large", "largest"];
 const look = document.documentElement.dataset;
 
-// What the browser has kept: in its storage, or where it has none behind the # of the address.
+// What the browser has kept: in its storage, or, if it has none, after the # of the address.
 function recall(name) {
   const behind = new URLSearchParams(location.hash.slice(1)).get(name);
   try { return localStorage.getItem("cuedesk-" + name) || behind; } catch (error) { return behind; }

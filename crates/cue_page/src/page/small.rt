@@ -1,4 +1,4 @@
-//! How the page looks where there is little room: in small windows, by a browser's zoom, and with large type. What is
+//! How the page looks if there is little room: in small windows, by a browser's zoom, and with large type. What is
 //! next, who is waited for and the great buttons stay in sight.
 
 /// The text of the last `style`.

@@ -41,7 +41,7 @@ function showSound() {
   at("sound").setAttribute("aria-label", "Sound at alarms: " + words);
 }
 
-// Any press allows the sound, where the browser waits for one.
+// Any press allows the sound, if the browser waits for one.
 function wake() {
   isWaking = audio !== null && !isAllowed;
   if (isWaking) audio.resume().catch(() => {});
@@ -57,7 +57,7 @@ function allow() {
 // Whether the page has a view, or has waited for its first one long enough.
 const hasBegun = () => view !== null || now() > FIRST;
 
-// Calls where something is wrong that was not wrong before. A desk that does not answer hides what else is wrong.
+// Calls if something is wrong that was not wrong before. A desk that does not answer hides what else is wrong.
 function callOut() {
   if (!hasBegun()) return;
   const wrong = alarmsNow().filter((one) => CALLING.includes(one.kind)).map((one) => one.kind + " " + one.of);

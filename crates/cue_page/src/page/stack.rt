@@ -42,7 +42,7 @@ function toPlace() {
   if (row) showRow(row);
 }
 
-// Marks the row of the place, and scrolls to it where it has moved.
+// Marks the row of the place, and scrolls to it if it has moved.
 function showHere() {
   if (view.next.cue === here) return;
   for (const [cue, isHere] of [[here, false], [view.next.cue, true]]) {

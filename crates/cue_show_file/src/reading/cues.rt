@@ -31,7 +31,7 @@ struct Rest {
     parts: Parts,
 }
 
-// The number of a cue; none where it is wrong, which is noted. From then on this cue is looked at.
+// The number of a cue; none if it is wrong, which is noted. From then on this cue is looked at.
 fn read_number(
     findings: &mut Findings,
     at: Place,
@@ -174,7 +174,7 @@ fn read_each(
     Ok(cues)
 }
 
-// The cues of a file that has these devices. Each is at the line of its header, where there are as many.
+// The cues of a file that has these devices. Each is at the line of its header, if there are as many.
 pub(super) fn read_cues(
     alloc: Global,
     findings: &mut Findings,

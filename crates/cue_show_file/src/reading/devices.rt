@@ -23,7 +23,7 @@ use cue_show::DeviceNo;
 use std::alloc::{AllocError, Global};
 use toml::{Table, Value};
 
-// The number of a device; none where it is wrong, which is noted. From then on this device is looked at.
+// The number of a device; none if it is wrong, which is noted. From then on this device is looked at.
 fn read_number(
     findings: &mut Findings,
     at: Place,
@@ -46,7 +46,7 @@ fn read_number(
     }
 }
 
-// The port of a device; 1 where it is wrong, which is noted.
+// The port of a device; 1 if it is wrong, which is noted.
 fn read_port(findings: &mut Findings, table: &Table) -> Result<u16, AllocError>
     ensures value { IfOk result (λ port. port ≡ unwrap_or (port_at (table_view table.now)) 1) }
     ensures clean { IfOk result (λ _. is_clean findings.new
@@ -61,7 +61,7 @@ fn read_port(findings: &mut Findings, table: &Table) -> Result<u16, AllocError>
     }
 }
 
-// Reads a device, and puts it after the others. One with a number is kept also where its port is wrong, so that a cue
+// Reads a device, and puts it after the others. One with a number is kept also if its port is wrong, so that a cue
 // may still name it.
 fn read_device(
     alloc: Global,
@@ -144,7 +144,7 @@ fn read_each(
     Ok(devices)
 }
 
-// The devices of a file. Each is at the line of its header, where there are as many.
+// The devices of a file. Each is at the line of its header, if there are as many.
 pub(super) fn read_devices(
     alloc: Global,
     findings: &mut Findings,

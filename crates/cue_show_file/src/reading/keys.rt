@@ -45,7 +45,7 @@ fn front_of(key: &str) -> &str {
     }
 }
 
-/// Notes the key, where it is not among these, which are those of such a table.
+/// Notes the key, if it is not among these, which are those of such a table.
 pub(super) fn note_if_unknown(
     alloc: Global,
     findings: &mut Findings,

@@ -40,7 +40,7 @@ fn flag_in(table: &Table) -> Result<Option<Flag>, Mistake>
     }
 }
 
-/// The colour of a cue; none where it has none, or where that is wrong, which is noted.
+/// The colour of a cue; none if it has none, or if that is wrong, which is noted.
 pub(super) fn read_color(
     findings: &mut Findings,
     table: &Table,
@@ -59,7 +59,7 @@ pub(super) fn read_color(
     }
 }
 
-/// The flag of a cue; none where it has none, or where that is wrong, which is noted.
+/// The flag of a cue; none if it has none, or if that is wrong, which is noted.
 pub(super) fn read_flag(findings: &mut Findings, table: &Table) -> Result<Option<Flag>, AllocError>
     ensures value { let said = flag_by (get_member (codes "flag") (table_view table.now)) in
         IfOk result (λ flag. IsTrue (is_some said) → Some flag ≡ said) }

@@ -38,7 +38,7 @@ fn text_of(alloc: Global, value: &Value) -> Result<Result<Vec<u8>, Mistake>, All
     }
 }
 
-// The bytes of the part; none where neither `hex` nor `text` stands there.
+// The bytes of the part; none if neither `hex` nor `text` stands there.
 fn bytes_in(alloc: Global, table: &Table) -> Result<Result<Vec<u8>, Mistake>, AllocError>
     ensures { IfOk result (λ r. option_map (λ b. b.items) (result_ok r) ≡ bytes_by
         (get_member (codes "hex") (table_view table.now)) (get_member (codes "text") (table_view table.now))) }
@@ -54,7 +54,7 @@ fn bytes_in(alloc: Global, table: &Table) -> Result<Result<Vec<u8>, Mistake>, Al
     }
 }
 
-// The device of a part; none where it is wrong, which is noted.
+// The device of a part; none if it is wrong, which is noted.
 fn read_device(findings: &mut Findings, table: &Table) -> Result<Option<DeviceNo>, AllocError>
     ensures value { IfOk result (λ device. device ≡ device_at (codes "device") (table_view table.now)) }
     ensures clean { IfOk result (λ _. is_clean findings.new
@@ -69,7 +69,7 @@ fn read_device(findings: &mut Findings, table: &Table) -> Result<Option<DeviceNo
     }
 }
 
-// Whether a part is optional; required where that is wrong, which is noted.
+// Whether a part is optional; required if that is wrong, which is noted.
 fn read_optional(findings: &mut Findings, table: &Table) -> Result<bool, AllocError>
     ensures value { let said = optional_by (get_member (codes "optional") (table_view table.now)) in
         IfOk result (λ optional. optional ≡ unwrap_or said false) }
@@ -85,7 +85,7 @@ fn read_optional(findings: &mut Findings, table: &Table) -> Result<bool, AllocEr
     }
 }
 
-// The bytes of a part; none where they are wrong, which is noted.
+// The bytes of a part; none if they are wrong, which is noted.
 fn read_bytes(alloc: Global, findings: &mut Findings, table: &Table) -> Result<Vec<u8>, AllocError>
     ensures value { let said = bytes_by (get_member (codes "hex") (table_view table.now))
         (get_member (codes "text") (table_view table.now)) in
@@ -103,7 +103,7 @@ fn read_bytes(alloc: Global, findings: &mut Findings, table: &Table) -> Result<V
     }
 }
 
-// The part that a table is; none where its device is wrong. Whatever is wrong with it is noted.
+// The part that a table is; none if its device is wrong. Whatever is wrong with it is noted.
 fn part_in(
     alloc: Global,
     findings: &mut Findings,
@@ -126,7 +126,7 @@ fn part_in(
     }
 }
 
-// Reads a part, and puts it after the others where it has a device.
+// Reads a part, and puts it after the others if it has a device.
 fn read_part(
     alloc: Global,
     findings: &mut Findings,

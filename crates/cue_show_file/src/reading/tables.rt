@@ -13,7 +13,7 @@ use toml::{Table, Value};
 // Where a table stands.
 #[derive(Clone, Copy)]
 pub(super) struct Place {
-    // The line of its header; none where the file does not say.
+    // The line of its header; none if the file does not say.
     pub(super) line: Option<usize>,
     // From 1.
     pub(super) place: usize,
@@ -27,7 +27,7 @@ pub(super) fn place_of(lines: &[usize], index: usize) -> Place {
     }
 }
 
-// The tables of the file under this key, which stands at this line; none where there is no such key.
+// The tables of the file under this key, which stands at this line; none if there is no such key.
 pub(super) fn tables_in<'a>(
     findings: &mut Findings,
     line: Option<usize>,

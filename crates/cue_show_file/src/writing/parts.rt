@@ -58,7 +58,7 @@ fn push_part(alloc: Global, text: &mut String, part: &Part) -> Result<(), AllocE
     push_rest(alloc, text, part)
 }
 
-// What stands before each part, where each has a line of its own and where not.
+// What stands before each part, if each has a line of its own and if not.
 fn before_part(lines: bool) -> &'static str
     ensures { result.now ≡ before_item lines true }
 {

@@ -172,7 +172,8 @@ pub(crate) fn push_stack(
     shown: usize,
 ) -> Result<(), AllocError>
     ensures { OnOk result
-        (map said_of lines.new.items ≡ map said_of lines.old.items ++ board.stack_said shown names.now.together.now view.now) }
+        (map said_of lines.new.items
+        ≡ map said_of lines.old.items ++ board.stack_said shown names.now.together.now view.now) }
 {
     let (name, note) = next_texts(view.next, names);
     lines.push(next_line(alloc, view.next, names.together, name)?)?;

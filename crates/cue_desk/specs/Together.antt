@@ -11,8 +11,8 @@ use Rattle.cue_operator.specs.declared.method.CueVerb.TheVariants as verb
 use Rattle.cue_operator.specs.declared.method.Method.TheVariants as method
 use Rattle.cue_show_file.specs.declared.together.Group.{Group}
 use Rattle.cue_show_file.specs.Together.{others_of}
-use Rattle.cue_desk.specs.declared.orders.Order.{Order}
-use Rattle.cue_desk.specs.declared.orders.Order.TheVariants as order
+use Rattle.cue_desk.specs.declared.orders.DeskCommand.{DeskCommand}
+use Rattle.cue_desk.specs.declared.orders.DeskCommand.TheVariants as order
 use Rattle.cue_desk.specs.declared.replying.Replied.{Replied}
 use Rattle.cue_desk.specs.declared.replying.Replied.TheVariants as replied
 use Rattle.cue_desk.specs.Asks.{method_of}
@@ -39,26 +39,26 @@ abbrev pub verb_standby : CueVerb → List ℕ → Option (List ℕ)
 verb_standby verb.Standby c = Some c
 verb_standby v c = None
 
-abbrev pub standby_of : Order → Option (List ℕ)
+abbrev pub standby_of : DeskCommand → Option (List ℕ)
 standby_of (order.OfCue v c) = verb_standby v c
 standby_of o = None
 
 -- the address at which it is asked alone: /cue/12/standby
-abbrev pub alone_address : Order → List ℕ
+abbrev pub alone_address : DeskCommand → List ℕ
 alone_address o = address_of (method_of (asked_of o))
 
 -- the address at which it is asked with these others, if it stands a cue by
-abbrev pub address_by : Option (List ℕ) → Order → List (List ℕ) → List ℕ
+abbrev pub address_by : Option (List ℕ) → DeskCommand → List (List ℕ) → List ℕ
 address_by None o others = alone_address o
 address_by (Some c) o others = together_address c others
 
 -- the address at which it is asked, which stands these others by, too, if it stands a cue by
-abbrev pub address_with : Order → List (List ℕ) → List ℕ
+abbrev pub address_with : DeskCommand → List (List ℕ) → List ℕ
 address_with o [] = alone_address o
 address_with o (d ∷ others) = address_by (standby_of o) o (d ∷ others)
 
 -- the message: no order has arguments
-abbrev pub message_with : Order → List (List ℕ) → Content
+abbrev pub message_with : DeskCommand → List (List ℕ) → Content
 message_with o others = message (address_with o others) []
 
 -- those that an order stands by, too, by the groups of a show file
@@ -66,7 +66,7 @@ abbrev pub companions_by : Option (List ℕ) → List Group → List (List ℕ)
 companions_by None groups = []
 companions_by (Some c) groups = others_of groups c
 
-abbrev pub companions_of : List Group → Order → List (List ℕ)
+abbrev pub companions_of : List Group → DeskCommand → List (List ℕ)
 companions_of groups o = companions_by (standby_of o) groups
 
 -- ---- the reply

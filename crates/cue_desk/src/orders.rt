@@ -1,7 +1,7 @@
 //! The commands of an evening: the word of each on the command line, and what it asks of the controller.
 ghost use Rattle.std.specs.Prelude.{◌≡◌, None, IfSome};
 ghost use Rattle.cue_desk.specs.Orders.{asked_of, spelling_of};
-ghost use Rattle.cue_desk.specs.declared.orders.Word.{Word};
+ghost use Rattle.cue_desk.specs.declared.orders.CommandWord.{CommandWord};
 
 use crate::asking::Asked;
 use cue_operator::CueVerb;
@@ -9,7 +9,7 @@ use cue_show::{CueNo, DeviceNo};
 
 /// What one command asks of the controller.
 #[derive(Clone, Copy)]
-pub enum Order {
+pub enum DeskCommand {
     Status,
     OfCue(CueVerb, CueNo),
     Release(DeviceNo),
@@ -18,7 +18,7 @@ pub enum Order {
 
 /// What the word of a command asks for. The number of the cue or of the device stands after it.
 #[derive(Clone, Copy, Debug, PartialEq, Eq)]
-pub enum Word {
+pub enum CommandWord {
     Status,
     OfCue(CueVerb),
     Release,
@@ -27,26 +27,26 @@ pub enum Word {
 }
 
 /// The word that is spelled so; none if no command of an evening is.
-pub fn word_in(name: &str) -> Option<Word>
+pub fn word_in(name: &str) -> Option<CommandWord>
     ensures spelled { IfSome result (λ word. spelling_of word ≡ name.now) }
-    ensures none { result ≡ None → (word : Word) → spelling_of word ≡ name.now → ⊥ }
+    ensures none { result ≡ None → (word : CommandWord) → spelling_of word ≡ name.now → ⊥ }
 {
     match name {
-        "release" => Some(Word::Release),
-        "remove" => Some(Word::Remove),
-        "status" => Some(Word::Status),
-        _ => CueVerb::of(name.as_bytes()).map(Word::OfCue),
+        "release" => Some(CommandWord::Release),
+        "remove" => Some(CommandWord::Remove),
+        "status" => Some(CommandWord::Status),
+        _ => CueVerb::of(name.as_bytes()).map(CommandWord::OfCue),
     }
 }
 
 /// What is asked by an order.
-pub fn asked_by(order: Order) -> Asked<'static>
+pub fn asked_by(order: DeskCommand) -> Asked<'static>
     ensures { result ≡ asked_of order }
 {
     match order {
-        Order::Status => Asked::Status,
-        Order::OfCue(verb, cue) => Asked::OfCue(verb, cue),
-        Order::Release(device) => Asked::Release(device),
-        Order::RemoveDevice(device) => Asked::RemoveDevice(device),
+        DeskCommand::Status => Asked::Status,
+        DeskCommand::OfCue(verb, cue) => Asked::OfCue(verb, cue),
+        DeskCommand::Release(device) => Asked::Release(device),
+        DeskCommand::RemoveDevice(device) => Asked::RemoveDevice(device),
     }
 }

@@ -3,8 +3,8 @@ ghost use Rattle.std.specs.Prelude.{◌≡◌, ◌++◌, IfOk, Ok, OnOk, codes};
 ghost use Rattle.cue_osc.specs.Reading.{datagram_at};
 ghost use Rattle.cue_desk.specs.Together as together;
 
-use crate::asking::{AskFault, cue_address, device_address, message, under};
-use crate::orders::Order;
+use crate::asking::{AskFault, address, message, under};
+use crate::orders::{DeskCommand, asked_by};
 use crate::replying::Replied;
 use cue_core::Code;
 use cue_operator::CueVerb;
@@ -46,20 +46,20 @@ fn together_address(alloc: Global, cue: CueNo, others: &[CueNo]) -> Result<Vec<u
 }
 
 // The cue that an order stands by.
-fn standby_of(order: &Order) -> Option<CueNo>
+fn standby_of(order: &DeskCommand) -> Option<CueNo>
     ensures { result ≡ together.standby_of order.now }
 {
     match order {
-        Order::OfCue(verb, cue) => match verb {
+        DeskCommand::OfCue(verb, cue) => match verb {
             CueVerb::Standby => Some(*cue),
             CueVerb::Go | CueVerb::Cancel | CueVerb::Goto | CueVerb::Remove => None,
         },
-        Order::Status | Order::Release(_) | Order::RemoveDevice(_) => None,
+        DeskCommand::Status | DeskCommand::Release(_) | DeskCommand::RemoveDevice(_) => None,
     }
 }
 
 // The address at which it is asked alone.
-fn alone_address(alloc: Global, order: Order) -> Result<Vec<u8>, AllocError>
+fn alone_address(alloc: Global, order: DeskCommand) -> Result<Vec<u8>, AllocError>
     ensures { IfOk result (λ bytes. bytes.items ≡ together.alone_address order) }
 {
     match order {
@@ -74,7 +74,7 @@ fn alone_address(alloc: Global, order: Order) -> Result<Vec<u8>, AllocError>
 fn address_by(
     alloc: Global,
     cue: Option<CueNo>,
-    order: Order,
+    order: DeskCommand,
     others: &[CueNo],
 ) -> Result<Vec<u8>, AllocError>
     ensures { IfOk result (λ bytes. bytes.items ≡ together.address_by cue order others.now) }
@@ -86,7 +86,11 @@ fn address_by(
 }
 
 /// The address at which it is asked, which stands these others by, too, if it stands a cue by.
-pub fn address_with(alloc: Global, order: Order, others: &[CueNo]) -> Result<Vec<u8>, AllocError>
+pub fn address_with(
+    alloc: Global,
+    order: DeskCommand,
+    others: &[CueNo],
+) -> Result<Vec<u8>, AllocError>
     ensures { IfOk result (λ bytes. bytes.items ≡ together.address_with order others.now) }
 {
     match others {
@@ -96,7 +100,11 @@ pub fn address_with(alloc: Global, order: Order, others: &[CueNo]) -> Result<Vec
 }
 
 /// The datagram of the one message that asks for it.
-pub fn datagram_with(alloc: Global, order: Order, others: &[CueNo]) -> Result<Vec<u8>, AskFault>
+pub fn datagram_with(
+    alloc: Global,
+    order: DeskCommand,
+    others: &[CueNo],
+) -> Result<Vec<u8>, AskFault>
     ensures { let said = together.message_with order others.now in
         IfOk result (λ bytes. datagram_at bytes.items ≡ Ok said) }
 {
@@ -105,7 +113,7 @@ pub fn datagram_with(alloc: Global, order: Order, others: &[CueNo]) -> Result<Ve
 }
 
 /// Those that an order stands by, too, by the groups of a show file.
-pub fn companions_of(groups: &[Group], order: Order) -> &[CueNo]
+pub fn companions_of(groups: &[Group], order: DeskCommand) -> &[CueNo]
     ensures { result.now ≡ together.companions_of groups.now order }
 {
     match standby_of(&order) {

@@ -17,7 +17,7 @@ use buttons::buttons_in;
 use clap::ArgMatches;
 use commands::cuedesk;
 use cue_desk::line::{LineFault, fault_of, unfit};
-use cue_desk::orders::{Order, Word, word_in};
+use cue_desk::orders::{CommandWord, DeskCommand, word_in};
 use cue_desk::ports::said_port;
 use cue_loading::Manner;
 use cue_operator::CueVerb;
@@ -86,7 +86,7 @@ fn of_cue_in(alloc: Global, verb: CueVerb, found: &ArgMatches<'_>) -> Result<Lin
     ensures { IfOk result (IsAskedBy (cue_verb_text verb)) }
 {
     Ok(Line::Ask {
-        order: Order::OfCue(verb, cue_in(alloc, found)?),
+        order: DeskCommand::OfCue(verb, cue_in(alloc, found)?),
         port: port_in(alloc, found)?,
         name: asker_in(alloc, found)?,
     })
@@ -99,7 +99,7 @@ fn remove_in(alloc: Global, found: &ArgMatches<'_>) -> Result<Line, LineFault>
     match found.subcommand() {
         Some((name, of)) if name == "cue" => of_cue_in(alloc, CueVerb::Remove, of),
         Some((_, of)) => Ok(Line::Ask {
-            order: Order::RemoveDevice(device_in(alloc, of)?),
+            order: DeskCommand::RemoveDevice(device_in(alloc, of)?),
             port: port_in(alloc, of)?,
             name: asker_in(alloc, of)?,
         }),
@@ -224,19 +224,19 @@ fn board_in(alloc: Global, found: &ArgMatches<'_>) -> Result<Line, LineFault> {
 }
 
 // A command that asks of the controller what this word says.
-fn asked_in(alloc: Global, word: Word, found: &ArgMatches<'_>) -> Result<Line, LineFault>
+fn asked_in(alloc: Global, word: CommandWord, found: &ArgMatches<'_>) -> Result<Line, LineFault>
     ensures { IfOk result (IsAskedBy (spelling_of word)) }
 {
     match word {
-        Word::OfCue(verb) => of_cue_in(alloc, verb, found),
-        Word::Release => Ok(Line::Ask {
-            order: Order::Release(device_in(alloc, found)?),
+        CommandWord::OfCue(verb) => of_cue_in(alloc, verb, found),
+        CommandWord::Release => Ok(Line::Ask {
+            order: DeskCommand::Release(device_in(alloc, found)?),
             port: port_in(alloc, found)?,
             name: asker_in(alloc, found)?,
         }),
-        Word::Remove => remove_in(alloc, found),
-        Word::Status => Ok(Line::Ask {
-            order: Order::Status,
+        CommandWord::Remove => remove_in(alloc, found),
+        CommandWord::Status => Ok(Line::Ask {
+            order: DeskCommand::Status,
             port: port_in(alloc, found)?,
             name: asker_in(alloc, found)?,
         }),

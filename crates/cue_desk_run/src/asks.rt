@@ -7,7 +7,7 @@ use crate::addresses::local;
 use crate::naming::name_datagram;
 use cue_asker::AskerName;
 use cue_desk::answered::answer_in;
-use cue_desk::orders::Order;
+use cue_desk::orders::DeskCommand;
 use cue_desk::replying::{Replied, read_reply};
 use cue_desk::together::{address_with, condensed, datagram_with};
 use cue_osc::MAX_LEN;
@@ -61,7 +61,7 @@ fn open_socket<R: Net>(rt: &R, registry: &Registry, port: u16) -> io::Result<Udp
 }
 
 // The datagram that asks it, and stands these others by, too.
-fn message_of(alloc: Global, order: Order, others: &[CueNo]) -> io::Result<Vec<u8>> {
+fn message_of(alloc: Global, order: DeskCommand, others: &[CueNo]) -> io::Result<Vec<u8>> {
     let Ok(message) = datagram_with(alloc, order, others) else {
         return Err(io::Error::from(ErrorKind::OutOfMemory));
     };
@@ -98,8 +98,8 @@ fn send_after_name(socket: &UdpSocket, message: &[u8]) -> io::Result<()> {
 }
 
 // Whether the message is a question for the status.
-fn is_status(order: Order) -> bool {
-    matches!(order, Order::Status)
+fn is_status(order: DeskCommand) -> bool {
+    matches!(order, DeskCommand::Status)
 }
 
 /// What comes to a socket.

@@ -2,7 +2,7 @@
 use crate::asks::Asks;
 use crate::clocks::SteadyClock;
 use cue_asker::AskerName;
-use cue_desk::orders::Order;
+use cue_desk::orders::DeskCommand;
 use cue_show::CueNo;
 use cue_station::heard::{Heard, Send};
 use mio::{Events, Poll};
@@ -39,7 +39,7 @@ fn answer_to<R: Clock + AllocGlobal>(
 /// `cue_desk::together::condensed`. Who asks is said first, if there is a name.
 pub fn ask_once<R: Net + Clock + AllocGlobal>(
     rt: &R,
-    order: Order,
+    order: DeskCommand,
     others: &[CueNo],
     port: u16,
     name: Option<AskerName>,

@@ -3,7 +3,7 @@ use Rattle.std.proofs.Common.{◌≡◌, refl, ℕ, Bool, true, false, ◌+◌, 
 use Rattle.std.proofs.Common.{arith, nat_lt}
 use Rattle.std.proofs.lemmas.Bool.Decides.{nat_tests}
 use Rattle.cue_show.proofs.TestLemmas.{or_right}
-use Rattle.cue_desk.specs.declared.orders.Order.{Order}
+use Rattle.cue_desk.specs.declared.orders.DeskCommand.{DeskCommand}
 use Rattle.cue_station.specs.declared.memory.Notes.{Notes}
 use Rattle.cue_station.specs.declared.memory.Pace.{Pace}
 use Rattle.cue_station.specs.declared.memory.Question.{Question}
@@ -29,7 +29,7 @@ pub overdue-due : (n : Notes) (p : Pace) (now : ℕ) → IsTrue (is_overdue n.qu
 overdue-due n p now h = overdue_after n.question n p now h
 
 -- what is due goes out, if no press does
-pub due-sent : (o : Option Order) (due : Bool) (n : ℕ) → due ≡ true → is_some (send_by o due n) ≡ true
+pub due-sent : (o : Option DeskCommand) (due : Bool) (n : ℕ) → due ≡ true → is_some (send_by o due n) ≡ true
 due-sent (Some x) due n h = refl
 due-sent None true n h = refl
 due-sent None false n h = (cc)

@@ -2,8 +2,8 @@
 use Rattle.std.proofs.Common.{◌≡◌, refl, sym, ap, ◌∙◌, ℕ, Bool, true, false, not, ◌&&◌, cond, List, [], ◌∷◌, ◌++◌}
 use Rattle.std.proofs.Common.{Option, None, Some, is_some, filter, IsTrue, IsSome, inl, inr, ◌⊎◌, ⊎_elim}
 use Rattle.cue_show.proofs.TestLemmas.{both}
-use Rattle.cue_desk.specs.declared.orders.Order.{Order}
-use Rattle.cue_desk.specs.declared.orders.Order.TheVariants as order
+use Rattle.cue_desk.specs.declared.orders.DeskCommand.{DeskCommand}
+use Rattle.cue_desk.specs.declared.orders.DeskCommand.TheVariants as order
 use Rattle.cue_view.specs.declared.button.Button.{Button}
 use Rattle.cue_view.specs.declared.button.Button.TheVariants as button
 use Rattle.cue_station.specs.declared.heard.Heard.TheVariants as heard
@@ -38,11 +38,11 @@ may_leaves f since (Some r) (button.MoveTo c) o h = (both f.stands f.is_quiet (b
 may_leaves f since (Some r) (button.Choose q) o h = (cc)
 may_leaves f since (Some r) (button.Seen q) o h = (cc)
 
-the_order : (a b : Order) → Some a ≡ Some b → b ≡ a
+the_order : (a b : DeskCommand) → Some a ≡ Some b → b ≡ a
 the_order a b h = cc
 
 -- no button asks for the status
-pub not_status : (b : Button) (o : Order) → order_of b ≡ Some o → is_status o ≡ false
+pub not_status : (b : Button) (o : DeskCommand) → order_of b ≡ Some o → is_status o ≡ false
 not_status (button.Standby c) o h = ap is_status (the_order _ o h)
 not_status (button.Go c q) o h = ap is_status (the_order _ o h)
 not_status (button.Cancel c q) o h = ap is_status (the_order _ o h)
@@ -78,7 +78,7 @@ sending_none heeded due b ask none =
       own = λ s h. ap (λ (x : Send). x.ask) (sends_status due ask s h);
     }
 
-sending_some : (due : Bool) (b : Button) (ask : ℕ) (o : Order) → order_of b ≡ Some o
+sending_some : (due : Bool) (b : Button) (ask : ℕ) (o : DeskCommand) → order_of b ≡ Some o
     → IsSending true b ask (Some (record { ask = ask; order = o }))
 sending_some due b ask o h =
     record {
@@ -87,7 +87,7 @@ sending_some due b ask o h =
       own = λ s k. ap (λ (x : Send). x.ask) (same_send _ s k);
     }
 
-sending_order : (due : Bool) (b : Button) (ask : ℕ) (o : Option Order) → order_of b ≡ o
+sending_order : (due : Bool) (b : Button) (ask : ℕ) (o : Option DeskCommand) → order_of b ≡ o
     → IsSending true b ask (send_by o due ask)
 sending_order due b ask None h = sending_none true due b ask (ap is_some h)
 sending_order due b ask (Some o) h = sending_some due b ask o h

@@ -3,8 +3,8 @@ use Rattle.std.specs.Prelude.{ℕ, pos, Bool, false, ◌&&◌, if◌then◌else�
 use Rattle.std.specs.Prelude.{int_lt}
 use Rattle.cue_exchange.specs.Live.{attempt_of_cue}
 use Rattle.cue_exchange.specs.declared.attempt.Attempt.{Attempt}
-use Rattle.cue_desk.specs.declared.orders.Order.{Order}
-use Rattle.cue_desk.specs.declared.orders.Order.TheVariants as order
+use Rattle.cue_desk.specs.declared.orders.DeskCommand.{DeskCommand}
+use Rattle.cue_desk.specs.declared.orders.DeskCommand.TheVariants as order
 use Rattle.cue_desk.specs.declared.replying.Replied.{Replied}
 use Rattle.cue_desk.specs.declared.replying.Replied.TheVariants as replied
 use Rattle.cue_operator.specs.declared.method.CueVerb.{CueVerb}
@@ -54,7 +54,7 @@ chosen_by_verb verb.Go n c old = choice.Nothing
 chosen_by_verb verb.Standby n c old = choice.Awaited n c
 chosen_by_verb _ n c old = old
 
-abbrev pub chosen_by_order : Order → ℕ → Choice → Choice
+abbrev pub chosen_by_order : DeskCommand → ℕ → Choice → Choice
 chosen_by_order (order.OfCue v c) n old = chosen_by_verb v n c old
 chosen_by_order _ n old = old
 

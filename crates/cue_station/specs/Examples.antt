@@ -1,6 +1,6 @@
 -- Turns that do not keep the law.
 use Rattle.std.specs.Prelude.{◌≡◌, ℕ, List, [], Some, IsTrue}
-use Rattle.cue_desk.specs.declared.orders.Order.TheVariants as order
+use Rattle.cue_desk.specs.declared.orders.DeskCommand.TheVariants as order
 use Rattle.cue_operator.specs.declared.method.CueVerb.TheVariants as verb
 use Rattle.cue_view.specs.declared.button.Button.TheVariants as button
 use Rattle.cue_station.specs.declared.heard.Heard.TheVariants as heard

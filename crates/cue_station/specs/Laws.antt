@@ -6,7 +6,7 @@
 -- saw keeps an alarm of its own once a snapshot has swallowed its events: the newest failure has one always.
 use Rattle.std.specs.Prelude.{◌≡◌, ℕ, Bool, true, false, List, [], ◌∷◌, Some, IsSome, IsTrue, ◌⊎◌, length}
 use Rattle.std.specs.List.{list_any}
-use Rattle.cue_desk.specs.declared.orders.Order.TheVariants as order
+use Rattle.cue_desk.specs.declared.orders.DeskCommand.TheVariants as order
 use Rattle.cue_view.specs.declared.button.Button.{Button}
 use Rattle.cue_view.specs.declared.button.Button.TheVariants as button
 use Rattle.cue_station.specs.declared.heard.Heard.TheVariants.{Pressed}

@@ -3,8 +3,8 @@ use Rattle.std.specs.Prelude.{ℕ, not, ◌&&◌, if◌then◌else◌, List, [],
 use Rattle.cue_show.specs.Number.{same_text}
 use Rattle.cue_operator.specs.declared.method.CueVerb.{CueVerb}
 use Rattle.cue_operator.specs.declared.method.CueVerb.TheVariants as verb
-use Rattle.cue_desk.specs.declared.orders.Order.{Order}
-use Rattle.cue_desk.specs.declared.orders.Order.TheVariants as order
+use Rattle.cue_desk.specs.declared.orders.DeskCommand.{DeskCommand}
+use Rattle.cue_desk.specs.declared.orders.DeskCommand.TheVariants as order
 use Rattle.cue_station.specs.declared.heard.Send.{Send}
 use Rattle.cue_station.specs.declared.memory.Moved.{Moved}
 use Rattle.cue_station.specs.declared.memory.Reading.{Reading}
@@ -27,7 +27,7 @@ moved_by_verb verb.Goto place c = moved_from place c
 moved_by_verb v place c = None
 
 -- a question for the status changes nothing
-abbrev pub moved_by_order : Order → Option (List ℕ) → Option Moved → Option Moved
+abbrev pub moved_by_order : DeskCommand → Option (List ℕ) → Option Moved → Option Moved
 moved_by_order order.Status place old = old
 moved_by_order (order.OfCue v c) place old = moved_by_verb v place c
 moved_by_order (order.Release d) place old = None

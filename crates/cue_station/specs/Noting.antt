@@ -2,8 +2,8 @@
 use Rattle.std.specs.Prelude.{◌+◌, ℕ, Bool, true, false, not, ◌&&◌, ◌||◌, if◌then◌else◌, List, [], ◌∷◌}
 use Rattle.std.specs.Prelude.{Option, None, Some, is_none}
 use Rattle.std.specs.Option.{option_map}
-use Rattle.cue_desk.specs.declared.orders.Order.{Order}
-use Rattle.cue_desk.specs.declared.orders.Order.TheVariants as order
+use Rattle.cue_desk.specs.declared.orders.DeskCommand.{DeskCommand}
+use Rattle.cue_desk.specs.declared.orders.DeskCommand.TheVariants as order
 use Rattle.cue_view.specs.declared.button.Button.{Button}
 use Rattle.cue_station.specs.declared.heard.Heard.{Heard}
 use Rattle.cue_station.specs.declared.heard.Heard.TheVariants as heard
@@ -79,12 +79,12 @@ footing_by n r now wall =
 -- ---- once a message was sent
 
 -- the order of a press that is heeded
-abbrev pub order_by : Heard → (ℕ → Button → Bool) → Option Order
+abbrev pub order_by : Heard → (ℕ → Button → Bool) → Option DeskCommand
 order_by (heard.Pressed view b) is_heeded = if is_heeded view b then order_of b else None
 order_by _ is_heeded = None
 
 -- the message: that of a press, else a question for the status, if one is due
-abbrev pub send_by : Option Order → Bool → ℕ → Option Send
+abbrev pub send_by : Option DeskCommand → Bool → ℕ → Option Send
 send_by (Some o) due n = Some (record { ask = n; order = o })
 send_by None true n = Some (record { ask = n; order = order.Status })
 send_by None false n = None

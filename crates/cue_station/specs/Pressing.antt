@@ -1,8 +1,8 @@
 -- What is sent, and for what.
 use Rattle.std.specs.Prelude.{◌≡◌, ℕ, Bool, ◌&&◌, if◌then◌else◌, List, Option, None, Some, IsTrue, [], ◌∷◌, ◌+◌}
 use Rattle.std.specs.List.{list_any}
-use Rattle.cue_desk.specs.declared.orders.Order.{Order}
-use Rattle.cue_desk.specs.declared.orders.Order.TheVariants as order
+use Rattle.cue_desk.specs.declared.orders.DeskCommand.{DeskCommand}
+use Rattle.cue_desk.specs.declared.orders.DeskCommand.TheVariants as order
 use Rattle.cue_operator.specs.declared.method.CueVerb.TheVariants as verb
 use Rattle.cue_view.specs.declared.button.Button.{Button}
 use Rattle.cue_view.specs.declared.button.Button.TheVariants as button
@@ -17,7 +17,7 @@ use Rattle.cue_station.specs.Lighting.{may}
 use Rattle.cue_station.specs.Offering.{is_offered, is_recent, kept_of}
 
 -- the message of a button; none if nothing is sent
-abbrev pub order_of : Button → Option Order
+abbrev pub order_of : Button → Option DeskCommand
 order_of (button.Standby c) = Some (order.OfCue verb.Standby c)
 order_of (button.Go c q) = Some (order.OfCue verb.Go c)
 order_of (button.Cancel c q) = Some (order.OfCue verb.Cancel c)

@@ -4,8 +4,8 @@ use Rattle.std.specs.Prelude.{Option, None, Some, is_some, nat_eq, nat_le, max}
 use Rattle.cue_exchange.specs.Live.{attempt_of}
 use Rattle.cue_exchange.specs.Outcomes.{outcome_number}
 use Rattle.cue_core.specs.declared.event.Ended.{Ended}
-use Rattle.cue_desk.specs.declared.orders.Order.{Order}
-use Rattle.cue_desk.specs.declared.orders.Order.TheVariants as order
+use Rattle.cue_desk.specs.declared.orders.DeskCommand.{DeskCommand}
+use Rattle.cue_desk.specs.declared.orders.DeskCommand.TheVariants as order
 use Rattle.cue_desk.specs.declared.replying.Replied.TheVariants as replied
 use Rattle.cue_desk.specs.declared.replying.Status.{Status}
 use Rattle.cue_station.specs.declared.heard.Copied.{Copied}
@@ -54,7 +54,7 @@ seen_since q (t ∷ past) =
 
 -- ---- the controller
 
-abbrev pub is_status : Order → Bool
+abbrev pub is_status : DeskCommand → Bool
 is_status order.Status = true
 is_status _ = false
 

@@ -9,7 +9,7 @@ use crate::heard::Heard;
 use crate::memory::{Choice, Reading, Shown};
 use crate::offering::is_offered;
 use crate::remembering::later;
-use cue_desk::orders::Order;
+use cue_desk::orders::DeskCommand;
 use cue_desk::replying::Replied;
 use cue_exchange::Attempt;
 use cue_operator::CueVerb;
@@ -111,12 +111,12 @@ fn chosen_by_verb(choice: Choice, verb: CueVerb, ask: u64, cue: CueNo) -> Choice
 }
 
 /// The choice once a message was sent: nothing after a go; after a standby what comes of it.
-pub(crate) fn chosen_by_order(choice: Choice, order: Order, ask: u64) -> Choice
+pub(crate) fn chosen_by_order(choice: Choice, order: DeskCommand, ask: u64) -> Choice
     ensures { result ≡ choosing.chosen_by_order order ask choice }
 {
     match order {
-        Order::OfCue(verb, cue) => chosen_by_verb(choice, verb, ask, cue),
-        Order::Status | Order::Release(_) | Order::RemoveDevice(_) => choice,
+        DeskCommand::OfCue(verb, cue) => chosen_by_verb(choice, verb, ask, cue),
+        DeskCommand::Status | DeskCommand::Release(_) | DeskCommand::RemoveDevice(_) => choice,
     }
 }
 

@@ -1,6 +1,6 @@
 //! What the desk hears.
 use cue_core::{Event, State};
-use cue_desk::orders::Order;
+use cue_desk::orders::DeskCommand;
 use cue_desk::replying::Replied;
 use cue_relay::status::Status;
 use cue_view::button::Button;
@@ -46,5 +46,5 @@ pub struct Input {
 #[derive(Clone, Copy)]
 pub struct Send {
     pub ask: u64,
-    pub order: Order,
+    pub order: DeskCommand,
 }

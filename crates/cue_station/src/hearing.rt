@@ -12,7 +12,7 @@ use crate::heard::{Copied, Heard};
 use crate::memory::{Answered, Question, Reading, Relayed, Seen};
 use crate::remembering::stamped_with;
 use crate::showing::{given_in, since_in};
-use cue_desk::orders::Order;
+use cue_desk::orders::DeskCommand;
 use cue_desk::replying::{Replied, Status};
 use cue_exchange::Attempt;
 use cue_relay::status as relay;
@@ -228,14 +228,14 @@ pub(crate) fn answered_with(
 pub(crate) fn question_with(
     old: Option<Question>,
     ask: u64,
-    order: Order,
+    order: DeskCommand,
     at: u64,
 ) -> Option<Question>
     ensures { result ≡ store.question_with (Some (record { ask = ask; order = order })) at old }
 {
     match order {
-        Order::Status => Some(Question { ask, at }),
-        Order::OfCue(_, _) | Order::Release(_) | Order::RemoveDevice(_) => old,
+        DeskCommand::Status => Some(Question { ask, at }),
+        DeskCommand::OfCue(_, _) | DeskCommand::Release(_) | DeskCommand::RemoveDevice(_) => old,
     }
 }
 

@@ -4,7 +4,7 @@ ghost use Rattle.cue_station.specs.Moving as moving;
 
 use crate::heard::Send;
 use crate::memory::{Moved, Reading};
-use cue_desk::orders::Order;
+use cue_desk::orders::DeskCommand;
 use cue_operator::CueVerb;
 use cue_show::CueNo;
 
@@ -43,9 +43,9 @@ pub(crate) fn moved_by(send: &Send, place: Option<CueNo>, old: Option<Moved>) ->
     ensures { result ≡ moving.moved_by_order send.now.order place old }
 {
     match send.order {
-        Order::Status => old,
-        Order::OfCue(verb, cue) => moved_by_verb(verb, place, cue),
-        Order::Release(_) | Order::RemoveDevice(_) => None,
+        DeskCommand::Status => old,
+        DeskCommand::OfCue(verb, cue) => moved_by_verb(verb, place, cue),
+        DeskCommand::Release(_) | DeskCommand::RemoveDevice(_) => None,
     }
 }
 

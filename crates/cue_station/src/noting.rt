@@ -18,7 +18,7 @@ use crate::memory::{Answered, Choice, Notes, Pending, Question, Reading, Shown};
 use crate::moving::{moved_by, place_by};
 use crate::opening::{are_none, if_open, is_none_final, is_one_ask};
 use crate::remembering::{differs_with, failed_with, nobody_with, trouble_with};
-use cue_desk::orders::Order;
+use cue_desk::orders::DeskCommand;
 use cue_view::button::Button;
 use std::alloc::AllocError;
 
@@ -171,12 +171,12 @@ fn with_press(notes: &Notes, at: u64, button: &Button, ask: u64, reading: &Optio
 }
 
 // Whether the message is a question for the status.
-fn is_status(order: &Order) -> bool
+fn is_status(order: &DeskCommand) -> bool
     ensures { result ≡ is_status order.now }
 {
     match order {
-        Order::Status => true,
-        Order::OfCue(_, _) | Order::Release(_) | Order::RemoveDevice(_) => false,
+        DeskCommand::Status => true,
+        DeskCommand::OfCue(_, _) | DeskCommand::Release(_) | DeskCommand::RemoveDevice(_) => false,
     }
 }
 

@@ -4,7 +4,7 @@ ghost use Rattle.cue_station.specs.Pacing as pacing;
 
 use crate::heard::{Heard, Send};
 use crate::memory::{Notes, Pace, Question};
-use cue_desk::orders::Order;
+use cue_desk::orders::DeskCommand;
 use cue_desk::replying::Replied;
 
 /// How long after a question for the status the next one is due, in milliseconds.
@@ -75,14 +75,15 @@ pub(crate) fn pace_heard(
 pub(crate) fn pace_sent(pace: Pace, send: Option<Send>) -> Pace {
     match send {
         Some(send) => match send.order {
-            Order::Status => Pace {
+            DeskCommand::Status => Pace {
                 is_answered: false,
                 is_wanted: false,
             },
-            Order::OfCue(_, _) | Order::Release(_) | Order::RemoveDevice(_) => Pace {
-                is_wanted: true,
-                ..pace
-            },
+            DeskCommand::OfCue(_, _) | DeskCommand::Release(_) | DeskCommand::RemoveDevice(_) =>
+                Pace {
+                    is_wanted: true,
+                    ..pace
+                },
         },
         None => pace,
     }

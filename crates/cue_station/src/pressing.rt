@@ -9,21 +9,21 @@ ghost use Rattle.cue_station.specs.Showing.{since_in};
 use crate::lighting::{Footing, may_by};
 use crate::memory::{Reading, Seen, Shown};
 use crate::offering::{is_offered, is_one_recent};
-use cue_desk::orders::Order;
+use cue_desk::orders::DeskCommand;
 use cue_operator::CueVerb;
 use cue_view::button::Button;
 use cue_view::view::Unsent;
 
 /// The message of a button; none if nothing is sent.
-pub(crate) fn order_of(button: Button) -> Option<Order>
+pub(crate) fn order_of(button: Button) -> Option<DeskCommand>
     ensures { result ≡ pressing.order_of button }
 {
     match button {
-        Button::Standby(cue) => Some(Order::OfCue(CueVerb::Standby, cue)),
-        Button::Go(cue, _) => Some(Order::OfCue(CueVerb::Go, cue)),
-        Button::Cancel(cue, _) => Some(Order::OfCue(CueVerb::Cancel, cue)),
-        Button::Release(_, device) => Some(Order::Release(device)),
-        Button::MoveTo(cue) => Some(Order::OfCue(CueVerb::Goto, cue)),
+        Button::Standby(cue) => Some(DeskCommand::OfCue(CueVerb::Standby, cue)),
+        Button::Go(cue, _) => Some(DeskCommand::OfCue(CueVerb::Go, cue)),
+        Button::Cancel(cue, _) => Some(DeskCommand::OfCue(CueVerb::Cancel, cue)),
+        Button::Release(_, device) => Some(DeskCommand::Release(device)),
+        Button::MoveTo(cue) => Some(DeskCommand::OfCue(CueVerb::Goto, cue)),
         Button::Choose(_) | Button::Seen(_) => None,
     }
 }

@@ -15,7 +15,7 @@ use crate::pacing::{is_due, pace_heard, pace_sent};
 use crate::pressing::{order_of, refusal_of};
 use crate::telling::failures_of;
 use crate::viewing::view_of;
-use cue_desk::orders::Order;
+use cue_desk::orders::DeskCommand;
 use cue_view::view::{Unsent, View};
 use std::alloc::{AllocError, Global};
 
@@ -101,7 +101,7 @@ fn shown_of(alloc: Global, view: &View) -> Result<Shown, AllocError>
 }
 
 // The message: that of a press, else a question for the status, if one is due.
-fn send_by(order: Option<Order>, due: bool, ask: u64) -> Option<Send>
+fn send_by(order: Option<DeskCommand>, due: bool, ask: u64) -> Option<Send>
     ensures { result ≡ noting.send_by order due ask }
 {
     match order {
@@ -109,7 +109,7 @@ fn send_by(order: Option<Order>, due: bool, ask: u64) -> Option<Send>
         None => if due {
             Some(Send {
                 ask,
-                order: Order::Status,
+                order: DeskCommand::Status,
             })
         } else {
             None
@@ -174,7 +174,7 @@ impl Station {
     }
 
     // The order of the press that was heard, if it is heeded.
-    fn pressed(&self, input: &Input, refusal: Option<Unsent>) -> Option<Order>
+    fn pressed(&self, input: &Input, refusal: Option<Unsent>) -> Option<DeskCommand>
         requires { stepping.IsRefusal self.now input.now refusal }
         ensures { result ≡ noting.order_by input.now.heard (stepping.is_heeded_by self.now input.now) }
     {

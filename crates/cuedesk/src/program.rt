@@ -22,7 +22,7 @@ use board::{show_board, window_of};
 use buttons::hear_buttons;
 use cue_desk::ending::Ending;
 use cue_desk::line::LineFault;
-use cue_desk::orders::Order;
+use cue_desk::orders::DeskCommand;
 use cue_desk::ports::{PORT, controller_port};
 use cue_desk_line::{Environment, Line, line};
 use cue_files_run::{check_file, export};
@@ -141,7 +141,7 @@ fn carry_out<R: Files<File = File> + Net + Clock + RandomSource + Eprint + Alloc
             port,
             name,
         } => {
-            let order = Order::OfCue(CueVerb::Standby, *cue);
+            let order = DeskCommand::OfCue(CueVerb::Standby, *cue);
             carry_order(
                 rt,
                 order,

@@ -5,7 +5,7 @@ use super::rehearsing::Rehearsal;
 use super::reporting::Report;
 use super::web::Web;
 use cue_asker::AskerName;
-use cue_desk::orders::Order;
+use cue_desk::orders::DeskCommand;
 use cue_loading::Manner;
 use cue_show::CueNo;
 
@@ -100,7 +100,7 @@ pub enum Line {
     },
     /// Ask one thing.
     Ask {
-        order: Order,
+        order: DeskCommand,
         port: Option<u16>,
         /// Who asks, if the command line or the environment says it.
         name: Option<AskerName>,

@@ -2,7 +2,7 @@
 use cue_asker::AskerName;
 use cue_desk::answered::{Answered, answer_in, ending_of};
 use cue_desk::ending::Ending;
-use cue_desk::orders::Order;
+use cue_desk::orders::DeskCommand;
 use cue_desk::ports::PORT;
 use cue_desk::replying::{Replied, Status};
 use cue_desk_run::ask_once;
@@ -62,10 +62,10 @@ fn tell_answer<R: Eprint, W: Write>(
 }
 
 // What stands after the words that nobody replied: of what was asked nothing is known but this.
-fn open_words(order: &Order) -> &'static str {
+fn open_words(order: &DeskCommand) -> &'static str {
     match order {
-        Order::Status => "is serve running, and not stopped?",
-        Order::OfCue(_, _) | Order::Release(_) | Order::RemoveDevice(_) => {
+        DeskCommand::Status => "is serve running, and not stopped?",
+        DeskCommand::OfCue(_, _) | DeskCommand::Release(_) | DeskCommand::RemoveDevice(_) => {
             "it was carried out whole, or not at all, or will be when serve goes on: look at the board"
         }
     }
@@ -125,13 +125,13 @@ fn tell<R: Eprint + AllocGlobal, W: Write>(
 // The place before a move, as the controller says it; none if nothing moves, or nobody says it.
 fn place_before<R: Net + Clock + AllocGlobal>(
     rt: &R,
-    order: Order,
+    order: DeskCommand,
     port: u16,
 ) -> Option<Option<CueNo>> {
-    let Order::OfCue(CueVerb::Goto, _) = order else {
+    let DeskCommand::OfCue(CueVerb::Goto, _) = order else {
         return None;
     };
-    match ask_once(rt, Order::Status, &[], port, None) {
+    match ask_once(rt, DeskCommand::Status, &[], port, None) {
         Ok(Some(Heard::Replied(_, Replied::Status(status)))) => Some(status.place),
         _ => None,
     }
@@ -173,7 +173,7 @@ fn tell_way_back<W: Write>(
 /// these others. Who asks is said first, if there is a name. After a move it says how to go back.
 pub fn carry_order<R: Net + Clock + Eprint + AllocGlobal, W: Write>(
     rt: &R,
-    order: Order,
+    order: DeskCommand,
     others: &[CueNo],
     port: u16,
     name: Option<AskerName>,

@@ -1,11 +1,10 @@
 //! What the desk asks of the controller: each as exactly one message of the protocol, by itself or with others.
-ghost use Rattle.std.specs.Prelude.{◌≡◌, ◌++◌, ◌∷◌, [], IsTrue, Ok, IfOk, OnOk, map, codes};
-ghost use Rattle.std.specs.Fmt.{decimal};
+ghost use Rattle.std.specs.Prelude.{◌≡◌, ◌++◌, ◌∷◌, [], IsTrue, Ok, IfOk, OnOk, map};
 ghost use Rattle.cue_osc.specs.Argument.{arg_view, text};
 ghost use Rattle.cue_osc.specs.Content.{message};
 ghost use Rattle.cue_osc.specs.Reading.{datagram_at};
-ghost use Rattle.cue_operator.specs.Methods.{address_of, cue_verb_text, under};
-ghost use Rattle.cue_operator.specs.declared.method.Method.TheVariants.{OfCue};
+ghost use Rattle.cue_operator.specs.Methods.{address_of, under};
+ghost use Rattle.cue_operator.specs.declared.method.Method.TheVariants.{OfCue, OfDevice};
 ghost use Rattle.cue_desk.specs.Asks.{AsksFor, arguments_of, ask_fault, command_of, flag_of, flagged_parts};
 ghost use Rattle.cue_desk.specs.Asks.{is_askable, method_of};
 ghost use Rattle.cue_desk.specs.Loading.{message_of};
@@ -13,7 +12,7 @@ ghost use Rattle.cue_desk.specs.Loading.{message_of};
 mod bundling;
 
 pub use bundling::{bundle_of_cues, bundle_of_devices, cues_that_fit, devices_that_fit};
-use cue_operator::CueVerb;
+use cue_operator::{CueVerb, DeviceVerb};
 use cue_osc::{Arg, Args, Message, Packet, WriteFault};
 use cue_show::{CueNo, DeviceNo, Part, Parts};
 use itoa::Buffer;
@@ -97,21 +96,8 @@ pub fn address(alloc: Global, asked: &Asked<'_>) -> Result<Vec<u8>, AllocError>
         Asked::AddDevice(_, _) => Vec::from_slice(alloc, b"/show/device"),
         Asked::AddCue(_, _) => Vec::from_slice(alloc, b"/show/mixed"),
         Asked::OfCue(verb, cue) => cue_address(alloc, *verb, *cue),
-        Asked::Release(device) => device_address(alloc, b"release", *device),
-        Asked::RemoveDevice(device) => device_address(alloc, b"remove", *device),
-    }
-}
-
-// What the address of a verb ends with.
-fn cue_verb_text(verb: CueVerb) -> &'static [u8]
-    ensures { result.now ≡ cue_verb_text verb }
-{
-    match verb {
-        CueVerb::Standby => b"standby",
-        CueVerb::Go => b"go",
-        CueVerb::Cancel => b"cancel",
-        CueVerb::Goto => b"goto",
-        CueVerb::Remove => b"remove",
+        Asked::Release(device) => device_address(alloc, DeviceVerb::Release, *device),
+        Asked::RemoveDevice(device) => device_address(alloc, DeviceVerb::Remove, *device),
     }
 }
 
@@ -131,24 +117,24 @@ pub(crate) fn under(
     Ok(address)
 }
 
-/// Where something is asked of a cue.
+/// The address at which something is asked of a cue.
 pub(crate) fn cue_address(alloc: Global, verb: CueVerb, cue: CueNo) -> Result<Vec<u8>, AllocError>
     ensures { IfOk result (λ bytes. bytes.items ≡ address_of (OfCue cue verb)) }
 {
-    under(alloc, b"/cue/", cue.text(), cue_verb_text(verb))
+    under(alloc, b"/cue/", cue.text(), verb.text())
 }
 
-/// Where something is asked of a device.
+/// The address at which something is asked of a device.
 pub(crate) fn device_address(
     alloc: Global,
-    verb: &[u8],
+    verb: DeviceVerb,
     device: DeviceNo,
 ) -> Result<Vec<u8>, AllocError>
-    ensures { IfOk result (λ bytes. bytes.items ≡ under (codes "/device/") (decimal device) verb.now) }
+    ensures { IfOk result (λ bytes. bytes.items ≡ address_of (OfDevice device verb)) }
 {
     let mut number = Buffer::new();
     let name = number.format(device.number());
-    under(alloc, b"/device/", name.as_bytes(), verb)
+    under(alloc, b"/device/", name.as_bytes(), verb.text())
 }
 
 // Whether the part is optional, as a flag.

@@ -3,11 +3,11 @@ ghost use Rattle.std.specs.Prelude.{◌≡◌, ◌++◌, IfOk, Ok, OnOk, codes};
 ghost use Rattle.cue_osc.specs.Reading.{datagram_at};
 ghost use Rattle.cue_desk.specs.Together as together;
 
-use crate::asking::{AskFault, address, message, under};
-use crate::orders::{DeskCommand, asked_by};
+use crate::asking::{AskFault, cue_address, device_address, message, under};
+use crate::orders::DeskCommand;
 use crate::replying::Replied;
 use cue_core::Code;
-use cue_operator::CueVerb;
+use cue_operator::{CueVerb, DeviceVerb};
 use cue_show::CueNo;
 use cue_show_file::{Group, others_of};
 use std::alloc::{AllocError, Global};
@@ -52,7 +52,7 @@ fn standby_of(order: &DeskCommand) -> Option<CueNo>
     match order {
         DeskCommand::OfCue(verb, cue) => match verb {
             CueVerb::Standby => Some(*cue),
-            CueVerb::Go | CueVerb::Cancel | CueVerb::Goto | CueVerb::Remove => None,
+            _ => None,
         },
         DeskCommand::Status | DeskCommand::Release(_) | DeskCommand::RemoveDevice(_) => None,
     }
@@ -63,10 +63,10 @@ fn alone_address(alloc: Global, order: DeskCommand) -> Result<Vec<u8>, AllocErro
     ensures { IfOk result (λ bytes. bytes.items ≡ together.alone_address order) }
 {
     match order {
-        Order::Status => Vec::from_slice(alloc, b"/status"),
-        Order::OfCue(verb, cue) => cue_address(alloc, verb, cue),
-        Order::Release(device) => device_address(alloc, b"release", device),
-        Order::RemoveDevice(device) => device_address(alloc, b"remove", device),
+        DeskCommand::Status => Vec::from_slice(alloc, b"/status"),
+        DeskCommand::OfCue(verb, cue) => cue_address(alloc, verb, cue),
+        DeskCommand::Release(device) => device_address(alloc, DeviceVerb::Release, device),
+        DeskCommand::RemoveDevice(device) => device_address(alloc, DeviceVerb::Remove, device),
     }
 }
 

@@ -25,7 +25,7 @@ use Rattle.cue_station.specs.Opening.{has_ask, is_some_final}
 use Rattle.cue_station.specs.Pressing.{ask_after, order_of}
 use Rattle.cue_station.specs.Reading.{answered_with, question_with}
 
--- ---- once something was heard: h, at the moment, if r is the newest copy then
+-- ---- once something was heard: h, at the moment, with r as the newest copy then
 
 -- what is known of the controller, and since when that is not of the store that was copied
 abbrev pub with_answer : Heard → ℕ → Option Reading → Option Answered → Notes → Notes

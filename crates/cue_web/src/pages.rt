@@ -9,7 +9,7 @@ use cue_request::identity::{PageIdentity, Purpose};
 use cue_request::lock::Guard;
 use cue_request::replying::trouble_text;
 use cue_request::request::Refusal;
-use cue_show_file::{ShowFile, of_show, written};
+use cue_show_file::{Group, ShowFile, of_show, written};
 use std::alloc::{AllocError, Global};
 use std::fs::{File, Files};
 use std::net::Net;
@@ -68,6 +68,15 @@ fn refused_answer(alloc: Global, refusal: Refusal) -> Result<String, AllocError>
     trouble_answer(alloc, Outcome::Refused(refusal), refusal_words(refusal))
 }
 
+// What the numbers of a view are called, and which cues stand by together.
+fn names_of<'n>(file: Option<&'n ShowFile>, together: &'n [Group], port: u16) -> Names<'n> {
+    Names {
+        file,
+        together,
+        port,
+    }
+}
+
 impl<'a> Pages<'a> {
     /// a page of this identity, with what stands beside the views.
     pub fn new(
@@ -117,11 +126,7 @@ impl<'a> Pages<'a> {
         if self.drawn == Some(view.number) {
             return Ok(());
         }
-        let names = Names {
-            file: self.beside.file.as_ref(),
-            together: desk.together(),
-            port: self.beside.port,
-        };
+        let names = names_of(self.beside.file.as_ref(), desk.together(), self.beside.port);
         let manner = Manner {
             run: self.beside.run.as_str(),
             is_locked: matches!(self.identity.purpose, Purpose::Plays(Some(_))),

@@ -4,12 +4,12 @@ use Rattle.std.proofs.Common.{nat_eq, refl, sym, ap, ◌∙◌, subst, true≢fa
 use Rattle.std.specs.List.{list_any}
 use Rattle.std.specs.Option.{option_map_or}
 use Rattle.cue_exchange.specs.declared.attempt.Answer.{Answer}
-use Rattle.cue_exchange.specs.declared.attempt.Answer.TheVariants.{Waiting}
 use Rattle.cue_exchange.specs.declared.attempt.Stage.{Stage}
-use Rattle.cue_exchange.specs.declared.attempt.Stage.TheVariants.{Preparing, Decided, Cancelling}
 use Rattle.cue_exchange.specs.declared.attempt.DeviceAnswer.{DeviceAnswer}
 use Rattle.cue_exchange.specs.declared.attempt.Attempt.{Attempt}
-use Rattle.cue_exchange.specs.Answers.{device_answer}
+use Rattle.cue_exchange.specs.declared.situation.Situation.{Situation}
+use Rattle.cue_exchange.specs.declared.situation.Situation.TheVariants as situation
+use Rattle.cue_exchange.specs.Answers.{situation_of, device_answer}
 use Rattle.cue_exchange.specs.Live.{attempt_of, has_number}
 use Rattle.cue_core.specs.declared.command.AnswerKind.{AnswerKind}
 use Rattle.cue_core.specs.declared.command.AnswerKind.TheVariants.{StandingBy, Complete, Cancelled, Abort}
@@ -17,7 +17,8 @@ use Rattle.cue_core.specs.declared.command.Command.{Command}
 use Rattle.cue_core.specs.declared.command.Command.TheVariants.{Reply}
 use Rattle.cue_core.specs.ByAnswer.{ReadyOnlyByAnswer}
 use Rattle.cue_core.specs.Events.{is_ready_of}
-use Rattle.cue_core.specs.Judge.{Judgement, judgement_of, on_answer_in, on_answer_to, on_release_in, on_release_of}
+use Rattle.cue_core.specs.Judge.{Judgement, judgement_of, on_answer_at, on_answer_in, on_answer_to}
+use Rattle.cue_core.specs.Judge.{on_release_at, on_release_in, on_release_of}
 use Rattle.cue_core.specs.State.{ShowState}
 use Rattle.cue_core.proofs.lists.ConditionLemmas.{both, same_number}
 use Rattle.cue_core.proofs.live.FindingLemmas.{found_passes}
@@ -52,28 +53,34 @@ own q e n d h = at (nat_eq n q && nat_eq d e) refl h
         ap (λ (m : ℕ). Reply StandingBy m n) (same_number d e w.1) ∙ ap (Reply StandingBy e) (same_number n q w.0)
     at false is k = absurd (true≢false (sym k))
 
+answer_at-only : (q e : ℕ) (kind : AnswerKind) (n : ℕ) (x : DeviceAnswer) (z : Situation)
+    → Only q e (Reply kind x.device n) (on_answer_at kind n x z)
+answer_at-only q e StandingBy n x situation.AskedToStandBy = record { only = own q e n x.device }
+answer_at-only q e StandingBy n x _ = none refl
+answer_at-only q e Complete n x situation.AskedToGo = none refl
+answer_at-only q e Complete n x _ = none refl
+answer_at-only q e Cancelled n x situation.AskedToLetGo = none refl
+answer_at-only q e Cancelled n x _ = none refl
+answer_at-only q e Abort n x situation.AskedToStandBy = search (if-only, none)
+answer_at-only q e Abort n x situation.StandsBy = search (if-only, none)
+answer_at-only q e Abort n x situation.AskedToLetGo = search (if-only, none)
+answer_at-only q e Abort n x _ = none refl
+
 cell-only : (q e : ℕ) (kind : AnswerKind) (n : ℕ) (x : DeviceAnswer) (g : Stage) (w : Answer)
     → Only q e (Reply kind x.device n) (on_answer_in kind n x g w)
-cell-only q e StandingBy n x Preparing Waiting = record { only = own q e n x.device }
-cell-only q e StandingBy n x Decided Waiting = none refl
-cell-only q e StandingBy n x (Cancelling r) Waiting = none refl
-cell-only q e Complete n x Preparing Waiting = none refl
-cell-only q e Complete n x Decided Waiting = none refl
-cell-only q e Complete n x (Cancelling r) Waiting = none refl
-cell-only q e Cancelled n x Preparing Waiting = none refl
-cell-only q e Cancelled n x Decided Waiting = none refl
-cell-only q e Cancelled n x (Cancelling r) Waiting = none refl
-cell-only q e Abort n x Preparing Waiting = search (if-only, none)
-cell-only q e Abort n x Decided Waiting = none refl
-cell-only q e Abort n x (Cancelling r) Waiting = search (if-only, none)
-cell-only q e _ n x _ _ = search (if-only, none)
+cell-only q e kind n x g w = or-only (on_answer_at kind n x) (situation_of g w) _
+    (λ z is. answer_at-only q e kind n x z) (none refl)
+
+release_at-only : (q e : ℕ) (c : Command) (n : ℕ) (x : DeviceAnswer) (z : Situation)
+    → Only q e c (on_release_at n x z)
+release_at-only q e c n x situation.AskedToStandBy = search (if-only, none)
+release_at-only q e c n x situation.StandsBy = search (if-only, none)
+release_at-only q e c n x _ = none refl
 
 release_in-only : (q e : ℕ) (c : Command) (n : ℕ) (x : DeviceAnswer) (g : Stage) (w : Answer)
     → Only q e c (on_release_in n x g w)
-release_in-only q e c n x Preparing Waiting = search (if-only, none)
-release_in-only q e c n x Decided Waiting = none refl
-release_in-only q e c n x (Cancelling r) Waiting = none refl
-release_in-only q e c n x _ _ = search (if-only, none)
+release_in-only q e c n x g w = or-only (on_release_at n x) (situation_of g w) _
+    (λ z is. release_at-only q e c n x z) (none refl)
 
 -- ---- commands
 

@@ -13,13 +13,22 @@ use cue_desk_line::Watched;
 use cue_desk_run::{Beat, Desk, Sources};
 use cue_files_run::open_store;
 use cue_saying::{failed, print, say, say_fault};
-use cue_show_file::ShowFile;
+use cue_show_file::{Group, ShowFile};
 use screen::Screen;
 use std::alloc::{AllocError, Global};
 use std::fs::{File, Files};
 use std::io::{self, Eprint, Write};
 use std::net::Net;
 use std::time::Clock;
+
+// What the numbers of a view are called, and which cues stand by together.
+fn names_of<'n>(file: Option<&'n ShowFile>, together: &'n [Group], port: u16) -> Names<'n> {
+    Names {
+        file,
+        together,
+        port,
+    }
+}
 
 /// How long a round waits at most, in milliseconds.
 const PAUSE: u64 = 20;
@@ -106,11 +115,7 @@ impl<'a, R: Files<File = File> + Net + Clock + AllocGlobal> Board<'a, R> {
 
     // The lines of the newest view, and after them the others.
     fn lines(&self) -> Result<Vec<String>, AllocError> {
-        let names = Names {
-            file: self.file.as_ref(),
-            together: self.desk.together(),
-            port: self.port,
-        };
+        let names = names_of(self.file.as_ref(), self.desk.together(), self.port);
         let others = self.other_lines()?;
         let room = self.rows.map(|rows| room_in(rows, others.len()));
         let mut lines = board_lines(self.rt.alloc(), self.desk.view(), &names, room)?;

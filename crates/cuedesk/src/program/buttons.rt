@@ -6,6 +6,7 @@ use cue_desk_line::Buttons;
 use cue_desk_run::{Desk, Sources};
 use cue_files_run::read_file;
 use cue_saying::failed;
+use cue_show_file::Group;
 use std::fs::{File, Files};
 use std::io::{Eprint, Write};
 use std::net::Net;
@@ -23,12 +24,23 @@ pub fn hear_buttons<R: Files<File = File> + Net + Clock + Eprint + AllocGlobal, 
     };
     let together = groups_in(rt.alloc(), file.as_ref())?;
     let port = port_of(buttons.port, file.as_ref());
+    hear_with(rt, buttons, &together, port, writer)
+}
+
+// Hears the buttons at a controller's port, where these cues stand by together.
+fn hear_with<'a, R: Files<File = File> + Net + Clock + Eprint + AllocGlobal, W: Write>(
+    rt: &'a R,
+    buttons: &'a Buttons,
+    together: &'a [Group],
+    port: u16,
+    writer: &mut W,
+) -> Result<(), Ending> {
     let sources = Sources {
         dir: buttons.dir.as_str(),
         port,
         relay: None,
         name: buttons.name,
-        together: &together,
+        together,
     };
     let desk = match Desk::new(rt, &sources) {
         Ok(desk) => desk,

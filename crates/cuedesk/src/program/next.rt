@@ -6,6 +6,7 @@ use cue_desk_line::Pressed;
 use cue_desk_run::{Desk, Sources};
 use cue_files_run::read_file;
 use cue_saying::failed;
+use cue_show_file::Group;
 use std::fs::{File, Files};
 use std::io::{Eprint, Write};
 use std::net::Net;
@@ -27,12 +28,23 @@ pub fn press_word<R: Files<File = File> + Net + Clock + Eprint + AllocGlobal, W:
     };
     let together = groups_in(rt.alloc(), file.as_ref())?;
     let port = port_of(pressed.port, file.as_ref());
+    press_with(rt, pressed, &together, port, writer)
+}
+
+// Presses at a controller's port, where these cues stand by together.
+fn press_with<'a, R: Files<File = File> + Net + Clock + Eprint + AllocGlobal, W: Write>(
+    rt: &'a R,
+    pressed: &'a Pressed,
+    together: &'a [Group],
+    port: u16,
+    writer: &mut W,
+) -> Result<(), Ending> {
     let sources = Sources {
         dir: pressed.dir.as_str(),
         port,
         relay: None,
         name: pressed.name,
-        together: &together,
+        together,
     };
     let desk = match Desk::new(rt, &sources) {
         Ok(desk) => desk,

@@ -131,7 +131,8 @@ fn place_before<R: Net + Clock + AllocGlobal>(
     let DeskCommand::OfCue(CueVerb::Goto, _) = order else {
         return None;
     };
-    match ask_once(rt, DeskCommand::Status, &[], port, None) {
+    let heard = ask_once(rt, DeskCommand::Status, &[], port, None);
+    match &heard {
         Ok(Some(Heard::Replied(_, Replied::Status(status)))) => Some(status.place),
         _ => None,
     }

@@ -9,7 +9,7 @@ use cue_show::{CueNo, DeviceNo};
 use std::alloc::{AllocError, Global};
 
 /// Who asked.
-#[derive(Clone, Copy, PartialEq, Eq, Debug)]
+#[derive(Clone, Copy, PartialEq, Eq)]
 pub enum Who {
     Device(DeviceNo),
     /// Who sent its name before.
@@ -21,14 +21,14 @@ pub enum Who {
 }
 
 /// When something was done, in seconds since 1970, and who asked for it.
-#[derive(Clone, Copy, PartialEq, Eq, Debug)]
+#[derive(Clone, Copy)]
 pub struct Moment {
     pub at: u64,
     pub by: Who,
 }
 
 /// What became of a device, beside its times.
-#[derive(Clone, Copy, PartialEq, Eq, Debug)]
+#[derive(Clone, Copy, PartialEq, Eq)]
 pub enum Fate {
     /// It did what it was ordered, so far.
     Well,
@@ -84,7 +84,7 @@ fn span(from: Option<u64>, to: Option<u64>) -> Option<u64>
 }
 
 /// What a device did in an attempt: its times are those of the lines of the log, in seconds since 1970.
-#[derive(Clone, Copy, Debug)]
+#[derive(Clone, Copy)]
 pub struct Course {
     pub device: DeviceNo,
     /// When it was first ordered to stand by, and when it answered that it does.
@@ -154,7 +154,7 @@ impl Course {
 }
 
 /// How an attempt ended.
-#[derive(Clone, Copy, PartialEq, Eq, Debug)]
+#[derive(Clone, Copy)]
 pub struct Ended {
     /// When, in seconds since 1970.
     pub at: u64,

@@ -3,7 +3,7 @@ use cue_exchange::Outcome;
 use cue_show::{CueNo, DeviceNo};
 
 /// What a device is sent.
-#[derive(Clone, Copy, PartialEq, Eq, Debug)]
+#[derive(Clone, Copy)]
 pub enum OrderKind {
     Standby,
     Go,
@@ -11,7 +11,7 @@ pub enum OrderKind {
 }
 
 /// An attempt as a line names it.
-#[derive(Clone, Copy, Debug)]
+#[derive(Clone, Copy)]
 pub struct Try {
     pub number: u32,
     /// The cue, if the line has it.
@@ -19,7 +19,7 @@ pub struct Try {
 }
 
 /// An order to a device that was sent for the first time, or for the first time after a start.
-#[derive(Clone, Copy, Debug)]
+#[derive(Clone, Copy)]
 pub struct Ordered {
     pub kind: OrderKind,
     pub attempt: Try,
@@ -30,7 +30,7 @@ pub struct Ordered {
 }
 
 /// A reply that made or refused something.
-#[derive(Clone, Copy, Debug)]
+#[derive(Clone, Copy)]
 pub struct Reply<'a> {
     /// The port that asked.
     pub port: u16,
@@ -46,7 +46,7 @@ pub struct Reply<'a> {
 }
 
 /// How an attempt ended.
-#[derive(Clone, Copy, Debug)]
+#[derive(Clone, Copy)]
 pub struct Ending<'a> {
     pub outcome: Outcome,
     /// What follows: which devices failed, and how long after the standby it was.
@@ -54,7 +54,7 @@ pub struct Ending<'a> {
 }
 
 /// What a line of the log says.
-#[derive(Clone, Copy, Debug)]
+#[derive(Clone, Copy)]
 pub enum Entry<'a> {
     /// `serve` has begun: it serves a folder at a port.
     Ready { dir: &'a [u8], port: u16 },

@@ -57,7 +57,7 @@ pub struct Refusal {
 }
 
 /// How many lines there were of each kind.
-#[derive(Clone, Copy, Debug)]
+#[derive(Clone, Copy)]
 pub struct Counts {
     /// Lines of the log.
     pub told: u64,

@@ -17,7 +17,7 @@ use replies::read_reply;
 use words::number_in;
 
 /// A line of the log: when it was written, in seconds since 1970, and what it says. What a fault prints has no date.
-#[derive(Clone, Copy, Debug)]
+#[derive(Clone, Copy)]
 pub struct Line<'a> {
     pub at: Option<u64>,
     pub entry: Entry<'a>,

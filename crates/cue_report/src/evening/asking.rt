@@ -14,7 +14,7 @@ const MOST: usize = 256;
 const NAMED: u64 = 10;
 
 /// What is asked of a cue and may change an attempt.
-#[derive(Clone, Copy, PartialEq, Eq, Debug)]
+#[derive(Clone, Copy, PartialEq, Eq)]
 pub enum Verb {
     Standby,
     Go,
@@ -22,7 +22,7 @@ pub enum Verb {
 }
 
 /// What a device says, or what is asked of it.
-#[derive(Clone, Copy, PartialEq, Eq, Debug)]
+#[derive(Clone, Copy)]
 pub enum Word {
     StandingBy,
     Complete,
@@ -30,8 +30,11 @@ pub enum Word {
     Release,
 }
 
+/// All of them.
+const WORDS: [Word; 4] = [Word::StandingBy, Word::Complete, Word::Abort, Word::Release];
+
 /// What an address asks.
-#[derive(Clone, Copy, Debug)]
+#[derive(Clone, Copy)]
 pub enum Asked {
     /// This of one cue.
     OfCue(Verb, CueNo),
@@ -60,14 +63,18 @@ fn verb_in(text: &[u8]) -> Option<Verb> {
     }
 }
 
-fn word_in(text: &[u8]) -> Option<Word> {
-    match text {
-        b"standing_by" => Some(Word::StandingBy),
-        b"complete" => Some(Word::Complete),
-        b"abort" => Some(Word::Abort),
-        b"release" => Some(Word::Release),
-        _ => None,
+// What an address has for it.
+fn text_of(word: Word) -> &'static [u8] {
+    match word {
+        Word::StandingBy => b"standing_by",
+        Word::Complete => b"complete",
+        Word::Abort => b"abort",
+        Word::Release => b"release",
     }
+}
+
+fn word_in(text: &[u8]) -> Option<Word> {
+    WORDS.iter().copied().find(|word| text_of(*word) == text)
 }
 
 // The device with the number that a text is.

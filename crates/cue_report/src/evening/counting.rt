@@ -5,7 +5,7 @@ use super::Evening;
 use cue_exchange::Outcome;
 
 /// How many attempts there were, and how many of them ended how.
-#[derive(Clone, Copy, PartialEq, Eq, Debug)]
+#[derive(Clone, Copy)]
 pub struct Totals {
     pub all: usize,
     pub complete: usize,

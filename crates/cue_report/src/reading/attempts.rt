@@ -11,6 +11,9 @@ use cue_exchange::Outcome;
 use cue_show::{CueNo, DeviceNo};
 use cue_words::outcome_words;
 
+/// What follows an order that did not leave this machine.
+const UNSENT: &[u8] = b", it was not sent";
+
 // The attempt that a text names, without its cue, and what follows.
 fn attempt_in(text: &[u8]) -> Option<(u32, &[u8])> {
     number_in(text.strip_prefix(b"attempt ".as_slice())?)
@@ -43,11 +46,10 @@ fn order_in(kind: OrderKind, attempt: Try, text: &[u8]) -> Option<Entry<'_>>
 {
     let (device, rest) = number_in(text)?;
     let (port, rest) = number_in(rest.strip_prefix(b" at ".as_slice())?)?;
-    let is_sent = match rest {
-        [] => true,
-        b", it was not sent" => false,
-        _ => return None,
-    };
+    let is_sent = rest.is_empty();
+    if !is_sent && rest != UNSENT {
+        return None;
+    }
     Some(Entry::Ordered(Ordered {
         kind,
         attempt,

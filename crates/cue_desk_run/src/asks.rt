@@ -14,7 +14,7 @@ use cue_osc::MAX_LEN;
 use cue_station::heard::{Heard, Send};
 use mio::net::UdpSocket;
 use mio::{Interest, Registry, Token};
-use std::alloc::Global;
+use std::alloc::{AllocError, Global};
 use std::io::{self, ErrorKind};
 use std::net::Net;
 
@@ -92,6 +92,33 @@ fn send_after_name(socket: &UdpSocket, message: &[u8]) -> io::Result<()> {
     Ok(())
 }
 
+// Sends what is asked from this socket, once, and before it who presses, if that is to be said.
+fn post(
+    alloc: Global,
+    socket: &UdpSocket,
+    name: Option<AskerName>,
+    order: Order,
+    message: &[u8],
+) -> io::Result<()> {
+    match name {
+        Some(name) if !is_status(order) => {
+            send_name(alloc, socket, name)?;
+            send_after_name(socket, message)
+        }
+        _ => {
+            socket.send(message)?;
+            Ok(())
+        }
+    }
+}
+
+// The address that is asked, as a reply shows it.
+fn shown_address(alloc: Global, asked: &Asked<'_>) -> Result<Vec<u8>, AllocError> {
+    let mut shown = address(alloc, asked)?;
+    shown.truncate(SHOWN);
+    Ok(shown)
+}
+
 // Whether the message is a question for the status.
 fn is_status(order: Order) -> bool {
     matches!(order, Order::Status)
@@ -140,25 +167,20 @@ impl Ask {
         send: Send,
     ) -> io::Result<Ask> {
         let asked = asked_by(send.order);
-        let mut shown = address(rt.alloc(), &asked)?;
-        shown.truncate(SHOWN);
         let message = message_of(rt.alloc(), &asked)?;
-        let socket = open_socket(rt, registry, port)?;
-        match name {
-            Some(name) if !is_status(send.order) => {
-                send_name(rt.alloc(), &socket, name)?;
-                send_after_name(&socket, &message)?;
-            }
-            _ => {
-                socket.send(&message)?;
-            }
-        }
-        Ok(Ask {
+        let ask = Ask {
             number: send.ask,
             is_status: is_status(send.order),
-            shown,
-            socket,
-        })
+            shown: shown_address(rt.alloc(), &asked)?,
+            socket: open_socket(rt, registry, port)?,
+        };
+        match post(rt.alloc(), &ask.socket, name, send.order, &message) {
+            Ok(()) => Ok(ask),
+            Err(why) => {
+                drop(ask);
+                Err(why)
+            }
+        }
     }
 
     // What a reply is to this ask: the status if that was asked, else what became of exactly one command.
@@ -194,10 +216,8 @@ impl Ask {
     fn answer(&self, alloc: Global) -> Option<Heard> {
         for _ in 0..MAX_READ {
             let came = self.next(alloc);
-            let is_nothing = came == Came::Nothing;
-            let heard = heard_of(self.number, came);
-            if heard.is_some() || is_nothing {
-                return heard;
+            if came != Came::Noise {
+                return heard_of(self.number, came);
             }
         }
         None

@@ -12,10 +12,11 @@ use cue_station::station::{Station, Step};
 use cue_view::button::Button;
 use cue_view::view::{Alarm, View};
 use mio::{Events, Poll, Registry};
+use std::alloc::AllocError;
 use std::fs::{File, Files};
-use std::io;
 use std::net::Net;
 use std::time::{Clock, Duration};
+use std::{io, mem};
 
 /// How many milliseconds lie between two views at most.
 const TICK: u64 = 50;
@@ -39,6 +40,25 @@ pub struct Sources<'a> {
     pub port: u16,
     pub relay: Option<&'a str>,
     pub name: Option<AskerName>,
+}
+
+/// What a desk hears and reads by.
+#[derive(Drop)]
+struct Means {
+    clock: SteadyClock,
+    poll: Poll,
+    events: Events,
+    store: Store,
+}
+
+// What a desk over the store of this folder hears and reads by.
+fn open_means<R: Net + Clock + AllocGlobal>(rt: &R, dir: &str) -> io::Result<Means> {
+    Ok(Means {
+        clock: SteadyClock::new(rt)?,
+        poll: Poll::new(rt)?,
+        events: Events::with_capacity(rt.alloc(), EVENTS)?,
+        store: Store::new(String::from_str(rt.alloc(), dir)?),
+    })
 }
 
 /// A desk.
@@ -73,29 +93,54 @@ fn first_view<R: Clock + AllocGlobal>(rt: &R, station: &mut Station, at: u64) ->
 }
 
 impl<'a, R: Files<File = File> + Net + Clock + AllocGlobal> Desk<'a, R> {
-    /// A desk that has heard nothing yet.
-    pub fn new(rt: &'a R, sources: &Sources<'a>) -> io::Result<Desk<'a, R>> {
-        let alloc = rt.alloc();
-        let mut station = Station::new(alloc);
-        let Step { view, send } = first_view(rt, &mut station, 0)?;
-        let mut desk = Desk {
+    // A desk with this machine, which shows this view.
+    fn showing(
+        rt: &'a R,
+        sources: &Sources<'a>,
+        means: Means,
+        station: Station,
+        view: View,
+    ) -> Desk<'a, R> {
+        let Means {
+            clock,
+            poll,
+            events,
+            store,
+        } = means;
+        Desk {
             rt,
-            clock: SteadyClock::new(rt)?,
+            clock,
             station,
             view,
-            poll: Poll::new(rt)?,
-            events: Events::with_capacity(alloc, EVENTS)?,
-            asks: Asks::new(alloc, sources.port, sources.name),
+            poll,
+            events,
+            asks: Asks::new(rt.alloc(), sources.port, sources.name),
             has_failed: false,
             fault: None,
-            store: Store::new(String::from_str(alloc, sources.dir)?),
+            store,
             relay: sources.relay,
             ticks: Beat::of(TICK),
             looks: Beat::of(LOOK),
             relays: Beat::of(RELAY),
-        };
-        desk.send(send);
-        Ok(desk)
+        }
+    }
+
+    /// A desk that has heard nothing yet.
+    pub fn new(rt: &'a R, sources: &Sources<'a>) -> io::Result<Desk<'a, R>> {
+        let means = open_means(rt, sources.dir)?;
+        let mut station = Station::new(rt.alloc());
+        match first_view(rt, &mut station, 0) {
+            Ok(Step { view, send }) => {
+                let mut desk = Desk::showing(rt, sources, means, station, view);
+                desk.send(send);
+                Ok(desk)
+            }
+            Err(why) => {
+                drop(station);
+                drop(means);
+                Err(why)
+            }
+        }
     }
 
     /// The newest view.
@@ -142,20 +187,37 @@ impl<'a, R: Files<File = File> + Net + Clock + AllocGlobal> Desk<'a, R> {
         self.fault.take()
     }
 
+    // Shows the view that a step made, and sends what it says.
+    fn take(&mut self, step: Step) {
+        let Step { view, send } = step;
+        drop(mem::replace(&mut self.view, view));
+        self.send(send);
+    }
+
+    // Hears one thing at this moment, and answers whether it was heard: if memory ran out, nothing was.
+    fn hear_at(&mut self, at: u64, heard: Heard) -> bool {
+        let wall = wall_time(self.rt);
+        match self
+            .station
+            .step(self.rt.alloc(), Input { at, wall, heard })
+        {
+            Ok(step) => {
+                self.take(step);
+                true
+            }
+            Err(AllocError) => false,
+        }
+    }
+
     // Hears one thing, which is there at this moment, and answers whether it was heard: if memory ran out, nothing was.
     fn hear(&mut self, heard: Heard) -> io::Result<bool> {
-        let input = Input {
-            at: self.now()?,
-            wall: wall_time(self.rt),
-            heard,
-        };
-        let Ok(step) = self.station.step(self.rt.alloc(), input) else {
-            return Ok(false);
-        };
-        let Step { view, send } = step;
-        self.view = view;
-        self.send(send);
-        Ok(true)
+        match self.now() {
+            Ok(at) => Ok(self.hear_at(at, heard)),
+            Err(why) => {
+                drop(heard);
+                Err(why)
+            }
+        }
     }
 
     /// A button of the view with this number was pressed. Answers whether that was heard.
@@ -174,18 +236,29 @@ impl<'a, R: Files<File = File> + Net + Clock + AllocGlobal> Desk<'a, R> {
         Ok(())
     }
 
-    // Looks at the files of the store. What came while they were read is heard before the copy: else the next question
-    // for the status could take the place of one whose answer is there. A copy that was not heard is read again.
-    fn look_at_store(&mut self) -> io::Result<()> {
-        let begun = self.now()?;
-        if self.looks.is_due(begun) {
-            let heard = self.store.look(self.rt, begun);
-            self.hear_answers()?;
-            if !self.hear(heard)? {
-                self.store.forget();
-            }
+    // Hears what was read of the store. A copy that was not heard is read again.
+    fn hear_store(&mut self, heard: Heard) -> io::Result<()> {
+        if !self.hear(heard)? {
+            self.store.forget();
         }
         Ok(())
+    }
+
+    // Looks at the files of the store, if that is due. What came while they were read is heard before the copy: else
+    // the next question for the status could take the place of one whose answer is there.
+    fn look_at_store(&mut self) -> io::Result<()> {
+        let begun = self.now()?;
+        if !self.looks.is_due(begun) {
+            return Ok(());
+        }
+        let heard = self.store.look(self.rt, begun);
+        match self.hear_answers() {
+            Ok(()) => self.hear_store(heard),
+            Err(why) => {
+                drop(heard);
+                Err(why)
+            }
+        }
     }
 
     // Looks at what the relay has written.

@@ -1,6 +1,7 @@
 //! What the page is answered: itself, the newest view, the show file, and the view that a press has made.
 use crate::connection::{Asking, Pressed};
 use cue_board::Names;
+use cue_core::State;
 use cue_desk_run::Desk;
 use cue_page::board::{Manner, view_text};
 use cue_page::page::{page_text, policy};
@@ -68,8 +69,16 @@ fn refused_answer(alloc: Global, refusal: Refusal) -> Result<String, AllocError>
     trouble_answer(alloc, Outcome::Refused(refusal), refusal_words(refusal))
 }
 
+// The show of a store as a show file.
+fn show_text(alloc: Global, state: &State) -> Result<String, AllocError> {
+    let file = of_show(alloc, state.show())?;
+    let text = written(alloc, &file);
+    drop(file);
+    text
+}
+
 impl<'a> Pages<'a> {
-    /// a page of this identity, with what stands beside the views.
+    /// A page of this identity, with what stands beside the views.
     pub fn new(
         alloc: Global,
         identity: PageIdentity<'a>,
@@ -90,7 +99,7 @@ impl<'a> Pages<'a> {
 
     /// From now on the names are those of this show file.
     pub fn put_file(&mut self, file: ShowFile) {
-        self.beside.file = Some(file);
+        drop(self.beside.file.replace(file));
         self.drawn = None;
     }
 
@@ -182,7 +191,7 @@ impl<'a> Pages<'a> {
     ) -> Result<String, AllocError> {
         let text = match (&self.beside.file, desk.state()) {
             (Some(file), _) => written(alloc, file)?,
-            (None, Some(state)) => written(alloc, &of_show(alloc, state.show())?)?,
+            (None, Some(state)) => show_text(alloc, state)?,
             (None, None) => return trouble_answer(alloc, Outcome::Unavailable, NO_STORE),
         };
         answer(alloc, Outcome::Done, Kind::Text, NOTHING, text.as_str())

@@ -10,6 +10,7 @@ mod buttons;
 mod locking;
 mod new;
 mod next;
+mod opening;
 mod orders;
 mod rehearsing;
 mod relaying;

@@ -5,6 +5,7 @@ ghost use Rattle.cuedesk.specs.Windows.{window_of};
 mod screen;
 
 use super::beside::{file_line, read_log, relay_line};
+use super::opening::open_desk;
 use super::port_of;
 use super::renewing::{Renewed, begin};
 use cue_board::{Names, board_lines};
@@ -86,7 +87,7 @@ impl<'a, R: Files<File = File> + Net + Clock + AllocGlobal> Board<'a, R> {
         };
         let is_live = !self.desk.view().live.is_empty();
         if let Some(file) = renewed.look(self.rt, self.desk.now()?, is_live) {
-            self.file = Some(file);
+            drop(self.file.replace(file));
             renewed.begin_to_tell(self.desk.now()?);
         }
         if let Ok(told) = renewed.told(self.rt.alloc(), self.desk.now()?) {
@@ -245,6 +246,75 @@ fn show_on<R: Files<File = File> + Net + Clock + Eprint + AllocGlobal, W: Write>
     Ok(())
 }
 
+// The board once as text, or until the terminal or a signal ends it.
+fn show<R: Files<File = File> + Net + Clock + Eprint + AllocGlobal, W: Write>(
+    board: &mut Board<'_, R>,
+    writer: &mut W,
+) -> Result<(), Ending> {
+    if board.rows.is_none() {
+        print_once(board, writer)
+    } else {
+        show_on(board, writer)
+    }
+}
+
+// What a desk watches, with the port of the controller that the command line or the show file says.
+fn sources_of<'a>(watched: &'a Watched, begun: &Option<(ShowFile, Renewed<'a>)>) -> Sources<'a> {
+    let file = match begun {
+        Some((file, _)) => Some(file),
+        None => None,
+    };
+    Sources {
+        name: None,
+        dir: watched.dir.as_str(),
+        port: port_of(watched.port, file),
+        relay: watched.relay.as_deref(),
+    }
+}
+
+// The board of this desk, with the show file that was read, if there is one.
+fn board_at<'a, R>(
+    rt: &'a R,
+    watched: &'a Watched,
+    rows: Option<u16>,
+    desk: Desk<'a, R>,
+    begun: Option<(ShowFile, Renewed<'a>)>,
+) -> Board<'a, R> {
+    let (file, renewed) = match begun {
+        Some((file, renewed)) => (Some(file), Some(renewed)),
+        None => (None, None),
+    };
+    let port = port_of(watched.port, file.as_ref());
+    Board {
+        rt,
+        desk,
+        dir: watched.dir.as_str(),
+        file,
+        renewed,
+        told: None,
+        port,
+        log: watched.log.as_deref(),
+        relay: watched.relay.as_deref(),
+        rows,
+    }
+}
+
+// Reads the show file, and opens the desk.
+fn open_board<'a, R: Files<File = File> + Net + Clock + Eprint + AllocGlobal>(
+    rt: &'a R,
+    watched: &'a Watched,
+    rows: Option<u16>,
+) -> Result<Board<'a, R>, Ending> {
+    let begun = begin(rt, watched.file.as_deref(), watched.port)?;
+    match open_desk(rt, &sources_of(watched, &begun)) {
+        Ok(desk) => Ok(board_at(rt, watched, rows, desk, begun)),
+        Err(ending) => {
+            drop(begun);
+            Err(ending)
+        }
+    }
+}
+
 /// The command `board`: once as text, or again and again in a window of so many rows.
 pub fn show_board<R: Files<File = File> + Net + Clock + Eprint + AllocGlobal, W: Write>(
     rt: &R,
@@ -252,35 +322,8 @@ pub fn show_board<R: Files<File = File> + Net + Clock + Eprint + AllocGlobal, W:
     rows: Option<u16>,
     writer: &mut W,
 ) -> Result<(), Ending> {
-    let (file, renewed) = match begin(rt, watched.file.as_deref(), watched.port)? {
-        Some((file, renewed)) => (Some(file), Some(renewed)),
-        None => (None, None),
-    };
-    let sources = Sources {
-        name: None,
-        dir: watched.dir.as_str(),
-        port: port_of(watched.port, file.as_ref()),
-        relay: watched.relay.as_deref(),
-    };
-    let desk = match Desk::new(rt, &sources) {
-        Ok(desk) => desk,
-        Err(why) => return Err(failed(rt, &why)),
-    };
-    let mut board = Board {
-        rt,
-        desk,
-        dir: sources.dir,
-        file,
-        renewed,
-        told: None,
-        port: sources.port,
-        log: watched.log.as_deref(),
-        relay: sources.relay,
-        rows,
-    };
-    if rows.is_none() {
-        print_once(&mut board, writer)
-    } else {
-        show_on(&mut board, writer)
-    }
+    let mut board = open_board(rt, watched, rows)?;
+    let shown = show(&mut board, writer);
+    drop(board);
+    shown
 }

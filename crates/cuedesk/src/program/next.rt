@@ -1,10 +1,10 @@
 //! The words `standby` and `go` without a number, and `go --wait`: a press at a desk without a browser.
+use super::opening::open_desk;
 use super::port_of;
 use cue_buttons_run::Hand;
 use cue_desk::ending::Ending;
 use cue_desk_line::Pressed;
-use cue_desk_run::{Desk, Sources};
-use cue_saying::failed;
+use cue_desk_run::Sources;
 use std::fs::{File, Files};
 use std::io::{Eprint, Write};
 use std::net::Net;
@@ -27,10 +27,10 @@ pub fn press_word<R: Files<File = File> + Net + Clock + Eprint + AllocGlobal, W:
         relay: None,
         name: pressed.name,
     };
-    let desk = match Desk::new(rt, &sources) {
-        Ok(desk) => desk,
-        Err(why) => return Err(failed(rt, &why)),
-    };
+    let desk = open_desk(rt, &sources)?;
     let wait = pressed.wait.map(|seconds| seconds.saturating_mul(SECOND));
-    Hand::new(rt, desk, pressed.intent, wait, port).press_once(writer)
+    let mut hand = Hand::new(rt, desk, pressed.intent, wait, port);
+    let became = hand.press_once(writer);
+    drop(hand);
+    became
 }

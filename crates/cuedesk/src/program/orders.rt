@@ -101,6 +101,21 @@ fn tell<R: Eprint + AllocGlobal, W: Write>(
     }
 }
 
+// Says in words what came of an order; these stand after the words that nobody replied.
+fn tell_heard<R: Eprint + AllocGlobal, W: Write>(
+    rt: &R,
+    heard: &Option<Heard>,
+    words: &str,
+    port: u16,
+    writer: &mut W,
+) -> Result<(), Ending> {
+    match heard {
+        Some(Heard::Replied(_, replied)) => tell(rt, *replied, writer),
+        Some(Heard::Nobody(_)) => Err(say_alone(rt, port)),
+        _ => Err(say_silent(rt, words, port)),
+    }
+}
+
 /// Asks one thing of the controller, once, and says in words what it replied, within a second. Who asks is said first,
 /// if there is a name.
 pub fn carry_order<R: Net + Clock + Eprint + AllocGlobal, W: Write>(
@@ -111,16 +126,15 @@ pub fn carry_order<R: Net + Clock + Eprint + AllocGlobal, W: Write>(
     writer: &mut W,
 ) -> Result<(), Ending> {
     let words = open_words(&order);
-    let heard = match ask_once(rt, order, port, name) {
-        Ok(heard) => heard,
+    match ask_once(rt, order, port, name) {
+        Ok(heard) => {
+            let told = tell_heard(rt, &heard, words, port, writer);
+            drop(heard);
+            told
+        }
         Err(why) => {
             say(rt, format_args!("no socket: {why}"));
-            return Err(Ending::Failed);
+            Err(Ending::Failed)
         }
-    };
-    match &heard {
-        Some(Heard::Replied(_, replied)) => tell(rt, *replied, writer),
-        Some(Heard::Nobody(_)) => Err(say_alone(rt, port)),
-        _ => Err(say_silent(rt, words, port)),
     }
 }

@@ -7,6 +7,7 @@ use cue_relay::{Address, Relay, RelayFault, Route, run};
 use cue_relay_run::{NetSource, NetWire, Reporter, Sides, bind};
 use cue_saying::{print, say};
 use cue_show_file::{ShowFile, routes, shared_port};
+use mio::net::UdpSocket;
 use std::fs::{File, Files};
 use std::io::{Eprint, Write};
 use std::net::{Ipv4Addr, Net};
@@ -74,6 +75,68 @@ fn why(fault: Option<RelayFault>) -> &'static str {
     }
 }
 
+// What a relay by this show file stands between, and its routes.
+fn planned<R: Files<File = File> + Eprint + AllocGlobal>(
+    rt: &R,
+    path: &str,
+    port: Option<u16>,
+) -> Result<(Sides, Vec<Route>), Ending> {
+    let file = read_file(rt, path)?;
+    let planned = plan(rt, path, &file);
+    let controller = Address {
+        host: Ipv4Addr::LOCALHOST.to_bits(),
+        port: port.or(file.port).unwrap_or(PORT),
+    };
+    drop(file);
+    let (stage, routes) = planned?;
+    Ok((Sides { controller, stage }, routes))
+}
+
+// Relays what comes from this source, until a signal ends it.
+fn relay_from<R: Files<File = File> + Net + Clock + Eprint + AllocGlobal, W: Write>(
+    rt: &R,
+    (sides, routes): (Sides, &[Route]),
+    source: &mut NetSource<'_, R>,
+    status: Option<&str>,
+    writer: &mut W,
+) -> Result<(), Ending> {
+    begun(rt, sides, routes.len(), writer)?;
+    let mut reporter = Reporter::new(rt, routes, status, writer)?;
+    let mut wire = NetWire::new(source.sockets());
+    let relay = Relay {
+        controller: sides.controller,
+        routes,
+    };
+    let ended = run(
+        rt.alloc(),
+        relay,
+        source,
+        &mut wire,
+        u64::MAX,
+        &mut reporter,
+    );
+    drop(reporter);
+    say(rt, why(ended.fault));
+    Err(Ending::Failed)
+}
+
+// Relays over these sockets.
+fn relay_over<R: Files<File = File> + Net + Clock + Eprint + AllocGlobal, W: Write>(
+    rt: &R,
+    (sides, routes): (Sides, &[Route]),
+    sockets: &mut [UdpSocket],
+    status: Option<&str>,
+    writer: &mut W,
+) -> Result<(), Ending> {
+    let Ok(mut source) = NetSource::new(rt, rt, sockets) else {
+        say(rt, "the sockets cannot be waited at");
+        return Err(Ending::Failed);
+    };
+    let relayed = relay_from(rt, (sides, routes), &mut source, status, writer);
+    drop(source);
+    relayed
+}
+
 /// The command `relay`: until a signal ends it.
 pub fn relay_devices<R: Files<File = File> + Net + Clock + Eprint + AllocGlobal, W: Write>(
     rt: &R,
@@ -82,32 +145,9 @@ pub fn relay_devices<R: Files<File = File> + Net + Clock + Eprint + AllocGlobal,
     status: Option<&str>,
     writer: &mut W,
 ) -> Result<(), Ending> {
-    let file = read_file(rt, path)?;
-    let (stage, routes) = plan(rt, path, &file)?;
-    let host = Ipv4Addr::LOCALHOST.to_bits();
-    let port = port.or(file.port).unwrap_or(PORT);
-    let controller = Address { host, port };
-    let sides = Sides { controller, stage };
+    let (sides, routes) = planned(rt, path, port)?;
     let mut sockets = bind(rt, sides, &routes)?;
-    let Ok(mut source) = NetSource::new(rt, rt, &mut sockets) else {
-        say(rt, "the sockets cannot be waited at");
-        return Err(Ending::Failed);
-    };
-    begun(rt, sides, routes.len(), writer)?;
-    let mut reporter = Reporter::new(rt, &routes, status, writer)?;
-    let mut wire = NetWire::new(source.sockets());
-    let relay = Relay {
-        controller,
-        routes: &routes,
-    };
-    let ended = run(
-        rt.alloc(),
-        relay,
-        &mut source,
-        &mut wire,
-        u64::MAX,
-        &mut reporter,
-    );
-    say(rt, why(ended.fault));
-    Err(Ending::Failed)
+    let relayed = relay_over(rt, (sides, &routes), &mut sockets, status, writer);
+    drop(sockets);
+    relayed
 }

@@ -5,7 +5,7 @@ use cue_desk::stamps::Stamp;
 use cue_desk_run::{Beat, wall_time};
 use cue_file_news::{Due, Kept, Look, Looks, News, Reading, Trouble, later_of, told_words};
 use cue_files_run::read_file;
-use cue_show_file::{Draft, ShowFile, check, condensed, read, routes};
+use cue_show_file::{Checked, Draft, Finding, ShowFile, check, condensed, read, routes};
 use std::alloc::{AllocError, Global};
 use std::fs::{self, File, Files};
 use std::io::{self, Eprint, ErrorKind};
@@ -64,16 +64,43 @@ fn is_empty(file: &ShowFile) -> bool {
     file.devices.is_empty() && file.cues.is_empty()
 }
 
-// The show file that a text is; else the line of its first mistake, if it has one.
-fn file_in(alloc: Global, text: &str) -> Result<Result<ShowFile, Option<usize>>, AllocError> {
-    let Draft { file, findings, .. } = read(alloc, text)?;
-    let trial = check(alloc, &file)?;
-    let told = condensed(alloc, findings, trial.findings)?;
+// Whether a file in which this was found makes a show; else the line of its first mistake, if it has one.
+fn judged(
+    alloc: Global,
+    file: &ShowFile,
+    found: Vec<Finding>,
+) -> Result<Result<(), Option<usize>>, AllocError> {
+    let Checked { show, findings } = check(alloc, file)?;
+    let makes_show = show.is_some() && !is_empty(file);
+    drop(show);
+    let told = condensed(alloc, found, findings)?;
     Ok(match told.first() {
         Some(finding) => Err(finding.line),
-        None if trial.show.is_none() || is_empty(&file) => Err(None),
-        None => Ok(file),
+        None if makes_show => Ok(()),
+        None => Err(None),
     })
+}
+
+// The show file that a text is; else the line of its first mistake, if it has one.
+fn file_in(alloc: Global, text: &str) -> Result<Result<ShowFile, Option<usize>>, AllocError> {
+    let Draft {
+        file,
+        findings,
+        table,
+        ..
+    } = read(alloc, text)?;
+    drop(table);
+    match judged(alloc, &file, findings) {
+        Ok(Ok(())) => Ok(Ok(file)),
+        Ok(Err(line)) => {
+            drop(file);
+            Ok(Err(line))
+        }
+        Err(why) => {
+            drop(file);
+            Err(why)
+        }
+    }
 }
 
 /// Reads the show file of a desk that begins, if it has one; else each mistake is on standard error. `said` is the port
@@ -89,21 +116,46 @@ pub fn begin<'a, R: Files<File = File> + Eprint + AllocGlobal>(
     // The text first: what is written between the two readings is found to be new then.
     let text = text_at(rt, path).unwrap_or(String::new(rt.alloc()));
     let file = read_file(rt, path)?;
-    let kept = kept_of(rt.alloc(), &file, said)?;
-    let renewed = Renewed {
-        path,
-        said,
-        looks: Looks::new(),
-        beats: Beat::of(LOOK),
-        text,
-        news: News::Old,
-        trouble: None,
-        kept,
-    };
-    Ok(Some((file, renewed)))
+    match kept_of(rt.alloc(), &file, said) {
+        Ok(kept) => Ok(Some((file, Renewed::new(path, said, text, kept)))),
+        Err(why) => {
+            drop(file);
+            Err(Ending::from(why))
+        }
+    }
 }
 
-impl Renewed<'_> {
+impl<'a> Renewed<'a> {
+    // What is known of a file at the start.
+    fn new(path: &'a str, said: Option<u16>, text: String, kept: Kept) -> Renewed<'a> {
+        Renewed {
+            path,
+            said,
+            looks: Looks::new(),
+            beats: Beat::of(LOOK),
+            text,
+            news: News::Old,
+            trouble: None,
+            kept,
+        }
+    }
+
+    // What became of a text that was read at this moment, and is this.
+    fn news_of(
+        &self,
+        alloc: Global,
+        found: &Result<ShowFile, Option<usize>>,
+        now: u64,
+    ) -> Result<News, AllocError> {
+        match found {
+            Ok(file) => {
+                let kept = kept_of(alloc, file, self.said)?;
+                Ok(News::Read(now, later_of(&self.kept, &kept)))
+            }
+            Err(line) => Ok(News::Wrong(*line)),
+        }
+    }
+
     // Takes a text that was read at this moment: the file that it is, if that is new and has no mistake.
     fn take(
         &mut self,
@@ -115,12 +167,17 @@ impl Renewed<'_> {
             return Ok(None);
         }
         let found = file_in(alloc, text.as_str())?;
-        self.news = match &found {
-            Ok(file) => News::Read(now, later_of(&self.kept, &kept_of(alloc, file, self.said)?)),
-            Err(line) => News::Wrong(*line),
-        };
-        self.text = text;
-        Ok(found.ok())
+        match self.news_of(alloc, &found, now) {
+            Ok(news) => {
+                self.news = news;
+                self.text = text;
+                Ok(found.ok())
+            }
+            Err(why) => {
+                drop(found);
+                Err(why)
+            }
+        }
     }
 
     // Reads the file, of which the system said this. If memory ran out it is read again after the next look.

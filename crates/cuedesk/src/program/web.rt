@@ -1,5 +1,6 @@
 //! The command `web`: the board with buttons, served to a browser on this machine.
 use super::locking::lock_word;
+use super::opening::open_desk;
 use super::port_of;
 use super::renewing::{Renewed, begin};
 use cue_desk::ending::Ending;
@@ -26,7 +27,6 @@ const TOKEN_BYTES: usize = 16;
 #[derive(Drop)]
 struct Server<'a, R> {
     rt: &'a R,
-    connections: Connections,
     desk: Desk<'a, R>,
     pages: Pages<'a>,
     renewed: Option<Renewed<'a>>,
@@ -60,21 +60,20 @@ impl<R: Files<File = File> + Net + Clock + Eprint + AllocGlobal> Server<'_, R> {
     }
 
     // One round: who presses is heard first.
-    fn round(&mut self) -> io::Result<()> {
+    fn round(&mut self, connections: &mut Connections) -> io::Result<()> {
         let alloc = self.rt.alloc();
         let now = self.desk.now()?;
-        let is_waited_for = self.connections.admit(alloc, self.desk.registry(), now);
-        self.connections
-            .serve(alloc, &mut self.desk, &mut self.pages, now);
+        let is_waited_for = connections.admit(alloc, self.desk.registry(), now);
+        connections.serve(alloc, &mut self.desk, &mut self.pages, now);
         self.desk.round()?;
         self.renew()?;
         self.desk.wait(if is_waited_for { 0 } else { PAUSE })
     }
 
     // Serves until a signal ends it.
-    fn serve(&mut self) -> Result<(), Ending> {
+    fn serve(&mut self, connections: &mut Connections) -> Result<(), Ending> {
         for _ in 0..u64::MAX {
-            if let Err(why) = self.round() {
+            if let Err(why) = self.round(connections) {
                 return Err(failed(self.rt, &why));
             }
             say_fault(self.rt, self.desk.take_fault());
@@ -112,26 +111,27 @@ fn purpose_of<'a>(page_use: &'a PageUse, word: Option<&'a str>) -> Purpose<'a> {
     }
 }
 
-// The desk of these sources; else why there is none is said.
-fn open_desk<'a, R: Files<File = File> + Net + Clock + Eprint + AllocGlobal>(
-    rt: &'a R,
-    sources: &Sources<'a>,
-) -> Result<Desk<'a, R>, Ending> {
-    match Desk::new(rt, sources) {
-        Ok(desk) => Ok(desk),
-        Err(why) => Err(failed(rt, &why)),
-    }
+// Listens at this port, says so, and serves.
+fn serve_at<R: Files<File = File> + Net + Clock + Eprint + AllocGlobal, W: Write>(
+    server: &mut Server<'_, R>,
+    port: u16,
+    writer: &mut W,
+) -> Result<(), Ending> {
+    let mut connections = listen(server.rt, &server.desk, port)?;
+    say_where(server.rt.alloc(), port, writer)?;
+    let served = server.serve(&mut connections);
+    drop(connections);
+    served
 }
 
-/// The command `web`: until a signal ends it. It listens at 127.0.0.1 alone, and sends one message for each press of a
-/// button; by itself it asks for the status alone. A page that only shows sends nothing else.
-pub fn serve_page<
-    'a,
-    R: Files<File = File> + Net + Clock + RandomSource + Eprint + AllocGlobal,
-    W: Write,
->(rt: &'a R, web: &'a Web, writer: &mut W) -> Result<(), Ending> {
-    let (token, run) = (draw_token(rt)?, draw_token(rt)?);
-    let word = lock_word(rt, &web.page_use)?;
+// A page of this identity, and the desk of which it is.
+fn open_server<'a, R: Files<File = File> + Net + Clock + RandomSource + Eprint + AllocGlobal>(
+    rt: &'a R,
+    web: &'a Web,
+    identity: PageIdentity<'a>,
+    token: &str,
+) -> Result<Server<'a, R>, Ending> {
+    let run = draw_token(rt)?;
     let (file, renewed) = match begin(rt, web.file.as_deref(), web.port)? {
         Some((file, renewed)) => (Some(file), Some(renewed)),
         None => (None, None),
@@ -142,26 +142,43 @@ pub fn serve_page<
         relay: web.relay.as_deref(),
         name: web.name,
     };
-    let identity = PageIdentity {
-        port: web.http,
-        token: token.as_bytes(),
-        purpose: purpose_of(&web.page_use, word.as_deref()),
-    };
-    let desk = open_desk(rt, &sources)?;
     let beside = Beside {
         file,
         port: sources.port,
         run,
     };
-    let pages = Pages::new(rt.alloc(), identity, token.as_str(), beside)?;
-    let connections = listen(rt, &desk, web.http)?;
-    say_where(rt.alloc(), web.http, writer)?;
-    let mut server = Server {
-        rt,
-        connections,
-        desk,
-        pages,
-        renewed,
+    let pages = Pages::new(rt.alloc(), identity, token, beside)?;
+    match open_desk(rt, &sources) {
+        Ok(desk) => Ok(Server {
+            rt,
+            desk,
+            pages,
+            renewed,
+        }),
+        Err(ending) => {
+            drop(pages);
+            drop(renewed);
+            Err(ending)
+        }
+    }
+}
+
+/// The command `web`: until a signal ends it. It listens at 127.0.0.1 alone, and sends one message for each press of a
+/// button; by itself it asks for the status alone. A page that only shows sends nothing else.
+pub fn serve_page<
+    'a,
+    R: Files<File = File> + Net + Clock + RandomSource + Eprint + AllocGlobal,
+    W: Write,
+>(rt: &'a R, web: &'a Web, writer: &mut W) -> Result<(), Ending> {
+    let token = draw_token(rt)?;
+    let word = lock_word(rt, &web.page_use)?;
+    let identity = PageIdentity {
+        port: web.http,
+        token: token.as_bytes(),
+        purpose: purpose_of(&web.page_use, word.as_deref()),
     };
-    server.serve()
+    let mut server = open_server(rt, web, identity, token.as_str())?;
+    let served = serve_at(&mut server, web.http, writer);
+    drop(server);
+    served
 }

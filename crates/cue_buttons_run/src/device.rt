@@ -13,7 +13,7 @@ use std::os::unix::fs::{FileTypeExt, MetadataExt};
 const BYTES: Token = Token(3);
 
 /// What comes of a reading.
-#[derive(Debug, Drop)]
+#[derive(Drop)]
 pub enum Came {
     /// So many bytes.
     Bytes(usize),

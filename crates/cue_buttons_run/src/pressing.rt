@@ -8,7 +8,7 @@ use std::net::Net;
 use std::time::Clock;
 
 /// What comes of a press at once.
-#[derive(Clone, Copy, PartialEq, Eq, Debug)]
+#[derive(Clone, Copy, PartialEq, Eq)]
 pub enum Outcome {
     /// Its message is sent, with this ask: the view says what became of it.
     Sent(u64),

@@ -166,7 +166,7 @@ impl Wire {
 }
 
 /// How often a message is sent, which says how long one sending waits for its reply.
-#[derive(Clone, Copy, Debug, PartialEq, Eq)]
+#[derive(Clone, Copy, PartialEq, Eq)]
 pub enum Sendings {
     /// Once, as what an operator asks: it waits a second.
     One,

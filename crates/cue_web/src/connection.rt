@@ -21,7 +21,7 @@ const PIECE: usize = 1024;
 const PIECES: usize = 16;
 
 /// How far a connection has come.
-#[derive(Clone, Copy, Debug, PartialEq, Eq)]
+#[derive(Clone, Copy, PartialEq, Eq)]
 enum Stage {
     /// Its request is awaited.
     Asking,

@@ -34,11 +34,12 @@ braced c others = codes "{" ++ (c ++ (after_commas others ++ codes "}"))
 abbrev pub together_address : List ℕ → List (List ℕ) → List ℕ
 together_address c others = under (codes "/cue/") (braced c others) (codes "standby")
 
--- the cue that an order stands by
+-- the cue that a verb stands by
 abbrev pub verb_standby : CueVerb → List ℕ → Option (List ℕ)
 verb_standby verb.Standby c = Some c
 verb_standby v c = None
 
+-- the cue that a command stands by
 abbrev pub standby_of : DeskCommand → Option (List ℕ)
 standby_of (order.OfCue v c) = verb_standby v c
 standby_of o = None
@@ -57,15 +58,16 @@ abbrev pub address_with : DeskCommand → List (List ℕ) → List ℕ
 address_with o [] = alone_address o
 address_with o (d ∷ others) = address_by (standby_of o) o (d ∷ others)
 
--- the message: no order has arguments
+-- the message: it has no arguments
 abbrev pub message_with : DeskCommand → List (List ℕ) → Content
 message_with o others = message (address_with o others) []
 
--- those that an order stands by, too, by the groups of a show file
+-- those that are stood by with a cue, if there is one, by the groups of a show file
 abbrev pub companions_by : Option (List ℕ) → List Group → List (List ℕ)
 companions_by None groups = []
 companions_by (Some c) groups = others_of groups c
 
+-- those that a command stands by, too
 abbrev pub companions_of : List Group → DeskCommand → List (List ℕ)
 companions_of groups o = companions_by (standby_of o) groups
 
@@ -75,7 +77,7 @@ companions_of groups o = companions_by (standby_of o) groups
 abbrev pub reply_of : ℤ → ℤ → ℤ → ℤ → Replied
 reply_of made known refused code = replied.Reply made known refused code
 
--- it is none of these numbers of a reply: each is 0 or more, and not all are 0
+-- these are numbers of a reply: each is 0 or more, and not all are 0
 abbrev pub are_numbers : ℤ → ℤ → ℤ → Bool
 are_numbers made known refused =
     not (int_lt made (pos 0)) && (not (int_lt known (pos 0)) && (not (int_lt refused (pos 0))
@@ -85,15 +87,16 @@ are_numbers made known refused =
 abbrev pub code_by : ℤ → ℤ → ℤ
 code_by refused code = if int_lt (pos 0) refused then code else pos (code_number NoMethod)
 
--- none was carried out; all were
+-- none was carried out
 abbrev pub is_none_made : ℤ → ℤ → Bool
 is_none_made made known = int_eq made (pos 0) && int_eq known (pos 0)
 
+-- all of so many were carried out
 abbrev pub are_all : ℕ → ℤ → ℤ → Bool
 are_all count made known = int_eq (made +ℤ known) (pos count)
 
 -- What the reply to one message for so many cues says, as a reply to one command has it: refused if none was carried
--- out; made, or known, where all were; and where some were and others not, both made and refused.
+-- out; made, or known, if all were; and if some were and others not, both made and refused.
 abbrev pub condensed_by : ℕ → ℤ → ℤ → ℤ → ℤ → Replied
 condensed_by count made known refused code =
     if is_none_made made known then reply_of (pos 0) (pos 0) (pos 1) code

@@ -45,7 +45,7 @@ fn together_address(alloc: Global, cue: CueNo, others: &[CueNo]) -> Result<Vec<u
     under(alloc, b"/cue/", &names, b"standby")
 }
 
-// The cue that an order stands by.
+// The cue that a command stands by.
 fn standby_of(order: &DeskCommand) -> Option<CueNo>
     ensures { result ≡ together.standby_of order.now }
 {
@@ -112,7 +112,7 @@ pub fn datagram_with(
     message(alloc, &address, Vec::new(alloc))
 }
 
-/// Those that an order stands by, too, by the groups of a show file.
+/// Those that a command stands by, too, by the groups of a show file.
 pub fn companions_of(groups: &[Group], order: DeskCommand) -> &[CueNo]
     ensures { result.now ≡ together.companions_of groups.now order }
 {

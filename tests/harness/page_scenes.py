@@ -134,18 +134,20 @@ def keys(page, evening):
     check("and says so", "GO is not lit: no cue is stood by" in page.text("words"))
 
 
-def goes_back(page, evening):
+def goes_back(page, evening, pictures):
     """The way back after a move."""
     goes_to(page, "3")
     goes_to(page, "4")
     check("the way back is offered", page.shows("back", "Back to cue 3"))
+    if pictures:
+        page.picture(pictures / "page-back.png")
     check("it asks once more, and goes back", twice(page, "back", "back", lambda: page.text("standby-cue") == "cue 3"))
     check("and from there is a way back, too", page.shows("back", "Back to cue 4"))
     check("somebody else moves the place", evening.tells("goto", "5"))
     check("then there is none", page.waits_for(lambda: not page.find("back").is_displayed()))
 
 
-def stand_by_together(page, evening):
+def stand_by_together(page, evening, pictures):
     """Cues that stand by together, by one key; and each has its own GO."""
     named = f"cue 10 with {', '.join(TOGETHER)}"
     moved = twice(page, "goto-10", "stack", lambda: page.text("standby-cue") == named)
@@ -155,6 +157,8 @@ def stand_by_together(page, evening):
     check("one key stands them all by", evening.waits_for(lambda view: sum(one["ready"] for one in view["live"]) == 3))
     check("and that is said", page.shows("words", f"standby 10 with {', '.join(TOGETHER)}: made"))
     check("GO is for the first one", is_lit(page, "10"))
+    if pictures:
+        page.picture(pictures / "page-together.png")
     page.click("go")
     check("then for none", page.waits_for(lambda: not page.find("go").is_enabled(), 0.5))
     chooses(page, "8.5")

@@ -18,7 +18,7 @@ use Rattle.cue_keeper.specs.declared.committing.TheConstants.{MAX_RECORDS}
 use Rattle.cue_keeper.specs.Due.{lacks_room, has_room_beside}
 use Rattle.cue_keeper.specs.Groups.{with_events, records_of, is_record, are_records}
 use Rattle.cue_keeper.specs.Laws.{RoomBesideIsRoom, ANewAreaHasRoom}
-use Rattle.cue_keeper.proofs.GroupLemmas.{with_more, with_none}
+use Rattle.cue_keeper.proofs.GroupLemmas.{as_many, with_more, with_none}
 
 -- ---- several together
 
@@ -41,8 +41,8 @@ pub has_room : (count end : ℕ) (payloads : List (List ℕ)) → 1 ≤ length p
     → end + 1 + room_of payloads ≤ MAX_AREA
 has_room count end [] some room = absurd (omega (arith, some))
 has_room count end (payload ∷ payloads) some room =
-    not_long (nat_lt MAX_RECORDS (count + length (payload ∷ payloads))) MAX_AREA (end + 1 + room_of (payload ∷ payloads))
-    room
+    not_long (nat_lt MAX_RECORDS (count + length (payload ∷ payloads))) MAX_AREA
+    (end + 1 + room_of (payload ∷ payloads)) room
   where
     not_long : (many : Bool) (limit long : ℕ) → (many || nat_lt limit long) ≡ false → long ≤ limit
     not_long true limit long is = absurd (true≢false is)
@@ -92,10 +92,6 @@ room_for_one count end payloads payload some short room =
     lacks_none count end all
     (omega (arith, k.0, length-append payloads (payload ∷ [])))
     (omega (arith, k.1, short, one_longer payloads payload))
-
--- as many batches have an event as there are records
-as_many : (batches : List (List Event)) → length (records_of batches) ≡ length (with_events batches)
-as_many batches = length-map (with_events batches) batch_text
 
 pub room_beside : RoomBesideIsRoom
 room_beside count end batches [] room short several =

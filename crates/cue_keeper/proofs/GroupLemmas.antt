@@ -2,7 +2,7 @@
 use Rattle.std.proofs.Common.{◌≡◌, ℕ, ◌+◌, ◌≤◌, true, List, [], ◌∷◌, ◌++◌, length, map, sum_by, nat_le, IsTrue, refl}
 use Rattle.std.proofs.Common.{sym, ◌∙◌, ap, subst, arith, Vec, Global}
 use Rattle.std.proofs.lemmas.Bool.Decides.{nat_tests}
-use Rattle.std.proofs.lemmas.List.{map-append}
+use Rattle.std.proofs.lemmas.List.{map-append, length-map}
 use Rattle.std.proofs.lemmas.List.Sums.{sum_by_push}
 use Rattle.cue_log.specs.declared.area.TheConstants.{MAX_PAYLOAD}
 use Rattle.cue_log.specs.Area.{Area, with_payloads}
@@ -15,6 +15,10 @@ use Rattle.cue_keeper.specs.Groups.{with_events, records_of, are_all_acceptable,
 use Rattle.cue_keeper.specs.Groups.{IsGroup}
 use Rattle.cue_keeper.specs.Stands.{are_in_turn, folded_all, StandsFor}
 use Rattle.cue_keeper.proofs.StandingLemmas.{in_turn, into_turn}
+
+-- as many batches have an event as there are records
+pub as_many : (batches : List (List Event)) → length (records_of batches) ≡ length (with_events batches)
+as_many batches = length-map (with_events batches) batch_text
 
 -- ---- one batch more
 
@@ -107,10 +111,6 @@ pub folded_together : (s : ShowState) (batches : List (List Event))
 folded_together s [] = refl
 folded_together s ([] ∷ batches) = folded_together s batches
 folded_together s ((e ∷ es) ∷ batches) = folded_together (after_events s (e ∷ es)) batches
-
--- of none
-pub folded_none : (s : ShowState) (batches : List (List Event)) → with_events batches ≡ [] → s ≡ folded_all s batches
-folded_none s batches none = sym (ap (folded_all s) none) ∙ folded_together s batches
 
 -- batches that follow others
 in_turn_all : (s : ShowState) (first then : List (List Event)) → IsTrue (are_in_turn s first)

@@ -1,5 +1,5 @@
 -- What an area stands for, and what one batch or one turn-over makes of it.
-use Rattle.std.proofs.Common.{◌≡◌, inl, inr, ℕ, ◌≤◌, Bool, true, false, ◌&&◌, if◌then◌else◌, nat_le, length, arith}
+use Rattle.std.proofs.Common.{◌≡◌, inl, inr, ℕ, ◌≤◌, Bool, true, false, ◌&&◌, nat_le, length, arith}
 use Rattle.std.proofs.Common.{List, [], ◌∷◌, map, Some, IsTrue, refl, sym, ◌∙◌, ap, subst}
 use Rattle.cue_disk.specs.Disk.{Contents}
 use Rattle.cue_log.specs.Area.{Area, fresh}
@@ -25,7 +25,6 @@ use Rattle.cue_records.proofs.TakingLemmas.{bind_some, some_is}
 use Rattle.cue_records.proofs.BatchLemmas as batch_laws
 use Rattle.cue_records.proofs.StateLemmas as state_laws
 use Rattle.cue_keeper.specs.Stands.{are_in_turn, folded_all, StandsFor, StandsEither, StandsAs}
-use Rattle.cue_keeper.specs.Pairs.{PairIsAny}
 use Rattle.cue_keeper.specs.Reading.{batch_in, base_in, state_after_payload, state_after, state_read, state_in}
 use Rattle.cue_keeper.specs.Laws.{ReaderFindsTheState, OneStateOfAPair, StandingIsSymmetric, WhatStandsIsAState}
 
@@ -223,21 +222,10 @@ pub leaves_stands : (one other : Contents) (area : Area) (s : ShowState) → Pai
 leaves_stands one other area s leaves stands x y left_x left_y =
     record { area = area; reads = leaves x y left_x left_y; stands = stands }
 
-pub any_stands : (before new_area after : Area) (s t : ShowState) → StandsFor before s → StandsFor new_area s
-    → StandsFor after t → (x y : List ℕ) → PairIsAny before new_area after x y → StandsEither s t x y
-any_stands before new_area after s t old turned new x y (inl reads) =
-    inl (record { area = before; reads = reads; stands = old })
-any_stands before new_area after s t old turned new x y (inr (inl reads)) =
-    inl (record { area = new_area; reads = reads; stands = turned })
-any_stands before new_area after s t old turned new x y (inr (inr reads)) =
-    inr (record { area = after; reads = reads; stands = new })
-
--- the two disks in their order
-pub stands_in_order : {D : Type 0} (held : D → Contents) (s : ShowState) (was : Bool) (live spare : D)
-    → StandsAs (held live) (held spare) s
-    → StandsAs (held (if was then live else spare)) (held (if was then spare else live)) s
-stands_in_order held s true live spare stands = stands
-stands_in_order held s false live spare stands = λ x y left_x left_y. symmetric y x s (stands y x left_y left_x)
+-- the order of the two does not count
+pub either_swapped : (s t : ShowState) (x y : List ℕ) → StandsEither s t x y → StandsEither s t y x
+either_swapped s t x y (inl stands) = inl (symmetric x y s stands)
+either_swapped s t x y (inr stands) = inr (symmetric x y t stands)
 
 -- ---- what a batch is
 
@@ -248,10 +236,3 @@ is_a_batch s events keeps may some most =
     let one : nat_le 1 (length events) ≡ true = grind (arith, nat_tests) in
     let few : nat_le (length events) MAX_EVENTS ≡ true = grind (arith, nat_tests) in
     rw (one, few) (events_fit s events keeps may)
-
--- a pair, in the order of its disks
-pub leaves_in_order : {D : Type 0} (held : D → Contents) (area : Area) (was : Bool) (live spare : D)
-    → PairLeaves (held live) (held spare) area
-    → PairLeaves (held (if was then live else spare)) (held (if was then spare else live)) area
-leaves_in_order held area true live spare leaves = leaves
-leaves_in_order held area false live spare leaves = λ x y left_x left_y. swapped area y x (leaves y x left_y left_x)

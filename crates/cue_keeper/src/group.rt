@@ -3,7 +3,7 @@ ghost use Rattle.std.specs.Prelude.{◌≡◌, ◌≤◌, ◌+◌, true, [], ◌
 ghost use Rattle.std.specs.Prelude.{IfOk, OnOk, OnErr, IsTrue};
 ghost use Rattle.cue_log.specs.declared.area.TheConstants.{MAX_PAYLOAD};
 ghost use Rattle.cue_records.specs.Batch.{is_batch, batch_text};
-ghost use Rattle.cue_keeper.specs.Groups.{records_of, are_records, batches_view};
+ghost use Rattle.cue_keeper.specs.Groups.{with_events, records_of, are_records, batches_view};
 
 use crate::framing::frame_batch;
 use cue_core::Event;
@@ -85,8 +85,10 @@ impl BatchGroup {
     }
 
     /// What is appended of them.
+    #[tactic(auto, using(crate::proofs::GroupLemmas::as_many))]
     pub(crate) fn records(&self) -> &RecordGroup
         ensures records { result.now ≡ records_of self.now }
+        ensures many { length result.now ≡ length (with_events self.now) }
         ensures each { are_records self.now ≡ true }
     {
         &self.records

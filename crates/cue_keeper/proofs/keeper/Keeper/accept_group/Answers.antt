@@ -1,25 +1,23 @@
-use Rattle.std.proofs.Common.{◌≡◌, refl, sym, ◌∙◌, subst}
-use Rattle.cue_snap.specs.Observed.{live_of, spare_of, is_first_live, live_area_of}
-use Rattle.cue_core.specs.State.{ShowState}
+use Rattle.std.proofs.Common.{refl, sym, ◌∙◌, subst}
+use Rattle.cue_snap.specs.Observed.{live_area_of}
 use Rattle.cue_keeper.specs.Stands.{StandsFor, folded_all}
-use Rattle.cue_keeper.proofs.MovingLemmas.{of_sides}
-use Rattle.cue_keeper.proofs.StandingLemmas.{taken, found, leaves_stands, stands_in_order}
-use Rattle.cue_keeper.proofs.CommittedLemmas.{still_broken, refuses}
+use Rattle.cue_keeper.proofs.AddedLemmas.{kept_after}
+use Rattle.cue_keeper.proofs.StandingLemmas.{found}
+use Rattle.cue_keeper.proofs.CommittedLemmas.{area_stands, stands_as, still_broken, refuses}
 use Rattle.cue_keeper.proofs.keeper.Keeper.accept_group.Goals as goal
 
-pub commit-requires-clause-stands : goal.commit-requires-clause-stands
-commit-requires-clause-stands g c = λ live spare.
-    taken (live_area_of g.D.Disk.held c.args.self.now.snap) c.args.self.now.state
-    (c.args.self.now.stands live spare (sym c.is_broken.ensures.broken ∙ c.if-is_broken.false))
+pub commit-requires-clause-area : goal.commit-requires-clause-area
+commit-requires-clause-area g c = area_stands c.args.self.now (sym c.is_broken.ensures.broken ∙ c.if-is_broken.false)
 
 pub invariant_of-self-2 : goal.invariant_of-self-2
 invariant_of-self-2 g c = record {
   stands = λ live spare works.
-      let now : c.swap.new.y ≡ folded_all c.args.self.now.state c.args.group.now = c.swap.ensures.y_after
-      ∙ c.requires.drafted in
       found (live_area_of g.D.Disk.held c.commit.new.snap) c.swap.new.y
-      (subst (λ (t : ShowState). StandsFor (live_area_of g.D.Disk.held c.commit.new.snap) t) (sym now)
-      (c.in_ok-commit.ensures.stands live spare));
+      (subst (StandsFor (live_area_of g.D.Disk.held c.commit.new.snap)) (sym (c.swap.ensures.y_after
+      ∙ c.requires.drafted))
+      (kept_after c.args.self.now.state c.args.group.now c.args.self.now.snap c.commit.new.snap
+      (area_stands c.args.self.now (sym c.is_broken.ensures.broken ∙ c.if-is_broken.false)) c.commit.ensures.each
+      c.requires.in_turn c.in_ok-commit.ensures.commits live spare));
 }
 
 pub returns-then-is_broken-clause-accepts : goal.returns-then-is_broken-clause-accepts
@@ -37,21 +35,14 @@ returns-in_err-commit-clause-accepts g c =
     c.from_residual.ensures.1 refl c.in_err-commit.ensures.commits
 
 pub returns-clause-accepts : goal.returns-clause-accepts
-returns-clause-accepts g c =
-    let d = g.D.Disk in
-    let old = c.args.self.now in
-    let new = c.commit.new.snap in
-    let area = live_area_of d.held new in
-    let t = folded_all old.state c.args.group.now in
-    let commits = c.in_ok-commit.ensures.commits in
-    record {
-      state = c.swap.ensures.y_after ∙ c.requires.drafted;
-      stands = λ first second.
-          let h = of_sides d.moment d.held d.held_at d.failures d.is_honest (is_first_live new) (live_of new)
-          (spare_of new) (commits.first_honest.1 first) (commits.second_honest.1 second) in
-          stands_in_order d.held t (is_first_live new) (live_of new) (spare_of new)
-          (leaves_stands (d.held (live_of new)) (d.held (spare_of new)) area t
-          (c.is_broken-broken.ensures.reads h.0 h.1 commits.works)
-          (c.in_ok-commit.ensures.stands h.0 h.1));
-      pair = commits;
-    }
+returns-clause-accepts g c = record {
+  state = c.swap.ensures.y_after ∙ c.requires.drafted;
+  stands = λ first second.
+      let commits = c.in_ok-commit.ensures.commits in
+      stands_as (folded_all c.args.self.now.state c.args.group.now) c.commit.new.snap c.is_broken-broken.ensures.reads
+      (kept_after c.args.self.now.state c.args.group.now c.args.self.now.snap c.commit.new.snap
+      (area_stands c.args.self.now (sym c.is_broken.ensures.broken ∙ c.if-is_broken.false)) c.commit.ensures.each
+      c.requires.in_turn commits) commits.works
+      (commits.first_honest.1 first) (commits.second_honest.1 second);
+  pair = c.in_ok-commit.ensures.commits;
+}

@@ -1,9 +1,9 @@
 -- What has room in an area: batches together with one more, and a state with a batch in a new one.
-use Rattle.std.proofs.Common.{◌≡◌, ℕ, ◌+◌, ◌*◌, ◌≤◌, Bool, true, false, ◌||◌, List, [], ◌∷◌, ◌++◌, length, map}
+use Rattle.std.proofs.Common.{◌≡◌, ℕ, ◌+◌, ◌*◌, ◌≤◌, Bool, true, false, ◌||◌, List, [], ◌∷◌, ◌++◌, length, sum_by}
 use Rattle.std.proofs.Common.{nat_le, nat_lt, ◌<◌, IsTrue, true≢false, refl, sym, ◌∙◌, ap, subst, arith, length-append}
 use Rattle.std.proofs.lemmas.Bool.Decides.{nat_tests}
-use Rattle.std.proofs.lemmas.List.{map-append, length-map}
-use Rattle.std.proofs.lemmas.List.Sums.{sum_by_push}
+use Rattle.std.proofs.lemmas.List.{length-map}
+use Rattle.std.proofs.lemmas.List.Sums.{sum_by-append}
 use Rattle.cue_log.specs.declared.area.TheConstants.{MAX_AREA, HEAD_LEN, FRAME_LEN, MAX_PAYLOAD}
 use Rattle.cue_log.specs.Area.{room_of}
 use Rattle.cue_core.specs.declared.event.Event.{Event}
@@ -18,7 +18,7 @@ use Rattle.cue_keeper.specs.declared.committing.TheConstants.{MAX_RECORDS}
 use Rattle.cue_keeper.specs.Due.{lacks_room, has_room_beside}
 use Rattle.cue_keeper.specs.Groups.{with_events, records_of, is_record, are_records}
 use Rattle.cue_keeper.specs.Laws.{RoomBesideIsRoom, ANewAreaHasRoom}
-use Rattle.cue_keeper.proofs.GroupLemmas.{as_many, with_more, with_none}
+use Rattle.cue_keeper.proofs.GroupLemmas.{as_many, records_append}
 
 -- ---- several together
 
@@ -66,49 +66,25 @@ has_beside count end (payload ∷ payloads) some room =
     let k = both (nat_lt many MAX_RECORDS) (nat_le long MAX_AREA) room in
     (below many MAX_RECORDS k.0, within long MAX_AREA k.1)
 
--- they have room themselves
-room_for_these : (count end : ℕ) (payloads : List (List ℕ)) → 1 ≤ length payloads
-    → IsTrue (has_room_beside count end payloads) → lacks_room count end payloads ≡ false
-room_for_these count end payloads some room =
-    let k = has_beside count end payloads some room in
-    lacks_none count end payloads (omega (arith, k.0)) (omega (arith, k.1))
-
--- how long one more makes them
-one_longer : (payloads : List (List ℕ)) (payload : List ℕ)
-    → room_of (payloads ++ payload ∷ []) ≡ room_of payloads + FRAME_LEN + length payload
-one_longer payloads payload = omega (
-  arith,
-  length-append payloads (payload ∷ []),
-  sum_by_push length payloads payload,
-)
-
--- and with one more
-room_for_one : (count end : ℕ) (payloads : List (List ℕ)) (payload : List ℕ) → 1 ≤ length payloads
-    → length payload ≤ MAX_PAYLOAD → IsTrue (has_room_beside count end payloads)
-    → lacks_room count end (payloads ++ payload ∷ []) ≡ false
-room_for_one count end payloads payload some short room =
-    let k = has_beside count end payloads some room in
-    let all : List (List ℕ) = payloads ++ payload ∷ [] in
-    lacks_none count end all
-    (omega (arith, k.0, length-append payloads (payload ∷ [])))
-    (omega (arith, k.1, short, one_longer payloads payload))
+-- one batch is one record at most, and no longer than a payload may be
+one_at_most : (next : List Event) → length (batch_text next) ≤ MAX_PAYLOAD
+    → (length (records_of (next ∷ [])) ≤ 1) × (sum_by length (records_of (next ∷ [])) ≤ MAX_PAYLOAD)
+one_at_most [] short = (omega arith, omega arith)
+one_at_most (e ∷ es) short = (omega arith, omega (arith, short))
 
 pub room_beside : RoomBesideIsRoom
-room_beside count end batches [] room short several =
-    let same : with_events (batches ++ [] ∷ []) ≡ with_events batches = with_none batches [] refl in
-    let some : 1 ≤ length (records_of batches) = omega (arith, several, ap length same, as_many batches) in
-    subst (λ (bs : List (List Event)). lacks_room count end (map batch_text bs) ≡ false) (sym same)
-    (room_for_these count end (records_of batches) some room)
-room_beside count end batches (e ∷ es) room short several =
-    let next : List Event = e ∷ es in
-    let more : with_events (batches ++ next ∷ []) ≡ with_events batches ++ next ∷ [] = with_more batches next
-    (omega arith) in
-    let records : records_of (batches ++ next ∷ []) ≡ records_of batches ++ batch_text next ∷ [] =
-    ap (map batch_text) more ∙ map-append batch_text (with_events batches) (next ∷ []) in
-    let some : 1 ≤ length (records_of batches) =
-    omega (arith, several, ap length more, length-append (with_events batches) (next ∷ []), as_many batches) in
-    subst (λ (rs : List (List ℕ)). lacks_room count end rs ≡ false) (sym records)
-    (room_for_one count end (records_of batches) (batch_text next) some short room)
+room_beside count end batches next room short several =
+    let records : List (List ℕ) = records_of batches in
+    let more : List (List ℕ) = records_of (next ∷ []) in
+    let all : records_of (batches ++ next ∷ []) ≡ records ++ more = records_append batches (next ∷ []) in
+    let last = one_at_most next short in
+    let many = length-append records more in
+    let some : 1 ≤ length records =
+    omega (arith, several, as_many (batches ++ next ∷ []), ap length all, many, last.0) in
+    let k = has_beside count end records some room in
+    subst (λ (rs : List (List ℕ)). lacks_room count end rs ≡ false) (sym all)
+    (lacks_none count end (records ++ more) (omega (arith, k.0, many, last.0))
+    (omega (arith, k.1, many, last.0, last.1, sum_by-append length records more)))
 
 -- ---- a new area
 

@@ -3,7 +3,7 @@ use Rattle.std.proofs.Common.{◌≡◌, ℕ, ◌+◌, ◌≤◌, true, List, []
 use Rattle.std.proofs.Common.{sym, ◌∙◌, ap, subst, arith, Vec, Global}
 use Rattle.std.proofs.lemmas.Bool.Decides.{nat_tests}
 use Rattle.std.proofs.lemmas.List.{map-append, length-map}
-use Rattle.std.proofs.lemmas.List.Sums.{sum_by_push}
+use Rattle.std.proofs.lemmas.List.Sums.{sum_by-append}
 use Rattle.cue_log.specs.declared.area.TheConstants.{MAX_PAYLOAD}
 use Rattle.cue_log.specs.Area.{Area, with_payloads}
 use Rattle.cue_core.specs.declared.event.Event.{Event}
@@ -20,23 +20,29 @@ use Rattle.cue_keeper.proofs.StandingLemmas.{in_turn, into_turn}
 pub as_many : (batches : List (List Event)) → length (records_of batches) ≡ length (with_events batches)
 as_many batches = length-map (with_events batches) batch_text
 
+-- ---- batches after others
+
+with_append : (batches more : List (List Event))
+    → with_events (batches ++ more) ≡ with_events batches ++ with_events more
+with_append [] more = refl
+with_append ([] ∷ batches) more = with_append batches more
+with_append ((e ∷ es) ∷ batches) more =
+    ap (λ (rest : List (List Event)). (e ∷ es) ∷ rest) (with_append batches more)
+
+pub records_append : (batches more : List (List Event))
+    → records_of (batches ++ more) ≡ records_of batches ++ records_of more
+records_append batches more = ap (map batch_text) (with_append batches more)
+    ∙ map-append batch_text (with_events batches) (with_events more)
+
+each_append : (batches more : List (List Event)) → are_records batches ≡ true → are_records more ≡ true
+    → are_records (batches ++ more) ≡ true
+each_append [] more each then = then
+each_append ([] ∷ batches) more each then = each_append batches more each then
+each_append ((e ∷ es) ∷ batches) more each then =
+    let k = both (is_record (e ∷ es)) (are_records batches) each in
+    join (is_record (e ∷ es)) (are_records (batches ++ more)) k.0 (each_append batches more k.1 then)
+
 -- ---- one batch more
-
-pub with_more : (batches : List (List Event)) (batch : List Event) → 1 ≤ length batch
-    → with_events (batches ++ batch ∷ []) ≡ with_events batches ++ batch ∷ []
-with_more [] [] some = absurd (omega (arith, some))
-with_more [] (e ∷ es) some = refl
-with_more ([] ∷ batches) batch some = with_more batches batch some
-with_more ((f ∷ fs) ∷ batches) batch some =
-    ap (λ (rest : List (List Event)). (f ∷ fs) ∷ rest) (with_more batches batch some)
-
-pub with_none : (batches : List (List Event)) (batch : List Event) → length batch ≡ 0
-    → with_events (batches ++ batch ∷ []) ≡ with_events batches
-with_none [] [] none = refl
-with_none [] (e ∷ es) none = absurd (omega (arith, none))
-with_none ([] ∷ batches) batch none = with_none batches batch none
-with_none ((f ∷ fs) ∷ batches) batch none =
-    ap (λ (rest : List (List Event)). (f ∷ fs) ∷ rest) (with_none batches batch none)
 
 -- a group of one has a batch with an event where that has one
 pub one_has : (batch : List Event) → length (with_events (batch ∷ [])) ≡ 1 → 1 ≤ length batch
@@ -47,43 +53,26 @@ pub has_one : (batch : List Event) → 1 ≤ length batch → length (with_event
 has_one [] some = absurd (omega (arith, some))
 has_one (e ∷ es) some = refl
 
-each_more : (batches : List (List Event)) (batch : List Event) → are_records batches ≡ true
-    → (1 ≤ length batch → IsTrue (is_record batch)) → are_records (batches ++ batch ∷ []) ≡ true
-each_more [] [] each one = refl
-each_more [] (e ∷ es) each one = join (is_record (e ∷ es)) true (one (omega arith)) refl
-each_more ([] ∷ batches) batch each one = each_more batches batch each one
-each_more ((f ∷ fs) ∷ batches) batch each one =
-    let k = both (is_record (f ∷ fs)) (are_records batches) each in
-    join (is_record (f ∷ fs)) (are_records (batches ++ batch ∷ [])) k.0 (each_more batches batch k.1 one)
+-- a record holds it if it has an event
+each_one : (batch : List Event) → (1 ≤ length batch → IsTrue (is_batch batch))
+    → length (batch_text batch) ≤ MAX_PAYLOAD → are_records (batch ∷ []) ≡ true
+each_one [] is short = refl
+each_one (e ∷ es) is short =
+    let few : nat_le (length (batch_text (e ∷ es))) MAX_PAYLOAD ≡ true = grind (arith, nat_tests) in
+    rw (is (omega arith), few) refl
 
-fits : (batch : List Event) → IsTrue (is_batch batch) → length (batch_text batch) ≤ MAX_PAYLOAD
-    → IsTrue (is_record batch)
-fits batch is short =
-    let few : nat_le (length (batch_text batch)) MAX_PAYLOAD ≡ true = grind (arith, nat_tests) in
-    join (is_batch batch) (nat_le (length (batch_text batch)) MAX_PAYLOAD) is few
-
--- a batch with an event is framed
+-- it is framed after the others
 pub grown : (batches : List (List Event)) (batch : List Event) (records new_records : List (List ℕ))
-    (bytes new_bytes : ℕ) → IsGroup batches records bytes → IsTrue (is_batch batch)
-    → length (batch_text batch) ≤ MAX_PAYLOAD → 1 ≤ length batch
-    → new_records ≡ records ++ batch_text batch ∷ [] → new_bytes ≡ bytes + length (batch_text batch)
+    (bytes new_bytes : ℕ) → IsGroup batches records bytes → (1 ≤ length batch → IsTrue (is_batch batch))
+    → length (batch_text batch) ≤ MAX_PAYLOAD
+    → new_records ≡ records ++ records_of (batch ∷ []) → new_bytes ≡ bytes + sum_by length (records_of (batch ∷ []))
     → IsGroup (batches ++ batch ∷ []) new_records new_bytes
-grown batches batch records new_records bytes new_bytes group is short some framed long = record {
-  each = each_more batches batch group.each (λ _. fits batch is short);
-  framed = framed ∙ ap (λ (rs : List (List ℕ)). rs ++ batch_text batch ∷ []) group.framed
-      ∙ sym (ap (map batch_text) (with_more batches batch some)
-      ∙ map-append batch_text (with_events batches) (batch ∷ []));
-  long = long ∙ ap (λ (n : ℕ). n + length (batch_text batch)) group.long
-      ∙ sym (ap (sum_by length) framed ∙ sum_by_push length records (batch_text batch));
-}
-
--- one without an event is not
-pub not_grown : (batches : List (List Event)) (batch : List Event) (records : List (List ℕ)) (bytes : ℕ)
-    → IsGroup batches records bytes → length batch ≡ 0 → IsGroup (batches ++ batch ∷ []) records bytes
-not_grown batches batch records bytes group none = record {
-  each = each_more batches batch group.each (λ some. absurd (omega (arith, none, some)));
-  framed = group.framed ∙ sym (ap (map batch_text) (with_none batches batch none));
-  long = group.long;
+grown batches batch records new_records bytes new_bytes group is short framed long = record {
+  each = each_append batches (batch ∷ []) group.each (each_one batch is short);
+  framed = framed ∙ ap (λ (rs : List (List ℕ)). rs ++ records_of (batch ∷ [])) group.framed
+      ∙ sym (records_append batches (batch ∷ []));
+  long = long ∙ ap (λ (n : ℕ). n + sum_by length (records_of (batch ∷ []))) group.long
+      ∙ sym (ap (sum_by length) framed ∙ sum_by-append length records (records_of (batch ∷ [])));
 }
 
 -- as the code keeps them

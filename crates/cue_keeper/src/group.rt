@@ -57,9 +57,7 @@ impl BatchGroup {
         ensures err { OnErr result (self.new ≡ self.old) }
     {
         self.batches.reserve(1)?;
-        if !batch.is_empty() {
-            self.bytes = add_framed(self.alloc, &mut self.records, self.bytes, batch.as_slice())?;
-        }
+        self.bytes = add_framed(self.alloc, &mut self.records, self.bytes, batch.as_slice())?;
         self.batches.push_reserved(batch);
         Ok(())
     }
@@ -102,19 +100,22 @@ impl BatchGroup {
     }
 }
 
-// Frames a batch after the records, and answers how long their payloads are together then.
+// Frames a batch after the records if it has an event, and answers how long their payloads are together then.
 fn add_framed(
     alloc: Global,
     records: &mut RecordGroup,
     bytes: u64,
     batch: &[Event],
 ) -> Result<u64, AllocError>
-    requires batch { IsTrue (is_batch batch.now) }
+    requires batch { 1 ≤ length batch.now → IsTrue (is_batch batch.now) }
     requires short { length (batch_text batch.now) ≤ MAX_PAYLOAD }
-    ensures ok { OnOk result (records.new ≡ records.old ++ batch_text batch.now ∷ []) }
-    ensures bytes { IfOk result (λ all. all ≡ bytes + length (batch_text batch.now)) }
+    ensures ok { OnOk result (records.new ≡ records.old ++ records_of (batch.now ∷ [])) }
+    ensures bytes { IfOk result (λ all. all ≡ bytes + sum_by length (records_of (batch.now ∷ []))) }
     ensures err { OnErr result (records.new ≡ records.old) }
 {
+    if batch.is_empty() {
+        return Ok(bytes);
+    }
     let added = frame_batch(alloc, batch)?;
     let Some(all) = bytes.checked_add(added.payload().len() as u64) else {
         return Err(AllocError);

@@ -1,9 +1,8 @@
 -- What has room in an area: batches together with one more, and a state with a batch in a new one.
-use Rattle.std.proofs.Common.{◌≡◌, ℕ, ◌+◌, ◌*◌, ◌≤◌, Bool, true, false, ◌||◌, List, [], ◌∷◌, ◌++◌, length, sum_by}
-use Rattle.std.proofs.Common.{nat_le, nat_lt, ◌<◌, IsTrue, true≢false, refl, sym, ◌∙◌, ap, subst, arith, length-append}
+use Rattle.std.proofs.Common.{◌≡◌, ℕ, ◌+◌, ◌*◌, ◌≤◌, true, false, ◌||◌, List, [], ◌∷◌, ◌++◌, length, sum_by}
+use Rattle.std.proofs.Common.{nat_le, nat_lt, IsTrue, refl, sym, ap, subst, arith, length-append}
 use Rattle.std.proofs.lemmas.Bool.Decides.{nat_tests}
-use Rattle.std.proofs.lemmas.List.{length-map}
-use Rattle.std.proofs.lemmas.List.Sums.{sum_by-append}
+use Rattle.std.proofs.lemmas.List.Sums.{sum_by-append, sum_by-cons}
 use Rattle.cue_log.specs.declared.area.TheConstants.{MAX_AREA, HEAD_LEN, FRAME_LEN, MAX_PAYLOAD}
 use Rattle.cue_log.specs.Area.{room_of}
 use Rattle.cue_core.specs.declared.event.Event.{Event}
@@ -11,7 +10,6 @@ use Rattle.cue_core.specs.State.{ShowState, is_state}
 use Rattle.cue_core.proofs.lists.ConditionLemmas.{both}
 use Rattle.cue_records.specs.Batch.{is_batch, batch_text}
 use Rattle.cue_records.specs.State.{state_text}
-use Rattle.cue_records.specs.declared.limits.TheConstants.{MAX_STATE_BYTES}
 use Rattle.cue_records.proofs.LongestLemmas.{state_short}
 use Rattle.cue_records.proofs.StateLemmas.{written}
 use Rattle.cue_keeper.specs.declared.committing.TheConstants.{MAX_RECORDS}
@@ -35,18 +33,6 @@ lacks_none : (count end : ℕ) (payloads : List (List ℕ)) → count + length p
 lacks_none count end [] few short = refl
 lacks_none count end (payload ∷ payloads) few short = no_lack MAX_RECORDS MAX_AREA (count + length (payload ∷ payloads))
     (end + 1 + room_of (payload ∷ payloads)) few short
-
--- what records that do not lack room come to
-pub has_room : (count end : ℕ) (payloads : List (List ℕ)) → 1 ≤ length payloads → lacks_room count end payloads ≡ false
-    → end + 1 + room_of payloads ≤ MAX_AREA
-has_room count end [] some room = absurd (omega (arith, some))
-has_room count end (payload ∷ payloads) some room =
-    not_long (nat_lt MAX_RECORDS (count + length (payload ∷ payloads))) MAX_AREA
-    (end + 1 + room_of (payload ∷ payloads)) room
-  where
-    not_long : (many : Bool) (limit long : ℕ) → (many || nat_lt limit long) ≡ false → long ≤ limit
-    not_long true limit long is = absurd (true≢false is)
-    not_long false limit long is = Prim.grind (arith, nat_tests, is)
 
 below : (m n : ℕ) → nat_lt m n ≡ true → m + 1 ≤ n
 below m n is = Prim.grind (arith, nat_tests, is)
@@ -88,58 +74,28 @@ room_beside count end batches next room short several =
 
 -- ---- a new area
 
--- for the longest encodings of a state and of a batch
-longest_fit : HEAD_LEN + FRAME_LEN + 1 + MAX_STATE_BYTES + MAX_PAYLOAD ≤ MAX_AREA
-longest_fit = omega arith
-
-no_longer : (around text batch most_text most_batch limit : ℕ) → around + most_text + most_batch ≤ limit
-    → text ≤ most_text → batch ≤ most_batch → around + text + batch ≤ limit
-no_longer around text batch most_text most_batch limit fit few short = omega (arith, fit, few, short)
-
-pub fits_anew : (s : ShowState) (batch : List Event) → IsTrue (is_state s) → length (batch_text batch) ≤ MAX_PAYLOAD
-    → HEAD_LEN + FRAME_LEN + 1 + length (state_text s) + length (batch_text batch) ≤ MAX_AREA
-fits_anew s batch rules short = no_longer (HEAD_LEN + FRAME_LEN + 1) (length (state_text s)) (length (batch_text batch))
-    MAX_STATE_BYTES MAX_PAYLOAD MAX_AREA longest_fit (state_short (state_text s) s rules (written s)) short
-
--- the same of batches of which one has an event
-one_record : (batches : List (List Event)) (around text limit : ℕ) → are_records batches ≡ true
-    → length (with_events batches) ≡ 1
-    → ((batch : List Event) → length (batch_text batch) ≤ MAX_PAYLOAD
-    → around + FRAME_LEN + 1 + text + length (batch_text batch) ≤ limit)
-    → around + 1 + text + room_of (records_of batches) ≤ limit
-one_record [] around text limit each one fit = absurd (omega (arith, one))
-one_record ([] ∷ batches) around text limit each one fit = one_record batches around text limit each one fit
-one_record ((e ∷ es) ∷ batches) around text limit each one fit =
+-- no record is longer than a payload may be
+each_short : (batches : List (List Event)) → are_records batches ≡ true
+    → sum_by length (records_of batches) ≤ MAX_PAYLOAD * length (with_events batches)
+each_short [] each = omega arith
+each_short ([] ∷ batches) each = each_short batches each
+each_short ((e ∷ es) ∷ batches) each =
+    let text : List ℕ = batch_text (e ∷ es) in
     let k = both (is_record (e ∷ es)) (are_records batches) each in
-    let l = both (is_batch (e ∷ es)) (nat_le (length (batch_text (e ∷ es))) MAX_PAYLOAD) k.0 in
-    let short : length (batch_text (e ∷ es)) ≤ MAX_PAYLOAD = of_test (length (batch_text (e ∷ es))) MAX_PAYLOAD l.1 in
-    let none : length (with_events batches) ≡ 0 = omega (arith, one) in
-    let records : records_of batches ≡ [] = no_more (records_of batches)
-    (length-map (with_events batches) batch_text ∙ none) in
-    subst (λ (rs : List (List ℕ)). around + 1 + text + room_of (batch_text (e ∷ es) ∷ rs) ≤ limit) (sym records)
-    (fits_room around text (length (batch_text (e ∷ es))) limit (fit (e ∷ es) short))
-  where
-    of_test : (n limit : ℕ) → nat_le n limit ≡ true → n ≤ limit
-    of_test n limit test = grind (arith, nat_tests)
+    let l = both (is_batch (e ∷ es)) (nat_le (length text) MAX_PAYLOAD) k.0 in
+    omega (
+      arith,
+      sum_by-cons length text (records_of batches),
+      within (length text) MAX_PAYLOAD l.1,
+      each_short batches k.1,
+    )
 
-    no_more : (ps : List (List ℕ)) → length ps ≡ 0 → ps ≡ []
-    no_more [] is = refl
-    no_more (p ∷ ps) is = absurd (omega (arith, is))
-
-    fits_room : (around text len limit : ℕ) → around + FRAME_LEN + 1 + text + len ≤ limit
-        → around + 1 + text + (FRAME_LEN * 1 + (0 + len)) ≤ limit
-    fits_room around text len limit fit = omega (arith, fit)
-
+-- so the one record of these batches fits beside the longest state
 pub fits_group : (s : ShowState) (batches : List (List Event)) → IsTrue (is_state s) → are_records batches ≡ true
     → length (with_events batches) ≡ 1
     → HEAD_LEN + 1 + length (state_text s) + room_of (records_of batches) ≤ MAX_AREA
-fits_group s batches rules each one = one_record batches HEAD_LEN (length (state_text s)) MAX_AREA each one
-    (λ batch short. fits_anew s batch rules short)
+fits_group s batches rules each one =
+    omega (arith, state_short (state_text s) s rules (written s), each_short batches each, as_many batches, one)
 
 pub new_area : ANewAreaHasRoom
-new_area s batch rules short over =
-    not_both (HEAD_LEN + FRAME_LEN + 1 + length (state_text s) + length (batch_text batch)) MAX_AREA
-    (fits_anew s batch rules short) over
-  where
-    not_both : (n limit : ℕ) → n ≤ limit → limit < n → ⊥
-    not_both n limit a b = omega (arith, a, b)
+new_area s batch rules short over = omega (arith, state_short (state_text s) s rules (written s), short, over)

@@ -1,11 +1,8 @@
 -- What stands for a state is not refused, and is opened with that state alone.
-use Rattle.std.specs.Prelude.{◌↔◌}
-use Rattle.std.proofs.Common.{◌≡◌, ℕ, List, Bool, true, false, Err, IsTrue, IsErrOf, refl, sym, ◌∙◌, ap, subst}
+use Rattle.std.proofs.Common.{◌≡◌, ℕ, List, false, sym, ◌∙◌, ap, subst}
 use Rattle.cue_log.specs.Area.{Area}
 use Rattle.cue_snap.proofs.ReaderLemmas.{one_of_a_pair, good_pair}
 use Rattle.cue_core.specs.State.{ShowState}
-use Rattle.cue_records.specs.declared.fault.StateFault.{StateFault}
-use Rattle.cue_records.specs.declared.fault.StateFault.TheVariants as fault
 use Rattle.cue_records.specs.declared.parts_form.PartsForm.{PartsForm}
 use Rattle.cue_records.specs.declared.parts_form.PartsForm.TheVariants.{Plain, Flagged}
 use Rattle.cue_records.specs.State.{IsStateText, text_in, is_other_version}
@@ -20,12 +17,6 @@ own_version bytes s text = by text.form text.is
     by : (form : PartsForm) → bytes ≡ text_in form s → is_other_version bytes ≡ false
     by Plain is = ap is_other_version is
     by Flagged is = ap is_other_version is
-
--- what is malformed is of no other version
-pub other_than : {T U : Type 0} (f : StateFault) (other : Bool) → IsErrOf {T = T} (Err f) fault.Malformed
-    → (IsErrOf {T = U} (Err f) fault.Version ↔ IsTrue other) → other ≡ false
-other_than f true is answered = let version : IsErrOf (Err f) fault.Version = answered.1 refl in cc
-other_than f false is answered = refl
 
 pub is_opened : WhatStandsIsOpened
 is_opened x y s stands =

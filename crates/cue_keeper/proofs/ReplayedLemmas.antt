@@ -1,5 +1,5 @@
 -- What reading finds, payload after payload, as a loop takes them.
-use Rattle.std.proofs.Common.{◌≡◌, ℕ, false, List, [], ◌∷◌, Option, None, Some, Result, Ok, Err, IsTrue, OnOk, IsErrOf}
+use Rattle.std.proofs.Common.{◌≡◌, ℕ, false, List, Option, None, Some, Result, Ok, Err, IsTrue, OnOk}
 use Rattle.std.proofs.Common.{refl, sym, ◌∙◌, ap}
 use Rattle.cue_core.specs.declared.event.Event.{Event}
 use Rattle.cue_core.specs.State.{ShowState, is_state}
@@ -15,14 +15,6 @@ use Rattle.cue_keeper.proofs.StandingLemmas.{taken, found, where_true, batch_aga
 pub on_ok : {T E A B : Type 0} (r : Result T E) → (A → B) → OnOk r A → OnOk r B
 on_ok (Ok x) from has = from has
 on_ok (Err e) from has = has
-
--- the fault of a result
-pub same_error : {T E : Type 0} {e f : E} → IsErrOf {T = T} (Err e) f → e ≡ f
-same_error is = cc
-
--- one fault, of two calls that answer different values
-pub same_fault : {S T E : Type 0} (e f : E) → IsErrOf {T = S} (Err e) f → IsErrOf {T = T} (Err e) f
-same_fault e f is = let same : e ≡ f = cc in ap Err same
 
 -- ---- one payload
 
@@ -41,31 +33,16 @@ pub behind_refused : (s : ShowState) (payload : List ℕ) (batch : List Event) �
     × (payload ≡ batch_text batch) → are_acceptable s batch ≡ false → state_after_payload s payload ≡ None
 behind_refused s payload batch is may = rw (is_in payload batch is, may) refl
 
+-- where nothing is found nothing comes of it
+bind_none : {A B : Type 0} (found : Option A) (next : A → Option B) → ((x : A) → found ≡ Some x → ⊥)
+    → (found >>= next) ≡ None
+bind_none None next none = refl
+bind_none (Some x) next none = absurd (none x refl)
+
 pub behind_no_batch : (s : ShowState) (payload : List ℕ) → IsNoBatch payload → state_after_payload s payload ≡ None
-behind_no_batch s payload none = by (batch_in payload) refl
-  where
-    by : (o : Option (List Event)) → batch_in payload ≡ o
-        → (o >>= λ batch. where_it (are_acceptable s batch) (after_events s batch)) ≡ None
-    by None e = refl
-    by (Some batch) e =
-        let is = batch_takes payload batch e in
-        absurd (none batch is.0 is.1)
-
--- ---- all payloads
-
-pub after_next : (s t : ShowState) (payload : List ℕ) (payloads others : List (List ℕ)) → payloads ≡ payload ∷ others
-    → state_after_payload s payload ≡ Some t → state_after s payloads ≡ state_after t others
-unfolding state_after
-after_next s t payload payloads others is one = ap (state_after s) is ∙ rw one refl
-
-pub after_refused : (s : ShowState) (payload : List ℕ) (payloads others : List (List ℕ)) → payloads ≡ payload ∷ others
-    → state_after_payload s payload ≡ None → state_after s payloads ≡ None
-unfolding state_after
-after_refused s payload payloads others is none = ap (state_after s) is ∙ rw none refl
-
-pub after_all : (s : ShowState) (payloads : List (List ℕ)) → payloads ≡ [] → state_after s payloads ≡ Some s
-unfolding state_after
-after_all s payloads is = ap (state_after s) is
+behind_no_batch s payload none =
+    bind_none (batch_in payload) (λ batch. where_it (are_acceptable s batch) (after_events s batch))
+    (λ batch e. let is = batch_takes payload batch e in none batch is.0 is.1)
 
 -- ---- a snapshot and payloads
 
@@ -79,13 +56,8 @@ read_on snapshot payloads base is =
 pub read_none : (snapshot : List ℕ) (payloads : List (List ℕ)) → IsNoState snapshot
     → state_read snapshot payloads ≡ None
 unfolding state_read
-read_none snapshot payloads none = by (base_in snapshot) refl
-  where
-    by : (o : Option ShowState) → base_in snapshot ≡ o → (o >>= λ base. state_after base payloads) ≡ None
-    by None e = refl
-    by (Some base) e =
-        let is = base_takes snapshot base e in
-        absurd (none base is.0 is.1)
+read_none snapshot payloads none = bind_none (base_in snapshot) (λ base. state_after base payloads)
+    (λ base e. let is = base_takes snapshot base e in none base is.0 is.1)
 
 -- what was read is what the area stands for
 pub read_stands : (area : Area) (snapshot : List ℕ) (payloads : List (List ℕ)) (s : ShowState)

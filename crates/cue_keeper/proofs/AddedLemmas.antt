@@ -122,7 +122,7 @@ module _ {D : Type 0} {disk : Ghosts D} where
         (moves_beside appends) not_none (λ f is. absurd (room_way old batches room f is)) tt tt appends.works
         appends.generation (omega (arith, appends.count, as_many batches))
         (λ first second. appends.area (of_sides old first second).0)
-    beside (Err f) new room appends only = subst (λ (g : Fault). Commits s batches (Some g) old new) (sym only)
+    beside (Err f) new room appends only = rw only
         (commits s batches (Some fault.Disk) old new false room works (moves_beside appends) not_none
         (λ f is. absurd (room_way old batches room f is))
         (in_order old new (SomeFailed disk) (either_failed disk) appends.sides (inl appends.cause.1)) appends.after.0
@@ -165,8 +165,7 @@ module _ {D : Type 0} {disk : Ghosts D} where
             (moves_of disk P now image
             (writes_then disk P (turns s t over works stands anew)
             (subst (λ (rest : D). Writes disk P rest (live_of mid) (live_of new)) turned.swapped
-            (adds s t appends turned.works (λ live _. subst (λ (area : Area). StandsFor area s)
-            (sym (over.area (over.spare.honest.0 live))) anew) grown)))))
+            (adds s t appends turned.works (λ live _. rw (over.area (over.spare.honest.0 live)) anew) grown)))))
 
         pub after_turn : {U : Type 0} (result : Result U Fault) (new : Snap D disk)
             → Appends (records_of batches) (as_appended result) mid new → IfErr result (λ f. f ≡ fault.Disk)
@@ -179,7 +178,7 @@ module _ {D : Type 0} {disk : Ghosts D} where
             let spare = (of_sides old first second).1 in
             appends.area (over.spare.honest.1 spare)
             ∙ ap (λ (area : Area). with_payloads area (records_of batches)) (over.area spare))
-        after_turn (Err f) new appends only = subst (λ (g : Fault). Commits s batches (Some g) old new) (sym only)
+        after_turn (Err f) new appends only = rw only
             (commits s batches (Some fault.Disk) old new true lacks works
             (moves_anew appends) not_none (λ f is. absurd (left_way (λ last. cc (over.exhausted works last)) f is))
             (in_turned_order old new (SomeFailed disk) (either_failed disk) (appends.sides ∙ over.turned.sides)
@@ -199,7 +198,7 @@ kept_after {disk = disk} s batches old new stands each may commits live spare =
     let second = commits.second_honest.0 now.1 in
     let was = of_sides old first second in
     let before = stands was.0 was.1 in
-    subst (λ (area : Area). StandsFor area (folded_all s batches)) (sym (commits.area first second))
+    rw (commits.area first second)
     (area_all (area_for disk.held s old batches) s batches (records_of batches)
     (by (lack_room old batches) before) each may refl)
   where

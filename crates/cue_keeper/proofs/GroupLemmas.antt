@@ -83,7 +83,7 @@ view_more batches batch = map-append (λ (b : Vec Event Global). b.items) batche
 -- ---- what they come to
 
 -- those with an event come in turn
-pub in_turn_together : (s : ShowState) (batches : List (List Event)) → are_records batches ≡ true
+in_turn_together : (s : ShowState) (batches : List (List Event)) → are_records batches ≡ true
     → IsTrue (are_all_acceptable s batches) → IsTrue (are_in_turn s (with_events batches))
 in_turn_together s [] each may = refl
 in_turn_together s ([] ∷ batches) each may = in_turn_together s batches each may
@@ -95,7 +95,7 @@ in_turn_together s ((e ∷ es) ∷ batches) each may =
     (record { is_one = one.0; acceptable = l.0; rest = in_turn_together (after_events s (e ∷ es)) batches k.1 l.1 })
 
 -- and change what all of them change
-pub folded_together : (s : ShowState) (batches : List (List Event))
+folded_together : (s : ShowState) (batches : List (List Event))
     → folded_all s (with_events batches) ≡ folded_all s batches
 folded_together s [] = refl
 folded_together s ([] ∷ batches) = folded_together s batches

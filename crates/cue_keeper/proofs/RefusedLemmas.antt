@@ -11,7 +11,7 @@ use Rattle.cue_keeper.specs.Laws.{WhatStandsIsOpened, WhatIsClosedIsOpened}
 use Rattle.cue_keeper.proofs.StandingLemmas.{one_state}
 
 -- a text of a state begins with this version or with the older one
-pub own_version : (bytes : List ℕ) (s : ShowState) → IsStateText bytes s → is_other_version bytes ≡ false
+own_version : (bytes : List ℕ) (s : ShowState) → IsStateText bytes s → is_other_version bytes ≡ false
 own_version bytes s text = by text.form text.is
   where
     by : (form : PartsForm) → bytes ≡ text_in form s → is_other_version bytes ≡ false

@@ -7,10 +7,8 @@ use Rattle.cue_core.specs.Steps.{are_acceptable, after_events}
 use Rattle.cue_records.specs.Batch.{is_batch, batch_text, IsNoBatch}
 use Rattle.cue_records.specs.Reading.{◌>>=◌, where_it}
 use Rattle.cue_records.specs.State.{IsStateText, IsNoState}
-use Rattle.cue_log.specs.Area.{Area}
-use Rattle.cue_keeper.specs.Stands.{StandsFor}
-use Rattle.cue_keeper.specs.Reading.{batch_in, base_in, state_after_payload, state_after, state_read, state_in}
-use Rattle.cue_keeper.proofs.StandingLemmas.{taken, found, where_true, batch_again, base_again, batch_takes, base_takes}
+use Rattle.cue_keeper.specs.Reading.{batch_in, base_in, state_after_payload, state_after, state_read}
+use Rattle.cue_keeper.proofs.StandingLemmas.{where_true, batch_again, base_again, batch_takes, base_takes}
 
 pub on_ok : {T E A B : Type 0} (r : Result T E) → (A → B) → OnOk r A → OnOk r B
 on_ok (Ok x) from has = from has
@@ -19,7 +17,7 @@ on_ok (Err e) from has = has
 -- ---- one payload
 
 -- the batch whose text it is
-pub is_in : (payload : List ℕ) (batch : List Event) → IsTrue (is_batch batch) × (payload ≡ batch_text batch)
+is_in : (payload : List ℕ) (batch : List Event) → IsTrue (is_batch batch) × (payload ≡ batch_text batch)
     → batch_in payload ≡ Some batch
 is_in payload batch is = ap batch_in is.1 ∙ batch_again batch is.0
 
@@ -58,18 +56,3 @@ pub read_none : (snapshot : List ℕ) (payloads : List (List ℕ)) → IsNoState
 unfolding state_read
 read_none snapshot payloads none = bind_none (base_in snapshot) (λ base. state_after base payloads)
     (λ base e. let is = base_takes snapshot base e in none base is.0 is.1)
-
--- what was read is what the area stands for
-pub read_stands : (area : Area) (snapshot : List ℕ) (payloads : List (List ℕ)) (s : ShowState)
-    → snapshot ≡ area.snapshot → payloads ≡ area.payloads → state_read snapshot payloads ≡ Some s → StandsFor area s
-read_stands area snapshot payloads s one other read = taken area s (ap (λ x. state_read x area.payloads) (sym one)
-    ∙ ap (state_read snapshot) (sym other) ∙ read)
-
--- and where nothing was read it stands for none
-pub none_stands : (area : Area) (snapshot : List ℕ) (payloads : List (List ℕ)) → snapshot ≡ area.snapshot
-    → payloads ≡ area.payloads → state_read snapshot payloads ≡ None → (s : ShowState) → StandsFor area s → ⊥
-none_stands area snapshot payloads one other read s stands =
-    let none : state_in area ≡ None = ap (λ x. state_read x area.payloads) (sym one)
-    ∙ ap (state_read snapshot) (sym other) ∙ read in
-    let some : state_in area ≡ Some s = found area s stands in
-    absurd cc

@@ -30,7 +30,7 @@ use Rattle.cue_keeper.specs.Laws.{ReaderFindsTheState, OneStateOfAPair, Standing
 
 -- ---- the rules are kept
 
-pub folded_keeps : (s : ShowState) (events : List Event) → IsTrue (is_state s) → IsTrue (are_acceptable s events)
+folded_keeps : (s : ShowState) (events : List Event) → IsTrue (is_state s) → IsTrue (are_acceptable s events)
     → IsTrue (is_state (after_events s events))
 folded_keeps s [] h g = h
 folded_keeps s (e ∷ es) h g =

@@ -1,6 +1,6 @@
-use Rattle.std.proofs.Common.{refl, sym, ◌∙◌, subst}
+use Rattle.std.proofs.Common.{refl, sym, ◌∙◌}
 use Rattle.cue_snap.specs.Observed.{live_area_of}
-use Rattle.cue_keeper.specs.Stands.{StandsFor, folded_all}
+use Rattle.cue_keeper.specs.Stands.{folded_all}
 use Rattle.cue_keeper.proofs.AddedLemmas.{kept_after}
 use Rattle.cue_keeper.proofs.StandingLemmas.{found}
 use Rattle.cue_keeper.proofs.CommittedLemmas.{area_stands, stands_as, still_broken, refuses}
@@ -13,8 +13,7 @@ pub invariant_of-self-2 : goal.invariant_of-self-2
 invariant_of-self-2 g c = record {
   stands = λ live spare works.
       found (live_area_of g.D.Disk.held c.commit.new.snap) c.swap.new.y
-      (subst (StandsFor (live_area_of g.D.Disk.held c.commit.new.snap)) (sym (c.swap.ensures.y_after
-      ∙ c.requires.drafted))
+      (rw (c.swap.ensures.y_after, c.requires.drafted)
       (kept_after c.args.self.now.state c.args.group.now c.args.self.now.snap c.commit.new.snap
       (area_stands c.args.self.now (sym c.is_broken.ensures.broken ∙ c.if-is_broken.false)) c.commit.ensures.each
       c.requires.in_turn c.in_ok-commit.ensures.commits live spare));

@@ -32,10 +32,11 @@ use Rattle.cue_keeper.proofs.MovingLemmas.{Writes, Moves, writes_then, moves_of,
 use Rattle.cue_keeper.proofs.MovingLemmas.{in_turned_order, in_sides}
 use Rattle.cue_keeper.proofs.StandingLemmas.{either_stands, either_swapped, fresh_stands, state_kept}
 
--- a device that fails later has failed
+-- a device that failed later has failed
 fails_then : (old mid new : ℕ) → old ≤ mid → MoreFailures mid new → MoreFailures old new
 fails_then old mid new first more = omega (arith, first, more)
 
+-- which of the two comes first does not count
 either_failed : {D : Type 0} (disk : Ghosts D) (a b new_a new_b : D) → SomeFailed disk a b new_a new_b
     → SomeFailed disk b a new_b new_a
 either_failed disk a b new_a new_b (inl failed) = inr failed
@@ -78,12 +79,6 @@ module _ {D : Type 0} {disk : Ghosts D} where
       before x y (inl is) = inl is
       before x y (inr is) = inl is
 
-  -- the snapshot is the state as it is written, and the records are the batches
-  pub as_text : {T : Type 0} {text : List ℕ} {result : Result T TurnOverFault} {old new : Snap D disk} (s : ShowState)
-      → text ≡ state_text s → TurnsOver text result old new → TurnsOver (state_text s) result old new
-  as_text {result = result} {old = old} {new = new} s is =
-      subst (λ (text : List ℕ). TurnsOver text result old new) is
-
   -- Batches are given to a pair that works and stands for the state; each comes in its turn, and one has an event.
   module _ (now : (x : D) → disk.is_honest x → disk.held_at x (disk.moment x) ≡ disk.held x)
       (image : (x : D) → disk.is_honest x → IsImage (disk.held x) (disk.held x).bytes)
@@ -91,13 +86,16 @@ module _ {D : Type 0} {disk : Ghosts D} where
       (stands : disk.is_honest (live_of old) → disk.is_honest (spare_of old) → StandsFor (live_area_of disk.held old) s)
       (each : are_records batches ≡ true) (may : IsTrue (are_all_acceptable s batches))
       (some : 1 ≤ length (with_events batches)) where
+    -- their records make of an area for the state one for the state after them
     grown : (area : Area) → StandsFor area s
         → StandsFor (with_payloads area (records_of batches)) (folded_all s batches)
     grown area is = area_all area s batches (records_of batches) is each may refl
 
+    -- it is not so that there is no record
     not_none : {new : Snap D disk} → with_events batches ≡ [] → new ≡ old
     not_none none = absurd (omega (arith, some, ap length none))
 
+    -- which disk comes first does not count
     swap : (a b new_a new_b : D) → Moves disk (StandsEither s (folded_all s batches)) a b new_a new_b
         → Moves disk (StandsEither s (folded_all s batches)) b a new_b new_a
     swap = moves_swapped disk (StandsEither s (folded_all s batches)) (either_swapped s (folded_all s batches))
@@ -132,9 +130,11 @@ module _ {D : Type 0} {disk : Ghosts D} where
 
     module _ (lacks : lack_room old batches ≡ true) (one : length (with_events batches) ≡ 1)
         (keeps : IsTrue (is_state s)) where
+      -- the new area stands for the state
       anew : StandsFor (turned_area old (state_text s)) s
       anew = fresh_stands (generation_of old + 1) s (state_text s) keeps refl
 
+      -- nothing is in the way while a generation is left
       left_way : (IsAtTheLast old → ⊥) → (f : Fault) → IsInTheWay old batches f → ⊥
       left_way left = in_the_way old batches (λ _. ⊥) (λ _ _ last. left last) (λ _ two. omega (arith, one, two))
 

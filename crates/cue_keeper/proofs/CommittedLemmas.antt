@@ -85,7 +85,7 @@ module _ {D : Type 0} {disk : Ghosts D} where
 
   -- ---- how it went
 
-  -- What has become of batches that were given to a pair that works. Where it has their room is `lacks`.
+  -- What has become of batches that were given to a pair that works; `lacks` is whether it lacks room for them.
   pub commits : (s : ShowState) (batches : List (List Event)) (refused : Option Fault) (old new : Snap D disk)
       (lacks : Bool) → lack_room old batches ≡ lacks
       → is_broken old ≡ false

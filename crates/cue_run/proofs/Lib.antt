@@ -1,7 +1,5 @@
-mod GroupLemmas
 mod LivesLemmas
 mod OfferLemmas
 mod RoundLemmas
 mod RunLemmas
-mod StandLemmas
 mod WorkLemmas

@@ -1,30 +1,26 @@
 -- What a run came to goes on with the life of a store.
-use Rattle.std.proofs.Common.{◌≡◌, inl, inr, ℕ, List, [], ◌∷◌, ◌++◌, Option, Some, None, refl, sym, ap, ◌∙◌, subst}
-use Rattle.std.proofs.Common.{append-nil}
+use Rattle.std.proofs.Common.{◌≡◌, inl, inr, ℕ, List, [], ◌∷◌, ◌++◌, Option, Some, None, refl, sym, ap, ◌∙◌, append-nil}
+use Rattle.std.proofs.lemmas.List.{map-append}
 use Rattle.cue_disk.specs.declared.disk.Disk.{Ghosts}
 use Rattle.cue_core.specs.State.{ShowState}
-use Rattle.cue_keeper.specs.declared.fault.Fault.{Fault}
-use Rattle.cue_keeper.specs.declared.fault.Fault.TheVariants.{Memory, Disk}
 use Rattle.cue_keeper.specs.Stands.{folded_all}
-use Rattle.cue_keeper.specs.Observed as kept
-use Rattle.cue_outbox.specs.Sending.{Send, datagrams}
+use Rattle.cue_outbox.specs.Sending.{Send, datagram, datagrams}
 use Rattle.cue_engine.specs.declared.engine.Engine.{Engine}
 use Rattle.cue_engine.specs.Observed.{keeper_of, state_of, queue_of, first_of, second_of}
 use Rattle.cue_engine.specs.Given.{Input, given_of}
 use Rattle.cue_engine.specs.Groups.{batches_given, sends_given}
 use Rattle.cue_engine.specs.Incidents.{Incident, stopped_in_commit, Store, running, Permits, Happens, left_by_all}
 use Rattle.cue_engine.specs.Headline.{all_handed}
-use Rattle.cue_engine.specs.Lives.{Life, with_all, store_now, RunsWith, view_of, IsSound}
+use Rattle.cue_engine.specs.Lives.{Life, store_now, RunsWith, view_of, IsSound}
 use Rattle.cue_engine.specs.Sources.{Answer}
-use Rattle.cue_engine.specs.Wires.{Handed, AllHanded}
+use Rattle.cue_engine.specs.Wires.{Handed}
 use Rattle.cue_engine.proofs.GroupLemmas.{is_a_run}
 use Rattle.cue_engine.proofs.LifeLemmas.{left_on, life_on, rests_more}
 use Rattle.cue_run.specs.declared.turns.Ended.{Ended}
 use Rattle.cue_run.specs.declared.turns.RunFault.{RunFault}
 use Rattle.cue_run.specs.declared.turns.RunFault.TheVariants as fault
-use Rattle.cue_run.specs.Running.{LeavesEither, Works, Refuses, EndedBy, Ran}
+use Rattle.cue_run.specs.Running.{LeavesEither, Works, EndedBy, Ran}
 use Rattle.cue_run.specs.Lives.{turns_of, GoesThrough, EndsAtRest}
-use Rattle.cue_run.proofs.RunLemmas.{datagrams_more}
 
 -- ---- the turns of a run
 
@@ -50,72 +46,42 @@ turns_hand s owed (i ∷ is) =
 
 -- ---- a run
 
-no_fault_is : {P : Type 0} (f : RunFault) → None ≡ Some f → P
-no_fault_is f same = cc
-
-no_source_fault : {P : Type 0} (f : Fault) → Some fault.Source ≡ Some (fault.Engine f) → P
-no_source_fault f same = cc
-
-no_memory_fault : {P : Type 0} (f : Fault) → f ≡ Memory → Some (fault.Engine f) ≡ Some (fault.Engine Disk) → P
-no_memory_fault f memory disk = cc
-
-module _ {D : Type 0} {disk : Ghosts D} (size most asked : ℕ) (ended : Ended) (old new : Engine D disk)
-    (left left_then : Option (List Answer)) (told told_then : Option (List Handed))
-    (ran : Ran size most asked ended old new left left_then told told_then)
-    (life : Life) (runs : RunsWith life (state_of old) (queue_of old)) where
-  taken_runs : RunsWith (with_all life (turns_of ran.taken.inputs)) (state_of new) []
-  taken_runs =
+module _ {D : Type 0} {disk : Ghosts D} {size most asked : ℕ} {ended : Ended} {old new : Engine D disk}
+    {left left_then : Option (List Answer)} {told told_then : Option (List Handed)}
+    (ran : Ran size most asked ended old new left left_then told told_then) (life : Life) where
+  pub goes_through : RunsWith life (state_of old) (queue_of old)
+      → GoesThrough size ended.turns left told told_then life (state_of new)
+  goes_through runs =
       let s : ShowState = state_of old in
       let inputs : List (ℕ × Input) = ran.taken.inputs in
       let more : List Incident = turns_of inputs in
-      let state : state_of new ≡ folded_all s (batches_given s inputs) = ran.taken.state ∙ (is_a_run s inputs).0 in
-      record {
-        lived = life_on life more (running s runs.owed) runs.lived runs.runs (turns_happen s runs.owed inputs);
-        owed = [];
-        runs = left_on life more ∙ ap (λ (u : Store). left_by_all u more) runs.runs ∙ turns_leave s runs.owed inputs
-            ∙ ap (λ (t : ShowState). running t []) (sym state);
-        owes = refl;
-      }
-
-  taken_handed : datagrams (all_handed (store_now life) (turns_of ran.taken.inputs))
-      ≡ queue_of old ++ datagrams (sends_given (state_of old) ran.taken.inputs)
-  taken_handed =
-      let s : ShowState = state_of old in
-      let inputs : List (ℕ × Input) = ran.taken.inputs in
-      ap (λ (u : Store). datagrams (all_handed u (turns_of inputs))) runs.runs
-      ∙ ap datagrams (turns_hand s runs.owed inputs) ∙ sym (datagrams_more runs.owed (sends_given s inputs))
-      ∙ ap (λ (os : List (ℕ × List ℕ)). os ++ datagrams (sends_given s inputs)) (sym runs.owes)
-
-  pub goes_through : GoesThrough size ended.turns left told told_then life (state_of new)
-  goes_through =
-      let s : ShowState = state_of old in
-      let inputs : List (ℕ × Input) = ran.taken.inputs in
-      let same : queue_of old ++ datagrams (sends_given s inputs)
-      ≡ datagrams (all_handed (store_now life) (turns_of inputs)) = sym taken_handed in
+      let hands : datagrams (all_handed (store_now life) more) ≡ queue_of old ++ datagrams (sends_given s inputs) =
+      rw (runs.runs, turns_hand s runs.owed inputs, runs.owes) (map-append datagram runs.owed (sends_given s inputs))
+      in
       record {
         inputs = inputs;
         left_then = ran.mid;
         gave = ran.taken.gave;
         number = ran.taken.number;
-        runs = taken_runs;
-        handed = (
-          ran.taken.refused,
-          subst (λ (os : List (ℕ × List ℕ)). AllHanded told os ran.taken.refused told_then)
-              (ap (λ (ms : List (ℕ × Send)). queue_of old ++ datagrams ms) (is_a_run s inputs).2 ∙ same)
-              ran.taken.handed,
-        );
+        runs = record {
+          lived = life_on life more (running s runs.owed) runs.lived runs.runs (turns_happen s runs.owed inputs);
+          owed = [];
+          runs = left_on life more ∙ ap (λ (u : Store). left_by_all u more) runs.runs
+              ∙ turns_leave s runs.owed inputs
+              ∙ ap (λ (t : ShowState). running t []) (sym (ran.taken.state ∙ (is_a_run s inputs).0));
+          owes = refl;
+        };
+        handed = (ran.taken.refused, rw hands (rw (is_a_run s inputs).2 at ran.taken.handed));
       }
 
-module _ {D : Type 0} {disk : Ghosts D} (size most asked : ℕ) (ended : Ended) (old new : Engine D disk)
-    (left left_then : Option (List Answer)) (told told_then : Option (List Handed))
-    (ran : Ran size most asked ended old new left left_then told told_then) (sound : IsSound (view_of old))
-    (life : Life) (runs : RunsWith life (state_of new) []) where
+  -- ---- its end
+
   -- the inputs that were refused last may be kept, or none of them
-  closed_after : (refused : List (ℕ × Input))
+  closed_after : RunsWith life (state_of new) [] → (refused : List (ℕ × Input))
       → LeavesEither (disk.held (first_of new)) (disk.held (second_of new)) (state_of new)
       (folded_all (state_of new) (batches_given (state_of new) refused))
       → EndsAtRest life (disk.held (first_of new)) (disk.held (second_of new))
-  closed_after refused leaves = record {
+  closed_after runs refused leaves = record {
     refused = refused;
     rests = λ x y in_one in_other.
         let stop : Incident = stopped_in_commit refused 0 x y in
@@ -124,30 +90,21 @@ module _ {D : Type 0} {disk : Ghosts D} (size most asked : ℕ) (ended : Ended) 
         rests_more life stop (running (state_of new) runs.owed) x y runs.lived runs.runs ok refl;
   }
 
-  -- no device failed
-  closed_well : Works (keeper_of old) (keeper_of new)
+  pub ends_at_rest : IsSound (view_of old) → RunsWith life (state_of new) []
       → EndsAtRest life (disk.held (first_of new)) (disk.held (second_of new))
-  closed_well works =
-      closed_after [] (λ x y left_x left_y. inl (works.stands sound.0.0 sound.0.1 sound.1 x y left_x left_y))
+  ends_at_rest sound runs = closed_by ended.fault refl ran.why
+    where
+      -- no device failed
+      closed_well : Works (keeper_of old) (keeper_of new)
+          → EndsAtRest life (disk.held (first_of new)) (disk.held (second_of new))
+      closed_well works = closed_after runs []
+          (λ x y left_x left_y. inl (works.stands sound.0.0 sound.0.1 sound.1 x y left_x left_y))
 
-  closed_refused : (f : Fault) → Refuses size most f (keeper_of old) (keeper_of new) ran.mid left_then
-      → EndsAtRest life (disk.held (first_of new)) (disk.held (second_of new))
-  closed_refused f refuses =
-      let same : state_of new ≡ kept.state_of refuses.met = refuses.accepts.state in
-      closed_after refuses.inputs
-      (subst (λ (s : ShowState). LeavesEither (disk.held (first_of new)) (disk.held (second_of new)) s
-      (folded_all s (batches_given s refuses.inputs))) (sym same) (refuses.leaves sound.0.0 sound.0.1 sound.1))
-
-  closed_by : (r : Option RunFault) → ended.fault ≡ r
-      → EndedBy size most asked ended.turns r (keeper_of old) (keeper_of new) ran.mid left_then
-      → EndsAtRest life (disk.held (first_of new)) (disk.held (second_of new))
-  closed_by None is why =
-      closed_well (ran.works (λ disk_fault. no_fault_is (fault.Engine Disk) (sym is ∙ disk_fault)))
-  closed_by (Some fault.Source) is why =
-      closed_well (ran.works (λ disk_fault. no_source_fault Disk (sym is ∙ disk_fault)))
-  closed_by (Some (fault.Engine f)) is (inl none) =
-      closed_well (ran.works (λ disk_fault. no_memory_fault f none.0 (sym is ∙ disk_fault)))
-  closed_by (Some (fault.Engine f)) is (inr refuses) = closed_refused f refuses
-
-  pub ends_at_rest : EndsAtRest life (disk.held (first_of new)) (disk.held (second_of new))
-  ends_at_rest = closed_by ended.fault refl ran.why
+      closed_by : (r : Option RunFault) → ended.fault ≡ r
+          → EndedBy size most asked ended.turns r (keeper_of old) (keeper_of new) ran.mid left_then
+          → EndsAtRest life (disk.held (first_of new)) (disk.held (second_of new))
+      closed_by None is why = closed_well (ran.works (λ failed. cc))
+      closed_by (Some fault.Source) is why = closed_well (ran.works (λ failed. cc))
+      closed_by (Some (fault.Engine f)) is (inl none) = closed_well (ran.works (λ failed. cc))
+      closed_by (Some (fault.Engine f)) is (inr refuses) = closed_after runs refuses.inputs
+          (rw refuses.accepts.state (refuses.leaves sound.0.0 sound.0.1 sound.1))

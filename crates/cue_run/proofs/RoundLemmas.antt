@@ -1,88 +1,58 @@
 -- One round, and a run of rounds.
 use Rattle.std.specs.Prelude.{◌⊎◌}
-use Rattle.std.proofs.Common.{◌≡◌, ℕ, ◌+◌, ◌-◌, ◌^◌, ◌≤◌, true, List, [], min, Option, Some, None, Ok, Err, refl, sym}
-use Rattle.std.proofs.Common.{ap, ◌∙◌, subst, inl, inr, arith, true≢false, IsTrue}
+use Rattle.std.proofs.Common.{◌≡◌, ℕ, ◌+◌, ◌-◌, ◌^◌, ◌≤◌, List, [], length, min, Option, Some, None, Ok, refl, ap}
+use Rattle.std.proofs.Common.{◌∙◌, inl, inr, arith, true≢false, sym, append-nil, IsTrue}
 use Rattle.cue_disk.specs.declared.disk.Disk.{Ghosts}
-use Rattle.cue_core.specs.declared.event.Event.{Event}
-use Rattle.cue_keeper.specs.declared.fault.Fault.{Fault}
 use Rattle.cue_keeper.specs.declared.fault.Fault.TheVariants.{Disk}
-use Rattle.cue_keeper.specs.declared.keeper.Keeper.{Keeper}
 use Rattle.cue_keeper.specs.Accepting.{Accepts}
-use Rattle.cue_keeper.specs.Due.{has_room_beside}
-use Rattle.cue_keeper.specs.Groups.{records_of}
 use Rattle.cue_keeper.specs.Observed as kept
-use Rattle.cue_outbox.specs.Sending.{datagrams}
 use Rattle.cue_engine.specs.declared.engine.Engine.{Engine}
-use Rattle.cue_engine.specs.Given.{Input}
-use Rattle.cue_engine.specs.Groups.{batches_given, sends_given}
+use Rattle.cue_engine.specs.Groups.{batches_given}
 use Rattle.cue_engine.specs.Taking.{IsOffered}
 use Rattle.cue_engine.specs.Observed.{keeper_of, state_of, queue_of, offered_of, offered_sends_of, has_room}
-use Rattle.cue_engine.specs.Wires.{Handed}
+use Rattle.cue_engine.specs.Wires.{Handed, AllHanded}
 use Rattle.cue_engine.specs.Sources.{Answer}
 use Rattle.cue_run.specs.declared.turns.RunFault.{RunFault}
 use Rattle.cue_run.specs.declared.turns.RunFault.TheVariants as fault
 use Rattle.cue_run.specs.declared.groups.round.Round.{Round}
 use Rattle.cue_run.specs.declared.groups.offering.Stop.{Stop}
 use Rattle.cue_run.specs.declared.groups.offering.Stop.TheVariants as stop
-use Rattle.cue_run.specs.Running.{HasRun, Works, Ran}
-use Rattle.cue_run.specs.Grouping.{OfferedGroup, TookGroup, LostGroup, HandedCounted, StoppedBy, HasRound, fault_of}
-use Rattle.cue_run.proofs.GroupLemmas.{group_has_run, none_has_run, runs_join}
-use Rattle.cue_run.proofs.WorkLemmas.{keeps_join, works_join, works_on, worked, keeps_group, works_still, refuses_group}
-use Rattle.cue_run.proofs.WorkLemmas.{rests_group, stopped_by_cut, stopped_at_first, ended_as_stopped}
+use Rattle.cue_run.specs.Running.{Works, EndedBy, Ran}
+use Rattle.cue_run.specs.Grouping.{StaysOffered, StoppedAtFirst, OfferedGroup, TookGroup, LostGroup}
+use Rattle.cue_run.specs.Grouping.{StoppedBy, HasRound, RanSoFar, fault_of}
+use Rattle.cue_run.proofs.OfferLemmas.{came_in_turn}
+use Rattle.cue_run.proofs.RunLemmas.{gave_none, group_has_run, none_has_run, runs_join}
+use Rattle.cue_run.proofs.WorkLemmas.{keeps_join, works_join, refuses_join, works_on, worked, keeps_group, works_still}
+use Rattle.cue_run.proofs.WorkLemmas.{refuses_group, rests_group, stopped_by_cut, stopped_at_first}
 
-goes_on : {P : Type 0} (why : Stop) → None ≡ Some why → P
-goes_on why same = cc
+-- there is room for one input where none was offered
+has_room_first : {D : Type 0} {disk : Ghosts D} {engine : Engine D disk} → IsOffered [] engine
+    → IsTrue (has_room engine)
+has_room_first none = rw none.batches refl
 
-module _ {D : Type 0} {disk : Ghosts D} where
-  -- the group was offered to an engine with the same keeper
-  accepts_as : (inputs : List (ℕ × Input)) (old mid : Engine D disk) (new : Keeper D disk) (refused : Option Fault)
-      → keeper_of mid ≡ keeper_of old → IsOffered inputs mid
-      → Accepts (offered_of mid) refused (keeper_of mid) new
-      → Accepts (batches_given (state_of old) inputs) refused (keeper_of old) new
-  accepts_as inputs old mid new refused same offered accepts =
-      subst (λ (k : Keeper D disk). Accepts (batches_given (kept.state_of k) inputs) refused k new) same
-      (subst (λ (batches : List (List Event)). Accepts batches refused (keeper_of mid) new) offered.batches
-      accepts)
-
-  sends_as : (inputs : List (ℕ × Input)) (old mid : Engine D disk) → keeper_of mid ≡ keeper_of old
-      → IsOffered inputs mid → offered_sends_of mid ≡ datagrams (sends_given (state_of old) inputs)
-  sends_as inputs old mid same offered = offered.sends
-      ∙ ap (λ (k : Keeper D disk). datagrams (sends_given (kept.state_of k) inputs)) same
-
-  -- there is room for one input where none was offered
-  has_room_first : (engine : Engine D disk) → IsOffered [] engine → IsTrue (has_room engine)
-  has_room_first engine none =
-      let keeper : Keeper D disk = keeper_of engine in
-      subst (λ (bs : List (List Event)). IsTrue (has_room_beside (kept.count_of keeper) (kept.end_of keeper)
-      (records_of bs))) (sym none.batches) refl
-
+module _ {D : Type 0} {disk : Ghosts D}
+    (now : (x : D) → disk.is_honest x → disk.held_at x (disk.moment x) ≡ disk.held x) {size room count : ℕ}
+    {cut : Option RunFault} {round : Round} {old mid new : Engine D disk} {left left_then : Option (List Answer)}
+    {told told_then : Option (List Handed)} (none : IsOffered [] old)
+    (group : OfferedGroup size room count (Ok cut) old mid left left_then) where
   -- a group was taken
-  pub took_round : (size room count : ℕ) (cut : Option RunFault) (round : Round) (old mid new : Engine D disk)
-      (left left_then : Option (List Answer)) (told told_then : Option (List Handed))
-      → ((x : D) → disk.is_honest x → disk.held_at x (disk.moment x) ≡ disk.held x)
-      → IsOffered [] old
-      → OfferedGroup size room count (Ok cut) old mid left left_then
-      → TookGroup count cut round mid new told told_then
+  took_round : TookGroup count cut round mid new told told_then
       → HasRound size room round old new left left_then told told_then
-  took_round size room count cut round old mid new left left_then told told_then now none group took =
+  took_round took =
       let gathered = group.0 in
       let offered = gathered.offered in
-      let inputs = offered.inputs in
       let is_offered = offered.offered [] none in
-      let batches = batches_given (state_of old) inputs in
-      let accepts = accepts_as inputs old mid (keeper_of new) None offered.keeper is_offered took.accepts in
-      let works = works_on batches (keeper_of old) (keeper_of new) accepts in
-      let unbroken = worked batches (keeper_of old) (keeper_of new) accepts in
+      let number : length offered.inputs ≡ round.turns = omega (arith, took.turns, offered.number) in
+      let one : 1 ≤ room = omega (arith, group.1, group.2) in
+      let accepts : Accepts (batches_given (state_of old) offered.inputs) None (keeper_of old) (keeper_of new) =
+      rw (is_offered.batches, offered.keeper) at took.accepts in
+      let works = works_on accepts in
+      let unbroken = worked accepts in
       record {
         mid = gathered.mid;
-        taken = group_has_run size round.turns round.unsent (state_of old) (state_of new) inputs left gathered.mid told
-            told_then
-            (omega (arith, took.turns, offered.number)) offered.gave accepts.state
-            (subst (λ (sends : List (ℕ × List ℕ)). HandedCounted told sends round.unsent told_then)
-            (sends_as inputs old mid offered.keeper is_offered) took.handed);
-        why = subst (λ (st : Option Stop). StoppedBy size room st (keeper_of old) (keeper_of new) gathered.mid left_then)
-            (sym took.stop) (stopped_by_cut size room cut (keeper_of old) (keeper_of new) gathered.mid left_then now
-            (omega (arith, group.1, group.2)) works unbroken gathered.cut);
+        taken = group_has_run offered.inputs number offered.gave accepts.state
+            (rw (is_offered.sends, offered.keeper) at took.handed);
+        why = rw took.stop (stopped_by_cut now size room gathered.mid left_then one works cut gathered.cut);
         at_most = omega (arith, took.turns, group.2);
         some = λ _. omega (arith, took.turns, group.1);
         none_taken = λ broken. absurd (true≢false (sym broken ∙ unbroken));
@@ -92,138 +62,149 @@ module _ {D : Type 0} {disk : Ghosts D} where
       }
 
   -- its commit was refused
-  pub lost_round : (size room count : ℕ) (cut : Option RunFault) (round : Round) (old mid new : Engine D disk)
-      (left left_then : Option (List Answer)) (told told_then : Option (List Handed))
-      → ((x : D) → disk.is_honest x → disk.held_at x (disk.moment x) ≡ disk.held x)
-      → Works (keeper_of old) (keeper_of old)
-      → IsOffered [] old
-      → OfferedGroup size room count (Ok cut) old mid left left_then
-      → LostGroup round mid new told told_then
+  lost_round : Works (keeper_of old) (keeper_of old) → LostGroup round mid new told told_then
       → HasRound size room round old new left left_then told told_then
-  lost_round size room count cut round old mid new left left_then told told_then now works none group lost =
-      let gathered = group.0 in
-      let offered = gathered.offered in
-      let inputs = offered.inputs in
+  lost_round works lost =
+      let offered = group.0.offered in
       let is_offered = offered.offered [] none in
-      let batches = batches_given (state_of old) inputs in
-      let accepts = accepts_as inputs old mid (keeper_of new) (Some lost.why) offered.keeper is_offered lost.accepts in
+      let some : 1 ≤ length offered.inputs = omega (arith, offered.number, group.1) in
+      let came = came_in_turn group.0 group.2 in
+      let accepts : Accepts (batches_given (state_of old) offered.inputs) (Some lost.why) (keeper_of old)
+      (keeper_of new) = rw (is_offered.batches, offered.keeper) at lost.accepts in
       record {
         mid = left;
-        taken = none_has_run size round.turns round.unsent left (state_of old) (state_of new) told told_then lost.turns
-            lost.unsent accepts.state lost.told_same;
-        why = subst (λ (st : Option Stop). StoppedBy size room st (keeper_of old) (keeper_of new) left left_then)
-            (sym lost.stop)
-            (refuses_group size room lost.why (keeper_of old) (keeper_of new) inputs cut left gathered.mid left_then
-            now works (omega (arith, offered.number, group.1)) (omega (arith, offered.number, group.2)) offered.gave
-            gathered.cut accepts (lost.not_full (group.3 (has_room_first old none))));
+        taken = none_has_run lost.turns lost.unsent accepts.state lost.told_same;
+        why = rw lost.stop (refuses_group now offered.inputs came.0 works some came.1 came.2 came.3 accepts
+            (lost.not_full (group.3 (has_room_first none))));
         at_most = omega (arith, lost.turns);
-        some = λ is. goes_on (stop.Fault (fault.Engine lost.why)) (sym is ∙ lost.stop);
+        some = λ goes_on. cc;
         none_taken = λ _. lost.turns;
-        rests = rests_group batches (Some lost.why) (keeper_of old) (keeper_of new) accepts;
-        keeps = keeps_group batches (Some lost.why) (keeper_of old) (keeper_of new) accepts;
-        works = λ other. works_still batches lost.why (keeper_of old) (keeper_of new) works accepts
-            (λ is. other (lost.stop ∙ ap (λ (f : Fault). Some (stop.Fault (fault.Engine f))) is));
+        rests = rests_group accepts;
+        keeps = keeps_group accepts;
+        works = λ other. works_still works accepts (λ is. other (rw (← is) lost.stop));
       }
 
   -- either
-  pub closed_round : (size room count now_count : ℕ) (cut : Option RunFault) (round : Round)
-      (old mid new : Engine D disk) (left left_then : Option (List Answer)) (told told_then : Option (List Handed))
-      → ((x : D) → disk.is_honest x → disk.held_at x (disk.moment x) ≡ disk.held x)
-      → Works (keeper_of old) (keeper_of old)
-      → IsOffered [] old
-      → now_count ≡ count
-      → OfferedGroup size room count (Ok cut) old mid left left_then
-      → TookGroup now_count cut round mid new told told_then ⊎ LostGroup round mid new told told_then
+  pub closed_round : Works (keeper_of old) (keeper_of old)
+      → TookGroup count cut round mid new told told_then ⊎ LostGroup round mid new told told_then
       → HasRound size room round old new left left_then told told_then
-  closed_round size room count now_count cut round old mid new left left_then told told_then now works none same group
-      (inl took) =
-      took_round size room count cut round old mid new left left_then told told_then now none group
-      (subst (λ (n : ℕ). TookGroup n cut round mid new told told_then) same took)
-  closed_round size room count now_count cut round old mid new left left_then told told_then now works none same group
-      (inr lost) =
-      lost_round size room count cut round old mid new left left_then told told_then now works none group lost
+  closed_round works (inl took) = took_round took
+  closed_round works (inr lost) = lost_round works lost
 
+module _ {D : Type 0} {disk : Ghosts D} where
   -- nothing was offered
-  pub stopped_round : (size room count : ℕ) (why : Stop) (old new : Engine D disk)
-      (left left_then : Option (List Answer)) (told told_then : Option (List Handed))
-      → ((x : D) → disk.is_honest x → disk.held_at x (disk.moment x) ≡ disk.held x)
-      → 1 ≤ room
-      → Works (keeper_of old) (keeper_of old)
-      → told_then ≡ told
-      → OfferedGroup size room count (Err why) old new left left_then
-      → HasRound size room (record { turns = 0; unsent = 0; stop = Some why }) old new left left_then told told_then
-  stopped_round size room count why old new left left_then told told_then now one works same_told group =
-      let same = group.0.keeper in
-      let still = subst (λ (k : Keeper D disk). Works (keeper_of old) k) (sym same) works in
+  pub stopped_round : (now : (x : D) → disk.is_honest x → disk.held_at x (disk.moment x) ≡ disk.held x)
+      {size room : ℕ} (why : Stop) {round : Round} {old new : Engine D disk} {left left_then : Option (List Answer)}
+      {told : Option (List Handed)} → round ≡ record { turns = 0; unsent = 0; stop = Some why }
+      → 1 ≤ room → Works (keeper_of old) (keeper_of old) → StaysOffered old new
+      → StoppedAtFirst size why (keeper_of old) left left_then
+      → HasRound size room round old new left left_then told told
+  stopped_round now {size} {room} why {round} {old} {new} {left} {left_then} none one works stays is =
+      let still : Works (keeper_of old) (keeper_of new) = rw stays.keeper works in
+      let turns = ap (λ (r : Round). r.turns) none in
+      let stop = ap (λ (r : Round). r.stop) none in
       record {
         mid = left;
-        taken = none_has_run size 0 0 left (state_of old) (state_of new) told told_then refl refl
-            (ap kept.state_of same) same_told;
-        why = stopped_at_first size room why (keeper_of old) (keeper_of new) left left_then now one works same group.1;
-        at_most = omega arith;
-        some = λ is. goes_on why (sym is);
-        none_taken = λ _. refl;
-        rests = λ _. ap kept.pair_of same;
+        taken = none_has_run turns (ap (λ (r : Round). r.unsent) none) (ap kept.state_of stays.keeper) refl;
+        why = rw stop (stopped_at_first now size room left left_then one still why is);
+        at_most = omega (arith, turns);
+        some = λ goes_on. cc;
+        none_taken = λ _. turns;
+        rests = λ _. ap kept.pair_of stays.keeper;
         keeps = still.keeps;
         works = λ _. still;
       }
 
   -- ---- rounds in order
 
-  -- a round more was taken, and a next one may follow
-  pub round_more : (size room turns unsent all : ℕ) (round : Round) (first old new : Engine D disk)
-      (left mid left_then : Option (List Answer)) (told mid_told told_then : Option (List Handed))
-      → all ≡ min (unsent + round.unsent) (2 ^ 64 - 1)
-      → round.stop ≡ None
-      → HasRun size left (state_of first) (queue_of first) told turns unsent mid (state_of old) mid_told
-      → HasRound size room round old new mid left_then mid_told told_then
-      → HasRun size left (state_of first) (queue_of first) told (turns + round.turns) all left_then (state_of new)
+  -- what was offered before the run was withdrawn, and what was owed was handed over
+  pub begun : {size unsent : ℕ} {old mid new : Engine D disk} {left : Option (List Answer)}
+      {told told_then : Option (List Handed)}
+      → unsent ≤ 2 ^ 64 - 1
+      → Works (keeper_of old) (keeper_of new)
+      → keeper_of new ≡ keeper_of old
+      → queue_of mid ≡ queue_of old
+      → IsOffered [] mid
+      → AllHanded told (queue_of mid) unsent told_then
+      → (offered_of new ≡ offered_of mid) × (offered_sends_of new ≡ offered_sends_of mid)
+      → queue_of new ≡ []
+      → RanSoFar size 0 unsent old new left left told told_then
+  begun {size} {unsent} {old} {left = left} fits works same owed none handed offered emptied = record {
+    taken = record {
+      inputs = [];
+      gave = gave_none size left;
+      number = refl;
+      state = ap kept.state_of same;
+      refused = unsent;
+      handed = rw (append-nil (queue_of old), ← owed) handed;
+      counted = omega (arith, fits);
+    };
+    works = works;
+    none_taken = λ _. refl;
+    rests = λ _. ap kept.pair_of same;
+    emptied = emptied;
+    dropped = record { batches = offered.0 ∙ none.batches; sends = offered.1 ∙ none.sends };
+  }
+
+  -- it ended after its last round, or without one
+  pub ended : {size most asked turns unsent : ℕ} (cause : Option RunFault) {old new : Engine D disk}
+      {left mid left_then : Option (List Answer)} {told told_then : Option (List Handed)}
+      → RanSoFar size turns unsent old new left mid told told_then → turns ≤ asked
+      → EndedBy size most asked turns cause (keeper_of old) (keeper_of new) mid left_then
+      → Ran size most asked (record { turns = turns; unsent = unsent; fault = cause }) old new left left_then told
       told_then
-  round_more size room turns unsent all round first old new left mid left_then told mid_told told_then is none run one =
-      let why : left_then ≡ one.mid =
-      subst (λ (st : Option Stop). StoppedBy size room st (keeper_of old) (keeper_of new) one.mid left_then) none
-      one.why in
-      subst (λ (x : Option (List Answer)). HasRun size left (state_of first) (queue_of first) told (turns + round.turns)
-      all x (state_of new) told_then) (sym why)
-      (runs_join size left mid one.mid (state_of first) (state_of old) (state_of new) (queue_of first) told mid_told
-      told_then turns unsent round.turns round.unsent all is run one.taken)
+  ended cause {mid = mid} run fits why = record {
+    mid = mid;
+    taken = run.taken;
+    why = why;
+    at_most = fits;
+    none_taken = run.none_taken;
+    emptied = run.emptied;
+    rests = run.rests;
+    keeps = run.works.keeps;
+    works = λ _. run.works;
+  }
+
+module _ {D : Type 0} {disk : Ghosts D} {size room turns unsent all : ℕ} {round : Round} {first old new : Engine D disk}
+    {left mid left_then : Option (List Answer)} {told mid_told told_then : Option (List Handed)}
+    (counts : all ≡ min (unsent + round.unsent) (2 ^ 64 - 1))
+    (run : RanSoFar size turns unsent first old left mid told mid_told)
+    (one : HasRound size room round old new mid left_then mid_told told_then) (emptied : queue_of new ≡ []) where
+  -- a round more was taken, and a next one may follow
+  pub round_more : round.stop ≡ None → IsOffered [] new
+      → RanSoFar size (turns + round.turns) all first new left left_then told told_then
+  round_more none dropped =
+      let same : left_then ≡ one.mid = rw none at one.why in
+      record {
+        taken = rw same (runs_join counts run.taken one.taken);
+        works = works_join run.works (one.works (λ failed. cc));
+        none_taken = λ broken. omega (arith, run.none_taken broken, one.none_taken (run.works.broken ∙ broken));
+        rests = λ broken. one.rests (run.works.broken ∙ broken) ∙ run.rests broken;
+        emptied = emptied;
+        dropped = dropped;
+      }
 
   -- it was the last one
-  pub round_last : (size room most asked turns unsent all : ℕ) (round : Round) (why : Stop) (cause : Option RunFault)
-      (first old new : Engine D disk) (left mid left_then : Option (List Answer))
-      (told mid_told told_then : Option (List Handed))
-      → all ≡ min (unsent + round.unsent) (2 ^ 64 - 1)
-      → round.stop ≡ Some why
-      → cause ≡ fault_of why
-      → room ≤ most
-      → turns + room ≤ asked
-      → queue_of new ≡ []
-      → Works (keeper_of first) (keeper_of old)
-      → (kept.is_broken (keeper_of first) ≡ true → turns ≡ 0)
-      → (kept.is_broken (keeper_of first) ≡ true
-      → kept.pair_of (keeper_of old) ≡ kept.pair_of (keeper_of first))
-      → HasRun size left (state_of first) (queue_of first) told turns unsent mid (state_of old) mid_told
-      → HasRound size room round old new mid left_then mid_told told_then
+  pub round_last : (why : Stop) (cause : Option RunFault) {most asked : ℕ} → round.stop ≡ Some why
+      → cause ≡ fault_of why → room ≤ most → turns + room ≤ asked
       → Ran size most asked (record { turns = turns + round.turns; unsent = all; fault = cause }) first new left
       left_then told told_then
-  round_last size room most asked turns unsent all round why cause first old new left mid left_then told mid_told
-      told_then is stops causes within fits emptied works none rests run one =
-      let so = subst (λ (st : Option Stop). StoppedBy size room st (keeper_of old) (keeper_of new) one.mid left_then) stops
-      one.why in
-      record {
-        mid = one.mid;
-        taken = runs_join size left mid one.mid (state_of first) (state_of old) (state_of new) (queue_of first) told
-            mid_told told_then turns unsent round.turns round.unsent all is run one.taken;
-        why = rw causes (ended_as_stopped size room most asked (turns + round.turns) why (keeper_of first)
-            (keeper_of old) (keeper_of new) one.mid left_then within works so);
-        at_most = omega (arith, fits, one.at_most);
-        none_taken = λ broken. omega (arith, none broken, one.none_taken (works.broken ∙ broken));
-        rests = λ broken. one.rests (works.broken ∙ broken) ∙ rests broken;
-        emptied = emptied;
-        keeps = keeps_join (keeper_of first) (keeper_of old) (keeper_of new) works.keeps one.keeps;
-        works = λ other. works_join (keeper_of first) (keeper_of old) (keeper_of new) works
-            (one.works (λ disk_failed. other (causes ∙ ap_fault why (sym stops ∙ disk_failed))));
-      }
+  round_last why cause {most} {asked} stops causes within fits = record {
+    mid = one.mid;
+    taken = runs_join counts run.taken one.taken;
+    why = rw causes (ended_as why (rw stops at one.why));
+    at_most = omega (arith, fits, one.at_most);
+    none_taken = λ broken. omega (arith, run.none_taken broken, one.none_taken (run.works.broken ∙ broken));
+    rests = λ broken. one.rests (run.works.broken ∙ broken) ∙ run.rests broken;
+    emptied = emptied;
+    keeps = keeps_join run.works.keeps one.keeps;
+    works = λ other. works_join run.works (one.works (λ failed.
+        let same : why ≡ stop.Fault (fault.Engine Disk) = cc in other (causes ∙ ap fault_of same)));
+  }
     where
-      ap_fault : (w : Stop) → Some w ≡ Some (stop.Fault (fault.Engine Disk)) → fault_of w ≡ Some (fault.Engine Disk)
-      ap_fault w same = let e : w ≡ stop.Fault (fault.Engine Disk) = cc in ap fault_of e
+      ended_as : (w : Stop) → StoppedBy size room (Some w) (keeper_of old) (keeper_of new) one.mid left_then
+          → EndedBy size most asked (turns + round.turns) (fault_of w) (keeper_of first) (keeper_of new) one.mid
+          left_then
+      ended_as stop.Ended is = inr is
+      ended_as (stop.Fault fault.Source) is = is
+      ended_as (stop.Fault (fault.Engine f)) is = inr (refuses_join within run.works is)

@@ -1,15 +1,25 @@
--- What a run starts from, and what follows another.
-use Rattle.std.proofs.Common.{◌≡◌, ℕ, ◌+◌, ◌-◌, ◌^◌, ◌≤◌, Bool, List, [], ◌∷◌, ◌++◌, length, Option, Some, None}
-use Rattle.std.proofs.Common.{refl, sym, ap, ◌∙◌, subst, arith, length-append, append_assoc, append-nil}
+-- What was taken by a run, and then by another; and what a group is as a run.
+use Rattle.std.proofs.Common.{◌≡◌, ℕ, ◌+◌, ◌-◌, ◌^◌, List, [], ◌∷◌, ◌++◌, length, take, drop, min, Option, Some, None}
+use Rattle.std.proofs.Common.{refl, sym, ap, ◌∙◌, arith, length-append, append_assoc}
+use Rattle.std.proofs.lemmas.List.{map-append}
 use Rattle.cue_core.specs.State.{ShowState}
+use Rattle.cue_core.specs.Steps.{after_events}
+use Rattle.cue_keeper.specs.Stands.{folded_all}
 use Rattle.cue_outbox.specs.Sending.{datagram, datagrams, Send}
-use Rattle.cue_engine.specs.Wires.{Handed, handed_as, Grew, how_many_refused, AllHanded}
-use Rattle.cue_engine.specs.Sources.{Answer, others_left, GaveInTurn, GaveAll}
-use Rattle.cue_run.specs.Running.{HasRun}
+use Rattle.cue_engine.specs.Given.{Input, given_of}
+use Rattle.cue_engine.specs.Groups.{batches_given, sends_given}
+use Rattle.cue_engine.specs.Sources.{Answer, comes, others_left, GaveInTurn, GaveAll}
+use Rattle.cue_engine.specs.Wires.{Handed, AllHanded}
+use Rattle.cue_engine.proofs.GroupLemmas.{is_a_run}
+use Rattle.cue_engine.proofs.WireLemmas.{handed_none, handed_first, part_more, parts_all}
+use Rattle.cue_run.specs.Running.{given_answers, story, HasRun}
+use Rattle.cue_run.specs.Grouping.{HandedCounted, CountedSoFar}
+
+-- ---- answers
 
 gave_more : (size : ℕ) (old : List Answer) (gs : List Answer) (mid : List Answer) (hs : List Answer) (new : List Answer)
     → GaveInTurn size old gs mid → GaveInTurn size mid hs new → GaveInTurn size old (gs ++ hs) new
-gave_more size old [] mid hs new e h = subst (λ (xs : List Answer). GaveInTurn size xs hs new) e h
+gave_more size old [] mid hs new e h = rw (← e) h
 gave_more size old (g ∷ gs) mid hs new k h = (k.0, gave_more size (others_left old) gs mid hs new k.1 h)
 
 -- no answer was taken
@@ -25,59 +35,115 @@ gave_all_more size old gs None hs (Some new) k h = absurd h
 gave_all_more size None gs (Some mid) hs (Some new) k h = absurd k
 gave_all_more size (Some old) gs (Some mid) hs (Some new) k h = gave_more size old gs mid hs new k h
 
-pub datagrams_more : (xs ys : List (ℕ × Send)) → datagrams xs ++ datagrams ys ≡ datagrams (xs ++ ys)
-datagrams_more [] ys = refl
-datagrams_more (x ∷ xs) ys = ap (λ (os : List (ℕ × List ℕ)). datagram x ∷ os) (datagrams_more xs ys)
+-- inputs, and then others
+pub gave_join : (size : ℕ) (left mid left_then : Option (List Answer)) (is js : List (ℕ × Input))
+    → GaveAll size left (given_answers is) mid → GaveAll size mid (given_answers js) left_then
+    → GaveAll size left (given_answers (is ++ js)) left_then
+gave_join size left mid left_then is js g h =
+    rw (map-append (λ (t : ℕ × Input). comes t.0 t.1) is js)
+    (gave_all_more size left (given_answers is) mid (given_answers js) left_then g h)
 
-grew_both : (old : Option (List Handed)) (xs : List Handed) (mid : Option (List Handed)) (ys : List Handed)
-    (new : Option (List Handed)) → Grew old xs mid → Grew mid ys new → Grew old (xs ++ ys) new
-grew_both old xs mid ys None g h = tt
-grew_both old xs None ys (Some new) g h = absurd h
-grew_both None xs (Some mid) ys (Some new) g h = absurd g
-grew_both (Some old) xs (Some mid) ys (Some new) g h = h
-    ∙ (ap (λ (zs : List Handed). zs ++ ys) g ∙ append_assoc old xs ys)
+-- ---- datagrams
 
-handed_both : (os ps : List (ℕ × List ℕ)) (fs gs : List Bool) → length fs ≡ length os
-    → handed_as os fs ++ handed_as ps gs ≡ handed_as (os ++ ps) (fs ++ gs)
-handed_both [] ps [] gs e = refl
-handed_both [] ps (f ∷ fs) gs e = absurd (omega (arith, e))
-handed_both (o ∷ os) ps [] gs e = absurd (omega (arith, e))
-handed_both (o ∷ os) ps (f ∷ fs) gs e = ap (λ (hs : List Handed). record { to = o.0; bytes = o.1; refused = f } ∷ hs)
-    (handed_both os ps fs gs (omega (arith, e)))
-
-refused_both : (fs gs : List Bool) → how_many_refused (fs ++ gs) ≡ how_many_refused fs + how_many_refused gs
-refused_both [] gs = omega arith
-refused_both (f ∷ fs) gs = omega (arith, refused_both fs gs)
-
-pub all_handed_both : (told mid new : Option (List Handed)) (os ps : List (ℕ × List ℕ)) (n m : ℕ)
+-- some were handed over, and then others
+all_handed_both : {told mid new : Option (List Handed)} {os ps : List (ℕ × List ℕ)} {n m : ℕ}
     → AllHanded told os n mid → AllHanded mid ps m new → AllHanded told (os ++ ps) (n + m) new
-all_handed_both told mid new os ps n m a b = record {
-  flags = a.flags ++ b.flags;
-  each = omega (arith, a.each, b.each, length-append a.flags b.flags, length-append os ps);
-  count = omega (arith, a.count, b.count, refused_both a.flags b.flags);
-  grew = subst (λ (hs : List Handed). Grew told hs new) (handed_both os ps a.flags b.flags a.each)
-      (grew_both told (handed_as os a.flags) mid (handed_as ps b.flags) new a.grew b.grew);
+all_handed_both {told} {mid} {new} {os} {ps} {n} {m} first more =
+    parts_all told mid new (os ++ ps) ps n m (record { sent = os; together = refl; all = first }) more
+
+-- none was handed over yet
+pub so_far_none : (told : Option (List Handed)) (owed : List (ℕ × List ℕ)) → CountedSoFar told owed owed 0 told
+so_far_none told owed = record { refused = 0; handed = handed_none told owed; counted = refl }
+
+module _ {told mid told_then : Option (List Handed)} {owed left : List (ℕ × List ℕ)} {unsent refused all : ℕ}
+    (counts : all ≡ min (unsent + refused) (2 ^ 64 - 1)) (so_far : CountedSoFar told owed left unsent mid) where
+  -- the first k of those that are left were handed over
+  pub so_far_more : (k : ℕ) {rest : List (ℕ × List ℕ)} {seen : Option (List Handed)}
+      → rest ≡ drop k left → seen ≡ told_then → AllHanded mid (take k left) refused told_then
+      → CountedSoFar told owed rest all seen
+  so_far_more k {rest} others same more = record {
+    refused = so_far.refused + refused;
+    handed = rw same (part_more told mid told_then owed left rest k so_far.refused refused others so_far.handed more);
+    counted = omega (arith, counts, so_far.counted);
+  }
+
+  -- all that were left were handed over
+  pub so_far_all : AllHanded mid left refused told_then → HandedCounted told owed all told_then
+  so_far_all more = record {
+    refused = so_far.refused + refused;
+    handed = parts_all told mid told_then owed left so_far.refused refused so_far.handed more;
+    counted = omega (arith, counts, so_far.counted);
+  }
+
+-- ---- runs
+
+story_join : (s : ShowState) (is js : List (ℕ × Input))
+    → ((story s (is ++ js)).state ≡ (story (story s is).state js).state)
+    × ((story s (is ++ js)).sends ≡ (story s is).sends ++ (story (story s is).state js).sends)
+story_join s [] js = (refl, refl)
+story_join s (i ∷ is) js =
+    let sends : List (ℕ × Send) = (given_of s i.0 i.1).sends in
+    let next : ShowState = after_events s (given_of s i.0 i.1).batch in
+    let rest = story_join next is js in (
+      rest.0,
+      ap (λ (xs : List (ℕ × Send)). sends ++ xs) rest.1
+          ∙ sym (append_assoc sends (story next is).sends (story (story next is).state js).sends),
+    )
+
+-- a run, and then another
+pub runs_join : {size turns unsent more mores all : ℕ} {left mid left_then : Option (List Answer)}
+    {s mid_s s_then : ShowState} {owed : List (ℕ × List ℕ)} {told mid_told told_then : Option (List Handed)}
+    → all ≡ min (unsent + mores) (2 ^ 64 - 1)
+    → HasRun size left s owed told turns unsent mid mid_s mid_told
+    → HasRun size mid mid_s [] mid_told more mores left_then s_then told_then
+    → HasRun size left s owed told (turns + more) all left_then s_then told_then
+runs_join {size = size} {left = left} {mid = mid} {left_then = left_then} {s = s} {owed = owed} counts h k =
+    let next : ShowState = (story s h.inputs).state in
+    let joined = story_join s h.inputs k.inputs in
+    let then = rw h.state at k.handed in
+    record {
+      inputs = h.inputs ++ k.inputs;
+      gave = gave_join size left mid left_then h.inputs k.inputs h.gave k.gave;
+      number = omega (arith, h.number, k.number, length-append h.inputs k.inputs);
+      state = rw (joined.0, ← h.state) k.state;
+      refused = h.refused + k.refused;
+      handed = rw (
+        joined.1,
+        map-append datagram (story s h.inputs).sends (story next k.inputs).sends,
+        ← append_assoc owed (datagrams (story s h.inputs).sends) (datagrams (story next k.inputs).sends),
+      )
+          (all_handed_both h.handed then);
+      counted = omega (arith, counts, h.counted, k.counted);
+    }
+
+-- one group
+pub group_has_run : (inputs : List (ℕ × Input)) {size count unsent : ℕ} {s s_then : ShowState}
+    {left mid : Option (List Answer)} {told told_then : Option (List Handed)}
+    → length inputs ≡ count
+    → GaveAll size left (given_answers inputs) mid
+    → s_then ≡ folded_all s (batches_given s inputs)
+    → HandedCounted told (datagrams (sends_given s inputs)) unsent told_then
+    → HasRun size left s [] told count unsent mid s_then told_then
+group_has_run inputs {s = s} number gave same handed = record {
+  inputs = inputs;
+  gave = gave;
+  number = number;
+  state = same ∙ sym (is_a_run s inputs).0;
+  refused = handed.refused;
+  handed = rw (is_a_run s inputs).2 handed.handed;
+  counted = handed.counted;
 }
 
--- nothing was taken yet, and what was owed at first was handed over
-pub begun : (size : ℕ) (left : Option (List Answer)) (s s_then : ShowState) (owed : List (ℕ × List ℕ))
-    (told told_then : Option (List Handed)) (n : ℕ) → n ≤ 2 ^ 64 - 1 → s_then ≡ s → AllHanded told owed n told_then
-    → HasRun size left s owed told 0 n left s_then told_then
-begun size left s s_then owed told told_then n fits same h = record {
+-- no input was taken
+pub none_has_run : {size turns unsent : ℕ} {left : Option (List Answer)} {s s_then : ShowState}
+    {told told_then : Option (List Handed)} → turns ≡ 0 → unsent ≡ 0 → s_then ≡ s → told_then ≡ told
+    → HasRun size left s [] told turns unsent left s_then told_then
+none_has_run {size = size} {left = left} {told = told} no_turns all_sent same_s same_told = record {
   inputs = [];
   gave = gave_none size left;
-  number = refl;
-  state = same;
-  refused = n;
-  handed = subst (λ (os : List (ℕ × List ℕ)). AllHanded told os n told_then) (sym (append-nil owed)) h;
-  counted = omega (arith, fits);
+  number = sym no_turns;
+  state = same_s;
+  refused = 0;
+  handed = rw same_told (handed_first told told [] [] 0 0 (omega arith) (handed_none told []));
+  counted = all_sent;
 }
-
--- what did not change was taken as it was
-pub still : (size : ℕ) (left mid : Option (List Answer)) (s now_s s_then : ShowState) (owed : List (ℕ × List ℕ))
-    (told mid_told told_then : Option (List Handed)) (turns unsent : ℕ)
-    → HasRun size left s owed told turns unsent mid now_s mid_told → s_then ≡ now_s → told_then ≡ mid_told
-    → HasRun size left s owed told turns unsent mid s_then told_then
-still size left mid s now_s s_then owed told mid_told told_then turns unsent h same_s same_told =
-    subst (λ (x : ShowState). HasRun size left s owed told turns unsent mid x told_then) (sym same_s)
-    (subst (λ (x : Option (List Handed)). HasRun size left s owed told turns unsent mid now_s x) (sym same_told) h)

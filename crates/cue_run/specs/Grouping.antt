@@ -12,13 +12,14 @@ use Rattle.cue_engine.specs.Given.{Input}
 use Rattle.cue_engine.specs.Taking.{IsOffered, WhateverWasOffered}
 use Rattle.cue_engine.specs.Observed.{keeper_of, state_of, queue_of, offered_of, offered_sends_of, has_room}
 use Rattle.cue_engine.specs.Observed.{HasRoomForAll}
-use Rattle.cue_engine.specs.Wires.{Handed, AllHanded}
+use Rattle.cue_engine.specs.Wires.{Handed, AllHanded, HandedSoFar}
 use Rattle.cue_run.specs.declared.turns.RunFault.{RunFault}
 use Rattle.cue_run.specs.declared.turns.RunFault.TheVariants as fault
 use Rattle.cue_run.specs.declared.groups.round.Round.{Round}
 use Rattle.cue_run.specs.declared.groups.offering.Stop.{Stop}
 use Rattle.cue_run.specs.declared.groups.offering.Stop.TheVariants as stop
 use Rattle.cue_run.specs.declared.groups.offering.First.{First}
+use Rattle.cue_run.specs.declared.groups.offering.First.TheVariants as first
 use Rattle.cue_run.specs.Running.{given_answers, HasRun, Keeps, Works, Refuses}
 use Rattle.cue_engine.specs.Sources.{Answer, comes, ends, fails, GaveAll}
 
@@ -58,29 +59,40 @@ CutShort size (Some (fault.Engine f)) keeper left left_then =
 abbrev pub StillFits : {D : Type 0} {disk : Ghosts D} → (old new : Engine D disk) → Type 0
 StillFits old new = IsTrue (has_room old) → HasRoomForAll new
 
+-- one input more was offered, or none: the source failed, or the engine refused what came
+abbrev pub OfferedOne : {D T : Type 0} {disk : Ghosts D} → (size count count_then : ℕ) → Result T RunFault
+    → (old new : Engine D disk) → (left left_then : Option (List Answer)) → Type 0
+OfferedOne size count count_then (Ok done) old new left left_then =
+    HasOffered size count count_then old new left left_then × (count_then ≡ count + 1) × StillFits old new
+OfferedOne size count count_then (Err why) old new left left_then =
+    StaysOffered old new × (count_then ≡ count) × CutShort size (Some why) (keeper_of old) left left_then
+
+-- whichever source gave the input, P holds of its buffer's size, and of what it had left before and after
+abbrev pub WhicheverGave : ℕ × Input → (ℕ → (left left_then : Option (List Answer)) → Type 0) → Type 0
+WhicheverGave t P =
+    (size : ℕ) (left left_then : Option (List Answer))
+    → GaveAll size left (comes t.0 t.1 ∷ []) left_then
+    → P size left left_then
+
 -- the next input was offered, or nothing was there
 abbrev pub OfferedNext : {D : Type 0} {disk : Ghosts D} → (size count count_then : ℕ) → Result Bool RunFault
     → (old new : Engine D disk) → (left left_then : Option (List Answer)) → Type 0
-OfferedNext size count count_then (Ok true) old new left left_then =
-    HasOffered size count count_then old new left left_then × (count_then ≡ count + 1) × StillFits old new
 OfferedNext size count count_then (Ok false) old new left left_then =
     StaysOffered old new × (count_then ≡ count) × (left_then ≡ left)
-OfferedNext size count count_then (Err why) old new left left_then =
-    StaysOffered old new × (count_then ≡ count) × CutShort size (Some why) (keeper_of old) left left_then
+OfferedNext size count count_then r old new left left_then = OfferedOne size count count_then r old new left left_then
+
+-- the first input of a group was offered, or the source ended
+abbrev pub OfferedFirst : {D : Type 0} {disk : Ghosts D} → (size count count_then : ℕ) → Result First RunFault
+    → (old new : Engine D disk) → (left left_then : Option (List Answer)) → Type 0
+OfferedFirst size count count_then (Ok first.End) old new left left_then =
+    StaysOffered old new × (count_then ≡ count) × GaveAll size left (ends ∷ []) left_then
+OfferedFirst size count count_then r old new left left_then = OfferedOne size count count_then r old new left left_then
 
 -- nothing was offered: the source ended or failed, or the engine refused what came
 abbrev pub StoppedAtFirst : {D : Type 0} {disk : Ghosts D} → ℕ → Stop → Keeper D disk
     → (left left_then : Option (List Answer)) → Type 0
 StoppedAtFirst size stop.Ended keeper left left_then = GaveAll size left (ends ∷ []) left_then
 StoppedAtFirst size (stop.Fault why) keeper left left_then = CutShort size (Some why) keeper left left_then
-
--- the first input of a group was offered, or none
-abbrev pub OfferedFirst : {D : Type 0} {disk : Ghosts D} → (size count count_then : ℕ) → Result First Stop
-    → (old new : Engine D disk) → (left left_then : Option (List Answer)) → Type 0
-OfferedFirst size count count_then (Ok first) old new left left_then =
-    HasOffered size count count_then old new left left_then × (count_then ≡ count + 1) × StillFits old new
-OfferedFirst size count count_then (Err stop) old new left left_then =
-    StaysOffered old new × StoppedAtFirst size stop (keeper_of old) left left_then
 
 -- how many answers cut a group short that were no input of it
 abbrev pub answers_beside : Option RunFault → ℕ
@@ -116,9 +128,9 @@ pub record HandedCounted (told : Option (List Handed)) (sent : List (ℕ × List
 -- so far some of what was owed were handed over, and the others are left
 pub record CountedSoFar (told : Option (List Handed)) (owed left : List (ℕ × List ℕ)) (unsent : ℕ)
     (told_then : Option (List Handed)) : Type 0 where
-  pub sent : List (ℕ × List ℕ)
-  pub together : owed ≡ sent ++ left
-  pub handed : HandedCounted told sent unsent told_then
+  pub refused : ℕ
+  pub handed : HandedSoFar told owed left refused told_then
+  pub counted : unsent ≡ min refused (2 ^ 64 - 1)
 
 -- the fault that cut a group short ends the run
 abbrev pub stop_of : Option RunFault → Option Stop
@@ -170,3 +182,15 @@ pub record HasRound {D : Type 0} {disk : Ghosts D} (size room : ℕ) (round : Ro
   pub rests : kept.is_broken (keeper_of old) ≡ true → kept.pair_of (keeper_of new) ≡ kept.pair_of (keeper_of old)
   pub keeps : Keeps (keeper_of old) (keeper_of new)
   pub works : (round.stop ≡ Some (stop.Fault (fault.Engine Disk)) → ⊥) → Works (keeper_of old) (keeper_of new)
+
+-- ---- rounds in order
+
+-- So far this was taken by rounds that did not stop the run, and nothing is owed or offered.
+pub record RanSoFar {D : Type 0} {disk : Ghosts D} (size turns unsent : ℕ) (old new : Engine D disk)
+    (left left_then : Option (List Answer)) (told told_then : Option (List Handed)) : Type 0 where
+  pub taken : HasRun size left (state_of old) (queue_of old) told turns unsent left_then (state_of new) told_then
+  pub works : Works (keeper_of old) (keeper_of new)
+  pub none_taken : kept.is_broken (keeper_of old) ≡ true → turns ≡ 0
+  pub rests : kept.is_broken (keeper_of old) ≡ true → kept.pair_of (keeper_of new) ≡ kept.pair_of (keeper_of old)
+  pub emptied : queue_of new ≡ []
+  pub dropped : IsOffered [] new

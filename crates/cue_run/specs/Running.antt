@@ -14,8 +14,8 @@ use Rattle.cue_outbox.specs.Sending.{datagrams}
 use Rattle.cue_engine.specs.declared.engine.Engine.{Engine}
 use Rattle.cue_engine.specs.Observed.{keeper_of, state_of, queue_of}
 use Rattle.cue_engine.specs.Given.{Input}
-use Rattle.cue_engine.specs.Groups.{batches_given}
-use Rattle.cue_engine.specs.Runs.{took, Story, run}
+use Rattle.cue_engine.specs.Groups.{batches_given, all_took}
+use Rattle.cue_engine.specs.Runs.{Story, run}
 use Rattle.cue_engine.specs.Wires.{Handed, AllHanded}
 use Rattle.cue_run.specs.declared.turns.Ended.{Ended}
 use Rattle.cue_run.specs.declared.turns.RunFault.{RunFault}
@@ -27,7 +27,7 @@ abbrev pub given_answers : List (ℕ × Input) → List Answer
 given_answers inputs = map (λ t. comes t.0 t.1) inputs
 
 abbrev pub story : ShowState → List (ℕ × Input) → Story
-story s inputs = run s (map (λ t. took t.0 t.1) inputs)
+story s inputs = run s (all_took inputs)
 
 -- So far these inputs were taken, as the source gave them, and what was owed at first and what they owe was handed
 -- over.

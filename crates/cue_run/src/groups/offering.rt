@@ -1,16 +1,13 @@
 // Offering what a source gives, one input after the other.
-ghost use Rattle.std.specs.Prelude.{◌≡◌, ◌≤◌, ◌<◌, ◌+◌, ◌++◌, ◌∷◌, [], length};
-ghost use Rattle.std.specs.Prelude.{vec_len, vec_capacity, OnOk, IfErr};
+ghost use Rattle.std.specs.Prelude.{◌≡◌, ◌≤◌, ◌<◌, ◌+◌, length, vec_len, vec_capacity};
 ghost use Rattle.cue_engine.specs.Inputs.{input_view};
-ghost use Rattle.cue_engine.specs.Taking.{IsOffered, WhateverWasOffered};
-ghost use Rattle.cue_engine.specs.Observed.{keeper_of, queue_of, HasRoomForAll};
-ghost use Rattle.cue_run.specs.Grouping.{StaysOffered, StillFits, IsTurnedDown, OfferedNext};
-ghost use Rattle.cue_run.specs.Grouping.{OfferedFirst, OfferedGroup, Gathered, answers_beside};
+ghost use Rattle.cue_engine.specs.Observed.{HasRoomForAll};
+ghost use Rattle.cue_run.specs.Grouping.{WhicheverGave, OfferedOne, OfferedNext, OfferedFirst};
+ghost use Rattle.cue_run.specs.Grouping.{OfferedGroup, Gathered, answers_beside};
 
 use crate::turns::RunFault;
 use cue_disk::Disk;
 use cue_engine::{Engine, Input, Source, Turn, Waiting};
-use cue_keeper::Fault;
 
 /// Why no round follows.
 #[derive(Clone, Copy)]
@@ -23,6 +20,8 @@ pub(crate) enum Stop {
 // The first input of a group.
 #[derive(Clone, Copy)]
 enum First {
+    /// There is none: the source ended.
+    End,
     /// A tick is a group of its own.
     Tick,
     Datagram,
@@ -34,16 +33,10 @@ fn offer_one<D: Disk>(
     ends: &mut Vec<usize>,
     now: u64,
     input: Input<'_>,
-) -> Result<(), Fault>
+) -> Result<(), RunFault>
     requires room { vec_len ends.old < vec_capacity ends.old }
-    ensures offered { OnOk result (WhateverWasOffered engine.old
-        (λ inputs. IsOffered (inputs ++ (now, input_view input.entry) ∷ []) engine.new)) }
-    ensures number { OnOk result (vec_len ends.new ≡ vec_len ends.old + 1) }
-    ensures room { OnOk result (StillFits engine.old engine.new) }
-    ensures keeper { keeper_of engine.new ≡ keeper_of engine.old }
-    ensures queue { queue_of engine.new ≡ queue_of engine.old }
-    ensures refused { IfErr result (λ fault. StaysOffered engine.old engine.new
-        × (vec_len ends.new ≡ vec_len ends.old) × IsTurnedDown fault (keeper_of engine.old)) }
+    ensures offered { WhicheverGave (now, input_view input.entry) (λ size left left_then. OfferedOne size
+        (vec_len ends.old) (vec_len ends.new) result engine.old engine.new left left_then) }
     ensures capacity { vec_capacity ends.new ≡ vec_capacity ends.old }
 {
     match engine.offer(now, input) {
@@ -51,7 +44,7 @@ fn offer_one<D: Disk>(
             ends.push_reserved(engine.offered_sends());
             Ok(())
         }
-        Err(fault) => Err(fault),
+        Err(fault) => Err(RunFault::Engine(fault)),
     }
 }
 
@@ -70,10 +63,8 @@ fn offer_waiting<D: Disk, S: Source>(
     match source.waiting(buffer) {
         Ok(Some(Waiting { now, from, n })) => {
             let bytes = &buffer[..n];
-            match offer_one(engine, ends, now, Input::Datagram { from, bytes }) {
-                Ok(()) => Ok(true),
-                Err(fault) => Err(RunFault::Engine(fault)),
-            }
+            offer_one(engine, ends, now, Input::Datagram { from, bytes })?;
+            Ok(true)
         }
         Ok(None) => Ok(false),
         Err(_) => Err(RunFault::Source),
@@ -105,26 +96,24 @@ fn offer_first<D: Disk, S: Source>(
     source: &mut S,
     buffer: &mut [u8],
     ends: &mut Vec<usize>,
-) -> Result<First, Stop>
+) -> Result<First, RunFault>
     requires room { vec_len ends.old < vec_capacity ends.old }
     ensures offered { OfferedFirst (length buffer.old) (vec_len ends.old) (vec_len ends.new) result
         engine.old engine.new (S.left source.old) (S.left source.new) }
     ensures capacity { vec_capacity ends.new ≡ vec_capacity ends.old }
 {
     match source.next(buffer) {
-        Ok(Turn::End) => Err(Stop::Ended),
-        Ok(Turn::Tick { now }) => match offer_one(engine, ends, now, Input::Tick) {
-            Ok(()) => Ok(First::Tick),
-            Err(fault) => Err(Stop::Fault(RunFault::Engine(fault))),
-        },
+        Ok(Turn::End) => Ok(First::End),
+        Ok(Turn::Tick { now }) => {
+            offer_one(engine, ends, now, Input::Tick)?;
+            Ok(First::Tick)
+        }
         Ok(Turn::Datagram { now, from, n }) => {
             let bytes = &buffer[..n];
-            match offer_one(engine, ends, now, Input::Datagram { from, bytes }) {
-                Ok(()) => Ok(First::Datagram),
-                Err(fault) => Err(Stop::Fault(RunFault::Engine(fault))),
-            }
+            offer_one(engine, ends, now, Input::Datagram { from, bytes })?;
+            Ok(First::Datagram)
         }
-        Err(_) => Err(Stop::Fault(RunFault::Source)),
+        Err(_) => Err(RunFault::Source),
     }
 }
 
@@ -174,8 +163,9 @@ pub(crate) fn offer_group<D: Disk, S: Source>(
     ensures capacity { vec_capacity ends.new ≡ vec_capacity ends.old }
 {
     match offer_first(engine, source, buffer, ends) {
+        Ok(First::End) => Err(Stop::Ended),
         Ok(First::Tick) => Ok(None),
         Ok(First::Datagram) => Ok(gather(engine, source, buffer, ends, room)),
-        Err(stop) => Err(stop),
+        Err(fault) => Err(Stop::Fault(fault)),
     }
 }

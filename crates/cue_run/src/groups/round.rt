@@ -39,10 +39,7 @@ impl Round {
 fn stop_of(cut: Option<RunFault>) -> Option<Stop>
     ensures { result ≡ stop_of cut }
 {
-    match cut {
-        Some(fault) => Some(Stop::Fault(fault)),
-        None => None,
-    }
+    Some(Stop::Fault(cut?))
 }
 
 // Commits the group that was offered and hands it out; then the run goes on, unless a fault had cut the group short.

@@ -38,10 +38,8 @@ fn hangs_on_one(answers: &Answers) -> bool
 fn first_required(answers: &Answers) -> Option<DeviceNo>
     ensures { result ≡ first_required answers.now }
 {
-    match answers.as_slice().iter().find(|x| !x.optional) {
-        Some(found) => Some(found.device),
-        None => None,
-    }
+    let found = answers.as_slice().iter().find(|x| !x.optional)?;
+    Some(found.device)
 }
 
 // The device that alone is required, if others are optional.

@@ -30,8 +30,6 @@ fn is_held(live: &Live, part: &Part) -> bool
 pub fn held_device(live: &Live, parts: &[Part]) -> Option<DeviceNo>
     ensures { result ≡ held_device live.now parts.now }
 {
-    match parts.iter().find(|part| is_held(live, part)) {
-        Some(found) => Some(found.device),
-        None => None,
-    }
+    let found = parts.iter().find(|part| is_held(live, part))?;
+    Some(found.device)
 }

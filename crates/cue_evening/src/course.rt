@@ -105,10 +105,8 @@ impl Course {
 
     /// The cue of an attempt that is followed.
     pub fn cue_of(&self, seq: u32) -> Option<CueNo> {
-        match self.items.iter().find(|x| x.seq == seq) {
-            Some(followed) => Some(followed.cue),
-            None => None,
-        }
+        let followed = self.items.iter().find(|x| x.seq == seq)?;
+        Some(followed.cue)
     }
 
     /// Follows the live attempts of a state. If there is no memory for one it is not followed.

@@ -2,6 +2,7 @@
 ghost use Rattle.std.specs.Prelude.{◌≡◌};
 ghost use Rattle.cue_evening.specs.OrderWords.{order_words};
 
+use crate::names::push_cue_of;
 use cue_engine::{Order, OrderKind};
 use cue_show::CueNo;
 use std::alloc::{AllocError, Global};
@@ -27,9 +28,7 @@ pub fn order_line(
 ) -> Result<String, AllocError> {
     let words = order_words(order.kind);
     let mut text = format!(in alloc; "{words} attempt {}", order.attempt)?;
-    if let Some(cue) = cue {
-        write!(text, " cue {}", cue.text().escape_ascii())?;
-    }
+    push_cue_of(&mut text, cue)?;
     write!(text, " device {} at {}", order.device.number(), order.port)?;
     if !is_sent {
         text.push_str(", it was not sent")?;

@@ -4,6 +4,7 @@ ghost use Rattle.cue_evening.specs.AttemptWords.{cause_words};
 
 use crate::alone::named_device;
 use crate::course::{Cause, Failure, Followed};
+use crate::names::push_cue_of;
 use cue_core::Event;
 use cue_exchange::{Attempt, Reason};
 use cue_show::{CueNo, DeviceNo};
@@ -50,17 +51,7 @@ fn device_of_end(event: &Event) -> Option<DeviceNo> {
 
 /// The device by which a preparation was given up, if the event at this place gives it up: the event after it says so.
 pub fn device_of_cancel(events: &[Event], place: usize) -> Option<DeviceNo> {
-    match events.get(place.saturating_add(1)) {
-        Some(next) => device_of_end(next),
-        None => None,
-    }
-}
-
-fn push_cue(text: &mut String, cue: Option<CueNo>) -> Result<(), AllocError> {
-    if let Some(cue) = cue {
-        write!(text, " cue {}", cue.text().escape_ascii())?;
-    }
-    Ok(())
+    device_of_end(events.get(place.saturating_add(1))?)
 }
 
 /// The line of an attempt that is given up for a reason, by a device if it has one.
@@ -72,7 +63,7 @@ pub fn cancel_line(
     device: Option<DeviceNo>,
 ) -> Result<String, AllocError> {
     let mut text = format!(in alloc; "CANCEL attempt {seq}")?;
-    push_cue(&mut text, cue)?;
+    push_cue_of(&mut text, cue)?;
     text.push_str(": ")?;
     match (reason, device) {
         (Reason::Abort, Some(device)) => write!(text, "device {} aborted", device.number())?,

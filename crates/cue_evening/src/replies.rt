@@ -6,8 +6,8 @@ use crate::course::Cause;
 use crate::names::{push_cues, push_devices, push_numbers};
 use cue_core::{Code, Event, State};
 use cue_engine::{Reply, Taken};
-use cue_exchange::{Attempt, Live};
-use cue_show::{CueNo, DeviceNo, Part, Parts};
+use cue_exchange::Attempt;
+use cue_show::{CueNo, DeviceNo, Parts};
 use cue_words::code_words;
 use std::alloc::{AllocError, Global};
 use std::fmt::Write;
@@ -125,10 +125,7 @@ impl Answer<'_> {
     fn more(&self, alloc: Global) -> Result<String, AllocError> {
         let mut more = String::new(alloc);
         self.push_why(alloc, &mut more)?;
-        self.push_new(alloc, &mut more)?;
-        if is_wide(self.reply.address.as_slice()) {
-            self.push_changes(alloc, &mut more)?;
-        }
+        self.push_made(alloc, &mut more)?;
         Ok(more)
     }
 
@@ -144,40 +141,27 @@ impl Answer<'_> {
         }
     }
 
-    // The device and the cue that are new; a message makes one of each at most.
-    fn push_new(&self, alloc: Global, more: &mut String) -> Result<(), AllocError> {
+    // The device and the cue that are new; a message makes one of each at most. If the address speaks to many, also the
+    // devices and the cues that were removed, and the cue that the operator was moved to last.
+    fn push_made(&self, alloc: Global, more: &mut String) -> Result<(), AllocError> {
+        let is_wide = is_wide(self.reply.address.as_slice());
+        let mut devices = Vec::new(alloc);
+        let mut cues = Vec::new(alloc);
+        let mut place = None;
         for event in self.made {
             match event {
                 Event::Device(device, port) => push_new_device(more, *device, *port)?,
                 Event::Cue(cue, parts) => push_new_cue(alloc, more, *cue, parts)?,
+                Event::NoDevice(device) if is_wide => devices.push(*device)?,
+                Event::NoCue(cue) if is_wide => cues.push(*cue)?,
+                Event::Place(cue) if is_wide => place = Some(*cue),
                 Event::NoDevice(_) | Event::NoCue(_) | Event::Place(_) => {}
                 Event::Start(_, _, _) | Event::Go(_) | Event::Cancel(_, _) => {}
                 Event::Ready(_, _) | Event::Done(_, _) => {}
                 Event::LetGo(_, _) | Event::Failed(_, _) | Event::Excuse(_, _) => {}
             }
         }
-        Ok(())
-    }
-
-    // The devices and the cues that were removed, and the cue that the operator was moved to last.
-    fn push_changes(&self, alloc: Global, more: &mut String) -> Result<(), AllocError> {
-        let mut devices = Vec::new(alloc);
-        let mut cues = Vec::new(alloc);
-        let mut place = None;
-        for event in self.made {
-            match event {
-                Event::NoDevice(device) => devices.push(*device)?,
-                Event::NoCue(cue) => cues.push(*cue)?,
-                Event::Place(cue) => place = Some(*cue),
-                Event::Device(_, _) | Event::Cue(_, _) => {}
-                Event::Start(_, _, _) | Event::Go(_) | Event::Cancel(_, _) => {}
-                Event::Ready(_, _) | Event::Done(_, _) => {}
-                Event::LetGo(_, _) | Event::Failed(_, _) | Event::Excuse(_, _) => {}
-            }
-        }
-        push_removed_devices(more, &devices)?;
-        push_removed_cues(more, &cues)?;
-        push_place(more, place)
+        push_changes(more, &devices, &cues, place)
     }
 }
 
@@ -186,25 +170,22 @@ fn is_of(reply: &Reply, code: Code) -> bool {
     reply.code == u16::from(code.number())
 }
 
-fn push_removed_devices(more: &mut String, devices: &[DeviceNo]) -> Result<(), AllocError> {
+fn push_changes(
+    more: &mut String,
+    devices: &[DeviceNo],
+    cues: &[CueNo],
+    place: Option<CueNo>,
+) -> Result<(), AllocError> {
     if !devices.is_empty() {
         push_comma(more)?;
         push_devices(more, devices)?;
         more.push_str(" removed")?;
     }
-    Ok(())
-}
-
-fn push_removed_cues(more: &mut String, cues: &[CueNo]) -> Result<(), AllocError> {
     if !cues.is_empty() {
         push_comma(more)?;
         push_cues(more, cues)?;
         more.push_str(" removed")?;
     }
-    Ok(())
-}
-
-fn push_place(more: &mut String, place: Option<CueNo>) -> Result<(), AllocError> {
     if let Some(cue) = place {
         push_comma(more)?;
         write!(more, "the place is cue {}", cue.text().escape_ascii())?;
@@ -263,17 +244,17 @@ fn push_refusal(
     cue: CueNo,
     method: &[u8],
 ) -> Result<(), AllocError> {
-    let is_late = is_of(reply, Code::NotReady);
-    let is_busy = is_of(reply, Code::Busy);
-    if is_late && method == b"/go".as_slice() {
-        match state.live().of_cue(cue) {
-            Some(attempt) => push_waiting(alloc, more, attempt),
-            None => Ok(()),
+    let is_late = is_of(reply, Code::NotReady) && method == b"/go".as_slice();
+    let is_busy = is_of(reply, Code::Busy)
+        && (method == b"/standby".as_slice() || method == b"/remove".as_slice());
+    match state.live().of_cue(cue) {
+        Some(attempt) if is_late => push_waiting(alloc, more, attempt),
+        Some(attempt) if is_busy => {
+            let number = cue.text().escape_ascii();
+            write!(more, "cue {number} is in attempt {}", attempt.seq)
         }
-    } else if is_busy && (method == b"/standby".as_slice() || method == b"/remove".as_slice()) {
-        push_holder(more, state, cue)
-    } else {
-        Ok(())
+        None if is_busy => push_holder(more, state, cue),
+        Some(_) | None => Ok(()),
     }
 }
 
@@ -289,27 +270,16 @@ fn push_waiting(alloc: Global, more: &mut String, attempt: &Attempt) -> Result<(
     push_devices(more, &devices)
 }
 
+// The device of the cue that is in an attempt, and that attempt.
+fn holder_of(state: &State, cue: CueNo) -> Option<(DeviceNo, &Attempt)> {
+    let parts = state.show().parts(cue)?;
+    let device = held_device(state.live(), parts.as_slice())?;
+    Some((device, state.live().of_device(device)?))
+}
+
 fn push_holder(more: &mut String, state: &State, cue: CueNo) -> Result<(), AllocError> {
-    if let Some(attempt) = state.live().of_cue(cue) {
-        let number = cue.text().escape_ascii();
-        return write!(more, "cue {number} is in attempt {}", attempt.seq);
-    }
-    match state.show().parts(cue) {
-        Some(parts) => push_held(more, state.live(), parts.as_slice()),
-        None => Ok(()),
-    }
-}
-
-fn push_held(more: &mut String, live: &Live, parts: &[Part]) -> Result<(), AllocError> {
-    match held_device(live, parts) {
-        Some(device) => push_held_device(more, live, device),
-        None => Ok(()),
-    }
-}
-
-fn push_held_device(more: &mut String, live: &Live, device: DeviceNo) -> Result<(), AllocError> {
-    match live.of_device(device) {
-        Some(attempt) => {
+    match holder_of(state, cue) {
+        Some((device, attempt)) => {
             let cue = attempt.cue.text().escape_ascii();
             let number = device.number();
             let seq = attempt.seq;

@@ -24,25 +24,27 @@ enum First {
     End,
     /// A tick is a group of its own.
     Tick,
-    Datagram,
+    /// A datagram that changes nothing is a group of its own, too: it has no write to share.
+    Datagram { changes: bool },
 }
 
-// Offers an input after those before it, and notes how many datagrams are sent up to it.
+// Offers an input after those before it, and notes how many datagrams are sent up to it. Answers whether it changes
+// something.
 fn offer_one<D: Disk>(
     engine: &mut Engine<D>,
     ends: &mut Vec<usize>,
     now: u64,
     input: Input<'_>,
-) -> Result<(), RunFault>
+) -> Result<bool, RunFault>
     requires room { vec_len ends.old < vec_capacity ends.old }
     ensures offered { WhicheverGave (now, input_view input.entry) (λ size left left_then. OfferedOne size
         (vec_len ends.old) (vec_len ends.new) result engine.old engine.new left left_then) }
     ensures capacity { vec_capacity ends.new ≡ vec_capacity ends.old }
 {
     match engine.offer(now, input) {
-        Ok(_) => {
+        Ok(counts) => {
             ends.push_reserved(engine.offered_sends());
-            Ok(())
+            Ok(counts.made != 0)
         }
         Err(fault) => Err(RunFault::Engine(fault)),
     }
@@ -110,8 +112,8 @@ fn offer_first<D: Disk, S: Source>(
         }
         Ok(Turn::Datagram { now, from, n }) => {
             let bytes = &buffer[..n];
-            offer_one(engine, ends, now, Input::Datagram { from, bytes })?;
-            Ok(First::Datagram)
+            let changes = offer_one(engine, ends, now, Input::Datagram { from, bytes })?;
+            Ok(First::Datagram { changes })
         }
         Err(_) => Err(RunFault::Source),
     }
@@ -164,8 +166,8 @@ pub(crate) fn offer_group<D: Disk, S: Source>(
 {
     match offer_first(engine, source, buffer, ends) {
         Ok(First::End) => Err(Stop::Ended),
-        Ok(First::Tick) => Ok(None),
-        Ok(First::Datagram) => Ok(gather(engine, source, buffer, ends, room)),
+        Ok(First::Tick | First::Datagram { changes: false }) => Ok(None),
+        Ok(First::Datagram { changes: true }) => Ok(gather(engine, source, buffer, ends, room)),
         Err(fault) => Err(Stop::Fault(fault)),
     }
 }

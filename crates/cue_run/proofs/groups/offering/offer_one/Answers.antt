@@ -12,7 +12,7 @@ returns-in-Ok-clause-offered g c = λ size left left_then came.
         inputs = (c.args.now, input) ∷ [];
         number = omega arith;
         gave = came;
-        offered = λ inputs offered. offered_next inputs c.args.now input c.in-Ok.field-0 c.args.engine.now
+        offered = λ inputs offered. offered_next inputs c.args.now input c.in-Ok.counts c.args.engine.now
             c.offer.new.self (ap kept.state_of said.keeper) offered c.in-Ok.ensures.offers;
         keeper = said.keeper;
         queue = said.queue;

@@ -107,12 +107,9 @@ impl<'a, R: Clock + Eprint> EveningLog<'a, R> {
     fn tell_orders(&self, page: &Page<'_, R>, sent: &mut Sent<'_>) {
         for order in sent.orders {
             let is_first = order.is_new || self.last.is_none();
-            match (sent.take(0), is_first) {
-                (Some(is_sent), true) => {
-                    let cue = self.course.cue_of(order.attempt);
-                    page.write(order_line(self.alloc, order, cue, is_sent));
-                }
-                (Some(_), false) | (None, _) => {}
+            if let (Some(is_sent), true) = (sent.take(0), is_first) {
+                let cue = self.course.cue_of(order.attempt);
+                page.write(order_line(self.alloc, order, cue, is_sent));
             }
         }
     }

@@ -91,11 +91,16 @@ impl Answer<'_> {
         Ok(())
     }
 
+    // Whether the first command that was refused has this code.
+    fn is_refused(&self, code: Code) -> bool {
+        self.reply.counts.refused > 0 && self.reply.code == u16::from(code.number())
+    }
+
     // Whether the address speaks to many, and what was not made of it is no refusal in words: nothing was stood by
     // there, or the arguments were those of another method.
     fn has_bystanders(&self) -> bool {
         let applies = self.reply.counts.made > 0 || self.reply.counts.known > 0;
-        let is_aside = is_of(self.reply, Code::NotLive) || is_of(self.reply, Code::Arguments);
+        let is_aside = self.is_refused(Code::NotLive) || self.is_refused(Code::Arguments);
         applies && is_aside && is_wide(self.reply.address.as_slice())
     }
 
@@ -129,15 +134,24 @@ impl Answer<'_> {
         Ok(more)
     }
 
+    // Who keeps a command at a cue from being made: of a `go` that comes too early the devices that the attempt waits
+    // for, of a busy cue its attempt, or that of its device.
     fn push_why(&self, alloc: Global, more: &mut String) -> Result<(), AllocError> {
-        if self.reply.counts.refused == 0 {
+        let named = (self.state, cue_in(self.reply.address.as_slice()));
+        let (Some(state), Some((cue, method))) = named else {
             return Ok(());
-        }
-        match (self.state, cue_in(self.reply.address.as_slice())) {
-            (Some(state), Some((cue, method))) => {
-                push_refusal(alloc, more, state, self.reply, cue, method)
+        };
+        let is_late = self.is_refused(Code::NotReady) && method == b"/go".as_slice();
+        let is_busy = self.is_refused(Code::Busy)
+            && (method == b"/standby".as_slice() || method == b"/remove".as_slice());
+        match state.live().of_cue(cue) {
+            Some(attempt) if is_late => push_waiting(alloc, more, attempt),
+            Some(attempt) if is_busy => {
+                let number = cue.text().escape_ascii();
+                write!(more, "cue {number} is in attempt {}", attempt.seq)
             }
-            _ => Ok(()),
+            None if is_busy => push_holder(more, state, cue),
+            Some(_) | None => Ok(()),
         }
     }
 
@@ -163,11 +177,6 @@ impl Answer<'_> {
         }
         push_changes(more, &devices, &cues, place)
     }
-}
-
-// Whether the first command that was refused has this code.
-fn is_of(reply: &Reply, code: Code) -> bool {
-    reply.code == u16::from(code.number())
 }
 
 fn push_changes(
@@ -232,30 +241,6 @@ fn push_new_cue(
         push_numbers(more, &optional)?;
     }
     Ok(())
-}
-
-// Who keeps a command at a cue from being made: of a `go` that comes too early the devices that the attempt waits for,
-// of a busy cue its attempt, or that of its device.
-fn push_refusal(
-    alloc: Global,
-    more: &mut String,
-    state: &State,
-    reply: &Reply,
-    cue: CueNo,
-    method: &[u8],
-) -> Result<(), AllocError> {
-    let is_late = is_of(reply, Code::NotReady) && method == b"/go".as_slice();
-    let is_busy = is_of(reply, Code::Busy)
-        && (method == b"/standby".as_slice() || method == b"/remove".as_slice());
-    match state.live().of_cue(cue) {
-        Some(attempt) if is_late => push_waiting(alloc, more, attempt),
-        Some(attempt) if is_busy => {
-            let number = cue.text().escape_ascii();
-            write!(more, "cue {number} is in attempt {}", attempt.seq)
-        }
-        None if is_busy => push_holder(more, state, cue),
-        Some(_) | None => Ok(()),
-    }
 }
 
 fn push_waiting(alloc: Global, more: &mut String, attempt: &Attempt) -> Result<(), AllocError> {

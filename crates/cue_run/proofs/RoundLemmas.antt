@@ -202,6 +202,7 @@ module _ {D : Type 0} {disk : Ghosts D} {size room turns unsent all : ℕ} {roun
         let same : why ≡ stop.Fault (fault.Engine Disk) = cc in other (causes ∙ ap fault_of same)));
   }
     where
+      -- why the run ended: as its last round did
       ended_as : (w : Stop) → StoppedBy size room (Some w) (keeper_of old) (keeper_of new) one.mid left_then
           → EndedBy size most asked (turns + round.turns) (fault_of w) (keeper_of first) (keeper_of new) one.mid
           left_then

@@ -39,7 +39,10 @@ impl Round {
 fn stop_of(cut: Option<RunFault>) -> Option<Stop>
     ensures { result ≡ stop_of cut }
 {
-    Some(Stop::Fault(cut?))
+    match cut {
+        Some(fault) => Some(Stop::Fault(fault)),
+        None => None,
+    }
 }
 
 // Commits the group that was offered and hands it out; then the run goes on, unless a fault had cut the group short.

@@ -1,6 +1,6 @@
 -- The new orders of an account are those that are newly pending, and its replies have all events.
 use Rattle.std.proofs.Common.{◌≡◌, ℕ, Bool, true, false, cond, if◌then◌else◌, List, [], ◌∷◌, ◌++◌, length, map, filter}
-use Rattle.std.proofs.Common.{Option, None, Some, Result, Ok, Err, refl, ◌∙◌, ap, arith, length-append}
+use Rattle.std.proofs.Common.{Option, None, Some, refl, ◌∙◌, ap, arith, length-append}
 use Rattle.std.specs.List.{AllByRecursion, filter_map, flat_map, cons_option}
 use Rattle.std.specs.Option.{option_map}
 use Rattle.std.proofs.lemmas.List.{map-append}
@@ -12,9 +12,6 @@ use Rattle.cue_core.specs.State.{ShowState}
 use Rattle.cue_core.specs.Steps.{after_events}
 use Rattle.cue_core.specs.Pending.{Order as Pending, order_for}
 use Rattle.cue_core.specs.InTurn.{events_of}
-use Rattle.cue_core.specs.declared.refusal.Refusal.{Refusal}
-use Rattle.cue_core.specs.declared.refusal.Refusal.TheVariants as refusal
-use Rattle.cue_osc.specs.Content.{Content}
 use Rattle.cue_outbox.specs.Asked.{number_asked, number_of}
 use Rattle.cue_outbox.specs.Sending.{order, orders}
 use Rattle.cue_outbox.proofs.ListLemmas.{each_weaker, filter-append}
@@ -24,9 +21,8 @@ use Rattle.cue_engine.specs.declared.account.Order.{Order}
 use Rattle.cue_engine.specs.declared.account.Reply.{Reply}
 use Rattle.cue_engine.specs.Accounts.{order_in, order_view, orders_for, orders_of, reply_to, reply_or_more, events_in}
 use Rattle.cue_engine.specs.Heard.{Heard, refused, carried, hear_all, all_events}
-use Rattle.cue_engine.specs.Given.{given_of, given_heard, given_refused, given_by, are_too_many, messages_in}
 use Rattle.cue_engine.specs.Given.{NewOrdersAreNewlyPending, RepliesHaveTheBatch}
-use Rattle.cue_engine.proofs.GivenLemmas.{in_full, given_by_test}
+use Rattle.cue_engine.proofs.InputLemmas.{datagram_case}
 use Rattle.cue_engine.proofs.OrderingLemmas.{new-of-numbers}
 
 -- ---- orders
@@ -98,21 +94,6 @@ or-more : (from : ℕ) (rs : List Reply) → events_in (reply_or_more from rs) �
 or-more from [] = refl
 or-more from (r ∷ rs) = refl
 
-given-heard : (s : ShowState) (from : ℕ) (hs : List Heard)
-    → events_in (given_heard s from hs).replies ≡ length (given_heard s from hs).batch
-given-heard s from hs =
-    by (are_too_many hs) (given_by_test s from hs (are_too_many hs) refl)
-  where
-    by : (b : Bool) → given_heard s from hs ≡ (if b then given_refused from refusal.TooMany else in_full s from hs)
-        → events_in (given_heard s from hs).replies ≡ length (given_heard s from hs).batch
-    by true is = rw is refl
-    by false is = rw is (or-more from (map (reply_to from) hs) ∙ all-heard from hs)
-
-given-by : (s : ShowState) (now from : ℕ) (r : Result (List Content) Refusal)
-    → events_in (given_by s now from r).replies ≡ length (given_by s now from r).batch
-given-by s now from (Err why) = refl
-given-by s now from (Ok ms) = given-heard s from (hear_all s now from ms)
-
 pub all-replied : RepliesHaveTheBatch
-unfolding given_of
-all-replied s now from bytes = given-by s now from (messages_in now bytes)
+all-replied s now from bytes = datagram_case (λ g. events_in g.replies ≡ length g.batch) s now from bytes (λ why. refl)
+    (λ ms few. let hs : List Heard = hear_all s now from ms in or-more from (map (reply_to from) hs) ∙ all-heard from hs)

@@ -1,7 +1,6 @@
 -- What was sent rests on what was decided, down to the bytes of the datagrams.
-use Rattle.std.proofs.Common.{◌≡◌, ℕ, pos, Bool, true, false, not, cond, ◌&&◌, ◌||◌, List, [], ◌∷◌, ◌++◌, length, drop}
-use Rattle.std.proofs.Common.{nat_eq, nat_lt, ◌%◌, Result, Ok, Err, IsTrue, refl, sym, ap, ◌∙◌, subst, true≢false}
-use Rattle.std.proofs.Common.{rules}
+use Rattle.std.proofs.Common.{◌≡◌, ℕ, pos, Bool, true, false, not, cond, ◌||◌, List, [], ◌∷◌, ◌++◌, length, drop}
+use Rattle.std.proofs.Common.{nat_eq, nat_lt, ◌%◌, Result, Ok, Err, refl, sym, ap, ◌∙◌, subst, true≢false, rules}
 use Rattle.std.specs.Prelude.{codes, ◌==◌}
 use Rattle.std.specs.List.{AllByRecursion, list_any, list_all}
 use Rattle.cue_osc.specs.declared.fault.Fault.{Fault}
@@ -9,31 +8,25 @@ use Rattle.cue_osc.specs.declared.fault.Fault.TheVariants.{TooLong, NotMultiple}
 use Rattle.cue_osc.specs.Argument.{Argument, int}
 use Rattle.cue_osc.specs.Content.{Content, message, discarded, bundle}
 use Rattle.cue_osc.specs.Spelling.{IsText, osc_string, is_known_tag, comma}
-use Rattle.cue_osc.specs.Reading.{◌>>=◌, string_at, all_args_at, tagged_at, after_address, message_at}
-use Rattle.cue_osc.specs.Reading.{is_message_start, packet_at, datagram_at}
+use Rattle.cue_osc.specs.Reading.{◌>>=◌, string_at, all_args_at, tagged_at, after_address, message_at, is_message_start}
+use Rattle.cue_osc.specs.Reading.{packet_at, datagram_at}
 use Rattle.cue_osc.specs.Writing.{text_of}
 use Rattle.cue_osc.proofs.FieldLemmas.{string_again}
 use Rattle.cue_osc.proofs.StartLemmas.{message_start}
 use Rattle.cue_core.specs.declared.event.Event.{Event}
 use Rattle.cue_core.specs.Events.{is_cancel_of, is_go_of, is_start_of}
-use Rattle.cue_core.specs.State.{ShowState, is_state}
-use Rattle.cue_core.specs.Steps.{after_events}
-use Rattle.cue_core.specs.Pending.{Order, standby, go_2pc, cancel, pending}
+use Rattle.cue_core.specs.State.{ShowState}
+use Rattle.cue_core.specs.Pending.{Order, standby, go_2pc, cancel}
 use Rattle.cue_outbox.specs.Sending.{Send, reply, status, order, number, order_content, send_content, datagram}
-use Rattle.cue_outbox.specs.Sending.{datagrams, all_pending}
-use Rattle.cue_outbox.proofs.ListLemmas.{each_append, each_map, each_passes}
+use Rattle.cue_outbox.specs.Sending.{datagrams}
 use Rattle.cue_outbox.proofs.ReadBackLemmas.{IsWritable, read_back}
-use Rattle.cue_outbox.proofs.WritableLemmas.{all_writable}
-use Rattle.cue_engine.specs.Runs.{Happening, run, joined_list, given_at, is_cancelling_in, order_rests, send_rests}
-use Rattle.cue_engine.specs.Runs.{rests}
+use Rattle.cue_engine.specs.Runs.{run, joined_list, is_cancelling_in, order_rests}
 use Rattle.cue_core.specs.Batches.{is_live_in, is_decided_in}
 use Rattle.cue_engine.specs.InBytes.{AreReadAs, BytesRest, BytesOfEachRest}
 use Rattle.cue_core.proofs.lists.AnyLemmas.{itself}
 use Rattle.cue_core.proofs.lists.ConditionLemmas.{both}
-use Rattle.cue_engine.proofs.HistoryLemmas.{happening-ok}
-use Rattle.cue_core.proofs.rules.BatchLemmas.{is_state-after_events}
-use Rattle.cue_engine.proofs.RestingLemmas.{each_rests}
-use Rattle.cue_engine.proofs.SentLemmas.{Each, HoldsElsewhere, happening-each}
+use Rattle.cue_engine.proofs.SentLemmas.{Each, run-each}
+use Rattle.cue_engine.proofs.DueLemmas.{IsDue, due_lasts}
 
 -- ---- a message is read with the address in front
 
@@ -99,6 +92,12 @@ pub differ : {A : Type 0} (a b : List ℕ) → nat_eq (letter a) (letter b) ≡ 
 differ a b apart e = let P : List ℕ → Type 0 = λ x. nat_eq (letter a) (letter x) ≡ true in
     absurd (true≢false (sym (subst P e (itself (letter a))) ∙ apart))
 
+-- an address that no order has
+pub record IsApart (a : List ℕ) : Type 0 where
+  pub standby : nat_eq (letter (codes "/msc/standby")) (letter a) ≡ false
+  pub go_2pc : nat_eq (letter (codes "/msc/go_2pc")) (letter a) ≡ false
+  pub cancel : nat_eq (letter (codes "/msc/cancel")) (letter a) ≡ false
+
 -- bytes of the one address are not read as a message to the other
 not_read : {A : Type 0} (a b rest : List ℕ) (q : ℕ) → IsText a → is_message_start (osc_string a ++ rest) ≡ true
     → nat_eq (letter b) (letter a) ≡ false → AreReadAs (osc_string a ++ rest) b q → A
@@ -107,25 +106,20 @@ not_read a b rest q is_text starts apart read = let P : Result Content Fault →
 
 -- ---- no answer and no status is read as a command
 
-answer_rests : (s : ShowState) (es : List Event) (a : List ℕ) (m k r c : ℕ)
-    → BytesRest s es (text_of (send_content (reply a m k r c)))
-unfolding send_content
-answer_rests s es a m k r c = record {
-  go_2pc = λ q read. not_read (codes "/reply") (codes "/msc/go_2pc") _ q (search rules) refl refl read;
-  standby = λ q read. not_read (codes "/reply") (codes "/msc/standby") _ q (search rules) refl refl read;
-  cancel = λ q read. not_read (codes "/reply") (codes "/msc/cancel") _ q (search rules) refl refl read;
-  cancelled = λ q read. not_read (codes "/reply") (codes "/msc/cancel") _ q (search rules) refl refl read;
+apart_rests : (s : ShowState) (es : List Event) (a rest : List ℕ) → IsText a
+    → is_message_start (osc_string a ++ rest) ≡ true → IsApart a → BytesRest s es (osc_string a ++ rest)
+apart_rests s es a rest is_text starts apart = record {
+  go_2pc = λ q read. not_read a (codes "/msc/go_2pc") rest q is_text starts apart.go_2pc read;
+  standby = λ q read. not_read a (codes "/msc/standby") rest q is_text starts apart.standby read;
+  cancel = λ q read. not_read a (codes "/msc/cancel") rest q is_text starts apart.cancel read;
+  cancelled = λ q read. not_read a (codes "/msc/cancel") rest q is_text starts apart.cancel read;
 }
 
-status_rests : (s : ShowState) (es : List Event) (l : ℕ) (p : List ℕ) (v e o : ℕ)
-    → BytesRest s es (text_of (send_content (status l p v e o)))
-unfolding send_content
-status_rests s es l p v e o = record {
-  go_2pc = λ q read. not_read (codes "/status") (codes "/msc/go_2pc") _ q (search rules) refl refl read;
-  standby = λ q read. not_read (codes "/status") (codes "/msc/standby") _ q (search rules) refl refl read;
-  cancel = λ q read. not_read (codes "/status") (codes "/msc/cancel") _ q (search rules) refl refl read;
-  cancelled = λ q read. not_read (codes "/status") (codes "/msc/cancel") _ q (search rules) refl refl read;
-}
+pub reply_apart : IsApart (codes "/reply")
+reply_apart = record { standby = refl; go_2pc = refl; cancel = refl }
+
+pub status_apart : IsApart (codes "/status")
+status_apart = record { standby = refl; go_2pc = refl; cancel = refl }
 
 -- ---- a command is read as what was meant
 
@@ -137,37 +131,6 @@ abbrev pub first_number : Content → ℕ
 first_number (message a (x ∷ xs)) = number_in x
 first_number _ = 0
 
-go_says : (s : ShowState) (es : List Event) (o : Order) (q : ℕ) (xs : List Argument) → order_rests s es o ≡ true
-    → order_content o ≡ message (codes "/msc/go_2pc") (number q ∷ xs)
-    → (is_decided_in s q || list_any (is_go_of q) es) ≡ true
-unfolding order_content
-go_says s es (go_2pc p d) q xs h e = let P : ℕ → Type 0 = λ n. (is_decided_in s n || list_any (is_go_of n) es) ≡ true in
-    subst P (ap first_number e) h
-go_says s es (standby p d c b) q xs h e = differ (codes "/msc/standby") (codes "/msc/go_2pc") refl (ap address_in e)
-go_says s es (cancel p d) q xs h e = differ (codes "/msc/cancel") (codes "/msc/go_2pc") refl (ap address_in e)
-
-standby_says : (s : ShowState) (es : List Event) (o : Order) (q : ℕ) (xs : List Argument) → order_rests s es o ≡ true
-    → order_content o ≡ message (codes "/msc/standby") (number q ∷ xs)
-    → (is_live_in s q || list_any (is_start_of q) es) ≡ true
-unfolding order_content
-standby_says s es (standby p d c b) q xs h e = let P : ℕ
-    → Type 0 = λ n. (is_live_in s n || list_any (is_start_of n) es) ≡ true in subst P (ap first_number e) h
-standby_says s es (go_2pc p d) q xs h e = differ (codes "/msc/go_2pc") (codes "/msc/standby") refl (ap address_in e)
-standby_says s es (cancel p d) q xs h e = differ (codes "/msc/cancel") (codes "/msc/standby") refl (ap address_in e)
-
--- a cancel is for an attempt that is live, and is cancelled
-abbrev CancelRests : ShowState → List Event → ℕ → Type 0
-CancelRests s es q = ((is_live_in s q || list_any (is_start_of q) es) ≡ true)
-    × ((is_cancelling_in s q || list_any (is_cancel_of q) es) ≡ true)
-
-cancel_says : (s : ShowState) (es : List Event) (o : Order) (q : ℕ) (xs : List Argument) → order_rests s es o ≡ true
-    → order_content o ≡ message (codes "/msc/cancel") (number q ∷ xs) → CancelRests s es q
-unfolding order_content
-cancel_says s es (cancel p d) q xs h e = let w = both (is_live_in s p || list_any (is_start_of p) es) _ h in
-    subst (CancelRests s es) (ap first_number e) (w.0, w.1)
-cancel_says s es (go_2pc p d) q xs h e = differ (codes "/msc/go_2pc") (codes "/msc/cancel") refl (ap address_in e)
-cancel_says s es (standby p d c b) q xs h e = differ (codes "/msc/standby") (codes "/msc/cancel") refl (ap address_in e)
-
 abbrev pub content_or : Content → Result Content Fault → Content
 content_or c (Ok d) = d
 content_or c (Err f) = c
@@ -176,60 +139,60 @@ read_as : (c : Content) (a : List ℕ) (q : ℕ) → IsWritable c → (read : Ar
     → c ≡ message a (number q ∷ read.0)
 read_as c a q w read = ap (content_or c) (sym (read_back c w) ∙ read.1)
 
+-- it is read as a message to no other address, and to its own about its own number
+not_as : {A : Type 0} (c : Content) (a : List ℕ) (q : ℕ) → IsWritable c
+    → nat_eq (letter (address_in c)) (letter a) ≡ false → AreReadAs (text_of c) a q → A
+not_as c a q w apart read = differ (address_in c) a apart (ap address_in (read_as c a q w read))
+
+number_as : (c : Content) (a : List ℕ) (q : ℕ) → IsWritable c → AreReadAs (text_of c) a q → first_number c ≡ q
+number_as c a q w read = ap first_number (read_as c a q w read)
+
 order_says : (s : ShowState) (es : List Event) (o : Order) → IsWritable (order_content o) → order_rests s es o ≡ true
-    → BytesRest s es (text_of (send_content (order o)))
-unfolding send_content
-order_says s es o w h = record {
-  go_2pc = λ q read. go_says s es o q read.0 h (read_as (order_content o) (codes "/msc/go_2pc") q w read);
-  standby = λ q read. standby_says s es o q read.0 h (read_as (order_content o) (codes "/msc/standby") q w read);
-  cancel = λ q read. (cancel_says s es o q read.0 h (read_as (order_content o) (codes "/msc/cancel") q w read)).0;
-  cancelled = λ q read. (cancel_says s es o q read.0 h (read_as (order_content o) (codes "/msc/cancel") q w read)).1;
-}
+    → BytesRest s es (text_of (order_content o))
+unfolding order_content
+order_says s es (go_2pc p d) w h =
+    let c : Content = order_content (go_2pc p d) in
+    let P : ℕ → Type 0 = λ n. (is_decided_in s n || list_any (is_go_of n) es) ≡ true in
+    record {
+      go_2pc = λ q read. subst P (number_as c (codes "/msc/go_2pc") q w read) h;
+      standby = λ q read. not_as c (codes "/msc/standby") q w refl read;
+      cancel = λ q read. not_as c (codes "/msc/cancel") q w refl read;
+      cancelled = λ q read. not_as c (codes "/msc/cancel") q w refl read;
+    }
+order_says s es (standby p d name bytes) w h =
+    let c : Content = order_content (standby p d name bytes) in
+    let P : ℕ → Type 0 = λ n. (is_live_in s n || list_any (is_start_of n) es) ≡ true in
+    record {
+      go_2pc = λ q read. not_as c (codes "/msc/go_2pc") q w refl read;
+      standby = λ q read. subst P (number_as c (codes "/msc/standby") q w read) h;
+      cancel = λ q read. not_as c (codes "/msc/cancel") q w refl read;
+      cancelled = λ q read. not_as c (codes "/msc/cancel") q w refl read;
+    }
+order_says s es (cancel p d) w h =
+    let c : Content = order_content (cancel p d) in
+    let k = both (is_live_in s p || list_any (is_start_of p) es) _ h in
+    let P : ℕ → Type 0 = λ n. (is_live_in s n || list_any (is_start_of n) es) ≡ true in
+    let Q : ℕ → Type 0 = λ n. (is_cancelling_in s n || list_any (is_cancel_of n) es) ≡ true in
+    record {
+      go_2pc = λ q read. not_as c (codes "/msc/go_2pc") q w refl read;
+      standby = λ q read. not_as c (codes "/msc/standby") q w refl read;
+      cancel = λ q read. subst P (number_as c (codes "/msc/cancel") q w read) k.0;
+      cancelled = λ q read. subst Q (number_as c (codes "/msc/cancel") q w read) k.1;
+    }
 
 -- ---- all of them
 
--- a command that can be written
-abbrev pub IsReadable : Send → Type 0
-IsReadable (reply a m k r c) = Unit {0}
-IsReadable (status l p v e o) = Unit {0}
-IsReadable (order o) = IsWritable (order_content o)
+says : (s : ShowState) (es : List Event) (m : Send) → IsDue s es m → BytesRest s es (text_of (send_content m))
+unfolding send_content
+says s es (reply a m k r c) due = apart_rests s es (codes "/reply") _ (search rules) refl reply_apart
+says s es (status l p v e o) due = apart_rests s es (codes "/status") _ (search rules) refl status_apart
+says s es (order o) due = order_says s es o due.readable due.decided
 
-readable_elsewhere : HoldsElsewhere IsReadable
-readable_elsewhere = record { answers = λ a m k r c. tt; statuses = λ l p v e o. tt }
-
-pub pending_readable : (s : ShowState) → IsTrue (is_state s) → Each IsReadable (all_pending s)
-pending_readable s h = each_map (λ (m : ℕ × Send). IsReadable m.1) (λ (o : ℕ × Order). (o.0, order o.1)) (pending s)
-    (all_writable s h)
-
-pub given_readable : (s : ShowState) (x : Happening) → IsTrue (is_state s) → Each IsReadable (given_at s x).sends
-given_readable s x h = happening-each IsReadable readable_elsewhere s x
-    (pending_readable (after_events s (given_at s x).batch)
-    (is_state-after_events s (given_at s x).batch h (happening-ok s x h)))
-
-run_readable : (s : ShowState) (hs : List Happening) → IsTrue (is_state s) → Each IsReadable (run s hs).sends
-run_readable s [] h = tt
-run_readable s (x ∷ hs) h =
-    let next : ShowState = after_events s (given_at s x).batch in
-    each_append (λ (m : ℕ × Send). IsReadable m.1) (given_at s x).sends (run next hs).sends (given_readable s x h)
-    (run_readable next hs (is_state-after_events s (given_at s x).batch h (happening-ok s x h)))
-
-says : (s : ShowState) (es : List Event) (m : Send) → IsReadable m → send_rests s es m ≡ true
-    → BytesRest s es (text_of (send_content m))
-says s es (reply a m k r c) w h = answer_rests s es a m k r c
-says s es (status l p v e o) w h = status_rests s es l p v e o
-says s es (order o) w h = order_says s es o w h
-
-pub all_say : (s : ShowState) (es : List Event) (ms : List (ℕ × Send)) → Each IsReadable ms
-    → IsTrue (list_all (rests s es) ms) → AllByRecursion (λ d. BytesRest s es d.1) (datagrams ms)
+pub all_say : (s : ShowState) (es : List Event) (ms : List (ℕ × Send)) → Each (IsDue s es) ms
+    → AllByRecursion (λ d. BytesRest s es d.1) (datagrams ms)
 unfolding datagram
-all_say s es [] w h = tt
-all_say s es (m ∷ ms) w h = let k = each_passes (rests s es) (m ∷ ms) h in
-    (says s es m.1 w.0 k.0, all_say s es ms w.1 (tail (rests s es m) (list_all (rests s es) ms) h))
-  where
-    tail : (a b : Bool) → IsTrue (a && b) → IsTrue b
-    tail true b k = k
-    tail false b k = absurd (true≢false (sym k))
+all_say s es [] due = tt
+all_say s es (m ∷ ms) due = (says s es m.1 due.0, all_say s es ms due.1)
 
 pub bytes_of_each_rest : BytesOfEachRest
-bytes_of_each_rest s hs h = all_say s (joined_list (run s hs).batches) (run s hs).sends (run_readable s hs h)
-    (each_rests s hs)
+bytes_of_each_rest s hs h = all_say s (joined_list (run s hs).batches) (run s hs).sends (run-each due_lasts s hs h)

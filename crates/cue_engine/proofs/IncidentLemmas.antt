@@ -2,42 +2,37 @@
 --
 -- What the disks are read as is chosen from the last incident back to the first: what a stop leaves is then one pair of
 -- byte lists, and the batch of a call that was cut off is there or not.
-use Rattle.std.proofs.Common.{◌≡◌, ◌⊎◌, inl, inr, ℕ, zero, suc, Bool, true, List, [], ◌∷◌, ◌++◌, take, drop, refl}
-use Rattle.std.proofs.Common.{sym, ap, ◌∙◌, subst, append-nil, IsTrue}
-use Rattle.std.specs.List.{AllByRecursion, list_all}
+use Rattle.std.proofs.Common.{◌≡◌, ◌⊎◌, inl, inr, ℕ, zero, suc, true, List, [], ◌∷◌, ◌++◌, take, drop, refl, sym, ap}
+use Rattle.std.proofs.Common.{◌∙◌, subst, append-nil, IsTrue}
+use Rattle.std.specs.List.{AllByRecursion}
 use Rattle.cue_disk.specs.Disk.{Contents}
 use Rattle.cue_snap.specs.Pair.{NeitherHas, IsUnformedOr}
 use Rattle.cue_core.specs.declared.event.Event.{Event}
 use Rattle.cue_core.specs.State.{ShowState, empty_state, is_state}
 use Rattle.cue_core.specs.Steps.{after_events, are_acceptable}
-use Rattle.cue_core.proofs.lists.ConditionLemmas.{both, join}
 use Rattle.cue_core.proofs.rules.ApplyLemmas.{after_events-append}
 use Rattle.cue_keeper.specs.Stands.{Stands, StandsEither, first_area, folded_all}
 use Rattle.cue_keeper.proofs.StandingLemmas.{one_state, fresh_stands}
 use Rattle.cue_records.specs.State.{state_text}
 use Rattle.cue_keeper.proofs.RefusedLemmas.{is_opened}
-use Rattle.cue_outbox.specs.Sending.{Send, all_pending}
-use Rattle.cue_engine.specs.Given.{Input, given_of, given_recovery}
-use Rattle.cue_engine.specs.Groups.{batches_given, sends_given}
+use Rattle.cue_outbox.specs.Sending.{Send}
+use Rattle.cue_engine.specs.Given.{Input, given_recovery}
+use Rattle.cue_engine.specs.Groups.{batches_given, sends_given, all_took}
 use Rattle.cue_core.specs.Batches.{closed_state}
 use Rattle.cue_engine.specs.Recovery.{ClosedFrom, IsLeftOrStands}
-use Rattle.cue_engine.specs.Runs.{took, joined_list, rests}
+use Rattle.cue_engine.specs.Runs.{joined_list, run}
 use Rattle.cue_engine.specs.Runs as runs
-use Rattle.cue_engine.specs.Incidents.{Incident, formed, stopped_in_form, committed, handed_out, handed_some}
-use Rattle.cue_engine.specs.Incidents.{stopped, stopped_in_commit, recovered, stopped_in_recovery, refused}
-use Rattle.cue_engine.specs.Incidents.{Store, running}
+use Rattle.cue_engine.specs.Incidents.{Incident, formed, stopped_in_form, committed, handed_out, handed_some, stopped}
+use Rattle.cue_engine.specs.Incidents.{stopped_in_commit, recovered, stopped_in_recovery, refused, Store, running}
 use Rattle.cue_engine.specs.Incidents.{at_rest, unformed, begun, LeavesOnly, AreLeft, PermitsRunning, PermitsAtRest}
 use Rattle.cue_engine.specs.Incidents.{PermitsUnformed, Permits, left_by}
 use Rattle.cue_engine.specs.Headline.{owed_by, handed_in, batches_of, is_cut_off}
-use Rattle.cue_core.proofs.lists.AnyLemmas.{all-append, all_implied}
-use Rattle.cue_engine.proofs.RestingLemmas.{more, earlier, input_rests, all_pending_rest}
-use Rattle.cue_engine.proofs.HistoryLemmas.{input-ok, happening-ok}
-use Rattle.cue_engine.proofs.GroupLemmas.{after_joined, joined_some, joined_one, inputs-ok}
+use Rattle.cue_engine.proofs.HistoryLemmas.{happening-ok}
+use Rattle.cue_engine.proofs.GroupLemmas.{after_joined, joined_some, joined_one, inputs-ok, is_a_run}
 use Rattle.cue_core.proofs.rules.BatchLemmas.{is_state-after_events}
-use Rattle.cue_engine.proofs.SentLemmas.{Each}
-use Rattle.cue_engine.proofs.AskedLemmas.{WasAsked, all_asked-earlier, all_asked-more, inputs_asked, pending_asked}
-use Rattle.cue_engine.proofs.BytesLemmas.{IsReadable, pending_readable, given_readable}
+use Rattle.cue_engine.proofs.SentLemmas.{Each, each_more, each_earlier, run-each}
 use Rattle.cue_outbox.proofs.ListLemmas.{each_append}
+use Rattle.cue_engine.proofs.DueLemmas.{IsDue, pending_due, due_lasts}
 
 -- nothing was formed: whatever a crash leaves has no area, or stands for the first state
 abbrev pub LeavesFirst : Contents → Contents → Type 0
@@ -49,50 +44,13 @@ HasOn (running t owed) x y s = t ≡ s
 HasOn (at_rest one other) x y s = Stands x y s
 HasOn (unformed one other) x y s = (s ≡ empty_state) × LeavesFirst one other
 
--- what the store has after these events, and that what is owed rests on them, was pending, and can be read again
+-- what the store has after these events, and that what is owed is due by them
 pub record IsOn (s : ShowState) (es : List Event) (store : Store) (x y : List ℕ) : Type 0 where
   pub has : HasOn store x y (after_events s es)
-  pub owed : list_all (rests s es) (owed_by store) ≡ true
-  pub asked : Each (WasAsked s es) (owed_by store)
-  pub readable : Each IsReadable (owed_by store)
+  pub owed : Each (IsDue s es) (owed_by store)
   pub rules : IsTrue (is_state (after_events s es))
 
--- ---- what rests
-
-pub all_more : (s : ShowState) (es fs : List Event) (xs : List (ℕ × Send)) → list_all (rests s es) xs ≡ true
-    → list_all (rests s (es ++ fs)) xs ≡ true
-all_more s es fs xs h = all_implied (rests s es) (rests s (es ++ fs)) (λ m k. more s es fs m.1 k) xs h
-
-all_earlier : (s : ShowState) (es fs : List Event) (xs : List (ℕ × Send))
-    → list_all (rests (after_events s es) fs) xs ≡ true → list_all (rests s (es ++ fs)) xs ≡ true
-all_earlier s es fs xs h = all_implied (rests (after_events s es) fs) (rests s (es ++ fs))
-    (λ m k. earlier s es fs m.1 k) xs h
-
-all_taken : (p : ℕ × Send → Bool) (n : ℕ) (xs : List (ℕ × Send)) → list_all p xs ≡ true → list_all p (take n xs) ≡ true
-all_taken p zero xs h = refl
-all_taken p (suc n) [] h = refl
-all_taken p (suc n) (x ∷ xs) h = let w = both (p x) (list_all p xs) h in
-    join (p x) (list_all p (take n xs)) w.0 (all_taken p n xs w.1)
-
-all_dropped : (p : ℕ × Send → Bool) (n : ℕ) (xs : List (ℕ × Send)) → list_all p xs ≡ true
-    → list_all p (drop n xs) ≡ true
-all_dropped p zero xs h = h
-all_dropped p (suc n) [] h = refl
-all_dropped p (suc n) (x ∷ xs) h = all_dropped p n xs (both (p x) (list_all p xs) h).1
-
--- what is handed over was owed
-pub handed_rests : (s : ShowState) (es : List Event) (store : Store) (i : Incident)
-    → list_all (rests s es) (owed_by store) ≡ true → list_all (rests s es) (handed_in store i) ≡ true
-handed_rests s es store formed h = refl
-handed_rests s es store (stopped_in_form one other) h = refl
-handed_rests s es store (committed inputs) h = refl
-handed_rests s es store handed_out h = h
-handed_rests s es store (handed_some n) h = all_taken (rests s es) n (owed_by store) h
-handed_rests s es store (stopped n one other) h = all_taken (rests s es) n (owed_by store) h
-handed_rests s es store (stopped_in_commit inputs n one other) h = all_taken (rests s es) n (owed_by store) h
-handed_rests s es store (recovered t) h = refl
-handed_rests s es store (stopped_in_recovery one other) h = refl
-handed_rests s es store (refused one other) h = refl
+-- ---- what is handed over was owed
 
 each_taken : {A : Type 0} (P : A → Type 0) (n : ℕ) (xs : List A) → AllByRecursion P xs → AllByRecursion P (take n xs)
 each_taken P zero xs h = tt
@@ -106,17 +64,12 @@ each_dropped P (suc n) (x ∷ xs) h = each_dropped P n xs h.1
 
 pub handed_each : (R : Send → Type 0) (store : Store) (i : Incident) → Each R (owed_by store)
     → Each R (handed_in store i)
-handed_each R store formed h = tt
-handed_each R store (stopped_in_form one other) h = tt
-handed_each R store (committed inputs) h = tt
 handed_each R store handed_out h = h
 handed_each R store (handed_some n) h = each_taken (λ (m : ℕ × Send). R m.1) n (owed_by store) h
 handed_each R store (stopped n one other) h = each_taken (λ (m : ℕ × Send). R m.1) n (owed_by store) h
 handed_each R store (stopped_in_commit inputs n one other) h =
     each_taken (λ (m : ℕ × Send). R m.1) n (owed_by store) h
-handed_each R store (recovered t) h = tt
-handed_each R store (stopped_in_recovery one other) h = tt
-handed_each R store (refused one other) h = tt
+handed_each R store _ h = tt
 
 -- the rules of a state hold after an acceptable batch
 rules_after : (s : ShowState) (es batch : List Event) → IsTrue (is_state (after_events s es))
@@ -135,16 +88,11 @@ events_of s (stopped_in_recovery one other) = (given_recovery s).batch
 events_of s _ = []
 
 pub joined_batches : (s : ShowState) (i : Incident) → joined_list (batches_of s i) ≡ events_of s i
-joined_batches s formed = refl
-joined_batches s (stopped_in_form one other) = refl
 joined_batches s (committed inputs) = joined_some (batches_given s inputs)
-joined_batches s handed_out = refl
-joined_batches s (handed_some n) = refl
-joined_batches s (stopped n one other) = refl
 joined_batches s (stopped_in_commit inputs n one other) = joined_some (batches_given s inputs)
 joined_batches s (recovered t) = joined_one (given_recovery s).batch
 joined_batches s (stopped_in_recovery one other) = joined_one (given_recovery s).batch
-joined_batches s (refused one other) = refl
+joined_batches s _ = refl
 
 -- they make the same state
 pub folded_batches : (s : ShowState) (i : Incident) → folded_all s (batches_of s i) ≡ after_events s (events_of s i)
@@ -176,7 +124,7 @@ as_before s es store x y on = let P : List Event → Type 0 = λ fs. IsOn s fs s
 
 pub resting_at : (s : ShowState) (es : List Event) (one other : Contents) (x y : List ℕ)
     → IsTrue (is_state (after_events s es)) → Stands x y (after_events s es) → IsOn s es (at_rest one other) x y
-resting_at s es one other x y rules h = record { has = h; owed = refl; asked = tt; readable = tt; rules = rules }
+resting_at s es one other x y rules h = record { has = h; owed = tt; rules = rules }
 
 -- a stop leaves the state from before or the one after the batch
 resting_either : (s : ShowState) (es batch : List Event) (one other : Contents) (x y : List ℕ)
@@ -193,30 +141,26 @@ with_cut : {A B : Type 0} → A ⊎ B → A ⊎ ((true ≡ true) × B)
 with_cut (inl a) = inl a
 with_cut (inr b) = inr (refl, b)
 
+-- an engine that begins after a batch owes what is pending then
+begins : (s : ShowState) (es batch : List Event) (t : ShowState) (x y : List ℕ)
+    → IsTrue (is_state (after_events s es)) → IsTrue (are_acceptable (after_events s es) batch)
+    → t ≡ after_events (after_events s es) batch → IsOn s (es ++ batch) (begun t) x y
+begins s es batch t x y rules ok same =
+    let last : t ≡ after_events s (es ++ batch) = same ∙ sym (after_events-append s es batch) in
+    let P : ShowState → Type 0 = λ u. IsOn s (es ++ batch) (begun u) x y in
+    let now = rules_after s es batch rules ok in
+    subst P (sym last) (record { has = refl; owed = pending_due s (es ++ batch) now; rules = now })
+
 -- ---- while an engine runs
 
--- what is sent for inputs rests on their batches
-inputs_rest : (s : ShowState) (inputs : List (ℕ × Input))
-    → list_all (rests s (joined_list (batches_given s inputs))) (sends_given s inputs) ≡ true
-inputs_rest s [] = refl
-inputs_rest s (i ∷ is) =
-    let batch : List Event = (given_of s i.0 i.1).batch in
-    let next : ShowState = after_events s batch in
-    let later : List Event = joined_list (batches_given next is) in
-    all-append (rests s (batch ++ later)) (given_of s i.0 i.1).sends (sends_given next is)
-    (all_more s batch later (given_of s i.0 i.1).sends (input_rests s i.0 i.1))
-    (all_earlier s batch later (sends_given next is) (inputs_rest next is))
-
--- and can be read again
-inputs_readable : (s : ShowState) (inputs : List (ℕ × Input)) → IsTrue (is_state s)
-    → Each IsReadable (sends_given s inputs)
-inputs_readable s [] rules = tt
-inputs_readable s (i ∷ is) rules =
-    let batch : List Event = (given_of s i.0 i.1).batch in
-    let next : ShowState = after_events s batch in
-    each_append (λ (m : ℕ × Send). IsReadable m.1) (given_of s i.0 i.1).sends (sends_given next is)
-    (given_readable s (took i.0 i.1) rules)
-    (inputs_readable next is (is_state-after_events s batch rules (input-ok s i.0 i.1 rules)))
+-- what is sent for inputs is due by their batches
+inputs_due : (s : ShowState) (inputs : List (ℕ × Input)) → IsTrue (is_state s)
+    → Each (IsDue s (joined_list (batches_given s inputs))) (sends_given s inputs)
+inputs_due s inputs rules =
+    let a_run = is_a_run s inputs in
+    subst (λ (ms : List (ℕ × Send)). Each (IsDue s (joined_list (batches_given s inputs))) ms) a_run.2
+    (subst (λ (es : List Event). Each (IsDue s es) (run s (all_took inputs)).sends)
+    (ap joined_list a_run.1 ∙ joined_some (batches_given s inputs)) (run-each due_lasts s (all_took inputs) rules))
 
 goes_committed : (s : ShowState) (es : List Event) (owed : List (ℕ × Send)) (inputs : List (ℕ × Input)) (x y : List ℕ)
     → IsOn s es (running (after_events s es) owed) [] []
@@ -227,13 +171,9 @@ goes_committed s es owed inputs x y on =
     let sends : List (ℕ × Send) = sends_given before inputs in
     inl (record {
       has = sym (after_joined before (batches_given before inputs)) ∙ sym (after_events-append s es batch);
-      owed = all-append (rests s (es ++ batch)) owed sends (all_more s es batch owed on.owed)
-          (all_earlier s es batch sends (inputs_rest before inputs));
-      asked = each_append (λ (m : ℕ × Send). WasAsked s (es ++ batch) m.1) owed sends
-          (all_asked-more s es batch owed on.asked)
-          (all_asked-earlier s es batch sends (inputs_asked before inputs));
-      readable = each_append (λ (m : ℕ × Send). IsReadable m.1) owed sends on.readable
-          (inputs_readable before inputs on.rules);
+      owed = each_append (λ (m : ℕ × Send). IsDue s (es ++ batch) m.1) owed sends
+          (each_more due_lasts s es batch owed on.owed)
+          (each_earlier due_lasts s es batch sends (inputs_due before inputs on.rules));
       rules = rules_after s es batch on.rules (inputs-ok before inputs on.rules);
     })
 
@@ -241,19 +181,14 @@ goes_running : (s : ShowState) (es : List Event) (owed : List (ℕ × Send)) (i 
     → IsOn s es (running (after_events s es) owed) [] [] → PermitsRunning (after_events s es) i
     → MayOn (left_by (running (after_events s es) owed) i) x y
     → Goes s es (running (after_events s es) owed) i x y
-goes_running s es owed formed x y on ok may = absurd ok
-goes_running s es owed (stopped_in_form one other) x y on ok may = absurd ok
 goes_running s es owed (committed inputs) x y on ok may = goes_committed s es owed inputs x y on
 goes_running s es owed handed_out x y on ok may =
-    inl (as_before s es (running (after_events s es) []) x y
-    (record { has = refl; owed = refl; asked = tt; readable = tt; rules = on.rules }))
+    inl (as_before s es (running (after_events s es) []) x y (record { has = refl; owed = tt; rules = on.rules }))
 goes_running s es owed (handed_some n) x y on ok may =
     inl (as_before s es (running (after_events s es) (drop n owed)) x y
     (record {
       has = refl;
-      owed = all_dropped (rests s es) n owed on.owed;
-      asked = each_dropped (λ (m : ℕ × Send). WasAsked s es m.1) n owed on.asked;
-      readable = each_dropped (λ (m : ℕ × Send). IsReadable m.1) n owed on.readable;
+      owed = each_dropped (λ (m : ℕ × Send). IsDue s es m.1) n owed on.owed;
       rules = on.rules;
     }))
 goes_running s es owed (stopped n one other) x y on ok may =
@@ -264,9 +199,7 @@ goes_running s es owed (stopped_in_commit inputs n one other) x y on ok may =
     with_cut (resting_either s es (joined_list (batches_given before inputs)) one other x y on.rules
     (inputs-ok before inputs on.rules) (subst P (sym (after_joined before (batches_given before inputs)))
     (ok x y may.0 may.1)))
-goes_running s es owed (recovered t) x y on ok may = absurd ok
-goes_running s es owed (stopped_in_recovery one other) x y on ok may = absurd ok
-goes_running s es owed (refused one other) x y on ok may = absurd ok
+goes_running s es owed _ x y on ok may = absurd ok
 
 -- an engine runs with the state that the store has
 goes_on : (s : ShowState) (es : List Event) (t : ShowState) (owed : List (ℕ × Send)) (i : Incident) (x y : List ℕ)
@@ -283,8 +216,7 @@ chosen_running t owed i x y ok may = record {
   first = [];
   second = [];
   may = tt;
-  goes = λ s es on. goes_on s es t owed i x y on.has
-      (record { has = refl; owed = on.owed; asked = on.asked; readable = on.readable; rules = on.rules }) ok may;
+  goes = λ s es on. goes_on s es t owed i x y on.has (record { has = refl; owed = on.owed; rules = on.rules }) ok may;
 }
 
 -- ---- while none runs
@@ -293,20 +225,8 @@ chosen_running t owed i x y ok may = record {
 begins_again : (s : ShowState) (es : List Event) (t : ShowState) (x y : List ℕ) → IsTrue (is_state (after_events s es))
     → t ≡ closed_state (after_events s es) → IsOn s (es ++ (given_recovery (after_events s es)).batch) (begun t) x y
 unfolding closed_state
-begins_again s es t x y rules same =
-    let batch : List Event = (given_recovery (after_events s es)).batch in
-    let ok = happening-ok (after_events s es) runs.recovered rules in
-    let P : ShowState → Type 0 = λ u. IsOn s (es ++ batch) (begun u) x y in
-    subst P (sym same) (record {
-      has = sym (after_events-append s es batch);
-      owed = all_earlier s es batch (all_pending (closed_state (after_events s es)))
-          (all_pending_rest (after_events s es) batch);
-      asked = all_asked-earlier s es batch (all_pending (closed_state (after_events s es)))
-          (pending_asked (after_events s es) batch);
-      readable = pending_readable (closed_state (after_events s es))
-          (is_state-after_events (after_events s es) batch rules ok);
-      rules = rules_after s es batch rules ok;
-    })
+begins_again s es t x y rules same = begins s es (given_recovery (after_events s es)).batch t x y rules
+    (happening-ok (after_events s es) runs.recovered rules) same
 
 recovers : (s : ShowState) (es : List Event) (t : ShowState) (x y first second : List ℕ)
     → IsTrue (is_state (after_events s es)) → ClosedFrom first second t → Stands first second (after_events s es)
@@ -345,13 +265,6 @@ chosen_stopped then_one then_other one other x y (inr since) = record {
 
 chosen_at_rest : (then_one then_other : Contents) (i : Incident) (x y : List ℕ) → PermitsAtRest then_one then_other i
     → MayOn (left_by (at_rest then_one then_other) i) x y → Chosen (at_rest then_one then_other) i x y
-chosen_at_rest then_one then_other formed x y ok may = absurd ok
-chosen_at_rest then_one then_other (stopped_in_form one other) x y ok may = absurd ok
-chosen_at_rest then_one then_other (committed inputs) x y ok may = absurd ok
-chosen_at_rest then_one then_other handed_out x y ok may = absurd ok
-chosen_at_rest then_one then_other (handed_some n) x y ok may = absurd ok
-chosen_at_rest then_one then_other (stopped n one other) x y ok may = absurd ok
-chosen_at_rest then_one then_other (stopped_in_commit inputs n one other) x y ok may = absurd ok
 chosen_at_rest then_one then_other (recovered t) x y ok may = record {
   first = ok.first;
   second = ok.second;
@@ -366,6 +279,7 @@ chosen_at_rest then_one then_other (refused one other) x y ok may = record {
   may = ok x y may.0 may.1;
   goes = λ s es on. inl (as_before s es (at_rest one other) x y (resting_at s es one other x y on.rules on.has));
 }
+chosen_at_rest then_one then_other _ x y ok may = absurd ok
 
 -- ---- while none has come to be
 
@@ -408,35 +322,18 @@ pub unformed_at : (s : ShowState) (es : List Event) (one other : Contents) (x y 
     → IsTrue (is_state (after_events s es)) → after_events s es ≡ empty_state → LeavesFirst one other
     → IsOn s es (unformed one other) x y
 unformed_at s es one other x y rules same first =
-    record { has = (same, first); owed = refl; asked = tt; readable = tt; rules = rules }
-
--- an engine over the state owes what is pending in it
-begins_on : (s : ShowState) (es : List Event) (t : ShowState) (x y : List ℕ) → IsTrue (is_state (after_events s es))
-    → after_events s es ≡ t → IsOn s (es ++ []) (begun t) x y
-begins_on s es t x y rules same =
-    let P : ShowState → Type 0 = λ u. IsOn s (es ++ []) (begun u) x y in
-    subst P same (record {
-      has = sym (after_events-append s es []);
-      owed = all_earlier s es [] (all_pending (after_events s es)) (all_pending_rest (after_events s es) []);
-      asked = all_asked-earlier s es [] (all_pending (after_events s es)) (pending_asked (after_events s es) []);
-      readable = pending_readable (after_events s es) rules;
-      rules = rules_after s es [] rules refl;
-    })
+    record { has = (same, first); owed = tt; rules = rules }
 
 goes_unformed : (s : ShowState) (es : List Event) (then_one then_other : Contents) (i : Incident) (x y : List ℕ)
     → IsTrue (is_state (after_events s es)) → after_events s es ≡ empty_state → LeavesFirst then_one then_other
     → PermitsUnformed then_one then_other i
     → Goes s es (unformed then_one then_other) i x y
-goes_unformed s es then_one then_other formed x y rules same first ok = inl (begins_on s es empty_state x y rules same)
+goes_unformed s es then_one then_other formed x y rules same first ok =
+    inl (begins s es [] empty_state x y rules refl (sym same))
 goes_unformed s es then_one then_other (stopped_in_form one other) x y rules same first ok =
     inl (as_before s es (unformed one other) x y
     (unformed_at s es one other x y rules same
     (λ u v left_u left_v. still_first then_one then_other first u v (ok u v left_u left_v))))
-goes_unformed s es then_one then_other (committed inputs) x y rules same first ok = absurd ok
-goes_unformed s es then_one then_other handed_out x y rules same first ok = absurd ok
-goes_unformed s es then_one then_other (handed_some n) x y rules same first ok = absurd ok
-goes_unformed s es then_one then_other (stopped n one other) x y rules same first ok = absurd ok
-goes_unformed s es then_one then_other (stopped_in_commit inputs n one other) x y rules same first ok = absurd ok
 goes_unformed s es then_one then_other (recovered t) x y rules same first ok =
     let stood : ok.closed.before ≡ empty_state =
     stands_first ok.first ok.second ok.closed.before (first ok.first ok.second ok.left.0 ok.left.1)
@@ -452,6 +349,7 @@ goes_unformed s es then_one then_other (refused one other) x y rules same first 
     inl (as_before s es (unformed one other) x y
     (unformed_at s es one other x y rules same (λ u v left_u left_v. let left = ok u v left_u left_v in first u v
     left.0 left.1)))
+goes_unformed s es then_one then_other _ x y rules same first ok = absurd ok
 
 chosen_unformed : (then_one then_other : Contents) (i : Incident) (x y : List ℕ) → PermitsUnformed then_one then_other i
     → Chosen (unformed then_one then_other) i x y

@@ -1,7 +1,6 @@
 -- Whatever happens to a store, whole batches are kept, and what was handed over rests on them.
 use Rattle.std.proofs.Common.{◌≡◌, ◌⊎◌, inl, inr, ℕ, true, List, [], ◌∷◌, ◌++◌, refl, sym, ap, ◌∙◌, subst, append_assoc}
 use Rattle.std.proofs.Common.{IsTrue}
-use Rattle.std.specs.List.{list_all}
 use Rattle.cue_snap.specs.Pair.{NeitherHas}
 use Rattle.cue_core.specs.declared.event.Event.{Event}
 use Rattle.cue_core.specs.State.{ShowState, empty_state, is_state}
@@ -12,21 +11,18 @@ use Rattle.cue_keeper.proofs.StandingLemmas.{one_state}
 use Rattle.cue_keeper.proofs.RefusedLemmas.{is_opened}
 use Rattle.cue_outbox.specs.Sending.{Send, all_pending, datagrams}
 use Rattle.cue_core.specs.Batches.{closed_state}
-use Rattle.cue_engine.specs.Runs.{joined_list, rests}
+use Rattle.cue_engine.specs.Runs.{joined_list}
 use Rattle.cue_engine.specs.Incidents.{Incident, Store, running, at_rest, unformed, left_by, Happens, left_by_all}
 use Rattle.cue_engine.specs.Headline.{handed_in, all_handed, batches_of, is_cut_off, AreKept, BeginsWith, MayRead}
-use Rattle.cue_engine.specs.Headline.{HasState, CameTo, IsAnswered, WhateverHappens, RecoveryGivesAPrefix}
-use Rattle.cue_core.proofs.lists.AnyLemmas.{all-append}
-use Rattle.cue_engine.proofs.RestingLemmas.{all_pending_rest}
+use Rattle.cue_engine.specs.Headline.{HasState, CameTo, IsAnswered, WhateverHappens, RecoveryGivesAPrefix, owed_by}
 use Rattle.cue_engine.proofs.GroupLemmas.{joined_append}
-use Rattle.cue_engine.proofs.SentLemmas.{Each}
-use Rattle.cue_engine.proofs.BytesLemmas.{IsReadable, pending_readable, all_say}
-use Rattle.cue_engine.proofs.AskedLemmas.{WasAsked, all_asked-more, pending_asked}
+use Rattle.cue_engine.proofs.SentLemmas.{Each, each_more}
+use Rattle.cue_engine.proofs.BytesLemmas.{all_say}
 use Rattle.cue_engine.proofs.OrderBytesLemmas.{all_pending_in_bytes}
 use Rattle.cue_outbox.proofs.ListLemmas.{each_append}
-use Rattle.cue_engine.proofs.IncidentLemmas.{HasOn, IsOn, Goes, MayOn, all_more, handed_rests, handed_each}
-use Rattle.cue_engine.proofs.IncidentLemmas.{as_before, resting_at, unformed_at, chosen}
-use Rattle.cue_engine.proofs.IncidentLemmas.{events_of, joined_batches, folded_batches}
+use Rattle.cue_engine.proofs.IncidentLemmas.{HasOn, IsOn, Goes, MayOn, handed_each, as_before, resting_at, unformed_at}
+use Rattle.cue_engine.proofs.IncidentLemmas.{chosen, events_of, joined_batches, folded_batches}
+use Rattle.cue_engine.proofs.DueLemmas.{IsDue, pending_due, due_lasts, all_decided}
 
 -- ---- all of them
 
@@ -34,21 +30,20 @@ record Found (s : ShowState) (es : List Event) (store : Store) (is : List Incide
   kept : List (List Event)
   prefix : AreKept (after_events s es) is kept
   has : HasOn (left_by_all store is) x y (after_events s (es ++ joined_list kept))
-  decided : list_all (rests s (es ++ joined_list kept)) (all_handed store is) ≡ true
-  asked : Each (WasAsked s (es ++ joined_list kept)) (all_handed store is)
-  readable : Each IsReadable (all_handed store is)
+  due : Each (IsDue s (es ++ joined_list kept)) (all_handed store is)
 
 found_none : (s : ShowState) (es : List Event) (store : Store) (x y : List ℕ) → IsOn s es store x y
     → Found s es store [] x y
 found_none s es store x y on =
-    record {
-      kept = [];
-      prefix = refl;
-      has = (as_before s es store x y on).has;
-      decided = refl;
-      asked = tt;
-      readable = tt;
-    }
+    record { kept = []; prefix = refl; has = (as_before s es store x y on).has; due = tt }
+
+-- what is handed over in one incident, and then in the others
+due_then : (s : ShowState) (es fs : List Event) (store : Store) (i : Incident) (is : List Incident)
+    → Each (IsDue s es) (owed_by store) → Each (IsDue s (es ++ fs)) (all_handed (left_by store i) is)
+    → Each (IsDue s (es ++ fs)) (all_handed store (i ∷ is))
+due_then s es fs store i is owed others =
+    each_append (λ (m : ℕ × Send). IsDue s (es ++ fs) m.1) (handed_in store i) (all_handed (left_by store i) is)
+    (each_more due_lasts s es fs (handed_in store i) (handed_each (IsDue s es) store i owed)) others
 
 found_whole : (s : ShowState) (es : List Event) (store : Store) (i : Incident) (is : List Incident)
     (x y first second : List ℕ) → IsOn s es store first second
@@ -64,22 +59,12 @@ found_whole s es store i is x y first second on f =
     let same : (es ++ batch) ++ joined_list f.kept ≡ es ++ joined_list (batches ++ f.kept) =
     append_assoc es batch (joined_list f.kept) ∙ ap (λ (xs : List Event). es ++ xs) joined in
     let Q : List Event → Type 0 = λ xs. HasOn (left_by_all (left_by store i) is) x y (after_events s xs) in
-    let R : List Event → Type 0 = λ xs. list_all (rests s xs) (all_handed (left_by store i) is) ≡ true in
-    let S : List Event → Type 0 = λ xs. Each (WasAsked s xs) (all_handed (left_by store i) is) in
+    let R : List Event → Type 0 = λ xs. Each (IsDue s xs) (all_handed (left_by store i) is) in
     record {
       kept = batches ++ f.kept;
       prefix = inl (f.kept, (refl, subst P (after_events-append s es batch ∙ sym (folded_batches before i)) f.prefix));
       has = subst Q same f.has;
-      decided = all-append (rests s (es ++ joined_list (batches ++ f.kept))) (handed_in store i)
-          (all_handed (left_by store i) is)
-          (all_more s es (joined_list (batches ++ f.kept)) (handed_in store i)
-          (handed_rests s es store i on.owed)) (subst R same f.decided);
-      asked = each_append (λ (m : ℕ × Send). WasAsked s (es ++ joined_list (batches ++ f.kept)) m.1)
-          (handed_in store i) (all_handed (left_by store i) is)
-          (all_asked-more s es (joined_list (batches ++ f.kept)) (handed_in store i)
-          (handed_each (WasAsked s es) store i on.asked)) (subst S same f.asked);
-      readable = each_append (λ (m : ℕ × Send). IsReadable m.1) (handed_in store i) (all_handed (left_by store i) is)
-          (handed_each IsReadable store i on.readable) f.readable;
+      due = due_then s es (joined_list (batches ++ f.kept)) store i is on.owed (subst R same f.due);
     }
 
 found_cut : (s : ShowState) (es : List Event) (store : Store) (i : Incident) (is : List Incident)
@@ -89,14 +74,7 @@ found_cut s es store i is x y first second on cut f = record {
   kept = f.kept;
   prefix = inr (cut, f.prefix);
   has = f.has;
-  decided = all-append (rests s (es ++ joined_list f.kept)) (handed_in store i) (all_handed (left_by store i) is)
-      (all_more s es (joined_list f.kept) (handed_in store i) (handed_rests s es store i on.owed)) f.decided;
-  asked = each_append (λ (m : ℕ × Send). WasAsked s (es ++ joined_list f.kept) m.1) (handed_in store i)
-      (all_handed (left_by store i) is)
-      (all_asked-more s es (joined_list f.kept) (handed_in store i) (handed_each (WasAsked s es) store i on.asked))
-      f.asked;
-  readable = each_append (λ (m : ℕ × Send). IsReadable m.1) (handed_in store i) (all_handed (left_by store i) is)
-      (handed_each IsReadable store i on.readable) f.readable;
+  due = due_then s es (joined_list f.kept) store i is on.owed f.due;
 }
 
 found_either : (s : ShowState) (es : List Event) (store : Store) (i : Incident) (is : List Incident)
@@ -142,9 +120,7 @@ starts s (running t owed) x y h begins may =
     let P : List (ℕ × Send) → Type 0 = λ ms. IsOn s [] (running t ms) x y in
     subst P (sym begins.1) (record {
       has = begins.0;
-      owed = all_pending_rest s [];
-      asked = pending_asked s [];
-      readable = pending_readable s h;
+      owed = pending_due s [] h;
       rules = h;
     })
 starts s (at_rest one other) x y h begins may = resting_at s [] one other x y h (begins x y may.0 may.1)
@@ -175,9 +151,9 @@ whatever_happens s store is x y h begins ok may =
       kept = f.kept;
       prefix = f.prefix;
       has = has_state (left_by_all store is) x y (after_events s (joined_list f.kept)) may f.has;
-      decided = f.decided;
-      in_bytes = all_say s (joined_list f.kept) (all_handed store is) f.readable f.decided;
-      was_pending = all_pending_in_bytes s (joined_list f.kept) (all_handed store is) f.readable f.asked;
+      decided = all_decided s (joined_list f.kept) (all_handed store is) f.due;
+      in_bytes = all_say s (joined_list f.kept) (all_handed store is) f.due;
+      was_pending = all_pending_in_bytes s (joined_list f.kept) (all_handed store is) f.due;
     }
 
 -- recovery closes the state that the two stand for

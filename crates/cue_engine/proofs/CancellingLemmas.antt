@@ -14,7 +14,8 @@ use Rattle.cue_core.specs.Events.{is_cancel_of}
 use Rattle.cue_core.specs.State.{ShowState}
 use Rattle.cue_core.specs.Steps.{after, after_events}
 use Rattle.cue_core.proofs.lists.ConditionLemmas.{both, join}
-use Rattle.cue_core.proofs.lists.AnyLemmas.{or_left, or_right, or_assoc, either, same, any-append, any-mapped, any-kept}
+use Rattle.cue_core.proofs.lists.AnyLemmas.{or_left, or_right, or_assoc, either, same, any-append, any-implied}
+use Rattle.cue_core.proofs.lists.AnyLemmas.{any-mapped, any-kept}
 use Rattle.cue_engine.specs.Runs.{is_cancelling_in}
 
 -- a change that cancels nothing
@@ -38,37 +39,27 @@ cancelling-changed p q f keeps back live h = any-mapped (with_change p f) (λ a.
 cancelling-moved : (p q : ℕ) (r : Reason) (live : List Attempt)
     → holds q (λ a. is_cancelling a.stage) (after_move p (Cancelling r) live) ≡ true
     → (holds q (λ a. is_cancelling a.stage) live || nat_eq p q) ≡ true
-cancelling-moved p q r [] h = absurd (true≢false (sym h))
-cancelling-moved p q r (a ∷ rest) h =
-    either (nat_eq (with_change p (moves_to (Cancelling r)) a).seq q && is_cancelling
-    (with_change p (moves_to (Cancelling r)) a).stage) _ _
-    (λ k. by (nat_eq a.seq p) refl k)
-    (λ k. late (nat_eq a.seq q && is_cancelling a.stage) (cancelling-moved p q r rest k)) h
+cancelling-moved p q r live h = out (nat_eq p q) (any-mapped (with_change p (moves_to (Cancelling r))) test
+    (λ a. test a || nat_eq p q) one live h)
   where
-    late : (b : Bool) → (holds q (λ a. is_cancelling a.stage) rest || nat_eq p q) ≡ true
-        → ((b || holds q (λ a. is_cancelling a.stage) rest) || nat_eq p q) ≡ true
-    late true k = refl
-    late false k = k
+    test : Attempt → Bool
+    test a = nat_eq a.seq q && is_cancelling a.stage
 
-    first : (b c d : Bool) → b ≡ true → ((b || c) || d) ≡ true
-    first b c d k = rw k refl
+    one : (a : Attempt) → test (with_change p (moves_to (Cancelling r)) a) ≡ true → (test a || nat_eq p q) ≡ true
+    one a k = by (nat_eq a.seq p) refl k
+      where
+        by : (b : Bool) → nat_eq a.seq p ≡ b → test (if b then moves_to (Cancelling r) a else a) ≡ true
+            → (test a || nat_eq p q) ≡ true
+        by true e m = or_right (test a) _ (rw (same a.seq p e) at (both (nat_eq a.seq q) _ m).0)
+        by false e m = or_left (test a) _ m
 
-    by : (b : Bool) → nat_eq a.seq p ≡ b
-        → (nat_eq (if b then moves_to (Cancelling r) a else a).seq q && is_cancelling
-        (if b then moves_to (Cancelling r) a else a).stage) ≡ true
-        → (((nat_eq a.seq q && is_cancelling a.stage) || holds q (λ a. is_cancelling a.stage) rest) || nat_eq p q)
-        ≡ true
-    by true e m = or_right ((nat_eq a.seq q && is_cancelling a.stage) || holds q (λ a. is_cancelling a.stage) rest) _
-        (rw (same a.seq p e) at (both (nat_eq a.seq q) _ m).0)
-    by false e m = first (nat_eq a.seq q && is_cancelling a.stage) _ _ m
+    out : (b : Bool) → list_any (λ a. test a || b) live ≡ true → (list_any test live || b) ≡ true
+    out true k = or_right (list_any test live) _ refl
+    out false k = or_left (list_any test live) _ (any-implied (λ a. test a || false) test
+        (λ a. either (test a) false _ (λ m. m) (λ m. absurd (true≢false (sym m)))) live k)
 
 cancelling-back : (s : ShowState) (e : Event) (q : ℕ) → is_cancelling_in (after s e) q ≡ true
     → (is_cancelling_in s q || is_cancel_of q e) ≡ true
-cancelling-back s (event.Device d p) q h = or_left (is_cancelling_in s q) _ h
-cancelling-back s (event.NoDevice d) q h = or_left (is_cancelling_in s q) _ h
-cancelling-back s (event.Cue c ps) q h = or_left (is_cancelling_in s q) _ h
-cancelling-back s (event.NoCue c) q h = or_left (is_cancelling_in s q) _ h
-cancelling-back s (event.Place c) q h = or_left (is_cancelling_in s q) _ h
 cancelling-back s (event.Start p c t) q h = started (nat_eq p q) (rw any-append at h)
   where
     started : (b : Bool) → (is_cancelling_in s q || ((b && false) || false)) ≡ true
@@ -94,6 +85,7 @@ cancelling-back s (event.Failed p d) q h =
 cancelling-back s (event.Excuse p d) q h =
     or_left (is_cancelling_in s q) _ (cancelling-changed p q (answers_as d answers.Excused) (λ a. refl) (λ a k. k)
     s.live h)
+cancelling-back s _ q h = or_left (is_cancelling_in s q) _ h
 
 pub cancelling-by-cancel : (s : ShowState) (es : List Event) (q : ℕ) → is_cancelling_in (after_events s es) q ≡ true
     → (is_cancelling_in s q || list_any (is_cancel_of q) es) ≡ true

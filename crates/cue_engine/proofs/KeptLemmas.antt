@@ -7,28 +7,27 @@ use Rattle.cue_core.specs.declared.event.Event.TheVariants as event
 use Rattle.cue_core.specs.Events.{is_cancel_of, is_go_of}
 use Rattle.cue_core.specs.Happenings.{onto}
 use Rattle.cue_core.specs.History.{is_history}
-use Rattle.cue_core.specs.Pending.{Order, standby, go_2pc, cancel}
+use Rattle.cue_core.specs.Pending.{Order, go_2pc, cancel}
 use Rattle.cue_core.specs.Safety.{is_go_to, is_cancel_to}
 use Rattle.cue_core.specs.State.{ShowState, empty_state}
 use Rattle.cue_core.specs.Steps.{after_events}
 use Rattle.cue_core.proofs.lists.AnyLemmas.{any-append, either, same}
 use Rattle.cue_core.proofs.lists.ConditionLemmas.{both}
 use Rattle.cue_keeper.specs.Stands.{folded_all}
-use Rattle.cue_outbox.specs.Sending.{Send, reply, status, order}
+use Rattle.cue_outbox.specs.Sending.{Send, order}
 use Rattle.cue_engine.specs.Attempts.{IsDecidedInOrder, is_order_with}
 use Rattle.cue_engine.specs.Given.{given_recovery}
-use Rattle.cue_engine.specs.Groups.{all_took, batches_given}
+use Rattle.cue_engine.specs.Groups.{all_took}
 use Rattle.cue_engine.specs.Headline.{AreKept, CameTo, all_handed, batches_of}
-use Rattle.cue_engine.specs.Incidents.{Incident, formed, stopped_in_form, committed, handed_out, handed_some, stopped}
-use Rattle.cue_engine.specs.Incidents.{stopped_in_commit, recovered, stopped_in_recovery, refused}
-use Rattle.cue_engine.specs.Kept.{IsOfRun, KeptInOrder, KeptIsAHistory, KeptIsARun, KeptNumberNamesOne}
-use Rattle.cue_engine.specs.Kept.{NeverHandedBoth, was_handed}
+use Rattle.cue_engine.specs.Incidents.{Incident, committed, stopped_in_commit, recovered, stopped_in_recovery}
+use Rattle.cue_engine.specs.Kept.{IsOfRun, KeptInOrder, KeptIsAHistory, KeptIsARun, KeptNumberNamesOne, NeverHandedBoth}
+use Rattle.cue_engine.specs.Kept.{was_handed}
 use Rattle.cue_engine.specs.Runs.{Happening, run, given_at, joined_list, rests, send_rests, with_batch}
 use Rattle.cue_engine.specs.Runs as runs
 use Rattle.cue_engine.proofs.AttemptLemmas.{contrary, decided_in_order, no_any, number_names_one}
-use Rattle.cue_engine.proofs.GroupLemmas.{after_joined, is_a_run, joined_append, with_first}
+use Rattle.cue_engine.proofs.GroupLemmas.{is_a_run, joined_append, with_first}
 use Rattle.cue_engine.proofs.HistoryLemmas.{inputs_make_histories}
-use Rattle.cue_engine.proofs.IncidentLemmas.{events_of, folded_batches, joined_batches}
+use Rattle.cue_engine.proofs.IncidentLemmas.{events_of, joined_batches}
 use Rattle.cue_engine.proofs.PromisedLemmas.{whatever_happens}
 
 -- ---- a run
@@ -55,49 +54,40 @@ happenings_of (recovered t) = runs.recovered ∷ []
 happenings_of (stopped_in_recovery one other) = runs.recovered ∷ []
 happenings_of _ = []
 
--- the batches of the incident are those of the run, and lead to its state
-record Runs (s : ShowState) (i : Incident) : Type 0 where
-  batches : (run s (happenings_of i)).batches ≡ batches_of s i
-  state : (run s (happenings_of i)).state ≡ folded_all s (batches_of s i)
+-- a run leads to the state that its batches make
+folded_with : (s : ShowState) (batch : List Event) (batches : List (List Event))
+    → folded_all (after_events s batch) batches ≡ folded_all s (with_batch batch batches)
+folded_with s [] batches = refl
+folded_with s (e ∷ es) batches = refl
 
-incident_runs : (s : ShowState) (i : Incident) → Runs s i
-incident_runs s formed = record { batches = refl; state = refl }
-incident_runs s (stopped_in_form one other) = record { batches = refl; state = refl }
-incident_runs s (committed inputs) = record {
-  batches = (is_a_run s inputs).1;
-  state = (is_a_run s inputs).0 ∙ sym (after_joined s (batches_given s inputs))
-      ∙ sym (folded_batches s (committed inputs));
-}
-incident_runs s handed_out = record { batches = refl; state = refl }
-incident_runs s (handed_some n) = record { batches = refl; state = refl }
-incident_runs s (stopped n one other) = record { batches = refl; state = refl }
-incident_runs s (stopped_in_commit inputs n one other) = record {
-  batches = (is_a_run s inputs).1;
-  state = (is_a_run s inputs).0 ∙ sym (after_joined s (batches_given s inputs))
-      ∙ sym (folded_batches s (committed inputs));
-}
-incident_runs s (recovered t) = record {
-  batches = with_first (given_recovery s).batch [];
-  state = sym (folded_batches s (recovered t));
-}
-incident_runs s (stopped_in_recovery one other) = record {
-  batches = with_first (given_recovery s).batch [];
-  state = sym (folded_batches s (stopped_in_recovery one other));
-}
-incident_runs s (refused one other) = record { batches = refl; state = refl }
+run_folds : (s : ShowState) (hs : List Happening) → (run s hs).state ≡ folded_all s (run s hs).batches
+run_folds s [] = refl
+run_folds s (h ∷ hs) =
+    let batch : List Event = (given_at s h).batch in
+    let next : ShowState = after_events s batch in
+    run_folds next hs ∙ folded_with s batch (run next hs).batches
+
+-- the batches of the incident are those of the run
+incident_runs : (s : ShowState) (i : Incident) → (run s (happenings_of i)).batches ≡ batches_of s i
+incident_runs s (committed inputs) = (is_a_run s inputs).1
+incident_runs s (stopped_in_commit inputs n one other) = (is_a_run s inputs).1
+incident_runs s (recovered t) = with_first (given_recovery s).batch []
+incident_runs s (stopped_in_recovery one other) = with_first (given_recovery s).batch []
+incident_runs s _ = refl
 
 pub kept_is_a_run : KeptIsARun
 kept_is_a_run s [] kept are = record { happenings = []; same = sym are }
 kept_is_a_run s (i ∷ is) kept (inl whole) =
-    let here : Runs s i = incident_runs s i in
+    let here = incident_runs s i in
     let later : IsOfRun (folded_all s (batches_of s i)) whole.0 =
     kept_is_a_run (folded_all s (batches_of s i)) is whole.0 whole.1.1 in
     let hs : List Happening = later.happenings in
     record {
       happenings = happenings_of i ++ hs;
       same = run_more s (happenings_of i) hs
-          ∙ ap (λ (bs : List (List Event)). bs ++ (run (run s (happenings_of i)).state hs).batches) here.batches
-          ∙ ap (λ (t : ShowState). batches_of s i ++ (run t hs).batches) here.state
+          ∙ ap (λ (bs : List (List Event)). bs ++ (run (run s (happenings_of i)).state hs).batches) here
+          ∙ ap (λ (t : ShowState). batches_of s i ++ (run t hs).batches)
+          (run_folds s (happenings_of i) ∙ ap (folded_all s) here)
           ∙ ap (λ (bs : List (List Event)). batches_of s i ++ bs) later.same
           ∙ sym whole.1.0;
     }
@@ -142,24 +132,13 @@ one_before q e es a = record {
 
 pub around : (q : ℕ) (es : List Event) → list_any (is_go_of q) es ≡ true → Around q es
 around q [] h = absurd (true≢false (sym h))
-around q (event.Device d p ∷ es) h = one_before q (event.Device d p) es (around q es h)
-around q (event.NoDevice d ∷ es) h = one_before q (event.NoDevice d) es (around q es h)
-around q (event.Cue x ps ∷ es) h = one_before q (event.Cue x ps) es (around q es h)
-around q (event.NoCue x ∷ es) h = one_before q (event.NoCue x) es (around q es h)
-around q (event.Place x ∷ es) h = one_before q (event.Place x) es (around q es h)
-around q (event.Start p x t ∷ es) h = one_before q (event.Start p x t) es (around q es h)
-around q (event.Ready p d ∷ es) h = one_before q (event.Ready p d) es (around q es h)
 around q (event.Go p ∷ es) h = by (nat_eq p q) refl h (λ k. one_before q (event.Go p) es (around q es k))
   where
     by : (b : Bool) → nat_eq p q ≡ b → (b || list_any (is_go_of q) es) ≡ true
         → (list_any (is_go_of q) es ≡ true → Around q (event.Go p ∷ es)) → Around q (event.Go p ∷ es)
     by true e k f = record { before = []; later = es; split = ap (λ (n : ℕ). event.Go n ∷ es) (same p q e) }
     by false e k f = f k
-around q (event.Done p d ∷ es) h = one_before q (event.Done p d) es (around q es h)
-around q (event.Cancel p r ∷ es) h = one_before q (event.Cancel p r) es (around q es h)
-around q (event.LetGo p d ∷ es) h = one_before q (event.LetGo p d) es (around q es h)
-around q (event.Failed p d ∷ es) h = one_before q (event.Failed p d) es (around q es h)
-around q (event.Excuse p d ∷ es) h = one_before q (event.Excuse p d) es (around q es h)
+around q (e ∷ es) h = one_before q e es (around q es h)
 
 no_cancel : {A : Type 0} (q : ℕ) (before later : List Event) → IsDecidedInOrder q before later
     → list_any (is_cancel_of q) (before ++ event.Go q ∷ later) ≡ true → A
@@ -193,23 +172,17 @@ one_passes test b es (m ∷ ms) f all any =
 
 go_rests : (es : List Event) (q d : ℕ) (m : Send) → send_rests empty_state es m ≡ true
     → is_order_with (is_go_to q d) m ≡ true → list_any (is_go_of q) es ≡ true
-go_rests es q d (reply address made known refusals code) h k = absurd (true≢false (sym k))
-go_rests es q d (status last place live ended outcome) h k = absurd (true≢false (sym k))
-go_rests es q d (order (standby p e c b)) h k = absurd (true≢false (sym k))
 go_rests es q d (order (go_2pc p e)) h k =
     let is : p ≡ q = same p q (both (nat_eq p q) (nat_eq e d) k).0 in
     subst (λ (n : ℕ). list_any (is_go_of n) es ≡ true) is h
-go_rests es q d (order (cancel p e)) h k = absurd (true≢false (sym k))
+go_rests es q d _ h k = absurd (true≢false (sym k))
 
 cancel_rests : (es : List Event) (q d : ℕ) (m : Send) → send_rests empty_state es m ≡ true
     → is_order_with (is_cancel_to q d) m ≡ true → list_any (is_cancel_of q) es ≡ true
-cancel_rests es q d (reply address made known refusals code) h k = absurd (true≢false (sym k))
-cancel_rests es q d (status last place live ended outcome) h k = absurd (true≢false (sym k))
-cancel_rests es q d (order (standby p e c b)) h k = absurd (true≢false (sym k))
-cancel_rests es q d (order (go_2pc p e)) h k = absurd (true≢false (sym k))
 cancel_rests es q d (order (cancel p e)) h k =
     let is : p ≡ q = same p q (both (nat_eq p q) (nat_eq e d) k).0 in
     subst (λ (n : ℕ). list_any (is_cancel_of n) es ≡ true) is (both _ (list_any (is_cancel_of p) es) h).1
+cancel_rests es q d _ h k = absurd (true≢false (sym k))
 
 pub never_handed_both : NeverHandedBoth
 never_handed_both store is x y q d e begins ok may =

@@ -50,13 +50,7 @@ fault-spelled : (now : ℕ) (bytes : List ℕ) (f : Fault) → datagram_at bytes
     → Says now bytes (unless_later now (Err f))
 fault-spelled now bytes fault.TooLong read = long-read bytes read
 fault-spelled now bytes fault.Memory read = absurd (no_memory bytes read)
-fault-spelled now bytes fault.NotMultiple read = bad-spelled bytes fault.NotMultiple read (λ e. cc)
-fault-spelled now bytes fault.BadStart read = bad-spelled bytes fault.BadStart read (λ e. cc)
-fault-spelled now bytes fault.BadString read = bad-spelled bytes fault.BadString read (λ e. cc)
-fault-spelled now bytes fault.BadBlob read = bad-spelled bytes fault.BadBlob read (λ e. cc)
-fault-spelled now bytes fault.BadSize read = bad-spelled bytes fault.BadSize read (λ e. cc)
-fault-spelled now bytes fault.TooDeep read = bad-spelled bytes fault.TooDeep read (λ e. cc)
-fault-spelled now bytes fault.Trailing read = bad-spelled bytes fault.Trailing read (λ e. cc)
+fault-spelled now bytes f read = bad-spelled bytes f read (λ e. cc)
 
 packet-spelled : (now : ℕ) (bytes : List ℕ) (c : Content) → Spells bytes c → (b : Bool) → is_later now c ≡ b
     → Says now bytes (cond b (Err refusal.Later) (Ok (leaves c)))
@@ -83,14 +77,7 @@ bad-taken : (now : ℕ) (bytes : List ℕ) → AreBytes bytes → length bytes �
 bad-taken now bytes fits short none (Ok c) read =
     absurd (none c (datagram_takes bytes c (λ i. omega (arith, fits i)) read))
 bad-taken now bytes fits short none (Err fault.TooLong) read = absurd (omega (arith, short, long-read bytes read))
-bad-taken now bytes fits short none (Err fault.NotMultiple) read = refl
-bad-taken now bytes fits short none (Err fault.BadStart) read = refl
-bad-taken now bytes fits short none (Err fault.BadString) read = refl
-bad-taken now bytes fits short none (Err fault.BadBlob) read = refl
-bad-taken now bytes fits short none (Err fault.BadSize) read = refl
-bad-taken now bytes fits short none (Err fault.TooDeep) read = refl
-bad-taken now bytes fits short none (Err fault.Trailing) read = refl
-bad-taken now bytes fits short none (Err fault.Memory) read = refl
+bad-taken now bytes fits short none (Err f) read = refl
 
 spelled-taken : (now : ℕ) (bytes : List ℕ) (said : Result (List Content) Refusal) → AreBytes bytes
     → Says now bytes said → messages_in now bytes ≡ said

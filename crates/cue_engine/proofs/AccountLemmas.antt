@@ -75,8 +75,8 @@ sent-of s numbers (a ∷ live) =
     either true = sent-for s a a.answers
     either false = refl
 
-pub new-are-newly : NewOrdersAreNewlyPending
-new-are-newly s events rules turn =
+pub new_orders_are_newly_pending : NewOrdersAreNewlyPending
+new_orders_are_newly_pending s events rules turn =
     let t : ShowState = after_events s events in
     let numbers : List ℕ = filter_map number_asked events in
     ap (filter_map order_in) (newly-pending-are-asked s events numbers rules turn (λ q. refl))
@@ -94,6 +94,6 @@ or-more : (from : ℕ) (rs : List Reply) → events_in (reply_or_more from rs) �
 or-more from [] = refl
 or-more from (r ∷ rs) = refl
 
-pub all-replied : RepliesHaveTheBatch
-all-replied s now from bytes = datagram_case (λ g. events_in g.replies ≡ length g.batch) s now from bytes (λ why. refl)
+pub replies_have_the_batch : RepliesHaveTheBatch
+replies_have_the_batch s now from bytes = datagram_case (λ g. events_in g.replies ≡ length g.batch) s now from bytes (λ why. refl)
     (λ ms few. let hs : List Heard = hear_all s now from ms in or-more from (map (reply_to from) hs) ∙ all-heard from hs)

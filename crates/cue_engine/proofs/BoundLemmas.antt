@@ -13,7 +13,7 @@ use Rattle.cue_engine.specs.Hearing.{Gives}
 use Rattle.cue_engine.specs.Takes.{FitsRecord}
 use Rattle.cue_core.proofs.lists.ConditionLemmas.{neither}
 use Rattle.cue_engine.proofs.InputLemmas.{datagram_case}
-use Rattle.cue_engine.proofs.FewLemmas.{few-in_all}
+use Rattle.cue_engine.proofs.FewLemmas.{few_in_all}
 
 none_fits : FitsRecord []
 none_fits = record { most = omega arith; short = omega arith }
@@ -28,7 +28,7 @@ given_fits s now from bytes =
     let text : ℕ = length (batch_text (all_events hs)) in
     let low = neither (nat_lt MAX_COMMANDS (all_commands hs)) (nat_lt MAX_BATCH text) few in
     let commands = at_most MAX_COMMANDS (all_commands hs) low.0 in
-    record { most = omega (arith, few-in_all s now from ms, commands); short = at_most MAX_BATCH text low.1 })
+    record { most = omega (arith, few_in_all s now from ms, commands); short = at_most MAX_BATCH text low.1 })
 
 pub heard_fits : {E : Type 0} (s : ShowState) (now from : ℕ) (bytes : List ℕ) (r : Result Heard E)
     → IfOk r (Gives (given_of s now (datagram from bytes))) → IfOk r (λ (h : Heard). FitsRecord h.batch.items)

@@ -13,8 +13,8 @@ use Rattle.cue_engine.specs.Heard.{carried_out, hear, heard_events, FewEvents, F
 use Rattle.cue_engine.specs.Heard.{hear_all}
 use Rattle.cue_core.specs.InTurn.{steps, events_of}
 
-pub few-events : FewEvents
-few-events s now from c = (judgement_of-has s now from c).few
+pub few_events : FewEvents
+few_events s now from c = (judgement_of-has s now from c).few
 
 -- ---- a datagram
 
@@ -43,13 +43,13 @@ hear-few s now from (message a xs) = carried-few s now from a (commands_of s.sho
 hear-few s now from (discarded a) = omega arith
 hear-few s now from (bundle t cs) = omega arith
 
-pub few-in_all : FewInAll
-few-in_all s now from [] = omega arith
-few-in_all s now from (m ∷ ms) =
+pub few_in_all : FewInAll
+few_in_all s now from [] = omega arith
+few_in_all s now from (m ∷ ms) =
     let first : List Event = heard_events (hear s now from m) in
     omega (
       arith,
       hear-few s now from m,
       length-append first (all_events (hear_all (after_events s first) now from ms)),
-      few-in_all (after_events s first) now from ms,
+      few_in_all (after_events s first) now from ms,
     )

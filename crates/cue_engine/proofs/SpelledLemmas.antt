@@ -92,9 +92,9 @@ spelled-taken now bytes (Err refusal.BadPacket) fits h =
     bad-taken now bytes fits h.0 h.1 (datagram_at bytes) refl
 spelled-taken now bytes (Err refusal.TooMany) fits h = absurd h
 
-pub messages-are-spelled : MessagesAreSpelled
+pub messages_are_spelled : MessagesAreSpelled
 unfolding messages_in
-messages-are-spelled now bytes said fits = (
+messages_are_spelled now bytes said fits = (
   λ e. subst (Says now bytes) e (read-spelled now bytes fits (datagram_at bytes) refl),
   spelled-taken now bytes said fits,
 )

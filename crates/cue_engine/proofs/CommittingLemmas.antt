@@ -1,7 +1,5 @@
 -- What a commit says of the inputs that were offered before it, and that they have room together.
-use Rattle.std.specs.Prelude.{OnOk}
-use Rattle.std.proofs.Common.{◌≡◌, ℕ, [], ◌∷◌, ◌++◌, false, List, Result, Ok, Err, ap, sym, ◌∙◌, subst}
-use Rattle.std.proofs.Common.{IsTrue, true≢false}
+use Rattle.std.proofs.Common.{◌≡◌, ℕ, [], ◌∷◌, ◌++◌, false, List, ap, sym, ◌∙◌, subst, IsTrue, true≢false}
 use Rattle.std.proofs.lemmas.List.{map-append}
 use Rattle.cue_disk.specs.declared.disk.Disk.{Ghosts}
 use Rattle.cue_core.specs.declared.event.Event.{Event}
@@ -18,15 +16,10 @@ use Rattle.cue_engine.specs.declared.engine.Engine.{Engine}
 use Rattle.cue_engine.specs.declared.taken.Taken.{Taken}
 use Rattle.cue_engine.specs.Given.{Input, given_of}
 use Rattle.cue_engine.specs.Groups.{batches_given, sends_given}
-use Rattle.cue_engine.specs.Taking.{Offers, IsOffered, TakesUp}
+use Rattle.cue_engine.specs.Taking.{Offers, IsOffered}
 use Rattle.cue_engine.specs.Takes.{FitsRecord}
-use Rattle.cue_engine.specs.Observed.{keeper_of, state_of, queue_of, offered_of, offered_sends_of, latest_of, has_room}
+use Rattle.cue_engine.specs.Observed.{keeper_of, state_of, offered_of, latest_of, has_room}
 use Rattle.cue_engine.proofs.GroupLemmas.{batches_more, sends_more}
-
--- what holds where the answer is Ok
-pub on_ok : {T E : Type 0} {P Q : Type 0} (r : Result T E) → OnOk r P → (P → Q) → OnOk r Q
-on_ok (Ok t) h f = f h
-on_ok (Err e) h f = tt
 
 module _ {D : Type 0} {disk : Ghosts D} where
   -- a batch for which there was room beside those before it has room
@@ -40,19 +33,6 @@ module _ {D : Type 0} {disk : Ghosts D} where
       room_beside (kept.count_of (keeper_of old)) (kept.end_of (keeper_of old)) (offered_of old) batch room fits.short
       way.1 in
       absurd (true≢false (sym way.0 ∙ free)))
-
-  pub state_taken : {T E : Type 0} (inputs : List (ℕ × Input)) (old new : Engine D disk) (r : Result T E)
-      → IsOffered inputs old → OnOk r (TakesUp (offered_of old) (offered_sends_of old) old new)
-      → OnOk r (state_of new ≡ folded_all (state_of old) (batches_given (state_of old) inputs))
-  state_taken inputs old new (Ok t) offered takes = takes.state ∙ ap (folded_all (state_of old)) offered.batches
-  state_taken inputs old new (Err e) offered takes = tt
-
-  pub queue_taken : {T E : Type 0} (inputs : List (ℕ × Input)) (old new : Engine D disk) (r : Result T E)
-      → IsOffered inputs old → OnOk r (TakesUp (offered_of old) (offered_sends_of old) old new)
-      → OnOk r (queue_of new ≡ queue_of old ++ datagrams (sends_given (state_of old) inputs))
-  queue_taken inputs old new (Ok t) offered takes = takes.queue
-      ∙ ap (λ (sends : List (ℕ × List ℕ)). queue_of old ++ sends) offered.sends
-  queue_taken inputs old new (Err e) offered takes = tt
 
   -- an input that is offered is the next of them
   pub offered_next : (inputs : List (ℕ × Input)) (now : ℕ) (input : Input) (counts : Taken) (old new : Engine D disk)

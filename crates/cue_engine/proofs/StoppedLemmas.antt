@@ -24,7 +24,7 @@ use Rattle.cue_engine.specs.Headline.{owed_by, handed_in}
 use Rattle.cue_engine.specs.Permitted.{IsWithin}
 use Rattle.cue_engine.specs.Lives.{Life, with_next, store_now, RunsWith, RestsWith, StopsAs, view_of, IsSound}
 use Rattle.cue_engine.specs.Wires.{Handed, AllHanded, AreHanded, HandedSoFar}
-use Rattle.cue_engine.proofs.LifeLemmas.{rests_closed, rests_in_commit, seen_commit}
+use Rattle.cue_engine.proofs.LifeLemmas.{rests_closed, rests_in_commit}
 
 -- what was handed over of a queue are its first datagrams
 first_of_them : (owed : List (ℕ × Send)) (queue sent left : List (ℕ × List ℕ)) → queue ≡ datagrams owed
@@ -72,7 +72,7 @@ stops_after_some held a b life state queue left refused told told_then stands so
   n = length so_far.sent;
   handed = handed_first stopped (λ store n x y. refl) life state queue left refused told told_then so_far runs;
   rests = λ x y in_one in_other.
-      rests_closed held a b life state queue stands runs (length so_far.sent) x y in_one in_other;
+      rests_closed held a b stands runs (length so_far.sent) x y in_one in_other;
 }
 
 -- ---- a commit that was refused
@@ -90,8 +90,7 @@ module _ {D : Type 0} {disk : Ghosts D}
       let leaves = accepts.pair.any_moment sound.0.0 sound.0.1 sound.1 in
       let later_a : disk.moment (first_of old) ≤ disk.moment (first_of new) = leaves.later_a in
       let later_b : disk.moment (second_of old) ≤ disk.moment (second_of new) = leaves.later_b in
-      rests_in_commit (view_of old) (view_of new) life inputs (state_of old) (queue_of old)
-      (seen_commit old new inputs batches refused given accepts) runs sound n
+      rests_in_commit old new runs inputs batches refused given accepts sound n
       (disk.moment (first_of new)) (disk.moment (second_of new)) one other (later_a, omega arith)
       (later_b, omega arith)
       (subst (λ (c : Contents). IsWithin c one)

@@ -1,7 +1,6 @@
-use Rattle.std.proofs.Common.{◌+◌, List, ℕ, refl, ◌∙◌, ap, subst}
+use Rattle.std.proofs.Common.{◌+◌, refl, ◌∙◌, ap}
 use Rattle.cue_keeper.specs.Observed as keeper
-use Rattle.cue_engine.specs.Wires.{AreHanded}
-use Rattle.cue_engine.specs.Observed.{state_of, queue_of}
+use Rattle.cue_engine.specs.Observed.{queue_of}
 use Rattle.cue_engine.proofs.LifeLemmas.{lives_handed, handed_what_is_owed}
 use Rattle.cue_engine.proofs.WireLemmas.{handed_none, part_more, parts_all}
 use Rattle.cue_engine.proofs.laws.lives.hand_out_in_parts.Goals as goal
@@ -29,22 +28,18 @@ loop-most-preserved g c =
     }
 
 pub returns-clause-handed_out : goal.returns-clause-handed_out
-returns-clause-handed_out g c = λ life.
-    let old = c.args.engine.now in
-    let last = c.hand_out-refused in
-    lives_handed life (state_of old) (state_of last.new.self) (queue_of old) (queue_of last.new.self)
-    (ap keeper.state_of (last.ensures.keeper ∙ c.loop-most.invariant.keeper)) last.ensures.emptied
+returns-clause-handed_out g c = λ life runs. lives_handed c.args.engine.now c.hand_out-refused.new.self runs
+    (ap keeper.state_of (c.hand_out-refused.ensures.keeper ∙ c.loop-most.invariant.keeper))
+    c.hand_out-refused.ensures.emptied
 
 pub returns-clause-handed : goal.returns-clause-handed
 returns-clause-handed g c = λ life runs.
     let told = g.W.Wire.told in
-    let old = c.args.engine.now in
     let l = c.loop-most in
     let last = c.hand_out-refused in
     let before = l.invariant.so_far in
-    subst (λ (os : List (ℕ × List ℕ)). AreHanded (told c.args.wire.now) os (told last.new.wire))
-    (handed_what_is_owed life (state_of old) (queue_of old) runs) (
+    rw (← handed_what_is_owed runs) (
       before.0 + last.result,
-      parts_all (told c.args.wire.now) (told l.wire) (told last.new.wire) (queue_of old)
+      parts_all (told c.args.wire.now) (told l.wire) (told last.new.wire) (queue_of c.args.engine.now)
           (queue_of l.engine) before.0 last.result before.1 last.ensures.handed,
     )

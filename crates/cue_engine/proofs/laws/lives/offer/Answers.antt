@@ -1,7 +1,6 @@
 use Rattle.std.proofs.Common.{ap}
 use Rattle.cue_keeper.specs.Observed as kept
 use Rattle.cue_engine.specs.Inputs.{input_view}
-use Rattle.cue_engine.specs.Observed.{state_of, queue_of}
 use Rattle.cue_engine.proofs.CommittingLemmas.{offered_next}
 use Rattle.cue_engine.proofs.LifeLemmas.{lives_as_before, from_answer}
 use Rattle.cue_engine.proofs.laws.lives.offer.Goals as goal
@@ -15,8 +14,5 @@ returns-clause-next g c = λ inputs offered.
     (ap kept.state_of c.offer.ensures.keeper) offered offers)
 
 pub returns-clause-lives : goal.returns-clause-lives
-returns-clause-lives g c = λ life.
-    let old = c.args.engine.now in
-    let new = c.offer.new.self in
-    lives_as_before life (state_of old) (state_of new) (queue_of old) (queue_of new)
+returns-clause-lives g c = λ life runs. lives_as_before c.args.engine.now c.offer.new.self runs
     (ap kept.state_of c.offer.ensures.keeper) c.offer.ensures.queue

@@ -1,16 +1,14 @@
 -- What a store that is opened and then closed comes to.
 use Rattle.std.proofs.Common.{◌≡◌, ◌⊎◌, inl, inr, ℕ, ◌+◌, ◌-◌, ◌^◌, ◌≤◌, List, length, Some, None, Result, Ok, Err}
-use Rattle.std.proofs.Common.{Bool, true, false, if◌then◌else◌, arith}
-use Rattle.std.proofs.Common.{[], ◌∷◌, refl, ◌∙◌, ap, sym, subst, IsTrue}
+use Rattle.std.proofs.Common.{Bool, true, false, if◌then◌else◌, arith, [], ◌∷◌, refl, ◌∙◌, ap, sym, subst, IsTrue}
 use Rattle.std.specs.Prelude.{IfOk, IfErr}
 use Rattle.cue_disk.specs.Disk.{Contents, IsImage}
-use Rattle.cue_log.specs.Area.{Area, area_text}
+use Rattle.cue_log.specs.Area.{Area}
 use Rattle.cue_snap.specs.Observed.{first_after, second_after, RefusedAs}
 use Rattle.cue_snap.specs.Pair.{IsSpoiled, NeitherHas, PairReads}
 use Rattle.cue_snap.proofs.ReaderLemmas.{one_of_a_pair}
 use Rattle.cue_core.specs.declared.event.Event.{Event}
 use Rattle.cue_core.specs.State.{ShowState}
-use Rattle.cue_core.specs.Steps.{after_events}
 use Rattle.cue_core.specs.Happenings.{events_at, recovered}
 use Rattle.cue_keeper.specs.declared.fault.Fault.{Fault}
 use Rattle.cue_keeper.specs.declared.fault.StoreFault.{StoreFault}
@@ -20,11 +18,15 @@ use Rattle.cue_keeper.specs.Due.{lacks_room}
 use Rattle.cue_keeper.specs.Refusals.{HasOtherVersion, StandsForNone}
 use Rattle.cue_keeper.specs.Stands.{Stands, StandsEither, IsKept}
 use Rattle.cue_core.specs.Batches.{closed_state}
-use Rattle.cue_engine.specs.Recovery.{ClosedFrom, IsLeftOrStands, NeedsArea, NoGenerationLeft, RefusedBut}
-use Rattle.cue_engine.specs.Recovery.{CannotBeRecovered}
+use Rattle.cue_engine.specs.Recovery.{ClosedFrom, IsLeftOrStands, NoGenerationLeft, RefusedBut, CannotBeRecovered}
 use Rattle.cue_engine.specs.Recovery.{cancels_records}
 use Rattle.cue_engine.specs.Accounts.{Accounted}
 use Rattle.cue_engine.specs.Given.{account_of, given_recovery}
+use Rattle.cue_keeper.proofs.GroupLemmas.{has_one}
+use Rattle.cue_keeper.proofs.RefusedLemmas.{is_opened}
+use Rattle.cue_keeper.specs.Groups.{with_events}
+use Rattle.cue_keeper.specs.Opening.{IsOfOpening}
+use Rattle.cue_engine.specs.Opening.{IsOfCancels}
 
 -- ---- what a crash leaves
 
@@ -43,72 +45,42 @@ left_or_stands then_a then_b first second s left_first left_second stood x y sta
 
 -- ---- why the cancels are not accepted
 
-needs_area : (one other : Contents) (s : ShowState) (generation count end : ℕ)
-    (kept : IsKept one other s generation count end) → IsImage one one.bytes → IsImage other other.bytes
-    → 1 ≤ length (events_at s recovered) → IsTrue (lacks_room count end (cancels_records s))
-    → NeedsArea one.bytes other.bytes kept.area s
-needs_area one other s generation count end kept first second some due = record {
-  reads = kept.leaves one.bytes other.bytes first second;
-  stands = kept.stands;
-  some = some;
-  due = subst (λ (n : ℕ). IsTrue (lacks_room n (length (area_text kept.area)) (cancels_records s))) kept.same_count
-      (subst (λ (n : ℕ). IsTrue (lacks_room count n (cancels_records s))) kept.same_end due);
-}
+module _ {one other : Contents} {s : ShowState} {generation count end : ℕ}
+    (kept : IsKept one other s generation count end) (first : IsImage one one.bytes) (second : IsImage other other.bytes)
+  where
+    pub no_generation : 1 ≤ length (events_at s recovered) → IsTrue (lacks_room count end (cancels_records s))
+        → generation ≡ 2 ^ 64 - 1 → NoGenerationLeft one.bytes other.bytes
+    no_generation some due last = record {
+      area = kept.area;
+      state = s;
+      needs = record {
+        reads = kept.leaves one.bytes other.bytes first second;
+        stands = kept.stands;
+        some = some;
+        due = rw (kept.same_count, kept.same_end) at due;
+      };
+      last = sym kept.same_generation ∙ last;
+    }
 
-pub no_generation : (one other : Contents) (s : ShowState) (generation count end : ℕ)
-    → IsKept one other s generation count end → IsImage one one.bytes → IsImage other other.bytes
-    → 1 ≤ length (events_at s recovered) → IsTrue (lacks_room count end (cancels_records s)) → generation ≡ 2 ^ 64 - 1
-    → NoGenerationLeft one.bytes other.bytes
-no_generation one other s generation count end kept first second some due last = record {
-  area = kept.area;
-  state = s;
-  needs = needs_area one other s generation count end kept first second some due;
-  last = sym kept.same_generation ∙ last;
-}
+    -- what the two read as has the generation of the kept state
+    pub generation_read : (area : Area) → PairReads area one.bytes other.bytes → generation ≡ area.generation
+    generation_read area reads =
+        kept.same_generation ∙ ap (λ (a : Area). a.generation)
+        (sym (one_of_a_pair area kept.area one.bytes other.bytes reads (kept.leaves one.bytes other.bytes first second)))
 
--- what the two read as is the area of the kept state
-the_area : (one other : Contents) (s : ShowState) (generation count end : ℕ)
-    (kept : IsKept one other s generation count end) → IsImage one one.bytes → IsImage other other.bytes
-    → (area : Area) (t : ShowState) → NeedsArea one.bytes other.bytes area t → (area ≡ kept.area) × (t ≡ s)
-the_area one other s generation count end kept first second area t needs =
-    let reads = kept.leaves one.bytes other.bytes first second in (
-      one_of_a_pair area kept.area one.bytes other.bytes needs.reads reads,
-      one_state one.bytes other.bytes t s (record { area = area; reads = needs.reads; stands = needs.stands })
-          (record { area = kept.area; reads = reads; stands = kept.stands }),
-    )
-
--- so the cancels of the kept state need a new area
-pub needs_new_area : (one other : Contents) (s : ShowState) (generation count end : ℕ)
-    → IsKept one other s generation count end → IsImage one one.bytes → IsImage other other.bytes
-    → (area : Area) (t : ShowState) → NeedsArea one.bytes other.bytes area t → (1 ≤ length (events_at s recovered))
-    × IsTrue (lacks_room count end (cancels_records s))
-needs_new_area one other s generation count end kept first second area t needs =
-    let same = the_area one other s generation count end kept first second area t needs in
-    let due : IsTrue (lacks_room (length kept.area.payloads) (length (area_text kept.area)) (cancels_records t)) =
-    subst (λ (a : Area). IsTrue (lacks_room (length a.payloads) (length (area_text a)) (cancels_records t))) same.0
-    needs.due in (
-      subst (λ (x : ShowState). 1 ≤ length (events_at x recovered)) same.1 needs.some,
-      subst (λ (x : ShowState). IsTrue (lacks_room count end (cancels_records x))) same.1
-          (subst (λ (n : ℕ). IsTrue (lacks_room count n (cancels_records t))) (sym kept.same_end)
-          (subst (λ (n : ℕ). IsTrue (lacks_room n (length (area_text kept.area)) (cancels_records t)))
-          (sym kept.same_count) due)),
-    )
-
--- its generation is that of the kept state
-pub generation_is : (one other : Contents) (s : ShowState) (generation count end : ℕ)
-    → IsKept one other s generation count end → IsImage one one.bytes → IsImage other other.bytes
-    → (area : Area) (t : ShowState) → NeedsArea one.bytes other.bytes area t → generation ≡ area.generation
-generation_is one other s generation count end kept first second area t needs =
-    kept.same_generation ∙ ap (λ (a : Area). a.generation)
-    (sym (the_area one other s generation count end kept first second area t needs).0)
-
--- what the two read as has the generation of the kept state
-pub generation_read : (one other : Contents) (s : ShowState) (generation count end : ℕ)
-    → IsKept one other s generation count end → IsImage one one.bytes → IsImage other other.bytes
-    → (area : Area) → PairReads area one.bytes other.bytes → generation ≡ area.generation
-generation_read one other s generation count end kept first second area reads =
-    kept.same_generation ∙ ap (λ (a : Area). a.generation)
-    (sym (one_of_a_pair area kept.area one.bytes other.bytes reads (kept.leaves one.bytes other.bytes first second)))
+    -- where no generation is left, that is so of the kept state: its cancels need a new area
+    pub cannot_turn : NoGenerationLeft one.bytes other.bytes → IsTrue (lacks_room count end (cancels_records s))
+        × (length (with_events (events_at s recovered ∷ [])) ≡ 1) × (generation ≡ 2 ^ 64 - 1)
+    cannot_turn none =
+        let reads = kept.leaves one.bytes other.bytes first second in
+        let area = one_of_a_pair none.area kept.area one.bytes other.bytes none.needs.reads reads in
+        let state = one_state one.bytes other.bytes none.state s
+        (record { area = none.area; reads = none.needs.reads; stands = none.needs.stands })
+        (record { area = kept.area; reads = reads; stands = kept.stands }) in (
+          rw (kept.same_count, kept.same_end, ← area, ← state) none.needs.due,
+          has_one (events_at s recovered) (rw state at none.needs.some),
+          generation_read none.area none.needs.reads ∙ none.last,
+        )
 
 -- if a new area is needed, the generation is the next one, and else the same
 pub one_more : (due : Bool) (before after : ℕ) → after ≡ (if due then before + 1 else before) → after ≤ before + 1
@@ -126,44 +98,49 @@ pub none_told : {P : Type 0} (x y : Fault) → (None ≡ Some x) ⊎ (None ≡ S
 none_told x y (inl is) = cc
 none_told x y (inr is) = cc
 
--- what is left where a store that stands for a state is not opened
-pub left_over : (f g : StoreFault) → (f ≡ store.NotEmpty → ⊥) → (f ≡ store.Unformed → ⊥) → (f ≡ store.Damaged → ⊥)
-    → (f ≡ store.Version → ⊥) → (f ≡ store.Malformed → ⊥) → (f ≡ store.Full → ⊥) → (f ≡ store.Exhausted → ⊥)
-    → (f ≡ g) ⊎ (f ≡ store.Memory) ⊎ (f ≡ store.Disk)
-left_over store.NotEmpty g a b c d e h k = absurd (a refl)
-left_over store.Unformed g a b c d e h k = absurd (b refl)
-left_over store.Damaged g a b c d e h k = absurd (c refl)
-left_over store.Version g a b c d e h k = absurd (d refl)
-left_over store.Malformed g a b c d e h k = absurd (e refl)
-left_over store.Full g a b c d e h k = absurd (h refl)
-left_over store.Exhausted g a b c d e h k = absurd (k refl)
-left_over store.Memory g a b c d e h k = inr (inl refl)
-left_over store.Disk g a b c d e h k = inr (inr refl)
-
 -- a fault that has its reason says why the two cannot be recovered
-pub has_reason : (fault : StoreFault) (x y : List ℕ)
-    → (fault ≡ store.NotEmpty → ⊥) → (fault ≡ store.Unformed → NeitherHas x y) → (fault ≡ store.Damaged → IsSpoiled x y)
+pub opening_cause : (fault : StoreFault) (x y : List ℕ) → IsOfOpening fault
+    → (fault ≡ store.Unformed → NeitherHas x y) → (fault ≡ store.Damaged → IsSpoiled x y)
     → (fault ≡ store.Version → HasOtherVersion x y) → (fault ≡ store.Malformed → StandsForNone x y)
-    → (fault ≡ store.Full → ⊥) → (fault ≡ store.Exhausted → NoGenerationLeft x y) → CannotBeRecovered fault x y
-has_reason store.NotEmpty x y not_empty unformed damaged version malformed full exhausted = not_empty refl
-has_reason store.Unformed x y not_empty unformed damaged version malformed full exhausted = unformed refl
-has_reason store.Damaged x y not_empty unformed damaged version malformed full exhausted = damaged refl
-has_reason store.Version x y not_empty unformed damaged version malformed full exhausted = version refl
-has_reason store.Malformed x y not_empty unformed damaged version malformed full exhausted = malformed refl
-has_reason store.Full x y not_empty unformed damaged version malformed full exhausted = full refl
-has_reason store.Exhausted x y not_empty unformed damaged version malformed full exhausted = exhausted refl
-has_reason store.Memory x y not_empty unformed damaged version malformed full exhausted = tt
-has_reason store.Disk x y not_empty unformed damaged version malformed full exhausted = tt
+    → CannotBeRecovered fault x y
+opening_cause store.Unformed x y may unformed damaged version malformed = unformed refl
+opening_cause store.Damaged x y may unformed damaged version malformed = damaged refl
+opening_cause store.Version x y may unformed damaged version malformed = version refl
+opening_cause store.Malformed x y may unformed damaged version malformed = malformed refl
+opening_cause store.Memory x y may unformed damaged version malformed = tt
+opening_cause store.Disk x y may unformed damaged version malformed = tt
+opening_cause _ x y may unformed damaged version malformed = absurd may
+
+-- what is left where a store that stands for a state is not opened
+pub left_over : (fault : StoreFault) (x y : List ℕ) (s : ShowState) → Stands x y s → CannotBeRecovered fault x y
+    → (fault ≡ store.Exhausted) ⊎ (fault ≡ store.Memory) ⊎ (fault ≡ store.Disk)
+left_over store.NotEmpty x y s stands cause = absurd cause
+left_over store.Unformed x y s stands cause = absurd ((is_opened x y s stands).0 cause)
+left_over store.Damaged x y s stands cause = absurd ((is_opened x y s stands).1 cause)
+left_over store.Version x y s stands cause = absurd ((is_opened x y s stands).2 cause)
+left_over store.Malformed x y s stands cause = absurd ((is_opened x y s stands).3 cause)
+left_over store.Full x y s stands cause = absurd cause
+left_over store.Exhausted x y s stands cause = inl refl
+left_over store.Memory x y s stands cause = inr (inl refl)
+left_over store.Disk x y s stands cause = inr (inr refl)
 
 -- where a store was opened, only its cancels can be refused
 pub cancels_refused : {T D : Type 0} (r : Result T (StoreFault × D × D)) (x y : List ℕ)
-    → RefusedAs store.NotEmpty ⊥ r × RefusedAs store.Unformed ⊥ r × RefusedAs store.Damaged ⊥ r
-    × RefusedAs store.Version ⊥ r × RefusedAs store.Malformed ⊥ r × RefusedAs store.Full ⊥ r
+    → IfErr r (λ refused. IsOfCancels refused.0)
     → RefusedAs store.Exhausted (NoGenerationLeft x y) r → IfErr r (λ refused. CannotBeRecovered refused.0 x y)
-cancels_refused (Ok made) x y no_other exhausted = tt
-cancels_refused (Err refused) x y no_other exhausted =
-    has_reason refused.0 x y no_other.0 (λ is. absurd (no_other.1 is)) (λ is. absurd (no_other.2 is))
-    (λ is. absurd (no_other.3 is)) (λ is. absurd (no_other.4 is)) no_other.5 exhausted
+cancels_refused (Ok made) x y only exhausted = tt
+cancels_refused (Err refused) x y only exhausted = by refused.0 only exhausted
+  where
+    by : (f : StoreFault) → IsOfCancels f → (f ≡ store.Exhausted → NoGenerationLeft x y) → CannotBeRecovered f x y
+    by store.Exhausted may told = told refl
+    by store.Memory may told = tt
+    by store.Disk may told = tt
+    by _ may told = absurd may
+
+pub never_cancels : {T D : Type 0} (f : StoreFault) (r : Result T (StoreFault × D × D)) → (IsOfCancels f → ⊥)
+    → IfErr r (λ refused. IsOfCancels refused.0) → RefusedAs f ⊥ r
+never_cancels f (Ok made) never only = tt
+never_cancels f (Err refused) never only = λ is. never (subst IsOfCancels is only)
 
 -- no other refusal has hidden a fault of a device
 pub went_through : {T D : Type 0} (failures : D → ℕ) (first_in second_in : T → D) (a b : D) (n m : ℕ)
@@ -186,12 +163,6 @@ unwritten fault first_in second_in P Q a b (Err refused) same p q =
     λ other. (subst P (sym (same other).0) p, subst Q (sym (same other).1) q)
 
 -- ---- the state that was closed
-
--- what holds of the state behind its cancels holds of the closed one
-pub closed_so : (s : ShowState) (P : ShowState → Type 0) → P (after_events s (events_at s recovered))
-    → P (closed_state s)
-unfolding closed_state
-closed_so s P so = so
 
 -- what was made keeps the closed state of one that stood
 pub closed_from : {T E : Type 0} (state_in : T → ShowState) (x y : List ℕ) (s : ShowState) (r : Result T E)

@@ -68,6 +68,13 @@ pub record IsRecovered {D : Type 0} {disk : Ghosts D} (first second : D) (engine
       → last_accounts_of engine ≡ account_of (given_recovery s) ∷ []
   pub turned : TurnedOnceFrom disk first second engine
 
+-- the faults with which cancels are refused
+abbrev pub IsOfCancels : StoreFault → Type 0
+IsOfCancels store.Memory = Unit {0}
+IsOfCancels store.Exhausted = Unit {0}
+IsOfCancels store.Disk = Unit {0}
+IsOfCancels _ = ⊥
+
 -- The cancels are refused over these two disks: each fault has its reason.
 pub record RefusesCancels {T D : Type 0} (disk : Ghosts D) (first_in second_in : T → D) (first second : D)
     (result : Result T (StoreFault × D × D)) : Type 0 where
@@ -78,13 +85,7 @@ pub record RefusesCancels {T D : Type 0} (disk : Ghosts D) (first_in second_in :
   pub failed :
       RefusedAs store.Disk
       (SomeFailed disk first second (first_after first_in result) (second_after second_in result)) result
-  pub no_other :
-      RefusedAs store.NotEmpty ⊥ result
-      × RefusedAs store.Unformed ⊥ result
-      × RefusedAs store.Damaged ⊥ result
-      × RefusedAs store.Version ⊥ result
-      × RefusedAs store.Malformed ⊥ result
-      × RefusedAs store.Full ⊥ result
+  pub no_other : IfErr result (λ refused. IsOfCancels refused.0)
   -- Exhausted comes wherever it can
   pub due_at_the_last :
       disk.is_honest first

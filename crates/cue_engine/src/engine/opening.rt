@@ -1,5 +1,5 @@
 // How an engine comes to be: over a store that is formed, or over one that is recovered.
-ghost use Rattle.std.specs.Prelude.{◌≡◌, ◌⊎◌, ◌↔◌, false, IfOk};
+ghost use Rattle.std.specs.Prelude.{◌≡◌, ◌↔◌, false, IfOk};
 ghost use Rattle.cue_snap.specs.Pair.{AfterBarrier};
 ghost use Rattle.cue_snap.specs.Disks.{Keeps};
 ghost use Rattle.cue_snap.specs.Observed.{first_after, second_after, fault_of};
@@ -10,7 +10,14 @@ ghost use Rattle.cue_keeper.specs.Observed as kept;
 ghost use Rattle.cue_keeper.specs.Opening.{FormsStore};
 ghost use Rattle.cue_engine.specs.Recovery.{ClosedFrom, IsLeftOrStands};
 ghost use Rattle.cue_engine.specs.Observed.{state_of, first_of, second_of};
-ghost use Rattle.cue_engine.specs.Opening.{IsNew, IsRecovered, IsClosedFrom, RefusesRecovery, RefusesCancels};
+ghost use Rattle.cue_engine.specs.Opening.{
+  IsNew,
+  IsRecovered,
+  IsClosedFrom,
+  IsOfCancels,
+  RefusesRecovery,
+  RefusesCancels,
+};
 
 use super::Engine;
 use crate::drafts::Draft;
@@ -69,6 +76,7 @@ impl<D: Disk> Engine<D> {
 }
 
 // Closes the state that was opened.
+#[tactic(auto, unfolding(cue_core::specs::Batches::closed_state))]
 fn close_opened<D: Disk>(alloc: Global, keeper: Keeper<D>) -> Result<Engine<D>, (StoreFault, D, D)>
     requires works { kept.is_broken keeper ≡ false }
     ensures closed { IfOk result (IsClosedFrom keeper) }
@@ -110,7 +118,7 @@ fn store_fault(fault: Fault) -> StoreFault
     ensures memory { (result ≡ StoreFault.Memory) ↔ (fault ≡ Fault.Memory) }
     ensures exhausted { (result ≡ StoreFault.Exhausted) ↔ (fault ≡ Fault.Exhausted) }
     ensures disk { (result ≡ StoreFault.Disk) ↔ (fault ≡ Fault.Disk) }
-    ensures no_other { (result ≡ StoreFault.Memory) ⊎ (result ≡ StoreFault.Exhausted) ⊎ (result ≡ StoreFault.Disk) }
+    ensures no_other { IsOfCancels result }
 {
     match fault {
         Fault::Broken | Fault::Full => unreachable!(),

@@ -17,7 +17,8 @@ use Rattle.cue_core.specs.Batches.{closed_state}
 use Rattle.cue_engine.specs.Recovery.{IsLeftOrStands}
 use Rattle.cue_engine.specs.Observed.{state_of, first_of, second_of, last_batches_of, last_accounts_of}
 use Rattle.cue_engine.proofs.ReopenedLemmas.{closed_from, left_or_stands, unwritten, went_through, left_over}
-use Rattle.cue_engine.proofs.ReopenedLemmas.{cancels_of, account_of_same, has_reason, cancels_refused}
+use Rattle.cue_engine.proofs.ReopenedLemmas.{cancels_of, account_of_same, opening_cause, cancels_refused, never_cancels}
+use Rattle.cue_engine.specs.Opening.{IsOfCancels}
 use Rattle.cue_engine.proofs.engine.Engine.recover.Goals as goal
 
 pub returns-in-Ok-clause-any_moment : goal.returns-in-Ok-clause-any_moment
@@ -92,6 +93,7 @@ returns-in-Ok-clause-refused g c =
     let opens = c.in-Ok.ensures.opens.pair in
     let closes = c.close_opened.ensures.refused in
     let went = opens.went_through (λ is. no_fault _ is) in
+    let never = λ (f : StoreFault) (may : IsOfCancels f → ⊥). never_cancels f result may closes.no_other in
     let new_a = first_after first_of result in
     let new_b = second_after second_of result in
     record {
@@ -106,11 +108,16 @@ returns-in-Ok-clause-refused g c =
           ⊎ MoreFailures n (d.failures new_b)) went.1 failed)) closes.failed;
       went_through = went_through d.failures first_of second_of mid_a mid_b (d.failures a) (d.failures b) result
           closes.unwritten went.0 went.1;
-      no_other = (closes.no_other.0, closes.no_other.5);
+      no_other = (never store.NotEmpty (λ may. may), never store.Full (λ may. may));
       due_at_the_last = λ first second.
           rw (← opens.first_kept.bytes first, ← opens.second_kept.bytes second)
           (closes.due_at_the_last (opens.first_kept.keeps.honest.1 first) (opens.second_kept.keeps.honest.1 second));
-      readable = λ _ _ _ _. (closes.no_other.1, closes.no_other.2, closes.no_other.3, closes.no_other.4);
+      readable = λ _ _ _ _. (
+        never store.Unformed (λ may. may),
+        never store.Damaged (λ may. may),
+        never store.Version (λ may. may),
+        never store.Malformed (λ may. may),
+      );
       unwritten = λ first second.
           unwritten store.Disk first_of second_of
           (λ new. LeavesAtEachMoment d.moment d.held_at a new (IsImage (d.held a)))
@@ -132,28 +139,23 @@ returns-in-Ok-clause-keeps g c =
 -- the store is not opened
 pub returns-in-Err-clause-refused : goal.returns-in-Err-clause-refused
 returns-in-Err-clause-refused g c =
-    let x = (g.D.Disk.held c.args.first).bytes in
-    let y = (g.D.Disk.held c.args.second).bytes in
+    let d = g.D.Disk in
+    let x = (d.held c.args.first).bytes in
+    let y = (d.held c.args.second).bytes in
     let fault = c.in-Err.refused.0 in
     let opens = c.in-Err.ensures.opens in
     let never = λ (f : StoreFault) (is : fault ≡ f). subst IsOfOpening is opens.no_other in
+    let cause = λ (first : d.is_honest c.args.first) (second : d.is_honest c.args.second). opening_cause fault x y
+    opens.no_other (λ is. opens.pair.empty first second (ap Some is))
+    (λ is. opens.pair.spoiled first second (ap Some is)) (λ is. opens.version first second (ap Some is))
+    (λ is. opens.malformed first second (ap Some is)) in
     record {
-      cause = λ first second. has_reason fault x y (never store.NotEmpty)
-          (λ is. opens.pair.empty first second (ap Some is)) (λ is. opens.pair.spoiled first second (ap Some is))
-          (λ is. opens.version first second (ap Some is)) (λ is. opens.malformed first second (ap Some is))
-          (never store.Full) (λ is. absurd (never store.Exhausted is));
+      cause = cause;
       failed = λ is. opens.pair.failed (ap Some is);
       went_through = λ other. opens.pair.went_through (λ is. other (the_fault _ _ is));
       no_other = (never store.NotEmpty, never store.Full);
-      due_at_the_last = λ first second none.
-          let needs = none.needs in
-          let good = is_opened x y none.state
-          (record { area = none.area; reads = needs.reads; stands = needs.stands }) in
-          left_over fault store.Exhausted (never store.NotEmpty)
-          (λ is. good.0 (opens.pair.empty first second (ap Some is)))
-          (λ is. good.1 (opens.pair.spoiled first second (ap Some is)))
-          (λ is. good.2 (opens.version first second (ap Some is)))
-          (λ is. good.3 (opens.malformed first second (ap Some is))) (never store.Full) (never store.Exhausted);
+      due_at_the_last = λ first second none. left_over fault x y none.state
+          (record { area = none.area; reads = none.needs.reads; stands = none.needs.stands }) (cause first second);
       readable = λ first second s stands.
           let good = is_opened x y s stands in (
             λ is. good.0 (opens.pair.empty first second (ap Some is)),

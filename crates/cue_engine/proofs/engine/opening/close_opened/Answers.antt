@@ -98,18 +98,6 @@ returns-in-Ok-clause-refused g c =
       unwritten = tt;
     }
 
-pub returns-in-Ok-clause-any_moment : goal.returns-in-Ok-clause-any_moment
-unfolding closed_state
-returns-in-Ok-clause-any_moment g c = λ first second.
-    c.close_undecided.ensures.accepts.pair.any_moment first second c.requires.works
-
 pub returns-in-Ok-clause-stands : goal.returns-in-Ok-clause-stands
 returns-in-Ok-clause-stands g c = λ first second.
     rw c.in-Ok.ensures.accepts.state (c.in-Ok.ensures.accepts.stands first second)
-
-pub returns-in-Ok-clause-keeps : goal.returns-in-Ok-clause-keeps
-returns-in-Ok-clause-keeps g c =
-    let accepts = c.close_undecided.ensures.accepts.pair in (
-      record { honest = accepts.first_honest; failures = accepts.first_failures },
-      record { honest = accepts.second_honest; failures = accepts.second_failures },
-    )

@@ -1,7 +1,8 @@
 -- The orders of an account, attempt by attempt.
-use Rattle.std.proofs.Common.{◌≡◌, ℕ, ◌+◌, ◌<◌, Bool, true, if◌then◌else◌, List, [], ◌∷◌, ◌++◌, length, drop}
-use Rattle.std.proofs.Common.{get_or, refl, sym, ◌∙◌, ap, append_assoc, Vec, Global, Result, Ok, Err}
+use Rattle.std.proofs.Common.{◌≡◌, ℕ, ◌+◌, ◌<◌, Bool, true, if◌then◌else◌, List, [], ◌∷◌, ◌++◌, length, drop, get_or}
+use Rattle.std.proofs.Common.{refl, sym, ◌∙◌, ap, append_assoc, Vec, Global, Result, Ok, Err}
 use Rattle.std.specs.Prelude.{IfOk, OnOk}
+use Rattle.std.specs.List.{flat_map}
 use Rattle.std.proofs.lemmas.List.{drop_more}
 use Rattle.cue_show.specs.Devices.{is_among}
 use Rattle.cue_exchange.specs.declared.attempt.Attempt.{Attempt}
@@ -9,31 +10,18 @@ use Rattle.cue_core.specs.declared.event.Event.{Event}
 use Rattle.cue_core.specs.State.{ShowState}
 use Rattle.cue_outbox.specs.Asked.{is_asked}
 use Rattle.cue_engine.specs.declared.account.Order.{Order}
-use Rattle.cue_engine.specs.Accounts.{orders_for, orders_of, orders_asked, new_orders, new_orders_of}
+use Rattle.cue_engine.specs.Accounts.{orders_for, orders_of, new_orders, new_orders_of}
 
--- one attempt more, of those that have one of the numbers
-pub of-more : (s : ShowState) (numbers : List ℕ) (live : List Attempt) (i : ℕ) (a : Attempt) (orders news all : List Order)
-    → i < length live → a ≡ get_or live i a
-    → news ≡ orders ++ (if is_among a.seq numbers then orders_for true s a a.answers else [])
-    → orders ++ orders_of numbers s (drop i live) ≡ all → news ++ orders_of numbers s (drop (i + 1) live) ≡ all
-of-more s numbers live i a orders news all lt is new old =
+-- the orders of one attempt more
+pub one-more : (orders_in : Attempt → List Order) (live : List Attempt) (orders : List Order) {i : ℕ} {a : Attempt}
+    {news all : List Order} → i < length live → a ≡ get_or live i a → news ≡ orders ++ orders_in a
+    → orders ++ flat_map orders_in (drop i live) ≡ all → news ++ flat_map orders_in (drop (i + 1) live) ≡ all
+one-more orders_in live orders {i} {a} lt is new old =
     let cut : drop i live ≡ a ∷ drop (i + 1) live = drop_more live i a lt ∙ ap (λ x. x ∷ drop (i + 1) live) (sym is) in
-    let here : List Order = if is_among a.seq numbers then orders_for true s a a.answers else [] in
-    ap (λ (os : List Order). os ++ orders_of numbers s (drop (i + 1) live)) new
-    ∙ (append_assoc orders here (orders_of numbers s (drop (i + 1) live))
-    ∙ (ap (λ (os : List Order). orders ++ os) (sym (ap (orders_of numbers s) cut)) ∙ old))
-
--- one attempt more, of all
-pub asked-more : (s : ShowState) (batch : List Event) (live : List Attempt) (i : ℕ) (a : Attempt)
-    (orders news all : List Order) → i < length live → a ≡ get_or live i a
-    → news ≡ orders ++ orders_for (is_asked a.seq batch) s a a.answers
-    → orders ++ orders_asked batch s (drop i live) ≡ all → news ++ orders_asked batch s (drop (i + 1) live) ≡ all
-asked-more s batch live i a orders news all lt is new old =
-    let cut : drop i live ≡ a ∷ drop (i + 1) live = drop_more live i a lt ∙ ap (λ x. x ∷ drop (i + 1) live) (sym is) in
-    let here : List Order = orders_for (is_asked a.seq batch) s a a.answers in
-    ap (λ (os : List Order). os ++ orders_asked batch s (drop (i + 1) live)) new
-    ∙ (append_assoc orders here (orders_asked batch s (drop (i + 1) live))
-    ∙ (ap (λ (os : List Order). orders ++ os) (sym (ap (orders_asked batch s) cut)) ∙ old))
+    let rest : List Order = flat_map orders_in (drop (i + 1) live) in
+    ap (λ (os : List Order). os ++ rest) new
+    ∙ (append_assoc orders (orders_in a) rest
+    ∙ (ap (λ (os : List Order). orders ++ os) (sym (ap (flat_map orders_in) cut)) ∙ old))
 
 -- the attempts with the numbers are those that are asked
 of-asked : (s : ShowState) (numbers : List ℕ) (batch : List Event) (live : List Attempt)

@@ -10,8 +10,8 @@ use Rattle.cue_engine.specs.Recovery.{IsLeftOrStands}
 use Rattle.cue_engine.specs.Incidents.{Incident, recovered, stopped_in_recovery, refused, Store, LeavesOnly, RecoversAs}
 use Rattle.cue_engine.specs.Incidents.{PermitsAtRest, PermitsUnformed, Permits}
 use Rattle.cue_engine.specs.Permitted.{IsWithin, IsStop, IsOnDisks, PowerLossIsWithin, StopIsPermitted}
-use Rattle.cue_engine.specs.Permitted.{StopInCommitIsPermitted, StopInRecoveryIsPermitted}
-use Rattle.cue_engine.specs.Permitted.{StopInFormIsPermitted, RecoveryIsPermitted, RefusalIsPermitted}
+use Rattle.cue_engine.specs.Permitted.{StopInCommitIsPermitted, StopInRecoveryIsPermitted, StopInFormIsPermitted}
+use Rattle.cue_engine.specs.Permitted.{RecoveryIsPermitted, RefusalIsPermitted}
 
 settled_stable : (bytes : List ℕ) → IsStable (settled_contents bytes)
 settled_stable bytes = record { length = refl; none_touched = λ i within. lt-leb (length bytes) i within }
@@ -53,27 +53,6 @@ pub on_disks : (i : Incident) (store : Store) (one other : Contents) → Permits
 on_disks i store one other rest first (inl same) = let P : Store → Type 0 = λ u. Permits u i in subst P (sym same) rest
 on_disks i store one other rest first (inr same) = let P : Store → Type 0 = λ u. Permits u i in subst P (sym same) first
 
-pub stop_in_recovery : {D : Type 0} (moment : D → ℕ) (held : D → Contents) (held_at : D → ℕ → Contents) (is_honest : D
-    → Type 0) → ((disk : D) → is_honest disk → held_at disk (moment disk) ≡ held disk)
-    → StopInRecoveryIsPermitted moment held held_at is_honest
-stop_in_recovery moment held held_at is_honest held_now store a b new_a new_b i j one other honest_a honest_b on barrier
-    stops in_one in_other =
-    let leaves : LeavesOnly one other (IsLeftOrStands (held a) (held b)) = λ x y left_x left_y.
-    at_stop moment held_at a b new_a new_b (IsLeftOrStands (held a) (held b)) (held a) (held b) (held_now a honest_a)
-    (held_now b honest_b) (λ u v left_u left_v. inl (left_u, left_v)) barrier i j stops x y (in_one x left_x)
-    (in_other y left_y) in
-    on_disks (stopped_in_recovery one other) store (held a) (held b) leaves leaves on
-
-pub stop_in_form : {D : Type 0} (moment : D → ℕ) (held : D → Contents) (held_at : D → ℕ → Contents) (is_honest : D
-    → Type 0) → ((disk : D) → is_honest disk → held_at disk (moment disk) ≡ held disk)
-    → StopInFormIsPermitted moment held held_at is_honest
-stop_in_form moment held held_at is_honest held_now a b new_a new_b i j one other honest_a honest_b barrier stops in_one
-    in_other =
-    λ x y left_x left_y.
-    at_stop moment held_at a b new_a new_b (IsUnformedOr first_area (held a) (held b)) (held a) (held b)
-    (held_now a honest_a) (held_now b honest_b) (λ u v left_u left_v. inl (left_u, left_v)) barrier i j stops x y
-    (in_one x left_x) (in_other y left_y)
-
 -- ---- recovery that came to its end
 
 pub recovery : {D : Type 0} (held : D → Contents) (is_honest : D → Type 0)
@@ -89,18 +68,37 @@ recovery held is_honest reads store a b s honest_a honest_b on closed =
     } in
     on_disks (recovered s) store (held a) (held b) closes closes on
 
-pub refusal : {D : Type 0} (moment : D → ℕ) (held : D → Contents) (held_at : D → ℕ → Contents) (is_honest : D → Type 0)
-    → ((disk : D) → is_honest disk → held_at disk (moment disk) ≡ held disk)
-    → RefusalIsPermitted moment held held_at is_honest
-refusal {D} moment held held_at is_honest held_now store a b new_a new_b one other honest_a honest_b on leaves in_one
-    in_other =
-    let was : (new_disk : D) (now : Contents) (image : List ℕ) → is_honest new_disk → IsWithin (held new_disk) now
-    → IsImage now image → IsImage (held_at new_disk (moment new_disk)) image =
-    λ new_disk now image honest within left. subst (λ (c : Contents). IsImage c image) (sym (held_now new_disk honest))
-    (within image left) in
-    let both : (x y : List ℕ) → IsImage one x → IsImage other y → IsImage (held a) x × IsImage (held b) y =
-    λ x y left_x left_y. (
-      leaves.0.each (moment new_a) leaves.0.later (omega arith) x (was new_a one x honest_a in_one left_x),
-      leaves.1.each (moment new_b) leaves.1.later (omega arith) y (was new_b other y honest_b in_other left_y),
-    ) in
-    on_disks (refused one other) store (held a) (held b) both both on
+-- ---- stops within a call, and refusals
+
+module _ {D : Type 0} (moment : D → ℕ) (held : D → Contents) (held_at : D → ℕ → Contents) (is_honest : D → Type 0)
+    (held_now : (disk : D) → is_honest disk → held_at disk (moment disk) ≡ held disk) where
+  pub stop_in_recovery : StopInRecoveryIsPermitted moment held held_at is_honest
+  stop_in_recovery store a b new_a new_b i j one other honest_a honest_b on barrier
+      stops in_one in_other =
+      let leaves : LeavesOnly one other (IsLeftOrStands (held a) (held b)) = λ x y left_x left_y.
+      at_stop moment held_at a b new_a new_b (IsLeftOrStands (held a) (held b)) (held a) (held b) (held_now a honest_a)
+      (held_now b honest_b) (λ u v left_u left_v. inl (left_u, left_v)) barrier i j stops x y (in_one x left_x)
+      (in_other y left_y) in
+      on_disks (stopped_in_recovery one other) store (held a) (held b) leaves leaves on
+
+  pub stop_in_form : StopInFormIsPermitted moment held held_at is_honest
+  stop_in_form a b new_a new_b i j one other honest_a honest_b barrier stops in_one
+      in_other =
+      λ x y left_x left_y.
+      at_stop moment held_at a b new_a new_b (IsUnformedOr first_area (held a) (held b)) (held a) (held b)
+      (held_now a honest_a) (held_now b honest_b) (λ u v left_u left_v. inl (left_u, left_v)) barrier i j stops x y
+      (in_one x left_x) (in_other y left_y)
+
+  pub refusal : RefusalIsPermitted moment held held_at is_honest
+  refusal store a b new_a new_b one other honest_a honest_b on leaves in_one
+      in_other =
+      let was : (new_disk : D) (now : Contents) (image : List ℕ) → is_honest new_disk → IsWithin (held new_disk) now
+      → IsImage now image → IsImage (held_at new_disk (moment new_disk)) image =
+      λ new_disk now image honest within left. subst (λ (c : Contents). IsImage c image) (sym (held_now new_disk honest))
+      (within image left) in
+      let both : (x y : List ℕ) → IsImage one x → IsImage other y → IsImage (held a) x × IsImage (held b) y =
+      λ x y left_x left_y. (
+        leaves.0.each (moment new_a) leaves.0.later (omega arith) x (was new_a one x honest_a in_one left_x),
+        leaves.1.each (moment new_b) leaves.1.later (omega arith) y (was new_b other y honest_b in_other left_y),
+      ) in
+      on_disks (refused one other) store (held a) (held b) both both on

@@ -1,10 +1,10 @@
-use Rattle.std.proofs.Common.{◌≡◌, ◌<◌, List, [], ◌++◌, true, false, cond, length, get_or, ap, sym, ◌∙◌, subst}
-use Rattle.std.proofs.Common.{append-nil, Vec, Global}
+use Rattle.std.proofs.Common.{◌≡◌, List, [], ◌++◌, true, false, cond, if◌then◌else◌, ap, sym, ◌∙◌, append-nil, Vec}
+use Rattle.std.proofs.Common.{Global}
 use Rattle.cue_show.specs.Devices.{is_among}
 use Rattle.cue_exchange.specs.declared.attempt.Attempt.{Attempt}
 use Rattle.cue_engine.specs.declared.account.Order.{Order}
-use Rattle.cue_engine.specs.Accounts.{orders_for, orders_of}
-use Rattle.cue_engine.proofs.OrderingLemmas.{of-more}
+use Rattle.cue_engine.specs.Accounts.{orders_for}
+use Rattle.cue_engine.proofs.OrderingLemmas.{one-more}
 use Rattle.cue_engine.proofs.ordering.orders_of.Goals as goal
 use Rattle.cue_engine.proofs.ordering.orders_of.Goals.{then-is_among+in_ok-push_orders, else-is_among}
 
@@ -12,9 +12,6 @@ pub loop-attempt-preserved : goal.loop-attempt-preserved
 loop-attempt-preserved c =
     let live : c.as_slice-attempt-items.result.now ≡ c.args.state.now.live = c.as_slice-attempt-items.ensures.value
     ∙ c.live.ensures.value in
-    let P : List Attempt → Type 0 = λ xs. c.loop-attempt.attempt-index < length xs in
-    let Q : List Attempt → Type 0 = λ xs. c.attempt-item.result ≡ get_or xs c.loop-attempt.attempt-index
-    c.attempt-item.result in
     let here : List Order = orders_for true c.args.state.now c.attempt-item.result c.attempt-item.result.answers in
     let new : c.if-is_among.orders.items ≡ c.loop-attempt.orders.items ++ cond
     (is_among c.attempt-item.result.seq c.args.numbers.now) here [] =
@@ -33,7 +30,6 @@ loop-attempt-preserved c =
           ∙ ap (λ b. c.loop-attempt.orders.items ++ cond b here []) no)
     ]
     in
-    of-more c.args.state.now c.args.numbers.now c.args.state.now.live c.loop-attempt.attempt-index
-    c.attempt-item.result c.loop-attempt.orders.items c.if-is_among.orders.items
-    (orders_of c.args.numbers.now c.args.state.now c.args.state.now.live) (subst P live c.loop-attempt-test.true)
-    (subst Q live c.attempt-item.is) new c.loop-attempt.invariant
+    one-more (λ (a : Attempt). if is_among a.seq c.args.numbers.now then orders_for true c.args.state.now a a.answers
+    else []) c.args.state.now.live c.loop-attempt.orders.items (rw live at c.loop-attempt-test.true)
+    (rw live at c.attempt-item.is) new c.loop-attempt.invariant

@@ -1,10 +1,6 @@
-use Rattle.std.proofs.Common.{◌≡◌, refl, ◌∙◌, ap, subst, List, [], ◌∷◌}
-use Rattle.std.specs.Prelude.{Some, None}
-use Rattle.cue_core.specs.declared.event.Event.{Event}
-use Rattle.cue_core.specs.State.{ShowState}
+use Rattle.std.proofs.Common.{refl, [], ◌∷◌}
 use Rattle.cue_core.specs.Happenings.{events_at, recovered}
 use Rattle.cue_keeper.specs.declared.fault.Fault.TheVariants as fault
-use Rattle.cue_keeper.specs.Accepting.{Accepts}
 use Rattle.cue_keeper.specs.Observed.{state_of, pair_of}
 use Rattle.cue_keeper.proofs.CommittedLemmas.{out_of_memory, refuses, refuses_too}
 use Rattle.cue_engine.proofs.recovering.close_undecided.Goals as goal
@@ -21,19 +17,9 @@ returns-in_err-offered-clause-accepts g c =
 
 pub returns-in_err-keep-clause-accepts : goal.returns-in_err-keep-clause-accepts
 returns-in_err-keep-clause-accepts g c =
-    let old = c.args.keeper.now in
-    let new = c.keep.new.keeper in
-    let f = c.in_err-keep.field-0.0 in
-    let same : c.in_ok-offered.offered.group ≡ events_at (state_of old) recovered ∷ [] = c.in_ok-offered.ensures.group
-    ∙ ap (λ (t : ShowState). events_at t recovered ∷ []) c.state.ensures in
-    refuses_too (events_at (state_of old) recovered ∷ []) c.from_residual-in_err-keep.result f old new
-    c.from_residual-in_err-keep.ensures.1
-    (subst (λ (bs : List (List Event)). Accepts bs (Some f) old new) same c.in_err-keep.ensures.accepts)
+    refuses_too (events_at (state_of c.args.keeper.now) recovered ∷ []) c.from_residual-in_err-keep.result
+    c.in_err-keep.field-0.0 c.args.keeper.now c.keep.new.keeper c.from_residual-in_err-keep.ensures.1
+    (rw (c.in_ok-offered.ensures.group, c.state.ensures) at c.in_err-keep.ensures.accepts)
 
 pub returns-clause-accepts : goal.returns-clause-accepts
-returns-clause-accepts g c =
-    let old = c.args.keeper.now in
-    let new = c.keep.new.keeper in
-    let same : c.in_ok-offered.offered.group ≡ events_at (state_of old) recovered ∷ [] = c.in_ok-offered.ensures.group
-    ∙ ap (λ (t : ShowState). events_at t recovered ∷ []) c.state.ensures in
-    subst (λ (bs : List (List Event)). Accepts bs None old new) same c.in_ok-keep.ensures.accepts
+returns-clause-accepts g c = rw (c.in_ok-offered.ensures.group, c.state.ensures) at c.in_ok-keep.ensures.accepts

@@ -95,5 +95,7 @@ or-more from [] = refl
 or-more from (r ∷ rs) = refl
 
 pub replies_have_the_batch : RepliesHaveTheBatch
-replies_have_the_batch s now from bytes = datagram_case (λ g. events_in g.replies ≡ length g.batch) s now from bytes (λ why. refl)
-    (λ ms few. let hs : List Heard = hear_all s now from ms in or-more from (map (reply_to from) hs) ∙ all-heard from hs)
+replies_have_the_batch s now from bytes =
+    datagram_case (λ g. events_in g.replies ≡ length g.batch) s now from bytes (λ why. refl) (λ ms few.
+    let hs : List Heard = hear_all s now from ms in
+    or-more from (map (reply_to from) hs) ∙ all-heard from hs)

@@ -123,7 +123,8 @@ pub decided_of : (q : ℕ) (before later : List Event) → IsTrue (is_in_order (
     → IsDecidedInOrder q before later
 decided_of q before later h =
     let past : List Event = onto before [] in
-    let go = (both (keeps_order past (event.Go q)) (is_in_order past) (before_all IsInOrder order_back later (event.Go q ∷ past) h)).0 in
+    let go = (both (keeps_order past (event.Go q)) (is_in_order past)
+    (before_all IsInOrder order_back later (event.Go q ∷ past) h)).0 in
     let one = both (list_any (is_start_of q) past) _ go in
     let two = both (list_all (may_go_by past q) (parts_by past q)) (not (list_any (is_cancel_of q) past)) one.1 in
     record {

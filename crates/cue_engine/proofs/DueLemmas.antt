@@ -40,7 +40,8 @@ pub pending_due : (s : ShowState) (es : List Event) → IsTrue (is_state (after_
 pending_due s es rules =
     let t : ShowState = after_events s es in
     each_due s es (all_pending t) (all_pending_rest s es) (pending_asked s es)
-    (each_map (λ (m : ℕ × Send). IsReadable m.1) (λ (o : ℕ × Order). (o.0, order o.1)) (pending t) (all_writable t rules))
+    (each_map (λ (m : ℕ × Send). IsReadable m.1) (λ (o : ℕ × Order). (o.0, order o.1)) (pending t)
+    (all_writable t rules))
 
 -- it stays so with more events, and so it is of all that is sent
 pub due_lasts : Lasts (λ s. IsTrue (is_state s)) IsDue

@@ -72,7 +72,8 @@ happening-ok s runs.recovered h = recovery-ok s h
 -- ---- whole runs
 
 -- a batch more, as the state has it and as the history has it
-pub state_next : (s : ShowState) (past es : List Event) → state_of past ≡ s → state_of (onto es past) ≡ after_events s es
+pub state_next : (s : ShowState) (past es : List Event) → state_of past ≡ s
+    → state_of (onto es past) ≡ after_events s es
 state_next s past es same = state-onto past es ∙ ap (λ t. after_events t es) same
 
 pub onto_next : (es : List Event) (batches : List (List Event)) (past : List Event)

@@ -30,7 +30,8 @@ given_by_test s from hs b e = rw e refl
 -- what holds of each datagram that is refused whole, and of this one in full, holds of this one
 pub datagram_case : (P : Given → Type 0) (s : ShowState) (now from : ℕ) (bytes : List ℕ)
     → ((why : Refusal) → P (given_refused from why))
-    → ((ms : List Content) → are_too_many (hear_all s now from ms) ≡ false → P (in_full s from (hear_all s now from ms)))
+    → ((ms : List Content) → are_too_many (hear_all s now from ms) ≡ false
+    → P (in_full s from (hear_all s now from ms)))
     → P (given_of s now (datagram from bytes))
 unfolding given_of
 datagram_case P s now from bytes whole full = by (messages_in now bytes)

@@ -96,7 +96,8 @@ module _ {D : Type 0} {disk : Ghosts D} (old new : Engine D disk) {life : Life}
   lives_committed inputs (Ok t) takes =
       let sends : List (ℕ × Send) = sends_given (state_of old) inputs in
       let owed : List (ℕ × Send) = runs.owed ++ sends in
-      runs_next runs (committed inputs) (state_of new) owed tt (ap (λ (u : ShowState). running u owed) (sym takes.state))
+      runs_next runs (committed inputs) (state_of new) owed tt
+      (ap (λ (u : ShowState). running u owed) (sym takes.state))
       (takes.queue ∙ ap (λ (q : List (ℕ × List ℕ)). q ++ datagrams sends) runs.owes
       ∙ sym (map-append datagram runs.owed sends))
   lives_committed inputs (Err e) takes = tt
@@ -148,8 +149,8 @@ module _ {D : Type 0} {disk : Ghosts D} (old new : Engine D disk) {life : Life}
       let other : Contents = disk.held_at (second_of new) j in
       let at = rests_in_commit inputs batches refused same accepts sound n i j one other at_i at_j (λ image left. left)
       (λ image left. left) in
-      recovery_gives_a_prefix life.began life.store (with_next life (stopped_in_commit inputs n one other)).incidents one
-      other x y at.lived.rules at.lived.begins at.lived.happens at.rests (left_x, left_y)
+      recovery_gives_a_prefix life.began life.store (with_next life (stopped_in_commit inputs n one other)).incidents
+      one other x y at.lived.rules at.lived.begins at.lived.happens at.rests (left_x, left_y)
 
 -- ---- what is handed over
 

@@ -46,7 +46,8 @@ none_sent q d s past (x ∷ later) now h ended k =
     let Q : ShowState → Type 0 = λ t. asks (is_order_to q d) t ≡ true in
     either (list_any (tells q d) g.sends) (list_any (tells q d) (run next later).sends) false
     (λ m. contrary (asks (is_order_to q d) (state_of (onto g.batch past)))
-    (subst Q (sym then) (sent_asks (is_order_to q d) s x m)) (nothing-more-is-asked (onto g.batch past) q d now_past still))
+    (subst Q (sym then) (sent_asks (is_order_to q d) s x m))
+    (nothing-more-is-asked (onto g.batch past) q d now_past still))
     (none_sent q d next (onto g.batch past) later then now_past still)
     (sym (any-append (tells q d) g.sends (run next later).sends) ∙ k)
 

@@ -94,7 +94,8 @@ module _ {D : Type 0} (moment : D → ℕ) (held : D → Contents) (held_at : D 
       in_other =
       let was : (new_disk : D) (now : Contents) (image : List ℕ) → is_honest new_disk → IsWithin (held new_disk) now
       → IsImage now image → IsImage (held_at new_disk (moment new_disk)) image =
-      λ new_disk now image honest within left. subst (λ (c : Contents). IsImage c image) (sym (held_now new_disk honest))
+      λ new_disk now image honest within left.
+      subst (λ (c : Contents). IsImage c image) (sym (held_now new_disk honest))
       (within image left) in
       let both : (x y : List ℕ) → IsImage one x → IsImage other y → IsImage (held a) x × IsImage (held b) y =
       λ x y left_x left_y. (

@@ -46,41 +46,42 @@ left_or_stands then_a then_b first second s left_first left_second stood x y sta
 -- ---- why the cancels are not accepted
 
 module _ {one other : Contents} {s : ShowState} {generation count end : ℕ}
-    (kept : IsKept one other s generation count end) (first : IsImage one one.bytes) (second : IsImage other other.bytes)
-  where
-    pub no_generation : 1 ≤ length (events_at s recovered) → IsTrue (lacks_room count end (cancels_records s))
-        → generation ≡ 2 ^ 64 - 1 → NoGenerationLeft one.bytes other.bytes
-    no_generation some due last = record {
-      area = kept.area;
-      state = s;
-      needs = record {
-        reads = kept.leaves one.bytes other.bytes first second;
-        stands = kept.stands;
-        some = some;
-        due = rw (kept.same_count, kept.same_end) at due;
-      };
-      last = sym kept.same_generation ∙ last;
-    }
+    (kept : IsKept one other s generation count end) (first : IsImage one one.bytes)
+    (second : IsImage other other.bytes) where
+  pub no_generation : 1 ≤ length (events_at s recovered) → IsTrue (lacks_room count end (cancels_records s))
+      → generation ≡ 2 ^ 64 - 1 → NoGenerationLeft one.bytes other.bytes
+  no_generation some due last = record {
+    area = kept.area;
+    state = s;
+    needs = record {
+      reads = kept.leaves one.bytes other.bytes first second;
+      stands = kept.stands;
+      some = some;
+      due = rw (kept.same_count, kept.same_end) at due;
+    };
+    last = sym kept.same_generation ∙ last;
+  }
 
-    -- what the two read as has the generation of the kept state
-    pub generation_read : (area : Area) → PairReads area one.bytes other.bytes → generation ≡ area.generation
-    generation_read area reads =
-        kept.same_generation ∙ ap (λ (a : Area). a.generation)
-        (sym (one_of_a_pair area kept.area one.bytes other.bytes reads (kept.leaves one.bytes other.bytes first second)))
+  -- what the two read as has the generation of the kept state
+  pub generation_read : (area : Area) → PairReads area one.bytes other.bytes → generation ≡ area.generation
+  generation_read area reads =
+      kept.same_generation ∙ ap (λ (a : Area). a.generation)
+      (sym (one_of_a_pair area kept.area one.bytes other.bytes reads
+      (kept.leaves one.bytes other.bytes first second)))
 
-    -- where no generation is left, that is so of the kept state: its cancels need a new area
-    pub cannot_turn : NoGenerationLeft one.bytes other.bytes → IsTrue (lacks_room count end (cancels_records s))
-        × (length (with_events (events_at s recovered ∷ [])) ≡ 1) × (generation ≡ 2 ^ 64 - 1)
-    cannot_turn none =
-        let reads = kept.leaves one.bytes other.bytes first second in
-        let area = one_of_a_pair none.area kept.area one.bytes other.bytes none.needs.reads reads in
-        let state = one_state one.bytes other.bytes none.state s
-        (record { area = none.area; reads = none.needs.reads; stands = none.needs.stands })
-        (record { area = kept.area; reads = reads; stands = kept.stands }) in (
-          rw (kept.same_count, kept.same_end, ← area, ← state) none.needs.due,
-          has_one (events_at s recovered) (rw state at none.needs.some),
-          generation_read none.area none.needs.reads ∙ none.last,
-        )
+  -- where no generation is left, that is so of the kept state: its cancels need a new area
+  pub cannot_turn : NoGenerationLeft one.bytes other.bytes → IsTrue (lacks_room count end (cancels_records s))
+      × (length (with_events (events_at s recovered ∷ [])) ≡ 1) × (generation ≡ 2 ^ 64 - 1)
+  cannot_turn none =
+      let reads = kept.leaves one.bytes other.bytes first second in
+      let area = one_of_a_pair none.area kept.area one.bytes other.bytes none.needs.reads reads in
+      let state = one_state one.bytes other.bytes none.state s
+      (record { area = none.area; reads = none.needs.reads; stands = none.needs.stands })
+      (record { area = kept.area; reads = reads; stands = kept.stands }) in (
+        rw (kept.same_count, kept.same_end, ← area, ← state) none.needs.due,
+        has_one (events_at s recovered) (rw state at none.needs.some),
+        generation_read none.area none.needs.reads ∙ none.last,
+      )
 
 -- if a new area is needed, the generation is the next one, and else the same
 pub one_more : (due : Bool) (before after : ℕ) → after ≡ (if due then before + 1 else before) → after ≤ before + 1

@@ -110,8 +110,8 @@ module _ {D : Type 0} {disk : Ghosts D}
   stops_in_commit old mid last first second life inputs batches (Ok t) refused told told_then given accepts same kept_so
       handed is_first is_second sound runs =
       tt
-  stops_in_commit old mid last first second life inputs batches (Err e) refused told told_then given accepts same kept_so
-      handed is_first is_second sound runs =
+  stops_in_commit old mid last first second life inputs batches (Err e) refused told told_then given accepts same
+      kept_so handed is_first is_second sound runs =
       let queue : List (ℕ × List ℕ) = queue_of old in
       let all : AllHanded told queue refused told_then =
       subst (λ (os : List (ℕ × List ℕ)). AllHanded told os refused told_then) same.1 handed in

@@ -12,7 +12,8 @@ loop-attempt-preserved c =
     ∙ c.live.ensures.value in
     let a : Attempt = c.attempt-item.result in
     one-more (λ (b : Attempt). orders_for (is_asked b.seq c.args.batch.now) c.args.state.now b b.answers)
-    c.args.state.now.live c.loop-attempt.orders.items (rw live at c.loop-attempt-test.true) (rw live at c.attempt-item.is)
+    c.args.state.now.live c.loop-attempt.orders.items (rw live at c.loop-attempt-test.true)
+    (rw live at c.attempt-item.is)
     (c.in_ok-push_orders.ensures
     ∙ ap (λ (b : Bool). c.loop-attempt.orders.items ++ orders_for b c.args.state.now a a.answers)
     (c.is_among.ensures ∙ (ap (is_among a.seq) c.deref.ensures.value ∙ c.in_ok-numbers.ensures.exact a.seq)))

@@ -19,7 +19,8 @@ loop-attempt-preserved c =
       | then-is_among+in_ok-push_orders w ↦
           let yes : true ≡ is_among c.attempt-item.result.seq c.args.numbers.now = sym w.if-is_among.true
           ∙ c.is_among.ensures in
-          let more : w.push_orders.new.orders.items ≡ c.loop-attempt.orders.items ++ here = w.in_ok-push_orders.ensures in
+          let more : w.push_orders.new.orders.items ≡ c.loop-attempt.orders.items ++ here =
+          w.in_ok-push_orders.ensures in
           ap (λ (v : Vec Order Global). v.items) w.orders-is
           ∙ (more ∙ ap (λ b. c.loop-attempt.orders.items ++ cond b here []) yes)
       | else-is_among w ↦

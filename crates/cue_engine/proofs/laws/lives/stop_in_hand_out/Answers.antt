@@ -12,18 +12,11 @@ loop-most-init g c = record {
 
 pub loop-most-preserved : goal.loop-most-preserved
 loop-most-preserved g c =
-    let told = g.W.Wire.told in
-    let l = c.loop-most in
     let part = c.hand_out_first-refused in
-    let before = l.invariant.so_far in
+    let before = c.loop-most.invariant.so_far in
     record {
-      keeper = part.ensures.keeper ∙ l.invariant.keeper;
-      so_far = (
-        before.0 + part.result,
-        part_more (told c.args.wire.now) (told l.wire) (told part.new.wire)
-            (queue_of c.args.engine) (queue_of l.engine) (queue_of part.new.self) _ before.0 part.result
-            part.ensures.left before.1 part.ensures.handed,
-      );
+      keeper = part.ensures.keeper ∙ c.loop-most.invariant.keeper;
+      so_far = (before.0 + part.result, part_more _ part.ensures.left before.1 part.ensures.handed);
     }
 
 pub returns : goal.returns

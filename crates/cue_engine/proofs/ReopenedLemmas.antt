@@ -1,13 +1,12 @@
 -- What a store that is opened and then closed comes to.
 use Rattle.std.proofs.Common.{◌≡◌, ◌⊎◌, inl, inr, ℕ, ◌+◌, ◌-◌, ◌^◌, ◌≤◌, List, length, Some, None, Result, Ok, Err}
 use Rattle.std.proofs.Common.{Bool, true, false, if◌then◌else◌, arith, [], ◌∷◌, refl, ◌∙◌, ap, sym, subst, IsTrue}
-use Rattle.std.specs.Prelude.{IfOk, IfErr}
+use Rattle.std.specs.Prelude.{IfErr}
 use Rattle.cue_disk.specs.Disk.{Contents, IsImage}
 use Rattle.cue_log.specs.Area.{Area}
-use Rattle.cue_snap.specs.Observed.{first_after, second_after, RefusedAs}
+use Rattle.cue_snap.specs.Observed.{RefusedAs}
 use Rattle.cue_snap.specs.Pair.{IsSpoiled, NeitherHas, PairReads}
 use Rattle.cue_snap.proofs.ReaderLemmas.{one_of_a_pair}
-use Rattle.cue_core.specs.declared.event.Event.{Event}
 use Rattle.cue_core.specs.State.{ShowState}
 use Rattle.cue_core.specs.Happenings.{events_at, recovered}
 use Rattle.cue_keeper.specs.declared.fault.Fault.{Fault}
@@ -18,10 +17,7 @@ use Rattle.cue_keeper.specs.Due.{lacks_room}
 use Rattle.cue_keeper.specs.Refusals.{HasOtherVersion, StandsForNone}
 use Rattle.cue_keeper.specs.Stands.{Stands, StandsEither, IsKept}
 use Rattle.cue_core.specs.Batches.{closed_state}
-use Rattle.cue_engine.specs.Recovery.{ClosedFrom, IsLeftOrStands, NoGenerationLeft, RefusedBut, CannotBeRecovered}
-use Rattle.cue_engine.specs.Recovery.{cancels_records}
-use Rattle.cue_engine.specs.Accounts.{Accounted}
-use Rattle.cue_engine.specs.Given.{account_of, given_recovery}
+use Rattle.cue_engine.specs.Recovery.{IsLeftOrStands, NoGenerationLeft, RefusedBut, CannotBeRecovered, cancels_records}
 use Rattle.cue_keeper.proofs.GroupLemmas.{has_one}
 use Rattle.cue_keeper.proofs.RefusedLemmas.{is_opened}
 use Rattle.cue_keeper.specs.Groups.{with_events}
@@ -143,46 +139,8 @@ pub never_cancels : {T D : Type 0} (f : StoreFault) (r : Result T (StoreFault ×
 never_cancels f (Ok made) never only = tt
 never_cancels f (Err refused) never only = λ is. never (subst IsOfCancels is only)
 
--- no other refusal has hidden a fault of a device
-pub went_through : {T D : Type 0} (failures : D → ℕ) (first_in second_in : T → D) (a b : D) (n m : ℕ)
-    (r : Result T (StoreFault × D × D))
-    → RefusedBut store.Disk ((first_after first_in r ≡ a) × (second_after second_in r ≡ b)) r
-    → failures a ≡ n → failures b ≡ m
-    → RefusedBut store.Disk ((failures (first_after first_in r) ≡ n) × (failures (second_after second_in r) ≡ m)) r
-went_through failures first_in second_in a b n m (Ok made) same p q = tt
-went_through failures first_in second_in a b n m (Err refused) same p q = λ other.
-    let unwritten = same other in
-    (ap failures unwritten.0 ∙ p, ap failures unwritten.1 ∙ q)
-
--- ---- what a refusal has written
-
-pub unwritten : {T E D : Type 0} (fault : E) (first_in second_in : T → D) (P Q : D → Type 0) (a b : D)
-    (r : Result T (E × D × D)) → RefusedBut fault ((first_after first_in r ≡ a) × (second_after second_in r ≡ b)) r
-    → P a → Q b → RefusedBut fault (P (first_after first_in r) × Q (second_after second_in r)) r
-unwritten fault first_in second_in P Q a b (Ok made) same p q = tt
-unwritten fault first_in second_in P Q a b (Err refused) same p q =
-    λ other. (subst P (sym (same other).0) p, subst Q (sym (same other).1) q)
-
--- ---- the state that was closed
-
--- what was made keeps the closed state of one that stood
-pub closed_from : {T E : Type 0} (state_in : T → ShowState) (x y : List ℕ) (s : ShowState) (r : Result T E)
-    → Stands x y s → IfOk r (λ made. state_in made ≡ closed_state s) → IfOk r (λ made. ClosedFrom x y (state_in made))
-closed_from state_in x y s (Ok made) stood is = record { before = s; stood = stood; is = is }
-closed_from state_in x y s (Err refused) stood is = tt
-
--- what was made has the cancels of that one as its last batch
-pub cancels_of : {T E : Type 0} (last_in : T → List (List Event)) (x y : List ℕ) (s t : ShowState) (r : Result T E)
-    → Stands x y s → Stands x y t → IfOk r (λ made. last_in made ≡ events_at s recovered ∷ [])
-    → IfOk r (λ made. last_in made ≡ events_at t recovered ∷ [])
-cancels_of last_in x y s t (Ok made) stood stands is =
-    is ∙ ap (λ (u : ShowState). events_at u recovered ∷ []) (one_state x y s t stood stands)
-cancels_of last_in x y s t (Err refused) stood stands is = tt
-
--- and its account is that of the recovery
-pub account_of_same : {T E : Type 0} (last_in : T → List Accounted) (x y : List ℕ) (s t : ShowState) (r : Result T E)
-    → Stands x y s → Stands x y t → IfOk r (λ made. last_in made ≡ account_of (given_recovery s) ∷ [])
-    → IfOk r (λ made. last_in made ≡ account_of (given_recovery t) ∷ [])
-account_of_same last_in x y s t (Ok made) stood stands is =
-    is ∙ ap (λ (u : ShowState). account_of (given_recovery u) ∷ []) (one_state x y s t stood stands)
-account_of_same last_in x y s t (Err refused) stood stands is = tt
+-- what follows of what a refusal leaves
+pub refused_but : {T E D : Type 0} (fault : E) (P : Type 0) {Q : Type 0} (r : Result T (E × D × D))
+    → RefusedBut fault P r → (P → Q) → RefusedBut fault Q r
+refused_but fault P (Ok made) leaves follows = tt
+refused_but fault P (Err refused) leaves follows = λ other. follows (leaves other)

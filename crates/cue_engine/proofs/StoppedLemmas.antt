@@ -1,8 +1,8 @@
 -- A stop after some of what was owed was handed over.
 use Rattle.std.specs.Prelude.{OnErr}
 use Rattle.std.specs.Result.{result_err}
-use Rattle.std.proofs.Common.{◌≡◌, ◌≤◌, ℕ, List, [], ◌++◌, length, take, Option, Some, Result, Ok, Err, false, refl}
-use Rattle.std.proofs.Common.{sym, ap, ◌∙◌, subst, append-nil, arith}
+use Rattle.std.proofs.Common.{◌≡◌, ◌≤◌, ℕ, List, [], ◌++◌, length, take, Option, Some, Result, Ok, Err, refl, sym, ap}
+use Rattle.std.proofs.Common.{◌∙◌, subst, append-nil, arith}
 use Rattle.std.proofs.Math.Seq.{take-append_seam}
 use Rattle.std.proofs.lemmas.List.{take-map}
 use Rattle.cue_disk.specs.Disk.{Contents}
@@ -10,7 +10,6 @@ use Rattle.cue_core.specs.declared.event.Event.{Event}
 use Rattle.cue_core.specs.State.{ShowState}
 use Rattle.cue_disk.specs.declared.disk.Disk.{Ghosts}
 use Rattle.cue_keeper.specs.declared.fault.Fault.{Fault}
-use Rattle.cue_keeper.specs.declared.keeper.Keeper.{Keeper}
 use Rattle.cue_keeper.specs.Accepting.{Accepts}
 use Rattle.cue_keeper.specs.Stands.{StandsAs}
 use Rattle.cue_keeper.specs.Observed as kept
@@ -34,27 +33,14 @@ first_of_them owed queue sent left owes together =
     ∙ ap (λ (os : List (ℕ × List ℕ)). take (length sent) os) (sym together ∙ owes)
     ∙ take-map datagram (length sent) owed
 
--- what is said of the keeper at the end is said of the one at the start, which is the same
-pub stays_so : {D : Type 0} {disk : Ghosts D} (is_honest : D → Type 0) (held : D → Contents) (a b : D)
-    (old new : Keeper D disk) → new ≡ old
-    → (is_honest (kept.first_of new) → is_honest (kept.second_of new) → kept.is_broken new ≡ false
-    → StandsAs (held a) (held b) (kept.state_of new))
-    → is_honest (kept.first_of old) → is_honest (kept.second_of old) → kept.is_broken old ≡ false
-    → StandsAs (held a) (held b) (kept.state_of old)
-stays_so {D} {disk} is_honest held a b old new same stands =
-    let P : Keeper D disk
-    → Type 0 = λ k. is_honest (kept.first_of k) → is_honest (kept.second_of k) → kept.is_broken k ≡ false
-    → StandsAs (held a) (held b) (kept.state_of k) in
-    subst P same stands
-
 -- the first of what was owed was handed over, as the life has it where it stops so
 handed_first : (stop : ℕ → Contents → Contents → Incident)
     → ((store : Store) (n : ℕ) (x y : Contents) → handed_in store (stop n x y) ≡ take n (owed_by store))
-    → (life : Life) (state : ShowState) (queue left : List (ℕ × List ℕ)) (refused : ℕ)
-    (told told_then : Option (List Handed)) (so_far : HandedSoFar told queue left refused told_then)
+    → {life : Life} {state : ShowState} {queue left : List (ℕ × List ℕ)} {refused : ℕ}
+    {told told_then : Option (List Handed)} (so_far : HandedSoFar told queue left refused told_then)
     → RunsWith life state queue → (x y : Contents)
     → AreHanded told (datagrams (handed_in (store_now life) (stop (length so_far.sent) x y))) told_then
-handed_first stop takes life state queue left refused told told_then so_far runs x y =
+handed_first stop takes {life} {queue = queue} {left} {refused} {told} {told_then} so_far runs x y =
     let n : ℕ = length so_far.sent in
     let same : so_far.sent ≡ datagrams (handed_in (store_now life) (stop n x y)) =
     first_of_them runs.owed queue so_far.sent left runs.owes so_far.together
@@ -64,15 +50,14 @@ handed_first stop takes life state queue left refused told told_then so_far runs
       subst (λ (os : List (ℕ × List ℕ)). AllHanded told os refused told_then) same so_far.all,
     )
 
-pub stops_after_some : {D : Type 0} (held : D → Contents) (a b : D) (life : Life) (state : ShowState)
-    (queue left : List (ℕ × List ℕ)) (refused : ℕ) (told told_then : Option (List Handed))
+pub stops_after_some : {D : Type 0} (held : D → Contents) (a b : D) {life : Life} {state : ShowState}
+    {queue left : List (ℕ × List ℕ)} {refused : ℕ} {told told_then : Option (List Handed)}
     → StandsAs (held a) (held b) state → HandedSoFar told queue left refused told_then → RunsWith life state queue
     → StopsAs stopped life (held a) (held b) told told_then
-stops_after_some held a b life state queue left refused told told_then stands so_far runs = record {
+stops_after_some held a b stands so_far runs = record {
   n = length so_far.sent;
-  handed = handed_first stopped (λ store n x y. refl) life state queue left refused told told_then so_far runs;
-  rests = λ x y in_one in_other.
-      rests_closed held a b stands runs (length so_far.sent) x y in_one in_other;
+  handed = handed_first stopped (λ store n x y. refl) so_far runs;
+  rests = λ x y in_one in_other. rests_closed held a b stands runs (length so_far.sent) x y in_one in_other;
 }
 
 -- ---- a commit that was refused
@@ -99,19 +84,19 @@ module _ {D : Type 0} {disk : Ghosts D}
       (sym (held_now (second_of new) (accepts.pair.second_honest.1 sound.0.1))) in_other)
 
   -- what was owed before it was handed over, and the engine was closed
-  pub stops_in_commit : {T : Type 0} (old mid last : Engine D disk) (first second : D) (life : Life)
-      (inputs : List (ℕ × Input)) (batches : List (List Event)) (r : Result T Fault) (refused : ℕ)
-      (told told_then : Option (List Handed))
+  pub stops_in_commit : {T : Type 0} (old mid last : Engine D disk) (first second : D) {life : Life}
+      (inputs : List (ℕ × Input)) (batches : List (List Event)) (r : Result T Fault) {refused : ℕ}
+      {told told_then : Option (List Handed)}
       → batches ≡ batches_given (state_of old) inputs → Accepts batches (result_err r) (keeper_of old) (keeper_of mid)
       → OnErr r ((state_of mid ≡ state_of old) × (queue_of mid ≡ queue_of old)) → keeper_of last ≡ keeper_of mid
       → AllHanded told (queue_of mid) refused told_then → first ≡ first_of last → second ≡ second_of last
       → IsSound (view_of old) → RunsWith life (state_of old) (queue_of old)
       → OnErr r (StopsAs (stopped_in_commit inputs) life (disk.held first) (disk.held second) told told_then)
-  stops_in_commit old mid last first second life inputs batches (Ok t) refused told told_then given accepts same kept_so
-      handed is_first is_second sound runs =
+  stops_in_commit old mid last first second inputs batches (Ok t) given accepts same kept_so handed is_first is_second
+      sound runs =
       tt
-  stops_in_commit old mid last first second life inputs batches (Err e) refused told told_then given accepts same
-      kept_so handed is_first is_second sound runs =
+  stops_in_commit old mid last first second {life} inputs batches (Err e) {refused} {told} {told_then} given accepts
+      same kept_so handed is_first is_second sound runs =
       let queue : List (ℕ × List ℕ) = queue_of old in
       let all : AllHanded told queue refused told_then =
       subst (λ (os : List (ℕ × List ℕ)). AllHanded told os refused told_then) same.1 handed in
@@ -121,8 +106,7 @@ module _ {D : Type 0} {disk : Ghosts D}
       let other_is : second_of mid ≡ second = sym (is_second ∙ ap kept.second_of kept_so) in
       record {
         n = length queue;
-        handed = handed_first (stopped_in_commit inputs) (λ store n x y. refl) life (state_of old) queue [] refused
-            told told_then so_far runs;
+        handed = handed_first (stopped_in_commit inputs) (λ store n x y. refl) so_far runs;
         rests = λ x y in_one in_other.
             rests_refused old mid life inputs batches (Some e) given accepts sound runs (length queue) x y
             (subst (λ (d : D). IsWithin (disk.held d) x) (sym one_is) in_one)

@@ -1,4 +1,4 @@
-use Rattle.std.proofs.Common.{◌≡◌, ◌⊎◌, inl, ℕ, Some, Ok, ap, subst}
+use Rattle.std.proofs.Common.{[], ◌∷◌, sym, ◌∙◌, ◌≡◌, ◌⊎◌, inl, ℕ, Some, ap, subst}
 use Rattle.cue_disk.specs.Disk.{IsImage, LeavesAtEachMoment, MoreFailures}
 use Rattle.cue_snap.specs.Disks.{SomeFailed}
 use Rattle.cue_snap.specs.Observed.{first_after, second_after}
@@ -15,11 +15,15 @@ use Rattle.cue_keeper.proofs.MovingLemmas.{opened_then, leaves_weaker}
 use Rattle.cue_keeper.proofs.RefusedLemmas.{is_opened}
 use Rattle.cue_core.specs.Batches.{closed_state}
 use Rattle.cue_engine.specs.Recovery.{IsLeftOrStands}
-use Rattle.cue_engine.specs.Observed.{state_of, first_of, second_of, last_batches_of, last_accounts_of}
-use Rattle.cue_engine.proofs.ReopenedLemmas.{closed_from, left_or_stands, unwritten, went_through, left_over}
-use Rattle.cue_engine.proofs.ReopenedLemmas.{cancels_of, account_of_same, opening_cause, cancels_refused, never_cancels}
+use Rattle.cue_engine.specs.Observed.{first_of, second_of}
+use Rattle.cue_engine.proofs.ReopenedLemmas.{left_or_stands, refused_but, left_over, opening_cause, cancels_refused}
+use Rattle.cue_engine.proofs.ReopenedLemmas.{never_cancels}
 use Rattle.cue_engine.specs.Opening.{IsOfCancels}
 use Rattle.cue_engine.proofs.engine.Engine.recover.Goals as goal
+use Rattle.cue_core.specs.Happenings.{events_at, recovered}
+use Rattle.cue_core.specs.State.{ShowState}
+use Rattle.cue_keeper.proofs.StandingLemmas.{one_state}
+use Rattle.cue_engine.specs.Given.{account_of, given_recovery}
 
 pub returns-in-Ok-clause-any_moment : goal.returns-in-Ok-clause-any_moment
 returns-in-Ok-clause-any_moment g c = λ first second.
@@ -53,11 +57,12 @@ returns-in-Err-clause-any_moment g c = λ first second.
     (λ x y left_x left_y. inl (left_x, left_y))
 
 pub returns-in-Ok-clause-stood : goal.returns-in-Ok-clause-stood
-returns-in-Ok-clause-stood g c = λ first second.
-    let d = g.D.Disk in
-    closed_from state_of (d.held c.args.first).bytes (d.held c.args.second).bytes (kept.state_of c.in-Ok.keeper)
-    c.close_opened.result (c.in-Ok.ensures.stood first second)
-    (at_made c.close_opened.result (λ _ closed. closed.state) c.close_opened.ensures.closed)
+returns-in-Ok-clause-stood g c = λ first second. at_made c.close_opened.result
+    (λ _ closed. record {
+      before = kept.state_of c.in-Ok.keeper;
+      stood = c.in-Ok.ensures.stood first second;
+      is = closed.state;
+    }) c.close_opened.ensures.closed
 
 pub returns-in-Ok-clause-stands : goal.returns-in-Ok-clause-stands
 returns-in-Ok-clause-stands g c = λ first second.
@@ -68,15 +73,15 @@ pub returns-in-Ok-clause-recovered : goal.returns-in-Ok-clause-recovered
 returns-in-Ok-clause-recovered g c =
     let d = g.D.Disk in
     let opens = c.in-Ok.ensures.opens.pair in
+    let same = λ (first : d.is_honest c.args.first) (second : d.is_honest c.args.second).
+    one_state (d.held c.args.first).bytes (d.held c.args.second).bytes (kept.state_of c.in-Ok.keeper) in
     at_made c.close_opened.result
     (λ engine closed. record {
       owes = closed.owes;
-      last = λ first second s stands. cancels_of {E = StoreFault} last_batches_of (d.held c.args.first).bytes
-          (d.held c.args.second).bytes (kept.state_of c.in-Ok.keeper) s (Ok engine)
-          (c.in-Ok.ensures.stood first second) stands closed.last;
-      account = λ first second s stands. account_of_same {E = StoreFault} last_accounts_of (d.held c.args.first).bytes
-          (d.held c.args.second).bytes (kept.state_of c.in-Ok.keeper) s (Ok engine)
-          (c.in-Ok.ensures.stood first second) stands closed.account;
+      last = λ first second s stands. closed.last ∙ ap (λ (t : ShowState). events_at t recovered ∷ [])
+          (same first second s (c.in-Ok.ensures.stood first second) stands);
+      account = λ first second s stands. closed.account ∙ ap (λ (t : ShowState). account_of (given_recovery t) ∷ [])
+          (same first second s (c.in-Ok.ensures.stood first second) stands);
       turned = λ first second.
           rw (← opens.first_kept.bytes first, ← opens.second_kept.bytes second)
           (closed.turned (opens.first_kept.keeps.honest.1 first) (opens.second_kept.keeps.honest.1 second));
@@ -106,8 +111,8 @@ returns-in-Ok-clause-refused g c =
           ⊎ MoreFailures (d.failures b) (d.failures new_b)) went.0
           (subst (λ (n : ℕ). MoreFailures (d.failures mid_a) (d.failures new_a)
           ⊎ MoreFailures n (d.failures new_b)) went.1 failed)) closes.failed;
-      went_through = went_through d.failures first_of second_of mid_a mid_b (d.failures a) (d.failures b) result
-          closes.unwritten went.0 went.1;
+      went_through = refused_but store.Disk _ result closes.unwritten
+          (λ same. (ap d.failures same.0 ∙ went.0, ap d.failures same.1 ∙ went.1));
       no_other = (never store.NotEmpty (λ may. may), never store.Full (λ may. may));
       due_at_the_last = λ first second.
           rw (← opens.first_kept.bytes first, ← opens.second_kept.bytes second)
@@ -118,11 +123,11 @@ returns-in-Ok-clause-refused g c =
         never store.Version (λ may. may),
         never store.Malformed (λ may. may),
       );
-      unwritten = λ first second.
-          unwritten store.Disk first_of second_of
-          (λ new. LeavesAtEachMoment d.moment d.held_at a new (IsImage (d.held a)))
-          (λ new. LeavesAtEachMoment d.moment d.held_at b new (IsImage (d.held b)))
-          mid_a mid_b result closes.unwritten (opens.first_kept.moments first) (opens.second_kept.moments second);
+      unwritten = λ first second. refused_but store.Disk _ result closes.unwritten (λ same.
+          let P = λ (was new : _). LeavesAtEachMoment d.moment d.held_at was new (IsImage (d.held was)) in (
+            subst (P a) (sym same.0) (opens.first_kept.moments first),
+            subst (P b) (sym same.1) (opens.second_kept.moments second),
+          ));
     }
 
 pub returns-in-Ok-clause-keeps : goal.returns-in-Ok-clause-keeps

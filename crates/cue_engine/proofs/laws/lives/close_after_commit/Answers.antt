@@ -5,12 +5,9 @@ use Rattle.cue_engine.proofs.laws.lives.close_after_commit.Goals as goal
 pub returns : goal.returns
 returns g c = record {
   stopped = λ sound inputs offered life runs.
-      let told = g.W.Wire.told in
-      let mid = c.commit-kept.new.self in
       let last = c.hand_out-refused in
-      stops_in_commit g.met.D.Disk.held_now c.args.engine mid last.new.self c.close-first.result.0
-      c.close-first.result.1 life
-      inputs (offered_of c.args.engine) c.commit-kept.result last.result (told c.args.wire.now) (told last.new.wire)
-      offered.batches c.commit-kept.ensures.accepts c.commit-kept.ensures.same last.ensures.keeper last.ensures.handed
+      stops_in_commit g.met.D.Disk.held_now c.args.engine c.commit-kept.new.self last.new.self c.close-first.result.0
+      c.close-first.result.1 inputs (offered_of c.args.engine) c.commit-kept.result offered.batches
+      c.commit-kept.ensures.accepts c.commit-kept.ensures.same last.ensures.keeper last.ensures.handed
       c.close-first.ensures.first c.close-first.ensures.second sound runs;
 }

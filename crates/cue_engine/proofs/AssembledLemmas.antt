@@ -1,11 +1,9 @@
 -- What an input comes to, put together from what judging and keeping say.
 use Rattle.std.specs.Prelude.{OnOk, OnErr, MatchResult}
-use Rattle.std.proofs.Common.{◌≡◌, [], ◌∷◌, ◌++◌, List, Result, Ok, Err, IsTrue, false, ap, sym, subst, ◌∙◌}
+use Rattle.std.proofs.Common.{◌≡◌, [], ◌∷◌, ◌++◌, List, Result, Ok, Err, IsTrue, false, sym}
 use Rattle.cue_core.specs.declared.event.Event.{Event}
 use Rattle.cue_core.specs.State.{ShowState}
 use Rattle.cue_core.specs.Steps.{after_events, are_acceptable}
-use Rattle.cue_keeper.specs.Groups.{are_all_acceptable}
-use Rattle.cue_keeper.specs.Stands.{folded_all}
 use Rattle.cue_outbox.specs.Views.{outs_view}
 use Rattle.cue_engine.specs.declared.drafts.Draft.{Draft}
 use Rattle.cue_engine.specs.declared.taken.Taken.{Taken}
@@ -22,14 +20,11 @@ pub ahead_next : {E : Type 0} (r : Result Taken E) (kept : ShowState) (old_draft
     → IsAhead kept new_draft new
 ahead_next (Ok counts) kept old_draft new_draft old new batch ahead marked state may group same = record {
   marked = marked;
-  drafted = state ∙ ap (λ (t : ShowState). after_events t batch) ahead.drafted ∙ sym (folded_more kept old.group batch)
-      ∙ sym (ap (folded_all kept) group);
-  in_turn = subst (λ (bs : List (List Event)). IsTrue (are_all_acceptable kept bs)) (sym group)
-      (acceptable_more kept old.group batch ahead.in_turn
-      (subst (λ (t : ShowState). IsTrue (are_acceptable t batch)) ahead.drafted may));
+  drafted = rw (state, ahead.drafted, group) (sym (folded_more kept old.group batch));
+  in_turn = rw group (acceptable_more kept old.group batch ahead.in_turn (rw ahead.drafted at may));
 }
 ahead_next (Err e) kept old_draft new_draft old new batch ahead marked state may group same = record {
   marked = marked;
-  drafted = state ∙ ahead.drafted ∙ sym (ap (folded_all kept) same.0);
-  in_turn = subst (λ (bs : List (List Event)). IsTrue (are_all_acceptable kept bs)) (sym same.0) ahead.in_turn;
+  drafted = rw (state, same.0) ahead.drafted;
+  in_turn = rw same.0 ahead.in_turn;
 }

@@ -1,5 +1,5 @@
 -- What a commit says of the inputs that were offered before it, and that they have room together.
-use Rattle.std.proofs.Common.{◌≡◌, ℕ, [], ◌∷◌, ◌++◌, false, List, ap, sym, ◌∙◌, subst, IsTrue, true≢false}
+use Rattle.std.proofs.Common.{◌≡◌, ℕ, [], ◌∷◌, ◌++◌, false, List, sym, ◌∙◌, subst, IsTrue, true≢false}
 use Rattle.std.proofs.lemmas.List.{map-append}
 use Rattle.cue_disk.specs.declared.disk.Disk.{Ghosts}
 use Rattle.cue_core.specs.declared.event.Event.{Event}
@@ -11,7 +11,7 @@ use Rattle.cue_keeper.specs.Groups.{records_of}
 use Rattle.cue_keeper.specs.Observed as kept
 use Rattle.cue_keeper.proofs.FittingLemmas.{room_beside}
 use Rattle.cue_keeper.specs.Stands.{folded_all}
-use Rattle.cue_outbox.specs.Sending.{datagram, datagrams}
+use Rattle.cue_outbox.specs.Sending.{datagram}
 use Rattle.cue_engine.specs.declared.engine.Engine.{Engine}
 use Rattle.cue_engine.specs.declared.taken.Taken.{Taken}
 use Rattle.cue_engine.specs.Given.{Input, given_of}
@@ -40,20 +40,9 @@ module _ {D : Type 0} {disk : Ghosts D} where
       → IsOffered (inputs ++ (now, input) ∷ []) new
   offered_next inputs now input counts old new same offered offers =
       let s : ShowState = state_of old in
-      let latest : latest_of old ≡ folded_all s (batches_given s inputs) = ap (folded_all s) offered.batches in
-      let P : ShowState → Type 0 = λ t. offered_of new ≡ batches_given t (inputs ++ (now, input) ∷ []) in
       record {
-        batches = subst P (sym same)
-            (offers.batches ∙ ap (λ (bs : List (List Event)). bs ++ (given_of (latest_of old) now input).batch ∷ [])
-            offered.batches
-            ∙ ap (λ (t : ShowState). batches_given s inputs ++ (given_of t now input).batch ∷ []) latest
-            ∙ sym (batches_more s inputs now input));
-        sends =
-            offers.sends ∙ ap (λ (ms : List (ℕ × List ℕ)). ms ++ datagrams (given_of (latest_of old) now input).sends)
-            offered.sends
-            ∙ ap (λ (t : ShowState). datagrams (sends_given s inputs) ++ datagrams (given_of t now input).sends) latest
-            ∙ sym (ap datagrams (sends_more s inputs now input)
-            ∙ map-append datagram (sends_given s inputs)
-            (given_of (folded_all s (batches_given s inputs)) now input).sends)
-            ∙ ap (λ (t : ShowState). datagrams (sends_given t (inputs ++ (now, input) ∷ []))) (sym same);
+        batches = rw (same, offers.batches, offered.batches) (sym (batches_more s inputs now input));
+        sends = rw (same, offers.sends, offered.sends, offered.batches, sends_more s inputs now input)
+            (sym (map-append datagram (sends_given s inputs)
+            (given_of (folded_all s (batches_given s inputs)) now input).sends));
       }

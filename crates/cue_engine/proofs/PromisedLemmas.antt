@@ -52,19 +52,16 @@ found_whole s es store i is x y first second on f =
     let before : ShowState = after_events s es in
     let batches : List (List Event) = batches_of before i in
     let batch : List Event = events_of before i in
-    let P : ShowState → Type 0 = λ u. AreKept u is f.kept in
     let joined : batch ++ joined_list f.kept ≡ joined_list (batches ++ f.kept) =
     ap (λ (xs : List Event). xs ++ joined_list f.kept) (sym (joined_batches before i))
     ∙ sym (joined_append batches f.kept) in
     let same : (es ++ batch) ++ joined_list f.kept ≡ es ++ joined_list (batches ++ f.kept) =
     append_assoc es batch (joined_list f.kept) ∙ ap (λ (xs : List Event). es ++ xs) joined in
-    let Q : List Event → Type 0 = λ xs. HasOn (left_by_all (left_by store i) is) x y (after_events s xs) in
-    let R : List Event → Type 0 = λ xs. Each (IsDue s xs) (all_handed (left_by store i) is) in
     record {
       kept = batches ++ f.kept;
-      prefix = inl (f.kept, (refl, subst P (after_events-append s es batch ∙ sym (folded_batches before i)) f.prefix));
-      has = subst Q same f.has;
-      due = due_then s es (joined_list (batches ++ f.kept)) store i is on.owed (subst R same f.due);
+      prefix = inl (f.kept, (refl, rw (folded_batches before i, ← after_events-append s es batch) f.prefix));
+      has = rw (← same) f.has;
+      due = due_then s es (joined_list (batches ++ f.kept)) store i is on.owed (rw (← same) f.due);
     }
 
 found_cut : (s : ShowState) (es : List Event) (store : Store) (i : Incident) (is : List Incident)
